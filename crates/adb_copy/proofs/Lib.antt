@@ -1,3 +1,6 @@
+-- passed on: a crate above that names this one need not name these
+pub use Rattle.adb_fields.proofs as adb_fields
+pub use Rattle.adb_values.proofs as adb_values
 pub mod Entries
 pub mod Fields
 pub mod Lists

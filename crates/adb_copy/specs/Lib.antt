@@ -1,6 +1,10 @@
 -- The definitions of this crate, whose rules are in `docs/formats.md`, "The database after a change",
 -- and "Canonical layout".
 
+-- passed on: a crate above that names this one need not name these
+pub use Rattle.adb_fields.specs as adb_fields
+pub use Rattle.adb_values.specs as adb_values
+pub use Rattle.adb_values.specs.adb_write as adb_write
 -- cited by the contract of `apk`
 pub mod Zeros
 -- used by inner contracts and proofs only

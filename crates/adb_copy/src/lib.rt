@@ -19,6 +19,14 @@ mod known_texts;
 mod overlaps;
 mod sums;
 
+pub use adb_fields::{
+    field_word, hash_field, int_field, no_repeated_name_is_reported_if_there_is_none,
+    objects_field, texts_field, the_first_pair_in_one_of_several_lists_is_reported,
+};
+pub use adb_values::{
+    Draft, WriteFault, a_canonical_payload_is_read_back, a_value_overflows_exactly_past_a_limit,
+    file_of,
+};
 pub use copy::{write_info, write_int, write_text_list};
 pub use entry::{write_acl, write_file, write_scripts};
 pub use known_texts::KnownTexts;

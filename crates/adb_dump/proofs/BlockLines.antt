@@ -6,8 +6,8 @@ use Rattle.hex.specs.Hex.{encode_lower}
 use Rattle.adb_view.specs.Plain.{Plain, null, int, blob, arr, obj, Plains, none, more, Shape, number, text, hash, array, object, Fields, no_fields, field, put_first_without_last_null, without_last_nulls, blob_or_null, arr_value, obj_value, unless_null, from_answer, each_plain, plain_of, plains_of}
 use Rattle.adb_view.specs.Readers.{run_of, ARRAY, OBJECT}
 use Rattle.base_core.specs.declared.cause.Cause.{Cause}
-use Rattle.adb_fields.specs.Fields.{values_at}
-use Rattle.adb_fields.proofs.FieldReads.{then_more_is}
+use Rattle.adb_schema.specs.adb_fields.Fields.{values_at}
+use Rattle.adb_schema.proofs.adb_fields.FieldReads.{then_more_is}
 use Rattle.adb_view.specs.Schema.{table, shape_of, shapes_of}
 use Rattle.adb_view.specs.Values.{entries_in, int_in, is_sound, text_in, value_at}
 use Rattle.adb_view.proofs.ValueEntries.{entries_arr, entries_obj}

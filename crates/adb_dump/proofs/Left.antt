@@ -3,7 +3,7 @@ use Rattle.std.proofs.Common.{◌≡◌, ℕ, ◌+◌, ◌<◌, ◌≤◌, true,
 use Rattle.std.specs.Prelude.{is_some, unwrap_or}
 use Rattle.std.proofs.lemmas.List.{drop_more, drop_all}
 use Rattle.adb_view.specs.Plain.{Plain, null, int, blob, arr, obj, Plains, none, more, then_more, each_plain, plain_of, plains_of}
-use Rattle.adb_fields.specs.Fields.{are_all_sound, values_at}
+use Rattle.adb_schema.specs.adb_fields.Fields.{are_all_sound, values_at}
 use Rattle.adb_view.specs.Schema.{field_name_text, shape_of, shapes_of}
 use Rattle.adb_view.specs.Values.{is_sound, value_at}
 use Rattle.adb_view.specs.declared.tables.Kind.{Kind}

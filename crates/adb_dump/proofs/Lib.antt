@@ -1,3 +1,5 @@
+-- passed on: a crate above that names this one need not name these
+pub use Rattle.adb_schema.proofs as adb_schema
 pub mod Worked
 pub mod WordReads
 pub mod Pieces

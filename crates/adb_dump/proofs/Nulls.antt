@@ -3,7 +3,7 @@ use Rattle.std.proofs.Common.{◌≡◌, ℕ, Bool, true, false, cond, eqb, List
 use Rattle.std.specs.Prelude.{◌==◌, ◌&&◌, is_some, unwrap_or, IsTrue, ◌↔◌}
 use Rattle.std.proofs.lemmas.Bool.{ne_eqb}
 use Rattle.adb_view.specs.Plain.{Plain, null, int, blob, arr, obj, Plains, none, more, put_first_without_last_null, without_last_nulls, blob_or_null, arr_value, obj_of, obj_value, from_answer, then_more, each_plain, plain_of}
-use Rattle.adb_fields.specs.Fields.{are_all_sound, values_at}
+use Rattle.adb_schema.specs.adb_fields.Fields.{are_all_sound, values_at}
 use Rattle.adb_view.specs.Schema.{shape_of}
 use Rattle.adb_view.specs.Readers.{int_of}
 use Rattle.base_core.specs.declared.cause.Cause.{Cause}

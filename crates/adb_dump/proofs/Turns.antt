@@ -2,7 +2,7 @@
 use Rattle.std.proofs.Common.{◌≡◌, ℕ, suc, ◌+◌, ◌<◌, ◌≤◌, Bool, true, false, List, [], ◌∷◌, ◌++◌, length, get_or, drop, refl, sym, ap, ◌∙◌, append_assoc, arith}
 use Rattle.std.specs.Prelude.{codes}
 use Rattle.adb_view.specs.Plain.{Plain, null, int, blob, arr, obj, obj_value, Plains, none, more, Fields, no_fields, field}
-use Rattle.adb_fields.specs.Fields.{are_all_sound}
+use Rattle.adb_schema.specs.adb_fields.Fields.{are_all_sound}
 use Rattle.adb_view.specs.Schema.{field_name_text, shape_of, shapes_of, table}
 use Rattle.adb_view.specs.Values.{is_sound, text_in, value_at}
 use Rattle.adb_view.specs.declared.tables.Which.{Which}

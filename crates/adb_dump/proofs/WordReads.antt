@@ -1,7 +1,7 @@
 -- The plain values of words, in terms of what the readers of a word answer.
 use Rattle.std.proofs.Common.{◌≡◌, ℕ, Bool, true, false, cond, eqb, List, [], ◌∷◌, Option, Some, None, option_map, Result, Ok, Err, refl, sym, ap, ◌∙◌, inl, inr}
 use Rattle.std.specs.Prelude.{is_some, unwrap_or}
-use Rattle.adb_fields.proofs.FieldReads.{null_or_not}
+use Rattle.adb_schema.proofs.adb_fields.FieldReads.{null_or_not}
 use Rattle.adb_view.specs.Plain.{Plain, null, int, Plains, none, Fields, no_fields, field, blob_or_null, obj_value, unless_null, from_answer, plain_of, plains_of}
 use Rattle.adb_view.specs.Readers.{int_of, blob_of, run_of, OBJECT}
 use Rattle.adb_view.specs.Schema.{table, shape_of, shapes_of}

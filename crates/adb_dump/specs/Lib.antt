@@ -1,5 +1,7 @@
 -- The definitions of this crate, whose rules are in `docs/formats.md`, "Dump text".
 
+-- passed on: a crate above that names this one need not name these
+pub use Rattle.adb_schema.specs as adb_schema
 -- cited by the contract of `apk`
 pub mod Dump
 pub mod ReadBack

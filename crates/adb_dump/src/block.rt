@@ -9,7 +9,7 @@ ghost use Rattle.adb_schema.specs.Soundness.{schema_word};
 ghost use Rattle.adb_dump.specs.Dump.{dump_text, schema_line, block_lines, array_lines, fields_lines, named_lines, or_null, unless_absent};
 ghost use Rattle.adb_view.specs.Adb.{payload_of};
 ghost use Rattle.adb_view.specs.Entries.{array_entries};
-ghost use Rattle.adb_fields.specs.Fields.{are_all_sound, values_at};
+ghost use Rattle.adb_schema.specs.adb_fields.Fields.{are_all_sound, values_at};
 ghost use Rattle.adb_view.specs.Rank.{rank, rank_of_all};
 ghost use Rattle.adb_view.specs.Schema.{field_name_text, shape_of, shapes_of};
 ghost use Rattle.adb_view.specs.Values.{is_sound, value_at};
@@ -24,8 +24,10 @@ use crate::line::{
 };
 use crate::text_out::{BlobOut, Count, Out, Room};
 use crate::words::{field_words, is_null};
-use adb_fields::{hash_word, int_word, objects_word, text_word, texts_word};
-use adb_schema::{Field, FieldName, Kind, Shaped, Which, fields_of, schema_word};
+use adb_schema::{
+    Field, FieldName, Kind, Shaped, Which, fields_of, hash_word, int_word, objects_word,
+    schema_word, text_word, texts_word,
+};
 use adb_view::{Adb, Arr, Val, entry_word};
 use base_core::Text;
 use std::alloc::{AllocError, Global};
@@ -57,7 +59,11 @@ fn short_dump(alloc: Global, shaped: &Shaped<'_>) -> Result<Text, AllocError>
     ensures { IfOk result
         (λ text. text ≡ dump_text (table_of shaped.now) (shaped_value shaped.now)) }
 {
-    let room = shaped.adb().payload().len().saturating_mul(MOST_TEXT_PER_PAYLOAD_BYTE);
+    let room = shaped
+        .adb()
+        .payload()
+        .len()
+        .saturating_mul(MOST_TEXT_PER_PAYLOAD_BYTE);
     let mut out = Room::new(alloc, room)?;
     write_dump(&mut out, shaped)?;
     Ok(Text::from_vec(out.bytes))

@@ -28,6 +28,10 @@ mod line;
 mod text_out;
 mod words;
 
+pub use adb_schema::{
+    Field, FieldName, IDB_WORD, INDEX_WORD, INTENT_WORD, Kind, PACKAGE_WORD, ReadFault, Shaped,
+    Which, fields_of, is_reserved, schema_word, shape, sound_containers_hold_sound_values,
+};
 pub use block::dump;
 pub use laws::{
     lines_of_values_are_read_back, only_lines_of_values_are_read, texts_are_split_into_their_lines,

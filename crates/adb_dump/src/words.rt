@@ -6,18 +6,17 @@ ghost use Rattle.std.specs.Prelude.{◌≡◌, ◌<◌, ◌^◌, true, length, s
 ghost use Rattle.adb_view.specs.Adb.{payload_of};
 ghost use Rattle.adb_view.specs.Entries.{array_entries};
 ghost use Rattle.adb_view.specs.Plain.{null, int, blob_or_null, arr_value, obj_value};
-ghost use Rattle.adb_fields.specs.Fields.{are_all_sound, values_at};
+ghost use Rattle.adb_schema.specs.adb_fields.Fields.{are_all_sound, values_at};
 ghost use Rattle.adb_view.specs.Schema.{table};
 ghost use Rattle.adb_view.specs.Values.{is_sound, value_at};
 ghost use Rattle.adb_dump.specs.Words.{fields_sound, fields_at, is_null, are_null};
 ghost use Rattle.adb_view.specs.declared.tables.Kind.TheVariants as Kinds;
 
-use adb_fields::{hash_word, objects_word, text_word, texts_word};
-use adb_schema::{Field, Kind, Which, fields_of};
+use adb_schema::{Field, Kind, Which, fields_of, hash_word, objects_word, text_word, texts_word};
 use adb_view::{Adb, Arr, Val, entry_word};
 
 /// The words of an object's entries, those past its fields too; NULL has none.
-#[tactic(auto, using(crate::proofs::WordReads::object_value_is, crate::proofs::WordReads::object_sound, adb_fields::proofs::FieldReads::object_runs, adb_fields::proofs::FieldReads::read_ok))]
+#[tactic(auto, using(crate::proofs::WordReads::object_value_is, crate::proofs::WordReads::object_sound, adb_schema::proofs::adb_fields::FieldReads::object_runs, adb_schema::proofs::adb_fields::FieldReads::read_ok))]
 pub(crate) fn field_words<'a>(adb: Adb<'a>, which: Which, word: Val) -> Arr<'a>
     requires { is_sound (payload_of adb) (Kinds.Obj which) word ≡ true }
     ensures sound { fields_sound (payload_of adb.entry) (table which) (array_entries result)

@@ -53,7 +53,11 @@ pub(crate) fn reported_of_two(one: Option<Pair>, other: Option<Pair>) -> Option<
     match (one, other) {
         (None, other) => other,
         (one, None) => one,
-        (Some(one), Some(other)) => Some(if other.is_reported_before(&one) { other } else { one }),
+        (Some(one), Some(other)) => Some(if other.is_reported_before(&one) {
+            other
+        } else {
+            one
+        }),
     }
 }
 

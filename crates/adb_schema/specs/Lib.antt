@@ -1,5 +1,7 @@
 -- The definitions of `adb_schema`. The head of each file names the section with its rule.
 
+-- passed on: a crate above that names this one need not name these
+pub use Rattle.adb_fields.specs as adb_fields
 -- cited by the contract of `apk`
 pub mod Soundness
 pub mod Reserved

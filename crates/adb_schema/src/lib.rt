@@ -27,7 +27,11 @@ mod read;
 mod rules;
 mod text_walk;
 
-pub use adb_fields::{FilePath, Kinded, List, View};
+pub use adb_fields::{
+    FieldReads, FilePath, Kinded, List, View, field_word, hash_word, int_field, int_word,
+    no_repeated_name_is_reported_if_there_is_none, objects_field, objects_word, text_word,
+    texts_word,
+};
 pub use adb_view::{
     ACL, DEP, DIR, FILE, Field, FieldName, IDB, INDEX, INTENT, Kind, PACKAGE, PKGINFO, SCRIPTS,
     Schema, Shaped, Which, fields_of, shape,

@@ -9,7 +9,7 @@ use Rattle.adb_block.specs.Reading.{Reading, done, fault, more}
 use Rattle.adb_block.specs.AllBlocks.{with_block, pieces_of}
 use Rattle.adb_block.specs.Container.{CanBeWrittenAfter}
 use Rattle.adb_block.specs.declared.block.BlockKind.TheVariants as Kinds
-use Rattle.adb_schema.specs.Soundness.{file_pair}
+use Rattle.pkg_core.specs.adb_schema.Soundness.{file_pair}
 use Rattle.pkg_core.specs.Contents.{Expected, Contents, contents_bytes, contents_block_fault, contents_fault, fault_in, expected_fault, files_by_blocks, has_positions_of, unless_fault, with_next}
 use Rattle.pkg_core.specs.GoodContents.{IsContentsOf, AreContentsOf}
 use Rattle.adb_sound.specs.Container.{contents_payload, contents_piece}

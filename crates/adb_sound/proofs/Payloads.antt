@@ -10,9 +10,9 @@ use Rattle.adb_view.specs.Plain.{Plain, null}
 use Rattle.adb_view.specs.Schema.{shape_of}
 use Rattle.adb_view.specs.Values.{value_at}
 use Rattle.adb_view.specs.Walk.{shape_fault}
-use Rattle.adb_schema.specs.Texts.{text_fault}
-use Rattle.adb_fields.specs.Repeated.{repeated_fault}
-use Rattle.adb_schema.specs.Soundness.{payload_fault, root_value}
+use Rattle.pkg_core.specs.adb_schema.Texts.{text_fault}
+use Rattle.pkg_core.specs.adb_fields.Repeated.{repeated_fault}
+use Rattle.pkg_core.specs.adb_schema.Soundness.{payload_fault, root_value}
 use Rattle.adb_view.specs.declared.tables.Which.{Which}
 use Rattle.adb_view.specs.declared.tables.Kind.TheVariants.{Obj}
 use Rattle.adb_write.specs.Canonical.{canonical, payload_with_root, Layout, empty_layout, write}

@@ -2,8 +2,8 @@
 use Rattle.std.proofs.Common.{ℕ, zero, suc, ◌+◌, ◌<◌, ◌≤◌, Bool, true, false, if◌then◌else◌, List, [], ◌∷◌, ◌++◌, arith}
 use Rattle.adb_view.specs.Plain.{Plain, null, int, blob, arr, obj, Plains, none, more, count_of}
 use Rattle.adb_view.specs.Values.{nth, entries_in, entry_in, int_in, text_in}
-use Rattle.adb_fields.specs.Repeated.{list_of, files_in}
-use Rattle.adb_schema.specs.Texts.{is_with_contents}
+use Rattle.pkg_core.specs.adb_fields.Repeated.{list_of, files_in}
+use Rattle.pkg_core.specs.adb_schema.Texts.{is_with_contents}
 use Rattle.adb_write.specs.Size.{entries_of, entries_of_all}
 use Rattle.pkg_core.specs.Contents.{Expected, expected_at, expected_files, expected_folders, expected_contents}
 

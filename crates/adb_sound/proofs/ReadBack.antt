@@ -8,8 +8,8 @@ use Rattle.adb_block.specs.ReaderPosition.{start_of}
 use Rattle.adb_block.specs.Reading.{Reading, reading_of}
 use Rattle.adb_block.specs.AllBlocks.{pieces_of}
 use Rattle.adb_view.specs.Plain.{Plain}
-use Rattle.adb_schema.specs.Soundness.{first_payload, payload_after_header, payload_in, root_value, schema_word}
-use Rattle.adb_schema.specs.declared.read.TheConstants.{PACKAGE_WORD}
+use Rattle.pkg_core.specs.adb_schema.Soundness.{first_payload, payload_after_header, payload_in, root_value, schema_word}
+use Rattle.pkg_core.specs.adb_schema.declared.read.TheConstants.{PACKAGE_WORD}
 use Rattle.adb_view.specs.declared.tables.Which.{Which}
 use Rattle.adb_view.specs.declared.tables.Which.TheVariants.{Package}
 use Rattle.adb_write.specs.Canonical.{canonical, write, empty_layout}

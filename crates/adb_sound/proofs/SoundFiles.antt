@@ -8,11 +8,11 @@ use Rattle.adb_block.specs.ReaderPosition.{start_of}
 use Rattle.adb_block.specs.Reading.{Reading, done, more, reading_of}
 use Rattle.adb_block.specs.AllBlocks.{pieces_of, rest_of, blocks_after_header, blocks_of}
 use Rattle.adb_view.specs.Plain.{Plain}
-use Rattle.adb_schema.specs.Soundness.{blocks_fault, file_fault, further_fault, payload_fault, root_value, schema_word}
-use Rattle.adb_schema.specs.Soundness as S
+use Rattle.pkg_core.specs.adb_schema.Soundness.{blocks_fault, file_fault, further_fault, payload_fault, root_value, schema_word}
+use Rattle.pkg_core.specs.adb_schema.Soundness as S
 use Rattle.adb_view.specs.declared.tables.Which.{Which}
 use Rattle.adb_view.specs.declared.tables.Which.TheVariants.{Dep, Acl, PkgInfo, File, Dir, Scripts, Package, Index, Idb, Intent}
-use Rattle.adb_schema.specs.declared.read.TheConstants.{PACKAGE_WORD, INDEX_WORD, IDB_WORD, INTENT_WORD}
+use Rattle.pkg_core.specs.adb_schema.declared.read.TheConstants.{PACKAGE_WORD, INDEX_WORD, IDB_WORD, INTENT_WORD}
 use Rattle.adb_write.specs.Canonical.{canonical, write, empty_layout}
 use Rattle.adb_write.specs.File.{adb_piece, file_of}
 use Rattle.pkg_core.specs.Contents.{Contents, expected_contents}

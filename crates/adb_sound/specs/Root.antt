@@ -4,8 +4,8 @@ use Rattle.std.specs.Prelude.{◌≡◌, ◌≤◌, None}
 use Rattle.adb_view.specs.Plain.{Plain, IsNormal}
 use Rattle.adb_view.specs.Shaped.{HasShape}
 use Rattle.adb_view.specs.Schema.{shape_of}
-use Rattle.adb_schema.specs.Texts.{text_fault}
-use Rattle.adb_fields.specs.Repeated.{repeated_fault}
+use Rattle.pkg_core.specs.adb_schema.Texts.{text_fault}
+use Rattle.pkg_core.specs.adb_fields.Repeated.{repeated_fault}
 use Rattle.adb_view.specs.declared.tables.Which.{Which}
 use Rattle.adb_view.specs.declared.tables.Kind.TheVariants.{Obj}
 use Rattle.adb_write.specs.Size.{size_of, value_count}

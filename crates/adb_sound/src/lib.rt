@@ -10,8 +10,8 @@
 #![tactic(auto)]
 
 ghost use Rattle.adb_block.specs.Written.{block_bytes};
-ghost use Rattle.adb_schema.specs.Soundness.{payload_in, root_value, schema_word};
-ghost use Rattle.adb_schema.specs.declared.read.TheConstants.{PACKAGE_WORD};
+ghost use Rattle.pkg_core.specs.adb_schema.Soundness.{payload_in, root_value, schema_word};
+ghost use Rattle.pkg_core.specs.adb_schema.declared.read.TheConstants.{PACKAGE_WORD};
 ghost use Rattle.adb_view.specs.declared.tables.Which.{Which};
 ghost use Rattle.adb_view.specs.declared.tables.Which.TheVariants as Tables;
 ghost use Rattle.adb_sound.specs.Container.{contents_piece, container_of, package_by};
@@ -85,3 +85,12 @@ pub fn what_a_container_is_made_of_is_read_back()
     a_canonical_payload_is_visited_once();
     values_of_few_visits_have_no_fault();
 }
+
+pub use adb_write::{
+    WriteFault, a_file_is_spelled, a_value_overflows_exactly_past_a_limit, file_of,
+};
+pub use pkg_core::{
+    IDB_WORD, INTENT_WORD, List, PACKAGE_WORD, PackageView, ReadFault, Which,
+    no_repeated_name_is_reported_if_there_is_none, no_text_is_bad_where_each_keeps_its_rule,
+    read_adb, sound_containers_hold_sound_values,
+};

@@ -10,4 +10,8 @@
 
 mod draft;
 
+pub use adb_write::{
+    WriteFault, a_canonical_payload_is_read_back, a_canonical_payload_is_visited_once,
+    a_value_overflows_exactly_past_a_limit, file_of,
+};
 pub use draft::Draft;

@@ -12,10 +12,10 @@ use Rattle.installed_info.proofs.Listers.{listed, is_listed}
 use Rattle.version_core.proofs.OrderLaws.{version_cmp-total}
 use Rattle.version_core.specs.Order.{is_version, version_cmp}
 use Rattle.adb_view.specs.Plain.{Plain}
-use Rattle.candidate_core.specs.Candidates.{Candidate, is_same_id, version_of_text}
-use Rattle.db_core.specs.Packages.{installed_id}
-use Rattle.file_owners.specs.Replaces.{version_text}
-use Rattle.package_changes.specs.Changes.{Replacement, change_between, change_of_name, is_selected_named, selected_version, unless_same, version_change, version_text_cmp}
+use Rattle.installed_info.specs.candidate_core.Candidates.{Candidate, is_same_id, version_of_text}
+use Rattle.change_outcome.specs.db_core.Packages.{installed_id}
+use Rattle.installed_info.specs.file_owners.Replaces.{version_text}
+use Rattle.change_outcome.specs.package_changes.Changes.{Replacement, change_between, change_of_name, is_selected_named, selected_version, unless_same, version_change, version_text_cmp}
 use Rattle.report_core.specs.Reports.{Change, Downgrade, Reinstall, Replace, Upgrade}
 use Rattle.base_core.specs.Lists.{IsIn}
 use Rattle.answer_laws.specs.WhichChange.{HasBothVersions, IsVeryPackage}

@@ -2,32 +2,32 @@
 use Rattle.std.proofs.Common.{◌≡◌, inl, inr, ◌∙◌, ℕ, Bool, true, false, cond, not, List, [], ◌∷◌, map, Option, Some, None, refl, ap, sym, subst}
 use Rattle.std.specs.Prelude.{codes, ◌==◌, if◌then◌else◌, option_map}
 use Rattle.std.proofs.lemmas.Bool.{eqb-true}
-use Rattle.adb_fields.specs.Repeated.{list_of}
+use Rattle.change_outcome.specs.adb_fields.Repeated.{list_of}
 use Rattle.adb_view.specs.Plain.{Plain, null}
 use Rattle.adb_view.specs.Values.{entries_in}
 use Rattle.adb_view.proofs.ValueEntries.{entries_arr, nth_obj}
-use Rattle.make_info.specs.Values.{plains_of_list}
-use Rattle.v2_lines.specs.InfoFields.{field_of_letter, grammar_of, info_field_among, info_fields, letter_of}
-use Rattle.v2_lines.specs.InfoValues.{sha1_of, values_by_grammar}
-use Rattle.v2_lines.specs.Lines.{RecordLine, info_line, folder_line, folder_access_line, file_line, file_access_line, file_hash_line, other_line, folder_line_of, file_line_of, info_line_by, record_line_by, record_line_of}
-use Rattle.v2_lines.specs.Accesses.{access_in}
-use Rattle.v2_lines.specs.declared.field.InfoField.{InfoField}
-use Rattle.v2_lines.specs.declared.field.InfoField.TheVariants as Letters
-use Rattle.v2_core.specs.Database.{record_value}
-use Rattle.v2_core.specs.Records.{Record}
-use Rattle.adb_schema.specs.Rules.{is_folder_name, is_one_part}
+use Rattle.change_outcome.specs.make_info.Values.{plains_of_list}
+use Rattle.change_outcome.specs.v2_lines.InfoFields.{field_of_letter, grammar_of, info_field_among, info_fields, letter_of}
+use Rattle.change_outcome.specs.v2_lines.InfoValues.{sha1_of, values_by_grammar}
+use Rattle.change_outcome.specs.v2_lines.Lines.{RecordLine, info_line, folder_line, folder_access_line, file_line, file_access_line, file_hash_line, other_line, folder_line_of, file_line_of, info_line_by, record_line_by, record_line_of}
+use Rattle.change_outcome.specs.v2_lines.Accesses.{access_in}
+use Rattle.change_outcome.specs.v2_lines.declared.field.InfoField.{InfoField}
+use Rattle.change_outcome.specs.v2_lines.declared.field.InfoField.TheVariants as Letters
+use Rattle.change_outcome.specs.v2_core.Database.{record_value}
+use Rattle.change_outcome.specs.v2_core.Records.{Record}
+use Rattle.installed_info.specs.adb_schema.Rules.{is_folder_name, is_one_part}
 use Rattle.adb_view.specs.Plain.{Plains}
 use Rattle.adb_view.specs.declared.tables.Which.TheVariants.{Package, PkgInfo}
 use Rattle.make_laws.specs.NamedFields.{field_named}
-use Rattle.v2_core.specs.Database.{array_of}
+use Rattle.change_outcome.specs.v2_core.Database.{array_of}
 use Rattle.answer_laws.proofs.LetterValues.{by_letter}
 use Rattle.std.proofs.Common.{◌↔◌}
 use Rattle.std.proofs.lemmas.Bool.{ne_eqb}
 use Rattle.base_core.specs.Lists.{IsIn}
 use Rattle.adb_view.specs.declared.tables.Which.TheVariants.{File, Idb}
 use Rattle.make_laws.specs.NamedFields.{entries_named}
-use Rattle.v2_core.specs.Database.{listed_access_value, listed_file_value, listed_hash_value, value_of_records}
-use Rattle.v2_core.specs.Records.{ListedFile}
+use Rattle.change_outcome.specs.v2_core.Database.{listed_access_value, listed_file_value, listed_hash_value, value_of_records}
+use Rattle.change_outcome.specs.v2_core.Records.{ListedFile}
 use Rattle.adb_view.specs.Plain.{blob_or_null}
 use Rattle.answer_laws.specs.TextLetters.{IsOfOtherLetter, listed_letters}
 use Rattle.answer_laws.proofs.RecordFields.{as_list, in_info, of_info, package_parts}

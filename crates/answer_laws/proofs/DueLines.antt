@@ -6,10 +6,10 @@ use Rattle.std.proofs.lemmas.Grind.{flat_map-append}
 use Rattle.base_core.proofs.Rising as rising
 use Rattle.base_core.specs.Listed.{IsRising}
 use Rattle.base_core.specs.Lists.{IsIn}
-use Rattle.change_files.proofs.InOrder.{filter_rises, order_rises}
+use Rattle.change_outcome.proofs.change_files.InOrder.{filter_rises, order_rises}
 use Rattle.change_outcome.specs.Triggers.{due_line, due_lines, folders_of_paths, has_due_trigger, is_due, trigger_lines, unless_trigger}
-use Rattle.db_core.specs.Members.{Member, member_name}
-use Rattle.package_files.specs.Folders.{folder_of}
+use Rattle.change_outcome.specs.db_core.Members.{Member, member_name}
+use Rattle.change_outcome.specs.package_files.Folders.{folder_of}
 use Rattle.report_core.specs.Reports.{report_line, report_lines, trigger_text}
 use Rattle.report_core.specs.declared.refusal.Refusal.TheVariants.{TriggerNeeded}
 use Rattle.answer_laws.specs.DueTriggers.{HasTriggerLines, IsDueFor, IsFirstDue, IsTriggered}

@@ -6,17 +6,17 @@ use Rattle.std.proofs.lemmas.Bool.{eqb-true}
 use Rattle.dep_core.specs.Dependency.{Dependency}
 use Rattle.dep_core.specs.Reading.{dependency_of}
 use Rattle.dep_core.specs.Spelling.{SpellsDependency}
-use Rattle.make_info.specs.Fields.{FieldValue}
-use Rattle.v2_lines.specs.InfoFields.{field_of_letter, grammar_of, info_field_among, info_fields, letter_of}
-use Rattle.v2_lines.specs.InfoValues.{sha1_of, values_by_grammar}
-use Rattle.v2_lines.specs.Lines.{RecordLine, info_line, folder_line, folder_access_line, file_line, file_access_line, file_hash_line, other_line, folder_line_of, file_line_of, info_line_by, record_line_by, record_line_of}
-use Rattle.v2_lines.specs.Accesses.{access_in}
-use Rattle.v2_lines.specs.declared.field.InfoField.{InfoField}
-use Rattle.v2_core.specs.Database.{values_for}
-use Rattle.v2_core.specs.Records.{InfoLine, info_by}
+use Rattle.change_outcome.specs.make_info.Fields.{FieldValue}
+use Rattle.change_outcome.specs.v2_lines.InfoFields.{field_of_letter, grammar_of, info_field_among, info_fields, letter_of}
+use Rattle.change_outcome.specs.v2_lines.InfoValues.{sha1_of, values_by_grammar}
+use Rattle.change_outcome.specs.v2_lines.Lines.{RecordLine, info_line, folder_line, folder_access_line, file_line, file_access_line, file_hash_line, other_line, folder_line_of, file_line_of, info_line_by, record_line_by, record_line_of}
+use Rattle.change_outcome.specs.v2_lines.Accesses.{access_in}
+use Rattle.change_outcome.specs.v2_lines.declared.field.InfoField.{InfoField}
+use Rattle.change_outcome.specs.v2_core.Database.{values_for}
+use Rattle.change_outcome.specs.v2_core.Records.{InfoLine, info_by}
 use Rattle.answer_laws.specs.TextLetters.{SaysOfLetter, SaysOfLine}
 use Rattle.std.proofs.lemmas.Bool.{eq-eqb}
-use Rattle.adb_schema.specs.Rules.{is_folder_name, is_one_part}
+use Rattle.installed_info.specs.adb_schema.Rules.{is_folder_name, is_one_part}
 use Rattle.answer_laws.proofs.LetterValues.{by_letter, letter_is, says}
 
 -- ---- which lines are of the information

@@ -10,16 +10,16 @@ use Rattle.hex.specs.declared.error.FromHexError.{FromHexError}
 use Rattle.dep_core.specs.Dependency.{Dependency}
 use Rattle.dep_core.specs.Reading.{dependency_of}
 use Rattle.dep_core.specs.Spelling.{SpellsDependency}
-use Rattle.make_info.specs.Fields.{FieldValue, text, kind_of_field, value_of_digits, values_by_kind}
-use Rattle.make_info.specs.declared.field.Field.{Field}
-use Rattle.make_info.specs.declared.field.Field.TheVariants as Options
+use Rattle.change_outcome.specs.make_info.Fields.{FieldValue, text, kind_of_field, value_of_digits, values_by_kind}
+use Rattle.change_outcome.specs.make_info.declared.field.Field.{Field}
+use Rattle.change_outcome.specs.make_info.declared.field.Field.TheVariants as Options
 use Rattle.make_laws.specs.OptionGrammar.{SaysOfField}
 use Rattle.make_laws.proofs.FieldValues.{says_from, says_to}
-use Rattle.v2_lines.specs.InfoFields.{field_of_letter, grammar_of, letter_of}
-use Rattle.v2_lines.specs.InfoValues.{commit_values, sha1_of, twenty_bytes, values_by_grammar}
-use Rattle.v2_lines.specs.Lines.{info_line, record_line_by}
-use Rattle.v2_lines.specs.declared.field.InfoField.{InfoField}
-use Rattle.v2_lines.specs.declared.field.InfoField.TheVariants as Letters
+use Rattle.change_outcome.specs.v2_lines.InfoFields.{field_of_letter, grammar_of, letter_of}
+use Rattle.change_outcome.specs.v2_lines.InfoValues.{commit_values, sha1_of, twenty_bytes, values_by_grammar}
+use Rattle.change_outcome.specs.v2_lines.Lines.{info_line, record_line_by}
+use Rattle.change_outcome.specs.v2_lines.declared.field.InfoField.{InfoField}
+use Rattle.change_outcome.specs.v2_lines.declared.field.InfoField.TheVariants as Letters
 use Rattle.answer_laws.specs.TextLetters.{SaysCommit, SaysHash, SaysOfLetter, letter_line, line_letter}
 
 -- ---- the meaning of a line of a letter

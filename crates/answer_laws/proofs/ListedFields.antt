@@ -1,18 +1,18 @@
 -- The fields of folders and files that a text database lists, and the letters of their lines.
 use Rattle.std.proofs.Common.{◌≡◌, ◌∙◌, ℕ, List, [], ◌∷◌, map, Some, refl, ap}
 use Rattle.std.specs.Prelude.{codes, option_map}
-use Rattle.adb_fields.specs.Repeated.{list_of}
+use Rattle.change_outcome.specs.adb_fields.Repeated.{list_of}
 use Rattle.adb_view.proofs.ValueEntries.{entries_arr, nth_obj}
 use Rattle.adb_view.specs.Plain.{Plain, Plains, blob_or_null, int}
 use Rattle.adb_view.specs.Values.{entries_in}
 use Rattle.adb_view.specs.declared.tables.Which.TheVariants.{Acl, Dir, File, Package}
-use Rattle.make_info.specs.Values.{plains_of_list}
+use Rattle.change_outcome.specs.make_info.Values.{plains_of_list}
 use Rattle.make_laws.specs.NamedFields.{entries_named, field_named}
-use Rattle.v2_core.specs.Database.{array_of, listed_access_value, listed_file_value, listed_folder_value, listed_hash_value, record_value}
-use Rattle.v2_core.specs.Records.{ListedFile, ListedFolder, Record}
-use Rattle.v2_lines.specs.Accesses.{Access, access_in}
-use Rattle.v2_lines.specs.InfoValues.{sha1_of}
-use Rattle.v2_lines.specs.Lines.{file_access_line, file_hash_line, file_line_of, folder_access_line, folder_line_of, record_line_by, record_line_of}
+use Rattle.change_outcome.specs.v2_core.Database.{array_of, listed_access_value, listed_file_value, listed_folder_value, listed_hash_value, record_value}
+use Rattle.change_outcome.specs.v2_core.Records.{ListedFile, ListedFolder, Record}
+use Rattle.change_outcome.specs.v2_lines.Accesses.{Access, access_in}
+use Rattle.change_outcome.specs.v2_lines.InfoValues.{sha1_of}
+use Rattle.change_outcome.specs.v2_lines.Lines.{file_access_line, file_hash_line, file_line_of, folder_access_line, folder_line_of, record_line_by, record_line_of}
 use Rattle.answer_laws.specs.TextLetters.{letter_line}
 use Rattle.answer_laws.proofs.DroppedLines.{file_parts}
 use Rattle.answer_laws.proofs.RecordFields.{as_list, package_parts}

@@ -2,13 +2,13 @@
 use Rattle.std.proofs.Common.{◌≡◌, ◌∙◌, ℕ, List, [], ◌∷◌, ◌++◌, map, Option, Some, None, refl, ap, sym, append_assoc}
 use Rattle.std.specs.Prelude.{if◌then◌else◌, is_some, option_map}
 use Rattle.std.specs.Option.{option_and_then, option_or}
-use Rattle.make_info.specs.Fields.{FieldValue}
-use Rattle.v2_core.proofs.Lists.{with_last-push}
-use Rattle.v2_core.specs.Reading.{with_text}
-use Rattle.v2_core.specs.Records.{ListedFile, ListedFolder, Record, empty_record, file_by, file_with_access, file_with_hash, folder_by, folder_with_access, folder_with_file, folder_with_files, folder_with_last, with_last_changed, with_path_line}
-use Rattle.v2_lines.specs.Accesses.{Access}
-use Rattle.v2_lines.specs.declared.field.InfoField.{InfoField}
-use Rattle.v2_lines.specs.Lines.{RecordLine, file_access_line, file_hash_line, file_line, folder_access_line, folder_line, info_line, other_line, record_line_of}
+use Rattle.change_outcome.specs.make_info.Fields.{FieldValue}
+use Rattle.change_outcome.proofs.v2_core.Lists.{with_last-push}
+use Rattle.change_outcome.specs.v2_core.Reading.{with_text}
+use Rattle.change_outcome.specs.v2_core.Records.{ListedFile, ListedFolder, Record, empty_record, file_by, file_with_access, file_with_hash, folder_by, folder_with_access, folder_with_file, folder_with_files, folder_with_last, with_last_changed, with_path_line}
+use Rattle.change_outcome.specs.v2_lines.Accesses.{Access}
+use Rattle.change_outcome.specs.v2_lines.declared.field.InfoField.{InfoField}
+use Rattle.change_outcome.specs.v2_lines.Lines.{RecordLine, file_access_line, file_hash_line, file_line, folder_access_line, folder_line, info_line, other_line, record_line_of}
 use Rattle.answer_laws.specs.TextFiles.{file_access_in, file_hash_in, files_listed, folder_access_in, folders_listed, up_to_file, up_to_folder}
 use Rattle.answer_laws.specs.TextLetters.{record_with_lines}
 use Rattle.answer_laws.proofs.RecordFields.{accepted}

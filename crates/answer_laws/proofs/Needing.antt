@@ -7,20 +7,20 @@ use Rattle.std.specs.Str.{bytes_eq}
 use Rattle.std.proofs.lemmas.List.{append-nil}
 use Rattle.std.proofs.lemmas.Slice.Eq.{bytes_eq-Decides}
 use Rattle.std.proofs.lemmas.Bool.{not-true, and_from, and_parts, or_cases, not_from_false}
-use Rattle.adb_fields.specs.Repeated.{package_name}
+use Rattle.change_outcome.specs.adb_fields.Repeated.{package_name}
 use Rattle.adb_view.specs.Plain.{Plain}
 use Rattle.base_core.specs.Listed.{IsRising}
 use Rattle.base_core.specs.Lists.{IsIn}
 use Rattle.base_core.proofs.Rising as rising
 use Rattle.base_core.proofs.Booleans.{either_true}
-use Rattle.candidate_core.specs.Candidates.{Candidate, is_met_by_entry, meets_by_own_name, meets_dependency}
-use Rattle.change_files.proofs.InOrder.{filter_rises, from_filter, from_order, in_filter, in_order, order_rises}
-use Rattle.change_files.specs.PlanLists.{names_in_order}
-use Rattle.db_core.specs.Packages.{is_package_named}
+use Rattle.installed_info.specs.candidate_core.Candidates.{Candidate, is_met_by_entry, meets_by_own_name, meets_dependency}
+use Rattle.change_outcome.proofs.change_files.InOrder.{filter_rises, from_filter, from_order, in_filter, in_order, order_rises}
+use Rattle.change_outcome.specs.change_files.PlanLists.{names_in_order}
+use Rattle.change_outcome.specs.db_core.Packages.{is_package_named}
 use Rattle.dep_core.specs.Dependency.{Dependency}
 use Rattle.dep_core.specs.Meets.{meets}
-use Rattle.package_changes.specs.Changes.{is_selected_named}
-use Rattle.package_changes.specs.Report.{is_in_need, names_in_need, needs_candidate, selected_stay_lines, stay_lines, was_installed}
+use Rattle.change_outcome.specs.package_changes.Changes.{is_selected_named}
+use Rattle.change_outcome.specs.package_changes.Report.{is_in_need, names_in_need, needs_candidate, selected_stay_lines, stay_lines, was_installed}
 use Rattle.report_core.specs.Reports.{report_line, report_lines, stays_text}
 use Rattle.answer_laws.specs.KeptNames.{AreNamedOnce, HasKeptLines, IsNeededUnder, IsProvidedBy, NeedsOther, kept_text}
 use Rattle.answer_laws.proofs.Members.{found_name, listed, missing_name, risen}

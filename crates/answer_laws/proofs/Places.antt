@@ -2,25 +2,25 @@
 use Rattle.std.proofs.Common.{◌≡◌, ◌∙◌, ℕ, ◌+◌, Bool, true, false, List, [], ◌∷◌, ◌++◌, Option, Some, None, Result, Ok, Err, refl, ap, sym, arith}
 use Rattle.std.specs.Prelude.{◌-◌, ◌||◌, if◌then◌else◌, codes, slice_get}
 use Rattle.std.specs.List.{list_any}
-use Rattle.adb_fields.specs.Repeated.{entries_at}
-use Rattle.adb_schema.specs.Soundness.{payload_in, root_value}
+use Rattle.change_outcome.specs.adb_fields.Repeated.{entries_at}
+use Rattle.installed_info.specs.adb_schema.Soundness.{payload_in, root_value}
 use Rattle.adb_view.specs.FieldIndexes.{IDB_PACKAGES}
 use Rattle.adb_view.specs.declared.tables.Which.TheVariants.{Idb}
 use Rattle.base_core.specs.Name.{is_name}
 use Rattle.base_core.specs.declared.cause.Cause.{Cause}
-use Rattle.candidate_core.specs.Candidates.{Candidate}
-use Rattle.change_inputs.specs.Chains.{unless_cause}
-use Rattle.change_inputs.specs.Database.{Database, database_by, payload_database, root_database}
+use Rattle.installed_info.specs.candidate_core.Candidates.{Candidate}
+use Rattle.change_outcome.specs.change_inputs.Chains.{unless_cause}
+use Rattle.change_outcome.specs.change_inputs.Database.{Database, database_by, payload_database, root_database}
 use Rattle.change_outcome.specs.PackageFiles.{folder_prefix, has_slash, if_name, package_file_of, package_path, path_beside_index}
 use Rattle.dep_core.specs.Repositories.{Repository}
-use Rattle.package_changes.specs.Changes.{selected_version}
-use Rattle.package_files.specs.Folders.{is_slash}
-use Rattle.adb_schema.specs.Soundness.{first_fault}
+use Rattle.change_outcome.specs.package_changes.Changes.{selected_version}
+use Rattle.change_outcome.specs.package_files.Folders.{is_slash}
+use Rattle.installed_info.specs.adb_schema.Soundness.{first_fault}
 use Rattle.report_core.specs.declared.refusal.Refusal.TheVariants.{DatabaseBad}
 use Rattle.report_core.specs.Reports.{name_version}
-use Rattle.v2_core.specs.Payload.{payload_of_text}
-use Rattle.v2_core.specs.declared.read.V2Fault.{V2Fault}
-use Rattle.v2_core.specs.declared.read.V2Fault.TheVariants.{Bad, Memory, TooLarge}
+use Rattle.change_outcome.specs.v2_core.Payload.{payload_of_text}
+use Rattle.change_outcome.specs.v2_core.declared.read.V2Fault.{V2Fault}
+use Rattle.change_outcome.specs.v2_core.declared.read.V2Fault.TheVariants.{Bad, Memory, TooLarge}
 use Rattle.answer_laws.specs.FoundFiles.{HasNoSlash, IsCandidateOfIndex, candidate_file_name}
 use Rattle.std.proofs.lemmas.List.{append_assoc}
 

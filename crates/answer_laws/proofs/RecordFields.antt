@@ -4,34 +4,34 @@ use Rattle.std.specs.Prelude.{codes, ◌==◌, ◌&&◌, ◌||◌, if◌then◌e
 use Rattle.std.specs.List.{find, flat_map}
 use Rattle.std.specs.Option.{option_and_then}
 use Rattle.std.proofs.lemmas.Bool.{eqb-true}
-use Rattle.adb_fields.specs.Repeated.{list_of}
+use Rattle.change_outcome.specs.adb_fields.Repeated.{list_of}
 use Rattle.adb_view.specs.Plain.{Plain, null}
 use Rattle.adb_view.specs.Values.{entries_in, entry_in, nth}
 use Rattle.adb_view.proofs.ValueEntries.{entries_arr, nth_obj}
 use Rattle.dep_core.specs.Dependency.{Dependency}
 use Rattle.dep_core.specs.Reading.{dependency_of}
 use Rattle.dep_core.specs.Spelling.{SpellsDependency}
-use Rattle.make_info.specs.Fields.{FieldValue}
-use Rattle.make_info.specs.Information.{plain_value}
-use Rattle.make_info.specs.Values.{plains_of_list}
+use Rattle.change_outcome.specs.make_info.Fields.{FieldValue}
+use Rattle.change_outcome.specs.make_info.Information.{plain_value}
+use Rattle.change_outcome.specs.make_info.Values.{plains_of_list}
 use Rattle.make_laws.specs.SaidOfFields.{HasAllValues, HasValuesAsList, HasFirstValue}
-use Rattle.v2_lines.specs.InfoFields.{adds_to_list, field_of_letter, letter_of}
-use Rattle.v2_lines.specs.Lines.{RecordLine, info_line, folder_line, folder_access_line, file_line, file_access_line, file_hash_line, other_line, record_line_of}
-use Rattle.v2_lines.specs.declared.field.InfoField.{InfoField}
-use Rattle.v2_lines.specs.declared.field.InfoField.TheVariants as Letters
-use Rattle.v2_core.specs.Database.{joined_value, record_info_value, record_value, single_value, value_of_first, value_of_line, values_for}
-use Rattle.v2_core.specs.Reading.{with_text}
-use Rattle.v2_core.specs.Records.{InfoLine, ListedFolder, Record, has_line_of, info_by, is_line_of, record_of_parts, with_info, with_info_line, with_path_line, with_record_line}
+use Rattle.change_outcome.specs.v2_lines.InfoFields.{adds_to_list, field_of_letter, letter_of}
+use Rattle.change_outcome.specs.v2_lines.Lines.{RecordLine, info_line, folder_line, folder_access_line, file_line, file_access_line, file_hash_line, other_line, record_line_of}
+use Rattle.change_outcome.specs.v2_lines.declared.field.InfoField.{InfoField}
+use Rattle.change_outcome.specs.v2_lines.declared.field.InfoField.TheVariants as Letters
+use Rattle.change_outcome.specs.v2_core.Database.{joined_value, record_info_value, record_value, single_value, value_of_first, value_of_line, values_for}
+use Rattle.change_outcome.specs.v2_core.Reading.{with_text}
+use Rattle.change_outcome.specs.v2_core.Records.{InfoLine, ListedFolder, Record, has_line_of, info_by, is_line_of, record_of_parts, with_info, with_info_line, with_path_line, with_record_line}
 use Rattle.answer_laws.specs.TextLetters.{SayOfLines, HasValuesOfLines, is_list_letter, letter_value_in_package, record_with_lines}
 use Rattle.std.proofs.lemmas.Bool.{eq-eqb}
 use Rattle.adb_view.specs.Plain.{Plains}
 use Rattle.adb_view.specs.declared.tables.Which.TheVariants.{Package, PkgInfo}
 use Rattle.make_laws.specs.NamedFields.{field_named}
-use Rattle.v2_core.specs.Database.{array_of, listed_folder_value}
+use Rattle.change_outcome.specs.v2_core.Database.{array_of, listed_folder_value}
 use Rattle.std.specs.Option.{option_or}
 use Rattle.std.proofs.lemmas.Grind.{flat_map-append}
 use Rattle.std.proofs.lemmas.List.Folds.{find-append}
-use Rattle.v2_core.specs.Records.{record_by, empty_record}
+use Rattle.change_outcome.specs.v2_core.Records.{record_by, empty_record}
 use Rattle.answer_laws.proofs.LetterLines.{given, infos, one_line, other_values, own_values, values_of}
 
 -- ---- a line that was accepted

@@ -7,8 +7,8 @@ use Rattle.std.specs.Str.{bytes_eq}
 use Rattle.std.specs.declared.cmp.Ordering.TheVariants.{Less}
 use Rattle.std.proofs.lemmas.Bool.{eq-eqb, lt-ltb, not-true, and_from, and_parts, not_from_false}
 use Rattle.std.proofs.lemmas.Slice.Eq.{bytes_eq-Decides}
-use Rattle.adb_fields.specs.Repeated.{entries_at, package_name}
-use Rattle.adb_schema.specs.Dependencies.{dependency_in}
+use Rattle.change_outcome.specs.adb_fields.Repeated.{entries_at, package_name}
+use Rattle.installed_info.specs.adb_schema.Dependencies.{dependency_in}
 use Rattle.adb_view.specs.FieldIndexes.{INFO_REPLACES, PACKAGE_INFO}
 use Rattle.adb_view.specs.Plain.{Plain}
 use Rattle.adb_view.specs.Values.{entry_in}
@@ -16,7 +16,7 @@ use Rattle.base_core.specs.ByteOrder.{bytes_cmp, precedes}
 use Rattle.base_core.proofs.Booleans.{either_true}
 use Rattle.dep_core.specs.Dependency.{Dependency}
 use Rattle.dep_core.specs.Meets.{is_wanted, meets}
-use Rattle.file_owners.specs.Replaces.{is_named_by, is_preferred_to, is_replaced_by, names_package, replacing_priority, takes_over, version_text}
+use Rattle.installed_info.specs.file_owners.Replaces.{is_named_by, is_preferred_to, is_replaced_by, names_package, replacing_priority, takes_over, version_text}
 use Rattle.version_core.specs.Order.{is_version}
 use Rattle.answer_laws.specs.ReplacesEntries.{IsNamedInReplaces}
 use Rattle.answer_laws.proofs.Tests.{any_passes, passes_any}

@@ -13,16 +13,16 @@ use Rattle.base_core.proofs.Sorting.{sorted_same, sorted_up}
 use Rattle.base_core.specs.ByteOrder.{bytes_cmp}
 use Rattle.base_core.specs.Files.{Files}
 use Rattle.base_core.specs.Sorted.{sorted_by, with_element}
-use Rattle.candidate_core.specs.Candidates.{Candidate}
-use Rattle.change_files.specs.Fate.{aside_ending}
-use Rattle.change_files.specs.FileChange.{FileChange}
-use Rattle.change_files.specs.PlanLists.{aside_of, kept_of}
+use Rattle.installed_info.specs.candidate_core.Candidates.{Candidate}
+use Rattle.change_outcome.specs.change_files.Fate.{aside_ending}
+use Rattle.change_outcome.specs.change_files.FileChange.{FileChange}
+use Rattle.change_outcome.specs.change_files.PlanLists.{aside_of, kept_of}
 use Rattle.change_outcome.specs.ChangeOutcome.{ChangeWishes, change_report, member_size, member_sum_line, touched_paths}
 use Rattle.change_outcome.specs.ConfigurationLines.{PathLine, aside_line, configuration_lines, kept_line, path_line, path_line_cmp}
 use Rattle.change_outcome.specs.Triggers.{trigger_lines}
-use Rattle.db_core.specs.Members.{Member}
-use Rattle.package_changes.specs.Changes.{Replacement, changes_of}
-use Rattle.package_changes.specs.Report.{candidate_size, selected_sum_line, simulated_report, stay_lines}
+use Rattle.change_outcome.specs.db_core.Members.{Member}
+use Rattle.change_outcome.specs.package_changes.Changes.{Replacement, changes_of}
+use Rattle.change_outcome.specs.package_changes.Report.{candidate_size, selected_sum_line, simulated_report, stay_lines}
 use Rattle.report_core.specs.Reports.{change_lines, report_line, report_lines, sum_text}
 use Rattle.answer_laws.specs.KeptNames.{AreNamedOnce}
 use Rattle.answer_laws.specs.ReportSections.{ChangedFile, HasConfigurationLines, HasSections, HasSimulatedSections, HasSum, IsSumOf, changed_path, changed_file_text, size_when_installed, kept, aside_claim_at, member_info}

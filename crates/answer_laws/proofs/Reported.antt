@@ -4,17 +4,17 @@ use Rattle.std.specs.List.{cons_option, filter_map, find, list_any}
 use Rattle.std.specs.Str.{bytes_eq}
 use Rattle.std.specs.declared.cmp.Ordering.{Ordering}
 use Rattle.std.specs.declared.cmp.Ordering.TheVariants.{Less, Equal, Greater}
-use Rattle.adb_fields.specs.Repeated.{package_name}
+use Rattle.change_outcome.specs.adb_fields.Repeated.{package_name}
 use Rattle.adb_view.specs.Plain.{Plain}
 use Rattle.base_core.proofs.Rising.{Rises, order, pairs_from_rises}
 use Rattle.base_core.specs.Listed.{IsRising}
 use Rattle.base_core.proofs.Rising as rising
 use Rattle.base_core.specs.Lists.{IsIn}
-use Rattle.candidate_core.specs.Candidates.{Candidate}
-use Rattle.change_files.proofs.InOrder.{in_order, order_rises, in_left, in_right}
-use Rattle.db_core.specs.Packages.{is_package_named}
-use Rattle.file_owners.specs.Replaces.{version_text}
-use Rattle.package_changes.specs.Changes.{Replacement, change_between, change_of_name, changes_of, is_same_selected, is_selected_named, names_on_both_sides, selected_version, unless_same, version_change, version_text_cmp}
+use Rattle.installed_info.specs.candidate_core.Candidates.{Candidate}
+use Rattle.change_outcome.proofs.change_files.InOrder.{in_order, order_rises, in_left, in_right}
+use Rattle.change_outcome.specs.db_core.Packages.{is_package_named}
+use Rattle.installed_info.specs.file_owners.Replaces.{version_text}
+use Rattle.change_outcome.specs.package_changes.Changes.{Replacement, change_between, change_of_name, changes_of, is_same_selected, is_selected_named, names_on_both_sides, selected_version, unless_same, version_change, version_text_cmp}
 use Rattle.report_core.specs.Reports.{Change, Install, Purge, Reinstall}
 use Rattle.answer_laws.specs.WhichChange.{IsInstalled, IsPurged, IsSelected, WasInstalled, changed_name}
 use Rattle.answer_laws.proofs.Members.{found_name, given_in, given_of, listed, missing_name}

@@ -2,13 +2,13 @@
 use Rattle.std.proofs.Common.{◌≡◌, ◌↔◌, ◌∙◌, ℕ, Bool, true, false, List, [], ◌∷◌, ◌++◌, refl, ap, sym, subst}
 use Rattle.std.specs.Prelude.{codes}
 use Rattle.std.proofs.lemmas.List.{append_assoc}
-use Rattle.adb_fields.specs.Repeated.{package_name, paths_in}
+use Rattle.change_outcome.specs.adb_fields.Repeated.{package_name, paths_in}
 use Rattle.adb_view.specs.Plain.{Plain}
 use Rattle.adb_view.specs.Values.{text_in}
 use Rattle.command_core.specs.declared.command.Flags.{Flags}
-use Rattle.db_core.specs.Packages.{lists_path}
+use Rattle.change_outcome.specs.db_core.Packages.{lists_path}
 use Rattle.dep_core.specs.LeadingSlash.{without_slash}
-use Rattle.file_owners.specs.Replaces.{version_text}
+use Rattle.installed_info.specs.file_owners.Replaces.{version_text}
 use Rattle.installed_info.specs.Form.{form_of}
 use Rattle.installed_info.specs.Info.{package_info}
 use Rattle.installed_info.proofs.Listers.{listed, is_listed}

@@ -6,10 +6,10 @@ use Rattle.std.specs.Str.{bytes_eq}
 use Rattle.installed_info.proofs.Listers.{listed, is_listed}
 use Rattle.adb_view.specs.Plain.{Plain}
 use Rattle.base_core.specs.Lists.{IsIn}
-use Rattle.candidate_core.specs.Candidates.{Candidate, is_same_id}
-use Rattle.db_core.specs.Packages.{installed_id}
-use Rattle.file_owners.specs.Replaces.{version_text}
-use Rattle.package_changes.specs.Changes.{Replacement, change_between, change_of_name, is_selected_named, selected_version, unless_same}
+use Rattle.installed_info.specs.candidate_core.Candidates.{Candidate, is_same_id}
+use Rattle.change_outcome.specs.db_core.Packages.{installed_id}
+use Rattle.installed_info.specs.file_owners.Replaces.{version_text}
+use Rattle.change_outcome.specs.package_changes.Changes.{Replacement, change_between, change_of_name, is_selected_named, selected_version, unless_same}
 use Rattle.report_core.specs.Reports.{Change, Reinstall}
 use Rattle.answer_laws.specs.WhichChange.{IsSelectedItself}
 

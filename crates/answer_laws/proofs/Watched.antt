@@ -9,14 +9,14 @@ use Rattle.base_core.proofs.Rising as rising
 use Rattle.base_core.specs.Listed.{IsRising}
 use Rattle.base_core.specs.Lists.{IsIn}
 use Rattle.base_core.specs.Name.{parts_of}
-use Rattle.change_files.proofs.InOrder.{from_order, in_order, order_rises}
+use Rattle.change_outcome.proofs.change_files.InOrder.{from_order, in_order, order_rises}
 use Rattle.change_outcome.specs.PackageFiles.{has_script_of}
 use Rattle.change_outcome.specs.Triggers.{are_parts_matched, folders_of_paths, is_due, is_folder_matched, is_watched, patterns_of}
 use Rattle.dep_core.specs.LeadingSlash.{without_slash}
-use Rattle.package_files.specs.Folders.{folder_of}
+use Rattle.change_outcome.specs.package_files.Folders.{folder_of}
 use Rattle.report_core.specs.Numbers.{TRIGGER_SCRIPT}
-use Rattle.star_patterns.specs.Fills.{IsFilledTo}
-use Rattle.star_patterns.specs.Patterns.{is_matched}
+use Rattle.change_outcome.specs.star_patterns.Fills.{IsFilledTo}
+use Rattle.change_outcome.specs.star_patterns.Patterns.{is_matched}
 use Rattle.answer_laws.specs.DueTriggers.{HasFileIn, IsFilledByParts, IsTriggered}
 use Rattle.answer_laws.proofs.Members.{listed, risen}
 use Rattle.answer_laws.proofs.Tests.{any_passes, passes_any, text_in, text_of}

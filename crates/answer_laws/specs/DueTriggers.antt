@@ -8,12 +8,12 @@ use Rattle.base_core.specs.Lists.{IsIn}
 use Rattle.base_core.specs.Name.{parts_of}
 use Rattle.change_outcome.specs.PackageFiles.{has_script_of}
 use Rattle.change_outcome.specs.Triggers.{is_folder_matched, patterns_of}
-use Rattle.db_core.specs.Members.{Member, member_name}
+use Rattle.change_outcome.specs.db_core.Members.{Member, member_name}
 use Rattle.dep_core.specs.LeadingSlash.{without_slash}
-use Rattle.package_files.specs.Folders.{folder_of}
+use Rattle.change_outcome.specs.package_files.Folders.{folder_of}
 use Rattle.report_core.specs.Numbers.{TRIGGER_SCRIPT}
 use Rattle.report_core.specs.Reports.{report_lines, trigger_text}
-use Rattle.star_patterns.specs.Fills.{IsFilledTo}
+use Rattle.change_outcome.specs.star_patterns.Fills.{IsFilledTo}
 
 -- A pattern, without one leading `/`, has as many parts as a folder, and the stars of each part can be
 -- replaced by bytes so that it reads as the folder's part at the same place.

@@ -2,10 +2,10 @@
 -- is read. Serves the laws of `src/found.rt`.
 use Rattle.std.specs.Prelude.{◌≡◌, ◌+◌, ℕ, false, List, ◌++◌, Some, codes, slice_get}
 use Rattle.std.specs.List.{list_any}
-use Rattle.candidate_core.specs.Candidates.{Candidate}
+use Rattle.installed_info.specs.candidate_core.Candidates.{Candidate}
 use Rattle.dep_core.specs.Repositories.{Repository}
-use Rattle.package_changes.specs.Changes.{selected_version}
-use Rattle.package_files.specs.Folders.{is_slash}
+use Rattle.change_outcome.specs.package_changes.Changes.{selected_version}
+use Rattle.change_outcome.specs.package_files.Folders.{is_slash}
 use Rattle.report_core.specs.Reports.{name_version}
 
 -- the file name of a candidate's package

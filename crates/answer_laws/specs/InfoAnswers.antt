@@ -3,17 +3,17 @@
 use Rattle.std.specs.Prelude.{◌≡◌, ℕ, true, List, [], ◌∷◌, ◌++◌, None, codes, is_some, map}
 use Rattle.std.specs.List.{flat_map}
 use Rattle.std.specs.List.Sorted.{IsPermutation, IsSorted}
-use Rattle.adb_fields.specs.Paths.{path_of}
-use Rattle.adb_fields.specs.Repeated.{files_in, folders_in, name_of, package_name}
+use Rattle.change_outcome.specs.adb_fields.Paths.{path_of}
+use Rattle.change_outcome.specs.adb_fields.Repeated.{files_in, folders_in, name_of, package_name}
 use Rattle.adb_view.specs.Plain.{Plain}
 use Rattle.adb_view.specs.declared.tables.Which.TheVariants.{Package, PkgInfo}
 use Rattle.base_core.specs.ByteOrder.{bytes_cmp}
 use Rattle.base_core.specs.Lists.{IsIn}
 use Rattle.command_core.specs.declared.command.Flags.{Flags}
 use Rattle.command_core.specs.declared.operands.Operand.{Operand}
-use Rattle.candidate_core.specs.Candidates.{dependencies_in}
+use Rattle.installed_info.specs.candidate_core.Candidates.{dependencies_in}
 use Rattle.dep_core.specs.DependencyText.{dep_text}
-use Rattle.file_owners.specs.Replaces.{version_text}
+use Rattle.installed_info.specs.file_owners.Replaces.{version_text}
 use Rattle.installed_info.specs.Form.{form_of}
 use Rattle.installed_info.specs.Packages.{package_asked}
 use Rattle.make_laws.specs.NamedFields.{field_named}

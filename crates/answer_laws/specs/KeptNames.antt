@@ -3,15 +3,15 @@
 use Rattle.std.specs.Prelude.{◌≡◌, ◌⊎◌, ◌↔◌, ◌≤◌, ℕ, true, false, List, [], map, length}
 use Rattle.std.specs.List.{filter, find}
 use Rattle.std.specs.Option.{option_map_or}
-use Rattle.adb_fields.specs.Repeated.{package_name}
+use Rattle.change_outcome.specs.adb_fields.Repeated.{package_name}
 use Rattle.adb_view.specs.Plain.{Plain}
 use Rattle.base_core.specs.Listed.{IsRising}
 use Rattle.base_core.specs.Lists.{IsIn}
-use Rattle.candidate_core.specs.Candidates.{Candidate}
+use Rattle.installed_info.specs.candidate_core.Candidates.{Candidate}
 use Rattle.dep_core.specs.Dependency.{Dependency}
 use Rattle.dep_core.specs.Meets.{meets}
-use Rattle.package_changes.specs.Changes.{is_selected_named}
-use Rattle.package_changes.specs.Report.{names_in_need}
+use Rattle.change_outcome.specs.package_changes.Changes.{is_selected_named}
+use Rattle.change_outcome.specs.package_changes.Report.{names_in_need}
 use Rattle.report_core.specs.Reports.{report_lines, stays_text}
 
 -- ---- who needs a candidate

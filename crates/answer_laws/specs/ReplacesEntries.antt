@@ -1,15 +1,15 @@
 -- Which packages are named by the `replaces` of another. The rule is in `docs/commands.md`, "Files that
 -- several packages list". Serves the laws of `src/replaces.rt`.
 use Rattle.std.specs.Prelude.{◌≡◌, true, false, Some}
-use Rattle.adb_fields.specs.Repeated.{entries_at, package_name}
-use Rattle.adb_schema.specs.Dependencies.{dependency_in}
+use Rattle.change_outcome.specs.adb_fields.Repeated.{entries_at, package_name}
+use Rattle.installed_info.specs.adb_schema.Dependencies.{dependency_in}
 use Rattle.adb_view.specs.FieldIndexes.{INFO_REPLACES, PACKAGE_INFO}
 use Rattle.adb_view.specs.Plain.{Plain}
 use Rattle.adb_view.specs.Values.{entry_in}
 use Rattle.base_core.specs.Lists.{IsIn}
 use Rattle.dep_core.specs.Dependency.{Dependency}
 use Rattle.dep_core.specs.Meets.{is_wanted}
-use Rattle.file_owners.specs.Replaces.{version_text}
+use Rattle.installed_info.specs.file_owners.Replaces.{version_text}
 use Rattle.version_core.specs.Order.{is_version}
 
 -- an entry of a package's `replaces`, which is no conflict, has the other's own name and accepts its

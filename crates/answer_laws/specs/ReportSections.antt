@@ -8,13 +8,13 @@ use Rattle.adb_view.specs.Values.{int_in}
 use Rattle.adb_view.specs.declared.tables.Which.TheVariants.{Package, PkgInfo}
 use Rattle.base_core.specs.ByteOrder.{bytes_cmp}
 use Rattle.base_core.specs.Files.{Files}
-use Rattle.candidate_core.specs.Candidates.{Candidate}
-use Rattle.change_files.specs.FileChange.{FileChange}
-use Rattle.change_files.specs.PlanLists.{aside_of, kept_of}
+use Rattle.installed_info.specs.candidate_core.Candidates.{Candidate}
+use Rattle.change_outcome.specs.change_files.FileChange.{FileChange}
+use Rattle.change_outcome.specs.change_files.PlanLists.{aside_of, kept_of}
 use Rattle.change_outcome.specs.ChangeOutcome.{ChangeWishes, touched_paths}
-use Rattle.db_core.specs.Members.{Member}
+use Rattle.change_outcome.specs.db_core.Members.{Member}
 use Rattle.make_laws.specs.NamedFields.{field_named}
-use Rattle.package_changes.specs.Changes.{Replacement, changes_of}
+use Rattle.change_outcome.specs.package_changes.Changes.{Replacement, changes_of}
 use Rattle.report_core.specs.Reports.{report_lines}
 use Rattle.answer_laws.specs.DueTriggers.{HasTriggerLines}
 use Rattle.answer_laws.specs.KeptNames.{HasKeptLines}

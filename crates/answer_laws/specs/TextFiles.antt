@@ -1,9 +1,9 @@
 -- Which folders and files the lines of a text database list. The rules are in `docs/formats.md`, "Text
 -- database of version 2", the rows F, M, R, a and Z. Serves the laws of `src/listed.rt`.
 use Rattle.std.specs.Prelude.{ℕ, List, [], ◌∷◌, Option, Some, None}
-use Rattle.v2_core.specs.Records.{ListedFile, ListedFolder, file_by, folder_by}
-use Rattle.v2_lines.specs.Accesses.{Access}
-use Rattle.v2_lines.specs.Lines.{RecordLine, file_access_line, file_hash_line, file_line, folder_access_line, folder_line, info_line, other_line}
+use Rattle.change_outcome.specs.v2_core.Records.{ListedFile, ListedFolder, file_by, folder_by}
+use Rattle.change_outcome.specs.v2_lines.Accesses.{Access}
+use Rattle.change_outcome.specs.v2_lines.Lines.{RecordLine, file_access_line, file_hash_line, file_line, folder_access_line, folder_line, info_line, other_line}
 
 -- the lines up to the next that begins a folder
 abbrev pub up_to_folder : List RecordLine → List RecordLine

@@ -8,15 +8,15 @@ use Rattle.base64.specs.GeneralPurpose.{decode_of as base64_bytes}
 use Rattle.adb_view.specs.Plain.{Plain}
 use Rattle.adb_view.specs.declared.tables.Which.TheVariants.{Package, PkgInfo}
 use Rattle.base_core.specs.Lists.{IsIn}
-use Rattle.make_info.specs.Fields.{FieldValue, text}
-use Rattle.make_info.specs.declared.field.Field.TheVariants as Options
+use Rattle.change_outcome.specs.make_info.Fields.{FieldValue, text}
+use Rattle.change_outcome.specs.make_info.declared.field.Field.TheVariants as Options
 use Rattle.make_laws.specs.NamedFields.{field_named}
 use Rattle.make_laws.specs.OptionGrammar.{SaysNumber, SaysOfField}
 use Rattle.make_laws.specs.SaidOfFields.{HasValuesAsList}
-use Rattle.v2_core.specs.Reading.{with_text}
-use Rattle.v2_core.specs.Records.{Record}
-use Rattle.v2_lines.specs.declared.field.InfoField.{InfoField}
-use Rattle.v2_lines.specs.declared.field.InfoField.TheVariants as Letters
+use Rattle.change_outcome.specs.v2_core.Reading.{with_text}
+use Rattle.change_outcome.specs.v2_core.Records.{Record}
+use Rattle.change_outcome.specs.v2_lines.declared.field.InfoField.{InfoField}
+use Rattle.change_outcome.specs.v2_lines.declared.field.InfoField.TheVariants as Letters
 
 -- ---- the table of letters
 

@@ -2,13 +2,13 @@
 -- "`upgrade` and `fix`", what is reported. Serves the laws of `src/changes.rt`.
 use Rattle.std.specs.Prelude.{◌≡◌, ℕ, ◌+◌, true, List, None, Some, is_some, length, map, slice_get}
 use Rattle.std.specs.List.{find}
-use Rattle.adb_fields.specs.Repeated.{package_name}
+use Rattle.change_outcome.specs.adb_fields.Repeated.{package_name}
 use Rattle.adb_view.specs.Plain.{Plain}
 use Rattle.base_core.specs.Lists.{IsIn}
-use Rattle.candidate_core.specs.Candidates.{Candidate, is_same_id}
-use Rattle.db_core.specs.Packages.{installed_id, is_package_named}
-use Rattle.file_owners.specs.Replaces.{version_text}
-use Rattle.package_changes.specs.Changes.{Replacement, change_of_name, is_selected_named, selected_version}
+use Rattle.installed_info.specs.candidate_core.Candidates.{Candidate, is_same_id}
+use Rattle.change_outcome.specs.db_core.Packages.{installed_id, is_package_named}
+use Rattle.installed_info.specs.file_owners.Replaces.{version_text}
+use Rattle.change_outcome.specs.package_changes.Changes.{Replacement, change_of_name, is_selected_named, selected_version}
 use Rattle.report_core.specs.Reports.{Change, Downgrade, Install, Purge, Reinstall, Replace, Upgrade, numbered_change, report_lines}
 use Rattle.version_core.specs.Order.{is_version}
 

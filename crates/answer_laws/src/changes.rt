@@ -9,10 +9,10 @@ ghost use Rattle.adb_view.specs.Plain.{Plain};
 ghost use Rattle.answer_laws.specs.WhichChange.{HasBothVersions, HasNumberedLines, IsInstalled, IsPurged, IsSelected, IsSelectedItself, IsVeryPackage, WasInstalled, changed_name};
 ghost use Rattle.base_core.specs.Listed.{IsRising};
 ghost use Rattle.base_core.specs.Lists.{IsIn};
-ghost use Rattle.candidate_core.specs.Candidates.{Candidate};
-ghost use Rattle.db_core.specs.Packages.{is_package_named};
-ghost use Rattle.file_owners.specs.Replaces.{version_text};
-ghost use Rattle.package_changes.specs.Changes.{Replacement, change_of_name, changes_of, is_selected_named, selected_version};
+ghost use Rattle.installed_info.specs.candidate_core.Candidates.{Candidate};
+ghost use Rattle.change_outcome.specs.db_core.Packages.{is_package_named};
+ghost use Rattle.installed_info.specs.file_owners.Replaces.{version_text};
+ghost use Rattle.change_outcome.specs.package_changes.Changes.{Replacement, change_of_name, changes_of, is_selected_named, selected_version};
 ghost use Rattle.report_core.specs.Reports.{Change, Downgrade, Install, Purge, Reinstall, Replace, Upgrade, change_lines};
 ghost use Rattle.version_core.specs.Order.{version_cmp};
 

@@ -3,16 +3,16 @@
 
 ghost use Rattle.std.specs.Prelude.{◌≡◌, ◌↔◌, ◌∷◌, [], codes, ℕ, List, Some, true, false, is_some, map};
 ghost use Rattle.std.specs.List.{filter};
-ghost use Rattle.adb_fields.specs.Repeated.{package_name};
+ghost use Rattle.change_outcome.specs.adb_fields.Repeated.{package_name};
 ghost use Rattle.adb_view.specs.Plain.{Plain};
 ghost use Rattle.adb_view.specs.Values.{text_in};
 ghost use Rattle.answer_laws.specs.InfoAnswers.{HasSortedNames, IsFirstAbsent, depends_in_order, info_field, info_heading, paths_in_order, section_lines};
 ghost use Rattle.base_core.specs.Lists.{IsIn};
 ghost use Rattle.command_core.specs.declared.command.Flags.{Flags};
 ghost use Rattle.command_core.specs.declared.operands.Operand.{Operand};
-ghost use Rattle.db_core.specs.Packages.{lists_path};
+ghost use Rattle.change_outcome.specs.db_core.Packages.{lists_path};
 ghost use Rattle.dep_core.specs.LeadingSlash.{without_slash};
-ghost use Rattle.file_owners.specs.Replaces.{version_text};
+ghost use Rattle.installed_info.specs.file_owners.Replaces.{version_text};
 ghost use Rattle.installed_info.specs.Form.{form_of};
 ghost use Rattle.installed_info.specs.Info.{info_refusal, names_info, operands_info, package_info};
 ghost use Rattle.installed_info.specs.Packages.{package_named};

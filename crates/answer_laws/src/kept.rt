@@ -6,8 +6,8 @@ ghost use Rattle.adb_view.specs.Plain.{Plain};
 ghost use Rattle.answer_laws.specs.KeptNames.{AreNamedOnce, HasKeptLines, IsNeededUnder};
 ghost use Rattle.base_core.specs.Listed.{IsRising};
 ghost use Rattle.base_core.specs.Lists.{IsIn};
-ghost use Rattle.candidate_core.specs.Candidates.{Candidate};
-ghost use Rattle.package_changes.specs.Report.{names_in_need, stay_lines};
+ghost use Rattle.installed_info.specs.candidate_core.Candidates.{Candidate};
+ghost use Rattle.change_outcome.specs.package_changes.Report.{names_in_need, stay_lines};
 
 /// The names after "required by" are exactly those of the other selected packages that need the
 /// kept one, by its name or by what it provides, each once, in byte order.

@@ -6,10 +6,10 @@ ghost use Rattle.adb_view.specs.Plain.{null};
 ghost use Rattle.adb_view.specs.declared.tables.Which.TheVariants.{File, Idb, Package, PkgInfo};
 ghost use Rattle.answer_laws.specs.TextLetters.{IsOfOtherLetter, HasValuesOfLines, record_with_lines};
 ghost use Rattle.make_laws.specs.NamedFields.{entries_named, field_named};
-ghost use Rattle.v2_core.specs.Database.{listed_file_value, record_value, value_of_records};
-ghost use Rattle.v2_core.specs.Records.{ListedFile, Record, empty_record};
-ghost use Rattle.v2_lines.specs.Lines.{other_line, record_line_of};
-ghost use Rattle.v2_lines.specs.declared.field.InfoField.{InfoField};
+ghost use Rattle.change_outcome.specs.v2_core.Database.{listed_file_value, record_value, value_of_records};
+ghost use Rattle.change_outcome.specs.v2_core.Records.{ListedFile, Record, empty_record};
+ghost use Rattle.change_outcome.specs.v2_lines.Lines.{other_line, record_line_of};
+ghost use Rattle.change_outcome.specs.v2_lines.declared.field.InfoField.{InfoField};
 
 use dep_core::{read_texts_are_spelled, spelled_texts_are_read};
 

@@ -7,11 +7,11 @@ ghost use Rattle.adb_view.specs.declared.tables.Which.TheVariants.{Acl, Dir, Fil
 ghost use Rattle.answer_laws.specs.TextFiles.{folders_listed};
 ghost use Rattle.answer_laws.specs.TextLetters.{letter_line, record_with_lines};
 ghost use Rattle.make_laws.specs.NamedFields.{entries_named, field_named};
-ghost use Rattle.v2_core.specs.Database.{listed_access_value, listed_file_value, listed_folder_value, listed_hash_value, record_value};
-ghost use Rattle.v2_core.specs.Records.{ListedFile, ListedFolder, Record, empty_record};
-ghost use Rattle.v2_lines.specs.Accesses.{Access, access_in};
-ghost use Rattle.v2_lines.specs.InfoValues.{sha1_of};
-ghost use Rattle.v2_lines.specs.Lines.{RecordLine, file_access_line, file_hash_line, file_line_of, folder_access_line, folder_line_of, record_line_of};
+ghost use Rattle.change_outcome.specs.v2_core.Database.{listed_access_value, listed_file_value, listed_folder_value, listed_hash_value, record_value};
+ghost use Rattle.change_outcome.specs.v2_core.Records.{ListedFile, ListedFolder, Record, empty_record};
+ghost use Rattle.change_outcome.specs.v2_lines.Accesses.{Access, access_in};
+ghost use Rattle.change_outcome.specs.v2_lines.InfoValues.{sha1_of};
+ghost use Rattle.change_outcome.specs.v2_lines.Lines.{RecordLine, file_access_line, file_hash_line, file_line_of, folder_access_line, folder_line_of, record_line_of};
 
 /// F begins a folder and R a file; M gives the access of a folder, a that of a file, and Z its
 /// hash.

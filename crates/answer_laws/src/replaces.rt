@@ -3,11 +3,11 @@
 
 ghost use Rattle.std.specs.Prelude.{◌≡◌, ◌↔◌, ◌<◌, true, false};
 ghost use Rattle.std.specs.declared.cmp.Ordering.TheVariants.{Less};
-ghost use Rattle.adb_fields.specs.Repeated.{package_name};
+ghost use Rattle.change_outcome.specs.adb_fields.Repeated.{package_name};
 ghost use Rattle.adb_view.specs.Plain.{Plain};
 ghost use Rattle.answer_laws.specs.ReplacesEntries.{IsNamedInReplaces};
 ghost use Rattle.base_core.specs.ByteOrder.{bytes_cmp};
-ghost use Rattle.file_owners.specs.Replaces.{names_package, replacing_priority, takes_over, version_text};
+ghost use Rattle.installed_info.specs.file_owners.Replaces.{names_package, replacing_priority, takes_over, version_text};
 
 /// The `replaces` of a package names another exactly by the other's own name and version. What the
 /// other one provides does not count.

@@ -5,13 +5,13 @@ ghost use Rattle.std.specs.Prelude.{List, map, ℕ};
 ghost use Rattle.answer_laws.specs.KeptNames.{AreNamedOnce};
 ghost use Rattle.answer_laws.specs.ReportSections.{HasConfigurationLines, HasSections, HasSimulatedSections, HasSum, size_when_installed, member_info};
 ghost use Rattle.base_core.specs.Files.{Files};
-ghost use Rattle.candidate_core.specs.Candidates.{Candidate};
-ghost use Rattle.change_files.specs.FileChange.{FileChange};
+ghost use Rattle.installed_info.specs.candidate_core.Candidates.{Candidate};
+ghost use Rattle.change_outcome.specs.change_files.FileChange.{FileChange};
 ghost use Rattle.change_outcome.specs.ChangeOutcome.{ChangeWishes, change_report, member_sum_line};
 ghost use Rattle.change_outcome.specs.ConfigurationLines.{configuration_lines};
-ghost use Rattle.db_core.specs.Members.{Member};
-ghost use Rattle.package_changes.specs.Changes.{Replacement};
-ghost use Rattle.package_changes.specs.Report.{selected_sum_line, simulated_report};
+ghost use Rattle.change_outcome.specs.db_core.Members.{Member};
+ghost use Rattle.change_outcome.specs.package_changes.Changes.{Replacement};
+ghost use Rattle.change_outcome.specs.package_changes.Report.{selected_sum_line, simulated_report};
 
 /// The last line of a report has the sum of the installed sizes of the packages after the change,
 /// and how many they are.

@@ -7,15 +7,16 @@ ghost use Rattle.answer_laws.specs.DueTriggers.{HasFileIn, HasTriggerLines, IsDu
 ghost use Rattle.base_core.specs.Files.{Files};
 ghost use Rattle.base_core.specs.Listed.{IsRising};
 ghost use Rattle.base_core.specs.Lists.{IsIn};
-ghost use Rattle.change_files.specs.FileChange.{FileChange};
-ghost use Rattle.change_files.specs.FilesAfter.{is_removed, is_written};
+ghost use Rattle.change_outcome.specs.change_files.FileChange.{FileChange};
+ghost use Rattle.change_outcome.specs.change_files.FilesAfter.{is_removed, is_written};
 ghost use Rattle.change_outcome.specs.ChangeOutcome.{touched_paths};
 ghost use Rattle.change_outcome.specs.Triggers.{folders_of_paths, is_due, is_folder_matched, trigger_lines, unless_trigger};
-ghost use Rattle.db_core.specs.Members.{Member};
+ghost use Rattle.change_outcome.specs.db_core.Members.{Member};
 ghost use Rattle.report_core.specs.declared.refusal.Refusal.TheVariants.{TriggerNeeded};
 
-use change_files::the_lists_of_a_plan_hold_just_its_names;
-use star_patterns::a_pattern_matches_what_its_stars_are_filled_to;
+use change_outcome::{
+    a_pattern_matches_what_its_stars_are_filled_to, the_lists_of_a_plan_hold_just_its_names,
+};
 
 /// A pattern matches a folder exactly if both have as many parts and the stars of each part of the
 /// pattern can be filled to the folder's part. The root is matched by `/` alone.

@@ -15,11 +15,11 @@ use Rattle.base_core.specs.declared.tree.TreeFault.{TreeFault}
 use Rattle.base_core.specs.declared.tree.TreeFault.TheVariants.{Disk, Memory as NoMemory}
 use Rattle.journal_core.specs.Quiet.{StateIsUnchanged}
 use Rattle.journal_core.specs.Recovery.{EachCrashLeaves, StateDependsOn, intent_name}
-use Rattle.make_info.specs.Output.{output_name}
-use Rattle.package_files.specs.Sources.{AreNamesFor, values_with}
+use Rattle.make_core.specs.make_info.Output.{output_name}
+use Rattle.make_core.specs.package_files.Sources.{AreNamesFor, values_with}
 use Rattle.command_core.specs.declared.values.TheConstants.{FILES}
-use Rattle.make_index.specs.Files.{AreFiles}
-use Rattle.make_info.specs.Reads.{Reads}
+use Rattle.make_core.specs.make_index.Files.{AreFiles}
+use Rattle.make_core.specs.make_info.Reads.{Reads}
 use Rattle.outcome.specs.Make.{mkndx, mkpkg}
 use Rattle.outcome.specs.Commands.{IsPossibleOutcomeOf, IsPossibleOutcomeOn, IsOutcomeOf, IsOutcomeOn, reads_in, computing_outcome, effect_outcome, reading_outcome}
 use Rattle.outcome.specs.Given.{Given, IsChosenFor, IsClashBy, IsGiven, IsListingFor, MayBeGiven, MayBeListedFor, MayClash, nothing_given}

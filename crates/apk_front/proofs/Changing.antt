@@ -10,10 +10,10 @@ use Rattle.base_core.specs.Restart.{EachMoment, SinceGivenEarlier}
 use Rattle.base_core.specs.Tree.{TreeState, files_of}
 use Rattle.base_core.specs.declared.tree.TreeFault.{TreeFault}
 use Rattle.base_core.specs.declared.tree.TreeFault.TheVariants as Trees
-use Rattle.change_inputs.specs.Answers.{AgreesUnlessDisk}
-use Rattle.change_inputs.specs.declared.root.Refused.{Refused}
-use Rattle.change_inputs.specs.declared.root.Refused.TheVariants.{Disk, Memory, Refusal as IsRefused}
-use Rattle.change_outcome.specs.ChangeOutcome.{ChangeDone}
+use Rattle.tell_core.specs.change_inputs.Answers.{AgreesUnlessDisk}
+use Rattle.tell_core.specs.change_inputs.declared.root.Refused.{Refused}
+use Rattle.tell_core.specs.change_inputs.declared.root.Refused.TheVariants.{Disk, Memory, Refusal as IsRefused}
+use Rattle.engine_core.specs.change_outcome.ChangeOutcome.{ChangeDone}
 use Rattle.command_core.specs.Command.{CommandLine}
 use Rattle.command_core.specs.declared.command.Applet.{Applet}
 use Rattle.command_core.specs.declared.command.Applet.TheVariants.{Add, Del, Fix, Upgrade}
@@ -25,10 +25,10 @@ use Rattle.engine_core.specs.Selecting.{pool_for}
 use Rattle.journal_core.specs.Kept.{HasOldOrNewBytes}
 use Rattle.journal_core.specs.Recovery.{EachCrashLeaves, StateDependsOn, intent_name}
 use Rattle.journal_core.specs.Staged.{IsOldUntilCommit}
-use Rattle.make_info.specs.Reads.{Reads}
-use Rattle.path_clashes.specs.Clash.{NamePair}
+use Rattle.make_core.specs.make_info.Reads.{Reads}
+use Rattle.tell_core.specs.path_clashes.Clash.{NamePair}
 use Rattle.report_core.specs.declared.refusal.Refusal.{Refusal}
-use Rattle.stage_run.specs.StageRun.{IsReadDuringChange, IsStageRunComplete, NamesAreDurableWithoutIntent}
+use Rattle.engine_core.specs.journal_commit.StageRun.{IsReadDuringChange, IsStageRunComplete, NamesAreDurableWithoutIntent}
 use Rattle.outcome.proofs.Applets.{change_is}
 use Rattle.outcome.specs.Changing.{change_outcome}
 use Rattle.outcome.specs.Commands.{IsPossibleOutcomeOn, IsOutcomeOn, effect_outcome, reads_in}

@@ -3,21 +3,21 @@ use Rattle.std.proofs.Common.{◌≡◌, ℕ, Bool, true, false, List, [], ◌�
 use Rattle.std.specs.Prelude.{if◌then◌else◌, IfOk, IfErr, is_ok}
 use Rattle.std.specs.declared.alloc.Global.{Global}
 use Rattle.std.proofs.lemmas.Bool.{false≢true}
-use Rattle.adb_schema.specs.Reserved.{is_reserved}
+use Rattle.adb_dump.specs.adb_schema.Reserved.{is_reserved}
 use Rattle.base_core.specs.Calls.{IfObservable}
 use Rattle.base_core.specs.Files.{Files, no_names}
 use Rattle.base_core.specs.Listed.{IsNamesOf}
 use Rattle.base_core.specs.Tree.{TreeState, files_of}
-use Rattle.make_info.specs.Information.{information}
-use Rattle.make_index.specs.Index.{made_index}
-use Rattle.make_index.specs.Kept.{IsMadeBy}
-use Rattle.make_info.specs.Reads.{Reads}
-use Rattle.make_package.specs.Answers.{IsMadeBySome, IsMadeIn, OnRefusal}
-use Rattle.make_package.specs.Making.{made_package}
-use Rattle.make_info.specs.Output.{output_name}
-use Rattle.make_index.specs.Files.{AreFiles, reads_of}
-use Rattle.package_files.specs.Sources.{AreNamesFor, values_with}
-use Rattle.make_info.specs.declared.fault.MakeFault.{MakeFault}
+use Rattle.make_core.specs.make_info.Information.{information}
+use Rattle.make_core.specs.make_index.Index.{made_index}
+use Rattle.make_core.specs.make_index.Kept.{IsMadeBy}
+use Rattle.make_core.specs.make_info.Reads.{Reads}
+use Rattle.make_core.specs.make_package.Answers.{IsMadeBySome, IsMadeIn, OnRefusal}
+use Rattle.make_core.specs.make_package.Making.{made_package}
+use Rattle.make_core.specs.make_info.Output.{output_name}
+use Rattle.make_core.specs.make_index.Files.{AreFiles, reads_of}
+use Rattle.make_core.specs.package_files.Sources.{AreNamesFor, values_with}
+use Rattle.make_core.specs.make_info.declared.fault.MakeFault.{MakeFault}
 use Rattle.command_core.specs.declared.values.TheConstants.{FILES}
 use Rattle.outcome.specs.Commands.{reads_in}
 use Rattle.outcome.specs.Effect.{Makes}
@@ -35,7 +35,7 @@ use Rattle.apk_front.specs.Verdicts.{Reports, ReportsOne, as_outcome}
 use Rattle.apk_front.specs.declared.answer.Verdict.{Verdict}
 use Rattle.apk_front.proofs.Packages.{HaveListing, made_allowed, package_here}
 use Rattle.apk_front.proofs.Runs.{History, Judged, Leaves, left_at, run_among, run_idle}
-use Rattle.make_info.specs.declared.fault.MakeFault.TheVariants as Faults
+use Rattle.make_core.specs.make_info.declared.fault.MakeFault.TheVariants as Faults
 
 abbrev pub Container : Type 0
 Container = Result (Vec ℕ Global) MakeFault

@@ -10,10 +10,10 @@ use Rattle.command_core.specs.Command.{CommandLine}
 use Rattle.command_core.specs.declared.command.Applet.{Applet}
 use Rattle.command_core.specs.declared.command.Applet.TheVariants.{Demo}
 use Rattle.command_core.specs.declared.operands.Operand.{Operand}
-use Rattle.demo_lines.specs.Count.{demo_count}
-use Rattle.demo_lines.specs.Lines.{add_words, demo_repositories, mkndx_words, mkpkg_words}
-use Rattle.demo_lines.specs.Report.{demo_line}
-use Rattle.demo_lines.proofs.Lengths.{plus_one}
+use Rattle.outcome.specs.demo_lines.Count.{demo_count}
+use Rattle.outcome.specs.demo_lines.Lines.{add_words, demo_repositories, mkndx_words, mkpkg_words}
+use Rattle.outcome.specs.demo_lines.Report.{demo_line}
+use Rattle.outcome.proofs.demo_lines.Lengths.{plus_one}
 use Rattle.outcome.specs.Commands.{IsPossibleOutcomeOf, IsOutcomeOf, reads_in}
 use Rattle.outcome.specs.Demo.{AreIndexed, AreInstalled, ArePackaged, IsDemoOutcome, IsRunAfter, IsRunUnlessRefused, demo_start, with_demo_file}
 use Rattle.outcome.specs.Effect.{does_recover, ignores_files, effect_of, output_if}

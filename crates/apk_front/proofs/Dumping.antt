@@ -11,18 +11,18 @@ use Rattle.adb_block.specs.Reading.{Reading, done, fault, more, reading_of}
 use Rattle.adb_block.specs.ReaderPosition.{ReaderPosition, start_of}
 use Rattle.adb_dump.specs.Dump.{dump_text}
 use Rattle.adb_view.specs.ShapedPayload.{adb_of, shaped_value, table_of}
-use Rattle.adb_schema.specs.Soundness.{root_value, schema_word}
+use Rattle.adb_dump.specs.adb_schema.Soundness.{root_value, schema_word}
 use Rattle.adb_view.specs.declared.shaped.Shaped.{Shaped}
-use Rattle.adb_schema.specs.declared.read.ReadFault.{ReadFault}
-use Rattle.adb_schema.specs.declared.read.ReadFault.TheVariants.{Bad}
-use Rattle.adb_schema.specs.declared.read.TheConstants.{PACKAGE_WORD, INDEX_WORD, IDB_WORD, INTENT_WORD}
+use Rattle.adb_dump.specs.adb_schema.declared.read.ReadFault.{ReadFault}
+use Rattle.adb_dump.specs.adb_schema.declared.read.ReadFault.TheVariants.{Bad}
+use Rattle.adb_dump.specs.adb_schema.declared.read.TheConstants.{PACKAGE_WORD, INDEX_WORD, IDB_WORD, INTENT_WORD}
 use Rattle.adb_view.specs.declared.tables.Which.{Which}
 use Rattle.adb_view.specs.declared.tables.Which.TheVariants.{Package, Index, Idb, Intent}
 use Rattle.adb_view.specs.Adb.{payload_of}
 use Rattle.std.specs.Option.{option_map, option_or}
-use Rattle.make_index.proofs.IndexReads.{operand_name}
+use Rattle.make_core.proofs.make_index.IndexReads.{operand_name}
 use Rattle.command_core.specs.Named.{operand_file}
-use Rattle.make_info.specs.Reads.{Reads}
+use Rattle.make_core.specs.make_info.Reads.{Reads}
 use Rattle.outcome.specs.Commands.{reads_in}
 use Rattle.outcome.specs.Dump.{adbdump, dump_outcome, text_outcome, dump_of, dump_with_root, dump_of_blocks, dump_with_schema, form_fault, framing_fault, or_text}
 use Rattle.outcome.specs.Outcome.{just_refusal, just_report}

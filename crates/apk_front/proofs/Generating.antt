@@ -2,7 +2,7 @@
 use Rattle.std.proofs.Common.{◌≡◌, ℕ, List, [], ◌∷◌, Option, Some, None, Result, Ok, Err, sym, ap, subst, ◌∙◌, length}
 use Rattle.std.specs.List.{slice_get}
 use Rattle.std.specs.Option.{option_map}
-use Rattle.make_index.proofs.IndexReads.{operand_name}
+use Rattle.make_core.proofs.make_index.IndexReads.{operand_name}
 use Rattle.base_core.specs.Calls.{IfObservable}
 use Rattle.base_core.specs.Files.{Files, no_names}
 use Rattle.base_core.specs.Tree.{TreeState, files_of}
@@ -11,7 +11,7 @@ use Rattle.command_core.specs.declared.operands.Operand.{Operand}
 use Rattle.gen_core.specs.Generated.{IsGenFault, generated_file}
 use Rattle.gen_core.specs.declared.generate.GenFault.{GenFault}
 use Rattle.gen_core.specs.declared.generate.GenFault.TheVariants.{Bad, TooLarge}
-use Rattle.make_info.specs.Reads.{Reads}
+use Rattle.make_core.specs.make_info.Reads.{Reads}
 use Rattle.outcome.specs.Commands.{reads_in}
 use Rattle.outcome.specs.Generate.{adbgen, container_outcome, generate_outcome}
 use Rattle.outcome.specs.Outcome.{just_refusal, just_report}

@@ -1,3 +1,7 @@
+-- passed on: a crate above that names this one need not name these
+pub use Rattle.journal_core.proofs as journal_core
+pub use Rattle.journal_core.proofs.journal_intent as journal_intent
+pub use Rattle.outcome.proofs as outcome
 pub mod Judged
 pub mod Unplanned
 pub mod Unrecovered

@@ -6,7 +6,7 @@ use Rattle.base_core.specs.Faults.{Counts, IsNoFault}
 use Rattle.base_core.specs.Read.{OnlyReads}
 use Rattle.base_core.specs.Tree.{TreeState}
 use Rattle.base_core.specs.declared.tree.TreeFault.TheVariants.{Memory as NoMemory}
-use Rattle.make_info.specs.declared.fault.MakeFault.TheVariants.{Disk}
+use Rattle.make_core.specs.make_info.declared.fault.MakeFault.TheVariants.{Disk}
 use Rattle.apk_front.specs.Containers.{ended_by_disk_or_memory}
 use Rattle.apk_front.proofs.Containers.{Container}
 use Rattle.apk_front.proofs.Runs.{Judged}

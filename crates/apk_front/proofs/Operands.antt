@@ -5,7 +5,7 @@ use Rattle.std.specs.Option.{option_map, option_or}
 use Rattle.std.specs.Prelude.{not, nat_le}
 use Rattle.std.proofs.lemmas.Bool.{and_parts, eq-eqb, leb-true, ne_eqb}
 use Rattle.std.proofs.lemmas.Option.{same_Some}
-use Rattle.make_index.proofs.IndexReads.{operand_name}
+use Rattle.make_core.proofs.make_index.IndexReads.{operand_name}
 use Rattle.base_core.specs.Calls.{IfObservable}
 use Rattle.base_core.specs.Faults.{Counts}
 use Rattle.base_core.specs.Files.{Files, no_names}
@@ -23,7 +23,7 @@ use Rattle.command_core.specs.declared.command.Applet.TheVariants.{Adbdump, Adbg
 use Rattle.command_core.specs.declared.command.Flags.{Flags}
 use Rattle.command_core.specs.declared.operands.Operand.{Operand}
 use Rattle.command_core.specs.declared.operands.OperandKind.TheVariants.{Any, Number}
-use Rattle.make_info.specs.Reads.{Reads}
+use Rattle.make_core.specs.make_info.Reads.{Reads}
 use Rattle.outcome.specs.Commands.{reads_in}
 use Rattle.outcome.specs.Outcome.{just_refusal, just_report, report_unless}
 use Rattle.outcome.specs.Verify.{file_refusal, sound_lines, verify, verify_refusal}

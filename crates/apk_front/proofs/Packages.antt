@@ -7,12 +7,12 @@ use Rattle.command_core.specs.Command.{CommandLine}
 use Rattle.command_core.specs.Files.{without_dot}
 use Rattle.command_core.specs.declared.values.OptionValue.{OptionValue}
 use Rattle.command_core.specs.declared.values.TheConstants.{FILES, SCRIPT}
-use Rattle.make_info.specs.Information.{InfoItem, information}
-use Rattle.make_info.specs.Reads.{Reads}
-use Rattle.make_info.specs.declared.fault.MakeFault.{MakeFault}
-use Rattle.make_package.specs.Answers.{AreBelow, IsMadeIn}
-use Rattle.make_package.specs.Making.{made_package, or_info_bad, package_of_parts}
-use Rattle.package_files.specs.Sources.{and_then, folders_below, values_with, scripts_from}
+use Rattle.make_core.specs.make_info.Information.{InfoItem, information}
+use Rattle.make_core.specs.make_info.Reads.{Reads}
+use Rattle.make_core.specs.make_info.declared.fault.MakeFault.{MakeFault}
+use Rattle.make_core.specs.make_package.Answers.{AreBelow, IsMadeIn}
+use Rattle.make_core.specs.make_package.Making.{made_package, or_info_bad, package_of_parts}
+use Rattle.make_core.specs.package_files.Sources.{and_then, folders_below, values_with, scripts_from}
 use Rattle.outcome.specs.Commands.{reads_in}
 use Rattle.outcome.specs.Make.{IsListing, files_below}
 use Rattle.apk_front.specs.Containers.{IsPackageMade}

@@ -9,7 +9,7 @@ use Rattle.command_core.specs.declared.command.Applet.{Applet}
 use Rattle.command_core.specs.declared.command.Applet.TheVariants.{Demo, Mkndx, Mkpkg}
 use Rattle.journal_core.specs.Staged.{unstaged_files}
 use Rattle.outcome.specs.Effect.{Effect, Changes, Makes, Tells, does_only_read, effect_by, effect_of}
-use Rattle.stage_run.specs.Asked.{TargetsAreAccepted, HasAcceptedTargets}
+use Rattle.engine_core.specs.journal_commit.Asked.{TargetsAreAccepted, HasAcceptedTargets}
 use Rattle.words_core.specs.Grammar.{command_of}
 use Rattle.apk_front.specs.Moments.{TargetsAreAcceptedThroughout}
 use Rattle.apk_front.proofs.AfterRecovery.{RecoversAs, none_since, since_both}

@@ -12,7 +12,7 @@ use Rattle.base_core.proofs.Undone.{left_only, read_may_be_left}
 use Rattle.base_core.specs.Tree.{File, TreeState, bytes_at, files_by, files_of}
 use Rattle.base_core.specs.Undone.{IsDurable, IsCrashMap}
 use Rattle.base_core.specs.declared.tree.TreeFault.{TreeFault}
-use Rattle.adb_schema.specs.Reserved.{is_reserved}
+use Rattle.adb_dump.specs.adb_schema.Reserved.{is_reserved}
 use Rattle.journal_core.specs.Kept.{IsSyncedAt, KeepsMapsExcept, ShownNamesAreDurable}
 use Rattle.journal_core.specs.Quiet.{StateIsUnchanged}
 use Rattle.journal_core.specs.Recovery.{EachCrashLeaves, StateDependsOn, intent_name, is_staged, state_of}

@@ -4,20 +4,20 @@
 use Rattle.std.specs.Prelude.{◌≡◌, ℕ, Bool, true, false, List, Option, Some, None, Result, Ok, Err, Vec}
 use Rattle.std.specs.declared.alloc.Global.{Global}
 use Rattle.adb_block.specs.Reading.{Reading, done, fault, more}
-use Rattle.adb_schema.specs.declared.read.ReadFault.{ReadFault}
-use Rattle.adb_schema.specs.declared.read.ReadFault.TheVariants as ReadFaults
+use Rattle.adb_dump.specs.adb_schema.declared.read.ReadFault.{ReadFault}
+use Rattle.adb_dump.specs.adb_schema.declared.read.ReadFault.TheVariants as ReadFaults
 use Rattle.adb_view.specs.declared.tables.Which.{Which}
 use Rattle.base_core.specs.Files.{Files}
 use Rattle.base_core.specs.declared.cause.Cause.{Cause}
 use Rattle.command_core.specs.Command.{CommandLine}
 use Rattle.command_core.specs.declared.values.TheConstants.{FILES}
-use Rattle.make_index.specs.Files.{AreFiles}
-use Rattle.make_index.specs.Index.{made_index}
-use Rattle.make_info.specs.Reads.{Reads}
-use Rattle.make_info.specs.declared.fault.MakeFault.{MakeFault}
-use Rattle.make_info.specs.declared.fault.MakeFault.TheVariants.{Disk, Memory}
-use Rattle.make_package.specs.Making.{made_package}
-use Rattle.package_files.specs.Sources.{values_with}
+use Rattle.make_core.specs.make_index.Files.{AreFiles}
+use Rattle.make_core.specs.make_index.Index.{made_index}
+use Rattle.make_core.specs.make_info.Reads.{Reads}
+use Rattle.make_core.specs.make_info.declared.fault.MakeFault.{MakeFault}
+use Rattle.make_core.specs.make_info.declared.fault.MakeFault.TheVariants.{Disk, Memory}
+use Rattle.make_core.specs.make_package.Making.{made_package}
+use Rattle.make_core.specs.package_files.Sources.{values_with}
 use Rattle.outcome.specs.Commands.{reads_in}
 use Rattle.outcome.specs.Dump.{form_fault}
 use Rattle.outcome.specs.Make.{IsListing, mkndx, mkpkg}

@@ -18,7 +18,7 @@ use Rattle.outcome.specs.Effect.{Effect, Computes, Reads, Tells, Makes, Changes,
 use Rattle.outcome.specs.Outcome.{Outcome}
 use Rattle.outcome.specs.Words.{IsOutcome}
 use Rattle.outcome.specs.Work.{work_files}
-use Rattle.stage_run.specs.Asked.{HasAcceptedTargets}
+use Rattle.engine_core.specs.journal_commit.Asked.{HasAcceptedTargets}
 use Rattle.words_core.specs.Grammar.{command_of}
 use Rattle.apk_front.specs.declared.answer.Answer.{Answer}
 use Rattle.apk_front.specs.declared.answer.Answer.TheVariants.{Ok, Refused, OutFault, Memory}

@@ -6,7 +6,7 @@ use Rattle.base_core.specs.Sink.{SinkChange, Gets, GetsSome, SinkFailed}
 use Rattle.base_core.specs.declared.tree.TreeFault.{TreeFault}
 use Rattle.base_core.specs.declared.tree.TreeFault.TheVariants.{Disk, Memory as NoMemory}
 use Rattle.command_core.specs.Command.{CommandLine}
-use Rattle.make_info.specs.Reads.{Reads}
+use Rattle.make_core.specs.make_info.Reads.{Reads}
 use Rattle.outcome.specs.Commands.{effect_outcome}
 use Rattle.outcome.specs.Effect.{effect_of}
 use Rattle.outcome.specs.Given.{nothing_given}

@@ -11,7 +11,7 @@ ghost use Rattle.base_core.specs.Tree.{files_of};
 ghost use Rattle.outcome.specs.Commands.{IsPossibleOutcomeOn, IsOutcomeOn};
 ghost use Rattle.outcome.specs.Effect.{Changes, effect_of, output_if};
 ghost use Rattle.outcome.specs.Outcome.{Outcome};
-ghost use Rattle.stage_run.specs.Asked.{TargetsAreAccepted};
+ghost use Rattle.engine_core.specs.journal_commit.Asked.{TargetsAreAccepted};
 
 use crate::answer::Verdict;
 use base_core::{Text, Tree, TreeFault};

@@ -10,9 +10,9 @@ ghost use Rattle.base_core.specs.Tree.{files_of};
 ghost use Rattle.command_core.specs.Operands.{exactly};
 ghost use Rattle.command_core.specs.Sound.{are_operands};
 ghost use Rattle.command_core.specs.declared.operands.OperandKind.TheVariants.{Number};
-ghost use Rattle.demo_lines.specs.Count.{demo_count};
-ghost use Rattle.demo_lines.specs.Lines.{mkpkg_words};
-ghost use Rattle.demo_lines.specs.Report.{demo_line};
+ghost use Rattle.outcome.specs.demo_lines.Count.{demo_count};
+ghost use Rattle.outcome.specs.demo_lines.Lines.{mkpkg_words};
+ghost use Rattle.outcome.specs.demo_lines.Report.{demo_line};
 ghost use Rattle.outcome.specs.Commands.{IsOutcomeOf};
 ghost use Rattle.outcome.specs.Demo.{AreInstalled, ArePackaged, IsDemoOutcome, IsRunAfter, with_demo_file};
 ghost use Rattle.outcome.specs.Outcome.{Outcome, report_unless};
@@ -23,7 +23,7 @@ use crate::answer::Verdict;
 use crate::judge::run;
 use base_core::{Name, Text, TreeFault, Words};
 use command_core::Operands;
-use demo_lines::{
+use outcome::{
     add_words, demo_count, demo_file, demo_line, demo_repositories, demo_text, mkndx_words,
     mkpkg_words,
 };

@@ -4,7 +4,7 @@ ghost use Rattle.std.specs.Prelude.{◌≡◌, None, Ok, IsTrue, IfOk, IfErr, is
 ghost use Rattle.std.specs.Result.{result_err};
 ghost use Rattle.adb_block.specs.Reading.{reading_of};
 ghost use Rattle.adb_view.specs.ShapedPayload.{adb_of, table_of};
-ghost use Rattle.adb_schema.specs.Soundness.{schema_word};
+ghost use Rattle.adb_dump.specs.adb_schema.Soundness.{schema_word};
 ghost use Rattle.adb_view.specs.Adb.{payload_of};
 ghost use Rattle.apk_front.specs.Containers.{IsDumpFault, IsShapedFirst, first_form_fault};
 ghost use Rattle.apk_front.specs.Verdicts.{as_outcome};
@@ -13,16 +13,15 @@ ghost use Rattle.base_core.specs.Files.{Files, no_names};
 ghost use Rattle.base_core.specs.Read.{OnlyReads, bytes_in};
 ghost use Rattle.base_core.specs.Tree.{files_of};
 ghost use Rattle.command_core.specs.Named.{are_files};
-ghost use Rattle.make_info.specs.Reads.{Reads};
+ghost use Rattle.make_core.specs.make_info.Reads.{Reads};
 ghost use Rattle.outcome.specs.Commands.{reads_in};
 ghost use Rattle.outcome.specs.Dump.{adbdump, dump_of, dump_of_blocks, dump_outcome, form_fault, framing_fault};
 ghost use Rattle.pkg_core.specs.Whole.{root_of_schema};
 
 use crate::answer::Verdict;
 use adb_block::Blocks;
-use adb_dump::dump;
-use adb_schema::{
-    IDB_WORD, INDEX_WORD, INTENT_WORD, PACKAGE_WORD, ReadFault, Shaped, Which, shape,
+use adb_dump::{
+    IDB_WORD, INDEX_WORD, INTENT_WORD, PACKAGE_WORD, ReadFault, Shaped, Which, dump, shape,
 };
 use adb_view::Adb;
 use base_core::{Cause, Text, Tree, TreeFault, read_all};

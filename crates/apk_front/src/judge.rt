@@ -13,7 +13,7 @@ ghost use Rattle.base_core.specs.Faults.{CountsOnlyRise, HasCause, IsNoFault};
 ghost use Rattle.base_core.specs.Files.{Files, no_names};
 ghost use Rattle.base_core.specs.Read.{OnlyReads};
 ghost use Rattle.base_core.specs.Tree.{files_of};
-ghost use Rattle.make_info.specs.Reads.{Reads};
+ghost use Rattle.make_core.specs.make_info.Reads.{Reads};
 ghost use Rattle.outcome.specs.Commands.{IsPossibleOutcomeOf, IsOutcomeOf, reads_in};
 ghost use Rattle.outcome.specs.Effect.{Changes, does_only_read, ignores_files, effect_by, effect_of, output, output_if, reads_only, depends_only_on_arguments};
 ghost use Rattle.outcome.specs.Words.{IsPossibleOutcome, IsOutcome};

@@ -23,10 +23,20 @@ mod verify;
 mod version;
 
 pub use answer::{Answer, status};
+pub use engine_core::a_change_keeps_paths_free;
 pub use front::apk;
+pub use journal_core::{
+    a_crash_leaves_a_durable_settled_tree, a_state_shows_a_bad_intent,
+    an_intent_is_read_from_a_sound_container, more_names_may_be_ignored,
+};
 pub use judge::{RootAccess, access_for};
 pub use laws::{
     a_crash_leaves_the_old_files_or_those_of_the_outcome, what_is_carried_out_is_durable,
     without_recovery_the_files_are_the_old_ones,
+};
+pub use outcome::{
+    a_command_that_commits_nothing_leaves_the_files, a_command_that_makes_commits_unless_refused,
+    a_command_that_reads_leaves_the_files, a_reporting_command_leaves_the_files,
+    an_outcome_is_unique, only_a_bad_intent_is_refused_as_one,
 };
 pub use report_core::Refusal;

@@ -2,7 +2,7 @@
 //! in `docs/commands.md`, "`mkpkg`" and "`mkndx PACKAGE..`", and for the writing in
 //! `docs/crash-safety.md`, "A whole file replaced". The container is made by `make_core`.
 ghost use Rattle.std.specs.Prelude.{◌≡◌, ◌≢◌, ◌⊎◌, ℕ, false, true, List, Ok, Err, IsSome, IfOk, IsErrOf, OnOk};
-ghost use Rattle.make_package.specs.Answers.{IsMadeBySome};
+ghost use Rattle.make_core.specs.make_package.Answers.{IsMadeBySome};
 ghost use Rattle.apk_front.specs.Containers.{IsIndexMade, IsIndexFound, IsIndexOutcome, IsPackageMade, IsPackageOutcome, OnMade, is_disk_or_memory, ended_by_disk_or_memory, made_in};
 ghost use Rattle.apk_front.specs.Moments.{CanAddOutputNamesIfAny};
 ghost use Rattle.apk_front.specs.Runs.{IsRun};
@@ -15,17 +15,17 @@ ghost use Rattle.base_core.specs.Tree.{files_of};
 ghost use Rattle.command_core.specs.Sound.{IsCommand};
 ghost use Rattle.command_core.specs.declared.command.Applet.TheVariants.{Mkndx, Mkpkg};
 ghost use Rattle.command_core.specs.declared.values.TheConstants.{FILES};
-ghost use Rattle.make_index.specs.Files.{AreFiles};
-ghost use Rattle.make_info.specs.Output.{output_name};
-ghost use Rattle.make_info.specs.Reads.{Reads};
-ghost use Rattle.package_files.specs.Sources.{AreNamesFor, values_with};
+ghost use Rattle.make_core.specs.make_index.Files.{AreFiles};
+ghost use Rattle.make_core.specs.make_info.Output.{output_name};
+ghost use Rattle.make_core.specs.make_info.Reads.{Reads};
+ghost use Rattle.make_core.specs.package_files.Sources.{AreNamesFor, values_with};
 ghost use Rattle.outcome.specs.Effect.{Makes};
 ghost use Rattle.outcome.specs.Make.{index_line, make_outcome, mkndx, mkpkg, unless_reserved};
 ghost use Rattle.outcome.specs.Outcome.{Outcome, just_refusal};
 ghost use Rattle.report_core.specs.declared.refusal.Refusal.TheVariants.{ResultTooLarge};
 
 use crate::answer::Verdict;
-use adb_schema::is_reserved;
+use adb_dump::is_reserved;
 use base_core::{
     Text, Tree, TreeFault, counts_of_consecutive_calls_compose, files_have_one_list_of_names,
 };

@@ -13,7 +13,7 @@ ghost use Rattle.outcome.specs.Commands.{IsPossibleOutcomeOf, IsPossibleOutcomeO
 ghost use Rattle.outcome.specs.Effect.{Changes, does_recover, effect_of, output_if};
 ghost use Rattle.outcome.specs.Outcome.{Outcome, just_refusal};
 ghost use Rattle.report_core.specs.declared.refusal.Refusal.TheVariants.{IntentBad};
-ghost use Rattle.stage_run.specs.Asked.{TargetsAreAccepted};
+ghost use Rattle.engine_core.specs.journal_commit.Asked.{TargetsAreAccepted};
 
 use crate::answer::Verdict;
 use crate::change::change;

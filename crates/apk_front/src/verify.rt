@@ -7,7 +7,7 @@ ghost use Rattle.base_core.specs.Files.{Files, no_names};
 ghost use Rattle.base_core.specs.Read.{OnlyReads, bytes_in};
 ghost use Rattle.base_core.specs.Tree.{files_of};
 ghost use Rattle.command_core.specs.Named.{are_files};
-ghost use Rattle.make_info.specs.Reads.{Reads};
+ghost use Rattle.make_core.specs.make_info.Reads.{Reads};
 ghost use Rattle.outcome.specs.Commands.{reads_in};
 ghost use Rattle.outcome.specs.Outcome.{report_unless};
 ghost use Rattle.outcome.specs.Verify.{file_refusal, sound_lines, verify, verify_refusal};
@@ -15,7 +15,7 @@ ghost use Rattle.outcome.specs.Verify.{file_refusal, sound_lines, verify, verify
 use crate::answer::Verdict;
 use base_core::{Name, Text, Tree, TreeFault, consecutive_reads_compose, read_all};
 use command_core::Operands;
-use package_test::{PackageTest, test_package};
+use engine_core::{PackageTest, test_package};
 use pkg_core::PackageFault;
 use report_core::Refusal;
 use std::alloc::{AllocError, Global};

@@ -9,7 +9,7 @@ use Rattle.std.proofs.Math.ListN.{get_or-map}
 use Rattle.base_core.specs.Calls.{IfObservable}
 use Rattle.base_core.specs.Name.{IsName}
 use Rattle.base_core.specs.Tree.{TreeState, files_of}
-use Rattle.make_info.specs.Reads.{Reads}
+use Rattle.package_files.specs.make_info.Reads.{Reads}
 use Rattle.package_files.specs.Runs.{Explains}
 use Rattle.package_files.proofs.ReadLemmas.{as_told_of, explained, joined, joined_below, joined_from, joined_told, reads_or}
 use Rattle.adb_view.specs.Plain.{Plain}

@@ -2,12 +2,12 @@
 use Rattle.std.proofs.Common.{◌≡◌, ◌↔◌, inl, inr, ℕ, suc, Bool, true, false, List, [], ◌∷◌, ◌++◌, Option, Some, None, refl, ap, sym, ◌∙◌, subst, true≢false}
 use Rattle.std.specs.Prelude.{IsSomeAnd, if◌then◌else◌}
 use Rattle.std.specs.List.{flat_map}
-use Rattle.adb_fields.specs.FirstPair.{IsIn}
-use Rattle.adb_fields.proofs.Members.{from-flat_map, in-flat_map}
+use Rattle.path_clashes.specs.adb_fields.FirstPair.{IsIn}
+use Rattle.path_clashes.proofs.adb_fields.Members.{from-flat_map, in-flat_map}
 use Rattle.adb_view.specs.Plain.{Plain}
 use Rattle.base_core.specs.Files.{Files}
 use Rattle.file_guard.specs.AsListed.{is_as_listed}
-use Rattle.make_info.specs.Reads.{Reads}
+use Rattle.package_files.specs.make_info.Reads.{Reads}
 use Rattle.audit_core.specs.Audit.{FileDifference, audit_report, difference_at, difference_from, difference_line, differences_from}
 use Rattle.audit_core.specs.Differences.{AreAsRecorded, IsDifferenceIn, IsDifferent, IsInstalledRecord, file_differences}
 use Rattle.audit_core.specs.Records.{FileRecord, database_records, package_records, record_cmp, records_by_path}

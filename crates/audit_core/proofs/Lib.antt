@@ -1,3 +1,6 @@
+-- passed on: a crate above that names this one need not name these
+pub use Rattle.path_clashes.proofs as path_clashes
+pub use Rattle.path_clashes.proofs.adb_fields as adb_fields
 -- Lemmas of this crate.
 mod Reading
 mod RecordOrder

@@ -5,7 +5,7 @@ use Rattle.std.proofs.lemmas.List.{map-append}
 use Rattle.std.proofs.lemmas.List.Elements.{All-map}
 use Rattle.std.proofs.lemmas.List.Sorted.{All-permutation}
 use Rattle.adb_view.specs.Plain.{Plain}
-use Rattle.adb_fields.specs.Repeated.{files_in, folders_in, name_of}
+use Rattle.path_clashes.specs.adb_fields.Repeated.{files_in, folders_in, name_of}
 use Rattle.base_core.specs.Name.{IsName}
 use Rattle.db_core.specs.Members.{Listing, Member, listings_by, listings_from, listings_in_folder, listings_in_folders, member_listings, member_of_kept, members_of_kept}
 use Rattle.base_core.specs.Sorted.{sorted_by}

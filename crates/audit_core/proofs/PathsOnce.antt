@@ -6,15 +6,15 @@ use Rattle.std.proofs.lemmas.List.{map-append}
 use Rattle.std.proofs.lemmas.Bool.{not-true}
 use Rattle.std.proofs.Math.Bool.{or-true}
 use Rattle.base_core.proofs.Booleans.{both_second, both_first}
-use Rattle.adb_fields.specs.FirstPair.{IsIn}
-use Rattle.adb_fields.specs.Once.{AllDistinct, AreApart, AreDistinctNames, IsInOneOf}
-use Rattle.adb_fields.specs.Paths.{path_of}
-use Rattle.adb_fields.specs.Repeated.{entries_at, files_in, folders_in, list_of, name_of, paths_in, paths_under}
-use Rattle.adb_fields.proofs.Members.{from-flat_map, from-map, in-map}
-use Rattle.adb_fields.proofs.Distinct.{distinct_front}
-use Rattle.adb_schema.specs.Rules.{is_file_name, is_one_part}
-use Rattle.adb_schema.specs.SoundContainers.{IsSoundValue}
-use Rattle.adb_schema.specs.SoundValues.{IsFileOf, IsFolder, IsPackage}
+use Rattle.path_clashes.specs.adb_fields.FirstPair.{IsIn}
+use Rattle.path_clashes.specs.adb_fields.Once.{AllDistinct, AreApart, AreDistinctNames, IsInOneOf}
+use Rattle.path_clashes.specs.adb_fields.Paths.{path_of}
+use Rattle.path_clashes.specs.adb_fields.Repeated.{entries_at, files_in, folders_in, list_of, name_of, paths_in, paths_under}
+use Rattle.path_clashes.proofs.adb_fields.Members.{from-flat_map, from-map, in-map}
+use Rattle.path_clashes.proofs.adb_fields.Distinct.{distinct_front}
+use Rattle.db_core.specs.adb_schema.Rules.{is_file_name, is_one_part}
+use Rattle.db_core.specs.adb_schema.SoundContainers.{IsSoundValue}
+use Rattle.db_core.specs.adb_schema.SoundValues.{IsFileOf, IsFolder, IsPackage}
 use Rattle.adb_view.specs.FieldIndexes.{DIR_FILES, IDB_PACKAGES, PACKAGE_PATHS}
 use Rattle.adb_view.specs.Plain.{Plain, Plains, more, none}
 use Rattle.adb_view.specs.Shaped.{Each}

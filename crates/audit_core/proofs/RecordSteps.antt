@@ -6,8 +6,8 @@ use Rattle.std.proofs.lemmas.Grind.{flat_map-append}
 use Rattle.std.proofs.lemmas.List.{map-append, take_all}
 use Rattle.adb_view.specs.Plain.{Plains}
 use Rattle.adb_view.specs.Values.{count_of, nth}
-use Rattle.adb_fields.specs.Repeated.{list_of}
-use Rattle.adb_fields.proofs.NameLists.{count-listed}
+use Rattle.path_clashes.specs.adb_fields.Repeated.{list_of}
+use Rattle.path_clashes.proofs.adb_fields.NameLists.{count-listed}
 use Rattle.db_core.proofs.Places.{nth_listed}
 
 pub at_place : {X : Type 0} (xs : List X) (i : ℕ) → i < length xs → (x : X) × (slice_get xs i ≡ Some x)

@@ -5,10 +5,10 @@ use Rattle.std.specs.List.{flat_map}
 use Rattle.std.specs.Ordering.{is_gt, ordering_reverse}
 use Rattle.std.proofs.lemmas.Cmp.{nat_list_cmp_total}
 use Rattle.std.proofs.lemmas.Map.Lookups.{exact_bytes}
-use Rattle.adb_fields.specs.FirstPair.{IsIn}
-use Rattle.adb_fields.specs.Once.{AreDistinctNames}
-use Rattle.adb_fields.specs.Repeated.{entries_at}
-use Rattle.adb_schema.specs.SoundContainers.{IsSoundValue}
+use Rattle.path_clashes.specs.adb_fields.FirstPair.{IsIn}
+use Rattle.path_clashes.specs.adb_fields.Once.{AreDistinctNames}
+use Rattle.path_clashes.specs.adb_fields.Repeated.{entries_at}
+use Rattle.db_core.specs.adb_schema.SoundContainers.{IsSoundValue}
 use Rattle.adb_view.specs.FieldIndexes.{IDB_PACKAGES}
 use Rattle.adb_view.specs.Plain.{Plain}
 use Rattle.adb_view.specs.declared.tables.Which.TheVariants.{Idb}

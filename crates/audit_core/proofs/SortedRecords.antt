@@ -2,7 +2,7 @@
 use Rattle.std.proofs.Common.{◌≡◌, ◌⊎◌, inl, inr, Bool, true, false, List, [], ◌∷◌, Ordering}
 use Rattle.std.specs.Prelude.{if◌then◌else◌}
 use Rattle.std.specs.Ordering.{is_gt}
-use Rattle.adb_fields.specs.FirstPair.{IsIn}
+use Rattle.path_clashes.specs.adb_fields.FirstPair.{IsIn}
 use Rattle.base_core.specs.Sorted.{sorted_by, with_element}
 
 module _ {X : Type 0} (cmp : X → X → Ordering) where

@@ -7,7 +7,7 @@ use Rattle.audit_core.specs.Records.{FileRecord, records_by_path}
 use Rattle.audit_core.specs.declared.comparing.Difference.{Difference}
 use Rattle.audit_core.specs.declared.comparing.Difference.TheVariants.{Changed, Missing}
 use Rattle.file_guard.specs.AsListed.{is_as_listed}
-use Rattle.make_info.specs.Reads.{Reads}
+use Rattle.package_files.specs.make_info.Reads.{Reads}
 use Rattle.report_core.specs.AuditReports.{changed_text, missing_text}
 use Rattle.report_core.specs.Reports.{report_line}
 

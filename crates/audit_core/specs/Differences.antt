@@ -2,7 +2,7 @@
 -- `docs/commands.md`, "`audit`".
 use Rattle.std.specs.Prelude.{◌≡◌, ℕ, true, false, List, Option, None, IsSomeAnd}
 use Rattle.std.specs.List.{flat_map}
-use Rattle.adb_fields.specs.FirstPair.{IsIn}
+use Rattle.path_clashes.specs.adb_fields.FirstPair.{IsIn}
 use Rattle.adb_view.specs.Plain.{Plain}
 use Rattle.audit_core.specs.Audit.{FileDifference, difference_at, difference_from}
 use Rattle.audit_core.specs.Records.{FileRecord, package_records, records_by_path}

@@ -1,3 +1,8 @@
+-- passed on: a crate above that names this one need not name these
+pub use Rattle.db_core.specs as db_core
+pub use Rattle.file_guard.specs as file_guard
+pub use Rattle.path_clashes.specs as path_clashes
+pub use Rattle.path_clashes.specs.adb_fields as adb_fields
 -- what the contract of `apk` says
 pub mod Records
 pub mod Audit

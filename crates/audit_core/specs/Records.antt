@@ -4,8 +4,8 @@ use Rattle.std.specs.Prelude.{ℕ, List, map}
 use Rattle.std.specs.List.{flat_map}
 use Rattle.std.specs.Ordering.{on}
 use Rattle.std.specs.declared.cmp.Ordering.{Ordering}
-use Rattle.adb_fields.specs.Paths.{path_of}
-use Rattle.adb_fields.specs.Repeated.{files_in, folders_in, name_of}
+use Rattle.path_clashes.specs.adb_fields.Paths.{path_of}
+use Rattle.path_clashes.specs.adb_fields.Repeated.{files_in, folders_in, name_of}
 use Rattle.adb_view.specs.Plain.{Plain}
 use Rattle.base_core.specs.ByteOrder.{bytes_cmp}
 use Rattle.base_core.specs.Sorted.{sorted_by}

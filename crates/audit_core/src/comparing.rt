@@ -15,10 +15,9 @@ ghost use Rattle.std.specs.Prelude.{◌≡◌, ◌++◌, ℕ, List, Option, All,
 
 use crate::records::{Record, records_by_path};
 use base_core::{Name, Text, Tree, TreeFault};
-use db_core::Db;
+use db_core::{Db, PIECE_LEN};
 use file_guard::{Comparison, compare_file_in, listed_file};
 use path_clashes::path_bytes;
-use pkg_core::PIECE_LEN;
 use std::alloc::{AllocError, Global};
 
 /// How a file differs from its record.

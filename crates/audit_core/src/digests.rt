@@ -1,9 +1,9 @@
 //! `manifest`: the digest and path of each file of some packages. The rules are in
 //! `docs/commands.md`, "`manifest`".
 
-ghost use Rattle.adb_fields.specs.ListValue.{list_value};
-ghost use Rattle.adb_fields.specs.Repeated.{list_of};
-ghost use Rattle.adb_fields.specs.Paths.{path_of};
+ghost use Rattle.path_clashes.specs.adb_fields.ListValue.{list_value};
+ghost use Rattle.path_clashes.specs.adb_fields.Repeated.{list_of};
+ghost use Rattle.path_clashes.specs.adb_fields.Paths.{path_of};
 ghost use Rattle.adb_view.specs.Values.{count_of, entries_in, entry_in};
 ghost use Rattle.audit_core.specs.Manifest.{manifest_line, manifest_of, package_manifest};
 ghost use Rattle.audit_core.specs.Records.{file_record, folder_records};
@@ -15,10 +15,9 @@ ghost use Rattle.std.specs.List.{flat_map};
 ghost use Rattle.std.specs.Option.{option_map_or};
 ghost use Rattle.std.specs.Prelude.{◌≡◌, ◌<◌, ◌++◌, [], IfOk, OnOk, length, map, slice_get};
 
-use adb_schema::{DirInfo, FileInfo, List, PackageView};
 use base_core::Text;
 use command_core::Operands;
-use db_core::Db;
+use db_core::{Db, DirInfo, FileInfo, List, PackageView};
 use report_core::Refusal;
 use std::alloc::{AllocError, Global};
 use std::marker::PhantomData;

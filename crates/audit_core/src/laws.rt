@@ -1,8 +1,8 @@
 //! What follows of the reports of `audit`. The rules are in `docs/commands.md`, "`audit`".
 
-ghost use Rattle.adb_fields.specs.FirstPair.{IsIn};
-ghost use Rattle.adb_fields.specs.Repeated.{entries_at};
-ghost use Rattle.adb_schema.specs.SoundContainers.{IsSoundValue};
+ghost use Rattle.path_clashes.specs.adb_fields.FirstPair.{IsIn};
+ghost use Rattle.path_clashes.specs.adb_fields.Repeated.{entries_at};
+ghost use Rattle.db_core.specs.adb_schema.SoundContainers.{IsSoundValue};
 ghost use Rattle.adb_view.specs.FieldIndexes.{IDB_PACKAGES};
 ghost use Rattle.adb_view.specs.Plain.{Plain};
 ghost use Rattle.adb_view.specs.declared.tables.Which.TheVariants.{Idb};
@@ -10,7 +10,7 @@ ghost use Rattle.audit_core.specs.Audit.{FileDifference, audit_report, differenc
 ghost use Rattle.audit_core.specs.Differences.{AreAsRecorded, IsDifferenceIn, file_differences};
 ghost use Rattle.base_core.specs.Files.{Files};
 ghost use Rattle.base_core.specs.Listed.{IsRising};
-ghost use Rattle.make_info.specs.Reads.{Reads};
+ghost use Rattle.package_files.specs.make_info.Reads.{Reads};
 ghost use Rattle.std.specs.List.{flat_map};
 ghost use Rattle.std.specs.Prelude.{◌≡◌, ◌≤◌, ◌↔◌, [], ℕ, List, map};
 

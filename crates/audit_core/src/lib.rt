@@ -12,6 +12,7 @@ mod laws;
 mod records;
 
 pub use comparing::{Difference, audit};
+pub use db_core::listings_are_at_their_places;
 pub use digests::manifest;
 pub use laws::{
     an_audit_reports_just_the_files_that_differ, an_audit_reports_nothing_if_all_is_as_recorded,

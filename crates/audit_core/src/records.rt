@@ -1,9 +1,9 @@
 //! The records of the files that the packages of a database list, in byte order of their paths. The
 //! rules are in `docs/formats.md`, "Schemas", tables 4, 5, 7 and 9.
 
-ghost use Rattle.adb_fields.specs.ListValue.{list_value};
-ghost use Rattle.adb_fields.specs.Repeated.{list_of};
-ghost use Rattle.adb_schema.specs.Views.{package_value};
+ghost use Rattle.path_clashes.specs.adb_fields.ListValue.{list_value};
+ghost use Rattle.path_clashes.specs.adb_fields.Repeated.{list_of};
+ghost use Rattle.db_core.specs.adb_schema.Views.{package_value};
 ghost use Rattle.adb_view.specs.Values.{count_of, entries_in, entry_in};
 ghost use Rattle.audit_core.specs.Records.{database_records, file_record, folder_records, package_records, record_cmp, records_by_path};
 ghost use Rattle.audit_core.specs.Seen.{record_seen};
@@ -13,9 +13,8 @@ ghost use Rattle.std.specs.List.{flat_map};
 ghost use Rattle.std.specs.Option.{option_map_or};
 ghost use Rattle.std.specs.Prelude.{◌≡◌, ◌<◌, ◌++◌, ◌∷◌, [], IfOk, OnOk, length, map, slice_get};
 
-use adb_fields::FilePath;
-use adb_schema::{DirInfo, FileInfo, List, PackageView};
-use db_core::Db;
+use db_core::{Db, DirInfo, FileInfo, List, PackageView};
+use path_clashes::FilePath;
 use std::alloc::{AllocError, Global};
 use std::marker::{Model, PhantomData};
 
@@ -30,7 +29,7 @@ pub(crate) struct Record<'a> {
 
 impl<'a> Model for Record<'a> {
     ghost use Rattle.std.specs.Prelude.{◌≡◌, true};
-    ghost use Rattle.adb_fields.specs.JoinedPath.{joined_path};
+    ghost use Rattle.path_clashes.specs.adb_fields.JoinedPath.{joined_path};
     ghost use Rattle.adb_view.specs.Adb.{payload_of};
     ghost use Rattle.adb_view.specs.Values.{is_sound};
     ghost use Rattle.adb_view.specs.declared.tables.Kind.TheVariants as Kinds;

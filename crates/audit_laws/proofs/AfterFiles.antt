@@ -6,15 +6,15 @@ use Rattle.audit_core.specs.Differences.{IsDifferent}
 use Rattle.audit_core.specs.declared.comparing.Difference.{Difference}
 use Rattle.audit_core.specs.declared.comparing.Difference.TheVariants.{Changed, Missing}
 use Rattle.base_core.specs.Files.{Files}
-use Rattle.change_files.specs.Fate.{is_guarded}
-use Rattle.change_files.specs.FileChange.{FileChange, added_owner_listing, is_claimed, old_entry, owner_listing}
-use Rattle.change_files.specs.FilesAfter.{Records, changed_files, aside_claim_at, path_beside}
-use Rattle.change_files.specs.Touched.{IsUsersFile, is_aside_name, is_record_name}
-use Rattle.change_files.proofs.Coming.{takes_path}
-use Rattle.change_files.proofs.Owned.{beside_is, claimed_by_owner, coming_is, nobody_beside}
-use Rattle.change_files.proofs.Untouched.{stays_as_it_is, takes_its_path, users_file_is_spared}
-use Rattle.db_core.specs.Members.{Listing, is_added}
-use Rattle.file_guard.specs.AsListed.{is_as_listed}
+use Rattle.root_laws.specs.change_files.Fate.{is_guarded}
+use Rattle.root_laws.specs.change_files.FileChange.{FileChange, added_owner_listing, is_claimed, old_entry, owner_listing}
+use Rattle.root_laws.specs.change_files.FilesAfter.{Records, changed_files, aside_claim_at, path_beside}
+use Rattle.root_laws.specs.change_files.Touched.{IsUsersFile, is_aside_name, is_record_name}
+use Rattle.root_laws.proofs.change_files.Coming.{takes_path}
+use Rattle.root_laws.proofs.change_files.Owned.{beside_is, claimed_by_owner, coming_is, nobody_beside}
+use Rattle.root_laws.proofs.change_files.Untouched.{stays_as_it_is, takes_its_path, users_file_is_spared}
+use Rattle.audit_core.specs.db_core.Members.{Listing, is_added}
+use Rattle.audit_core.specs.file_guard.AsListed.{is_as_listed}
 use Rattle.audit_laws.specs.AfterChange.{IsKeptForUser}
 
 -- ---- what differs, by what is found

@@ -4,16 +4,16 @@ use Rattle.std.specs.Prelude.{◌==◌, option_and_then, bytes_eq, cond}
 use Rattle.std.specs.List.{filter, find, flat_map}
 use Rattle.std.proofs.lemmas.Bool.{eq-eqb, not-true}
 use Rattle.std.proofs.lemmas.Slice.Eq.{bytes_eq-Decides}
-use Rattle.adb_copy.proofs.WithoutZeros.{int_zeros, text_zeros}
-use Rattle.adb_copy.specs.Zeros.{without_zeros}
-use Rattle.adb_copy.proofs.Entries.{entry_zeros}
-use Rattle.adb_fields.specs.FirstPair.{IsIn}
-use Rattle.adb_fields.specs.Once.{AreDistinctNames}
-use Rattle.adb_fields.specs.Repeated.{entries_at, files_in, folders_in, list_of, name_of, paths_in}
-use Rattle.adb_fields.proofs.Members.{from-flat_map, from-map, in-flat_map, in-map}
-use Rattle.adb_schema.specs.Reserved.{is_reserved}
-use Rattle.adb_schema.specs.SoundContainers.{IsSoundValue}
-use Rattle.adb_schema.specs.SoundValues.{IsFileOf, IsFolder, IsPackage}
+use Rattle.root_laws.proofs.adb_copy.WithoutZeros.{int_zeros, text_zeros}
+use Rattle.root_laws.specs.adb_copy.Zeros.{without_zeros}
+use Rattle.root_laws.proofs.adb_copy.Entries.{entry_zeros}
+use Rattle.audit_core.specs.adb_fields.FirstPair.{IsIn}
+use Rattle.audit_core.specs.adb_fields.Once.{AreDistinctNames}
+use Rattle.audit_core.specs.adb_fields.Repeated.{entries_at, files_in, folders_in, list_of, name_of, paths_in}
+use Rattle.audit_core.proofs.adb_fields.Members.{from-flat_map, from-map, in-flat_map, in-map}
+use Rattle.root_laws.specs.adb_schema.Reserved.{is_reserved}
+use Rattle.root_laws.specs.adb_schema.SoundContainers.{IsSoundValue}
+use Rattle.root_laws.specs.adb_schema.SoundValues.{IsFileOf, IsFolder, IsPackage}
 use Rattle.adb_view.specs.FieldIndexes.{DIR_FILES, IDB_PACKAGES, PACKAGE_PATHS}
 use Rattle.adb_view.specs.Plain.{Plain, Plains, more, none}
 use Rattle.adb_view.specs.Shaped.{Each}
@@ -25,16 +25,16 @@ use Rattle.audit_core.specs.declared.comparing.Difference.{Difference}
 use Rattle.audit_core.specs.declared.comparing.Difference.TheVariants.{Changed, Missing}
 use Rattle.audit_core.proofs.Listings.{listing_record, records_are_listings}
 use Rattle.audit_core.proofs.PathsOnce.{database_once, record_paths}
-use Rattle.change_files.specs.FileChange.{FileChange, owner_listing}
-use Rattle.change_files.proofs.Lists.{IsOneOf, passing_kept}
-use Rattle.change_files.proofs.Owned.{owner_is}
-use Rattle.db_core.specs.Members.{Listing, Member, claims_of, member_listings, members_of_kept}
-use Rattle.db_core.specs.OwnedListings.{owned_listings, owned_paths}
-use Rattle.db_write.specs.NewDatabase.{packages_after}
-use Rattle.file_guard.specs.AsListed.{file_hash, file_size, file_target, is_as_listed, is_as_listed_by}
-use Rattle.file_owners.specs.Owners.{owned_of, owner_of_path}
-use Rattle.file_owners.proofs.OneOwner.{owner_is as member_place}
-use Rattle.path_claims.specs.Claims.{is_member}
+use Rattle.root_laws.specs.change_files.FileChange.{FileChange, owner_listing}
+use Rattle.root_laws.proofs.change_files.Lists.{IsOneOf, passing_kept}
+use Rattle.root_laws.proofs.change_files.Owned.{owner_is}
+use Rattle.audit_core.specs.db_core.Members.{Listing, Member, claims_of, member_listings, members_of_kept}
+use Rattle.audit_core.specs.db_core.OwnedListings.{owned_listings, owned_paths}
+use Rattle.root_laws.specs.db_write.NewDatabase.{packages_after}
+use Rattle.audit_core.specs.file_guard.AsListed.{file_hash, file_size, file_target, is_as_listed, is_as_listed_by}
+use Rattle.root_laws.specs.file_owners.Owners.{owned_of, owner_of_path}
+use Rattle.root_laws.proofs.file_owners.OneOwner.{owner_is as member_place}
+use Rattle.root_laws.specs.path_claims.Claims.{is_member}
 
 -- what the laws of `db_write` say
 pub record WrittenLaws : Type 0 where

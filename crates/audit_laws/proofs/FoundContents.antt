@@ -2,23 +2,23 @@
 use Rattle.std.proofs.Common.{◌≡◌, ◌∙◌, ℕ, zero, suc, ◌+◌, Bool, true, false, List, [], ◌∷◌, length, Option, Some, None, Result, Ok, Err, refl, ap, sym, subst, true≢false}
 use Rattle.std.specs.Prelude.{not, slice_get, option_map, bytes_eq, if◌then◌else◌}
 use Rattle.std.specs.List.{cons_option, find}
-use Rattle.adb_fields.specs.Repeated.{package_name}
+use Rattle.audit_core.specs.adb_fields.Repeated.{package_name}
 use Rattle.adb_view.specs.Plain.{Plain}
 use Rattle.base_core.specs.declared.cause.Cause.{Cause}
-use Rattle.candidate_core.specs.Candidates.{Candidate, is_same_id}
-use Rattle.change_inputs.specs.Chains.{and_then}
-use Rattle.change_inputs.specs.Inputs.{first_index_read}
-use Rattle.change_outcome.proofs.Made.{and_then_ok}
-use Rattle.change_outcome.specs.MembersAfter.{MemberFound, added_package_by_path, added_member_found, found_package_contents, members_after, found_members, name_after, name_by_change, name_by_selected, member_of_added_name, member_of_removed_name, names_after, kept_member_found}
-use Rattle.change_outcome.specs.PackageFiles.{AddedPackage, first_script_of, package_file_of, package_found, package_in_file, scripts_of_change, unless_different, unless_script_number, unless_package_bad, unless_script}
-use Rattle.db_core.specs.Members.{Member, is_added}
-use Rattle.db_core.specs.Packages.{is_package_named}
+use Rattle.root_laws.specs.candidate_core.Candidates.{Candidate, is_same_id}
+use Rattle.root_laws.specs.change_inputs.Chains.{and_then}
+use Rattle.root_laws.specs.change_inputs.Inputs.{first_index_read}
+use Rattle.root_laws.proofs.change_outcome.Made.{and_then_ok}
+use Rattle.root_laws.specs.change_outcome.MembersAfter.{MemberFound, added_package_by_path, added_member_found, found_package_contents, members_after, found_members, name_after, name_by_change, name_by_selected, member_of_added_name, member_of_removed_name, names_after, kept_member_found}
+use Rattle.root_laws.specs.change_outcome.PackageFiles.{AddedPackage, first_script_of, package_file_of, package_found, package_in_file, scripts_of_change, unless_different, unless_script_number, unless_package_bad, unless_script}
+use Rattle.audit_core.specs.db_core.Members.{Member, is_added}
+use Rattle.audit_core.specs.db_core.Packages.{is_package_named}
 use Rattle.dep_core.specs.Repositories.{Repository}
-use Rattle.file_owners.specs.Replaces.{version_text}
-use Rattle.make_info.specs.Reads.{Reads}
-use Rattle.package_changes.specs.Changes.{Replacement, change_of_name, is_selected_named, names_on_both_sides, selected_version}
-use Rattle.pkg_core.specs.Whole.{package_fault}
-use Rattle.pkg_core.proofs.Digests.{HasFirstValue}
+use Rattle.root_laws.specs.file_owners.Replaces.{version_text}
+use Rattle.root_laws.specs.make_info.Reads.{Reads}
+use Rattle.root_laws.specs.package_changes.Changes.{Replacement, change_of_name, is_selected_named, names_on_both_sides, selected_version}
+use Rattle.root_laws.specs.pkg_core.Whole.{package_fault}
+use Rattle.root_laws.proofs.pkg_core.Digests.{HasFirstValue}
 use Rattle.report_core.specs.Reports.{Change}
 use Rattle.report_core.specs.declared.refusal.Refusal.{Refusal}
 use Rattle.audit_laws.proofs.TestedContents.{AreListedContents, tested_listed}

@@ -1,13 +1,13 @@
 -- What differs after a command is what its change left so.
 use Rattle.std.proofs.Common.{◌≡◌, inl, inr, ◌∙◌, ◌↔◌, ℕ, suc, Bool, true, false, List, [], ◌∷◌, Contains, Option, Some, None, Result, Ok, refl, ap, sym, subst, true≢false}
 use Rattle.std.specs.Prelude.{slice_get, if◌then◌else◌}
-use Rattle.adb_copy.specs.Zeros.{without_zeros}
-use Rattle.adb_fields.specs.FirstPair.{IsIn}
-use Rattle.adb_fields.specs.Repeated.{entries_at}
-use Rattle.adb_schema.specs.Reserved.{is_reserved}
-use Rattle.adb_schema.specs.SoundContainers.{IsSound, IsSoundValue}
-use Rattle.adb_schema.specs.Soundness.{first_fault, payload_in, root_value}
-use Rattle.adb_schema.specs.Texts.{is_with_contents}
+use Rattle.root_laws.specs.adb_copy.Zeros.{without_zeros}
+use Rattle.audit_core.specs.adb_fields.FirstPair.{IsIn}
+use Rattle.audit_core.specs.adb_fields.Repeated.{entries_at}
+use Rattle.root_laws.specs.adb_schema.Reserved.{is_reserved}
+use Rattle.root_laws.specs.adb_schema.SoundContainers.{IsSound, IsSoundValue}
+use Rattle.root_laws.specs.adb_schema.Soundness.{first_fault, payload_in, root_value}
+use Rattle.root_laws.specs.adb_schema.Texts.{is_with_contents}
 use Rattle.adb_view.specs.FieldIndexes.{IDB_PACKAGES}
 use Rattle.adb_view.specs.Plain.{Plain}
 use Rattle.adb_view.specs.declared.tables.Which.{Which}
@@ -16,30 +16,30 @@ use Rattle.audit_core.specs.Audit.{FileDifference}
 use Rattle.audit_core.specs.Differences.{IsDifferenceIn, IsDifferent, file_differences}
 use Rattle.base_core.specs.Files.{Files}
 use Rattle.base_core.specs.declared.cause.Cause.{Cause}
-use Rattle.change_files.specs.FileChange.{FileChange, added_owner_listing, if_member_added, owner_listing}
-use Rattle.change_files.specs.FilesAfter.{Records, changed_files, listing_bytes}
-use Rattle.change_files.specs.Touched.{is_record_name}
-use Rattle.change_files.proofs.Lists.{IsOneOf, contains_from_one}
-use Rattle.change_files.proofs.Owned.{coming_is}
-use Rattle.change_files.proofs.RecordNames.{database_after}
-use Rattle.change_inputs.specs.Chains.{and_then, unless_cause}
-use Rattle.change_inputs.specs.Database.{Database, container_database, database_by, root_database}
-use Rattle.change_outcome.specs.ChangeOutcome.{ChangeDone, ChangeWishes, change_or_refusal, file_change, new_records}
-use Rattle.change_outcome.specs.Made.{IsChangeMade}
-use Rattle.change_outcome.specs.MembersAfter.{MemberFound, found_package_contents, found_members}
+use Rattle.root_laws.specs.change_files.FileChange.{FileChange, added_owner_listing, if_member_added, owner_listing}
+use Rattle.root_laws.specs.change_files.FilesAfter.{Records, changed_files, listing_bytes}
+use Rattle.root_laws.specs.change_files.Touched.{is_record_name}
+use Rattle.root_laws.proofs.change_files.Lists.{IsOneOf, contains_from_one}
+use Rattle.root_laws.proofs.change_files.Owned.{coming_is}
+use Rattle.root_laws.proofs.change_files.RecordNames.{database_after}
+use Rattle.root_laws.specs.change_inputs.Chains.{and_then, unless_cause}
+use Rattle.root_laws.specs.change_inputs.Database.{Database, container_database, database_by, root_database}
+use Rattle.root_laws.specs.change_outcome.ChangeOutcome.{ChangeDone, ChangeWishes, change_or_refusal, file_change, new_records}
+use Rattle.root_laws.specs.change_outcome.Made.{IsChangeMade}
+use Rattle.root_laws.specs.change_outcome.MembersAfter.{MemberFound, found_package_contents, found_members}
 use Rattle.command_core.specs.Command.{CommandLine}
-use Rattle.db_core.specs.ListedAt.{IsListedAt}
-use Rattle.db_core.specs.Members.{Listing, Member, is_added, member_listings}
-use Rattle.change_inputs.specs.Inputs.{Inputs}
-use Rattle.engine_core.specs.Changed.{Selected, change_of_command, change_of_selected, simulated_change}
-use Rattle.engine_core.specs.Wishes.{wishes_of}
-use Rattle.file_guard.specs.AsListed.{has_target, is_as_listed}
-use Rattle.make_info.specs.Reads.{Reads}
-use Rattle.package_changes.specs.Changes.{Replacement}
-use Rattle.path_clashes.specs.Clash.{NamePair}
-use Rattle.pkg_core.specs.Contents.{Contents, expected_contents}
-use Rattle.pkg_core.specs.GoodContents.{AreContentsOf, HaveDigests}
-use Rattle.pkg_core.proofs.Digests.{HasFirstValue}
+use Rattle.audit_core.specs.db_core.ListedAt.{IsListedAt}
+use Rattle.audit_core.specs.db_core.Members.{Listing, Member, is_added, member_listings}
+use Rattle.root_laws.specs.change_inputs.Inputs.{Inputs}
+use Rattle.root_laws.specs.engine_core.Changed.{Selected, change_of_command, change_of_selected, simulated_change}
+use Rattle.root_laws.specs.engine_core.Wishes.{wishes_of}
+use Rattle.audit_core.specs.file_guard.AsListed.{has_target, is_as_listed}
+use Rattle.root_laws.specs.make_info.Reads.{Reads}
+use Rattle.root_laws.specs.package_changes.Changes.{Replacement}
+use Rattle.audit_core.specs.path_clashes.Clash.{NamePair}
+use Rattle.root_laws.specs.pkg_core.Contents.{Contents, expected_contents}
+use Rattle.root_laws.specs.pkg_core.GoodContents.{AreContentsOf, HaveDigests}
+use Rattle.root_laws.proofs.pkg_core.Digests.{HasFirstValue}
 use Rattle.report_core.specs.declared.refusal.Refusal.{Refusal}
 use Rattle.report_core.specs.declared.refusal.Refusal.TheVariants.{DatabaseBad}
 use Rattle.root_laws.specs.RootLeft.{IsRootLeft}

@@ -5,14 +5,14 @@ use Rattle.base_core.proofs.Causes.{first_none, second_none}
 use Rattle.adb_block.specs.Header.{header_of}
 use Rattle.adb_block.specs.Reading.{Reading, done, fault, more, reading_of}
 use Rattle.adb_block.specs.ReaderPosition.{start_of}
-use Rattle.adb_schema.specs.Soundness.{blocks_fault, file_fault, first_payload, payload_after_header, payload_fault, payload_in, root_value, schema_fault}
+use Rattle.root_laws.specs.adb_schema.Soundness.{blocks_fault, file_fault, first_payload, payload_after_header, payload_fault, payload_in, root_value, schema_fault}
 use Rattle.adb_view.specs.Plain.{Plain}
 use Rattle.adb_view.specs.declared.tables.Which.TheVariants.{Package}
-use Rattle.pkg_core.specs.Contents.{Contents, Expected, contents_in, expected_contents}
-use Rattle.pkg_core.specs.GoodContents.{AreContentsOf, HaveDigests}
-use Rattle.pkg_core.specs.Whole.{fault_after_first, files_after_first, files_by_header, files_in_file, package_fault, whole_fault}
-use Rattle.pkg_core.proofs.Digests.{HasFirstValue, texts_give_digests}
-use Rattle.pkg_core.proofs.Given.{files_right, nothing_expected, texts_good}
+use Rattle.root_laws.specs.pkg_core.Contents.{Contents, Expected, contents_in, expected_contents}
+use Rattle.root_laws.specs.pkg_core.GoodContents.{AreContentsOf, HaveDigests}
+use Rattle.root_laws.specs.pkg_core.Whole.{fault_after_first, files_after_first, files_by_header, files_in_file, package_fault, whole_fault}
+use Rattle.root_laws.proofs.pkg_core.Digests.{HasFirstValue, texts_give_digests}
+use Rattle.root_laws.proofs.pkg_core.Given.{files_right, nothing_expected, texts_good}
 
 -- the contents are those that the entries of a package list
 abbrev pub AreListedContents : Plain → List Contents → Type 0

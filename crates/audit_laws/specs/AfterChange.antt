@@ -1,23 +1,23 @@
 -- The files that differ from their records after a change. The rules are in `docs/commands.md`,
 -- "`audit`" and "What a change does with files". Serves the law of `src/laws.rt`.
 use Rattle.std.specs.Prelude.{◌≡◌, ◌⊎◌, ℕ, Bool, true, false, List, [], Option, Some}
-use Rattle.adb_schema.specs.Texts.{is_with_contents}
+use Rattle.root_laws.specs.adb_schema.Texts.{is_with_contents}
 use Rattle.adb_view.specs.Plain.{Plain}
 use Rattle.audit_core.specs.Audit.{FileDifference}
 use Rattle.audit_core.specs.Differences.{IsDifferent}
 use Rattle.audit_core.specs.declared.comparing.Difference.TheVariants.{Changed}
 use Rattle.base_core.specs.Files.{Files}
-use Rattle.change_files.specs.FileChange.{FileChange, owner_listing}
-use Rattle.change_files.specs.FilesAfter.{listing_bytes}
-use Rattle.change_files.specs.Touched.{IsUsersFile}
-use Rattle.change_outcome.specs.ChangeOutcome.{ChangeDone, file_change}
-use Rattle.change_outcome.specs.MembersAfter.{found_package_contents, found_members}
+use Rattle.root_laws.specs.change_files.FileChange.{FileChange, owner_listing}
+use Rattle.root_laws.specs.change_files.FilesAfter.{listing_bytes}
+use Rattle.root_laws.specs.change_files.Touched.{IsUsersFile}
+use Rattle.root_laws.specs.change_outcome.ChangeOutcome.{ChangeDone, file_change}
+use Rattle.root_laws.specs.change_outcome.MembersAfter.{found_package_contents, found_members}
 use Rattle.command_core.specs.Command.{CommandLine}
-use Rattle.db_core.specs.Members.{Listing, is_added}
-use Rattle.engine_core.specs.Wishes.{wishes_of}
-use Rattle.file_guard.specs.AsListed.{has_target, is_as_listed}
-use Rattle.make_info.specs.Reads.{Reads}
-use Rattle.pkg_core.specs.Contents.{Contents}
+use Rattle.audit_core.specs.db_core.Members.{Listing, is_added}
+use Rattle.root_laws.specs.engine_core.Wishes.{wishes_of}
+use Rattle.audit_core.specs.file_guard.AsListed.{has_target, is_as_listed}
+use Rattle.root_laws.specs.make_info.Reads.{Reads}
+use Rattle.root_laws.specs.pkg_core.Contents.{Contents}
 use Rattle.root_laws.specs.RootLeft.{IsRootLeft, database_of_members}
 
 -- ---- a file that is left different

@@ -1,29 +1,30 @@
 //! What an audit reports after a change. The rules are in `docs/commands.md`, "`audit`" and "What a
 //! change does with files".
 
-ghost use Rattle.adb_fields.specs.FirstPair.{IsIn};
+ghost use Rattle.audit_core.specs.adb_fields.FirstPair.{IsIn};
 ghost use Rattle.audit_core.specs.Audit.{FileDifference};
 ghost use Rattle.audit_core.specs.Differences.{file_differences};
 ghost use Rattle.audit_laws.specs.AfterChange.{IsEmptyUnlike, IsLeftDifferent, change_left, contents_left, packages_left};
 ghost use Rattle.base_core.specs.Files.{Files};
-ghost use Rattle.change_files.specs.FileChange.{added_owner_listing};
-ghost use Rattle.change_files.specs.FilesAfter.{listing_bytes};
-ghost use Rattle.change_outcome.specs.ChangeOutcome.{ChangeDone};
+ghost use Rattle.root_laws.specs.change_files.FileChange.{added_owner_listing};
+ghost use Rattle.root_laws.specs.change_files.FilesAfter.{listing_bytes};
+ghost use Rattle.root_laws.specs.change_outcome.ChangeOutcome.{ChangeDone};
 ghost use Rattle.command_core.specs.Command.{CommandLine};
-ghost use Rattle.db_core.specs.Members.{Listing};
-ghost use Rattle.engine_core.specs.Changed.{change_of_command};
-ghost use Rattle.file_guard.specs.AsListed.{is_as_listed};
-ghost use Rattle.make_info.specs.Reads.{Reads};
-ghost use Rattle.path_clashes.specs.Clash.{NamePair};
+ghost use Rattle.audit_core.specs.db_core.Members.{Listing};
+ghost use Rattle.root_laws.specs.engine_core.Changed.{change_of_command};
+ghost use Rattle.audit_core.specs.file_guard.AsListed.{is_as_listed};
+ghost use Rattle.root_laws.specs.make_info.Reads.{Reads};
+ghost use Rattle.audit_core.specs.path_clashes.Clash.{NamePair};
 ghost use Rattle.root_laws.specs.RootLeft.{IsRootLeft};
 ghost use Rattle.std.specs.Prelude.{◌≡◌, ◌↔◌, ℕ, false, List, Ok, Option, Some};
 
-use adb_schema::{sound_containers_hold_sound_values, the_first_bad_text_is_reported};
-use audit_core::an_audit_reports_just_the_files_that_differ;
-use change_files::{the_files_of_an_added_package_are_as_listed, what_is_written_is_not_reserved};
-use change_outcome::a_change_that_is_made_passes_each_test;
-use db_core::listings_are_at_their_places;
-use db_write::{a_database_keeps_the_entries_of_owned_files, a_database_lists_the_owned_files};
+use audit_core::{an_audit_reports_just_the_files_that_differ, listings_are_at_their_places};
+use root_laws::{
+    a_change_that_is_made_passes_each_test, a_database_keeps_the_entries_of_owned_files,
+    a_database_lists_the_owned_files, sound_containers_hold_sound_values,
+    the_files_of_an_added_package_are_as_listed, the_first_bad_text_is_reported,
+    what_is_written_is_not_reserved,
+};
 
 /// After a change these files differ from their records, and no others. Of a kept package: each
 /// file that differed before. Of an added package: each configuration file that the user changed,

@@ -1,7 +1,7 @@
 -- Lemmas that several crates need.
 use Rattle.base_core.proofs.Rising as rising
 use Rattle.std.proofs.Common.{List, ℕ, ◌++◌, ◌⊎◌, [], inr, ◌∷◌, inl, ◌<◌, length, get_or, ◌≡◌, arith, sym, suc}
-use Rattle.adb_fields.specs.FirstPair.{IsIn}
+use Rattle.base_core.specs.Lists.{IsIn}
 
 pub in_both : (q : List ℕ) (xs ys : List (List ℕ)) → rising.IsIn q (xs ++ ys) → rising.IsIn q xs ⊎ rising.IsIn q ys
 in_both q [] ys at = inr at

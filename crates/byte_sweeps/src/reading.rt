@@ -12,7 +12,7 @@ use adb_schema::{
 };
 use adb_view::Adb;
 use base_core::{Cause, Name, Text, TreeFault};
-use package_test::{PackageTest, test_package};
+use package_verifier::{PackageTest, test_package};
 use pkg_core::{PackageFault, verify};
 use report_core::{Refusal, write_error};
 use std::alloc::{AllocError, Global};

@@ -3,8 +3,8 @@ use Rattle.std.proofs.Common.{◌≡◌, ◌∙◌, ℕ, ◌+◌, ◌-◌, ◌<�
 use Rattle.std.specs.Prelude.{slice_index}
 use Rattle.adb_view.specs.Values.{count_of, entries_in, is_sound, nth, value_at}
 use Rattle.adb_view.specs.declared.tables.Kind.{Kind}
-use Rattle.adb_fields.specs.Fields.{are_all_sound, array_at}
-use Rattle.adb_fields.proofs.FieldReads.{entry_count, entry_sound, entry_value}
+use Rattle.adb_schema.specs.adb_fields.Fields.{are_all_sound, array_at}
+use Rattle.adb_schema.proofs.adb_fields.FieldReads.{entry_count, entry_sound, entry_value}
 
 module _ (p : List ℕ) (k : Kind) (ws : List ℕ) (i word : ℕ) (sound : are_all_sound p k ws ≡ true) (within : i < length ws) (is : word ≡ slice_index ws i) where
   pub word_sound : is_sound p k word ≡ true

@@ -1,3 +1,6 @@
+-- passed on: a crate above that names this one need not name these
+pub use Rattle.adb_schema.specs as adb_schema
+pub use Rattle.adb_schema.specs.adb_fields as adb_fields
 -- cited by the contract of `apk`
 pub mod Candidates
 pub mod Rank

@@ -5,7 +5,7 @@
 use Rattle.std.specs.Prelude.{◌≡◌, ◌<◌, ℕ, suc, Bool, true, ◌&&◌, if◌then◌else◌, List, [], ◌∷◌}
 use Rattle.candidate_core.specs.Candidates.{Candidate, Need, is_eligible, meets_need, offers_name}
 use Rattle.candidate_core.specs.Rank.{SealedPool, is_better}
-pub use Rattle.adb_fields.specs.FirstPair.{IsIn}
+pub use Rattle.adb_schema.specs.adb_fields.FirstPair.{IsIn}
 
 -- each member of the first list is one of the second
 abbrev pub AreMembers : {X : Type 0} → List X → List X → Type 0

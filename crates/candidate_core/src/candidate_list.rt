@@ -4,7 +4,7 @@
 ghost use Rattle.std.specs.Prelude.{◌≡◌, ◌<◌, ◌+◌, ℕ, [], ◌∷◌, ◌++◌, length, true, None, Some, slice_get, OnOk, IfErr};
 ghost use Rattle.std.specs.List.{list_any};
 ghost use Rattle.adb_schema.specs.Views.{info_value};
-ghost use Rattle.adb_fields.specs.Fields.{are_all_sound, array_at};
+ghost use Rattle.adb_schema.specs.adb_fields.Fields.{are_all_sound, array_at};
 ghost use Rattle.adb_view.specs.declared.tables.Kind.TheVariants as Kinds;
 ghost use Rattle.adb_view.specs.declared.tables.Which.TheVariants as Tables;
 ghost use Rattle.adb_view.specs.Adb.{payload_of};
@@ -109,7 +109,7 @@ impl<'a> CandidateList<'a> {
     }
 
     /// Appends the packages of an index; these are their words.
-    #[tactic(auto, using(adb_fields::proofs::FieldReads::entry_sound))]
+    #[tactic(auto, using(adb_schema::proofs::adb_fields::FieldReads::entry_sound))]
     pub fn push_all(&mut self, source: Source<'a>, packages: Arr<'a>) -> Result<(), PoolFault>
         requires list { IsCandidateList self.old }
         requires sound { are_all_sound (payload_of source.adb) (Kinds.Obj Tables.PkgInfo)

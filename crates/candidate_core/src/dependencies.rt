@@ -4,7 +4,7 @@
 //! denote), and "The texts", fields 101 to 103 (the rules in a tested container).
 ghost use Rattle.std.specs.Prelude.{◌≡◌, ◌<◌, ◌==◌, true, length, slice_get, Some};
 ghost use Rattle.std.specs.Option.{option_map};
-ghost use Rattle.adb_fields.specs.ListValue.{list_value};
+ghost use Rattle.adb_schema.specs.adb_fields.ListValue.{list_value};
 ghost use Rattle.adb_schema.specs.SoundValues.{IsSoundDependency};
 ghost use Rattle.adb_schema.specs.Views.{dependency_value};
 ghost use Rattle.dep_core.specs.Meets.{dependency};
@@ -27,7 +27,7 @@ pub struct Deps<'a> {
 
 impl<'a> Model for Deps<'a> {
     ghost use Rattle.std.specs.Prelude.{◌≡◌, true, List as Items};
-    ghost use Rattle.adb_fields.specs.ListValue.{list_value};
+    ghost use Rattle.adb_schema.specs.adb_fields.ListValue.{list_value};
     ghost use Rattle.dep_core.specs.Dependency.{Dependency};
     ghost use Rattle.candidate_core.specs.Candidates.{dependencies_in};
     ghost use Rattle.candidate_core.specs.SoundTexts.{HasSoundEntries};

@@ -4,7 +4,7 @@
 //! version. Which dependency a good entry denotes is defined in "Dependencies" there.
 ghost use Rattle.std.specs.Prelude.{◌≡◌, true, false, Some, IfOk, IfSome, IfNone};
 ghost use Rattle.std.specs.Option.{option_map};
-ghost use Rattle.adb_fields.specs.Fields.{are_all_sound, array_at};
+ghost use Rattle.adb_schema.specs.adb_fields.Fields.{are_all_sound, array_at};
 ghost use Rattle.adb_schema.specs.TextRules.{keeps_text_rule};
 ghost use Rattle.adb_schema.specs.Views.{info_value};
 ghost use Rattle.adb_view.specs.Values.{entry_in, is_sound, kind_at, text_in, value_at};
@@ -16,8 +16,7 @@ ghost use Rattle.dep_core.specs.Meets.{dependency};
 ghost use Rattle.candidate_core.specs.Candidates.{dependency_in};
 ghost use Rattle.candidate_core.specs.SoundTexts.{HasSoundEntries, HasSoundTexts};
 
-use adb_fields::{field_word, int_field, objects_field, text_word};
-use adb_schema::{Judged, PkgInfo, TextRule};
+use adb_schema::{Judged, PkgInfo, TextRule, field_word, int_field, objects_field, text_word};
 use adb_view::{Arr, Val, Which, entry_word};
 use dep_core::{Dep, dep_of_parts};
 use std::alloc::{AllocError, Global};
@@ -82,7 +81,7 @@ fn has_sound_entries(judged: &mut Judged<'_>, word: Val, field: usize) -> Result
 }
 
 // Whether each of some words is that of a dependency.
-#[tactic(auto, using(adb_fields::proofs::FieldReads::entry_sound))]
+#[tactic(auto, using(adb_schema::proofs::adb_fields::FieldReads::entry_sound))]
 fn are_dependencies<'a>(judged: &mut Judged<'a>, words: Arr<'a>) -> Result<bool, AllocError>
     requires { are_all_sound (payload_of judged.old.adb) (Kinds.Obj Tables.Dep)
         (array_entries words) ≡ true }

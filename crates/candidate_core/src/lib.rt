@@ -18,6 +18,10 @@ mod packages;
 mod table;
 mod versions;
 
+pub use adb_schema::{
+    DepView, DirInfo, FileInfo, IndexView, List, PackageView, PkgInfo,
+    entries_keep_the_rule_of_their_list, objects_field,
+};
 pub use candidate::{CandId, Candidate, Details};
 pub use candidate_list::{CandidateList, MOST_CANDIDATES, PoolFault};
 pub use dependencies::Deps;

@@ -7,7 +7,7 @@ use Rattle.std.proofs.lemmas.Bool.{and_from, false_from_ne_true, not_from_false,
 use Rattle.base_core.specs.Files.{Files}
 use Rattle.base_core.proofs.Rising.{IsIn}
 use Rattle.base_core.proofs.AtName.{is_name}
-use Rattle.db_core.specs.Members.{Listing}
+use Rattle.file_owners.specs.db_core.Members.{Listing}
 use Rattle.path_clashes.specs.Clash.{is_name_after}
 use Rattle.change_files.specs.FileChange.{FileChange, is_claimed, old_entry, was_listed}
 use Rattle.change_files.specs.FilesAfter.{Records, bytes_after, changed_files, database_name, is_kept, is_removed, is_written, aside_claim_at, may_be_kept, path_beside, text_database_name, world_bytes_after, world_name, written_as}

@@ -7,12 +7,12 @@ use Rattle.std.proofs.lemmas.Slice.Eq.{bytes_eq-Decides}
 use Rattle.base_core.proofs.Numbers.{same_number}
 use Rattle.adb_view.specs.Plain.{Plain}
 use Rattle.adb_view.specs.Values.{entry_in, int_in}
-use Rattle.adb_fields.specs.Repeated.{files_in, folders_in, name_of}
-use Rattle.adb_schema.specs.Rules.{is_digest_length}
-use Rattle.adb_schema.specs.Texts.{is_with_contents}
-use Rattle.pkg_core.specs.Contents.{Contents, Expected, bytes_or_none, expected_contents, expected_files, expected_folders, is_of_file}
-use Rattle.pkg_core.specs.GoodContents.{AreContentsOf, HaveDigests, IsContentsOf}
-use Rattle.db_core.specs.Members.{Listing, Member, listings_by, listings_from, listings_in_folder, listings_in_folders, member_listings}
+use Rattle.path_clashes.specs.adb_fields.Repeated.{files_in, folders_in, name_of}
+use Rattle.file_guard.specs.adb_schema.Rules.{is_digest_length}
+use Rattle.file_guard.specs.adb_schema.Texts.{is_with_contents}
+use Rattle.file_guard.specs.pkg_core.Contents.{Contents, Expected, bytes_or_none, expected_contents, expected_files, expected_folders, is_of_file}
+use Rattle.file_guard.specs.pkg_core.GoodContents.{AreContentsOf, HaveDigests, IsContentsOf}
+use Rattle.file_owners.specs.db_core.Members.{Listing, Member, listings_by, listings_from, listings_in_folder, listings_in_folders, member_listings}
 use Rattle.file_guard.specs.AsListed.{file_hash, file_size, file_target, has_target, is_as_listed, link_bytes, link_to}
 use Rattle.file_guard.proofs.Told.{told_hash, told_link}
 use Rattle.change_files.specs.FilesAfter.{listing_bytes}

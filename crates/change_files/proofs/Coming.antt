@@ -7,7 +7,7 @@ use Rattle.std.proofs.lemmas.Bool.{and_from, and_parts, not_from_false, or_parts
 use Rattle.adb_view.specs.Plain.{Plain}
 use Rattle.base_core.specs.Files.{Files}
 use Rattle.base_core.specs.Name.{IsName, is_name, is_part, parts_of}
-use Rattle.db_core.specs.Members.{Listing}
+use Rattle.file_owners.specs.db_core.Members.{Listing}
 use Rattle.file_guard.specs.AsListed.{do_entries_agree, is_as_listed}
 use Rattle.change_files.specs.Fate.{Fate, agrees_with_old, aside_name, fate_beside, fate_by, fate_of, gives_way, goes_aside, goes_in, is_as_old, is_guarded}
 use Rattle.change_files.specs.FileChange.{FileChange, added_owner_listing, is_claimed, old_entry}

@@ -1,3 +1,7 @@
+-- passed on: a crate above that names this one need not name these
+pub use Rattle.file_guard.proofs as file_guard
+pub use Rattle.file_owners.proofs as file_owners
+pub use Rattle.path_clashes.proofs as path_clashes
 pub mod AfterNames
 pub mod Brought
 pub mod Coming

@@ -9,7 +9,7 @@ use Rattle.std.proofs.lemmas.Slice.Eq.{bytes_eq-Decides}
 use Rattle.adb_view.specs.Plain.{Plain}
 use Rattle.base_core.specs.Files.{Files}
 use Rattle.base_core.proofs.Rising.{IsIn}
-use Rattle.db_core.specs.Members.{Listing, Member, claims_of, is_added, member_listings}
+use Rattle.file_owners.specs.db_core.Members.{Listing, Member, claims_of, is_added, member_listings}
 use Rattle.file_owners.specs.Owners.{owner_of_path}
 use Rattle.file_guard.specs.AsListed.{is_as_listed}
 use Rattle.change_files.specs.Fate.{Fate, agrees_with_old, aside_name, fate_beside, fate_by, fate_of, gives_way, goes_aside, goes_in, is_as_old, is_guarded}

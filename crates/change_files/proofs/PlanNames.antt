@@ -6,7 +6,7 @@ use Rattle.std.specs.Str.{bytes_eq}
 use Rattle.base_core.specs.Files.{Files}
 use Rattle.base_core.specs.Listed.{IsRising}
 use Rattle.base_core.proofs.Rising.{IsIn, contains_from_in, in_from_contains, pairs_from_rises}
-use Rattle.db_core.specs.Members.{Listing}
+use Rattle.file_owners.specs.db_core.Members.{Listing}
 use Rattle.change_files.specs.Fate.{aside_name}
 use Rattle.change_files.specs.FileChange.{FileChange}
 use Rattle.change_files.specs.FilesAfter.{is_kept, is_removed, is_written, aside_claim_at, written_as}

@@ -5,10 +5,10 @@ use Rattle.std.specs.List.{filter, list_all, starts_with}
 use Rattle.std.specs.Str.{bytes_eq}
 use Rattle.std.proofs.lemmas.Bool.{and_from, and_parts, false_from_ne_true, or_cases, or_left, or_right}
 use Rattle.std.proofs.lemmas.Slice.Eq.{bytes_eq-Decides}
-use Rattle.adb_schema.specs.Reserved.{is_at_or_below, is_below_any, is_reserved, reserved_names}
+use Rattle.file_guard.specs.adb_schema.Reserved.{is_at_or_below, is_below_any, is_reserved, reserved_names}
 use Rattle.base_core.specs.Files.{Files}
 use Rattle.base_core.proofs.Rising.{IsIn}
-use Rattle.db_core.specs.Members.{Listing}
+use Rattle.file_owners.specs.db_core.Members.{Listing}
 use Rattle.base_core.specs.ByteOrder.{precedes, smaller_text, smallest_text}
 use Rattle.change_files.specs.Fate.{aside_name}
 use Rattle.change_files.specs.FileChange.{FileChange}

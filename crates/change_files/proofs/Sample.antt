@@ -2,7 +2,7 @@
 use Rattle.std.specs.Prelude.{ℕ, List, [], ◌∷◌, codes}
 use Rattle.adb_view.specs.Plain.{Plain, null, blob_or_null, arr_value, obj_value}
 use Rattle.base_core.specs.Files.{Files, no_names, put_name}
-use Rattle.db_core.specs.Members.{Listing}
+use Rattle.file_owners.specs.db_core.Members.{Listing}
 use Rattle.file_guard.proofs.Sample.{values}
 
 abbrev pub folder : List ℕ → List Plain → Plain

@@ -2,11 +2,11 @@
 use Rattle.std.proofs.Common.{◌≡◌, ℕ, List, [], ◌∷◌, Some, refl, codes, false, true}
 use Rattle.adb_view.specs.Plain.{Plain}
 use Rattle.base_core.specs.Files.{no_names}
-use Rattle.db_core.specs.Members.{Member, claims_of, member_of_added, member_listings, member_of_kept}
+use Rattle.file_owners.specs.db_core.Members.{Member, claims_of, member_of_added, member_listings, member_of_kept}
 use Rattle.dep_core.specs.ValueReading.{dependency_of_value}
 use Rattle.version_core.specs.Order.{is_version, tokens}
 use Rattle.version_core.specs.Token.{component_lexeme, hash_lexeme, next_lexeme, number_lexeme, revision_lexeme, suffix_rank}
-use Rattle.path_claims.specs.Contest.{winner}
+use Rattle.file_owners.specs.path_claims.Contest.{winner}
 use Rattle.path_clashes.specs.Clash.{IsClash, NamePair, precedes_pair}
 use Rattle.file_owners.specs.Owners.{member_beats, owner_of_path}
 use Rattle.file_owners.specs.Replaces.{is_preferred_to, names_package, takes_over}

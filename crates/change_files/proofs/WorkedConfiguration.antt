@@ -2,8 +2,8 @@
 use Rattle.std.proofs.Common.{◌≡◌, ℕ, Bool, List, [], ◌∷◌, Some, refl, codes, true, false}
 use Rattle.adb_view.specs.Plain.{Plain}
 use Rattle.base_core.specs.Files.{Files, no_names}
-use Rattle.db_core.specs.Members.{claims_of, member_of_added, member_listings}
-use Rattle.path_claims.specs.Contest.{winner}
+use Rattle.file_owners.specs.db_core.Members.{claims_of, member_of_added, member_listings}
+use Rattle.file_owners.specs.path_claims.Contest.{winner}
 use Rattle.file_owners.specs.Owners.{owner_of_path}
 use Rattle.file_guard.specs.AsListed.{do_entries_agree, is_as_listed_by}
 use Rattle.change_files.specs.Fate.{fate_of, is_guarded}

@@ -2,9 +2,9 @@
 use Rattle.std.proofs.Common.{◌≡◌, ℕ, List, [], ◌∷◌, refl, codes, false}
 use Rattle.adb_view.specs.Plain.{Plain}
 use Rattle.base_core.specs.Files.{no_names}
-use Rattle.db_core.specs.Members.{Listing, claims_of, member_of_added, member_listing, member_listings}
-use Rattle.path_claims.specs.Contest.{winner}
-use Rattle.pkg_core.specs.Contents.{Contents}
+use Rattle.file_owners.specs.db_core.Members.{Listing, claims_of, member_of_added, member_listing, member_listings}
+use Rattle.file_owners.specs.path_claims.Contest.{winner}
+use Rattle.file_guard.specs.pkg_core.Contents.{Contents}
 use Rattle.file_owners.specs.Owners.{owner_of_path}
 use Rattle.change_files.specs.Fate.{fate_of}
 use Rattle.change_files.specs.FileChange.{FileChange, is_claimed, old_entry, old_listings, owner_listing}

@@ -3,7 +3,7 @@
 use Rattle.std.specs.Prelude.{ℕ, ◌==◌, Bool, List, map, Option, Some, None, option_map, option_and_then, is_some, bytes_eq, if◌then◌else◌}
 use Rattle.std.specs.List.{find, list_any}
 use Rattle.adb_view.specs.Plain.{Plain}
-use Rattle.db_core.specs.Members.{Listing, Member, claims_of, is_added, member_listings, member_of_kept}
+use Rattle.file_owners.specs.db_core.Members.{Listing, Member, claims_of, is_added, member_listings, member_of_kept}
 use Rattle.file_owners.specs.Owners.{owner_of_path}
 
 -- a change of packages, for their files: the packages of the database before, those after, and whether

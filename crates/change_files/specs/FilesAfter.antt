@@ -5,8 +5,8 @@ use Rattle.std.specs.List.{ends_with}
 use Rattle.std.specs.Option.{option_or}
 use Rattle.adb_view.specs.Plain.{Plain}
 use Rattle.base_core.specs.Files.{Files}
-use Rattle.db_core.specs.Members.{Listing}
-use Rattle.pkg_core.specs.Contents as Packages
+use Rattle.file_owners.specs.db_core.Members.{Listing}
+use Rattle.file_guard.specs.pkg_core.Contents as Packages
 use Rattle.file_guard.specs.AsListed.{has_target, is_as_listed, link_bytes}
 pub use Rattle.root_names.specs.RootNames.{database_name, text_database_name, world_name}
 use Rattle.change_files.specs.Fate.{Fate, aside_ending, fate_of, gives_way, goes_aside, goes_in, is_guarded}

@@ -4,7 +4,7 @@ use Rattle.std.specs.Prelude.{ℕ, Bool, not, ◌&&◌, ◌||◌, List, ◌∷�
 use Rattle.std.specs.List.{filter, list_any}
 use Rattle.base_core.specs.Files.{Files}
 use Rattle.path_clashes.specs.Clash.{NameChange}
-use Rattle.db_core.specs.Members.{Member, is_added, member_listings}
+use Rattle.file_owners.specs.db_core.Members.{Member, is_added, member_listings}
 use Rattle.change_files.specs.FileChange.{FileChange, is_claimed, was_listed}
 use Rattle.change_files.specs.FilesAfter.{database_name, is_kept, aside_claim_at, path_beside, world_name}
 

@@ -6,8 +6,8 @@ use Rattle.std.specs.List.{filter, filter_map}
 use Rattle.base_core.specs.Files.{Files}
 use Rattle.base_core.specs.ByteOrder.{bytes_cmp, smallest_text}
 use Rattle.base_core.specs.Sorted.{sorted_by}
-use Rattle.adb_schema.specs.Reserved.{is_reserved}
-use Rattle.db_core.specs.Members.{Listing, Member}
+use Rattle.file_guard.specs.adb_schema.Reserved.{is_reserved}
+use Rattle.file_owners.specs.db_core.Members.{Listing, Member}
 use Rattle.change_files.specs.NamesAfter.{added_paths}
 use Rattle.change_files.specs.Fate.{aside_name}
 use Rattle.change_files.specs.FileChange.{FileChange, old_listings}

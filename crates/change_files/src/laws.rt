@@ -2,17 +2,17 @@
 //! `docs/commands.md`, "What a change does with files"; the README of this crate lists the laws.
 
 ghost use Rattle.std.specs.Prelude.{◌≡◌, ◌≢◌, ◌⊎◌, ◌↔◌, ℕ, Bool, true, false, List, [], None, Some, IsSome, map, is_some, All, Contains};
-ghost use Rattle.adb_schema.specs.Reserved.{is_reserved};
-ghost use Rattle.adb_schema.specs.Texts.{is_with_contents};
+ghost use Rattle.file_guard.specs.adb_schema.Reserved.{is_reserved};
+ghost use Rattle.file_guard.specs.adb_schema.Texts.{is_with_contents};
 ghost use Rattle.base_core.specs.Files.{Files};
 ghost use Rattle.base_core.specs.Listed.{IsRising};
 ghost use Rattle.base_core.specs.Name.{IsName};
-ghost use Rattle.db_core.specs.Members.{Listing, Member, is_added, member_listings};
+ghost use Rattle.file_owners.specs.db_core.Members.{Listing, Member, is_added, member_listings};
 ghost use Rattle.file_guard.specs.AsListed.{has_target, is_as_listed};
 ghost use Rattle.file_owners.specs.Owners.{owner_of_path};
 ghost use Rattle.path_clashes.specs.Clash.{is_name_after};
-ghost use Rattle.pkg_core.specs.Contents.{Contents, expected_contents};
-ghost use Rattle.pkg_core.specs.GoodContents.{AreContentsOf, HaveDigests};
+ghost use Rattle.file_guard.specs.pkg_core.Contents.{Contents, expected_contents};
+ghost use Rattle.file_guard.specs.pkg_core.GoodContents.{AreContentsOf, HaveDigests};
 ghost use Rattle.change_files.specs.Fate.{aside_name};
 ghost use Rattle.change_files.specs.FileChange.{FileChange, added_owner_listing, is_claimed, old_listings, owner_listing, was_listed};
 ghost use Rattle.change_files.specs.FilesAfter.{Records, changed_files, database_name, is_kept, is_no_longer_listed, is_removed, is_written, aside_claim_at, listing_bytes, text_database_name, world_name, written_as};

@@ -10,6 +10,14 @@
 
 mod laws;
 
+pub use file_guard::{
+    Comparison, DirInfo, FileInfo, List, ListedFile, PackageView, compare_file, is_reserved_file,
+    listed_file,
+};
+pub use file_owners::{
+    Contested, Db, Members, Owned, claims_in_database, no_path_is_owned_by_two_members,
+    owners_of_files,
+};
 pub use laws::{
     a_name_has_one_place_in_a_plan, a_name_that_nobody_lists_is_not_touched,
     an_added_file_takes_its_path, configuration_that_the_user_changed_is_kept,

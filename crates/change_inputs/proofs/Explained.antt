@@ -5,7 +5,7 @@ use Rattle.base_core.specs.Read.{bytes_in}
 use Rattle.base_core.specs.Tree.{TreeState, files_of}
 use Rattle.command_core.specs.Command.{CommandLine}
 use Rattle.dep_core.specs.Repositories.{Repository}
-use Rattle.make_info.specs.Reads.{Reads}
+use Rattle.package_files.specs.make_info.Reads.{Reads}
 use Rattle.package_files.proofs.ReadLemmas.{explained}
 use Rattle.package_files.specs.Runs.{Explains}
 use Rattle.report_core.specs.declared.refusal.Refusal as Refusals

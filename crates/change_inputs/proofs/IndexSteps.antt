@@ -9,7 +9,7 @@ use Rattle.std.specs.Option.{option_map}
 use Rattle.std.specs.Result.{IsErrAnd}
 use Rattle.std.specs.declared.alloc.Global.{Global}
 use Rattle.std.proofs.lemmas.Bool.{and_parts}
-use Rattle.adb_schema.specs.Soundness.{first_fault}
+use Rattle.db_core.specs.adb_schema.Soundness.{first_fault}
 use Rattle.adb_view.specs.declared.tables.Which.TheVariants.{Index}
 use Rattle.adb_view.specs.Plain.{Plain}
 use Rattle.base_core.specs.Tree.{TreeState, files_of}
@@ -18,7 +18,7 @@ use Rattle.dep_core.specs.Repositories.{Repository}
 use Rattle.report_core.specs.declared.refusal.Refusal as Refusals
 use Rattle.report_core.specs.declared.refusal.Refusal.TheVariants.{IndexBad}
 use Rattle.change_inputs.proofs.Handed.{failure_agrees, handed_on_disk}
-use Rattle.adb_schema.proofs.SoundPayload.{none_of}
+use Rattle.db_core.proofs.adb_schema.SoundPayload.{none_of}
 use Rattle.change_inputs.specs.Answers.{Agrees, AgreesUnlessDisk, IsFailure, AreInTreeAt, IsInTreeAt}
 use Rattle.change_inputs.specs.Chains.{and_then, unless_cause}
 use Rattle.change_inputs.specs.IndexFiles.{are_indexes, bytes_of_each, index_of_file, is_index}

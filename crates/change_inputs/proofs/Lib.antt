@@ -1,3 +1,8 @@
+-- passed on: a crate above that names this one need not name these
+pub use Rattle.package_files.proofs as package_files
+pub use Rattle.package_files.proofs.adb_sound as adb_sound
+pub use Rattle.pool_core.proofs.candidate_core as candidate_core
+pub use Rattle.v2_core.proofs as v2_core
 pub mod Handed
 pub mod Texts
 pub mod WorldSteps

@@ -6,21 +6,21 @@ use Rattle.std.proofs.Math.ListN.{drop_of_length-le}
 use Rattle.std.proofs.lemmas.Bool.{lt-ltb, le-ltb}
 use Rattle.std.specs.List.{list_any, slice_get}
 use Rattle.std.specs.Option.{option_map}
-use Rattle.adb_fields.specs.Repeated.{list_of}
-use Rattle.adb_fields.proofs.NameLists.{count-listed}
+use Rattle.db_core.specs.adb_fields.Repeated.{list_of}
+use Rattle.db_core.proofs.adb_fields.NameLists.{count-listed}
 use Rattle.adb_view.specs.Values.{count_of, entries_in, entry_in, nth}
 use Rattle.adb_view.specs.Plain.{Plain, Plains, none, more}
 use Rattle.command_core.proofs.Entries.{left_at}
 use Rattle.db_core.proofs.Places.{nth_listed}
 use Rattle.dep_core.specs.Repositories.{Repository}
-use Rattle.candidate_core.proofs.Installed.{counted_once, stands_last}
-use Rattle.candidate_core.specs.Candidates.{Candidate, candidate_of, candidates_of_index, is_same_package, with_installed}
-use Rattle.candidate_core.specs.Rank.{SealedPool, UpgradedNames, sealed_pool_by}
-use Rattle.candidate_core.specs.Values.{IsPoolFault}
-use Rattle.candidate_core.specs.declared.candidate_list.PoolFault.{PoolFault}
-use Rattle.candidate_core.specs.declared.candidate_list.PoolFault.TheVariants as Pools
-use Rattle.candidate_core.specs.declared.candidate_list.TheConstants.{MOST_CANDIDATES}
-use Rattle.candidate_core.proofs.Steps.{fault_more}
+use Rattle.pool_core.proofs.candidate_core.Installed.{counted_once, stands_last}
+use Rattle.pool_core.specs.candidate_core.Candidates.{Candidate, candidate_of, candidates_of_index, is_same_package, with_installed}
+use Rattle.pool_core.specs.candidate_core.Rank.{SealedPool, UpgradedNames, sealed_pool_by}
+use Rattle.pool_core.specs.candidate_core.Values.{IsPoolFault}
+use Rattle.pool_core.specs.candidate_core.declared.candidate_list.PoolFault.{PoolFault}
+use Rattle.pool_core.specs.candidate_core.declared.candidate_list.PoolFault.TheVariants as Pools
+use Rattle.pool_core.specs.candidate_core.declared.candidate_list.TheConstants.{MOST_CANDIDATES}
+use Rattle.pool_core.proofs.candidate_core.Steps.{fault_more}
 use Rattle.report_core.specs.declared.refusal.Refusal.TheVariants.{TooMany}
 use Rattle.change_inputs.specs.Candidates.{candidates_from, candidates_of, installed_candidate, root_pool, with_all_installed}
 use Rattle.change_inputs.specs.Inputs.{Inputs}

@@ -1,7 +1,7 @@
 -- The payload that a text database says passes the tests of a database.
 use Rattle.std.proofs.Common.{◌≡◌, ℕ, List, Option, Some, None, Result, Ok, Err, refl, subst}
 use Rattle.base_core.specs.declared.cause.Cause.{Cause}
-use Rattle.adb_schema.specs.Soundness.{payload_fault}
+use Rattle.db_core.specs.adb_schema.Soundness.{payload_fault}
 use Rattle.adb_view.specs.declared.tables.Which.TheVariants.{Idb}
 use Rattle.v2_core.specs.Payload.{payload_of_text, payload_if_sound, unless_bad, written_payload}
 use Rattle.v2_core.specs.Reading.{records_of}

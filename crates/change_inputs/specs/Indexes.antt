@@ -2,7 +2,7 @@
 -- "`add` and `del`" (what is read and refused) and "Error lines"; the tests in `docs/formats.md`,
 -- "Tests of a container".
 use Rattle.std.specs.Prelude.{ℕ, ◌+◌, List, [], ◌∷◌, Option, Some, None, Result, Ok, Err}
-use Rattle.adb_schema.specs.Soundness.{first_fault, payload_in, root_value}
+use Rattle.db_core.specs.adb_schema.Soundness.{first_fault, payload_in, root_value}
 use Rattle.adb_view.specs.declared.tables.Which.TheVariants.{Index}
 use Rattle.adb_view.specs.Plain.{Plain}
 use Rattle.report_core.specs.declared.refusal.Refusal.{Refusal}

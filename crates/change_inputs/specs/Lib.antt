@@ -1,3 +1,11 @@
+-- passed on: a crate above that names this one need not name these
+pub use Rattle.db_core.specs as db_core
+pub use Rattle.package_files.specs as package_files
+pub use Rattle.package_files.specs.adb_sound as adb_sound
+pub use Rattle.package_files.specs.make_info as make_info
+pub use Rattle.pool_core.specs.candidate_core as candidate_core
+pub use Rattle.v2_core.specs as v2_core
+pub use Rattle.v2_core.specs.v2_lines as v2_lines
 -- what the contract of `apk` says
 pub mod Chains
 pub mod Database

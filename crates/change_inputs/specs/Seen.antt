@@ -1,7 +1,7 @@
 -- What the values of the program denote. It serves the contracts of `Loaded` and `Installed`.
 use Rattle.std.specs.Prelude.{true, false, List, [], Some, None, map}
-use Rattle.adb_fields.specs.Repeated.{entries_at}
-use Rattle.adb_schema.specs.Soundness.{payload_in, root_value}
+use Rattle.db_core.specs.adb_fields.Repeated.{entries_at}
+use Rattle.db_core.specs.adb_schema.Soundness.{payload_in, root_value}
 use Rattle.adb_view.specs.FieldIndexes.{IDB_PACKAGES}
 use Rattle.adb_view.specs.declared.tables.Which.TheVariants.{Idb}
 use Rattle.adb_view.specs.Plain.{Plain}

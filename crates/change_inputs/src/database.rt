@@ -1,10 +1,10 @@
 //! The database of a root: its file, or a text database that is converted. The rules are in
 //! `docs/commands.md`, "`add` and `del`" (what is read) and "A root of version 2"; the tests in
 //! `docs/formats.md`, "Tests of a container".
-ghost use Rattle.adb_fields.specs.ListValue.{list_value};
-ghost use Rattle.adb_fields.specs.Repeated.{list_of};
-ghost use Rattle.adb_schema.specs.Soundness.{first_fault, payload_fault, payload_in, root_value};
-ghost use Rattle.adb_schema.specs.Views.{idb_value};
+ghost use Rattle.db_core.specs.adb_fields.ListValue.{list_value};
+ghost use Rattle.db_core.specs.adb_fields.Repeated.{list_of};
+ghost use Rattle.db_core.specs.adb_schema.Soundness.{first_fault, payload_fault, payload_in, root_value};
+ghost use Rattle.db_core.specs.adb_schema.Views.{idb_value};
 ghost use Rattle.adb_view.specs.Values.{entries_in};
 ghost use Rattle.adb_view.specs.declared.tables.Which.TheVariants as Tables;
 ghost use Rattle.base_core.specs.Read.{bytes_in};
@@ -12,15 +12,14 @@ ghost use Rattle.change_inputs.specs.Answers.{Agrees};
 ghost use Rattle.change_inputs.specs.Candidates.{with_all_installed};
 ghost use Rattle.change_inputs.specs.Database.{container_database, new_database, root_database, text_database};
 ghost use Rattle.db_core.specs.Seen.{packages_of};
-ghost use Rattle.candidate_core.specs.Values.{IsPoolFault};
-ghost use Rattle.candidate_core.specs.declared.candidate_list.TheConstants.{MOST_CANDIDATES};
+ghost use Rattle.pool_core.specs.candidate_core.Values.{IsPoolFault};
+ghost use Rattle.pool_core.specs.candidate_core.declared.candidate_list.TheConstants.{MOST_CANDIDATES};
 ghost use Rattle.std.specs.Option.{option_copied};
 ghost use Rattle.std.specs.Prelude.{◌≡◌, ◌≤◌, true, None, Ok, is_none, IfErr, IfOk, OnOk, length};
 ghost use Rattle.v2_core.specs.Payload.{IsV2Fault, payload_of_text};
 
 use crate::root::{Refused, payload_in, test_file};
-use adb_schema::{IdbView, List, PackageView, ReadFault, Which};
-use db_core::{Db, open_idb};
+use db_core::{Db, IdbView, List, PackageView, ReadFault, Which, open_idb};
 use pool_core::{Pool, PoolFault};
 use report_core::Refusal;
 use std::alloc::{AllocError, Global};

@@ -2,9 +2,9 @@
 //! tested. The rules are in `docs/commands.md`, "`add` and `del`" (what is read and refused), and
 //! in `docs/formats.md`, "Repositories".
 
-ghost use Rattle.adb_schema.specs.Texts.{text_fault};
-ghost use Rattle.adb_schema.specs.Soundness.{root_value};
-ghost use Rattle.adb_schema.specs.Views.{index_value};
+ghost use Rattle.db_core.specs.adb_schema.Texts.{text_fault};
+ghost use Rattle.db_core.specs.adb_schema.Soundness.{root_value};
+ghost use Rattle.db_core.specs.adb_schema.Views.{index_value};
 ghost use Rattle.adb_view.specs.Values.{is_sound};
 ghost use Rattle.adb_view.specs.declared.tables.Kind.TheVariants as Kinds;
 ghost use Rattle.adb_view.specs.declared.tables.Which.TheVariants as Tables;
@@ -19,9 +19,9 @@ ghost use Rattle.change_inputs.specs.World.{text_found};
 
 use crate::root::{Refused, payload_in, read_file, test_file};
 use crate::world::text_found;
-use adb_schema::{IndexView, ReadFault, Which};
 use adb_view::{Adb, values_of_few_visits_have_no_fault};
 use base_core::{Name, Tree};
+use db_core::{IndexView, ReadFault, Which};
 use dep_core::{Repos, ReposFault};
 use report_core::Refusal;
 use std::alloc::{AllocError, Global};

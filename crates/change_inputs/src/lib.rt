@@ -17,5 +17,6 @@ mod world;
 
 pub use installed::Installed;
 pub use loaded::Loaded;
+pub use pool_core::{Candidate, Sealed, Upgrade, options_are_the_best_first};
 pub use root::{Refused, inputs_depend_on_their_own_reads};
 pub use world::operand_texts;

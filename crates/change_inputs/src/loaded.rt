@@ -8,8 +8,8 @@ ghost use Rattle.change_inputs.specs.Inputs.{inputs_of};
 ghost use Rattle.change_inputs.specs.RootFiles.{AreInTreeAsRoot};
 ghost use Rattle.db_core.specs.Seen.{packages_of};
 ghost use Rattle.package_files.specs.Runs.{Explains};
-ghost use Rattle.candidate_core.specs.declared.candidate_list.TheConstants.{MOST_CANDIDATES};
-ghost use Rattle.candidate_core.specs.Values.{IsPoolFault, names_upgraded_by};
+ghost use Rattle.pool_core.specs.candidate_core.declared.candidate_list.TheConstants.{MOST_CANDIDATES};
+ghost use Rattle.pool_core.specs.candidate_core.Values.{IsPoolFault, names_upgraded_by};
 ghost use Rattle.std.specs.Option.{option_copied};
 ghost use Rattle.std.specs.Prelude.{◌≡◌, ◌≤◌, [], IfErr, IfOk, OnOk, length};
 

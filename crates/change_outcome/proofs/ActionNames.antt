@@ -4,22 +4,22 @@ use Rattle.std.specs.Prelude.{not}
 use Rattle.std.specs.Str.{bytes_eq}
 use Rattle.std.proofs.lemmas.Bool.{false_from_ne_true}
 use Rattle.std.proofs.lemmas.Slice.Eq.{bytes_eq-Decides}
-use Rattle.adb_schema.specs.Reserved.{is_intent_or_stage_name, is_reserved}
+use Rattle.db_write.specs.adb_schema.Reserved.{is_intent_or_stage_name, is_reserved}
 use Rattle.base_core.specs.Files.{Files}
 use Rattle.base_core.proofs.Rising.{IsIn, contains_from_in, in_from_contains}
 use Rattle.base_core.proofs.Listed.{in_both}
-use Rattle.change_files.specs.FileChange.{FileChange}
-use Rattle.change_files.specs.FilesAfter.{Records, database_name, is_removed, is_written, text_database_name, world_name, written_as}
-use Rattle.change_files.specs.PlanLists.{removals_of, file_writes_of}
-use Rattle.change_files.proofs.InOrder.{from_order, in_left, in_order, in_right, order_rises}
-use Rattle.change_files.proofs.LeftOver.{removed_unreserved}
-use Rattle.change_files.proofs.Lists.{any_name}
-use Rattle.change_files.proofs.PlanNames.{removals_hold, written_or_removed, writes_hold, some_listing}
-use Rattle.change_files.proofs.Reserved.{written_unreserved}
+use Rattle.package_changes.specs.change_files.FileChange.{FileChange}
+use Rattle.package_changes.specs.change_files.FilesAfter.{Records, database_name, is_removed, is_written, text_database_name, world_name, written_as}
+use Rattle.package_changes.specs.change_files.PlanLists.{removals_of, file_writes_of}
+use Rattle.package_changes.proofs.change_files.InOrder.{from_order, in_left, in_order, in_right, order_rises}
+use Rattle.package_changes.proofs.change_files.LeftOver.{removed_unreserved}
+use Rattle.package_changes.proofs.change_files.Lists.{any_name}
+use Rattle.package_changes.proofs.change_files.PlanNames.{removals_hold, written_or_removed, writes_hold, some_listing}
+use Rattle.package_changes.proofs.change_files.Reserved.{written_unreserved}
 use Rattle.change_inputs.specs.Inputs.{Inputs}
 use Rattle.change_outcome.specs.ChangeOutcome.{Actions, actions_of, is_other_file, name_if_needed, written_records}
-use Rattle.journal_intent.specs.FreeNames.{HasFreeNames, IsNoneOf, IsOneOf}
-use Rattle.journal_intent.specs.IntentValue.{intent_of_lists}
+use Rattle.journal_core.specs.journal_intent.FreeNames.{HasFreeNames, IsNoneOf, IsOneOf}
+use Rattle.journal_core.specs.journal_intent.IntentValue.{intent_of_lists}
 use Rattle.change_outcome.specs.Premises.{HasNoReservedPath}
 use Rattle.change_outcome.proofs.FreeNames.{free_outside, frees, name_of_any, none_of, once_rising, outside_unreserved}
 

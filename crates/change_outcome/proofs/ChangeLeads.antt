@@ -5,24 +5,24 @@ use Rattle.std.specs.Str.{bytes_eq}
 use Rattle.std.specs.List.{list_any}
 use Rattle.std.proofs.lemmas.Bool.{eqb-true, and_parts, or_from, or_parts, false_from_ne_true, not-false}
 use Rattle.std.proofs.lemmas.Slice.Eq.{bytes_eq-Decides}
-use Rattle.adb_schema.specs.Reserved.{is_reserved}
+use Rattle.db_write.specs.adb_schema.Reserved.{is_reserved}
 use Rattle.base_core.specs.Files.{Files}
 use Rattle.base_core.proofs.Rising.{IsIn}
 use Rattle.base_core.proofs.Listed.{in_both}
 use Rattle.base_core.proofs.AtName.{name_cases}
-use Rattle.change_files.specs.FileChange.{FileChange}
-use Rattle.change_files.specs.FilesAfter.{Records, bytes_after, changed_files, database_name, is_removed, is_written, text_database_name, world_bytes_after, world_name, written_as}
-use Rattle.change_files.specs.Touched.{is_record_name}
-use Rattle.change_files.proofs.InOrder.{in_left, in_right}
-use Rattle.change_files.proofs.RecordNames.{database_after, no_text_after, world_after}
-use Rattle.change_files.proofs.Reserved.{records_reserved}
-use Rattle.change_files.proofs.Untouched.{changed_so, is_gone, takes_its_path, not_some}
+use Rattle.package_changes.specs.change_files.FileChange.{FileChange}
+use Rattle.package_changes.specs.change_files.FilesAfter.{Records, bytes_after, changed_files, database_name, is_removed, is_written, text_database_name, world_bytes_after, world_name, written_as}
+use Rattle.package_changes.specs.change_files.Touched.{is_record_name}
+use Rattle.package_changes.proofs.change_files.InOrder.{in_left, in_right}
+use Rattle.package_changes.proofs.change_files.RecordNames.{database_after, no_text_after, world_after}
+use Rattle.package_changes.proofs.change_files.Reserved.{records_reserved}
+use Rattle.package_changes.proofs.change_files.Untouched.{changed_so, is_gone, takes_its_path, not_some}
 use Rattle.change_inputs.specs.Inputs.{Inputs}
 use Rattle.change_inputs.specs.World.{text_found}
 use Rattle.change_outcome.specs.ChangeOutcome.{Actions, actions_of, does_something, is_other_file, name_if_needed, new_records, written_records}
-use Rattle.db_core.specs.Members.{Listing}
+use Rattle.db_write.specs.db_core.Members.{Listing}
 use Rattle.journal_core.specs.Staged.{IsEmptyStage}
-use Rattle.journal_intent.specs.FreeNames.{IsNoneOf, IsOneOf}
+use Rattle.journal_core.specs.journal_intent.FreeNames.{IsNoneOf, IsOneOf}
 use Rattle.change_outcome.specs.Leading.{LeadsTo}
 use Rattle.change_outcome.specs.Premises.{HasNoReservedPath, IsRootOfFiles}
 use Rattle.change_outcome.proofs.ActionNames.{free_names, from_removals, from_writes, if_needed, needed, none_removed, none_written, removed_free, written_free}

@@ -2,20 +2,20 @@
 use Rattle.std.proofs.Common.{◌≡◌, inl, inr, ◌&&◌, ◌<◌, ℕ, zero, suc, Bool, true, false, List, [], ◌∷◌, ◌++◌, length, get_or, All, AllPairs, refl, sym, subst, arith, true≢false, Less}
 use Rattle.std.specs.Prelude.{not}
 use Rattle.std.specs.Str.{bytes_eq}
-use Rattle.adb_schema.specs.Reserved.{is_intent_or_stage_name}
-use Rattle.adb_schema.specs.Rules.{is_change_name}
+use Rattle.db_write.specs.adb_schema.Reserved.{is_intent_or_stage_name}
+use Rattle.db_write.specs.adb_schema.Rules.{is_change_name}
 use Rattle.base_core.specs.Files.{Files}
 use Rattle.base_core.specs.Name.{IsName, is_name}
 use Rattle.base_core.proofs.Rising.{IsIn, Rises, in_at, order, not_itself}
 use Rattle.base_core.proofs.AtName.{other_name}
 use Rattle.base_core.proofs.Listed.{in_both}
-use Rattle.change_files.specs.FileChange.{FileChange}
-use Rattle.change_files.specs.FilesAfter.{Records}
-use Rattle.change_files.proofs.InOrder.{order_rises}
-use Rattle.change_files.proofs.Lists.{any_name}
+use Rattle.package_changes.specs.change_files.FileChange.{FileChange}
+use Rattle.package_changes.specs.change_files.FilesAfter.{Records}
+use Rattle.package_changes.proofs.change_files.InOrder.{order_rises}
+use Rattle.package_changes.proofs.change_files.Lists.{any_name}
 use Rattle.change_inputs.specs.Inputs.{Inputs}
 use Rattle.change_outcome.specs.ChangeOutcome.{Actions, actions_of}
-use Rattle.journal_intent.specs.Intent.{AreChangeNames}
+use Rattle.journal_core.specs.journal_intent.Intent.{AreChangeNames}
 use Rattle.change_outcome.specs.Premises.{HasNoReservedPath}
 use Rattle.change_outcome.proofs.ActionNames.{never_both, removal_outside, write_outside}
 

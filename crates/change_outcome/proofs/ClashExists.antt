@@ -6,17 +6,17 @@ use Rattle.std.specs.List.{list_any}
 use Rattle.std.proofs.lemmas.Bool.{and_parts, eq-eqb, eqb-true, or_cases}
 use Rattle.base_core.specs.Files.{Files, IsFolderOf, HasNamesAmong}
 use Rattle.base_core.proofs.Rising.{IsIn}
-use Rattle.change_files.specs.Fate.{aside_name}
-use Rattle.change_files.specs.FileChange.{FileChange}
-use Rattle.change_files.specs.FilesAfter.{database_name, aside_claim_at, path_beside, world_name}
-use Rattle.change_files.specs.NamesAfter.{added_paths, counts_as_written, name_change}
-use Rattle.change_files.proofs.InOrder.{in_left, in_map, in_right}
-use Rattle.change_files.proofs.Owned.{aside_found, beside_is, in_coming_paths}
-use Rattle.db_core.specs.Members.{Listing}
-use Rattle.path_clashes.specs.Clash.{IsClash, NameChange, NamePair, is_name_after, precedes_pair}
-use Rattle.path_clashes.specs.FirstClash.{IsClashOf}
-use Rattle.path_clashes.specs.NearName.{IsClashIfSome, IsNoEarlierClash}
-use Rattle.path_clashes.proofs.PairOrder.{pairs_chain, pairs_one_way}
+use Rattle.package_changes.specs.change_files.Fate.{aside_name}
+use Rattle.package_changes.specs.change_files.FileChange.{FileChange}
+use Rattle.package_changes.specs.change_files.FilesAfter.{database_name, aside_claim_at, path_beside, world_name}
+use Rattle.package_changes.specs.change_files.NamesAfter.{added_paths, counts_as_written, name_change}
+use Rattle.package_changes.proofs.change_files.InOrder.{in_left, in_map, in_right}
+use Rattle.package_changes.proofs.change_files.Owned.{aside_found, beside_is, in_coming_paths}
+use Rattle.db_write.specs.db_core.Members.{Listing}
+use Rattle.package_changes.specs.path_clashes.Clash.{IsClash, NameChange, NamePair, is_name_after, precedes_pair}
+use Rattle.package_changes.specs.path_clashes.FirstClash.{IsClashOf}
+use Rattle.package_changes.specs.path_clashes.NearName.{IsClashIfSome, IsNoEarlierClash}
+use Rattle.package_changes.proofs.path_clashes.PairOrder.{pairs_chain, pairs_one_way}
 use Rattle.change_outcome.proofs.FreeNames.{name_of_any}
 
 true_false : true ≡ false → ⊥

@@ -7,9 +7,9 @@ use Rattle.base_core.proofs.AtName.{name_cases, off_name}
 use Rattle.journal_core.specs.Recovery.{after_actions, after_moves, is_staged, move_if, stage_name, without_names}
 use Rattle.journal_core.specs.Staged.{with_staged}
 use Rattle.journal_core.proofs.Acts.{dropped_none}
-use Rattle.journal_intent.proofs.AtName.{drop_name-at, put_name-off}
-use Rattle.journal_intent.specs.FreeNames.{AreFreeNames, HasFreeNames, IsFreeName}
-use Rattle.journal_intent.specs.IntentValue.{intent_of_lists}
+use Rattle.journal_core.proofs.journal_intent.AtName.{drop_name-at, put_name-off}
+use Rattle.journal_core.specs.journal_intent.FreeNames.{AreFreeNames, HasFreeNames, IsFreeName}
+use Rattle.journal_core.specs.journal_intent.IntentValue.{intent_of_lists}
 
 true_false : true ≡ false → ⊥
 true_false e = cc

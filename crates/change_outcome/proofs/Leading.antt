@@ -8,10 +8,10 @@ use Rattle.journal_core.specs.Recovery.{after_actions, is_staged, stage_name}
 use Rattle.journal_core.specs.Staged.{with_staged}
 use Rattle.journal_core.proofs.Contents.{own_bytes, removed_absent, untouched_others}
 use Rattle.journal_core.proofs.Acts.{among_index}
-use Rattle.journal_intent.proofs.AtName.{put_name-off}
-use Rattle.journal_intent.proofs.StageNames.{stage_name_staged}
-use Rattle.journal_intent.specs.FreeNames.{IsNoneOf, IsOneOf}
-use Rattle.journal_intent.specs.IntentValue.{intent_of_lists}
+use Rattle.journal_core.proofs.journal_intent.AtName.{put_name-off}
+use Rattle.journal_core.proofs.journal_intent.StageNames.{stage_name_staged}
+use Rattle.journal_core.specs.journal_intent.FreeNames.{IsNoneOf, IsOneOf}
+use Rattle.journal_core.specs.journal_intent.IntentValue.{intent_of_lists}
 use Rattle.change_outcome.specs.ChangeOutcome.{bytes_under}
 use Rattle.change_outcome.specs.Leading.{LeadsTo}
 use Rattle.change_outcome.proofs.Emptied.{acted_empty}

@@ -1,27 +1,27 @@
 -- What is known of a change that nothing refuses.
 use Rattle.std.proofs.Common.{◌≡◌, ◌∙◌, ℕ, false, List, Option, Some, None, Result, Ok, Err, refl, sym, ap, subst}
-use Rattle.adb_write.specs.Canonical.{PayloadCounts, overflow_of}
+use Rattle.db_write.specs.adb_write.Canonical.{PayloadCounts, overflow_of}
 use Rattle.base_core.specs.Files.{Files, HasNamesAmong}
-use Rattle.change_files.specs.FileChange.{FileChange}
-use Rattle.change_files.specs.NamesAfter.{name_change}
-use Rattle.change_files.specs.PlanLists.{first_reserved}
+use Rattle.package_changes.specs.change_files.FileChange.{FileChange}
+use Rattle.package_changes.specs.change_files.NamesAfter.{name_change}
+use Rattle.package_changes.specs.change_files.PlanLists.{first_reserved}
 use Rattle.change_inputs.specs.Chains.{and_then}
 use Rattle.change_inputs.specs.Inputs.{Inputs}
 use Rattle.change_outcome.specs.ChangeOutcome.{ChangeDone, ChangeWishes, IsClashFound, IsClashOfChange, actions_of, change_done, change_members, change_or_refusal, change_with_members, file_change, new_records, touched_paths, unless_clash, unless_contested, unless_large, unless_overflow, unless_reserved_path, unless_too_large}
 use Rattle.change_outcome.specs.MembersAfter.{MemberFound}
 use Rattle.change_outcome.specs.Triggers.{unless_trigger}
-use Rattle.db_core.specs.Members.{Member}
+use Rattle.db_write.specs.db_core.Members.{Member}
 use Rattle.db_write.specs.NewDatabase.{database_of}
-use Rattle.file_owners.specs.Owners.{contested_of, owned_of}
+use Rattle.package_changes.specs.file_owners.Owners.{contested_of, owned_of}
 use Rattle.journal_core.specs.Staged.{AreStagingPathsFree}
-use Rattle.journal_intent.specs.Intent.{intent_name}
-use Rattle.journal_intent.specs.IntentValue.{intent_of_lists, value_of_intent}
-use Rattle.make_info.specs.Reads.{Reads}
+use Rattle.journal_core.specs.journal_intent.Intent.{intent_name}
+use Rattle.journal_core.specs.journal_intent.IntentValue.{intent_of_lists, value_of_intent}
+use Rattle.change_inputs.specs.make_info.Reads.{Reads}
 use Rattle.package_changes.specs.Changes.{Replacement}
-use Rattle.path_claims.specs.Claims.{ContestedPath}
-use Rattle.path_clashes.specs.Clash.{HasNoClash, NamePair}
-use Rattle.path_clashes.specs.FirstClash.{IsClashOf}
-use Rattle.path_clashes.proofs.OneFirst.{one_first}
+use Rattle.package_changes.specs.path_claims.Claims.{ContestedPath}
+use Rattle.package_changes.specs.path_clashes.Clash.{HasNoClash, NamePair}
+use Rattle.package_changes.specs.path_clashes.FirstClash.{IsClashOf}
+use Rattle.package_changes.proofs.path_clashes.OneFirst.{one_first}
 use Rattle.report_core.specs.declared.refusal.Refusal.{Refusal}
 use Rattle.change_outcome.specs.Made.{IsChangeMade}
 use Rattle.change_outcome.specs.Premises.{IsRootOfFiles}

@@ -1,6 +1,6 @@
 -- What is read of a root is what stands there.
 use Rattle.std.proofs.Common.{◌≡◌, ◌∙◌, ℕ, Bool, true, false, List, Option, Some, None, Result, Ok, Err, refl, sym, ap}
-use Rattle.adb_schema.specs.Soundness.{first_fault}
+use Rattle.db_write.specs.adb_schema.Soundness.{first_fault}
 use Rattle.adb_view.specs.declared.tables.Which.TheVariants.{Idb}
 use Rattle.base_core.specs.Files.{Files}
 use Rattle.base_core.specs.declared.cause.Cause.{Cause}
@@ -12,13 +12,13 @@ use Rattle.change_inputs.specs.World.{root_world, text_found}
 use Rattle.command_core.specs.Command.{CommandLine}
 use Rattle.dep_core.specs.Dependency.{Dependency}
 use Rattle.dep_core.specs.Repositories.{Repository}
-use Rattle.make_info.specs.Reads.{Reads}
+use Rattle.change_inputs.specs.make_info.Reads.{Reads}
 use Rattle.report_core.specs.declared.refusal.Refusal.{Refusal}
 use Rattle.report_core.specs.declared.refusal.Refusal.TheVariants.{DatabaseBad}
 use Rattle.root_names.specs.RootNames.{database_name, repositories_name, text_database_name, world_name}
-use Rattle.v2_core.specs.Payload.{payload_of_text}
-use Rattle.v2_core.specs.declared.read.V2Fault.{V2Fault}
-use Rattle.v2_core.specs.declared.read.V2Fault.TheVariants.{Bad, Memory, TooLarge}
+use Rattle.change_inputs.specs.v2_core.Payload.{payload_of_text}
+use Rattle.change_inputs.specs.v2_core.declared.read.V2Fault.{V2Fault}
+use Rattle.change_inputs.specs.v2_core.declared.read.V2Fault.TheVariants.{Bad, Memory, TooLarge}
 use Rattle.change_outcome.specs.Premises.{IsRootOfFiles}
 use Rattle.change_outcome.proofs.Made.{and_then_ok}
 

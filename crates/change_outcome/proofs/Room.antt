@@ -6,24 +6,24 @@ use Rattle.std.specs.List.{list_any}
 use Rattle.std.specs.Fmt.{decimal}
 use Rattle.std.proofs.lemmas.Bool.{and_parts, or_cases, or_left, or_right, false_from_ne_true}
 use Rattle.std.proofs.lemmas.Slice.Eq.{bytes_eq-Decides}
-use Rattle.adb_schema.specs.Reserved.{is_at_or_below, is_reserved}
+use Rattle.db_write.specs.adb_schema.Reserved.{is_at_or_below, is_reserved}
 use Rattle.base_core.specs.Files.{Files, IsFolderOf}
 use Rattle.base_core.proofs.Rising.{IsIn}
-use Rattle.change_files.specs.FileChange.{FileChange}
-use Rattle.change_files.specs.FilesAfter.{Records, bytes_after, changed_files, database_name, is_removed, aside_claim_at, path_beside, text_database_name, world_name, written_as, written_in}
+use Rattle.package_changes.specs.change_files.FileChange.{FileChange}
+use Rattle.package_changes.specs.change_files.FilesAfter.{Records, bytes_after, changed_files, database_name, is_removed, aside_claim_at, path_beside, text_database_name, world_name, written_as, written_in}
 use Rattle.std.specs.Option.{option_or}
-use Rattle.change_files.specs.NamesAfter.{added_paths, counts_as_written, name_change}
-use Rattle.change_files.specs.PlanLists.{first_reserved}
-use Rattle.change_files.specs.Touched.{is_record_name}
-use Rattle.change_files.proofs.AfterNames.{names_after}
-use Rattle.change_files.proofs.Reserved.{unreserved_path, written_unreserved}
-use Rattle.change_files.proofs.Untouched.{changed_so}
-use Rattle.db_core.specs.Members.{Listing}
+use Rattle.package_changes.specs.change_files.NamesAfter.{added_paths, counts_as_written, name_change}
+use Rattle.package_changes.specs.change_files.PlanLists.{first_reserved}
+use Rattle.package_changes.specs.change_files.Touched.{is_record_name}
+use Rattle.package_changes.proofs.change_files.AfterNames.{names_after}
+use Rattle.package_changes.proofs.change_files.Reserved.{unreserved_path, written_unreserved}
+use Rattle.package_changes.proofs.change_files.Untouched.{changed_so}
+use Rattle.db_write.specs.db_core.Members.{Listing}
 use Rattle.journal_core.specs.Staged.{AreJournalPathsFree, AreStagingPathsFree, IsEmptyStage, MayBePresent}
-use Rattle.journal_intent.specs.FreeNames.{IsUsedByJournal}
-use Rattle.journal_intent.specs.Intent.{intent_name, is_staged, stage_name}
-use Rattle.path_clashes.specs.Clash.{HasNoClash, is_name_after}
-use Rattle.path_clashes.proofs.FolderLike.{folder_like}
+use Rattle.journal_core.specs.journal_intent.FreeNames.{IsUsedByJournal}
+use Rattle.journal_core.specs.journal_intent.Intent.{intent_name, is_staged, stage_name}
+use Rattle.package_changes.specs.path_clashes.Clash.{HasNoClash, is_name_after}
+use Rattle.package_changes.proofs.path_clashes.FolderLike.{folder_like}
 use Rattle.change_outcome.proofs.FreeNames.{name_of_any}
 
 -- ---- folders of names that a stage takes

@@ -1,11 +1,11 @@
 -- Rows worked by hand: where a package's file lies, and which folders a pattern matches.
 use Rattle.std.proofs.Common.{◌≡◌, refl, true, false, ℕ, List, [], ◌∷◌, codes}
 use Rattle.adb_view.specs.Plain.{Plains, arr, blob, blob_or_null, more, none, null, obj}
-use Rattle.change_files.specs.PlanLists.{names_in_order}
-use Rattle.db_core.specs.Members.{Member, member_of_kept}
+use Rattle.package_changes.specs.change_files.PlanLists.{names_in_order}
+use Rattle.db_write.specs.db_core.Members.{Member, member_of_kept}
 use Rattle.change_outcome.specs.ConfigurationLines.{configuration_lines}
 use Rattle.change_outcome.specs.PackageFiles.{package_path}
-use Rattle.package_files.specs.Folders.{folder_of}
+use Rattle.change_inputs.specs.package_files.Folders.{folder_of}
 use Rattle.change_outcome.specs.Triggers.{is_folder_matched, trigger_lines}
 
 beside_the_index : package_path (codes "repo/index.adb") (codes "hello") (codes "1.0-r0") ≡ codes "repo/hello-1.0-r0.apk"

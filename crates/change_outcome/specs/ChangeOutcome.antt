@@ -4,25 +4,25 @@ use Rattle.std.specs.Prelude.{◌≡◌, ℕ, ◌==◌, Bool, true, false, not, 
 use Rattle.std.specs.Option.{option_map_or}
 use Rattle.adb_view.specs.FieldIndexes.{INFO_INSTALLED_SIZE, PACKAGE_INFO}
 use Rattle.adb_view.specs.Values.{entry_in, int_in}
-use Rattle.adb_write.specs.Canonical.{PayloadCounts, overflow_of}
+use Rattle.db_write.specs.adb_write.Canonical.{PayloadCounts, overflow_of}
 use Rattle.base_core.specs.Files.{Files}
-use Rattle.change_files.specs.FileChange.{FileChange}
-use Rattle.change_files.specs.FilesAfter.{Records, changed_files, listing_bytes}
-use Rattle.change_files.specs.NamesAfter.{name_change}
-use Rattle.change_files.specs.PlanLists.{aside_of, file_writes_of, first_reserved, kept_of, names_in_order, removals_of}
+use Rattle.package_changes.specs.change_files.FileChange.{FileChange}
+use Rattle.package_changes.specs.change_files.FilesAfter.{Records, changed_files, listing_bytes}
+use Rattle.package_changes.specs.change_files.NamesAfter.{name_change}
+use Rattle.package_changes.specs.change_files.PlanLists.{aside_of, file_writes_of, first_reserved, kept_of, names_in_order, removals_of}
 use Rattle.change_inputs.specs.Chains.{and_then}
 use Rattle.change_inputs.specs.Inputs.{Inputs}
-use Rattle.db_core.specs.Members.{Member, member_name}
+use Rattle.db_write.specs.db_core.Members.{Member, member_name}
 use Rattle.db_write.specs.NewDatabase.{database_of}
 use Rattle.dep_core.specs.World.{world_text}
-use Rattle.file_owners.specs.Owners.{contested_of, owned_of}
-use Rattle.journal_intent.specs.IntentValue.{intent_of_lists, value_of_intent}
-use Rattle.make_info.specs.Reads.{Reads}
+use Rattle.package_changes.specs.file_owners.Owners.{contested_of, owned_of}
+use Rattle.journal_core.specs.journal_intent.IntentValue.{intent_of_lists, value_of_intent}
+use Rattle.change_inputs.specs.make_info.Reads.{Reads}
 use Rattle.package_changes.specs.Changes.{Replacement, changes_of}
 use Rattle.package_changes.specs.Report.{stay_lines}
-use Rattle.path_claims.specs.Claims.{ContestedPath}
-use Rattle.path_clashes.specs.Clash.{NamePair}
-use Rattle.path_clashes.specs.FirstClash.{IsClashOf}
+use Rattle.package_changes.specs.path_claims.Claims.{ContestedPath}
+use Rattle.package_changes.specs.path_clashes.Clash.{NamePair}
+use Rattle.package_changes.specs.path_clashes.FirstClash.{IsClashOf}
 use Rattle.report_core.specs.Reports.{change_lines, report_line, sum_text}
 use Rattle.report_core.specs.declared.refusal.Refusal.{Refusal}
 use Rattle.report_core.specs.declared.refusal.Refusal.TheVariants.{Owned, PathClash, Reserved, ResultTooLarge}

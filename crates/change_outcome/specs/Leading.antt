@@ -3,8 +3,8 @@
 use Rattle.std.specs.Prelude.{◌≡◌, ℕ, ◌<◌, ◌^◌, List, length, None, IsSome}
 use Rattle.base_core.specs.Files.{Files}
 use Rattle.journal_core.specs.Staged.{IsEmptyStage}
-use Rattle.journal_intent.specs.FreeNames.{HasFreeNames, IsNoneOf, IsOneOf}
-use Rattle.journal_intent.specs.IntentValue.{intent_of_lists}
+use Rattle.journal_core.specs.journal_intent.FreeNames.{HasFreeNames, IsNoneOf, IsOneOf}
+use Rattle.journal_core.specs.journal_intent.IntentValue.{intent_of_lists}
 
 -- a change has fewer writes than this, so that their number and the next one have 64 bits
 abbrev pub write_limit : ℕ

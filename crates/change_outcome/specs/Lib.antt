@@ -1,3 +1,23 @@
+-- passed on: a crate above that names this one need not name these
+pub use Rattle.change_inputs.specs as change_inputs
+pub use Rattle.change_inputs.specs.candidate_core as candidate_core
+pub use Rattle.change_inputs.specs.make_info as make_info
+pub use Rattle.change_inputs.specs.package_files as package_files
+pub use Rattle.change_inputs.specs.v2_core as v2_core
+pub use Rattle.change_inputs.specs.v2_lines as v2_lines
+pub use Rattle.db_write.specs as db_write
+pub use Rattle.db_write.specs.adb_fields as adb_fields
+pub use Rattle.db_write.specs.adb_schema as adb_schema
+pub use Rattle.db_write.specs.adb_sound as adb_sound
+pub use Rattle.db_write.specs.adb_write as adb_write
+pub use Rattle.db_write.specs.db_core as db_core
+pub use Rattle.journal_core.specs as journal_core
+pub use Rattle.journal_core.specs.journal_intent as journal_intent
+pub use Rattle.package_changes.specs as package_changes
+pub use Rattle.package_changes.specs.change_files as change_files
+pub use Rattle.package_changes.specs.file_owners as file_owners
+pub use Rattle.package_changes.specs.search_tables as search_tables
+pub use Rattle.star_patterns.specs as star_patterns
 -- what the contract of `apk` says
 pub mod ChangeOutcome
 pub mod ConfigurationLines

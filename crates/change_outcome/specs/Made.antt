@@ -1,18 +1,18 @@
 -- A change that is not refused. It serves the law `a_change_that_is_made_passes_each_test`; the tests
 -- are defined in `docs/commands.md`, "What a change does with files".
 use Rattle.std.specs.Prelude.{◌≡◌, ℕ, List, Option, None, Ok}
-use Rattle.adb_write.specs.Canonical.{overflow_of}
+use Rattle.db_write.specs.adb_write.Canonical.{overflow_of}
 use Rattle.base_core.specs.Files.{Files}
-use Rattle.change_files.specs.PlanLists.{first_reserved}
+use Rattle.package_changes.specs.change_files.PlanLists.{first_reserved}
 use Rattle.change_inputs.specs.Inputs.{Inputs}
 use Rattle.change_outcome.specs.ChangeOutcome.{ChangeDone, ChangeWishes, actions_of, change_done, change_members, file_change, new_records}
 use Rattle.change_outcome.specs.MembersAfter.{MemberFound, found_members}
 use Rattle.db_write.specs.NewDatabase.{database_of}
-use Rattle.file_owners.specs.Owners.{contested_of, owned_of}
-use Rattle.journal_intent.specs.IntentValue.{intent_of_lists, value_of_intent}
-use Rattle.make_info.specs.Reads.{Reads}
+use Rattle.package_changes.specs.file_owners.Owners.{contested_of, owned_of}
+use Rattle.journal_core.specs.journal_intent.IntentValue.{intent_of_lists, value_of_intent}
+use Rattle.change_inputs.specs.make_info.Reads.{Reads}
 use Rattle.package_changes.specs.Changes.{Replacement}
-use Rattle.path_clashes.specs.Clash.{NamePair}
+use Rattle.package_changes.specs.path_clashes.Clash.{NamePair}
 
 -- the packages after a change are found, it passes each test, and this is its result
 pub record IsChangeMade (inputs : Inputs) (r : Replacement) (wishes : ChangeWishes) (read : Reads)

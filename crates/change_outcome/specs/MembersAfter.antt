@@ -6,13 +6,13 @@ use Rattle.std.specs.List.{cons_option, find}
 use Rattle.adb_view.specs.Plain.{Plain}
 use Rattle.change_inputs.specs.Chains.{and_then}
 use Rattle.change_inputs.specs.Inputs.{first_index_read}
-use Rattle.db_core.specs.Members.{Member, member_of_added, member_of_kept}
-use Rattle.db_core.specs.Packages.{is_package_named}
+use Rattle.db_write.specs.db_core.Members.{Member, member_of_added, member_of_kept}
+use Rattle.db_write.specs.db_core.Packages.{is_package_named}
 use Rattle.dep_core.specs.Repositories.{Repository}
-use Rattle.make_info.specs.Reads.{Reads}
+use Rattle.change_inputs.specs.make_info.Reads.{Reads}
 use Rattle.package_changes.specs.Changes.{Replacement, change_of_name, is_selected_named, names_on_both_sides}
-use Rattle.pkg_core.specs.Contents.{Contents}
-use Rattle.candidate_core.specs.Candidates.{Candidate}
+use Rattle.db_write.specs.pkg_core.Contents.{Contents}
+use Rattle.change_inputs.specs.candidate_core.Candidates.{Candidate}
 use Rattle.report_core.specs.Reports.{Change}
 use Rattle.report_core.specs.declared.refusal.Refusal.{Refusal}
 use Rattle.change_outcome.specs.PackageFiles.{AddedPackage, package_file_of, package_found, scripts_of_change, unless_script}

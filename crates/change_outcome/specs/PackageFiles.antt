@@ -3,21 +3,21 @@
 -- `-s`, and their numbers in `docs/formats.md`, "Schemas", table 6.
 use Rattle.std.specs.Prelude.{ℕ, ◌==◌, ◌-◌, Bool, true, false, not, if◌then◌else◌, List, [], ◌∷◌, ◌++◌, length, codes, Option, Some, None, Result, Ok, Err, bytes_eq, slice_get}
 use Rattle.std.specs.List.{list_any}
-use Rattle.adb_schema.specs.Soundness.{payload_in, root_value}
+use Rattle.db_write.specs.adb_schema.Soundness.{payload_in, root_value}
 use Rattle.adb_view.specs.FieldIndexes.{PACKAGE_SCRIPTS}
 use Rattle.adb_view.specs.Values.{entry_in, text_in}
 use Rattle.adb_view.specs.declared.tables.Which.TheVariants as Tables
 use Rattle.adb_view.specs.Plain.{Plain}
 use Rattle.base_core.specs.Name.{is_name}
 use Rattle.base_core.specs.declared.cause.Cause.{Cause}
-use Rattle.adb_fields.specs.Repeated.{package_name}
+use Rattle.db_write.specs.adb_fields.Repeated.{package_name}
 use Rattle.dep_core.specs.Repositories.{Repository}
-use Rattle.file_owners.specs.Replaces.{version_text}
+use Rattle.package_changes.specs.file_owners.Replaces.{version_text}
 use Rattle.package_changes.specs.Changes.{selected_version}
-use Rattle.package_files.specs.Folders.{is_slash}
-use Rattle.pkg_core.specs.Contents.{Contents, contents_in}
-use Rattle.pkg_core.specs.Whole.{files_in_file, package_fault, package_id}
-use Rattle.candidate_core.specs.Candidates.{Candidate, is_same_id}
+use Rattle.change_inputs.specs.package_files.Folders.{is_slash}
+use Rattle.db_write.specs.pkg_core.Contents.{Contents, contents_in}
+use Rattle.db_write.specs.pkg_core.Whole.{files_in_file, package_fault, package_id}
+use Rattle.change_inputs.specs.candidate_core.Candidates.{Candidate, is_same_id}
 use Rattle.report_core.specs.Numbers.{NAME_FIELD, VERSION_FIELD, HASHES_FIELD, PRE_INSTALL_SCRIPT, POST_INSTALL_SCRIPT, PRE_DEINSTALL_SCRIPT, POST_DEINSTALL_SCRIPT, PRE_UPGRADE_SCRIPT, POST_UPGRADE_SCRIPT}
 use Rattle.report_core.specs.Reports.{Change, Downgrade, Install, Purge, Reinstall, Replace, Upgrade, name_version}
 use Rattle.report_core.specs.declared.refusal.Refusal.{Refusal}

@@ -2,10 +2,10 @@
 -- that a database has no reserved name is a rule of `docs/formats.md`, "Tests of a container", "The
 -- texts", field 401.
 use Rattle.std.specs.Prelude.{◌≡◌, All, false, None}
-use Rattle.adb_schema.specs.Reserved.{is_reserved}
+use Rattle.db_write.specs.adb_schema.Reserved.{is_reserved}
 use Rattle.base_core.specs.Files.{Files}
-use Rattle.change_files.specs.FileChange.{FileChange, old_listings}
-use Rattle.change_files.specs.PlanLists.{first_reserved}
+use Rattle.package_changes.specs.change_files.FileChange.{FileChange, old_listings}
+use Rattle.package_changes.specs.change_files.PlanLists.{first_reserved}
 use Rattle.change_inputs.specs.Inputs.{Root}
 use Rattle.change_inputs.specs.World.{text_found}
 use Rattle.root_names.specs.RootNames.{database_name, world_name}

@@ -3,14 +3,14 @@
 use Rattle.std.specs.Prelude.{ℕ, ◌==◌, Bool, true, false, ◌&&◌, if◌then◌else◌, List, [], ◌∷◌, length, map, codes, Result, Ok, Err, bytes_eq}
 use Rattle.std.specs.List.{filter, flat_map, list_any}
 use Rattle.base_core.specs.Name.{parts_of}
-use Rattle.adb_fields.specs.Repeated.{entries_at, package_name}
+use Rattle.db_write.specs.adb_fields.Repeated.{entries_at, package_name}
 use Rattle.adb_view.specs.FieldIndexes.{PACKAGE_TRIGGERS}
 use Rattle.adb_view.specs.Values.{text_in}
 use Rattle.adb_view.specs.Plain.{Plain}
-use Rattle.change_files.specs.PlanLists.{names_in_order}
-use Rattle.db_core.specs.Members.{Member, member_name}
+use Rattle.package_changes.specs.change_files.PlanLists.{names_in_order}
+use Rattle.db_write.specs.db_core.Members.{Member, member_name}
 use Rattle.dep_core.specs.LeadingSlash.{without_slash}
-use Rattle.package_files.specs.Folders.{folder_of}
+use Rattle.change_inputs.specs.package_files.Folders.{folder_of}
 use Rattle.report_core.specs.Reports.{report_line, trigger_text}
 use Rattle.report_core.specs.declared.refusal.Refusal.{Refusal}
 use Rattle.report_core.specs.declared.refusal.Refusal.TheVariants.{TriggerNeeded}

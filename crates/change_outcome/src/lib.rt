@@ -16,9 +16,26 @@
 
 mod laws;
 
+pub use change_inputs::{
+    Candidate, Loaded, Refused, Sealed, Upgrade, inputs_depend_on_their_own_reads, operand_texts,
+    options_are_the_best_first,
+};
+pub use db_write::{
+    Db, List, Members, Owned, PackageView, WriteFault, a_database_keeps_the_entries_of_owned_files,
+    a_database_lists_the_owned_files, a_database_of_sound_packages_may_be_the_root,
+    a_written_database_is_read_back, packages_of_sound_containers_may_be_members, write_db,
+};
+pub use journal_core::{Stage, an_intent_is_read_from_a_sound_container};
 pub use laws::{
     a_change_has_a_first_clash_or_none, a_change_keeps_paths_free,
     a_change_that_is_made_passes_each_test, a_change_that_writes_nothing_leaves_the_files,
     actions_lead_to_given_files, the_actions_of_a_change_lead_to_its_files,
     the_names_of_a_change_may_be_changed, what_is_read_of_a_root_is_in_the_tree,
 };
+pub use package_changes::{
+    Change, Changes, PlacedName, PlacedNames, Trace, is_same_id, names_in_order,
+    places_lead_to_packages_and_candidates, push_change_lines, push_stay_lines, push_sum_line,
+    simulated_report, solve, the_first_selection_is_unique,
+    the_lists_of_a_plan_hold_just_its_names,
+};
+pub use star_patterns::{a_pattern_matches_what_its_stars_are_filled_to, matches};

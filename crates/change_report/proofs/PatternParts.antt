@@ -3,7 +3,7 @@ use Rattle.std.proofs.Common.{◌≡◌, ℕ, suc, Bool, true, false, List, [], 
 use Rattle.std.specs.Prelude.{◌&&◌}
 use Rattle.std.specs.List.{list_all, zip}
 use Rattle.change_outcome.specs.Triggers.{are_parts_matched}
-use Rattle.star_patterns.specs.Patterns.{is_matched}
+use Rattle.change_outcome.specs.star_patterns.Patterns.{is_matched}
 
 pub zipped : (patterns parts : List (List ℕ)) → length patterns ≡ length parts → list_all (λ (p : List ℕ × List ℕ). is_matched p.0 p.1) (zip patterns parts) ≡ are_parts_matched patterns parts
 zipped [] [] e = refl

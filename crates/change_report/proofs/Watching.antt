@@ -6,10 +6,10 @@ use Rattle.std.specs.List.{list_any}
 use Rattle.std.proofs.lemmas.List.{drop_all}
 use Rattle.adb_view.specs.Plain.{Plain}
 use Rattle.adb_view.specs.Values.{count_of, entries_in, entry_in, text_in}
-use Rattle.adb_fields.specs.Repeated.{list_of}
-use Rattle.adb_fields.proofs.NameLists.{count-listed}
-use Rattle.adb_fields.proofs.Listed.{next_listed}
-use Rattle.db_core.specs.Members.{Member, member_name}
+use Rattle.change_outcome.specs.adb_fields.Repeated.{list_of}
+use Rattle.change_outcome.proofs.adb_fields.NameLists.{count-listed}
+use Rattle.change_outcome.proofs.adb_fields.Listed.{next_listed}
+use Rattle.change_outcome.specs.db_core.Members.{Member, member_name}
 use Rattle.report_core.specs.declared.refusal.Refusal.TheVariants.{TriggerNeeded}
 use Rattle.change_outcome.specs.Triggers.{folders_of_paths, has_due_trigger, is_due, is_folder_matched, is_watched, unless_trigger}
 use Rattle.change_outcome.specs.PackageFiles.{has_script_of}

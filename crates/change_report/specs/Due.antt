@@ -2,7 +2,7 @@
 -- `docs/commands.md`, "`add` and `del`", which triggers are due and how they are refused.
 use Rattle.std.specs.Prelude.{ℕ, Bool, true, List, ◌++◌, Option, Some, None, Result, Ok, Err}
 use Rattle.change_outcome.specs.ChangeOutcome.{name_at_place}
-use Rattle.db_core.specs.Members.{Member}
+use Rattle.change_outcome.specs.db_core.Members.{Member}
 use Rattle.own_core.specs.Planned.{written_names}
 use Rattle.own_core.specs.declared.planning.FilePlan.{FilePlan}
 use Rattle.report_core.specs.declared.refusal.Refusal.{Refusal}

@@ -2,13 +2,13 @@
 -- crate says.
 use Rattle.std.specs.Prelude.{◌≡◌, ℕ, List, map}
 use Rattle.base_core.specs.Files.{Files}
-use Rattle.change_files.specs.FileChange.{FileChange}
+use Rattle.own_core.specs.change_files.FileChange.{FileChange}
 use Rattle.change_outcome.specs.ChangeOutcome.{ChangeWishes}
-use Rattle.db_core.specs.Seen.{members_of}
+use Rattle.change_outcome.specs.db_core.Seen.{members_of}
 use Rattle.own_core.specs.Planned.{ArePlanLists}
-use Rattle.package_changes.specs.Changes.{Replacement, changes_of}
-use Rattle.package_changes.specs.Placed.{PlacedChange, replacement_of}
-use Rattle.package_changes.specs.Seen.{changes_seen, replacement_by}
+use Rattle.change_outcome.specs.package_changes.Changes.{Replacement, changes_of}
+use Rattle.change_outcome.specs.package_changes.Placed.{PlacedChange, replacement_of}
+use Rattle.change_outcome.specs.package_changes.Seen.{changes_seen, replacement_by}
 use Rattle.change_report.specs.declared.reporting.ReportedChange.{ReportedChange}
 
 -- the replacement that a report describes: the selection replaces the packages before, and these names

@@ -1,22 +1,20 @@
 //! The packages whose triggers are due, by the folders of the files that a change writes and
 //! removes. The rules are in `docs/commands.md`, "`add` and `del`", which triggers are due.
 
-ghost use Rattle.adb_schema.specs.Views.{package_value};
+ghost use Rattle.change_outcome.specs.adb_schema.Views.{package_value};
 ghost use Rattle.change_outcome.specs.Triggers.{due_line, due_lines, folders_of_paths, has_due_trigger, is_watched, trigger_lines, unless_trigger};
-ghost use Rattle.db_core.specs.Seen.{members_of};
+ghost use Rattle.change_outcome.specs.db_core.Seen.{members_of};
 ghost use Rattle.change_report.specs.Due.{trigger_needed, planned_paths};
 ghost use Rattle.report_core.specs.Reports.{folder_text, report_line, trigger_text};
 ghost use Rattle.std.specs.Prelude.{◌≡◌, ◌<◌, ◌++◌, ℕ, List, [], false, if◌then◌else◌, length, map, IfSome, OnOk, IfOk};
-ghost use Rattle.package_files.specs.Folders.{folder_of};
+ghost use Rattle.make_package.specs.package_files.Folders.{folder_of};
 ghost use Rattle.own_core.specs.WritesSeen.{writes_in};
 
 use crate::watched::{has_trigger_script, is_watched, name_of};
-use adb_schema::PackageView;
 use base_core::Names;
-use db_core::Members;
+use change_outcome::{Members, PackageView, names_in_order};
 use make_package::folder_of;
 use own_core::{FilePlan, Writes};
-use package_changes::names_in_order;
 use report_core::Report;
 use std::alloc::{AllocError, Global};
 use std::marker::PhantomData;

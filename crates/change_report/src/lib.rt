@@ -16,5 +16,20 @@ mod pattern;
 mod reporting;
 mod watched;
 
+pub use change_outcome::{
+    Changes, Db, Loaded, Members, Owned, PlacedNames, Refused, Sealed, Stage, Trace, Upgrade,
+    a_change_has_a_first_clash_or_none, a_change_keeps_paths_free,
+    a_change_that_is_made_passes_each_test, a_change_that_writes_nothing_leaves_the_files,
+    a_database_keeps_the_entries_of_owned_files, a_database_lists_the_owned_files,
+    a_database_of_sound_packages_may_be_the_root, a_written_database_is_read_back,
+    an_intent_is_read_from_a_sound_container, inputs_depend_on_their_own_reads, operand_texts,
+    options_are_the_best_first, packages_of_sound_containers_may_be_members,
+    places_lead_to_packages_and_candidates, simulated_report, solve, the_first_selection_is_unique,
+    what_is_read_of_a_root_is_in_the_tree, write_db,
+};
 pub use due::{first_due, push_trigger_lines, touched_folders};
+pub use own_core::{
+    FilePlan, PlanFault, Write, no_path_is_owned_by_two_members, plan,
+    the_files_of_an_added_package_are_as_listed, what_is_written_is_not_reserved,
+};
 pub use reporting::{ReportedChange, change_report};

@@ -2,11 +2,11 @@
 //! "`add` and `del`", which triggers are due: the sentences on patterns.
 ghost use Rattle.base_core.specs.Name.{parts_of};
 ghost use Rattle.change_outcome.specs.Triggers.{are_parts_matched, is_folder_matched};
-ghost use Rattle.package_files.specs.Folders.{is_slash};
+ghost use Rattle.make_package.specs.package_files.Folders.{is_slash};
 ghost use Rattle.std.specs.Prelude.{◌≡◌, count_by};
 
+use change_outcome::matches;
 use dep_core::without_slash;
-use star_patterns::matches;
 
 /// Whether a pattern matches a folder, whose name is empty for the root. It takes time in
 /// proportion to the lengths of both.

@@ -2,23 +2,22 @@
 //! defined in `docs/commands.md`, "`add` and `del`", what is reported.
 
 ghost use Rattle.base_core.specs.Files.{Files};
-ghost use Rattle.change_files.specs.FileChange.{FileChange};
+ghost use Rattle.own_core.specs.change_files.FileChange.{FileChange};
 ghost use Rattle.change_outcome.specs.ChangeOutcome.{ChangeWishes, change_report, member_size, member_sum_line};
 ghost use Rattle.change_outcome.specs.Triggers.{trigger_lines};
 ghost use Rattle.change_report.specs.Reported.{IsReportedOf, replacement_reported};
-ghost use Rattle.db_core.specs.Seen.{members_of};
+ghost use Rattle.change_outcome.specs.db_core.Seen.{members_of};
 ghost use Rattle.change_report.specs.Due.{planned_paths};
 ghost use Rattle.std.specs.Prelude.{◌≡◌, ◌++◌, ℕ, List, IfOk, OnOk, ◌<◌, length, sum_by, Some, option_map, slice_get};
 
 use crate::configuration::push_configuration_lines;
 use crate::due::{push_trigger_lines, touched_folders};
 use base_core::Words;
-use db_core::{Db, Members};
+use change_outcome::{
+    Changes, Db, Members, Sealed, Trace, push_change_lines, push_stay_lines, push_sum_line,
+};
 use own_core::FilePlan;
-use package_changes::{Changes, push_change_lines, push_stay_lines, push_sum_line};
-use pool_core::Sealed;
 use report_core::Report;
-use solve_core::Trace;
 use std::alloc::{AllocError, Global};
 
 /// The parts of a change that its report describes.

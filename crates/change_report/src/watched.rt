@@ -3,9 +3,9 @@
 //!
 //! The marks serve only the borrow checker: it does not know the parts of a view that is made and
 //! lent in a function unless the signature names the view.
-ghost use Rattle.adb_fields.specs.ListValue.{list_value};
-ghost use Rattle.adb_fields.specs.Repeated.{package_name};
-ghost use Rattle.adb_schema.specs.Views.{package_value};
+ghost use Rattle.change_outcome.specs.adb_fields.ListValue.{list_value};
+ghost use Rattle.change_outcome.specs.adb_fields.Repeated.{package_name};
+ghost use Rattle.change_outcome.specs.adb_schema.Views.{package_value};
 ghost use Rattle.adb_view.specs.Values.{count_of, entries_in, entry_in, text_in};
 ghost use Rattle.change_outcome.specs.PackageFiles.{has_script_of};
 ghost use Rattle.report_core.specs.Numbers.{TRIGGER_SCRIPT};
@@ -13,7 +13,7 @@ ghost use Rattle.change_outcome.specs.Triggers.{is_folder_matched, is_watched};
 ghost use Rattle.std.specs.Prelude.{◌≡◌, ◌<◌};
 
 use crate::pattern::is_folder_matched;
-use adb_schema::{List, PackageView};
+use change_outcome::{List, PackageView};
 use std::marker::PhantomData;
 
 /// The name of a package, which its view lends.

@@ -9,10 +9,10 @@ use Rattle.adb_block.specs.Piece.{Piece, comes_after, least_payload}
 use Rattle.adb_block.specs.Reading.{Reading, done, fault, more, reading_by_step, reading_from, reading_of}
 use Rattle.adb_block.specs.ReaderPosition.{start_of}
 use Rattle.adb_block.specs.declared.block.BlockKind.{BlockKind}
-use Rattle.adb_schema.specs.Soundness.{blocks_fault, file_fault, is_schema_wanted, payload_fault, root_value, schema_fault, schema_word}
-use Rattle.adb_schema.specs.declared.read.TheConstants.{PACKAGE_WORD, INDEX_WORD, IDB_WORD, INTENT_WORD}
-use Rattle.adb_fields.specs.Repeated.{repeated_fault}
-use Rattle.adb_schema.specs.Texts.{text_fault}
+use Rattle.pkg_core.specs.adb_schema.Soundness.{blocks_fault, file_fault, is_schema_wanted, payload_fault, root_value, schema_fault, schema_word}
+use Rattle.pkg_core.specs.adb_schema.declared.read.TheConstants.{PACKAGE_WORD, INDEX_WORD, IDB_WORD, INTENT_WORD}
+use Rattle.pkg_core.specs.adb_fields.Repeated.{repeated_fault}
+use Rattle.pkg_core.specs.adb_schema.Texts.{text_fault}
 use Rattle.adb_view.specs.Head.{head_fault, root_of}
 use Rattle.adb_view.specs.Schema.{shape_of}
 use Rattle.adb_view.specs.Walk.{shape_fault}

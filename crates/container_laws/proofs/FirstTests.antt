@@ -5,7 +5,7 @@ use Rattle.std.specs.Option.{option_or}
 use Rattle.adb_block.specs.Header.{header_of}
 use Rattle.adb_block.specs.Reading.{Reading, done, fault, more, reading_of}
 use Rattle.adb_block.specs.ReaderPosition.{start_of}
-use Rattle.adb_schema.specs.Soundness.{blocks_fault, file_fault, is_schema_wanted, root_value, schema_word}
+use Rattle.pkg_core.specs.adb_schema.Soundness.{blocks_fault, file_fault, is_schema_wanted, root_value, schema_word}
 use Rattle.adb_view.specs.declared.tables.Which.{Which}
 use Rattle.base_core.specs.declared.cause.Cause.{Cause}
 use Rattle.base_core.specs.declared.cause.Cause.TheVariants.{WrongSchema}

@@ -7,9 +7,9 @@ use Rattle.adb_block.specs.Header.{header_of}
 use Rattle.adb_block.specs.Piece.{Piece}
 use Rattle.adb_block.specs.Reading.{Reading, fault, more, reading_of}
 use Rattle.adb_block.specs.ReaderPosition.{start_of}
-use Rattle.adb_fields.specs.Repeated.{repeated_fault}
-use Rattle.adb_schema.specs.Texts.{text_fault}
-use Rattle.adb_schema.specs.Soundness.{is_schema_wanted, root_value, schema_word}
+use Rattle.pkg_core.specs.adb_fields.Repeated.{repeated_fault}
+use Rattle.pkg_core.specs.adb_schema.Texts.{text_fault}
+use Rattle.pkg_core.specs.adb_schema.Soundness.{is_schema_wanted, root_value, schema_word}
 use Rattle.adb_view.specs.Schema.{shape_of}
 use Rattle.adb_view.specs.Walk.{shape_fault}
 use Rattle.adb_view.specs.declared.tables.Kind.TheVariants.{Obj}

@@ -4,7 +4,7 @@ use Rattle.std.specs.Prelude.{◌||◌}
 use Rattle.std.specs.List.{flat_map, list_any}
 use Rattle.adb_view.specs.Plain.{Plain, Plains, none, more}
 use Rattle.adb_view.specs.Values.{nth, count_of}
-use Rattle.adb_fields.specs.Repeated.{list_of}
+use Rattle.pkg_core.specs.adb_fields.Repeated.{list_of}
 
 pub nothing : (n : ℕ) → drop {A = Plain} n [] ≡ []
 nothing zero = refl

@@ -15,11 +15,11 @@ use Rattle.adb_view.specs.Shaped.{Each}
 use Rattle.adb_view.specs.Values.{entries_in, entry_in}
 use Rattle.adb_view.specs.declared.tables.Which.{Which}
 use Rattle.adb_view.specs.declared.tables.Which.TheVariants.{Idb}
-use Rattle.adb_fields.specs.Paths.{path_of}
-use Rattle.adb_fields.specs.Repeated.{files_in, folders_in, list_of, name_of, paths_in, paths_under}
-use Rattle.adb_schema.specs.Reserved.{is_reserved}
-use Rattle.adb_schema.specs.Rules.{is_file_name, is_folder_name, is_one_part}
-use Rattle.adb_schema.specs.SoundValues.{IsFileOf, IsFolder, IsPackage}
+use Rattle.pkg_core.specs.adb_fields.Paths.{path_of}
+use Rattle.pkg_core.specs.adb_fields.Repeated.{files_in, folders_in, list_of, name_of, paths_in, paths_under}
+use Rattle.pkg_core.specs.adb_schema.Reserved.{is_reserved}
+use Rattle.pkg_core.specs.adb_schema.Rules.{is_file_name, is_folder_name, is_one_part}
+use Rattle.pkg_core.specs.adb_schema.SoundValues.{IsFileOf, IsFolder, IsPackage}
 use Rattle.db_core.specs.EntrySeen.{member_by}
 use Rattle.db_core.specs.Members.{Member, is_added, listings_by, listings_from, listings_in_folder, listings_in_folders, member_listings, member_of_kept}
 use Rattle.db_core.specs.Packages.{is_added_or_lists_no_reserved, lists_names, lists_no_reserved}

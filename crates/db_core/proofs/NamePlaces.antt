@@ -16,7 +16,7 @@ use Rattle.base_core.specs.Sorted.{sorted_by, with_element}
 use Rattle.base_core.proofs.Sorting.{Each, Rises, ranks, rises_sorted, sorted_up}
 use Rattle.adb_view.specs.Plain.{Plain, Plains, none, more}
 use Rattle.adb_view.specs.Values.{count_of, nth}
-use Rattle.adb_fields.specs.Repeated.{list_of, package_name}
+use Rattle.pkg_core.specs.adb_fields.Repeated.{list_of, package_name}
 use Rattle.db_core.specs.NamePlaces.{NameWithPlace, placed_name_cmp, placed_names_in_order, place_named, placed_names_from}
 use Rattle.db_core.specs.NameSeen.{name_seen}
 use Rattle.db_core.specs.Packages.{is_package_named}

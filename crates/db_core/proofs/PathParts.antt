@@ -3,7 +3,7 @@ use Rattle.std.proofs.Common.{◌≡◌, inl, inr, ℕ, Bool, true, false, List,
 use Rattle.std.specs.Prelude.{◌==◌, ◌&&◌, nat_eq, bytes_eq}
 use Rattle.std.proofs.lemmas.Bool.Decides.{eqb_tells}
 use Rattle.base_core.proofs.Booleans.{both_second, both_first}
-use Rattle.adb_fields.specs.Paths.{path_of}
+use Rattle.pkg_core.specs.adb_fields.Paths.{path_of}
 
 both_false : (a b c : Bool) → (a && b) ≡ false → (b ≡ false → c ≡ false) → (a && c) ≡ false
 both_false true b c h f = f h

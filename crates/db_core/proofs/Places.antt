@@ -5,8 +5,8 @@ use Rattle.std.specs.List.{position_from}
 use Rattle.db_core.proofs.AnyOf.{nothing}
 use Rattle.adb_view.specs.Plain.{Plain, Plains, none, more}
 use Rattle.adb_view.specs.Values.{nth, count_of}
-use Rattle.adb_fields.specs.Repeated.{list_of}
-use Rattle.adb_fields.proofs.NameLists.{count-listed}
+use Rattle.pkg_core.specs.adb_fields.Repeated.{list_of}
+use Rattle.pkg_core.proofs.adb_fields.NameLists.{count-listed}
 
 pub nth_listed : (vs : Plains) (i : ℕ) → i < count_of vs → slice_get (list_of vs) i ≡ Some (nth vs i)
 nth_listed none i h = absurd (omega arith)

@@ -5,10 +5,10 @@ use mathlib.Core.Logic.{∥∥₁_map, ∥∥₁_map₂}
 use Rattle.sha2.specs.Sha256.{sha256}
 use Rattle.sha2.proofs.Facts256.{length-sha256}
 use Rattle.adb_view.specs.Plain.{Plain, IsNormal}
-use Rattle.adb_fields.specs.FirstPair.{IsIn}
-use Rattle.adb_fields.specs.Repeated.{entries_at}
-use Rattle.adb_schema.specs.Rules.{is_digest_length}
-use Rattle.adb_schema.specs.SoundContainers.{IsSoundValue}
+use Rattle.pkg_core.specs.adb_fields.FirstPair.{IsIn}
+use Rattle.pkg_core.specs.adb_fields.Repeated.{entries_at}
+use Rattle.pkg_core.specs.adb_schema.Rules.{is_digest_length}
+use Rattle.pkg_core.specs.adb_schema.SoundContainers.{IsSoundValue}
 use Rattle.adb_view.specs.declared.tables.Which.TheVariants.{Idb, Package}
 use Rattle.db_core.specs.EntrySeen.{member_by}
 use Rattle.db_core.specs.Members.{Member}

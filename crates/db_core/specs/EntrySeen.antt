@@ -2,7 +2,7 @@
 -- payload of a database.
 -- No document has a rule for this: it serves the contracts of `src/members.rt`.
 use Rattle.std.specs.Prelude.{ℕ, Bool, List, [], Option, Some, None, ◌||◌, bytes_eq, is_some}
-use Rattle.adb_schema.specs.declared.checked.IdbView.{IdbView}
+use Rattle.pkg_core.specs.adb_schema.declared.checked.IdbView.{IdbView}
 use Rattle.adb_view.specs.Values.{value_at}
 use Rattle.adb_view.specs.Adb.{payload_of}
 use Rattle.adb_view.specs.declared.tables.Kind.TheVariants.{Obj}

@@ -3,8 +3,8 @@
 -- `listings_are_at_their_places`.
 use Rattle.std.specs.Prelude.{◌≡◌, ◌≤◌, ◌-◌, List, Some, slice_get}
 use Rattle.adb_view.specs.Plain.{Plain}
-use Rattle.adb_fields.specs.Paths.{path_of}
-use Rattle.adb_fields.specs.Repeated.{name_of, folders_in, files_in}
+use Rattle.pkg_core.specs.adb_fields.Paths.{path_of}
+use Rattle.pkg_core.specs.adb_fields.Repeated.{name_of, folders_in, files_in}
 use Rattle.db_core.specs.Members.{Listing, Member}
 
 -- a listing is at its places: its member among the members, counted from 0, its folder in the member's

@@ -6,8 +6,8 @@ use Rattle.std.specs.List.{filter}
 use Rattle.base_core.specs.Listed.{IsRising}
 use Rattle.base_core.specs.ByteOrder.{precedes}
 use Rattle.adb_view.specs.Plain.{Plain}
-use Rattle.adb_fields.specs.Paths.{path_of}
-use Rattle.adb_fields.specs.Repeated.{name_of, package_name, folders_in, files_in}
+use Rattle.pkg_core.specs.adb_fields.Paths.{path_of}
+use Rattle.pkg_core.specs.adb_fields.Repeated.{name_of, package_name, folders_in, files_in}
 
 -- a member: a package after the change; an added one has an id, a kept one has none
 pub record Member : Type 0 where

@@ -8,7 +8,7 @@ use Rattle.std.specs.declared.cmp.Ordering.{Ordering}
 use Rattle.base_core.specs.ByteOrder.{bytes_cmp}
 use Rattle.base_core.specs.Sorted.{sorted_by}
 use Rattle.adb_view.specs.Plain.{Plain}
-use Rattle.adb_fields.specs.Repeated.{package_name}
+use Rattle.pkg_core.specs.adb_fields.Repeated.{package_name}
 
 -- the name of a package, and its place, which counts from 0
 pub record NameWithPlace : Type 0 where

@@ -2,7 +2,7 @@
 -- The rule is in `docs/formats.md`, "The database after a change": "of its files those that the
 -- package owns".
 use Rattle.std.specs.Prelude.{◌≡◌, ℕ, Bool, true, false, List, [], ◌∷◌, map}
-use Rattle.adb_fields.specs.FirstPair.{IsIn}
+use Rattle.pkg_core.specs.adb_fields.FirstPair.{IsIn}
 use Rattle.db_core.specs.Members.{Listing, Member, member_listings}
 
 -- the listings whose flag is set, by one flag for each; a listing without a flag is left out

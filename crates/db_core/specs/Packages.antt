@@ -7,8 +7,8 @@ use Rattle.base_core.specs.Name.{is_name}
 use Rattle.adb_view.specs.Plain.{Plain}
 use Rattle.adb_view.specs.FieldIndexes.{IDB_PACKAGES, INFO_HASHES, PACKAGE_INFO}
 use Rattle.adb_view.specs.Values.{entry_in, text_in}
-use Rattle.adb_schema.specs.Reserved.{is_reserved}
-use Rattle.adb_fields.specs.Repeated.{entries_at, package_name, paths_in}
+use Rattle.pkg_core.specs.adb_schema.Reserved.{is_reserved}
+use Rattle.pkg_core.specs.adb_fields.Repeated.{entries_at, package_name, paths_in}
 use Rattle.db_core.specs.Members.{Member, is_added}
 
 -- whether a package has a name

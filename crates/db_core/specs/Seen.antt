@@ -2,7 +2,7 @@
 -- No document has a rule for this: contracts use these to speak of a database and of members.
 use Rattle.std.specs.Prelude.{ℕ, List, option_map, map}
 use Rattle.adb_view.specs.Plain.{Plain}
-use Rattle.adb_schema.specs.Views.{idb_value}
+use Rattle.pkg_core.specs.adb_schema.Views.{idb_value}
 use Rattle.db_core.specs.EntrySeen.{member_by, payload_of_database}
 use Rattle.db_core.specs.Members.{Member}
 use Rattle.db_core.specs.Packages.{packages_by}

@@ -6,11 +6,11 @@ use Rattle.std.specs.Prelude.{◌≡◌, ℕ, true, false, List, [], ◌∷◌, 
 use Rattle.adb_view.specs.Plain.{Plain, IsNormal}
 use Rattle.adb_view.specs.FieldIndexes.{IDB_PACKAGES}
 use Rattle.adb_view.specs.declared.tables.Which.TheVariants.{Idb, Package}
-use Rattle.adb_schema.specs.Reserved.{is_reserved}
-use Rattle.adb_schema.specs.Rules.{is_digest_length}
-use Rattle.adb_fields.specs.FirstPair.{IsIn}
-use Rattle.adb_fields.specs.Repeated.{entries_at}
-use Rattle.adb_schema.specs.SoundContainers.{IsSoundValue}
+use Rattle.pkg_core.specs.adb_schema.Reserved.{is_reserved}
+use Rattle.pkg_core.specs.adb_schema.Rules.{is_digest_length}
+use Rattle.pkg_core.specs.adb_fields.FirstPair.{IsIn}
+use Rattle.pkg_core.specs.adb_fields.Repeated.{entries_at}
+use Rattle.pkg_core.specs.adb_schema.SoundContainers.{IsSoundValue}
 use Rattle.db_core.specs.Members.{Listing, Member}
 use Rattle.db_core.specs.OwnedListings.{HaveOneOwner}
 

@@ -2,11 +2,11 @@
 //! The rules are in `docs/formats.md`, "Tests of a container" (which file is read), and "Schemas",
 //! tables 7 and 9 (its contents). What `find` and `owner_of` return is in `docs/DECISIONS.md`, "The
 //! installed database", and `docs/commands.md`, "`info`".
-ghost use Rattle.adb_fields.specs.ListValue.{list_value};
-ghost use Rattle.adb_fields.specs.Repeated.{entries_at, list_of};
-ghost use Rattle.adb_schema.specs.ReadFaults.{IsReadFault};
-ghost use Rattle.adb_schema.specs.Soundness.{first_fault, payload_fault, payload_in, root_value};
-ghost use Rattle.adb_schema.specs.Views.{idb_value, package_value};
+ghost use Rattle.pkg_core.specs.adb_fields.ListValue.{list_value};
+ghost use Rattle.pkg_core.specs.adb_fields.Repeated.{entries_at, list_of};
+ghost use Rattle.pkg_core.specs.adb_schema.ReadFaults.{IsReadFault};
+ghost use Rattle.pkg_core.specs.adb_schema.Soundness.{first_fault, payload_fault, payload_in, root_value};
+ghost use Rattle.pkg_core.specs.adb_schema.Views.{idb_value, package_value};
 ghost use Rattle.adb_view.specs.FieldIndexes.{IDB_PACKAGES};
 ghost use Rattle.adb_view.specs.Values.{count_of, entries_in, entry_in, is_sound};
 ghost use Rattle.adb_view.specs.declared.tables.Kind.TheVariants as Kinds;
@@ -24,13 +24,12 @@ ghost use Rattle.std.specs.Prelude.{◌≡◌, ◌<◌, ◌^◌, ◌==◌, true,
 use crate::listed_paths::is_path_listed;
 use crate::name_places::{NamePlace, place_of, sorted_names};
 use adb_block::Blocks;
-use adb_schema::{
-    IdbView, List, PackageView, ReadFault, View, Which, no_text_is_bad_where_each_keeps_its_rule,
-    read_adb,
-};
 use adb_view::{Adb, values_of_few_visits_have_no_fault};
 use base_core::Name;
-use pkg_core::{bytes_are_small, tested_payloads_hold_sound_values};
+use pkg_core::{
+    IdbView, List, PackageView, ReadFault, View, Which, bytes_are_small,
+    no_text_is_bad_where_each_keeps_its_rule, read_adb, tested_payloads_hold_sound_values,
+};
 use std::alloc::{AllocError, Global};
 
 /// The packages of an installed database, in its order. All data are lent from the file's bytes.
@@ -52,7 +51,7 @@ pub struct Db<'a> {
 }
 
 impl<'a> Db<'a> {
-    ghost use Rattle.adb_schema.specs.Reserved.{is_reserved};
+    ghost use Rattle.pkg_core.specs.adb_schema.Reserved.{is_reserved};
     ghost use Rattle.base_core.specs.Name.{IsName};
     ghost use Rattle.db_core.specs.Members.{member_listings, members_of_kept};
     ghost use Rattle.db_core.specs.Seen.{packages_of};
@@ -185,7 +184,7 @@ pub(crate) fn package_of_database<'a>(idb: &Option<IdbView<'a>>, i: usize) -> Pa
 }
 
 /// The payload of the first block of a database file that passes all tests.
-#[tactic(auto, unfolding(adb_schema::specs::Soundness::first_fault, adb_schema::specs::Soundness::payload_in))]
+#[tactic(auto, unfolding(pkg_core::specs::adb_schema::Soundness::first_fault, pkg_core::specs::adb_schema::Soundness::payload_in))]
 fn first_payload(bytes: &[u8]) -> &[u8]
     requires { first_fault Tables.Idb bytes.now ≡ None }
     ensures { result.now ≡ payload_in bytes.entry.now }

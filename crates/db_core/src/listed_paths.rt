@@ -2,15 +2,15 @@
 //! What a path is, is in `docs/formats.md`, "The texts", fields 401 and 501: the folder's name,
 //! which is empty for the root, `/`, and the file's name. `info` asks who owns a path
 //! (`docs/commands.md`, "`info`").
-ghost use Rattle.adb_fields.specs.ListValue.{list_value};
-ghost use Rattle.adb_fields.specs.Paths.{path_of};
-ghost use Rattle.adb_fields.specs.Repeated.{list_of, name_of, paths_under};
-ghost use Rattle.adb_schema.specs.Views.{dir_value};
+ghost use Rattle.pkg_core.specs.adb_fields.ListValue.{list_value};
+ghost use Rattle.pkg_core.specs.adb_fields.Paths.{path_of};
+ghost use Rattle.pkg_core.specs.adb_fields.Repeated.{list_of, name_of, paths_under};
+ghost use Rattle.pkg_core.specs.adb_schema.Views.{dir_value};
 ghost use Rattle.adb_view.specs.Values.{count_of, entries_in, entry_in};
 ghost use Rattle.std.specs.List.{flat_map, list_any};
 ghost use Rattle.std.specs.Prelude.{◌≡◌, ◌<◌, bytes_eq};
 
-use adb_schema::{DirInfo, FileInfo, List};
+use pkg_core::{DirInfo, FileInfo, List};
 
 /// Whether one of some folders lists a file with this path.
 pub(crate) fn is_path_listed<'a>(folders: &List<'a, DirInfo<'a>>, path: &[u8]) -> bool

@@ -3,8 +3,8 @@
 //! byte order of their names. `docs/DECISIONS.md`, "The installed database", says how a member is
 //! added.
 
-ghost use Rattle.adb_fields.specs.Repeated.{package_name};
-ghost use Rattle.adb_schema.specs.Views.{package_value};
+ghost use Rattle.pkg_core.specs.adb_fields.Repeated.{package_name};
+ghost use Rattle.pkg_core.specs.adb_schema.Views.{package_value};
 ghost use Rattle.adb_view.specs.Adb.{payload_of};
 ghost use Rattle.adb_view.specs.Plain.{Plain};
 ghost use Rattle.base_core.specs.Listed.{IsRising};
@@ -22,8 +22,7 @@ ghost use Rattle.std.specs.Prelude.{◌≡◌, ◌<◌, ◌≤◌, ◌++◌, ◌
 ghost use Rattle.db_core.specs.ListedAt.{IsListedAt};
 
 use crate::db::{Db, package_of_database};
-use adb_schema::PackageView;
-use pkg_core::Contents;
+use pkg_core::{Contents, PackageView};
 use std::alloc::{AllocError, Global};
 use std::marker::Model;
 
@@ -86,7 +85,7 @@ fn is_before(entry: &PackageWithId<'_>, name: &[u8]) -> bool
 }
 
 impl<'a> Members<'a> {
-    ghost use Rattle.adb_schema.specs.Reserved.{is_reserved};
+    ghost use Rattle.pkg_core.specs.adb_schema.Reserved.{is_reserved};
     ghost use Rattle.base_core.specs.Name.{IsName};
     ghost use Rattle.db_core.specs.Members.{AreInOrder, member_listings};
     ghost use Rattle.db_core.specs.Seen.{members_of, packages_before, packages_of, payload_before};

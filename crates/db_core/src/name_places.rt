@@ -1,9 +1,9 @@
 //! Names of packages in byte order, each with the place of its package.
 //! The rule is in `docs/DECISIONS.md`, "The installed database": a database may have its packages
 //! in any order of names, so their names are also kept in byte order.
-ghost use Rattle.adb_fields.specs.ListValue.{list_value};
-ghost use Rattle.adb_fields.specs.Repeated.{list_of, package_name};
-ghost use Rattle.adb_schema.specs.Views.{package_value};
+ghost use Rattle.pkg_core.specs.adb_fields.ListValue.{list_value};
+ghost use Rattle.pkg_core.specs.adb_fields.Repeated.{list_of, package_name};
+ghost use Rattle.pkg_core.specs.adb_schema.Views.{package_value};
 ghost use Rattle.adb_view.specs.Values.{count_of, entries_in, entry_in};
 ghost use Rattle.db_core.specs.NamePlaces.{placed_name_cmp, placed_names_in_order, place_named, placed_names_from};
 ghost use Rattle.db_core.specs.NameSeen.{name_seen};
@@ -12,7 +12,7 @@ ghost use Rattle.base_core.specs.Sorted.{sorted_by};
 ghost use Rattle.std.specs.List.Sorted.{IsPartitionPoint, IsSorted};
 ghost use Rattle.std.specs.Prelude.{◌≡◌, ◌<◌, ◌≤◌, true, false, length, map, IfOk};
 
-use adb_schema::{List, PackageView};
+use pkg_core::{List, PackageView};
 use std::alloc::{AllocError, Global};
 
 /// The name of a package, and its place in the database, counted from 0.

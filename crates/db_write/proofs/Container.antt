@@ -1,13 +1,13 @@
 -- The container of a database, and why there is none.
 use Rattle.std.proofs.Common.{◌≡◌, ℕ, Bool, List, Result, Ok, Err, ap, sym, ◌∙◌, subst}
-use Rattle.adb_schema.specs.declared.read.TheConstants.{IDB_WORD}
-use Rattle.adb_write.specs.Canonical.{PayloadCounts, written_of}
-use Rattle.adb_write.specs.File.{file_of}
-use Rattle.adb_write.specs.declared.writer.WriteFault.{WriteFault}
-use Rattle.adb_write.specs.declared.writer.WriteFault.TheVariants.{TooLarge, Memory}
+use Rattle.adb_sound.specs.adb_schema.declared.read.TheConstants.{IDB_WORD}
+use Rattle.adb_sound.specs.adb_write.Canonical.{PayloadCounts, written_of}
+use Rattle.adb_sound.specs.adb_write.File.{file_of}
+use Rattle.adb_sound.specs.adb_write.declared.writer.WriteFault.{WriteFault}
+use Rattle.adb_sound.specs.adb_write.declared.writer.WriteFault.TheVariants.{TooLarge, Memory}
 use Rattle.db_core.specs.Members.{Member}
 use Rattle.db_write.specs.NewDatabase.{database_container, database_of, database_value}
-use Rattle.adb_values.specs.Written.{IsWrittenAs}
+use Rattle.adb_copy.specs.adb_values.Written.{IsWrittenAs}
 
 pub file_written : (members : List Member) (flags slice : List Bool) (payload bytes file : List ℕ) → slice ≡ flags → written_of (database_value members slice) ≡ Ok payload → bytes ≡ payload → file ≡ file_of IDB_WORD bytes
     → database_of members flags ≡ Ok file

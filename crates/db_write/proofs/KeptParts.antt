@@ -4,10 +4,10 @@ use Rattle.std.specs.Prelude.{unwrap_or}
 use Rattle.adb_view.specs.Plain.{Plain, int, blob, obj, Plains, none, more, arr_value, blob_or_null, obj_value}
 use Rattle.adb_view.specs.Values.{entries_in, entry_in, int_in, text_in}
 use Rattle.adb_view.specs.declared.tables.Which.TheVariants.{Idb}
-use Rattle.adb_fields.specs.Repeated.{entries_at, files_in, folders_in, list_of, name_of}
-use Rattle.adb_schema.specs.Soundness.{payload_in, root_value}
-use Rattle.adb_schema.specs.declared.read.TheConstants.{IDB_WORD}
-use Rattle.adb_write.specs.Canonical.{written_of}
+use Rattle.adb_copy.specs.adb_fields.Repeated.{entries_at, files_in, folders_in, list_of, name_of}
+use Rattle.adb_sound.specs.adb_schema.Soundness.{payload_in, root_value}
+use Rattle.adb_sound.specs.adb_schema.declared.read.TheConstants.{IDB_WORD}
+use Rattle.adb_sound.specs.adb_write.Canonical.{written_of}
 use Rattle.adb_sound.specs.Root.{IsRootOf}
 use Rattle.adb_copy.specs.Zeros.{all_without_zeros, info_with, int_or_null, with_at, without_zeros}
 use Rattle.adb_view.proofs.ValueEntries.{nth_obj}

@@ -1,3 +1,5 @@
+-- passed on: a crate above that names this one need not name these
+pub use Rattle.adb_copy.proofs.adb_fields as adb_fields
 pub mod Container
 pub mod KeptParts
 pub mod Listed

@@ -2,7 +2,7 @@
 use Rattle.std.proofs.Common.{◌≡◌, ℕ, suc, zero, ◌+◌, ◌<◌, List, [], ◌∷◌, length, Some, refl, ap, ◌∙◌, arith, length-append}
 use Rattle.std.specs.Prelude.{slice_get}
 use Rattle.adb_view.specs.Plain.{Plain}
-use Rattle.adb_fields.specs.Repeated.{files_in, name_of}
+use Rattle.adb_copy.specs.adb_fields.Repeated.{files_in, name_of}
 use Rattle.db_core.specs.Members.{Member, listings_in_folder, listings_in_folders}
 use Rattle.db_write.specs.NewDatabase.{file_count, total_of}
 

@@ -3,8 +3,8 @@ use Rattle.std.proofs.Common.{◌≡◌, ℕ, suc, zero, ◌+◌, ◌<◌, ◌�
 use Rattle.std.specs.Prelude.{slice_get, unwrap_or}
 use Rattle.adb_view.specs.Plain.{Plain, Plains, none, more}
 use Rattle.adb_view.specs.Values.{nth, count_of}
-use Rattle.adb_fields.specs.Repeated.{list_of}
-use Rattle.adb_values.specs.Drafts.{DraftState, draft_with_open_list, draft_with, draft_with_all}
+use Rattle.adb_copy.specs.adb_fields.Repeated.{list_of}
+use Rattle.adb_copy.specs.adb_values.Drafts.{DraftState, draft_with_open_list, draft_with, draft_with_all}
 use Rattle.adb_copy.specs.Zeros.{without_zeros}
 use Rattle.db_write.specs.NewDatabase.{owned_entries}
 

@@ -2,9 +2,9 @@
 use Rattle.std.proofs.Common.{◌≡◌, ◌⊎◌, inl, inr, ℕ, ◌+◌, ◌≤◌, Bool, true, false, List, [], ◌∷◌, ◌++◌, map, drop, refl, ap, sym, subst, ◌∙◌, arith}
 use Rattle.std.specs.List.{flat_map}
 use Rattle.adb_view.specs.Plain.{Plain}
-use Rattle.adb_fields.specs.FirstPair.{IsIn}
-use Rattle.adb_fields.specs.Once.{AreApart, IsInOneOf}
-use Rattle.adb_fields.specs.Repeated.{files_in, folders_in, list_of, name_of, paths_in}
+use Rattle.adb_copy.specs.adb_fields.FirstPair.{IsIn}
+use Rattle.adb_copy.specs.adb_fields.Once.{AreApart, IsInOneOf}
+use Rattle.adb_copy.specs.adb_fields.Repeated.{files_in, folders_in, list_of, name_of, paths_in}
 use Rattle.db_core.specs.Members.{Listing, Member, listings_by, listings_from, listings_in_folder, listings_in_folders, member_listings}
 use Rattle.db_write.specs.NewDatabase.{member_file_count, packages_after}
 use Rattle.db_core.specs.OwnedListings.{owned_listings}

@@ -3,7 +3,7 @@ use Rattle.std.proofs.Common.{◌≡◌, ℕ, ◌+◌, Bool, true, false, List, 
 use Rattle.std.proofs.lemmas.List.{map-append}
 use Rattle.std.specs.List.{flat_map}
 use Rattle.adb_view.specs.Plain.{Plain}
-use Rattle.adb_fields.specs.Repeated.{files_in, folders_in, list_of, name_of}
+use Rattle.adb_copy.specs.adb_fields.Repeated.{files_in, folders_in, list_of, name_of}
 use Rattle.adb_copy.specs.Zeros.{without_zeros}
 use Rattle.db_core.specs.Members.{Listing, Member, listings_by, listings_from, listings_in_folder, listings_in_folders, member_listings, member_of_kept}
 use Rattle.db_core.specs.OwnedListings.{owned_listings}

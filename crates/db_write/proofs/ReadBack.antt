@@ -10,16 +10,16 @@ use Rattle.adb_view.specs.Plain.{Plain, none, more, arr_value}
 use Rattle.adb_view.specs.Values.{entries_in}
 use Rattle.adb_view.specs.declared.tables.Which.{Which}
 use Rattle.adb_view.specs.declared.tables.Which.TheVariants.{Idb, Package}
-use Rattle.adb_fields.specs.Repeated.{entries_at, list_of}
-use Rattle.adb_schema.specs.SoundContainers.{IsSound}
-use Rattle.adb_schema.specs.Soundness.{first_fault, payload_in, root_value, schema_word}
-use Rattle.adb_schema.specs.declared.read.TheConstants.{IDB_WORD}
-use Rattle.adb_write.specs.Size.{size_of}
-use Rattle.adb_write.specs.Canonical.{MOST_BYTES, PayloadCounts, canonical, empty_layout, write, or_overflow, overflow_of, written_of}
-use Rattle.adb_write.specs.File.{adb_piece, file_of}
+use Rattle.adb_copy.specs.adb_fields.Repeated.{entries_at, list_of}
+use Rattle.adb_sound.specs.adb_schema.SoundContainers.{IsSound}
+use Rattle.adb_sound.specs.adb_schema.Soundness.{first_fault, payload_in, root_value, schema_word}
+use Rattle.adb_sound.specs.adb_schema.declared.read.TheConstants.{IDB_WORD}
+use Rattle.adb_sound.specs.adb_write.Size.{size_of}
+use Rattle.adb_sound.specs.adb_write.Canonical.{MOST_BYTES, PayloadCounts, canonical, empty_layout, write, or_overflow, overflow_of, written_of}
+use Rattle.adb_sound.specs.adb_write.File.{adb_piece, file_of}
 use Rattle.adb_sound.specs.Root.{IsRootOf}
 use Rattle.adb_sound.proofs.Payloads.{payload_long}
-use Rattle.pkg_core.specs.Whole.{container_fault, fault_by_header, whole_fault}
+use Rattle.adb_sound.specs.pkg_core.Whole.{container_fault, fault_by_header, whole_fault}
 use Rattle.adb_view.proofs.ValueEntries.{entries_arr, nth_obj}
 use Rattle.db_core.specs.Members.{Member}
 use Rattle.db_write.specs.NewDatabase.{database_container, database_of, database_value, packages_after}

@@ -5,12 +5,12 @@ use Rattle.std.proofs.lemmas.Bool.{ltb-false, or_parts}
 use Rattle.adb_view.specs.Plain.{IsNormal, Plain}
 use Rattle.adb_view.specs.declared.tables.Which.{Which}
 use Rattle.adb_view.specs.declared.tables.Which.TheVariants.{Idb}
-use Rattle.adb_fields.specs.Once.{HasNoRepeatedName}
-use Rattle.adb_fields.specs.Repeated.{repeated_fault}
-use Rattle.adb_schema.specs.SoundValues.{KeepsRules}
-use Rattle.adb_schema.specs.Texts.{text_fault}
-use Rattle.adb_write.specs.Canonical.{PayloadCounts, canonical, or_overflow, overflow_of, passes, written_of, MOST_BYTES, MOST_VALUES}
-use Rattle.adb_write.specs.Size.{size_of, value_count}
+use Rattle.adb_copy.specs.adb_fields.Once.{HasNoRepeatedName}
+use Rattle.adb_copy.specs.adb_fields.Repeated.{repeated_fault}
+use Rattle.adb_sound.specs.adb_schema.SoundValues.{KeepsRules}
+use Rattle.adb_sound.specs.adb_schema.Texts.{text_fault}
+use Rattle.adb_sound.specs.adb_write.Canonical.{PayloadCounts, canonical, or_overflow, overflow_of, passes, written_of, MOST_BYTES, MOST_VALUES}
+use Rattle.adb_sound.specs.adb_write.Size.{size_of, value_count}
 use Rattle.adb_sound.specs.Root.{IsRootOf}
 use Rattle.db_core.specs.Members.{AreInOrder, Member, member_listings}
 use Rattle.db_write.specs.NewDatabase.{database_container, database_of, database_value}

@@ -12,9 +12,9 @@ use Rattle.base_core.proofs.Listed.{at_index}
 use Rattle.adb_view.specs.Plain.{Plain, Plains, int, blob}
 use Rattle.adb_view.specs.Values.{entries_in, entry_in, int_in, text_in}
 use Rattle.adb_view.specs.declared.tables.Which.TheVariants.{Idb}
-use Rattle.adb_fields.specs.FirstPair.{IsIn}
-use Rattle.adb_fields.specs.Once.{AllDistinct, AreDistinctNames, HasNoRepeatedName, HaveNoRepeatBetween, HaveNoRepeatInside}
-use Rattle.adb_fields.specs.Repeated.{files_in, folders_in, list_of, name_of, package_name}
+use Rattle.adb_copy.specs.adb_fields.FirstPair.{IsIn}
+use Rattle.adb_copy.specs.adb_fields.Once.{AllDistinct, AreDistinctNames, HasNoRepeatedName, HaveNoRepeatBetween, HaveNoRepeatInside}
+use Rattle.adb_copy.specs.adb_fields.Repeated.{files_in, folders_in, list_of, name_of, package_name}
 use Rattle.adb_copy.specs.Zeros.{info_with, with_at, without_zeros}
 use Rattle.adb_view.proofs.ValueEntries.{entries_arr, nth_obj, text_blob}
 use Rattle.adb_copy.proofs.WithoutZeros.{text_zeros}

@@ -7,7 +7,7 @@ use Rattle.adb_view.specs.Schema.{shape_of, shapes_of, table}
 use Rattle.adb_view.specs.Values.{entries_in, entry_in, int_in, text_in}
 use Rattle.adb_view.specs.declared.tables.Kind.TheVariants.{Obj, TextArr}
 use Rattle.adb_view.specs.declared.tables.Which.TheVariants as Tables
-use Rattle.adb_fields.specs.Repeated.{files_in, folders_in, list_of, name_of}
+use Rattle.adb_copy.specs.adb_fields.Repeated.{files_in, folders_in, list_of, name_of}
 use Rattle.adb_copy.specs.Zeros.{info_with, int_or_null, without_zeros}
 use Rattle.adb_copy.proofs.Fields.{INFO}
 use Rattle.adb_view.proofs.FoundShapes.{arr_value_shape, blob_value_text, obj_value_shape}

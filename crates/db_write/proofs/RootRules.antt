@@ -11,11 +11,11 @@ use Rattle.adb_view.specs.Schema.{shape_of, shapes_of, table}
 use Rattle.adb_view.specs.Values.{entries_in, entry_in, int_in, text_in}
 use Rattle.adb_view.specs.declared.tables.Kind.TheVariants.{Obj}
 use Rattle.adb_view.specs.declared.tables.Which.TheVariants as Tables
-use Rattle.adb_fields.specs.Paths.{path_of}
-use Rattle.adb_fields.specs.Repeated.{files_in, folders_in, list_of, name_of, paths_in, paths_under}
-use Rattle.adb_schema.specs.Reserved.{is_reserved}
-use Rattle.adb_schema.specs.Rules.{is_digest_length_or_none, is_file_name, is_folder_name, is_target}
-use Rattle.adb_schema.specs.SoundValues.{IsFileOf, IsFolder, IsInformation, IsPackage, IsSoundDependency, KeepsRules}
+use Rattle.adb_copy.specs.adb_fields.Paths.{path_of}
+use Rattle.adb_copy.specs.adb_fields.Repeated.{files_in, folders_in, list_of, name_of, paths_in, paths_under}
+use Rattle.adb_sound.specs.adb_schema.Reserved.{is_reserved}
+use Rattle.adb_sound.specs.adb_schema.Rules.{is_digest_length_or_none, is_file_name, is_folder_name, is_target}
+use Rattle.adb_sound.specs.adb_schema.SoundValues.{IsFileOf, IsFolder, IsInformation, IsPackage, IsSoundDependency, KeepsRules}
 use Rattle.adb_copy.specs.Zeros.{all_without_zeros, info_with, with_at, without_zeros}
 use Rattle.adb_copy.proofs.Shapes.{entries_shape, nth_shape}
 use Rattle.adb_view.proofs.ValueEntries.{entries_arr, nth_obj}

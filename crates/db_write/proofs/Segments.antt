@@ -2,8 +2,8 @@
 use Rattle.std.proofs.Common.{◌≡◌, ℕ, suc, zero, ◌+◌, ◌≤◌, Bool, true, false, List, [], ◌∷◌, drop, length, Option, Some, None, refl, ap, sym, ◌∙◌, arith, true≢false}
 use Rattle.std.specs.Prelude.{slice_get}
 use Rattle.adb_view.specs.Plain.{Plain}
-use Rattle.adb_values.specs.Drafts.{DraftState, draft_with_open_list, draft_with, draft_with_all}
-use Rattle.adb_values.proofs.Lists.{drop_all, drop_at}
+use Rattle.adb_copy.specs.adb_values.Drafts.{DraftState, draft_with_open_list, draft_with, draft_with_all}
+use Rattle.adb_copy.proofs.adb_values.Lists.{drop_all, drop_at}
 use Rattle.db_write.specs.NewDatabase.{each_by_flags, total_of}
 
 -- the flags that are left for an element and those behind it

@@ -10,15 +10,15 @@ use Rattle.adb_view.specs.Values.{entries_in, entry_in, text_in}
 use Rattle.adb_view.specs.declared.tables.Kind.TheVariants.{Obj}
 use Rattle.adb_view.specs.declared.tables.Which.{Which}
 use Rattle.adb_view.specs.declared.tables.Which.TheVariants as Tables
-use Rattle.adb_fields.specs.FirstPair.{IsIn}
-use Rattle.adb_fields.specs.Once.{AllDistinct, AreDistinctNames, HaveNoRepeatInside}
-use Rattle.adb_fields.specs.Repeated.{entries_at, files_in, folders_in, list_of, name_of}
-use Rattle.adb_fields.proofs.Distinct.{distinct_front}
-use Rattle.adb_schema.specs.Rules.{is_digest_length, is_digest_length_or_none, is_file_name, is_folder_name, is_target}
-use Rattle.adb_schema.specs.SoundValues.{IsFileOf, IsFolder, IsInformation, IsPackage}
-use Rattle.adb_schema.specs.Texts.{is_with_contents, needs_hash}
-use Rattle.adb_schema.specs.SoundContainers.{IsSound, IsSoundValue}
-use Rattle.adb_schema.specs.Soundness.{payload_in, root_value}
+use Rattle.adb_copy.specs.adb_fields.FirstPair.{IsIn}
+use Rattle.adb_copy.specs.adb_fields.Once.{AllDistinct, AreDistinctNames, HaveNoRepeatInside}
+use Rattle.adb_copy.specs.adb_fields.Repeated.{entries_at, files_in, folders_in, list_of, name_of}
+use Rattle.adb_copy.proofs.adb_fields.Distinct.{distinct_front}
+use Rattle.adb_sound.specs.adb_schema.Rules.{is_digest_length, is_digest_length_or_none, is_file_name, is_folder_name, is_target}
+use Rattle.adb_sound.specs.adb_schema.SoundValues.{IsFileOf, IsFolder, IsInformation, IsPackage}
+use Rattle.adb_sound.specs.adb_schema.Texts.{is_with_contents, needs_hash}
+use Rattle.adb_sound.specs.adb_schema.SoundContainers.{IsSound, IsSoundValue}
+use Rattle.adb_sound.specs.adb_schema.Soundness.{payload_in, root_value}
 use Rattle.adb_copy.proofs.Shapes.{entries_shape, nth_shape}
 use Rattle.db_core.specs.SoundMembers.{IsOfSoundContainer, IsOfSoundDatabase, IsOfSoundPackage}
 use Rattle.db_write.proofs.Unchanged.{array_entries}

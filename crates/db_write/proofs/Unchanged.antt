@@ -6,11 +6,11 @@ use Rattle.adb_view.specs.Schema.{shape_of, shapes_of, table}
 use Rattle.adb_view.specs.Values.{count_of, entries_in, entry_in, int_in, text_in}
 use Rattle.adb_view.specs.declared.tables.Kind.TheVariants as Kinds
 use Rattle.adb_view.specs.declared.tables.Which.TheVariants as Tables
-use Rattle.adb_fields.specs.Repeated.{entries_at, files_in, folders_in, list_of, name_of}
-use Rattle.adb_fields.proofs.NameLists.{count-listed}
-use Rattle.adb_schema.specs.declared.read.TheConstants.{IDB_WORD}
-use Rattle.adb_write.specs.Canonical.{written_of}
-use Rattle.adb_write.specs.File.{file_of}
+use Rattle.adb_copy.specs.adb_fields.Repeated.{entries_at, files_in, folders_in, list_of, name_of}
+use Rattle.adb_copy.proofs.adb_fields.NameLists.{count-listed}
+use Rattle.adb_sound.specs.adb_schema.declared.read.TheConstants.{IDB_WORD}
+use Rattle.adb_sound.specs.adb_write.Canonical.{written_of}
+use Rattle.adb_sound.specs.adb_write.File.{file_of}
 use Rattle.adb_copy.specs.Zeros.{all_without_zeros, int_or_null, without_zeros}
 use Rattle.adb_copy.proofs.Fields.{INFO, info_written, object_written}
 use Rattle.adb_copy.proofs.Shapes.{entries_shape, nth_shape}

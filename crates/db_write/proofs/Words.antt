@@ -3,10 +3,10 @@ use Rattle.std.proofs.Common.{◌≡◌, ◌∙◌, ℕ, ◌<◌, true, List, le
 use Rattle.std.specs.Prelude.{slice_get, slice_index}
 use Rattle.adb_view.specs.Values.{entries_in, value_at}
 use Rattle.adb_view.specs.declared.tables.Kind.{Kind}
-use Rattle.adb_fields.specs.Fields.{are_all_sound, array_at}
-use Rattle.adb_fields.specs.Repeated.{list_of}
-use Rattle.adb_fields.proofs.FieldReads.{entry_count}
-use Rattle.adb_fields.proofs.NameLists.{count-listed}
+use Rattle.adb_copy.specs.adb_fields.Fields.{are_all_sound, array_at}
+use Rattle.adb_copy.specs.adb_fields.Repeated.{list_of}
+use Rattle.adb_copy.proofs.adb_fields.FieldReads.{entry_count}
+use Rattle.adb_copy.proofs.adb_fields.NameLists.{count-listed}
 use Rattle.adb_copy.proofs.ReadWords.{word_value, word_within}
 use Rattle.db_core.proofs.Places.{nth_listed}
 

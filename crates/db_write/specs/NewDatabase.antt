@@ -6,10 +6,10 @@ use Rattle.std.specs.Prelude.{ℕ, ◌+◌, Bool, true, false, List, [], ◌∷�
 use Rattle.adb_view.specs.Plain.{Plain, Plains, none, more, blob_or_null, arr_value, obj_value}
 use Rattle.adb_view.specs.FieldIndexes.{DIR_ACL, INFO_FILE_SIZE, INFO_HASHES, PACKAGE_INFO, PACKAGE_REPLACES_PRIORITY, PACKAGE_SCRIPTS, PACKAGE_TRIGGERS}
 use Rattle.adb_view.specs.Values.{entry_in, int_in, text_in}
-use Rattle.adb_fields.specs.Repeated.{name_of, folders_in, files_in}
-use Rattle.adb_schema.specs.declared.read.TheConstants.{IDB_WORD}
-use Rattle.adb_write.specs.Canonical.{PayloadCounts, written_of}
-use Rattle.adb_write.specs.File.{file_of}
+use Rattle.adb_copy.specs.adb_fields.Repeated.{name_of, folders_in, files_in}
+use Rattle.adb_sound.specs.adb_schema.declared.read.TheConstants.{IDB_WORD}
+use Rattle.adb_sound.specs.adb_write.Canonical.{PayloadCounts, written_of}
+use Rattle.adb_sound.specs.adb_write.File.{file_of}
 use Rattle.adb_copy.specs.Zeros.{info_with, int_or_null, without_zeros}
 use Rattle.db_core.specs.Members.{Member}
 

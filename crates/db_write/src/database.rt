@@ -2,10 +2,10 @@
 //! The rules are in `docs/formats.md`, "The database after a change" and "Container"; the limits of
 //! a payload in "Canonical layout"; the condition on the flags in `docs/DECISIONS.md`, "The
 //! installed database".
-ghost use Rattle.adb_values.specs.Drafts.{draft_with};
-ghost use Rattle.adb_values.specs.Written.{IsWrittenAs};
-ghost use Rattle.adb_write.specs.Canonical.{written_of, MOST_BYTES};
-ghost use Rattle.adb_schema.specs.SoundContainers.{IsSound};
+ghost use Rattle.adb_copy.specs.adb_values.Drafts.{draft_with};
+ghost use Rattle.adb_copy.specs.adb_values.Written.{IsWrittenAs};
+ghost use Rattle.adb_sound.specs.adb_write.Canonical.{written_of, MOST_BYTES};
+ghost use Rattle.adb_sound.specs.adb_schema.SoundContainers.{IsSound};
 ghost use Rattle.adb_view.specs.declared.tables.Which.TheVariants as Tables;
 ghost use Rattle.db_core.specs.Members.{member_listings};
 ghost use Rattle.db_core.specs.OwnedListings.{owned_listings};
@@ -16,9 +16,8 @@ ghost use Rattle.std.specs.Prelude.{◌≡◌, ◌≤◌, IfOk, OnOk, length};
 
 use crate::laws::{a_database_of_sound_packages_may_be_the_root, a_written_database_is_read_back};
 use crate::packages::write_packages;
-use adb_schema::IDB_WORD;
-use adb_values::Draft;
-use adb_write::{WriteFault, file_of};
+use adb_copy::Draft;
+use adb_sound::{IDB_WORD, WriteFault, file_of};
 use db_core::{Members, Owned};
 use std::alloc::{AllocError, Global};
 

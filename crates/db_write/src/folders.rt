@@ -3,21 +3,19 @@
 //! and its access list, also if it is empty, and of its files those that the package owns"; the
 //! fields in "Schemas", tables 5 and 7.
 ghost use Rattle.adb_copy.specs.Known.{AreBlobsOf};
-ghost use Rattle.adb_fields.specs.Fields.{are_all_sound, array_at};
-ghost use Rattle.adb_fields.specs.Repeated.{folders_in, list_of};
+ghost use Rattle.adb_copy.specs.adb_fields.Fields.{are_all_sound, array_at};
+ghost use Rattle.adb_copy.specs.adb_fields.Repeated.{folders_in, list_of};
 ghost use Rattle.adb_view.specs.Values.{entries_in, is_sound, value_at};
 ghost use Rattle.adb_view.specs.declared.tables.Kind.TheVariants as Kinds;
 ghost use Rattle.adb_view.specs.declared.tables.Which.TheVariants as Tables;
-ghost use Rattle.adb_values.specs.Drafts.{draft_with};
+ghost use Rattle.adb_copy.specs.adb_values.Drafts.{draft_with};
 ghost use Rattle.adb_view.specs.Adb.{payload_of};
 ghost use Rattle.adb_view.specs.Entries.{array_entries};
 ghost use Rattle.adb_view.specs.Plain.{arr_value};
 ghost use Rattle.db_write.specs.NewDatabase.{file_count, folder_after, folders_after, owned_entries, total_of};
 ghost use Rattle.std.specs.Prelude.{◌≡◌, ◌<◌, true, false, OnOk, Some, drop, length, slice_get, unwrap_or};
 
-use adb_copy::{KnownTexts, write_acl, write_file};
-use adb_fields::{field_word, objects_field};
-use adb_values::Draft;
+use adb_copy::{Draft, KnownTexts, field_word, objects_field, write_acl, write_file};
 use adb_view::field_indexes::{DIR_ACL, DIR_FILES, DIR_NAME, PACKAGE_PATHS};
 use adb_view::{Adb, Arr, Val, Which, entry_word};
 use std::alloc::AllocError;

@@ -3,12 +3,12 @@
 //! The rules are in `docs/formats.md`, "The database after a change", and in `docs/DECISIONS.md`,
 //! "The installed database" (the conditions on owned files).
 ghost use Rattle.adb_copy.specs.Zeros.{without_zeros};
-ghost use Rattle.adb_fields.specs.FirstPair.{IsIn};
-ghost use Rattle.adb_fields.specs.Repeated.{entries_at, folders_in, list_of, name_of, paths_in};
-ghost use Rattle.adb_schema.specs.Rules.{is_digest_length};
-ghost use Rattle.adb_schema.specs.SoundContainers.{IsSound};
-ghost use Rattle.adb_schema.specs.Soundness.{payload_in, root_value};
-ghost use Rattle.adb_schema.specs.declared.read.TheConstants.{IDB_WORD};
+ghost use Rattle.adb_copy.specs.adb_fields.FirstPair.{IsIn};
+ghost use Rattle.adb_copy.specs.adb_fields.Repeated.{entries_at, folders_in, list_of, name_of, paths_in};
+ghost use Rattle.adb_sound.specs.adb_schema.Rules.{is_digest_length};
+ghost use Rattle.adb_sound.specs.adb_schema.SoundContainers.{IsSound};
+ghost use Rattle.adb_sound.specs.adb_schema.Soundness.{payload_in, root_value};
+ghost use Rattle.adb_sound.specs.adb_schema.declared.read.TheConstants.{IDB_WORD};
 ghost use Rattle.adb_sound.specs.Root.{IsRootOf};
 ghost use Rattle.adb_view.specs.FieldIndexes.{DIR_ACL, IDB_PACKAGES, INFO_FILE_SIZE, INFO_HASHES, PACKAGE_INFO, PACKAGE_REPLACES_PRIORITY, PACKAGE_SCRIPTS, PACKAGE_TRIGGERS};
 ghost use Rattle.adb_view.specs.Schema.{shape_of};
@@ -17,8 +17,8 @@ ghost use Rattle.adb_view.specs.declared.tables.Kind.TheVariants as Kinds;
 ghost use Rattle.adb_view.specs.declared.tables.Which.TheVariants as Tables;
 ghost use Rattle.adb_view.specs.Plain.{Plain};
 ghost use Rattle.adb_view.specs.Shaped.{HasShape};
-ghost use Rattle.adb_write.specs.Canonical.{written_of};
-ghost use Rattle.adb_write.specs.File.{file_of};
+ghost use Rattle.adb_sound.specs.adb_write.Canonical.{written_of};
+ghost use Rattle.adb_sound.specs.adb_write.File.{file_of};
 ghost use Rattle.db_core.specs.Members.{AreInOrder, Member, member_of_added, member_listings, member_of_kept, members_of_kept};
 ghost use Rattle.db_core.specs.Packages.{installed_id};
 ghost use Rattle.db_write.specs.Information.{file_size_of};
@@ -26,15 +26,17 @@ ghost use Rattle.db_write.specs.NewDatabase.{database_of, database_value, packag
 ghost use Rattle.db_core.specs.OwnedListings.{owned_listings, owned_paths};
 ghost use Rattle.db_core.specs.SoundMembers.{AreOfSoundContainers, IsOfSoundContainer, MayBeListed};
 ghost use Rattle.db_write.specs.Unchanged.{all_owned};
-ghost use Rattle.pkg_core.specs.Whole.{container_fault};
+ghost use Rattle.adb_sound.specs.pkg_core.Whole.{container_fault};
 ghost use Rattle.std.specs.List.{flat_map};
 ghost use Rattle.std.specs.Prelude.{◌≡◌, ◌≢◌, ◌<◌, ℕ, All, Bool, List, None, Ok, Some, length, map, true};
 
 use adb_block::what_is_spelled_is_read;
-use adb_fields::no_repeated_name_is_reported_if_there_is_none;
-use adb_schema::{no_text_is_bad_where_each_keeps_its_rule, sound_containers_hold_sound_values};
-use adb_sound::{a_container_of_a_good_value_is_sound, what_a_container_is_made_of_is_read_back};
-use adb_write::{a_file_is_spelled, a_value_overflows_exactly_past_a_limit};
+use adb_copy::no_repeated_name_is_reported_if_there_is_none;
+use adb_sound::{
+    a_container_of_a_good_value_is_sound, a_file_is_spelled,
+    a_value_overflows_exactly_past_a_limit, no_text_is_bad_where_each_keeps_its_rule,
+    sound_containers_hold_sound_values, what_a_container_is_made_of_is_read_back,
+};
 
 /// If its value may be at the root of a container, a written database passes all tests, and its
 /// packages are read back: those of the members, each with the files that it owns.

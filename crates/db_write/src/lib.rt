@@ -13,7 +13,9 @@ mod folders;
 mod laws;
 mod packages;
 
+pub use adb_sound::{List, PackageView, WriteFault};
 pub use database::write_db;
+pub use db_core::{Db, Members, Owned};
 pub use laws::{
     a_database_keeps_the_entries_of_owned_files, a_database_lists_the_owned_files,
     a_database_of_sound_packages_may_be_the_root, a_database_without_changes_stays_the_same,

@@ -6,7 +6,7 @@ ghost use Rattle.adb_view.specs.FieldIndexes.{PACKAGE_INFO};
 ghost use Rattle.adb_view.specs.Values.{entry_in, is_sound, value_at};
 ghost use Rattle.adb_view.specs.declared.tables.Kind.TheVariants as Kinds;
 ghost use Rattle.adb_view.specs.declared.tables.Which.TheVariants as Tables;
-ghost use Rattle.adb_values.specs.Drafts.{draft_with};
+ghost use Rattle.adb_copy.specs.adb_values.Drafts.{draft_with};
 ghost use Rattle.adb_view.specs.Adb.{payload_of};
 ghost use Rattle.adb_view.specs.Plain.{arr_value};
 ghost use Rattle.db_core.specs.Members.{Member};
@@ -15,9 +15,10 @@ ghost use Rattle.db_write.specs.NewDatabase.{info_after, member_file_count, pack
 ghost use Rattle.std.specs.Prelude.{◌≡◌, ◌<◌, true, OnOk, Some, drop, length, slice_get, unwrap_or};
 
 use crate::folders::{flags_behind, write_folders};
-use adb_copy::{KnownTexts, write_info, write_int, write_scripts, write_text_list};
-use adb_fields::{field_word, hash_field, int_field, texts_field};
-use adb_values::Draft;
+use adb_copy::{
+    Draft, KnownTexts, field_word, hash_field, int_field, texts_field, write_info, write_int,
+    write_scripts, write_text_list,
+};
 use adb_view::field_indexes::{
     INFO_FILE_SIZE, INFO_HASHES, PACKAGE_INFO, PACKAGE_REPLACES_PRIORITY, PACKAGE_SCRIPTS,
     PACKAGE_TRIGGERS,

@@ -14,17 +14,17 @@ use Rattle.adb_view.specs.declared.tables.Which.{Which}
 use Rattle.adb_view.specs.declared.tables.Which.TheVariants.{Package, Index, Idb, Intent}
 use Rattle.adb_view.specs.declared.tables.Kind.TheVariants.{Obj}
 use Rattle.adb_view.proofs.FoundShapes.{shape_null}
-use Rattle.adb_schema.specs.Soundness.{first_payload, payload_after_header, payload_in, root_value, schema_word}
-use Rattle.adb_schema.specs.declared.read.TheConstants.{PACKAGE_WORD, INDEX_WORD, IDB_WORD, INTENT_WORD}
-use Rattle.adb_write.specs.Canonical.{PayloadCounts, canonical, written_of}
-use Rattle.adb_write.specs.File.{file_of}
-use Rattle.pkg_core.specs.Whole.{root_of_schema}
-use Rattle.adb_sound.proofs.Lower.{Lower}
-use Rattle.adb_dump.specs.Dump.{dump_text}
-use Rattle.adb_dump.specs.Values.{IsOfBytes, IsValueOf}
-use Rattle.adb_dump.proofs.Booleans.{chosen}
-use Rattle.gen_core.specs.Dumps.{IsRootValue}
-use Rattle.gen_core.specs.Generated.{DumpedRoot, dumped_root, file_of_root, file_unless_too_large, generated_file, word_of_root}
+use Rattle.outcome.specs.adb_schema.Soundness.{first_payload, payload_after_header, payload_in, root_value, schema_word}
+use Rattle.outcome.specs.adb_schema.declared.read.TheConstants.{PACKAGE_WORD, INDEX_WORD, IDB_WORD, INTENT_WORD}
+use Rattle.outcome.specs.adb_write.Canonical.{PayloadCounts, canonical, written_of}
+use Rattle.outcome.specs.adb_write.File.{file_of}
+use Rattle.outcome.specs.pkg_core.Whole.{root_of_schema}
+use Rattle.outcome.proofs.adb_sound.Lower.{Lower}
+use Rattle.outcome.specs.adb_dump.Dump.{dump_text}
+use Rattle.outcome.specs.adb_dump.Values.{IsOfBytes, IsValueOf}
+use Rattle.outcome.proofs.adb_dump.Booleans.{chosen}
+use Rattle.outcome.specs.gen_core.Dumps.{IsRootValue}
+use Rattle.outcome.specs.gen_core.Generated.{DumpedRoot, dumped_root, file_of_root, file_unless_too_large, generated_file, word_of_root}
 use Rattle.outcome.specs.Dump.{dump_fault, dump_of, dump_of_blocks, dump_with_root, dump_with_schema, or_text}
 use Rattle.dump_laws.proofs.Printed.{HasNamesAmong, Overflows, printed, within}
 

@@ -18,16 +18,16 @@ use Rattle.adb_view.specs.Walk.{shape_fault}
 use Rattle.adb_view.specs.Visits.{MOST_VALUES}
 use Rattle.adb_view.specs.declared.tables.Which.{Which}
 use Rattle.adb_view.specs.declared.tables.Kind.TheVariants.{Obj}
-use Rattle.adb_schema.specs.Soundness.{first_payload, root_value, schema_word}
-use Rattle.adb_write.specs.Canonical.{Layout, MOST_BYTES, PayloadCounts, canonical, empty_layout, or_overflow, overflow_of, passes, payload_with_root, write, written_of}
-use Rattle.adb_write.specs.Size.{size_of, value_count}
-use Rattle.adb_write.specs.File.{adb_piece, file_of}
-use Rattle.pkg_core.specs.Whole.{root_of_schema}
-use Rattle.adb_sound.proofs.ContentsBlocks.{contents_stand, first_of, none_of_blocks}
-use Rattle.adb_sound.proofs.Lower.{Lower}
-use Rattle.adb_sound.proofs.Payloads.{payload_long}
-use Rattle.adb_sound.proofs.SoundFiles.{IsWord, reading_is, word_is}
-use Rattle.adb_dump.specs.Dump.{dump_text}
+use Rattle.outcome.specs.adb_schema.Soundness.{first_payload, root_value, schema_word}
+use Rattle.outcome.specs.adb_write.Canonical.{Layout, MOST_BYTES, PayloadCounts, canonical, empty_layout, or_overflow, overflow_of, passes, payload_with_root, write, written_of}
+use Rattle.outcome.specs.adb_write.Size.{size_of, value_count}
+use Rattle.outcome.specs.adb_write.File.{adb_piece, file_of}
+use Rattle.outcome.specs.pkg_core.Whole.{root_of_schema}
+use Rattle.outcome.proofs.adb_sound.ContentsBlocks.{contents_stand, first_of, none_of_blocks}
+use Rattle.outcome.proofs.adb_sound.Lower.{Lower}
+use Rattle.outcome.proofs.adb_sound.Payloads.{payload_long}
+use Rattle.outcome.proofs.adb_sound.SoundFiles.{IsWord, reading_is, word_is}
+use Rattle.outcome.specs.adb_dump.Dump.{dump_text}
 use Rattle.outcome.specs.Dump.{dump_fault, dump_of, dump_of_blocks, dump_with_root, dump_with_schema, form_fault, framing_fault, or_text}
 
 -- a value within both limits, of a table

@@ -9,22 +9,21 @@ ghost use Rattle.std.specs.Prelude.{◌≡◌, ◌<◌, ℕ, All, List, Some, Ok
 ghost use Rattle.adb_block.specs.Header.{header_of};
 ghost use Rattle.adb_view.specs.declared.tables.Which.{Which};
 ghost use Rattle.adb_view.specs.Plain.{Plain};
-ghost use Rattle.adb_schema.specs.Soundness.{payload_in, root_value, schema_word};
-ghost use Rattle.adb_write.specs.Canonical.{written_of};
-ghost use Rattle.adb_write.specs.File.{file_of};
-ghost use Rattle.pkg_core.specs.Whole.{root_of_schema};
-ghost use Rattle.gen_core.specs.Dumps.{IsRootValue};
-ghost use Rattle.gen_core.specs.Generated.{file_unless_too_large, generated_file};
+ghost use Rattle.outcome.specs.adb_schema.Soundness.{payload_in, root_value, schema_word};
+ghost use Rattle.outcome.specs.adb_write.Canonical.{written_of};
+ghost use Rattle.outcome.specs.adb_write.File.{file_of};
+ghost use Rattle.outcome.specs.pkg_core.Whole.{root_of_schema};
+ghost use Rattle.outcome.specs.gen_core.Dumps.{IsRootValue};
+ghost use Rattle.outcome.specs.gen_core.Generated.{file_unless_too_large, generated_file};
 ghost use Rattle.outcome.specs.Dump.{dump_of};
 
 use adb_block::{what_is_spelled_is_read, what_is_written_is_spelled};
-use adb_dump::values_found_in_bytes_are_of_their_table;
 use adb_view::values_of_few_visits_have_no_fault;
-use adb_write::{
+use outcome::{
     a_canonical_payload_is_read_back, a_canonical_payload_is_visited_once,
-    a_value_overflows_exactly_past_a_limit,
+    a_text_is_accepted_exactly_if_a_root_has_it, a_value_overflows_exactly_past_a_limit,
+    values_found_in_bytes_are_of_their_table,
 };
-use gen_core::a_text_is_accepted_exactly_if_a_root_has_it;
 
 /// A container that is generated from a text is printed as that text again.
 pub fn what_is_generated_is_printed_again()

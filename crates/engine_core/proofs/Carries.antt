@@ -3,8 +3,8 @@ use Rattle.std.proofs.Common.{◌≡◌, inl, inr, ◌∙◌, ◌<◌, ◌^◌, 
 use Rattle.std.specs.Prelude.{not, is_some, slice_get}
 use Rattle.std.specs.Option.{option_copied}
 use Rattle.std.specs.Str.{bytes_eq}
-use Rattle.adb_write.specs.Canonical.{PayloadCounts, overflow_of}
-use Rattle.adb_schema.specs.Reserved.{is_reserved}
+use Rattle.added_packages.specs.adb_write.Canonical.{PayloadCounts, overflow_of}
+use Rattle.journal_staging.specs.adb_schema.Reserved.{is_reserved}
 use Rattle.base_core.specs.Listed.{IsRising}
 use Rattle.base_core.specs.Name.{IsName}
 use Rattle.base_core.proofs.Rising.{IsIn, rises_from_pairs}
@@ -12,48 +12,48 @@ use Rattle.base_core.specs.Calls.{IfObservable}
 use Rattle.base_core.specs.Faults.{Counts}
 use Rattle.base_core.specs.Files.{Files}
 use Rattle.base_core.specs.Tree.{TreeState, files_of}
-use Rattle.change_files.specs.FileChange.{FileChange}
-use Rattle.change_files.specs.FilesAfter.{Records, listing_bytes}
-use Rattle.change_files.specs.PlanLists.{FileWrite, file_writes_of, first_reserved, names_in_order}
-use Rattle.change_inputs.specs.Answers.{Agrees}
-use Rattle.change_inputs.specs.Chains.{and_then}
-use Rattle.change_inputs.specs.Inputs.{Inputs}
-use Rattle.change_inputs.specs.declared.root.Refused.{Refused}
-use Rattle.change_inputs.specs.declared.root.Refused.TheVariants.{Disk, Memory, Refusal as IsRefused}
-use Rattle.change_outcome.specs.Premises.{HasNoReservedPath, IsRootOfFiles}
-use Rattle.change_outcome.proofs.ChangeLeads.{leads}
-use Rattle.change_outcome.proofs.ChangeNames.{change_names}
-use Rattle.change_outcome.proofs.FreeNames.{name_of_any, none_of, once_rising}
-use Rattle.journal_intent.specs.FreeNames.{HaveNoRepeats}
-use Rattle.journal_intent.specs.Intent.{AreChangeNames}
+use Rattle.change_report.specs.change_files.FileChange.{FileChange}
+use Rattle.change_report.specs.change_files.FilesAfter.{Records, listing_bytes}
+use Rattle.change_report.specs.change_files.PlanLists.{FileWrite, file_writes_of, first_reserved, names_in_order}
+use Rattle.change_report.specs.change_inputs.Answers.{Agrees}
+use Rattle.change_report.specs.change_inputs.Chains.{and_then}
+use Rattle.change_report.specs.change_inputs.Inputs.{Inputs}
+use Rattle.change_report.specs.change_inputs.declared.root.Refused.{Refused}
+use Rattle.change_report.specs.change_inputs.declared.root.Refused.TheVariants.{Disk, Memory, Refusal as IsRefused}
+use Rattle.change_report.specs.change_outcome.Premises.{HasNoReservedPath, IsRootOfFiles}
+use Rattle.change_report.proofs.change_outcome.ChangeLeads.{leads}
+use Rattle.change_report.proofs.change_outcome.ChangeNames.{change_names}
+use Rattle.change_report.proofs.change_outcome.FreeNames.{name_of_any, none_of, once_rising}
+use Rattle.change_report.specs.journal_intent.FreeNames.{HaveNoRepeats}
+use Rattle.change_report.specs.journal_intent.Intent.{AreChangeNames}
 use Rattle.engine_core.proofs.Once.{once_both}
-use Rattle.change_outcome.proofs.Leading.{acted_is}
-use Rattle.change_outcome.proofs.Room.{room}
-use Rattle.change_outcome.specs.ChangeOutcome.{Actions, ChangeDone, ChangeWishes, actions_of, bytes_under, change_done, does_something, file_change, is_other_file, name_if_needed, new_records, unless_overflow, written_records}
-use Rattle.change_outcome.specs.MembersAfter.{MemberFound, found_package_contents, found_members}
-use Rattle.journal_core.specs.Recovery.{after_actions, intent_name}
-use Rattle.journal_core.specs.Staged.{AreJournalPathsFree, AreStagingPathsFree, IsEmptyStage, Staging, action_count, new_stage, with_staged}
-use Rattle.journal_intent.specs.IntentValue.{intent_of_lists, value_of_intent}
-use Rattle.change_files.specs.NamesAfter.{name_change}
-use Rattle.db_core.specs.Members.{Member, is_added, member_name}
-use Rattle.file_owners.specs.Replaces.{version_text}
-use Rattle.own_core.specs.Planned.{IsOfAddedFile, IsOpenName, written_names}
-use Rattle.path_clashes.specs.Clash.{HasNoClash}
-use Rattle.own_core.specs.WritesSeen.{writes_in}
+use Rattle.change_report.proofs.change_outcome.Leading.{acted_is}
+use Rattle.change_report.proofs.change_outcome.Room.{room}
+use Rattle.change_report.specs.change_outcome.ChangeOutcome.{Actions, ChangeDone, ChangeWishes, actions_of, bytes_under, change_done, does_something, file_change, is_other_file, name_if_needed, new_records, unless_overflow, written_records}
+use Rattle.change_report.specs.change_outcome.MembersAfter.{MemberFound, found_package_contents, found_members}
+use Rattle.change_report.specs.journal_core.Recovery.{after_actions, intent_name}
+use Rattle.change_report.specs.journal_core.Staged.{AreJournalPathsFree, AreStagingPathsFree, IsEmptyStage, Staging, action_count, new_stage, with_staged}
+use Rattle.change_report.specs.journal_intent.IntentValue.{intent_of_lists, value_of_intent}
+use Rattle.change_report.specs.change_files.NamesAfter.{name_change}
+use Rattle.change_report.specs.db_core.Members.{Member, is_added, member_name}
+use Rattle.change_report.specs.file_owners.Replaces.{version_text}
+use Rattle.change_report.specs.own_core.Planned.{IsOfAddedFile, IsOpenName, written_names}
+use Rattle.change_report.specs.path_clashes.Clash.{HasNoClash}
+use Rattle.change_report.specs.own_core.WritesSeen.{writes_in}
 use Rattle.base_core.specs.declared.cause.Cause.{Cause}
 use Rattle.report_core.specs.declared.refusal.Refusal.{Refusal}
 use Rattle.report_core.specs.declared.refusal.Refusal.TheVariants.{PackageBad}
 use Rattle.root_names.specs.RootNames.{database_name, text_database_name, world_name}
-use Rattle.stage_files.specs.Carried.{IsCarriedTo}
-use Rattle.stage_files.specs.Sources.{EachDenotes}
-use Rattle.stage_files.specs.Spoiled.{HasSpoiledFile, IsSpoiledAt, IsSpoiledFile}
-use Rattle.package_test.specs.Tested.{IsTestedOf}
-use Rattle.package_test.specs.declared.package.TestedPackage.{TestedPackage}
-use Rattle.stage_files.specs.declared.writes.Source.{Source}
-use Rattle.stage_files.specs.declared.writes.Source.TheVariants.{Bytes, File, Link}
-use Rattle.stage_files.specs.declared.writes.StageFault.{StageFault}
-use Rattle.stage_files.specs.declared.writes.StageFault.TheVariants as Stages
-use Rattle.stage_files.specs.declared.writes.StagedWrite.{StagedWrite}
+use Rattle.journal_staging.specs.Carried.{IsCarriedTo}
+use Rattle.journal_staging.specs.Sources.{EachDenotes}
+use Rattle.journal_staging.specs.Spoiled.{HasSpoiledFile, IsSpoiledAt, IsSpoiledFile}
+use Rattle.journal_staging.specs.package_verifier.Tested.{IsTestedOf}
+use Rattle.journal_staging.specs.package_verifier.declared.package.TestedPackage.{TestedPackage}
+use Rattle.journal_staging.specs.declared.writes.Source.{Source}
+use Rattle.journal_staging.specs.declared.writes.Source.TheVariants.{Bytes, File, Link}
+use Rattle.journal_staging.specs.declared.writes.StageFault.{StageFault}
+use Rattle.journal_staging.specs.declared.writes.StageFault.TheVariants as Stages
+use Rattle.journal_staging.specs.declared.writes.StagedWrite.{StagedWrite}
 use Rattle.engine_core.specs.Carrying.{IsRefusedPackage, ready_change}
 use Rattle.engine_core.specs.ChangeRun.{CarriesOut, DoesCommit, IsUnchangedOrCommit, report_of_result}
 use Rattle.engine_core.specs.Finishing.{AreRecordWrites, AreRecordsOf, IsPlanned, bytes_if, arrived_inputs, arrived_members, arrived_replacement}

@@ -1,16 +1,16 @@
 -- There is one choice.
 use Rattle.std.proofs.Common.{◌≡◌, inl, inr, ℕ, ◌+◌, List, Option, Some, None, Result, Ok, Err, refl, sym, ap, subst, ◌∙◌, arith}
-use Rattle.candidate_core.specs.Candidates.{Need, is_eligible}
-use Rattle.candidate_core.specs.Options.{IsIn, places_from}
-use Rattle.candidate_core.specs.Rank.{SealedPool}
-use Rattle.candidate_core.proofs.OptionLists.{in_places}
+use Rattle.change_report.specs.candidate_core.Candidates.{Need, is_eligible}
+use Rattle.change_report.specs.candidate_core.Options.{IsIn, places_from}
+use Rattle.change_report.specs.candidate_core.Rank.{SealedPool}
+use Rattle.change_report.proofs.candidate_core.OptionLists.{in_places}
 use Rattle.report_core.specs.declared.refusal.Refusal.{Refusal}
-use Rattle.search_tables.specs.Reasons.{HasOptions}
-use Rattle.search_tables.specs.Selection.{IsFirstSelection}
-use Rattle.solve_core.proofs.Existence.{first_or_none}
-use Rattle.solve_core.proofs.FirstFound.{none_satisfies}
-use Rattle.search_tables.proofs.PoolFacts.{pool_facts}
-use Rattle.search_tables.proofs.Satisfying.{closed_of_satisfying, satisfying_of_closed}
+use Rattle.change_report.specs.search_tables.Reasons.{HasOptions}
+use Rattle.change_report.specs.search_tables.Selection.{IsFirstSelection}
+use Rattle.change_report.proofs.solve_core.Existence.{first_or_none}
+use Rattle.change_report.proofs.solve_core.FirstFound.{none_satisfies}
+use Rattle.change_report.proofs.search_tables.PoolFacts.{pool_facts}
+use Rattle.change_report.proofs.search_tables.Satisfying.{closed_of_satisfying, satisfying_of_closed}
 use Rattle.engine_core.specs.Choice.{IsChoice, IsChoiceFrom}
 
 -- what a pool promises of the options of each need

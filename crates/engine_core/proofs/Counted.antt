@@ -5,8 +5,8 @@ use Rattle.base_core.specs.Faults.{Counts, CountsOnlyRise, HasCause, IsNoFault}
 use Rattle.base_core.specs.Read.{OnlyReads}
 use Rattle.base_core.specs.Tree.{TreeState}
 use Rattle.base_core.proofs.Counting.{goes_on_twice, no_fault_twice}
-use Rattle.change_inputs.specs.declared.root.Refused.{Refused}
-use Rattle.change_inputs.specs.declared.root.Refused.TheVariants.{Disk, Memory}
+use Rattle.change_report.specs.change_inputs.declared.root.Refused.{Refused}
+use Rattle.change_report.specs.change_inputs.declared.root.Refused.TheVariants.{Disk, Memory}
 use Rattle.engine_core.specs.Runs.{IsRunCounted}
 
 -- behind calls that count no fault

@@ -7,20 +7,20 @@ use Rattle.base_core.specs.Faults.{Counts}
 use Rattle.base_core.specs.Files.{Files, HasNamesAmong, no_names}
 use Rattle.base_core.specs.Read.{OnlyReads}
 use Rattle.base_core.specs.Tree.{IsWellFormed, TreeState, bytes_at, files_of}
-use Rattle.change_inputs.specs.Answers.{AgreesUnlessDisk, IsFailure}
-use Rattle.change_inputs.specs.Chains.{and_then}
-use Rattle.change_inputs.specs.Inputs.{Inputs}
-use Rattle.change_inputs.specs.declared.root.Refused.{Refused}
-use Rattle.change_inputs.specs.declared.root.Refused.TheVariants.{Disk, Memory, Refusal as IsRefused}
-use Rattle.change_outcome.specs.ChangeOutcome.{ChangeDone, ChangeWishes, IsClashOfChange}
-use Rattle.change_outcome.specs.MembersAfter.{MemberFound}
+use Rattle.change_report.specs.change_inputs.Answers.{AgreesUnlessDisk, IsFailure}
+use Rattle.change_report.specs.change_inputs.Chains.{and_then}
+use Rattle.change_report.specs.change_inputs.Inputs.{Inputs}
+use Rattle.change_report.specs.change_inputs.declared.root.Refused.{Refused}
+use Rattle.change_report.specs.change_inputs.declared.root.Refused.TheVariants.{Disk, Memory, Refusal as IsRefused}
+use Rattle.change_report.specs.change_outcome.ChangeOutcome.{ChangeDone, ChangeWishes, IsClashOfChange}
+use Rattle.change_report.specs.change_outcome.MembersAfter.{MemberFound}
 use Rattle.command_core.specs.Command.{CommandLine}
-use Rattle.journal_core.specs.Recovery.{intent_name}
-use Rattle.journal_core.specs.Staged.{AreStagingPathsFree, IsEmptyStage}
-use Rattle.make_info.specs.Reads.{Reads}
-use Rattle.package_files.specs.Runs.{AreObserved}
-use Rattle.path_clashes.specs.Clash.{NamePair}
-use Rattle.package_changes.specs.Changes.{Replacement}
+use Rattle.change_report.specs.journal_core.Recovery.{intent_name}
+use Rattle.change_report.specs.journal_core.Staged.{AreStagingPathsFree, IsEmptyStage}
+use Rattle.change_report.specs.make_info.Reads.{Reads}
+use Rattle.change_report.specs.package_files.Runs.{AreObserved}
+use Rattle.change_report.specs.path_clashes.Clash.{NamePair}
+use Rattle.change_report.specs.package_changes.Changes.{Replacement}
 use Rattle.report_core.specs.declared.refusal.Refusal.{Refusal}
 use Rattle.engine_core.specs.ChangeRun.{CarriesOut, DoesCommit, IsUnchangedOrCommit, report_as_is, report_of_result}
 use Rattle.engine_core.specs.Changed.{IsClashOfSelected, IsClashUnlessSimulated, Selected, change_of_selected, found_packages}

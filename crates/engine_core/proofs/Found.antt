@@ -4,35 +4,35 @@ use Rattle.std.specs.Prelude.{IsSome, map, option_map, slice_get}
 use Rattle.std.specs.Option.{option_map_or}
 use Rattle.std.proofs.lemmas.List.Elements.{All-head}
 use Rattle.std.proofs.lemmas.Option.{same_Some}
-use Rattle.adb_schema.specs.Reserved.{is_reserved}
+use Rattle.journal_staging.specs.adb_schema.Reserved.{is_reserved}
 use Rattle.adb_view.specs.Plain.{Plain}
 use Rattle.base_core.specs.Calls.{IfObservable}
 use Rattle.base_core.specs.Faults.{Counts}
 use Rattle.base_core.specs.Files.{Files, HasNamesAmong, no_names}
 use Rattle.base_core.specs.Tree.{IsWellFormed, TreeState, bytes_at, files_of}
-use Rattle.change_files.specs.FileChange.{FileChange, old_listings}
-use Rattle.change_files.specs.NamesAfter.{name_change}
-use Rattle.change_files.specs.PlanLists.{first_reserved}
-use Rattle.change_inputs.specs.Answers.{IsFailure}
-use Rattle.change_inputs.specs.Chains.{and_then}
-use Rattle.change_inputs.specs.Inputs.{Inputs}
-use Rattle.change_inputs.specs.declared.root.Refused.{Refused}
-use Rattle.change_inputs.specs.declared.root.Refused.TheVariants as Commands
-use Rattle.change_outcome.specs.ChangeOutcome.{ChangeDone, ChangeWishes, IsClashFound, change_members, change_with_members, file_change, name_at_place, touched_paths, unless_clash, unless_contested, unless_reserved_path, unless_too_large}
-use Rattle.change_outcome.specs.MembersAfter.{MemberFound, found_members}
-use Rattle.change_outcome.specs.Triggers.{unless_trigger}
-use Rattle.db_core.specs.Members.{Member, member_listings, member_name, member_of_kept}
-use Rattle.db_core.specs.Seen.{members_of, packages_of}
-use Rattle.file_owners.specs.Owners.{contested_of}
-use Rattle.make_info.specs.Reads.{Reads}
-use Rattle.own_core.specs.Planned.{ArePlanLists, HasOwnNames, HasSources, IsClashBySome, IsPlanFor, IsPlanOf, IsRefusalFor, IsRefusalOf, MayBeRefusalOf, change_by, member_name_at}
-use Rattle.own_core.specs.declared.fault.PlanFault.{PlanFault}
-use Rattle.own_core.specs.declared.planning.FilePlan.{FilePlan}
-use Rattle.own_core.specs.declared.fault.PlanFault.TheVariants as Plans
-use Rattle.package_changes.specs.Changes.{Replacement}
-use Rattle.path_claims.specs.Claims.{ContestedPath}
-use Rattle.path_clashes.specs.Clash.{HasNoClash, NamePair}
-use Rattle.path_clashes.specs.FirstClash.{IsClashOf, MayBeClashOf}
+use Rattle.change_report.specs.change_files.FileChange.{FileChange, old_listings}
+use Rattle.change_report.specs.change_files.NamesAfter.{name_change}
+use Rattle.change_report.specs.change_files.PlanLists.{first_reserved}
+use Rattle.change_report.specs.change_inputs.Answers.{IsFailure}
+use Rattle.change_report.specs.change_inputs.Chains.{and_then}
+use Rattle.change_report.specs.change_inputs.Inputs.{Inputs}
+use Rattle.change_report.specs.change_inputs.declared.root.Refused.{Refused}
+use Rattle.change_report.specs.change_inputs.declared.root.Refused.TheVariants as Commands
+use Rattle.change_report.specs.change_outcome.ChangeOutcome.{ChangeDone, ChangeWishes, IsClashFound, change_members, change_with_members, file_change, name_at_place, touched_paths, unless_clash, unless_contested, unless_reserved_path, unless_too_large}
+use Rattle.change_report.specs.change_outcome.MembersAfter.{MemberFound, found_members}
+use Rattle.change_report.specs.change_outcome.Triggers.{unless_trigger}
+use Rattle.change_report.specs.db_core.Members.{Member, member_listings, member_name, member_of_kept}
+use Rattle.change_report.specs.db_core.Seen.{members_of, packages_of}
+use Rattle.change_report.specs.file_owners.Owners.{contested_of}
+use Rattle.change_report.specs.make_info.Reads.{Reads}
+use Rattle.change_report.specs.own_core.Planned.{ArePlanLists, HasOwnNames, HasSources, IsClashBySome, IsPlanFor, IsPlanOf, IsRefusalFor, IsRefusalOf, MayBeRefusalOf, change_by, member_name_at}
+use Rattle.change_report.specs.own_core.declared.fault.PlanFault.{PlanFault}
+use Rattle.change_report.specs.own_core.declared.planning.FilePlan.{FilePlan}
+use Rattle.change_report.specs.own_core.declared.fault.PlanFault.TheVariants as Plans
+use Rattle.change_report.specs.package_changes.Changes.{Replacement}
+use Rattle.change_report.specs.path_claims.Claims.{ContestedPath}
+use Rattle.change_report.specs.path_clashes.Clash.{HasNoClash, NamePair}
+use Rattle.change_report.specs.path_clashes.FirstClash.{IsClashOf, MayBeClashOf}
 use Rattle.report_core.specs.declared.refusal.Refusal.{Refusal}
 use Rattle.report_core.specs.declared.refusal.Refusal.TheVariants.{Owned, PathClash, Reserved}
 use Rattle.engine_core.specs.ChangeRun.{CarriesOut}

@@ -4,12 +4,12 @@ use Rattle.base_core.specs.Calls.{IfObservable}
 use Rattle.base_core.specs.Faults.{Counts}
 use Rattle.base_core.specs.Files.{Files}
 use Rattle.base_core.specs.Tree.{TreeState, files_of}
-use Rattle.change_inputs.specs.Inputs.{Inputs}
-use Rattle.change_inputs.specs.declared.root.Refused.{Refused}
-use Rattle.change_outcome.specs.ChangeOutcome.{ChangeWishes, IsClashFoundAmong, change_with_members}
-use Rattle.change_outcome.specs.MembersAfter.{MemberFound}
-use Rattle.package_changes.specs.Changes.{Replacement}
-use Rattle.path_clashes.specs.Clash.{NamePair}
+use Rattle.change_report.specs.change_inputs.Inputs.{Inputs}
+use Rattle.change_report.specs.change_inputs.declared.root.Refused.{Refused}
+use Rattle.change_report.specs.change_outcome.ChangeOutcome.{ChangeWishes, IsClashFoundAmong, change_with_members}
+use Rattle.change_report.specs.change_outcome.MembersAfter.{MemberFound}
+use Rattle.change_report.specs.package_changes.Changes.{Replacement}
+use Rattle.change_report.specs.path_clashes.Clash.{NamePair}
 use Rattle.engine_core.specs.ChangeRun.{CarriesOut}
 
 -- a run of a change by these packages, if reads find them

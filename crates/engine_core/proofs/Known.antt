@@ -14,7 +14,7 @@ use Rattle.dep_core.specs.DependencyText.{is_dependency}
 use Rattle.dep_core.specs.World.{IsWorld, has_name, is_in_order}
 use Rattle.dep_core.proofs.Places.{has_name-at, has_name-none, in_order_at}
 use Rattle.dep_core.proofs.Worlds.{cmp-back}
-use Rattle.make_info.proofs.Left.{left_at}
+use Rattle.change_report.proofs.make_info.Left.{left_at}
 use Rattle.engine_core.specs.Wishes.{first_unknown}
 
 pub is_found : {X : Type 0} (p : X → Bool) (n : ℕ) (xs : List X) → is_some (position_from p n xs) ≡ list_any p xs

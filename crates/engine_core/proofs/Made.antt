@@ -2,33 +2,33 @@
 use Rattle.std.proofs.Common.{◌≡◌, ◌∙◌, ◌≤◌, ℕ, Bool, true, false, List, All, Option, Result, Ok, Err, length, refl, sym, ap, subst, arith}
 use Rattle.std.specs.Prelude.{if◌then◌else◌, nat_lt}
 use Rattle.std.proofs.lemmas.Bool.{ltb-false}
-use Rattle.arrivals.specs.Answered.{DenotesUnlessDisk}
-use Rattle.arrivals.specs.Arrivals.{AreMembersRead, arrivals_seen}
-use Rattle.arrivals.specs.declared.arrivals.Arrivals.{Arrivals}
+use Rattle.added_packages.specs.Answered.{DenotesUnlessDisk}
+use Rattle.added_packages.specs.Arrivals.{AreMembersRead, arrivals_seen}
+use Rattle.added_packages.specs.declared.arrivals.Arrivals.{Arrivals}
 use Rattle.base_core.specs.Faults.{Counts}
 use Rattle.base_core.specs.Files.{Files}
 use Rattle.base_core.specs.Tree.{IsWellFormed, TreeState}
-use Rattle.change_inputs.specs.Candidates.{candidates_of, root_pool}
-use Rattle.change_inputs.specs.Chains.{and_then}
-use Rattle.change_inputs.specs.Inputs.{Inputs}
-use Rattle.change_inputs.specs.declared.root.Refused.{Refused}
-use Rattle.change_inputs.specs.declared.root.Refused.TheVariants.{Disk, Memory, Refusal as IsRefused}
-use Rattle.change_outcome.specs.ChangeOutcome.{ChangeDone, ChangeWishes, IsClashFoundAmong, change_members, change_or_refusal, change_with_members}
-use Rattle.change_outcome.specs.MembersAfter.{MemberFound, members_after}
+use Rattle.change_report.specs.change_inputs.Candidates.{candidates_of, root_pool}
+use Rattle.change_report.specs.change_inputs.Chains.{and_then}
+use Rattle.change_report.specs.change_inputs.Inputs.{Inputs}
+use Rattle.change_report.specs.change_inputs.declared.root.Refused.{Refused}
+use Rattle.change_report.specs.change_inputs.declared.root.Refused.TheVariants.{Disk, Memory, Refusal as IsRefused}
+use Rattle.change_report.specs.change_outcome.ChangeOutcome.{ChangeDone, ChangeWishes, IsClashFoundAmong, change_members, change_or_refusal, change_with_members}
+use Rattle.change_report.specs.change_outcome.MembersAfter.{MemberFound, members_after}
 use Rattle.command_core.specs.Command.{CommandLine}
 use Rattle.command_core.specs.declared.command.Flags.{Flags}
-use Rattle.db_core.specs.Seen.{packages_of}
-use Rattle.db_core.specs.declared.members.TheConstants.{MOST_MEMBERS}
+use Rattle.change_report.specs.db_core.Seen.{packages_of}
+use Rattle.change_report.specs.db_core.declared.members.TheConstants.{MOST_MEMBERS}
 use Rattle.dep_core.specs.Repositories.{Repository}
-use Rattle.make_info.specs.Reads.{Reads}
-use Rattle.package_files.specs.Runs.{AreObserved, Explains}
-use Rattle.package_changes.specs.Changes.{Replacement}
-use Rattle.package_changes.specs.Placed.{candidates_at, placed_names_of, replacement_of}
-use Rattle.package_changes.specs.Seen.{placed_names_seen, replacement_by}
-use Rattle.package_changes.specs.declared.placed.PlacedNames.{PlacedNames}
-use Rattle.path_clashes.specs.Clash.{NamePair}
-use Rattle.candidate_core.specs.Rank.{SealedPool}
-use Rattle.candidate_core.specs.declared.candidate_list.TheConstants.{MOST_CANDIDATES}
+use Rattle.change_report.specs.make_info.Reads.{Reads}
+use Rattle.change_report.specs.package_files.Runs.{AreObserved, Explains}
+use Rattle.change_report.specs.package_changes.Changes.{Replacement}
+use Rattle.change_report.specs.package_changes.Placed.{candidates_at, placed_names_of, replacement_of}
+use Rattle.change_report.specs.package_changes.Seen.{placed_names_seen, replacement_by}
+use Rattle.change_report.specs.package_changes.declared.placed.PlacedNames.{PlacedNames}
+use Rattle.change_report.specs.path_clashes.Clash.{NamePair}
+use Rattle.change_report.specs.candidate_core.Rank.{SealedPool}
+use Rattle.change_report.specs.candidate_core.declared.candidate_list.TheConstants.{MOST_CANDIDATES}
 use Rattle.report_core.specs.declared.refusal.Refusal.{Refusal}
 use Rattle.engine_core.specs.ChangeRun.{CarriesOut}
 use Rattle.engine_core.specs.Changed.{IsClashOfSelectedAmong, IsClashUnlessSimulatedAmong, change_of_selected, simulated_change}

@@ -7,9 +7,9 @@ use Rattle.std.specs.declared.cmp.Ordering.{Ordering}
 use Rattle.std.specs.Str.{bytes_eq}
 use Rattle.std.proofs.lemmas.Slice.Eq.{bytes_eq-Decides}
 use Rattle.std.proofs.lemmas.Bool.{or_from}
-use Rattle.file_owners.proofs.NamedPlaces.{turned}
-use Rattle.change_files.specs.PlanLists.{names_in_order, unless_next, without_repeats}
-use Rattle.journal_intent.specs.FreeNames.{HaveNoRepeats, IsNoneOf, IsOneOf}
+use Rattle.change_report.proofs.file_owners.NamedPlaces.{turned}
+use Rattle.change_report.specs.change_files.PlanLists.{names_in_order, unless_next, without_repeats}
+use Rattle.change_report.specs.journal_intent.FreeNames.{HaveNoRepeats, IsNoneOf, IsOneOf}
 use Rattle.base_core.specs.ByteOrder.{bytes_cmp}
 use Rattle.base_core.specs.Sorted.{sorted_by, with_element}
 use Rattle.base_core.proofs.Sorting.{Each}

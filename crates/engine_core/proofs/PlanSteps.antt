@@ -3,11 +3,11 @@ use Rattle.std.proofs.Common.{◌≡◌, List, Result, Ok, Err, refl, sym, ap, s
 use Rattle.base_core.specs.Faults.{Counts}
 use Rattle.base_core.specs.Read.{OnlyReads}
 use Rattle.base_core.specs.Tree.{TreeState}
-use Rattle.change_inputs.specs.declared.root.Refused.{Refused}
-use Rattle.change_inputs.specs.declared.root.Refused.TheVariants as Commands
-use Rattle.own_core.specs.declared.fault.PlanFault.{PlanFault}
-use Rattle.own_core.specs.declared.fault.PlanFault.TheVariants as Plans
-use Rattle.own_core.specs.declared.planning.FilePlan.{FilePlan}
+use Rattle.change_report.specs.change_inputs.declared.root.Refused.{Refused}
+use Rattle.change_report.specs.change_inputs.declared.root.Refused.TheVariants as Commands
+use Rattle.change_report.specs.own_core.declared.fault.PlanFault.{PlanFault}
+use Rattle.change_report.specs.own_core.declared.fault.PlanFault.TheVariants as Plans
+use Rattle.change_report.specs.own_core.declared.planning.FilePlan.{FilePlan}
 use Rattle.engine_core.specs.Plans.{IsRefusedFor}
 
 pub plan_read : (old now : List TreeState) (before after : Counts) (plan : FilePlan) → OnlyReads {E = PlanFault} Plans.Disk old now before after (Ok plan) → OnlyReads {E = Refused} Commands.Disk old now before after (Ok plan)

@@ -1,10 +1,10 @@
 -- The pool of a command.
 use Rattle.std.proofs.Common.{◌≡◌, Bool, true, false, Ok, Err, sym, ap}
 use Rattle.std.specs.Prelude.{if◌then◌else◌}
-use Rattle.change_inputs.specs.Candidates.{candidates_of, root_pool}
-use Rattle.change_inputs.specs.Inputs.{Inputs}
+use Rattle.change_report.specs.change_inputs.Candidates.{candidates_of, root_pool}
+use Rattle.change_report.specs.change_inputs.Inputs.{Inputs}
 use Rattle.command_core.specs.Command.{CommandLine}
-use Rattle.candidate_core.specs.Rank.{SealedPool, UpgradedNames, sealed_pool_by}
+use Rattle.change_report.specs.candidate_core.Rank.{SealedPool, UpgradedNames, sealed_pool_by}
 use Rattle.report_core.specs.declared.refusal.Refusal.{Refusal}
 use Rattle.engine_core.specs.Selecting.{pool_by}
 use Rattle.engine_core.specs.Wishes.{names_to_upgrade}

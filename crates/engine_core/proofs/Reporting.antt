@@ -2,9 +2,9 @@
 use Rattle.std.proofs.Common.{◌≡◌, ◌∙◌, ℕ, List, [], ◌∷◌, map, Option, Some, None, refl, ap}
 use Rattle.std.specs.Prelude.{option_map}
 use Rattle.std.specs.List.{cons_option, filter_map}
-use Rattle.package_changes.specs.Changes.{change_of_name, changes_of, names_on_both_sides}
-use Rattle.package_changes.specs.Placed.{PlacedChange, PlacedName, PlacedReplacement, change_in, placed_name_of, placed_names_of, replacement_of}
-use Rattle.package_changes.proofs.PlacedLaws.{change_alone}
+use Rattle.change_report.specs.package_changes.Changes.{change_of_name, changes_of, names_on_both_sides}
+use Rattle.change_report.specs.package_changes.Placed.{PlacedChange, PlacedName, PlacedReplacement, change_in, placed_name_of, placed_names_of, replacement_of}
+use Rattle.change_report.proofs.package_changes.PlacedLaws.{change_alone}
 
 abbrev pub HaveOwnChange : Type 0
 HaveOwnChange = (p : PlacedReplacement) (name : List ℕ) → (placed_name_of p name).change ≡ change_of_name (replacement_of p) name

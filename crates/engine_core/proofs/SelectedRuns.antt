@@ -4,16 +4,16 @@ use Rattle.std.specs.Prelude.{All, if◌then◌else◌}
 use Rattle.std.specs.Result.{IsErrAnd}
 use Rattle.base_core.specs.Faults.{Counts}
 use Rattle.base_core.specs.Tree.{IsWellFormed, TreeState}
-use Rattle.change_inputs.specs.Answers.{Agrees, IsFailure}
-use Rattle.change_inputs.specs.Candidates.{root_pool}
-use Rattle.change_inputs.specs.Chains.{and_then}
-use Rattle.change_inputs.specs.Inputs.{Inputs}
-use Rattle.change_inputs.specs.declared.root.Refused.{Refused}
-use Rattle.change_inputs.specs.declared.root.Refused.TheVariants.{Disk, Memory, Refusal as IsRefused}
-use Rattle.change_outcome.specs.ChangeOutcome.{ChangeDone, change_or_refusal}
+use Rattle.change_report.specs.change_inputs.Answers.{Agrees, IsFailure}
+use Rattle.change_report.specs.change_inputs.Candidates.{root_pool}
+use Rattle.change_report.specs.change_inputs.Chains.{and_then}
+use Rattle.change_report.specs.change_inputs.Inputs.{Inputs}
+use Rattle.change_report.specs.change_inputs.declared.root.Refused.{Refused}
+use Rattle.change_report.specs.change_inputs.declared.root.Refused.TheVariants.{Disk, Memory, Refusal as IsRefused}
+use Rattle.change_report.specs.change_outcome.ChangeOutcome.{ChangeDone, change_or_refusal}
 use Rattle.command_core.specs.Command.{CommandLine}
-use Rattle.package_changes.specs.Report.{simulated_report}
-use Rattle.candidate_core.specs.Rank.{SealedPool, UpgradedNames}
+use Rattle.change_report.specs.package_changes.Report.{simulated_report}
+use Rattle.change_report.specs.candidate_core.Rank.{SealedPool, UpgradedNames}
 use Rattle.report_core.specs.declared.refusal.Refusal.{Refusal}
 use Rattle.report_core.specs.declared.refusal.Refusal.TheVariants.{NotInstalled}
 use Rattle.engine_core.specs.Changed.{Selected, selected_by, selected_of_inputs, simulated_change}

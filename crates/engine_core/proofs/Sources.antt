@@ -5,37 +5,37 @@ use Rattle.std.specs.Prelude.{not, if◌then◌else◌, is_some, slice_get, unwr
 use Rattle.std.specs.Option.{option_copied}
 use Rattle.base_core.specs.Files.{Files}
 use Rattle.base_core.specs.Tree.{TreeState, files_of}
-use Rattle.adb_schema.specs.Reserved.{is_reserved}
+use Rattle.journal_staging.specs.adb_schema.Reserved.{is_reserved}
 use Rattle.adb_view.specs.Plain.{Plain}
-use Rattle.arrivals.specs.Arrivals.{IsFileOfMember}
-use Rattle.change_files.specs.FileChange.{FileChange}
-use Rattle.change_files.specs.FilesAfter.{Records, changed_files, database_name, is_written, listing_bytes, world_bytes_after, world_name, written_as}
-use Rattle.change_files.specs.PlanLists.{FileWrite, file_writes_of, write_to}
-use Rattle.change_files.specs.Touched.{is_record_name}
-use Rattle.change_files.proofs.Lists.{IsOneOf}
-use Rattle.change_files.proofs.Owned.{coming_is, written_is}
-use Rattle.change_files.proofs.PlanNames.{writes_are}
-use Rattle.change_files.proofs.RecordNames.{database_after}
-use Rattle.change_files.proofs.Reserved.{records_reserved}
-use Rattle.change_files.proofs.Untouched.{takes_its_path}
+use Rattle.added_packages.specs.Arrivals.{IsFileOfMember}
+use Rattle.change_report.specs.change_files.FileChange.{FileChange}
+use Rattle.change_report.specs.change_files.FilesAfter.{Records, changed_files, database_name, is_written, listing_bytes, world_bytes_after, world_name, written_as}
+use Rattle.change_report.specs.change_files.PlanLists.{FileWrite, file_writes_of, write_to}
+use Rattle.change_report.specs.change_files.Touched.{is_record_name}
+use Rattle.change_report.proofs.change_files.Lists.{IsOneOf}
+use Rattle.change_report.proofs.change_files.Owned.{coming_is, written_is}
+use Rattle.change_report.proofs.change_files.PlanNames.{writes_are}
+use Rattle.change_report.proofs.change_files.RecordNames.{database_after}
+use Rattle.change_report.proofs.change_files.Reserved.{records_reserved}
+use Rattle.change_report.proofs.change_files.Untouched.{takes_its_path}
 use Rattle.std.proofs.lemmas.Bool.{false_from_ne_true}
-use Rattle.change_inputs.specs.Inputs.{Inputs}
-use Rattle.change_outcome.specs.Premises.{HasNoReservedPath, IsRootOfFiles}
-use Rattle.change_outcome.proofs.ActionNames.{written_free}
-use Rattle.change_outcome.specs.ChangeOutcome.{bytes_under, is_other_file, new_records}
-use Rattle.change_outcome.specs.MembersAfter.{MemberFound, found_package_contents}
-use Rattle.db_core.specs.Members.{Listing, Member, member_listings}
-use Rattle.file_guard.specs.AsListed.{has_target, link_bytes, link_to}
+use Rattle.change_report.specs.change_inputs.Inputs.{Inputs}
+use Rattle.change_report.specs.change_outcome.Premises.{HasNoReservedPath, IsRootOfFiles}
+use Rattle.change_report.proofs.change_outcome.ActionNames.{written_free}
+use Rattle.change_report.specs.change_outcome.ChangeOutcome.{bytes_under, is_other_file, new_records}
+use Rattle.change_report.specs.change_outcome.MembersAfter.{MemberFound, found_package_contents}
+use Rattle.change_report.specs.db_core.Members.{Listing, Member, member_listings}
+use Rattle.journal_staging.specs.file_guard.AsListed.{has_target, link_bytes, link_to}
 use Rattle.base_core.proofs.Sorting.{Each}
-use Rattle.own_core.specs.ClaimEntries.{folders_if_any, listed_file_at}
-use Rattle.own_core.proofs.Listings.{IsPlaced, each_placed}
-use Rattle.package_test.specs.Tested.{tested_name}
-use Rattle.package_test.specs.declared.package.TestedPackage.{TestedPackage}
-use Rattle.pkg_core.specs.Contents.{Contents, bytes_of_file}
-use Rattle.stage_files.specs.Sources.{EachDenotes, DenotesBytes}
-use Rattle.stage_files.specs.declared.writes.Source.{Source}
-use Rattle.stage_files.specs.declared.writes.Source.TheVariants.{Bytes, File, Link}
-use Rattle.stage_files.specs.declared.writes.StagedWrite.{StagedWrite}
+use Rattle.change_report.specs.own_core.ClaimEntries.{folders_if_any, listed_file_at}
+use Rattle.change_report.proofs.own_core.Listings.{IsPlaced, each_placed}
+use Rattle.journal_staging.specs.package_verifier.Tested.{tested_name}
+use Rattle.journal_staging.specs.package_verifier.declared.package.TestedPackage.{TestedPackage}
+use Rattle.journal_staging.specs.pkg_core.Contents.{Contents, bytes_of_file}
+use Rattle.journal_staging.specs.Sources.{EachDenotes, DenotesBytes}
+use Rattle.journal_staging.specs.declared.writes.Source.{Source}
+use Rattle.journal_staging.specs.declared.writes.Source.TheVariants.{Bytes, File, Link}
+use Rattle.journal_staging.specs.declared.writes.StagedWrite.{StagedWrite}
 use Rattle.engine_core.specs.Finishing.{AreRecordWrites, AreRecordsOf, bytes_if}
 use Rattle.engine_core.specs.Writing.{HasBytes, IsRecordOf, IsSourceOfWrite, IsWriteBy, entry_of_write, write_name}
 use Rattle.engine_core.specs.declared.finishing.NewRecords.{NewRecords}

@@ -3,17 +3,17 @@ use Rattle.std.proofs.Common.{◌≡◌, ℕ, zero, suc, List, [], ◌∷◌, Co
 use Rattle.std.specs.Prelude.{slice_get, option_and_then}
 use Rattle.std.proofs.lemmas.Option.{same_Some}
 use Rattle.adb_view.specs.Plain.{Plain}
-use Rattle.arrivals.specs.Arrivals.{AreMembersRead, IsMemberRead, IsPackageRead, package_in}
-use Rattle.arrivals.specs.declared.arrivals.MemberRead.{MemberRead}
-use Rattle.arrivals.specs.declared.arrivals.MemberRead.TheVariants.{Comes, Stays}
+use Rattle.added_packages.specs.Arrivals.{AreMembersRead, IsMemberRead, IsPackageRead, package_in}
+use Rattle.added_packages.specs.declared.arrivals.MemberRead.{MemberRead}
+use Rattle.added_packages.specs.declared.arrivals.MemberRead.TheVariants.{Comes, Stays}
 use Rattle.base_core.specs.Tree.{TreeState}
 use Rattle.base_core.specs.declared.cause.Cause.{Cause}
-use Rattle.change_outcome.specs.MembersAfter.{MemberFound, added_member_found, found_members}
-use Rattle.change_outcome.specs.PackageFiles.{AddedPackage}
-use Rattle.db_core.specs.Members.{Member}
-use Rattle.package_test.specs.Tested.{IsTestedOf}
-use Rattle.package_test.specs.declared.package.TestedPackage.{TestedPackage}
-use Rattle.stage_files.specs.Spoiled.{IsSpoiledFile}
+use Rattle.change_report.specs.change_outcome.MembersAfter.{MemberFound, added_member_found, found_members}
+use Rattle.change_report.specs.change_outcome.PackageFiles.{AddedPackage}
+use Rattle.change_report.specs.db_core.Members.{Member}
+use Rattle.journal_staging.specs.package_verifier.Tested.{IsTestedOf}
+use Rattle.journal_staging.specs.package_verifier.declared.package.TestedPackage.{TestedPackage}
+use Rattle.journal_staging.specs.Spoiled.{IsSpoiledFile}
 
 -- ---- what is found at a place
 

@@ -6,24 +6,24 @@ use Rattle.base_core.specs.Calls.{IfObservable}
 use Rattle.base_core.specs.Faults.{Counts}
 use Rattle.base_core.specs.Files.{Files}
 use Rattle.base_core.specs.Tree.{IsWellFormed, TreeState, files_of}
-use Rattle.change_inputs.specs.Answers.{AgreesUnlessDisk, IsFailure}
-use Rattle.change_inputs.specs.Chains.{and_then}
-use Rattle.change_inputs.specs.Inputs.{Inputs, first_index_read, inputs_of}
-use Rattle.change_inputs.specs.Seen.{inputs_seen}
-use Rattle.change_inputs.specs.declared.loaded.Loaded.{Loaded}
-use Rattle.change_inputs.specs.declared.root.Refused.{Refused}
-use Rattle.change_inputs.specs.declared.root.Refused.TheVariants.{Disk, Memory, Refusal as IsRefused}
-use Rattle.change_outcome.specs.ChangeOutcome.{ChangeDone, ChangeWishes, IsClashFoundAmong, change_members, change_or_refusal, change_with_members}
-use Rattle.change_outcome.specs.MembersAfter.{MemberFound, members_after}
+use Rattle.change_report.specs.change_inputs.Answers.{AgreesUnlessDisk, IsFailure}
+use Rattle.change_report.specs.change_inputs.Chains.{and_then}
+use Rattle.change_report.specs.change_inputs.Inputs.{Inputs, first_index_read, inputs_of}
+use Rattle.change_report.specs.change_inputs.Seen.{inputs_seen}
+use Rattle.change_report.specs.change_inputs.declared.loaded.Loaded.{Loaded}
+use Rattle.change_report.specs.change_inputs.declared.root.Refused.{Refused}
+use Rattle.change_report.specs.change_inputs.declared.root.Refused.TheVariants.{Disk, Memory, Refusal as IsRefused}
+use Rattle.change_report.specs.change_outcome.ChangeOutcome.{ChangeDone, ChangeWishes, IsClashFoundAmong, change_members, change_or_refusal, change_with_members}
+use Rattle.change_report.specs.change_outcome.MembersAfter.{MemberFound, members_after}
 use Rattle.command_core.specs.Command.{CommandLine}
 use Rattle.dep_core.specs.Repositories.{Repository}
-use Rattle.make_info.specs.Reads.{Reads}
-use Rattle.package_files.specs.Runs.{AreObserved, Explains}
-use Rattle.package_changes.specs.Changes.{Replacement}
-use Rattle.path_clashes.specs.Clash.{NamePair}
-use Rattle.candidate_core.specs.Rank.{SealedPool}
+use Rattle.change_report.specs.make_info.Reads.{Reads}
+use Rattle.change_report.specs.package_files.Runs.{AreObserved, Explains}
+use Rattle.change_report.specs.package_changes.Changes.{Replacement}
+use Rattle.change_report.specs.path_clashes.Clash.{NamePair}
+use Rattle.change_report.specs.candidate_core.Rank.{SealedPool}
 use Rattle.report_core.specs.declared.refusal.Refusal.{Refusal}
-use Rattle.change_outcome.specs.Premises.{IsRootOfFiles}
+use Rattle.change_report.specs.change_outcome.Premises.{IsRootOfFiles}
 use Rattle.engine_core.specs.Finishing.{IsRootRead}
 use Rattle.engine_core.specs.ChangeRun.{CarriesOut, IsChangeRun}
 use Rattle.engine_core.specs.Changed.{IsClashOfSelected, IsClashOfSelectedAmong, IsClashUnlessSimulatedAmong, Selected, change_of_selected, change_of_command, found_packages, selected_by, selected_for, selected_of_inputs, simulated_change}

@@ -2,18 +2,18 @@
 use Rattle.std.proofs.Common.{◌≡◌, ℕ, Bool, false, true, List, [], ◌∷◌, Some, None, refl}
 use Rattle.std.specs.Prelude.{codes}
 use Rattle.adb_view.specs.Plain.{Plain, blob, more, none, obj}
-use Rattle.change_inputs.specs.Database.{database_by}
-use Rattle.change_inputs.specs.Inputs.{Inputs, inputs_by, root_by}
+use Rattle.change_report.specs.change_inputs.Database.{database_by}
+use Rattle.change_report.specs.change_inputs.Inputs.{Inputs, inputs_by, root_by}
 use Rattle.command_core.specs.Command.{command_by}
 use Rattle.command_core.specs.Flags.{no_flags}
 use Rattle.command_core.specs.declared.command.Applet.{Applet}
 use Rattle.command_core.specs.declared.command.Applet.TheVariants.{Add, Del, Fix, Upgrade}
 use Rattle.command_core.specs.declared.operands.Operand.{Operand}
 use Rattle.dep_core.specs.Dependency.{Dependency, dependency_by}
-use Rattle.package_changes.specs.Changes.{change_of_name, changes_of}
-use Rattle.change_files.specs.PlanLists.{names_in_order}
-use Rattle.candidate_core.specs.Candidates.{Candidate, candidate_by, named}
-use Rattle.candidate_core.specs.Rank.{is_better, rank_cmp, sealed_pool_by}
+use Rattle.change_report.specs.package_changes.Changes.{change_of_name, changes_of}
+use Rattle.change_report.specs.change_files.PlanLists.{names_in_order}
+use Rattle.change_report.specs.candidate_core.Candidates.{Candidate, candidate_by, named}
+use Rattle.change_report.specs.candidate_core.Rank.{is_better, rank_cmp, sealed_pool_by}
 use Rattle.report_core.specs.Reports.{Change, Reinstall, Upgrade as Upgrading}
 use Rattle.version_core.specs.Order.{is_version, tokens, version_cmp}
 use Rattle.version_core.specs.Token.{component_lexeme, next_lexeme, number_lexeme}

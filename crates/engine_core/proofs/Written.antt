@@ -3,17 +3,17 @@ use Rattle.std.proofs.Common.{◌≡◌, ◌∙◌, inl, inr, ◌+◌, ◌≤◌
 use Rattle.std.specs.Prelude.{is_some, slice_get}
 use Rattle.std.specs.Ordering.{on}
 use Rattle.std.proofs.lemmas.List.{length-map}
-use Rattle.change_files.specs.PlanLists.{FileWrite, names_in_order}
-use Rattle.change_outcome.specs.ChangeOutcome.{name_if_needed}
-use Rattle.db_core.specs.Members.{Member}
-use Rattle.journal_intent.specs.FreeNames.{HaveNoRepeats}
+use Rattle.change_report.specs.change_files.PlanLists.{FileWrite, names_in_order}
+use Rattle.change_report.specs.change_outcome.ChangeOutcome.{name_if_needed}
+use Rattle.change_report.specs.db_core.Members.{Member}
+use Rattle.change_report.specs.journal_intent.FreeNames.{HaveNoRepeats}
 use Rattle.base_core.specs.ByteOrder.{bytes_cmp}
 use Rattle.base_core.specs.Sorted.{sorted_by}
 use Rattle.base_core.proofs.Sorting.{Each}
-use Rattle.own_core.specs.Planned.{written_names}
-use Rattle.own_core.specs.WritesSeen.{writes_in}
-use Rattle.own_core.specs.declared.planning.FilePlan.{FilePlan}
-use Rattle.stage_files.specs.declared.writes.StagedWrite.{StagedWrite}
+use Rattle.change_report.specs.own_core.Planned.{written_names}
+use Rattle.change_report.specs.own_core.WritesSeen.{writes_in}
+use Rattle.change_report.specs.own_core.declared.planning.FilePlan.{FilePlan}
+use Rattle.journal_staging.specs.declared.writes.StagedWrite.{StagedWrite}
 use Rattle.engine_core.specs.Writing.{IsFileWrite, IsRecordOf, IsSourceOfWrite, IsWriteBy, Packages, database_and_world_names, record_writes, write_name}
 use Rattle.engine_core.specs.declared.writes.RecordWrites.{RecordWrites}
 use Rattle.engine_core.proofs.Elements.{all_each, contains_at, each_all, each_both, each_weaker, mapped_at}

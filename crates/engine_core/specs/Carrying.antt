@@ -2,19 +2,19 @@
 -- `src/carrying.rt`; the rules are in `docs/commands.md`, "`add` and `del`", and in
 -- `docs/crash-safety.md`, "A change of several files".
 use Rattle.std.specs.Prelude.{◌≡◌, ℕ, List, Some, Result, slice_get}
-use Rattle.adb_write.specs.Canonical.{overflow_of}
+use Rattle.added_packages.specs.adb_write.Canonical.{overflow_of}
 use Rattle.base_core.specs.Files.{Files}
 use Rattle.base_core.specs.Tree.{TreeState}
 use Rattle.base_core.specs.declared.cause.Cause.{Cause}
-use Rattle.change_inputs.specs.Inputs.{Inputs}
-use Rattle.change_inputs.specs.declared.root.Refused.{Refused}
-use Rattle.change_inputs.specs.declared.root.Refused.TheVariants.{Disk, Memory, Refusal as IsRefused}
-use Rattle.change_outcome.specs.ChangeOutcome.{ChangeDone, ChangeWishes, actions_of, change_done, file_change, new_records, unless_overflow}
-use Rattle.change_outcome.specs.MembersAfter.{MemberFound}
-use Rattle.db_core.specs.Members.{Member, member_name}
-use Rattle.file_owners.specs.Replaces.{version_text}
-use Rattle.journal_intent.specs.IntentValue.{intent_of_lists, value_of_intent}
-use Rattle.package_changes.specs.Changes.{Replacement}
+use Rattle.change_report.specs.change_inputs.Inputs.{Inputs}
+use Rattle.change_report.specs.change_inputs.declared.root.Refused.{Refused}
+use Rattle.change_report.specs.change_inputs.declared.root.Refused.TheVariants.{Disk, Memory, Refusal as IsRefused}
+use Rattle.change_report.specs.change_outcome.ChangeOutcome.{ChangeDone, ChangeWishes, actions_of, change_done, file_change, new_records, unless_overflow}
+use Rattle.change_report.specs.change_outcome.MembersAfter.{MemberFound}
+use Rattle.change_report.specs.db_core.Members.{Member, member_name}
+use Rattle.change_report.specs.file_owners.Replaces.{version_text}
+use Rattle.change_report.specs.journal_intent.IntentValue.{intent_of_lists, value_of_intent}
+use Rattle.change_report.specs.package_changes.Changes.{Replacement}
 use Rattle.report_core.specs.declared.refusal.Refusal.{Refusal}
 use Rattle.report_core.specs.declared.refusal.Refusal.TheVariants.{PackageBad}
 use Rattle.engine_core.specs.Finishing.{IsPlanned}

@@ -7,24 +7,24 @@ use Rattle.base_core.specs.Faults.{Counts}
 use Rattle.base_core.specs.Files.{Files}
 use Rattle.base_core.specs.Tree.{TreeState, files_of}
 use Rattle.base_core.specs.declared.cause.Cause.{Cause}
-use Rattle.change_inputs.specs.Answers.{AgreesUnlessDisk}
-use Rattle.change_inputs.specs.Chains.{and_then}
-use Rattle.change_inputs.specs.declared.root.Refused.{Refused}
-use Rattle.change_inputs.specs.declared.root.Refused.TheVariants.{Disk, Refusal as IsRefused}
-use Rattle.change_outcome.specs.ChangeOutcome.{ChangeDone}
-use Rattle.change_outcome.specs.MembersAfter.{MemberFound}
+use Rattle.change_report.specs.change_inputs.Answers.{AgreesUnlessDisk}
+use Rattle.change_report.specs.change_inputs.Chains.{and_then}
+use Rattle.change_report.specs.change_inputs.declared.root.Refused.{Refused}
+use Rattle.change_report.specs.change_inputs.declared.root.Refused.TheVariants.{Disk, Refusal as IsRefused}
+use Rattle.change_report.specs.change_outcome.ChangeOutcome.{ChangeDone}
+use Rattle.change_report.specs.change_outcome.MembersAfter.{MemberFound}
 use Rattle.command_core.specs.Command.{CommandLine}
-use Rattle.db_core.specs.Members.{member_name}
-use Rattle.file_owners.specs.Replaces.{version_text}
-use Rattle.journal_core.specs.Recovery.{intent_name}
-use Rattle.journal_core.specs.Staged.{AreStagingPathsFree, IsEmptyStage}
-use Rattle.make_info.specs.Reads.{Reads}
-use Rattle.package_files.specs.Runs.{AreObserved}
-use Rattle.path_clashes.specs.Clash.{NamePair}
+use Rattle.change_report.specs.db_core.Members.{member_name}
+use Rattle.change_report.specs.file_owners.Replaces.{version_text}
+use Rattle.change_report.specs.journal_core.Recovery.{intent_name}
+use Rattle.change_report.specs.journal_core.Staged.{AreStagingPathsFree, IsEmptyStage}
+use Rattle.change_report.specs.make_info.Reads.{Reads}
+use Rattle.change_report.specs.package_files.Runs.{AreObserved}
+use Rattle.change_report.specs.path_clashes.Clash.{NamePair}
 use Rattle.report_core.specs.declared.refusal.Refusal.{Refusal}
 use Rattle.report_core.specs.declared.refusal.Refusal.TheVariants.{PackageBad}
-use Rattle.stage_files.specs.Spoiled.{IsSpoiledFile}
-use Rattle.stage_run.specs.StageRun.{IsStageRun, IsStageRunComplete}
+use Rattle.journal_staging.specs.Spoiled.{IsSpoiledFile}
+use Rattle.journal_staging.specs.journal_commit.StageRun.{IsStageRun, IsStageRunComplete}
 use Rattle.engine_core.specs.Changed.{IsClashForAmong, change_of_command, found_packages, selected_for}
 use Rattle.engine_core.specs.Choice.{IsChoiceFrom}
 use Rattle.engine_core.specs.Selecting.{pool_for}

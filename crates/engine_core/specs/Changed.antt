@@ -3,16 +3,16 @@
 -- "`upgrade` and `fix`"; which candidates are chosen is in `docs/selection.md`.
 use Rattle.std.specs.Prelude.{◌≡◌, ℕ, Bool, true, false, if◌then◌else◌, List, Option, Some, None, Result, Ok, Err}
 use Rattle.base_core.specs.Files.{Files}
-use Rattle.change_inputs.specs.Chains.{and_then}
-use Rattle.change_inputs.specs.Inputs.{Inputs, inputs_of}
-use Rattle.change_outcome.specs.ChangeOutcome.{ChangeDone, ChangeWishes, IsClashOfChangeAmong, change_members, change_or_refusal}
-use Rattle.change_outcome.specs.MembersAfter.{MemberFound}
+use Rattle.change_report.specs.change_inputs.Chains.{and_then}
+use Rattle.change_report.specs.change_inputs.Inputs.{Inputs, inputs_of}
+use Rattle.change_report.specs.change_outcome.ChangeOutcome.{ChangeDone, ChangeWishes, IsClashOfChangeAmong, change_members, change_or_refusal}
+use Rattle.change_report.specs.change_outcome.MembersAfter.{MemberFound}
 use Rattle.command_core.specs.Command.{CommandLine}
-use Rattle.make_info.specs.Reads.{Reads}
-use Rattle.package_changes.specs.Changes.{Replacement}
-use Rattle.package_changes.specs.Report.{simulated_report}
-use Rattle.path_clashes.specs.Clash.{NamePair}
-use Rattle.candidate_core.specs.Rank.{SealedPool}
+use Rattle.change_report.specs.make_info.Reads.{Reads}
+use Rattle.change_report.specs.package_changes.Changes.{Replacement}
+use Rattle.change_report.specs.package_changes.Report.{simulated_report}
+use Rattle.change_report.specs.path_clashes.Clash.{NamePair}
+use Rattle.change_report.specs.candidate_core.Rank.{SealedPool}
 use Rattle.report_core.specs.declared.refusal.Refusal.{Refusal}
 use Rattle.report_core.specs.declared.refusal.Refusal.TheVariants.{Unsatisfied}
 use Rattle.engine_core.specs.Selecting.{pool_by, replacement_of_choice}

@@ -1,9 +1,9 @@
 -- Which candidates are chosen. The rules are in `docs/selection.md`, "What satisfies world" and "Which
 -- selection is taken".
 use Rattle.std.specs.Prelude.{◌≡◌, ℕ, List, Option, Some, None, Result, Ok, Err}
-use Rattle.candidate_core.specs.Rank.{SealedPool}
+use Rattle.change_report.specs.candidate_core.Rank.{SealedPool}
 use Rattle.report_core.specs.declared.refusal.Refusal.{Refusal}
-use Rattle.search_tables.specs.Selection.{IsFirstSelection, IsSatisfying}
+use Rattle.change_report.specs.search_tables.Selection.{IsFirstSelection, IsSatisfying}
 
 -- the choice among candidates: the places of the first preferred selection; or none, if no selection
 -- satisfies the world

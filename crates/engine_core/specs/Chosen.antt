@@ -1,8 +1,8 @@
 -- The result of a choice among candidates. Serves the contract of `choose` in `src/choosing.rt`; the
 -- rule is in `docs/selection.md`, "`unable to select packages`".
 use Rattle.std.specs.Prelude.{◌≡◌, ℕ, List, Option, Some, None, Result, Ok, Err}
-use Rattle.change_inputs.specs.declared.root.Refused.{Refused}
-use Rattle.change_inputs.specs.declared.root.Refused.TheVariants.{Disk, Memory, Refusal as IsRefused}
+use Rattle.change_report.specs.change_inputs.declared.root.Refused.{Refused}
+use Rattle.change_report.specs.change_inputs.declared.root.Refused.TheVariants.{Disk, Memory, Refusal as IsRefused}
 use Rattle.report_core.specs.declared.refusal.Refusal.TheVariants.{Unsatisfied}
 
 -- how a choice is answered: these are chosen; or none, and that is refused; running out of memory says

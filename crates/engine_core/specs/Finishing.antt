@@ -3,29 +3,29 @@
 -- files" and "`add` and `del`".
 use Rattle.std.specs.Prelude.{◌≡◌, ℕ, Bool, true, false, not, List, All, Option, Some, None, bytes_eq}
 use Rattle.std.specs.Option.{option_copied}
-use Rattle.adb_schema.specs.Reserved.{is_reserved}
-use Rattle.arrivals.specs.Arrivals.{AreMembersRead, arrivals_seen}
+use Rattle.journal_staging.specs.adb_schema.Reserved.{is_reserved}
+use Rattle.added_packages.specs.Arrivals.{AreMembersRead, arrivals_seen}
 use Rattle.base_core.specs.Calls.{IfObservable}
 use Rattle.base_core.specs.Files.{Files}
 use Rattle.base_core.specs.Tree.{TreeState, files_of}
-use Rattle.change_files.specs.FileChange.{old_listings}
-use Rattle.change_files.specs.NamesAfter.{name_change}
-use Rattle.path_clashes.specs.Clash.{HasNoClash}
-use Rattle.change_inputs.specs.Inputs.{Inputs}
-use Rattle.change_outcome.specs.Premises.{IsRootOfFiles}
-use Rattle.change_outcome.specs.ChangeOutcome.{ChangeWishes, file_change, is_other_file}
-use Rattle.change_outcome.specs.MembersAfter.{MemberFound, found_members}
-use Rattle.db_core.specs.Members.{Member}
-use Rattle.db_core.specs.Seen.{members_of, packages_of}
+use Rattle.change_report.specs.change_files.FileChange.{old_listings}
+use Rattle.change_report.specs.change_files.NamesAfter.{name_change}
+use Rattle.change_report.specs.path_clashes.Clash.{HasNoClash}
+use Rattle.change_report.specs.change_inputs.Inputs.{Inputs}
+use Rattle.change_report.specs.change_outcome.Premises.{IsRootOfFiles}
+use Rattle.change_report.specs.change_outcome.ChangeOutcome.{ChangeWishes, file_change, is_other_file}
+use Rattle.change_report.specs.change_outcome.MembersAfter.{MemberFound, found_members}
+use Rattle.change_report.specs.db_core.Members.{Member}
+use Rattle.change_report.specs.db_core.Seen.{members_of, packages_of}
 use Rattle.dep_core.specs.World.{world_text}
-use Rattle.own_core.specs.Planned.{ArePlanLists, HasOwnNames, HasSources, IsPlanFor}
-use Rattle.package_changes.specs.Changes.{Replacement}
-use Rattle.package_changes.specs.Placed.{placed_names_of}
-use Rattle.package_changes.specs.Seen.{placed_names_seen, replacement_by}
+use Rattle.change_report.specs.own_core.Planned.{ArePlanLists, HasOwnNames, HasSources, IsPlanFor}
+use Rattle.change_report.specs.package_changes.Changes.{Replacement}
+use Rattle.change_report.specs.package_changes.Placed.{placed_names_of}
+use Rattle.change_report.specs.package_changes.Seen.{placed_names_seen, replacement_by}
 use Rattle.root_names.specs.RootNames as Names
 use Rattle.engine_core.specs.SelectionSeen.{HasItsDatabase, inputs_of_selection, replacement_seen}
-use Rattle.arrivals.specs.declared.arrivals.Arrivals.{Arrivals}
-use Rattle.package_changes.specs.declared.placed.PlacedNames.{PlacedNames}
+use Rattle.added_packages.specs.declared.arrivals.Arrivals.{Arrivals}
+use Rattle.change_report.specs.package_changes.declared.placed.PlacedNames.{PlacedNames}
 use Rattle.engine_core.specs.declared.choosing.Selection.{Selection}
 use Rattle.engine_core.specs.declared.planning.Arrived.{Arrived}
 use Rattle.engine_core.specs.declared.planning.Planned.{Planned}

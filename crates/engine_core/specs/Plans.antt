@@ -2,19 +2,19 @@
 -- `src/planning.rt`; the rules are in `docs/commands.md`, "What a change does with files", the three
 -- tests.
 use Rattle.std.specs.Prelude.{◌≡◌, false, map, All, List}
-use Rattle.adb_schema.specs.Reserved.{is_reserved}
+use Rattle.journal_staging.specs.adb_schema.Reserved.{is_reserved}
 use Rattle.base_core.specs.Calls.{IfObservable}
 use Rattle.base_core.specs.Tree.{TreeState, files_of}
-use Rattle.change_files.specs.FileChange.{FileChange}
-use Rattle.change_inputs.specs.declared.root.Refused.{Refused}
-use Rattle.change_inputs.specs.declared.root.Refused.TheVariants as Commands
-use Rattle.change_outcome.specs.ChangeOutcome.{ChangeWishes}
-use Rattle.db_core.specs.Members.{member_of_kept, member_listings}
-use Rattle.db_core.specs.Seen.{members_of, packages_of}
-use Rattle.own_core.specs.Planned.{HasOwnNames, HasSources, IsPlanFor, IsPlanOf, IsRefusalFor, IsRefusalOf, MayBeRefusalOf, change_by}
-use Rattle.own_core.specs.declared.fault.PlanFault.{PlanFault}
-use Rattle.own_core.specs.declared.fault.PlanFault.TheVariants as Plans
-use Rattle.own_core.specs.declared.planning.FilePlan.{FilePlan}
+use Rattle.change_report.specs.change_files.FileChange.{FileChange}
+use Rattle.change_report.specs.change_inputs.declared.root.Refused.{Refused}
+use Rattle.change_report.specs.change_inputs.declared.root.Refused.TheVariants as Commands
+use Rattle.change_report.specs.change_outcome.ChangeOutcome.{ChangeWishes}
+use Rattle.change_report.specs.db_core.Members.{member_of_kept, member_listings}
+use Rattle.change_report.specs.db_core.Seen.{members_of, packages_of}
+use Rattle.change_report.specs.own_core.Planned.{HasOwnNames, HasSources, IsPlanFor, IsPlanOf, IsRefusalFor, IsRefusalOf, MayBeRefusalOf, change_by}
+use Rattle.change_report.specs.own_core.declared.fault.PlanFault.{PlanFault}
+use Rattle.change_report.specs.own_core.declared.fault.PlanFault.TheVariants as Plans
+use Rattle.change_report.specs.own_core.declared.planning.FilePlan.{FilePlan}
 use Rattle.report_core.specs.declared.refusal.Refusal.TheVariants.{Owned, PathClash, Reserved}
 use Rattle.engine_core.specs.declared.planning.Arrived.{Arrived}
 

@@ -1,14 +1,14 @@
 -- The candidates of a command, and the effect of a choice among them. The rules are in
 -- `docs/selection.md`, "What there is to choose from".
 use Rattle.std.specs.Prelude.{ℕ, List, Result}
-use Rattle.change_inputs.specs.Candidates.{root_pool}
-use Rattle.change_inputs.specs.Chains.{and_then}
-use Rattle.change_inputs.specs.Inputs.{Inputs, inputs_of}
+use Rattle.change_report.specs.change_inputs.Candidates.{root_pool}
+use Rattle.change_report.specs.change_inputs.Chains.{and_then}
+use Rattle.change_report.specs.change_inputs.Inputs.{Inputs, inputs_of}
 use Rattle.command_core.specs.Command.{CommandLine}
-use Rattle.make_info.specs.Reads.{Reads}
-use Rattle.package_changes.specs.Changes.{Replacement}
-use Rattle.package_changes.specs.Placed.{candidates_at}
-use Rattle.candidate_core.specs.Rank.{SealedPool}
+use Rattle.change_report.specs.make_info.Reads.{Reads}
+use Rattle.change_report.specs.package_changes.Changes.{Replacement}
+use Rattle.change_report.specs.package_changes.Placed.{candidates_at}
+use Rattle.change_report.specs.candidate_core.Rank.{SealedPool}
 use Rattle.report_core.specs.declared.refusal.Refusal.{Refusal}
 use Rattle.engine_core.specs.Wishes.{names_to_upgrade}
 

@@ -2,13 +2,13 @@
 -- `Selection`, and of the steps that use one; the rules are in `docs/commands.md`, "`add` and `del`" and
 -- "`upgrade` and `fix`", what is refused.
 use Rattle.std.specs.Prelude.{◌≡◌, ℕ, List, Ok, Option, Result}
-use Rattle.change_inputs.specs.Answers.{Agrees}
-use Rattle.change_inputs.specs.Inputs.{Inputs}
-use Rattle.change_inputs.specs.Seen.{inputs_seen}
-use Rattle.change_inputs.specs.declared.root.Refused.{Refused}
+use Rattle.change_report.specs.change_inputs.Answers.{Agrees}
+use Rattle.change_report.specs.change_inputs.Inputs.{Inputs}
+use Rattle.change_report.specs.change_inputs.Seen.{inputs_seen}
+use Rattle.change_report.specs.change_inputs.declared.root.Refused.{Refused}
 use Rattle.command_core.specs.Command.{CommandLine}
-use Rattle.db_core.specs.Seen.{packages_of}
-use Rattle.package_changes.specs.Changes.{Replacement}
+use Rattle.change_report.specs.db_core.Seen.{packages_of}
+use Rattle.change_report.specs.package_changes.Changes.{Replacement}
 use Rattle.engine_core.specs.Changed.{Selected, selected_of_inputs}
 use Rattle.engine_core.specs.Choice.{IsChoiceFrom}
 use Rattle.engine_core.specs.Selecting.{pool_by, replacement_of_choice}

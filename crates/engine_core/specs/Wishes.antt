@@ -1,16 +1,16 @@
 -- What a command asks of a change besides world. The rules are in `docs/commands.md`, "`add` and `del`"
 -- and "`upgrade` and `fix`".
 use Rattle.std.specs.Prelude.{ℕ, Bool, ◌||◌, if◌then◌else◌, List, [], ◌∷◌, Option, Some, None, Result, Err}
-use Rattle.change_inputs.specs.Inputs.{Inputs}
-use Rattle.change_outcome.specs.ChangeOutcome.{ChangeWishes}
+use Rattle.change_report.specs.change_inputs.Inputs.{Inputs}
+use Rattle.change_report.specs.change_outcome.ChangeOutcome.{ChangeWishes}
 use Rattle.command_core.specs.Command.{CommandLine}
 use Rattle.command_core.specs.declared.command.Applet.{Applet}
 use Rattle.command_core.specs.declared.command.Applet.TheVariants.{Del, Fix, Upgrade}
 use Rattle.command_core.specs.declared.operands.Operand.{Operand}
-pub use Rattle.change_inputs.specs.World.{operand_texts}
+pub use Rattle.change_report.specs.change_inputs.World.{operand_texts}
 use Rattle.dep_core.specs.World.{has_name}
-use Rattle.package_changes.specs.Report.{was_installed}
-use Rattle.candidate_core.specs.Rank.{UpgradedNames, all_names, listed_names, no_names}
+use Rattle.change_report.specs.package_changes.Report.{was_installed}
+use Rattle.change_report.specs.candidate_core.Rank.{UpgradedNames, all_names, listed_names, no_names}
 use Rattle.report_core.specs.declared.refusal.Refusal.{Refusal}
 use Rattle.report_core.specs.declared.refusal.Refusal.TheVariants.{NotInstalled}
 

@@ -2,19 +2,19 @@
 -- `docs/commands.md`, "What a change does with files" and "`add` and `del`", what is written.
 use Rattle.std.specs.Prelude.{◌≡◌, ◌⊎◌, ℕ, true, false, List, [], ◌∷◌, ◌++◌, Option, Some, None, Contains, is_some, option_and_then, slice_get}
 use Rattle.std.specs.Borrow.{Bor}
-use Rattle.arrivals.specs.Arrivals.{arrivals_seen, package_in}
-use Rattle.arrivals.specs.declared.arrivals.Arrivals.{Arrivals}
+use Rattle.added_packages.specs.Arrivals.{arrivals_seen, package_in}
+use Rattle.added_packages.specs.declared.arrivals.Arrivals.{Arrivals}
 use Rattle.adb_view.specs.Plain.{Plain}
-use Rattle.change_files.specs.PlanLists.{FileWrite}
-use Rattle.change_outcome.specs.ChangeOutcome.{name_if_needed}
-use Rattle.db_core.specs.Members.{Member, is_added}
-use Rattle.file_guard.specs.AsListed.{file_target, has_target}
-use Rattle.own_core.specs.ClaimEntries.{folders_if_any, listed_file_at}
-use Rattle.package_test.specs.declared.package.TestedPackage.{TestedPackage}
-use Rattle.stage_files.specs.declared.writes.PackagedFile.{PackagedFile}
-use Rattle.stage_files.specs.declared.writes.Source.{Source}
-use Rattle.stage_files.specs.declared.writes.Source.TheVariants.{Bytes, File, Link}
-use Rattle.stage_files.specs.declared.writes.StagedWrite.{StagedWrite}
+use Rattle.change_report.specs.change_files.PlanLists.{FileWrite}
+use Rattle.change_report.specs.change_outcome.ChangeOutcome.{name_if_needed}
+use Rattle.change_report.specs.db_core.Members.{Member, is_added}
+use Rattle.journal_staging.specs.file_guard.AsListed.{file_target, has_target}
+use Rattle.change_report.specs.own_core.ClaimEntries.{folders_if_any, listed_file_at}
+use Rattle.journal_staging.specs.package_verifier.declared.package.TestedPackage.{TestedPackage}
+use Rattle.journal_staging.specs.declared.writes.PackagedFile.{PackagedFile}
+use Rattle.journal_staging.specs.declared.writes.Source.{Source}
+use Rattle.journal_staging.specs.declared.writes.Source.TheVariants.{Bytes, File, Link}
+use Rattle.journal_staging.specs.declared.writes.StagedWrite.{StagedWrite}
 use Rattle.engine_core.specs.declared.writes.RecordWrites.{RecordWrites}
 
 -- the name that the staged file is to have

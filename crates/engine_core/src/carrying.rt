@@ -1,16 +1,16 @@
 //! Carries a prepared change through. The rules are in `docs/commands.md`, "`add` and `del`", what
 //! is written and refused, and in `docs/crash-safety.md`, "A change of several files".
 ghost use Rattle.base_core.specs.Files.{Files};
-ghost use Rattle.change_inputs.specs.Chains.{and_then};
-ghost use Rattle.change_outcome.specs.ChangeOutcome.{file_change, touched_paths, unless_too_large};
-ghost use Rattle.change_outcome.specs.MembersAfter.{MemberFound, found_members};
-ghost use Rattle.change_outcome.specs.Triggers.{unless_trigger};
+ghost use Rattle.change_report.specs.change_inputs.Chains.{and_then};
+ghost use Rattle.change_report.specs.change_outcome.ChangeOutcome.{file_change, touched_paths, unless_too_large};
+ghost use Rattle.change_report.specs.change_outcome.MembersAfter.{MemberFound, found_members};
+ghost use Rattle.change_report.specs.change_outcome.Triggers.{unless_trigger};
 ghost use Rattle.engine_core.specs.Carrying.{HasPlan, ready_change};
 ghost use Rattle.engine_core.specs.ChangeRun.{CarriesOut};
 ghost use Rattle.engine_core.specs.Finishing.{AreRecordsOf, IsPlanned, arrived_inputs, arrived_replacement};
 ghost use Rattle.engine_core.specs.Runs.{IsRunCounted};
 ghost use Rattle.engine_core.specs.Wishes.{wishes_of};
-ghost use Rattle.stage_run.specs.Asked.{TargetsAreAccepted};
+ghost use Rattle.journal_staging.specs.journal_commit.Asked.{TargetsAreAccepted};
 ghost use Rattle.std.specs.Prelude.{◌≡◌, List, Ok};
 
 use crate::finishing::{
@@ -20,13 +20,11 @@ use crate::planning::{Planned, test_triggers};
 use crate::records::begin_stage;
 use crate::removals::removals_of;
 use crate::writes::{names_of, writes_of};
-use arrivals::a_package_that_was_read_is_that_of_its_file;
+use added_packages::a_package_that_was_read_is_that_of_its_file;
 use base_core::{Text, Tree};
-use change_inputs::Refused;
+use change_report::Refused;
 use command_core::Command;
-use piece_reader::Piece;
-use stage_files::{StageFault, carry_out};
-use stage_run::runs_with_accepted_targets_begin_with_reads;
+use journal_staging::{Piece, StageFault, carry_out, runs_with_accepted_targets_begin_with_reads};
 use std::alloc::Global;
 
 /// Carries a change through whose triggers are tested. All memory is allocated first. If there is

@@ -6,20 +6,21 @@ ghost use Rattle.engine_core.specs.ChangeRun.{IsChangeRun};
 ghost use Rattle.engine_core.specs.Runs.{IsRunCounted};
 ghost use Rattle.engine_core.specs.SelectionSeen.{HasItsDatabase, replacement_seen};
 ghost use Rattle.engine_core.specs.Wishes.{names_to_remove};
-ghost use Rattle.stage_run.specs.Asked.{TargetsAreAccepted};
+ghost use Rattle.journal_staging.specs.journal_commit.Asked.{TargetsAreAccepted};
 ghost use Rattle.std.specs.Prelude.{◌≡◌, IfOk};
-ghost use Rattle.package_changes.specs.Report.{simulated_report};
+ghost use Rattle.change_report.specs.package_changes.Report.{simulated_report};
 
 use crate::choosing::{Selection, a_choice_exists, choose};
 use crate::making::make_change;
 use crate::wishes::{names_of_upgrade, names_to_remove};
-use arrivals::packages_after_a_change_depend_on_their_reads;
+use added_packages::packages_after_a_change_depend_on_their_reads;
 use base_core::{Text, Tree, counts_of_consecutive_calls_compose};
-use change_inputs::{Loaded, Refused, inputs_depend_on_their_own_reads};
-use change_outcome::{a_change_has_a_first_clash_or_none, what_is_read_of_a_root_is_in_the_tree};
+use change_report::{
+    Changes, Loaded, Refused, a_change_has_a_first_clash_or_none, inputs_depend_on_their_own_reads,
+    simulated_report, what_is_read_of_a_root_is_in_the_tree,
+};
 use command_core::Command;
-use package_changes::{Changes, simulated_report};
-use stage_run::runs_with_accepted_targets_begin_with_reads;
+use journal_staging::runs_with_accepted_targets_begin_with_reads;
 use std::alloc::{AllocError, Global};
 
 /// Changes what is installed, as `add`, `del`, `upgrade` or `fix` asks for, and reports it; with

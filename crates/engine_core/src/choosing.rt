@@ -2,23 +2,23 @@
 //! exactly one choice. The rules are in `docs/selection.md`, "Which selection is taken", and for the
 //! refusals in `docs/commands.md`, "`add` and `del`" and "`upgrade` and `fix`".
 
-ghost use Rattle.change_inputs.specs.Seen.{inputs_seen};
+ghost use Rattle.change_report.specs.change_inputs.Seen.{inputs_seen};
 ghost use Rattle.engine_core.specs.Chosen.{IsChosen};
 ghost use Rattle.engine_core.specs.Choice.{IsChoice, IsChoiceFrom};
 ghost use Rattle.engine_core.specs.SelectionSeen.{IsSelectedFrom, IsSelectionFor};
 ghost use Rattle.engine_core.specs.Wishes.{names_of_upgrade};
 ghost use Rattle.std.specs.Prelude.{◌≡◌, ℕ, IfOk, List, Option, Result};
-ghost use Rattle.candidate_core.specs.Rank.{SealedPool};
+ghost use Rattle.change_report.specs.candidate_core.Rank.{SealedPool};
 ghost use Rattle.report_core.specs.declared.refusal.Refusal.{Refusal};
 
 use crate::wishes::{names_to_reinstall, names_to_upgrade, unknown_operand};
 use base_core::Words;
-use change_inputs::{Loaded, Refused};
+use change_report::{
+    Db, Loaded, Refused, Sealed, Trace, options_are_the_best_first, solve,
+    the_first_selection_is_unique,
+};
 use command_core::Command;
-use db_core::Db;
-use pool_core::{Sealed, options_are_the_best_first};
 use report_core::Refusal;
-use solve_core::{Trace, solve, the_first_selection_is_unique};
 use std::alloc::{AllocError, Global};
 
 /// What a command selects: the candidates that replace the packages before, with what they were

@@ -3,12 +3,12 @@
 //! and refused), and for the database's bytes in `docs/formats.md`, "The database after a change".
 ghost use Rattle.base_core.specs.Files.{Files};
 ghost use Rattle.base_core.specs.Tree.{TreeState};
-ghost use Rattle.change_inputs.specs.Answers.{Agrees};
-ghost use Rattle.change_inputs.specs.Seen.{inputs_seen};
-ghost use Rattle.change_outcome.specs.ChangeOutcome.{change_report, does_something, file_change, unless_large};
-ghost use Rattle.change_outcome.specs.MembersAfter.{MemberFound};
-ghost use Rattle.db_core.specs.Seen.{members_of};
-ghost use Rattle.db_write.specs.NewDatabase.{database_of};
+ghost use Rattle.change_report.specs.change_inputs.Answers.{Agrees};
+ghost use Rattle.change_report.specs.change_inputs.Seen.{inputs_seen};
+ghost use Rattle.change_report.specs.change_outcome.ChangeOutcome.{change_report, does_something, file_change, unless_large};
+ghost use Rattle.change_report.specs.change_outcome.MembersAfter.{MemberFound};
+ghost use Rattle.change_report.specs.db_core.Seen.{members_of};
+ghost use Rattle.change_report.specs.db_write.NewDatabase.{database_of};
 ghost use Rattle.engine_core.specs.Carrying.{IsPackageBad, IsRefusedPackage};
 ghost use Rattle.engine_core.specs.Finishing.{AreRecordWrites, AreRecordsOf, IsPlanned, bytes_if, arrived_inputs, arrived_members, arrived_replacement};
 ghost use Rattle.engine_core.specs.Wishes.{wishes_of};
@@ -20,11 +20,11 @@ use crate::records::{is_other_file, new_database};
 use crate::wishes::names_to_remove;
 use crate::writes::RecordWrites;
 use base_core::{Cause, Name, Names, Text};
-use change_inputs::{Loaded, Refused};
-use change_report::{ReportedChange, change_report};
+use change_report::{
+    Changes, Loaded, Members, Refused, ReportedChange, change_report,
+    places_lead_to_packages_and_candidates,
+};
 use command_core::Command;
-use db_core::Members;
-use package_changes::{Changes, places_lead_to_packages_and_candidates};
 use report_core::Refusal;
 use root_names::{database_name, world_name};
 use std::alloc::{AllocError, Global};

@@ -5,19 +5,17 @@ ghost use Rattle.engine_core.specs.Finishing.{IsRootRead};
 ghost use Rattle.engine_core.specs.Runs.{IsRunCounted, IsSelectedRun};
 ghost use Rattle.engine_core.specs.Selecting.{pool_by};
 ghost use Rattle.engine_core.specs.SelectionSeen.{HasItsDatabase, inputs_of_selection, selection_seen};
-ghost use Rattle.stage_run.specs.Asked.{TargetsAreAccepted};
+ghost use Rattle.journal_staging.specs.journal_commit.Asked.{TargetsAreAccepted};
 ghost use Rattle.std.specs.Prelude.{◌≡◌, false, Ok};
 
 use crate::carrying::finish_change;
 use crate::choosing::Selection;
 use crate::planning::{Arrived, Planned, plan_files};
-use arrivals::{members_of_change, packages_that_were_read_are_those_found, read_arrivals};
+use added_packages::{members_of_change, packages_that_were_read_are_those_found, read_arrivals};
 use base_core::{Text, Tree, counts_of_consecutive_calls_compose};
-use change_inputs::Refused;
-use change_outcome::a_change_has_a_first_clash_or_none;
+use change_report::{PlacedNames, Refused, a_change_has_a_first_clash_or_none};
 use command_core::Command;
-use package_changes::PlacedNames;
-use stage_run::runs_with_accepted_targets_begin_with_reads;
+use journal_staging::runs_with_accepted_targets_begin_with_reads;
 use std::alloc::Global;
 
 /// Makes the change of a selection: reads the added packages, plans the files of the change, and

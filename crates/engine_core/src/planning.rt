@@ -2,10 +2,10 @@
 //! rules are in `docs/commands.md`, "What a change does with files", and for triggers in "`add` and
 //! `del`", which triggers are due.
 
-ghost use Rattle.change_inputs.specs.Answers.{Agrees};
-ghost use Rattle.change_outcome.specs.ChangeOutcome.{name_at_place};
-ghost use Rattle.change_outcome.specs.Triggers.{unless_trigger};
-ghost use Rattle.db_core.specs.Seen.{members_of};
+ghost use Rattle.change_report.specs.change_inputs.Answers.{Agrees};
+ghost use Rattle.change_report.specs.change_outcome.ChangeOutcome.{name_at_place};
+ghost use Rattle.change_report.specs.change_outcome.Triggers.{unless_trigger};
+ghost use Rattle.change_report.specs.db_core.Seen.{members_of};
 ghost use Rattle.change_report.specs.Due.{planned_paths};
 ghost use Rattle.base_core.specs.Read.{OnlyReads};
 ghost use Rattle.engine_core.specs.Plans.{HasNoPlan, IsPlanFrom, IsRefusedFor};
@@ -13,14 +13,12 @@ ghost use Rattle.engine_core.specs.Wishes.{wishes_of};
 ghost use Rattle.std.specs.Prelude.{◌≡◌, ◌<◌, IfErr, IfOk, length};
 
 use crate::choosing::Selection;
-use arrivals::Arrivals;
+use added_packages::Arrivals;
 use base_core::{Text, Tree};
-use change_inputs::Refused;
-use change_report::{first_due, touched_folders};
+use change_report::{
+    FilePlan, Members, PlacedNames, PlanFault, Refused, first_due, plan, touched_folders,
+};
 use command_core::Command;
-use db_core::Members;
-use own_core::{FilePlan, PlanFault, plan};
-use package_changes::PlacedNames;
 use report_core::Refusal;
 use std::alloc::{AllocError, Global};
 

@@ -1,23 +1,20 @@
 //! The database after a change, and the stage of its files. The rules are in `docs/formats.md`,
 //! "The database after a change", and in `docs/crash-safety.md`, "A change of several files"; the
 //! limits in `docs/formats.md`, "Canonical layout".
-ghost use Rattle.adb_write.specs.Canonical.{overflow_of};
-ghost use Rattle.change_inputs.specs.Answers.{Agrees};
-ghost use Rattle.change_outcome.specs.ChangeOutcome.{is_other_file, unless_large, unless_overflow};
-ghost use Rattle.db_core.specs.Seen.{members_of};
-ghost use Rattle.db_write.specs.NewDatabase.{database_of};
-ghost use Rattle.journal_core.specs.Staged.{new_stage};
-ghost use Rattle.journal_intent.specs.Intent.{AreChangeNames};
-ghost use Rattle.journal_intent.specs.IntentValue.{intent_of_lists, value_of_intent};
+ghost use Rattle.added_packages.specs.adb_write.Canonical.{overflow_of};
+ghost use Rattle.change_report.specs.change_inputs.Answers.{Agrees};
+ghost use Rattle.change_report.specs.change_outcome.ChangeOutcome.{is_other_file, unless_large, unless_overflow};
+ghost use Rattle.change_report.specs.db_core.Seen.{members_of};
+ghost use Rattle.change_report.specs.db_write.NewDatabase.{database_of};
+ghost use Rattle.change_report.specs.journal_core.Staged.{new_stage};
+ghost use Rattle.change_report.specs.journal_intent.Intent.{AreChangeNames};
+ghost use Rattle.change_report.specs.journal_intent.IntentValue.{intent_of_lists, value_of_intent};
 ghost use Rattle.std.specs.Option.{option_copied};
 ghost use Rattle.std.specs.Prelude.{◌≡◌, ◌++◌, true, IfOk};
 
-use adb_write::WriteFault;
+use added_packages::WriteFault;
 use base_core::Names;
-use change_inputs::Refused;
-use db_core::{Members, Owned};
-use db_write::write_db;
-use journal_core::Stage;
+use change_report::{Members, Owned, Refused, Stage, write_db};
 use report_core::Refusal;
 use std::alloc::Global;
 

@@ -1,8 +1,8 @@
 //! What a change removes. The rules are in `docs/commands.md`, "What a change does with files", and
 //! for the text database in "A root of version 2".
-ghost use Rattle.change_files.specs.PlanLists.{names_in_order};
-ghost use Rattle.change_outcome.specs.ChangeOutcome.{name_if_needed};
-ghost use Rattle.journal_intent.specs.FreeNames.{HaveNoRepeats};
+ghost use Rattle.change_report.specs.change_files.PlanLists.{names_in_order};
+ghost use Rattle.change_report.specs.change_outcome.ChangeOutcome.{name_if_needed};
+ghost use Rattle.change_report.specs.journal_intent.FreeNames.{HaveNoRepeats};
 ghost use Rattle.base_core.specs.ByteOrder.{bytes_cmp};
 ghost use Rattle.base_core.specs.Sorted.{sorted_by};
 ghost use Rattle.root_names.specs.RootNames.{text_database_name};

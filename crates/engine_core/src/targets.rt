@@ -1,20 +1,19 @@
 //! The target of a package's link. The rule is in `docs/formats.md`, "Tests of a container", "The
 //! texts", field 406: a target begins with the bytes `00 a0`, which mark a link.
-ghost use Rattle.adb_fields.specs.ListValue.{list_value};
-ghost use Rattle.adb_schema.specs.Views.{package_value};
+ghost use Rattle.journal_staging.specs.adb_fields.ListValue.{list_value};
+ghost use Rattle.journal_staging.specs.adb_schema.Views.{package_value};
 ghost use Rattle.adb_view.specs.FieldIndexes.{PACKAGE_PATHS};
 ghost use Rattle.adb_view.specs.Values.{count_of, entries_in, entry_in};
-ghost use Rattle.db_core.specs.Seen.{members_of};
+ghost use Rattle.change_report.specs.db_core.Seen.{members_of};
 ghost use Rattle.engine_core.specs.Writing.{entry_of_write};
-ghost use Rattle.file_guard.specs.AsListed.{file_target};
-ghost use Rattle.own_core.specs.ClaimEntries.{HasFileAt, listed_file_at};
-ghost use Rattle.own_core.specs.Planned.{IsOfAddedFile};
-ghost use Rattle.own_core.specs.WritesSeen.{write_seen};
+ghost use Rattle.journal_staging.specs.file_guard.AsListed.{file_target};
+ghost use Rattle.change_report.specs.own_core.ClaimEntries.{HasFileAt, listed_file_at};
+ghost use Rattle.change_report.specs.own_core.Planned.{IsOfAddedFile};
+ghost use Rattle.change_report.specs.own_core.WritesSeen.{write_seen};
 ghost use Rattle.std.specs.Prelude.{◌≡◌, ◌<◌, ◌≤◌, ◌-◌};
 
-use adb_schema::{DirInfo, FileInfo, List, PackageView};
-use db_core::Members;
-use own_core::Write;
+use change_report::{Members, Write};
+use journal_staging::{DirInfo, FileInfo, List, PackageView};
 
 /// The target of the file that a write is of, after a number of two bytes; empty if the file is no
 /// link.

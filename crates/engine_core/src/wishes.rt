@@ -1,21 +1,19 @@
 //! What a command asks of a change besides world. The rules are in `docs/commands.md`, "`add` and
 //! `del`" and "`upgrade` and `fix`".
-ghost use Rattle.change_inputs.specs.Seen.{inputs_seen};
-ghost use Rattle.db_core.specs.Seen.{packages_of};
+ghost use Rattle.change_report.specs.change_inputs.Seen.{inputs_seen};
+ghost use Rattle.change_report.specs.db_core.Seen.{packages_of};
 ghost use Rattle.dep_core.specs.World.{has_name};
-ghost use Rattle.change_inputs.specs.World.{operand_texts};
+ghost use Rattle.change_report.specs.change_inputs.World.{operand_texts};
 ghost use Rattle.engine_core.specs.Wishes.{first_unknown, is_known_name, names_of_upgrade, names_to_remove, names_to_reinstall, names_to_upgrade, unknown_operand_place};
-ghost use Rattle.package_changes.specs.Report.{was_installed};
-ghost use Rattle.candidate_core.specs.Rank.{all_names, listed_names};
-ghost use Rattle.candidate_core.specs.Values.{names_upgraded_by};
+ghost use Rattle.change_report.specs.package_changes.Report.{was_installed};
+ghost use Rattle.change_report.specs.candidate_core.Rank.{all_names, listed_names};
+ghost use Rattle.change_report.specs.candidate_core.Values.{names_upgraded_by};
 ghost use Rattle.std.specs.Prelude.{◌≡◌, ◌||◌, [], IfOk, OnOk};
 
 use base_core::Words;
-use change_inputs::{Loaded, operand_texts};
+use change_report::{Db, Loaded, Upgrade, operand_texts};
 use command_core::{Applet, Command, Operands};
-use db_core::Db;
 use dep_core::World;
-use pool_core::Upgrade;
 use std::alloc::{AllocError, Global};
 use std::cmp::Ordering;
 

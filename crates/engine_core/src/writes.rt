@@ -1,23 +1,22 @@
 //! What a change writes. The rules are in `docs/commands.md`, "What a change does with files" and
 //! "`add` and `del`", what is written.
-ghost use Rattle.change_files.specs.PlanLists.{names_in_order};
-ghost use Rattle.db_core.specs.Seen.{members_of};
+ghost use Rattle.change_report.specs.change_files.PlanLists.{names_in_order};
+ghost use Rattle.change_report.specs.db_core.Seen.{members_of};
 ghost use Rattle.engine_core.specs.Writing.{HasPackages, IsFileWrite, IsSourceOfWrite, IsWriteBy, package_at, database_and_world_names, record_writes, write_name};
-ghost use Rattle.journal_intent.specs.FreeNames.{HaveNoRepeats};
+ghost use Rattle.change_report.specs.journal_intent.FreeNames.{HaveNoRepeats};
 ghost use Rattle.base_core.specs.ByteOrder.{bytes_cmp};
 ghost use Rattle.base_core.specs.Sorted.{sorted_by};
-ghost use Rattle.own_core.specs.Planned.{HasSources, IsOfAddedFile, written_names};
-ghost use Rattle.own_core.specs.WritesSeen.{write_seen, writes_in};
-ghost use Rattle.stage_files.specs.declared.writes.StagedWrite.{StagedWrite as StagedWriteValue};
+ghost use Rattle.change_report.specs.own_core.Planned.{HasSources, IsOfAddedFile, written_names};
+ghost use Rattle.change_report.specs.own_core.WritesSeen.{write_seen, writes_in};
+ghost use Rattle.journal_staging.specs.declared.writes.StagedWrite.{StagedWrite as StagedWriteValue};
 ghost use Rattle.std.specs.Ordering.{on};
 ghost use Rattle.std.specs.Prelude.{◌≡◌, ◌++◌, List, All, IfOk, OnOk, map};
 
 use crate::targets::target_of;
-use arrivals::Arrivals;
+use added_packages::Arrivals;
 use base_core::{Name, Names};
-use db_core::Members;
-use own_core::{FilePlan, Write};
-use stage_files::{PackagedFile, Source, StagedWrite};
+use change_report::{FilePlan, Members, Write};
+use journal_staging::{PackagedFile, Source, StagedWrite};
 use std::alloc::{AllocError, Global};
 
 /// The database and world, as they are written. A file without given bytes is unchanged.

@@ -7,14 +7,13 @@ ghost use Rattle.base_core.specs.Calls.{IfObservable};
 ghost use Rattle.base_core.specs.Read.{OnlyReads};
 ghost use Rattle.base_core.specs.Tree.{files_of};
 ghost use Rattle.file_guard.specs.Listed.{comparison_by, comparison_of, IsOfEntry};
-ghost use Rattle.adb_schema.specs.Views.{file_value};
+ghost use Rattle.pkg_core.specs.adb_schema.Views.{file_value};
 ghost use Rattle.adb_view.specs.Plain.{Plain};
 ghost use Rattle.file_guard.specs.AsListed.{do_entries_agree};
 
 use crate::watch::Watch;
-use adb_schema::FileInfo;
 use base_core::{Disk, Name, Tree};
-use pkg_core::PIECE_LEN;
+use pkg_core::{FileInfo, PIECE_LEN};
 
 /// How a file compares with two entries.
 #[derive(Clone, Copy, Debug, PartialEq, Eq)]

@@ -15,3 +15,4 @@ mod watch;
 
 pub use compare::{Comparison, ListedFile, compare_file, compare_file_in, listed_file};
 pub use link::{LINK_MARK, target_text};
+pub use pkg_core::{DirInfo, FileInfo, List, PackageView, is_reserved_file};

@@ -10,8 +10,8 @@ use Rattle.std.proofs.Math.Bool.{or-false, or_assoc}
 use Rattle.dep_core.specs.ValueReading.{dependency_of_value}
 use Rattle.version_core.specs.Order.{is_version}
 use Rattle.adb_view.specs.Plain.{Plain, Plains}
-use Rattle.adb_fields.specs.Repeated.{list_of, package_name}
-use Rattle.adb_schema.specs.Dependencies.{dependency_in}
+use Rattle.path_claims.specs.adb_fields.Repeated.{list_of, package_name}
+use Rattle.db_core.specs.adb_schema.Dependencies.{dependency_in}
 use Rattle.adb_view.specs.Values.{count_of, entry_in, int_in, nth, text_in, value_at}
 use Rattle.adb_view.specs.declared.tables.Kind.TheVariants as Kinds
 use Rattle.db_core.specs.Members.{Member, is_place, member_name}

@@ -3,9 +3,9 @@ use Rattle.std.proofs.Common.{◌≡◌, ℕ, suc, zero, ◌+◌, ◌<◌, ◌�
 use Rattle.std.specs.Prelude.{slice_get}
 use Rattle.adb_view.specs.Plain.{Plains, none, more}
 use Rattle.adb_view.specs.Values.{count_of, nth}
-use Rattle.adb_fields.specs.Paths.{path_of}
-use Rattle.adb_fields.specs.Repeated.{files_in, list_of, name_of}
-use Rattle.adb_fields.proofs.Listed.{none_listed}
+use Rattle.path_claims.specs.adb_fields.Paths.{path_of}
+use Rattle.path_claims.specs.adb_fields.Repeated.{files_in, list_of, name_of}
+use Rattle.path_claims.proofs.adb_fields.Listed.{none_listed}
 use Rattle.db_core.specs.Members.{Listing, Member, member_listing, listings_by, listings_from, listings_in_folder, listings_in_folders, member_listings}
 use Rattle.path_claims.specs.Claims.{PathClaim}
 use Rattle.file_owners.specs.Gathered.{with_listings}

@@ -19,13 +19,13 @@ use Rattle.dep_core.specs.ValueReading.{bits_of, dependency_of_value, on_version
 use Rattle.dep_core.specs.Dependency.{is_dep_name}
 use Rattle.version_core.specs.Order.{is_version}
 use Rattle.adb_view.specs.Plain.{Plain}
-use Rattle.adb_fields.specs.Repeated.{entries_at, package_name}
+use Rattle.path_claims.specs.adb_fields.Repeated.{entries_at, package_name}
 use Rattle.adb_view.specs.Values.{entry_in, int_in, text_in}
 use Rattle.db_core.specs.Members.{Member, member_name}
 use Rattle.file_owners.specs.NamedPlaces.{ArePlacesNamed, ArePlacesOfEach}
 use Rattle.file_owners.specs.Owners.{member_beats, takes_over_if_any}
 use Rattle.file_owners.specs.Replaces.{is_named_by, is_preferred_to, is_replaced_by, names_package, takes_over, version_text}
-use Rattle.adb_schema.specs.Dependencies.{dependency_in}
+use Rattle.db_core.specs.adb_schema.Dependencies.{dependency_in}
 
 abbrev is_one : {X : Type 0} → Option X → Bool
 is_one None = false

@@ -1,7 +1,7 @@
 -- No path is owned by two members.
 use Rattle.std.proofs.Common.{◌≡◌, inl, inr, ℕ, Bool, true, false, List, [], ◌∷◌, map, Option, Some, None, refl, ap, sym, ◌∙◌, true≢false}
 use Rattle.std.proofs.lemmas.Bool.{eqb-true}
-use Rattle.adb_fields.specs.FirstPair.{IsIn}
+use Rattle.path_claims.specs.adb_fields.FirstPair.{IsIn}
 use Rattle.db_core.specs.Members.{Listing, Member, member_listings}
 use Rattle.db_core.specs.OwnedListings.{HaveOneOwner, owned_listings}
 use Rattle.path_claims.specs.Claims.{is_member}

@@ -3,7 +3,7 @@ use Rattle.std.proofs.Common.{◌≡◌, ℕ, suc, zero, ◌≤◌, Bool, true, 
 use Rattle.std.specs.Prelude.{◌||◌, ◌&&◌, not, nat_lt, ◌==◌, slice_get}
 use Rattle.dep_core.proofs.Places.{not_before}
 use Rattle.adb_view.specs.Plain.{Plain}
-use Rattle.adb_fields.specs.Repeated.{package_name}
+use Rattle.path_claims.specs.adb_fields.Repeated.{package_name}
 use Rattle.base_core.specs.ByteOrder.{precedes}
 use Rattle.base_core.proofs.Orderings.{precedes_one_way}
 use Rattle.db_core.specs.Members.{Member}

@@ -10,10 +10,10 @@ use Rattle.adb_view.specs.FieldIndexes.{INFO_REPLACES, PACKAGE_INFO}
 use Rattle.adb_view.specs.Values.{count_of, entries_in, entry_in, nth}
 use Rattle.adb_view.specs.declared.tables.Which.{Which}
 use Rattle.adb_view.specs.declared.tables.Which.TheVariants as Tables
-use Rattle.adb_fields.specs.FirstPair.{IsIn}
-use Rattle.adb_fields.specs.Repeated.{list_of}
-use Rattle.adb_schema.specs.SoundValues.{IsPackage, IsSoundDependency}
-use Rattle.adb_schema.proofs.SoundLeaves.{each_at}
+use Rattle.path_claims.specs.adb_fields.FirstPair.{IsIn}
+use Rattle.path_claims.specs.adb_fields.Repeated.{list_of}
+use Rattle.db_core.specs.adb_schema.SoundValues.{IsPackage, IsSoundDependency}
+use Rattle.db_core.proofs.adb_schema.SoundLeaves.{each_at}
 use Rattle.db_core.specs.Members.{Member}
 use Rattle.db_core.specs.SoundMembers.{AreOfSoundContainers, IsOfSoundContainer}
 use Rattle.file_owners.specs.Replaces.{version_text}

@@ -6,7 +6,7 @@ use Rattle.adb_view.specs.FieldIndexes.{DEP_MATCH, DEP_NAME, DEP_VERSION}
 use Rattle.adb_view.specs.Values.{entry_in, int_in, is_sound, text_in, value_at}
 use Rattle.adb_view.specs.declared.tables.Kind.TheVariants.{Obj, Text}
 use Rattle.adb_view.specs.declared.tables.Which.TheVariants.{Dep}
-use Rattle.adb_schema.specs.SoundValues.{IsSoundDependency}
+use Rattle.db_core.specs.adb_schema.SoundValues.{IsSoundDependency}
 use Rattle.db_core.specs.Members.{Member, member_name}
 use Rattle.file_owners.specs.Replaces.{is_named_by}
 use Rattle.file_owners.specs.declared.questions.Question.{Question}

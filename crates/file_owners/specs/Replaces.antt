@@ -5,11 +5,11 @@ use Rattle.std.specs.List.{list_any}
 use Rattle.adb_view.specs.Plain.{Plain}
 use Rattle.adb_view.specs.FieldIndexes.{INFO_REPLACES, INFO_VERSION, PACKAGE_INFO, PACKAGE_REPLACES_PRIORITY}
 use Rattle.adb_view.specs.Values.{entry_in, int_in, text_in}
-use Rattle.adb_fields.specs.Repeated.{entries_at, package_name}
+use Rattle.path_claims.specs.adb_fields.Repeated.{entries_at, package_name}
 use Rattle.version_core.specs.Order.{is_version}
 use Rattle.dep_core.specs.Dependency.{Dependency}
 use Rattle.dep_core.specs.Meets.{meets}
-use Rattle.adb_schema.specs.Dependencies.{dependency_in}
+use Rattle.db_core.specs.adb_schema.Dependencies.{dependency_in}
 use Rattle.base_core.specs.ByteOrder.{precedes}
 
 -- the text of a package's version, as its information has it

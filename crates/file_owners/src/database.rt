@@ -12,8 +12,7 @@ ghost use Rattle.file_owners.specs.Gathered.{with_listings};
 ghost use Rattle.file_owners.specs.Owners.{claims_in};
 
 use crate::gather::add_folders;
-use adb_schema::PackageView;
-use db_core::Db;
+use db_core::{Db, PackageView};
 use path_claims::{Claim, sort_claims};
 use std::alloc::{AllocError, Global};
 use std::marker::PhantomData;

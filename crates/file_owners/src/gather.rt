@@ -4,17 +4,16 @@
 //! 0, folders and files from 1, as in *Listing* of `db_core`.
 
 ghost use Rattle.std.specs.Prelude.{◌≡◌, ◌<◌, ◌+◌, [], ◌∷◌, Some, IfOk, length, map, slice_get};
-ghost use Rattle.adb_fields.specs.Paths.{path_of};
-ghost use Rattle.adb_fields.specs.ListValue.{list_value};
-ghost use Rattle.adb_fields.specs.Repeated.{files_in, list_of, name_of};
+ghost use Rattle.path_claims.specs.adb_fields.Paths.{path_of};
+ghost use Rattle.path_claims.specs.adb_fields.ListValue.{list_value};
+ghost use Rattle.path_claims.specs.adb_fields.Repeated.{files_in, list_of, name_of};
 ghost use Rattle.adb_view.specs.Values.{count_of, entries_in, nth};
 ghost use Rattle.db_core.specs.Members.{Listing, Member, listings_by, listings_in_folder, listings_in_folders, member_listings};
 ghost use Rattle.db_core.specs.Seen.{members_of};
 ghost use Rattle.path_claims.specs.Seen.{claim_seen};
 ghost use Rattle.file_owners.specs.Gathered.{with_listings};
 
-use adb_schema::{DirInfo, FileInfo, FilePath, List};
-use db_core::Members;
+use db_core::{DirInfo, FileInfo, FilePath, List, Members};
 use path_claims::Claim;
 use std::alloc::{AllocError, Global};
 

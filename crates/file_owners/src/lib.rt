@@ -15,6 +15,7 @@ mod owner;
 mod questions;
 
 pub use database::claims_in_database;
+pub use db_core::{Db, Members, Owned};
 pub use owner::{
     no_path_is_owned_by_two_members, no_two_packages_take_over_from_each_other, owners_of_files,
 };

@@ -14,17 +14,16 @@ ghost use Rattle.adb_view.specs.FieldIndexes.{INFO_REPLACES, PACKAGE_INFO};
 ghost use Rattle.adb_view.specs.Values.{entries_in, entry_in};
 ghost use Rattle.adb_view.specs.declared.tables.Kind.TheVariants as Kinds;
 ghost use Rattle.adb_view.specs.declared.tables.Which.TheVariants as Tables;
-ghost use Rattle.adb_fields.specs.Fields.{are_all_sound, array_at};
-ghost use Rattle.adb_schema.specs.Views.{info_value, package_value};
-ghost use Rattle.adb_schema.specs.SoundValues.{IsSoundDependency};
+ghost use Rattle.path_claims.specs.adb_fields.Fields.{are_all_sound, array_at};
+ghost use Rattle.db_core.specs.adb_schema.Views.{info_value, package_value};
+ghost use Rattle.db_core.specs.adb_schema.SoundValues.{IsSoundDependency};
 ghost use Rattle.db_core.specs.Seen.{members_of};
 ghost use Rattle.file_owners.specs.NamedPlaces.{ArePlacesNamed, ArePlacesOfEach};
 
 use crate::questions::places_in;
-use adb_fields::objects_field;
-use adb_schema::{PackageView, PkgInfo};
 use adb_view::{Arr, Which};
-use db_core::Members;
+use db_core::{Members, PackageView, PkgInfo};
+use path_claims::objects_field;
 use std::alloc::{AllocError, Global};
 
 /// The field `replaces` of an info.

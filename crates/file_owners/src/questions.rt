@@ -11,9 +11,9 @@ ghost use Rattle.adb_view.specs.Shaped.{Each};
 ghost use Rattle.adb_view.specs.Values.{entries_in, is_sound, value_at};
 ghost use Rattle.adb_view.specs.declared.tables.Kind.TheVariants as Kinds;
 ghost use Rattle.adb_view.specs.declared.tables.Which.TheVariants as Tables;
-ghost use Rattle.adb_fields.specs.Fields.{are_all_sound, array_at};
-ghost use Rattle.adb_fields.specs.Repeated.{list_of};
-ghost use Rattle.adb_schema.specs.SoundValues.{IsSoundDependency};
+ghost use Rattle.path_claims.specs.adb_fields.Fields.{are_all_sound, array_at};
+ghost use Rattle.path_claims.specs.adb_fields.Repeated.{list_of};
+ghost use Rattle.db_core.specs.adb_schema.SoundValues.{IsSoundDependency};
 ghost use Rattle.db_core.specs.Members.{Member, is_place};
 ghost use Rattle.db_core.specs.Seen.{members_of};
 ghost use Rattle.file_owners.specs.Questions.{AreSameQuestion, IsQuestionIn, question_names, question_names_if_any, with_question};
@@ -22,10 +22,9 @@ ghost use Rattle.file_owners.specs.declared.questions.Question.{Question as Aske
 
 use crate::gather::place_of;
 use crate::owner::is_named_by;
-use adb_fields::field_word;
-use adb_schema::{DepView, View};
 use adb_view::{Adb, Arr, Val, Which, entry_word};
-use db_core::Members;
+use db_core::{DepView, Members, View};
+use path_claims::field_word;
 use std::alloc::{AllocError, Global};
 use std::cmp::Ordering;
 

@@ -1,7 +1,7 @@
 -- A replacement makes no misuse where there is room.
 use Rattle.std.proofs.Common.{◌≡◌, ◌≢◌, ℕ, Bool, true, false, cond, List, [], ◌∷◌, Option, None, Some, IsSome, refl, sym, subst, ◌∙◌}
 use Rattle.std.specs.Str.{bytes_eq}
-use Rattle.journal_intent.proofs.AtName.{drop_name-at, drop_name-off}
+use Rattle.journal_core.proofs.journal_intent.AtName.{drop_name-at, drop_name-off}
 use Rattle.journal_core.proofs.History.{History, observable_at}
 use Rattle.file_replacement.proofs.Suffix.{scratch_apart}
 use Rattle.base_core.specs.Files.{put_name, drop_name, HasNoFileAsFolder}

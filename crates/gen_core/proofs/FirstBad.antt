@@ -8,7 +8,7 @@ use Rattle.adb_view.specs.Schema.{shape_of}
 use Rattle.adb_view.specs.declared.tables.Kind.TheVariants.{Obj}
 use Rattle.adb_view.specs.declared.tables.Which.{Which}
 use Rattle.adb_view.specs.declared.tables.Which.TheVariants.{Dep, Acl, PkgInfo, File, Dir, Scripts, Package, Index, Idb, Intent}
-use Rattle.adb_schema.specs.Soundness.{schema_word}
+use Rattle.adb_dump.specs.adb_schema.Soundness.{schema_word}
 use Rattle.base_core.specs.Lists.{and_then}
 use Rattle.adb_dump.specs.Dump.{Line, dump_lines, schema_line, value_lines}
 use Rattle.adb_dump.specs.ReadBack.{LinesRead, value_read}

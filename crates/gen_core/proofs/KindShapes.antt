@@ -1,7 +1,7 @@
 -- Values by their kind.
 use Rattle.std.proofs.Common.{◌≡◌, ◌≢◌, ℕ, Bool, true, false, List, [], ◌∷◌, length, Some, Ok, Err, refl, sym, ap, ◌∙◌}
 use Rattle.std.specs.Prelude.{codes}
-use Rattle.adb_write.proofs.RoundTrip.{blob_or_null-is}
+use Rattle.adb_values.proofs.adb_write.RoundTrip.{blob_or_null-is}
 use Rattle.adb_view.specs.Plain.{Plain, blob, blob_or_null, Fields, Shape, number, text, hash, array, object}
 use Rattle.adb_view.specs.Schema.{shape_of, shapes_of, table, table_number}
 use Rattle.adb_view.specs.Shapes.{object_shape}

@@ -1,3 +1,5 @@
+-- passed on: a crate above that names this one need not name these
+pub use Rattle.adb_dump.proofs as adb_dump
 pub mod Escapes
 pub mod TextLines
 pub mod LineReads

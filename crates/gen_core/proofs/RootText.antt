@@ -4,10 +4,10 @@ use Rattle.adb_view.specs.Plain.{Plain}
 use Rattle.adb_view.specs.declared.tables.Which.{Which}
 use Rattle.base_core.specs.Lists.{and_then}
 use Rattle.adb_values.specs.Drafts.{DraftState, draft_with, empty_draft}
-use Rattle.adb_write.specs.Canonical.{PayloadCounts, written_of}
-use Rattle.adb_write.specs.File.{file_of}
-use Rattle.adb_write.specs.declared.writer.WriteFault.{WriteFault}
-use Rattle.adb_write.specs.declared.writer.WriteFault.TheVariants as WriteFaults
+use Rattle.adb_values.specs.adb_write.Canonical.{PayloadCounts, written_of}
+use Rattle.adb_values.specs.adb_write.File.{file_of}
+use Rattle.adb_values.specs.adb_write.declared.writer.WriteFault.{WriteFault}
+use Rattle.adb_values.specs.adb_write.declared.writer.WriteFault.TheVariants as WriteFaults
 use Rattle.adb_values.specs.Written.{IsWrittenAs}
 use Rattle.adb_dump.specs.Dump.{Line}
 use Rattle.adb_dump.specs.ReadBack.{LinesRead, value_read}

@@ -7,7 +7,7 @@ use Rattle.adb_dump.specs.Dump.{Line, ends_with_byte}
 use Rattle.adb_dump.specs.Margin.{margin}
 use Rattle.adb_dump.specs.ReadBack.{strip_prefix}
 use Rattle.memchr.specs.Find.{IsFirstByte, is_byte}
-use Rattle.adb_schema.proofs.Below.{eqb-sym}
+use Rattle.adb_dump.proofs.adb_schema.Below.{eqb-sym}
 use Rattle.adb_dump.proofs.Pieces.{ends_some, ends_none}
 use Rattle.adb_dump.proofs.ReadOnly.{strip_prefix_some}
 use Rattle.adb_dump.proofs.ValueBack.{strip_prefix-append}

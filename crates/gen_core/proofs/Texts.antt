@@ -8,7 +8,7 @@ use Rattle.hex.specs.Hex.{encode_with}
 use Rattle.adb_view.specs.Plain.{Plain, null}
 use Rattle.adb_view.specs.declared.tables.Which.{Which}
 use Rattle.adb_view.specs.declared.tables.Which.TheVariants.{Dep, Acl, PkgInfo, File, Dir, Scripts, Package, Index, Idb, Intent}
-use Rattle.adb_schema.specs.Soundness.{schema_word}
+use Rattle.adb_dump.specs.adb_schema.Soundness.{schema_word}
 use Rattle.base_core.specs.Lists.{and_then}
 use Rattle.base_core.proofs.AtName.{is_name}
 use Rattle.adb_dump.specs.Dump.{Line, dump_lines, dump_text, schema_line, text_of, value_lines}

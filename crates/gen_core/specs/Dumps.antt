@@ -4,7 +4,7 @@
 use Rattle.std.specs.Prelude.{◌≡◌, ◌≢◌, ℕ, ◌+◌, ◌-◌, ◌≤◌, ◌⊎◌, List, [], ◌++◌, length, take, IsSome}
 use Rattle.adb_view.specs.Plain.{Plain}
 use Rattle.adb_view.specs.declared.tables.Which.{Which}
-use Rattle.adb_schema.specs.Soundness.{schema_word}
+use Rattle.adb_dump.specs.adb_schema.Soundness.{schema_word}
 use Rattle.adb_dump.specs.Dump.{Line, dump_lines}
 use Rattle.adb_dump.specs.Values.{IsOfBytes, IsValueOf}
 use Rattle.gen_core.specs.Generated.{text_lines}

@@ -6,9 +6,9 @@ use Rattle.base_core.specs.Lists.{and_then}
 use Rattle.adb_view.specs.Plain.{Plain}
 use Rattle.adb_view.specs.declared.tables.Which.{Which}
 use Rattle.adb_view.specs.declared.tables.Which.TheVariants.{Package, Index, Idb, Intent}
-use Rattle.adb_schema.specs.Soundness.{schema_word}
-use Rattle.adb_write.specs.Canonical.{PayloadCounts, written_of}
-use Rattle.adb_write.specs.File.{file_of}
+use Rattle.adb_dump.specs.adb_schema.Soundness.{schema_word}
+use Rattle.adb_values.specs.adb_write.Canonical.{PayloadCounts, written_of}
+use Rattle.adb_values.specs.adb_write.File.{file_of}
 use Rattle.adb_dump.specs.Dump.{Line, schema_line}
 use Rattle.adb_dump.specs.ReadBack.{LinesRead, value_read}
 use Rattle.gen_core.specs.declared.generate.GenFault.{GenFault}

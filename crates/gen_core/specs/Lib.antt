@@ -1,5 +1,9 @@
 -- The definitions of `gen_core`. The head of each file says where its rule is.
 
+-- passed on: a crate above that names this one need not name these
+pub use Rattle.adb_dump.specs as adb_dump
+pub use Rattle.adb_dump.specs.adb_schema as adb_schema
+pub use Rattle.adb_values.specs.adb_write as adb_write
 -- cited by the contract of `apk`
 pub mod Generated
 -- what the laws say

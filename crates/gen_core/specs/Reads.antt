@@ -4,8 +4,8 @@
 use Rattle.std.specs.Prelude.{◌≡◌, ◌≢◌, ℕ, ⊤, ◌+◌, ◌<◌, Bool, true, false, List, [], ◌∷◌, Option, Some, None, Result, Ok, Err, bytes_eq, codes}
 use Rattle.std.specs.List.{AllByRecursion}
 use Rattle.adb_view.specs.Plain.{Plain, Plains, Shape, number, text, hash, array, object}
-use Rattle.adb_write.specs.declared.writer.WriteFault.{WriteFault}
-use Rattle.adb_write.specs.declared.writer.WriteFault.TheVariants as WriteFaults
+use Rattle.adb_values.specs.adb_write.declared.writer.WriteFault.{WriteFault}
+use Rattle.adb_values.specs.adb_write.declared.writer.WriteFault.TheVariants as WriteFaults
 use Rattle.adb_values.specs.Drafts.{DraftState, draft_with, draft_with_all}
 use Rattle.adb_dump.specs.Dump.{Line, int_line, text_line, hash_line}
 use Rattle.adb_dump.specs.ReadBack.{LinesRead, entry_read, if_form, int_read, text_read, hash_read}

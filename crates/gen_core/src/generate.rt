@@ -9,9 +9,8 @@ ghost use Rattle.gen_core.specs.Reads.{IsTextFault, fault_of_writer, has_rest, r
 
 use crate::cursor::Cursor;
 use crate::read::read_root;
-use adb_schema::{Which, schema_word};
-use adb_values::Draft;
-use adb_write::{WriteFault, file_of};
+use adb_dump::{Which, schema_word};
+use adb_values::{Draft, WriteFault, file_of};
 use std::alloc::{AllocError, Global};
 use thiserror::Error;
 

@@ -16,6 +16,11 @@ mod laws;
 mod read;
 mod value;
 
+pub use adb_dump::{sound_containers_hold_sound_values, values_found_in_bytes_are_of_their_table};
+pub use adb_values::{
+    a_canonical_payload_is_read_back, a_canonical_payload_is_visited_once,
+    a_value_overflows_exactly_past_a_limit,
+};
 pub use generate::{GenFault, gen_};
 pub use laws::{
     a_text_is_accepted_exactly_if_a_root_has_it, the_reported_line_is_the_first_that_no_dump_has,

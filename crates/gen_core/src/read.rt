@@ -17,7 +17,7 @@ ghost use Rattle.gen_core.specs.Reads.{IsLineRead, IsTextFault, block_taken, end
 use crate::cursor::{Cursor, without_prefix};
 use crate::generate::GenFault;
 use crate::value::{number_in, read_hash, read_text};
-use adb_schema::{Field, FieldName, Kind, Which, fields_of};
+use adb_dump::{Field, FieldName, Kind, Which, fields_of};
 use adb_values::Draft;
 use std::alloc::{AllocError, Global};
 

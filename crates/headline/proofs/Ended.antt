@@ -5,20 +5,20 @@ use Rattle.base_core.specs.Files.{Files}
 use Rattle.base_core.specs.declared.cause.Cause.{Cause}
 use Rattle.command_core.specs.Command.{CommandLine}
 use Rattle.command_core.specs.declared.command.Applet.{Applet}
-use Rattle.journal_core.specs.Recovery.{intent_name}
-use Rattle.journal_core.specs.Staged.{unstaged_files}
-use Rattle.outcome.specs.ChangeEnd.{IsRunEnd, TakesFirstSelection}
-use Rattle.outcome.specs.Commands.{IsOutcomeOn}
-use Rattle.outcome.specs.Effect.{Changes, does_recover, effect_of}
-use Rattle.outcome.specs.Outcome.{Outcome, just_refusal}
-use Rattle.outcome.specs.Recovers.{must_recover}
-use Rattle.outcome.specs.Words.{IsOutcome}
-use Rattle.outcome.specs.Work.{fault_of_intent}
+use Rattle.run_lists.specs.journal_core.Recovery.{intent_name}
+use Rattle.run_lists.specs.journal_core.Staged.{unstaged_files}
+use Rattle.refusal_laws.specs.outcome.ChangeEnd.{IsRunEnd, TakesFirstSelection}
+use Rattle.refusal_laws.specs.outcome.Commands.{IsOutcomeOn}
+use Rattle.refusal_laws.specs.outcome.Effect.{Changes, does_recover, effect_of}
+use Rattle.refusal_laws.specs.outcome.Outcome.{Outcome, just_refusal}
+use Rattle.refusal_laws.specs.outcome.Recovers.{must_recover}
+use Rattle.refusal_laws.specs.outcome.Words.{IsOutcome}
+use Rattle.refusal_laws.specs.outcome.Work.{fault_of_intent}
 use Rattle.refusal_laws.specs.RunFaults.{IsFaultOfRun}
 use Rattle.refusal_laws.specs.RunMade.{HasFirstSelection}
 use Rattle.report_core.specs.declared.refusal.Refusal.{Refusal}
 use Rattle.report_core.specs.declared.refusal.Refusal.TheVariants.{IntentBad, Unsatisfied}
-use Rattle.words_core.specs.Grammar.{command_of}
+use Rattle.refusal_laws.specs.words_core.Grammar.{command_of}
 use Rattle.headline.specs.Sentence.{EndsAsStated}
 
 not_both : (a : Option Refusal) (refusal : Refusal) → a ≡ None → a ≡ Some refusal → ⊥

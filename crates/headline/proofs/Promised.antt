@@ -1,17 +1,17 @@
 -- What a run recovers to, at each of its moments.
 use Rattle.std.proofs.Common.{◌≡◌, ◌⊎◌, inl, inr, ℕ, true, false, List, [], ◌∷◌, Ok, refl, subst, ◌∙◌}
-use Rattle.apk_front.specs.Moments.{AnswersOutcome, IgnoresScratchOf, IsDurableState, MakesDurable}
+use Rattle.run_lists.specs.apk_front.Moments.{AnswersOutcome, IgnoresScratchOf, IsDurableState, MakesDurable}
 use Rattle.base_core.specs.Calls.{HoldsNow, IfObservable}
 use Rattle.base_core.specs.Undone.{IsDurable, IsCrashImage}
 use Rattle.base_core.specs.Files.{Files}
 use Rattle.base_core.specs.Tree.{TreeState, files_of}
 use Rattle.command_core.specs.Command.{CommandLine}
-use Rattle.journal_core.specs.Recovery.{EachCrashLeaves, StateDependsOn, intent_name}
-use Rattle.journal_core.proofs.More.{states_same}
-use Rattle.outcome.specs.Effect.{Changes, does_recover, effect_by, effect_of, output}
-use Rattle.outcome.specs.Outcome.{Outcome}
-use Rattle.outcome.specs.Words.{IsOutcome}
-use Rattle.words_core.specs.Grammar.{command_of}
+use Rattle.run_lists.specs.journal_core.Recovery.{EachCrashLeaves, StateDependsOn, intent_name}
+use Rattle.run_lists.proofs.journal_core.More.{states_same}
+use Rattle.refusal_laws.specs.outcome.Effect.{Changes, does_recover, effect_by, effect_of, output}
+use Rattle.refusal_laws.specs.outcome.Outcome.{Outcome}
+use Rattle.refusal_laws.specs.outcome.Words.{IsOutcome}
+use Rattle.refusal_laws.specs.words_core.Grammar.{command_of}
 use Rattle.run_lists.specs.Events.{Event, HasNoPendingRun, Reaches, ReachesWithoutCommit, ReachesOneState, IsRunWithoutCommit, IsOutcomeFrom, IsRunFrom, IsStopOf, Run, ignored_after, ignored_in, with_all_touched, with_scratch}
 use Rattle.run_lists.specs.Recovered.{ReachesWithoutBadIntent, HasStateBefore, HasStateBeforeOrOutcome, HasStateOf, IsRecoveredBy, LeavesNoBadIntent}
 use Rattle.run_lists.specs.Safety.{HasOldOrOutcome, IsAtomicAfterAnyEvents, IsSafe, IsSafeAfterAnyEvents, LeavesOutcome}

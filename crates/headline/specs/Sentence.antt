@@ -2,26 +2,26 @@
 -- defined in `run_lists` (runs, and what a root has seen), `apk_front` (answers), `journal_core`
 -- (states), `outcome` (what a command comes to) and `refusal_laws` (what a refusal says).
 use Rattle.std.specs.Prelude.{◌≡◌, ◌⊎◌, ℕ, Bool, true, false, List, Some, None, Ok}
-use Rattle.apk_front.specs.Answers.{IsAnswerOf, LeavesFiles}
-use Rattle.apk_front.specs.Moments.{AnswersOutcome, IsDurableState, MakesDurable}
+use Rattle.run_lists.specs.apk_front.Answers.{IsAnswerOf, LeavesFiles}
+use Rattle.run_lists.specs.apk_front.Moments.{AnswersOutcome, IsDurableState, MakesDurable}
 use Rattle.base_core.specs.Calls.{HoldsNow}
 use Rattle.base_core.specs.Undone.{IsDurable, IsCrashImage}
 use Rattle.base_core.specs.Faults.{HasCause}
 use Rattle.base_core.specs.Files.{Files}
 use Rattle.base_core.specs.Tree.{TreeState, files_of}
 use Rattle.command_core.specs.Command.{CommandLine}
-use Rattle.journal_core.specs.Recovery.{EachCrashLeaves, StateDependsOn, intent_name}
-use Rattle.journal_core.specs.Staged.{unstaged_files}
-use Rattle.outcome.specs.ChangeEnd.{IsRunEnd, TakesFirstSelection}
-use Rattle.outcome.specs.Effect.{Changes, does_recover, effect_by, effect_of}
-use Rattle.outcome.specs.Outcome.{Outcome}
+use Rattle.run_lists.specs.journal_core.Recovery.{EachCrashLeaves, StateDependsOn, intent_name}
+use Rattle.run_lists.specs.journal_core.Staged.{unstaged_files}
+use Rattle.refusal_laws.specs.outcome.ChangeEnd.{IsRunEnd, TakesFirstSelection}
+use Rattle.refusal_laws.specs.outcome.Effect.{Changes, does_recover, effect_by, effect_of}
+use Rattle.refusal_laws.specs.outcome.Outcome.{Outcome}
 use Rattle.refusal_laws.specs.RunFaults.{IsFaultOfRun}
 use Rattle.refusal_laws.specs.RunMade.{HasFirstSelection}
 use Rattle.report_core.specs.declared.refusal.Refusal.{Refusal}
 use Rattle.run_lists.specs.Events.{Event, HasNoPendingRun, ReachesWithoutCommit, ReachesOneState, IsRunWithoutCommit, IsOutcomeFrom, IsRunFrom, IsStopOf, Run, ignored_after, ignored_in, with_all_touched}
 use Rattle.run_lists.specs.Recovered.{ReachesWithoutBadIntent, HasStateBefore, HasStateBeforeOrOutcome, HasStateOf, IsRecoveredBy, LeavesNoBadIntent}
 use Rattle.run_lists.specs.Safety.{HasOldOrOutcome}
-use Rattle.words_core.specs.Grammar.{command_of}
+use Rattle.refusal_laws.specs.words_core.Grammar.{command_of}
 
 -- A root has seen any list of runs, stops, crashes and changes by others. Its files were durable at
 -- first, apart from the ignored names, and neither then nor later did others leave a bad intent.

@@ -1,23 +1,22 @@
 //! The sentence, of a call of `apk`, beside those clauses of `apk` that are about every tree, or
 //! about one run alone.
 ghost use Rattle.std.specs.Prelude.{◌≡◌, IsTrue};
-ghost use Rattle.apk_front.specs.Answers.{name_a_command, HasCauses, IsAnswerOf, AnswersOutcomeUnlessMemory, IsFaultless, IsOutcomeUnlessMemory, HasNoPlannedFailure, LeavesAnyFiles, LeavesFiles};
-ghost use Rattle.apk_front.specs.Moments.{TargetsAreAcceptedThroughout, AreRunPathsFree};
+ghost use Rattle.run_lists.specs.apk_front.Answers.{name_a_command, HasCauses, IsAnswerOf, AnswersOutcomeUnlessMemory, IsFaultless, IsOutcomeUnlessMemory, HasNoPlannedFailure, LeavesAnyFiles, LeavesFiles};
+ghost use Rattle.run_lists.specs.apk_front.Moments.{TargetsAreAcceptedThroughout, AreRunPathsFree};
 ghost use Rattle.base_core.specs.Calls.{IfObservable};
 ghost use Rattle.base_core.specs.Faults.{CountsOnlyRise, HasCause};
 ghost use Rattle.base_core.specs.Files.{no_names};
 ghost use Rattle.base_core.specs.Sink.{sink_change, IsProperUse};
 ghost use Rattle.base_core.specs.Tree.{files_of};
 ghost use Rattle.headline.specs.Sentence.{IsAsPromisedAfterAnyEvents};
-ghost use Rattle.outcome.specs.Effect.{Changes, effect_by, reads_only, depends_only_on_arguments};
-ghost use Rattle.outcome.specs.Words.{IsPossibleOutcome, IsOutcome};
+ghost use Rattle.refusal_laws.specs.outcome.Effect.{Changes, effect_by, reads_only, depends_only_on_arguments};
+ghost use Rattle.refusal_laws.specs.outcome.Words.{IsPossibleOutcome, IsOutcome};
 ghost use Rattle.run_lists.specs.Events.{IsRunFrom, Run};
-ghost use Rattle.words_core.specs.Grammar.{command_of};
+ghost use Rattle.refusal_laws.specs.words_core.Grammar.{command_of};
 
 use crate::sentence::the_sentence_holds;
-use apk_front::{Answer, apk};
 use base_core::{Sink, Tree, Words};
-use run_lists::a_run_is_safe_after_any_events;
+use run_lists::{Answer, a_run_is_safe_after_any_events, apk};
 use std::alloc::Global;
 
 /// Runs a command line on a root, by `apk`. The call is a run, and the sentence holds of it, if the

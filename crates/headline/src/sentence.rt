@@ -4,14 +4,14 @@ ghost use Rattle.base_core.specs.Tree.{TreeState};
 ghost use Rattle.headline.specs.Sentence.{IsAsPromisedAfterAnyEvents};
 ghost use Rattle.run_lists.specs.Events.{IsRunFrom, Run};
 
-use journal_core::more_names_may_be_ignored;
-use outcome::{
-    a_change_takes_the_first_selection_or_is_refused, a_command_recovers, an_outcome_is_unique,
-};
 use refusal_laws::{
-    a_refused_run_has_its_fault, the_packages_after_a_run_are_those_of_the_first_selection,
+    a_change_takes_the_first_selection_or_is_refused, a_command_recovers,
+    a_refused_run_has_its_fault, an_outcome_is_unique,
+    the_packages_after_a_run_are_those_of_the_first_selection,
 };
-use run_lists::{a_run_is_safe_after_any_events, a_stopped_run_is_recovered};
+use run_lists::{
+    a_run_is_safe_after_any_events, a_stopped_run_is_recovered, more_names_may_be_ignored,
+};
 
 /// The sentence holds of every run: whatever runs, stops, crashes and changes by others a root has
 /// seen, the run recovers to a state from before it or to that of its outcome. It recovers to the

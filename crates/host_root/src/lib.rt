@@ -10,4 +10,5 @@ mod folders;
 mod root;
 mod targets;
 
+pub use host_files::{Failure, Found, Host, HostFault, Lock, Reason, path_text};
 pub use root::Root;

@@ -11,8 +11,7 @@ ghost use Rattle.host_tree.specs.Host.{host_counts};
 mod listing;
 
 use base_core::{Disk, Name, Names, Tree, TreeFault};
-use host_files::{Failure, Host, HostFault, Lock};
-use host_root::Root;
+use host_root::{Failure, Host, HostFault, Lock, Root};
 use listing::list_below;
 use std::alloc::Global;
 

@@ -8,8 +8,7 @@ ghost use Rattle.base_core.specs.Files.{IsFolderOf};
 ghost use Rattle.base_core.specs.Listed.{AreNamesBelow, IsRising};
 
 use base_core::{Name, Names, is_folder_of};
-use host_files::{Found, Host, HostFault, Reason, path_text};
-use host_root::Root;
+use host_root::{Found, Host, HostFault, Reason, Root, path_text};
 use std::alloc::{AllocError, Global};
 use std::fs;
 

@@ -3,13 +3,13 @@ use Rattle.std.proofs.Common.{◌≡◌, ℕ, zero, suc, ◌+◌, ◌<◌, ◌�
 use Rattle.std.specs.Prelude.{codes, slice_get}
 use Rattle.adb_view.specs.Plain.{Plain, Plains, none, more}
 use Rattle.adb_view.specs.Values.{count_of, nth}
-use Rattle.adb_fields.specs.Repeated.{list_of, paths_under}
+use Rattle.candidate_core.specs.adb_fields.Repeated.{list_of, paths_under}
 use Rattle.std.specs.List.{cons_option, filter_map, flat_map}
 use Rattle.std.specs.Option.{option_map_or}
 use Rattle.std.proofs.lemmas.Grind.{flat_map-append}
 use Rattle.std.proofs.lemmas.List.{map-append}
 use Rattle.base_core.proofs.Texts.{joined}
-use Rattle.adb_fields.proofs.Listed.{next_listed}
+use Rattle.candidate_core.proofs.adb_fields.Listed.{next_listed}
 use Rattle.dep_core.specs.Dependency.{Dependency}
 use Rattle.dep_core.specs.DependencyText.{dep_text}
 use Rattle.candidate_core.specs.Candidates.{dependencies_of, dependency_in}

@@ -4,10 +4,10 @@ use Rattle.std.specs.Prelude.{◌||◌, bytes_eq}
 use Rattle.std.specs.List.{find, list_any}
 use Rattle.std.proofs.lemmas.Slice.Eq.{bytes_eq-Decides}
 use Rattle.adb_view.specs.Plain.{Plain}
-use Rattle.adb_fields.specs.FirstPair.{IsIn}
-use Rattle.adb_fields.specs.Once.{AreApart, AreDistinctNames, IsInOneOf}
-use Rattle.adb_fields.specs.Repeated.{package_name, paths_in}
-use Rattle.db_core.specs.Packages.{lists_path}
+use Rattle.candidate_core.specs.adb_fields.FirstPair.{IsIn}
+use Rattle.candidate_core.specs.adb_fields.Once.{AreApart, AreDistinctNames, IsInOneOf}
+use Rattle.candidate_core.specs.adb_fields.Repeated.{package_name, paths_in}
+use Rattle.file_owners.specs.db_core.Packages.{lists_path}
 use Rattle.installed_info.specs.Packages.{package_named, path_owner}
 
 -- ---- whether a list has a text

@@ -6,8 +6,8 @@ use Rattle.std.proofs.lemmas.Bool.{and_parts}
 use Rattle.std.proofs.lemmas.Slice.Eq.{bytes_eq-Decides}
 use Rattle.base_core.specs.Name.{is_name}
 use Rattle.adb_view.specs.Plain.{Plain}
-use Rattle.adb_fields.specs.Repeated.{paths_in}
-use Rattle.db_core.specs.Packages.{lists_names}
+use Rattle.candidate_core.specs.adb_fields.Repeated.{paths_in}
+use Rattle.file_owners.specs.db_core.Packages.{lists_names}
 use Rattle.installed_info.specs.Packages.{path_owner}
 
 not_among : (path : List ℕ) (paths : List (List ℕ)) → is_name path ≡ false → list_all is_name paths ≡ true → list_any (bytes_eq path) paths ≡ false

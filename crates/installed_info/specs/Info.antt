@@ -3,7 +3,7 @@
 use Rattle.std.specs.Prelude.{ℕ, List, [], ◌∷◌, map, Option, Some, None, is_some, Result, Ok, Err, if◌then◌else◌}
 use Rattle.std.specs.List.{flat_map}
 use Rattle.std.specs.Option.{option_map_or}
-use Rattle.adb_fields.specs.Repeated.{package_name, paths_in}
+use Rattle.candidate_core.specs.adb_fields.Repeated.{package_name, paths_in}
 use Rattle.adb_view.specs.FieldIndexes.{INFO_DEPENDS, INFO_DESCRIPTION, PACKAGE_INFO}
 use Rattle.adb_view.specs.Values.{entry_in, text_in}
 use Rattle.adb_view.specs.Plain.{Plain}

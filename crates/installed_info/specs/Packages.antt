@@ -3,7 +3,7 @@
 use Rattle.std.specs.Prelude.{ℕ, List, Option}
 use Rattle.std.specs.List.{find}
 use Rattle.adb_view.specs.Plain.{Plain}
-use Rattle.db_core.specs.Packages.{is_package_named, lists_path}
+use Rattle.file_owners.specs.db_core.Packages.{is_package_named, lists_path}
 use Rattle.dep_core.specs.LeadingSlash.{without_slash}
 use Rattle.installed_info.specs.declared.telling.Form.{Form}
 use Rattle.installed_info.specs.declared.telling.Form.TheVariants.{Owner}

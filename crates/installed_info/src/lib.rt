@@ -12,6 +12,7 @@ mod package;
 mod paths;
 mod telling;
 
+pub use candidate_core::Upgrade;
 pub use telling::{
     ReportAndRefusal, info_refuses_only_for_an_operand, owners_are_those_that_list_a_path,
     packages_have_the_names_that_ask_for_them, tell,

@@ -1,8 +1,8 @@
 //! The names of all packages, which `info` without operands prints. The rule is in
 //! `docs/commands.md`, "`info`", the first row of its table.
-ghost use Rattle.adb_fields.specs.Repeated.{package_name};
+ghost use Rattle.candidate_core.specs.adb_fields.Repeated.{package_name};
 ghost use Rattle.adb_view.specs.Plain.{Plain};
-ghost use Rattle.db_core.specs.Seen.{packages_of};
+ghost use Rattle.file_owners.specs.db_core.Seen.{packages_of};
 ghost use Rattle.installed_info.specs.Info.{report_and_refusal, names_info};
 ghost use Rattle.base_core.specs.ByteOrder.{bytes_cmp};
 ghost use Rattle.base_core.specs.Sorted.{sorted_by};
@@ -11,9 +11,9 @@ ghost use Rattle.std.specs.Prelude.{◌≡◌, ◌<◌, ◌++◌, None, Some, le
 
 use crate::package::push_line;
 use crate::telling::ReportAndRefusal;
-use adb_schema::PackageView;
 use base_core::Text;
-use db_core::Db;
+use candidate_core::PackageView;
+use file_owners::Db;
 use std::alloc::{AllocError, Global};
 use std::marker::PhantomData;
 

@@ -1,21 +1,21 @@
 //! The report on the packages of operands, and the place of an operand's package. The rules are in
 //! `docs/commands.md`, "`info`".
 
-ghost use Rattle.db_core.specs.Seen.{packages_of};
+ghost use Rattle.file_owners.specs.db_core.Seen.{packages_of};
 ghost use Rattle.installed_info.specs.Info.{report_and_refusal, info_refusal, info_unless, operands_info, package_info};
 ghost use Rattle.installed_info.specs.Packages.{package_asked, package_named, path_owner};
 ghost use Rattle.report_core.specs.declared.refusal.Refusal.TheVariants.{NotInstalled};
 ghost use Rattle.std.specs.Option.{option_map_or, option_or, option_and_then};
 ghost use Rattle.std.specs.Prelude.{◌≡◌, ◌++◌, [], None, Some, if◌then◌else◌, is_some, IfOk, ◌<◌, length, slice_get, IfSome};
-ghost use Rattle.db_core.specs.Packages.{is_package_named, lists_path};
+ghost use Rattle.file_owners.specs.db_core.Packages.{is_package_named, lists_path};
 ghost use Rattle.dep_core.specs.LeadingSlash.{without_slash};
 
 use crate::package::push_package;
 use crate::telling::{Form, ReportAndRefusal};
 use base_core::{Name, Text};
 use command_core::Operands;
-use db_core::Db;
 use dep_core::without_slash;
+use file_owners::Db;
 use report_core::Refusal;
 use std::alloc::{AllocError, Global};
 use std::marker::PhantomData;

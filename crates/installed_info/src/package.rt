@@ -1,24 +1,24 @@
 //! The report on a package, and what it depends on, a line each. The rules are in
 //! `docs/commands.md`, "`info`", the table of what each form prints.
 
-ghost use Rattle.adb_fields.specs.Repeated.{package_name};
-ghost use Rattle.adb_schema.specs.Views.{package_value, dependency_value};
-ghost use Rattle.db_core.specs.Seen.{packages_of};
+ghost use Rattle.candidate_core.specs.adb_fields.Repeated.{package_name};
+ghost use Rattle.candidate_core.specs.adb_schema.Views.{package_value, dependency_value};
+ghost use Rattle.file_owners.specs.db_core.Seen.{packages_of};
 ghost use Rattle.file_owners.specs.Replaces.{version_text};
 ghost use Rattle.installed_info.specs.Info.{contents_text, depends_text, description_section_of, owner_line, package_info};
 ghost use Rattle.report_core.specs.Reports.{name_version, report_line, report_lines};
 ghost use Rattle.std.specs.Option.{option_map_or, option_map};
 ghost use Rattle.std.specs.Prelude.{◌≡◌, ◌<◌, ◌++◌, [], length, slice_get, OnOk, map};
-ghost use Rattle.adb_fields.specs.ListValue.{list_value};
+ghost use Rattle.candidate_core.specs.adb_fields.ListValue.{list_value};
 ghost use Rattle.dep_core.specs.DependencyText.{dep_text};
 ghost use Rattle.dep_core.specs.Meets.{dependency};
 ghost use Rattle.candidate_core.specs.Candidates.{dependencies_in, dependency_in};
 
 use crate::paths::push_paths;
 use crate::telling::Form;
-use adb_schema::{DepView, List, PackageView};
-use db_core::Db;
+use candidate_core::{DepView, List, PackageView};
 use dep_core::{Dep, dep_of, dep_text, without_slash};
+use file_owners::Db;
 use std::alloc::{AllocError, Global};
 use std::marker::PhantomData;
 

@@ -1,16 +1,16 @@
 //! The paths that a package lists, a line each. The rule is in `docs/commands.md`, "`info`", the
 //! row of `info -L`; the order of the paths is that of `docs/formats.md`, "The database after a
 //! change".
-ghost use Rattle.adb_fields.specs.ListValue.{list_value};
-ghost use Rattle.adb_fields.specs.Paths.{path_of};
-ghost use Rattle.adb_fields.specs.Repeated.{list_of, name_of, paths_under};
+ghost use Rattle.candidate_core.specs.adb_fields.ListValue.{list_value};
+ghost use Rattle.candidate_core.specs.adb_fields.Paths.{path_of};
+ghost use Rattle.candidate_core.specs.adb_fields.Repeated.{list_of, name_of, paths_under};
 ghost use Rattle.adb_view.specs.Values.{count_of, entries_in, entry_in};
 ghost use Rattle.report_core.specs.Reports.{report_line, report_lines};
 ghost use Rattle.std.specs.List.{flat_map};
 ghost use Rattle.std.specs.Prelude.{◌≡◌, ◌<◌, ◌++◌, map, OnOk};
 
 use crate::package::push_line;
-use adb_schema::{DirInfo, FileInfo, List};
+use candidate_core::{DirInfo, FileInfo, List};
 use std::alloc::AllocError;
 
 /// Adds the paths of the files of a package's folders, in their order.

@@ -1,13 +1,13 @@
 //! The report of `info`, form by form, and what follows of it. The rules are in `docs/commands.md`,
 //! "`info`".
 
-ghost use Rattle.db_core.specs.Seen.{packages_of};
+ghost use Rattle.file_owners.specs.db_core.Seen.{packages_of};
 ghost use Rattle.installed_info.specs.Info.{form_info, info_of};
 ghost use Rattle.std.specs.Prelude.{◌≡◌, IfOk, ℕ, List, true, Some, Ok, Err};
 ghost use Rattle.installed_info.specs.Form.{form_of};
-ghost use Rattle.adb_fields.specs.FirstPair.{IsIn};
-ghost use Rattle.adb_fields.specs.Once.{HasNoRepeatedName};
-ghost use Rattle.adb_fields.specs.Repeated.{entries_at, package_name, paths_in};
+ghost use Rattle.candidate_core.specs.adb_fields.FirstPair.{IsIn};
+ghost use Rattle.candidate_core.specs.adb_fields.Once.{HasNoRepeatedName};
+ghost use Rattle.candidate_core.specs.adb_fields.Repeated.{entries_at, package_name, paths_in};
 ghost use Rattle.adb_view.specs.FieldIndexes.{IDB_PACKAGES};
 ghost use Rattle.adb_view.specs.declared.tables.Which.TheVariants.{Idb};
 ghost use Rattle.adb_view.specs.Plain.{Plain};
@@ -21,7 +21,7 @@ use crate::names::report_names;
 use crate::operands::{report_installed, report_operands};
 use base_core::Text;
 use command_core::{Command, Flags, Operands};
-use db_core::Db;
+use file_owners::Db;
 use report_core::Refusal;
 use std::alloc::{AllocError, Global};
 

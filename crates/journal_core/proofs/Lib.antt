@@ -1,3 +1,5 @@
+-- passed on: a crate above that names this one need not name these
+pub use Rattle.journal_intent.proofs as journal_intent
 pub mod Acted
 pub mod Acts
 pub mod Again

@@ -1,3 +1,6 @@
+-- passed on: a crate above that names this one need not name these
+pub use Rattle.journal_intent.specs as journal_intent
+pub use Rattle.journal_intent.specs.adb_schema as adb_schema
 -- The definitions of this crate. Each file names the document with its rule.
 -- what the contract of `apk` says
 pub mod Recovery

@@ -3,8 +3,8 @@
 use Rattle.std.specs.Prelude.{◌≡◌, ℕ, true, if◌then◌else◌, List, Option, None, All}
 use Rattle.std.specs.List.{list_any}
 use Rattle.std.specs.Str.{bytes_eq}
-use Rattle.adb_schema.specs.declared.read.ReadFault.{ReadFault}
-use Rattle.adb_schema.specs.declared.read.ReadFault.TheVariants.{Bad, Memory as NoMemoryToRead}
+use Rattle.journal_intent.specs.adb_schema.declared.read.ReadFault.{ReadFault}
+use Rattle.journal_intent.specs.adb_schema.declared.read.ReadFault.TheVariants.{Bad, Memory as NoMemoryToRead}
 use Rattle.base_core.specs.Tree.{TreeState, files_of}
 use Rattle.base_core.specs.declared.tree.TreeFault.{TreeFault}
 use Rattle.base_core.specs.declared.tree.TreeFault.TheVariants.{Disk as TreeFailed, Memory as NoMemory}

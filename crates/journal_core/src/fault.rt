@@ -3,8 +3,8 @@
 ghost use Rattle.std.specs.Prelude.{◌≡◌};
 ghost use Rattle.journal_core.specs.declared.fault.RecoverFault.TheVariants.{Disk as DiskFault, Memory as MemoryFault};
 
-use adb_schema::ReadFault;
 use base_core::{Cause, Disk, TreeFault};
+use journal_intent::ReadFault;
 use std::alloc::AllocError;
 
 /// Why a root is not recovered.

@@ -19,7 +19,8 @@ mod targets;
 
 pub use fault::RecoverFault;
 pub use journal_intent::{
-    an_intent_is_read_from_a_sound_container, each_staged_file_has_its_own_name,
+    an_intent_is_read_from_a_sound_container, each_staged_file_has_its_own_name, intent_name,
+    stage_folder,
 };
 pub use laws::{
     Journal, a_crash_leaves_a_durable_settled_tree, a_new_stage_has_staged_nothing,

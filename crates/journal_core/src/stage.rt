@@ -1,9 +1,9 @@
 //! A stage: new files wait in the staging area until one step commits all of them.
 //! The rules are in `docs/crash-safety.md`, "A change of several files".
 ghost use Rattle.std.specs.Prelude.{◌≡◌, ◌⊎◌, ◌≤◌, ◌<◌, ◌+◌, ◌++◌, ◌∷◌, [], ◌^◌, ℕ, Bool, true, false, List, Some, None, length, IfOk, OnOk, OnErr, IsErrOf, IsSome, nat_lt};
-ghost use Rattle.adb_schema.specs.Soundness.{first_fault};
+ghost use Rattle.journal_intent.specs.adb_schema.Soundness.{first_fault};
 ghost use Rattle.adb_view.specs.declared.tables.Which.TheVariants.{Intent as IntentTable};
-ghost use Rattle.adb_write.specs.Canonical.{overflow_of};
+ghost use Rattle.journal_intent.specs.adb_write.Canonical.{overflow_of};
 ghost use Rattle.base_core.specs.Calls.{HoldsNow, IfObservable};
 ghost use Rattle.base_core.specs.Crash.{Since};
 ghost use Rattle.base_core.specs.Undone.{IsDurable};
@@ -25,9 +25,8 @@ use crate::acting::act;
 use crate::calls::{append, create, remove, sync_all_names, sync_file};
 use crate::fault::RecoverFault;
 use crate::publishing::publish_intent;
-use adb_write::WriteFault;
 use base_core::{Disk, Name, Names, Tree};
-use journal_intent::PreparedIntent;
+use journal_intent::{PreparedIntent, WriteFault};
 use std::alloc::Global;
 use std::marker::Model;
 

@@ -7,14 +7,14 @@ use Rattle.std.specs.Str.{bytes_eq}
 use Rattle.base_core.specs.Name.{is_name}
 use Rattle.base_core.specs.declared.cause.Cause.{Cause}
 use Rattle.base_core.proofs.AtName.{other_name, name_cases}
-use Rattle.adb_fields.specs.FirstPair.{IsIn}
-use Rattle.adb_fields.specs.Once.{AreDistinctNames}
-use Rattle.adb_fields.specs.Repeated.{entries_at, list_of}
-use Rattle.adb_schema.specs.Rules.{is_change_name}
-use Rattle.adb_schema.specs.Reserved.{is_at_or_below, is_intent_or_stage_name}
-use Rattle.adb_schema.specs.SoundValues.{IsChangeName}
-use Rattle.adb_schema.specs.SoundContainers.{IsSound, IsSoundValue}
-use Rattle.adb_schema.specs.Soundness.{first_fault, payload_in, root_value}
+use Rattle.adb_sound.specs.adb_fields.FirstPair.{IsIn}
+use Rattle.adb_sound.specs.adb_fields.Once.{AreDistinctNames}
+use Rattle.adb_sound.specs.adb_fields.Repeated.{entries_at, list_of}
+use Rattle.adb_sound.specs.adb_schema.Rules.{is_change_name}
+use Rattle.adb_sound.specs.adb_schema.Reserved.{is_at_or_below, is_intent_or_stage_name}
+use Rattle.adb_sound.specs.adb_schema.SoundValues.{IsChangeName}
+use Rattle.adb_sound.specs.adb_schema.SoundContainers.{IsSound, IsSoundValue}
+use Rattle.adb_sound.specs.adb_schema.Soundness.{first_fault, payload_in, root_value}
 use Rattle.adb_view.specs.Values.{entries_in, entry_in, text_in}
 use Rattle.adb_view.specs.declared.tables.Which.{Which}
 use Rattle.adb_view.specs.declared.tables.Which.TheVariants as Tables

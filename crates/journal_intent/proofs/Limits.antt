@@ -2,7 +2,7 @@
 use Rattle.std.proofs.Common.{◌≡◌, ◌≤◌, ℕ, nat_lt, false, Option, None, sym, ap, ◌∙◌, arith}
 use Rattle.std.specs.Prelude.{is_some}
 use Rattle.std.proofs.lemmas.Bool.{ltb-false, or_parts}
-use Rattle.adb_write.specs.Canonical.{passes, MOST_BYTES, MOST_VALUES}
+use Rattle.adb_sound.specs.adb_write.Canonical.{passes, MOST_BYTES, MOST_VALUES}
 
 none_some : {A : Type 0} (o : Option A) → o ≡ None → is_some o ≡ false
 none_some o e = ap is_some e

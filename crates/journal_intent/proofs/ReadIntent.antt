@@ -1,6 +1,6 @@
 -- An intent is read from a container that passes all tests, and from no other.
 use Rattle.std.proofs.Common.{◌≡◌, ℕ, List, None, Some, ap}
-use Rattle.adb_schema.specs.Soundness.{first_fault, payload_in, root_value}
+use Rattle.adb_sound.specs.adb_schema.Soundness.{first_fault, payload_in, root_value}
 use Rattle.adb_view.specs.declared.tables.Which.TheVariants.{Intent as IntentTable}
 use Rattle.base_core.specs.declared.cause.Cause.{Cause}
 use Rattle.journal_intent.specs.Intent.{intent_in, intent_unless, read_intent}

@@ -4,9 +4,9 @@ use Rattle.adb_view.specs.Plain.{Plain, none, more, arr_value, obj_value, text_p
 use Rattle.adb_values.specs.Drafts.{DraftState, empty_draft, draft_with_open_list, draft_with}
 use Rattle.adb_values.specs.Written.{IsWrittenAs}
 use Rattle.adb_values.proofs.Lists.{Closes}
-use Rattle.adb_write.specs.Canonical.{PayloadCounts, canonical, overflow_of, or_overflow, written_of}
-use Rattle.adb_write.specs.declared.writer.WriteFault.{WriteFault}
-use Rattle.adb_write.specs.declared.writer.WriteFault.TheVariants.{TooLarge}
+use Rattle.adb_sound.specs.adb_write.Canonical.{PayloadCounts, canonical, overflow_of, or_overflow, written_of}
+use Rattle.adb_sound.specs.adb_write.declared.writer.WriteFault.{WriteFault}
+use Rattle.adb_sound.specs.adb_write.declared.writer.WriteFault.TheVariants.{TooLarge}
 use Rattle.journal_intent.specs.Intent.{Intent}
 use Rattle.journal_intent.specs.IntentValue.{value_of_intent}
 

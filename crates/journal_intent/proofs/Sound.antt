@@ -6,13 +6,13 @@ use Rattle.adb_block.specs.Container.{Spells}
 use Rattle.adb_block.specs.Header.{header_of}
 use Rattle.adb_block.specs.Piece.{Piece}
 use Rattle.adb_view.specs.Plain.{Plain}
-use Rattle.adb_schema.specs.Soundness.{first_fault, payload_in, root_value}
-use Rattle.adb_schema.specs.declared.read.TheConstants.{INTENT_WORD}
+use Rattle.adb_sound.specs.adb_schema.Soundness.{first_fault, payload_in, root_value}
+use Rattle.adb_sound.specs.adb_schema.declared.read.TheConstants.{INTENT_WORD}
 use Rattle.adb_view.specs.declared.tables.Which.TheVariants.{Intent as Table, Package}
-use Rattle.adb_write.specs.Canonical.{canonical, empty_layout, write, MOST_BYTES}
-use Rattle.adb_write.specs.File.{adb_piece, file_of}
-use Rattle.adb_write.specs.Size.{size_of}
-use Rattle.pkg_core.specs.Whole.{container_fault, fault_by_header, whole_fault}
+use Rattle.adb_sound.specs.adb_write.Canonical.{canonical, empty_layout, write, MOST_BYTES}
+use Rattle.adb_sound.specs.adb_write.File.{adb_piece, file_of}
+use Rattle.adb_sound.specs.adb_write.Size.{size_of}
+use Rattle.adb_sound.specs.pkg_core.Whole.{container_fault, fault_by_header, whole_fault}
 use Rattle.journal_intent.specs.Intent.{intent_in, intent_unless, read_intent}
 
 pub not_package : Table ≢ Package

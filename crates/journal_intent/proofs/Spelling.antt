@@ -7,18 +7,18 @@ use Rattle.std.proofs.lemmas.List.Elements.{All-head, All-tail}
 use Rattle.base_core.proofs.AtName.{same_name}
 use Rattle.adb_view.specs.Plain.{Plain, Plains, none, more, text, blob_or_null, IsNormal, AreNormal, count_of, text_plains}
 use Rattle.adb_view.specs.Shaped.{Each, IsBlob, HasShape}
-use Rattle.adb_fields.specs.FirstPair.{IsIn}
-use Rattle.adb_fields.specs.Once.{AreDistinctNames, HasNoRepeatedName}
-use Rattle.adb_fields.specs.Repeated.{list_of}
-use Rattle.adb_schema.specs.Rules.{is_change_name}
-use Rattle.adb_schema.specs.SoundValues.{IsChangeName, KeepsRules}
+use Rattle.adb_sound.specs.adb_fields.FirstPair.{IsIn}
+use Rattle.adb_sound.specs.adb_fields.Once.{AreDistinctNames, HasNoRepeatedName}
+use Rattle.adb_sound.specs.adb_fields.Repeated.{list_of}
+use Rattle.adb_sound.specs.adb_schema.Rules.{is_change_name}
+use Rattle.adb_sound.specs.adb_schema.SoundValues.{IsChangeName, KeepsRules}
 use Rattle.adb_view.specs.Schema.{shape_of}
 use Rattle.adb_view.specs.Values.{text_in}
 use Rattle.adb_view.specs.declared.tables.Which.TheVariants as Tables
 use Rattle.adb_view.specs.declared.tables.Kind.TheVariants as Kinds
 use Rattle.adb_view.proofs.ValueEntries.{text_blob}
 use Rattle.adb_view.proofs.Normal.{blob_value_normal}
-use Rattle.adb_write.specs.Size.{entries_of, value_count}
+use Rattle.adb_sound.specs.adb_write.Size.{entries_of, value_count}
 use Rattle.journal_intent.specs.Intent.{AreChangeNames, Intent, intent_in}
 use Rattle.journal_intent.specs.IntentValue.{intent_of_lists, value_of_intent}
 

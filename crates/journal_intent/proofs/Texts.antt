@@ -3,7 +3,7 @@ use Rattle.std.proofs.Common.{◌≡◌, ◌≤◌, ◌<◌, ◌+◌, ◌-◌, �
 use Rattle.std.proofs.lemmas.List.{take_all}
 use Rattle.base_core.specs.Name.{is_name}
 use Rattle.adb_view.specs.Plain.{Plain, Plains, none, more, blob_or_null}
-use Rattle.adb_fields.specs.Repeated.{list_of}
+use Rattle.adb_sound.specs.adb_fields.Repeated.{list_of}
 use Rattle.adb_view.specs.Values.{count_of, nth, text_in}
 use Rattle.adb_view.proofs.ValueEntries.{text_blob}
 use Rattle.journal_intent.specs.FreeNames.{AllNamed}

@@ -7,9 +7,9 @@ use Rattle.std.specs.Str.{bytes_eq}
 use Rattle.std.specs.List.{starts_with, All}
 use Rattle.base_core.specs.declared.cause.Cause.{Cause}
 use Rattle.adb_view.specs.Plain.{Plain}
-use Rattle.adb_fields.specs.Repeated.{entries_at}
-use Rattle.adb_schema.specs.Rules.{is_change_name}
-use Rattle.adb_schema.specs.Soundness.{first_fault, payload_in, root_value}
+use Rattle.adb_sound.specs.adb_fields.Repeated.{entries_at}
+use Rattle.adb_sound.specs.adb_schema.Rules.{is_change_name}
+use Rattle.adb_sound.specs.adb_schema.Soundness.{first_fault, payload_in, root_value}
 use Rattle.adb_view.specs.FieldIndexes.{INTENT_REMOVALS, INTENT_WRITES}
 use Rattle.adb_view.specs.Values.{text_in}
 use Rattle.adb_view.specs.declared.tables.Which.TheVariants.{Intent as IntentTable}

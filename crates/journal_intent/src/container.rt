@@ -1,20 +1,21 @@
 //! An intent is written as a container, and read back. The rules are in `docs/formats.md`,
 //! "Schemas", table 10, and "Canonical layout".
 ghost use Rattle.std.specs.Prelude.{◌≡◌, ◌++◌, ◌<◌, ◌+◌, ◌^◌, ℕ, List, Some, None, length, IfOk, OnOk, IsErrOf};
-ghost use Rattle.adb_schema.specs.declared.read.TheConstants.{INTENT_WORD};
+ghost use Rattle.adb_sound.specs.adb_schema.declared.read.TheConstants.{INTENT_WORD};
 ghost use Rattle.adb_values.specs.Drafts.{draft_with};
 ghost use Rattle.adb_view.specs.Plain.{arr_value, text_plains};
-ghost use Rattle.adb_write.specs.Canonical.{canonical, overflow_of};
-ghost use Rattle.adb_write.specs.File.{file_of};
+ghost use Rattle.adb_sound.specs.adb_write.Canonical.{canonical, overflow_of};
+ghost use Rattle.adb_sound.specs.adb_write.File.{file_of};
 ghost use Rattle.journal_intent.specs.Intent.{AreChangeNames, read_intent};
 ghost use Rattle.journal_intent.specs.IntentValue.{intent_of_lists, value_of_intent};
 
 use adb_block::what_is_spelled_is_read;
-use adb_fields::no_repeated_name_is_reported_if_there_is_none;
-use adb_schema::{INTENT_WORD, no_text_is_bad_where_each_keeps_its_rule};
-use adb_sound::{a_container_of_a_good_value_is_sound, what_a_container_is_made_of_is_read_back};
+use adb_sound::{
+    INTENT_WORD, WriteFault, a_container_of_a_good_value_is_sound, a_file_is_spelled,
+    a_value_overflows_exactly_past_a_limit, file_of, no_repeated_name_is_reported_if_there_is_none,
+    no_text_is_bad_where_each_keeps_its_rule, what_a_container_is_made_of_is_read_back,
+};
 use adb_values::Draft;
-use adb_write::{WriteFault, a_file_is_spelled, a_value_overflows_exactly_past_a_limit, file_of};
 use base_core::Names;
 use std::alloc::{AllocError, Global};
 

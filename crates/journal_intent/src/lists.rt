@@ -1,18 +1,17 @@
 //! Reads the lists of an intent from its container.
 //! The rules are in `docs/formats.md`, "Schemas", table 10, and "Tests of a container".
 ghost use Rattle.std.specs.Prelude.{◌≡◌, ◌<◌, ◌+◌, ◌^◌, Some, None, length, map, IfOk, IfErr, OnOk};
-ghost use Rattle.adb_fields.specs.ListValue.{list_value};
-ghost use Rattle.adb_fields.specs.Repeated.{list_of};
-ghost use Rattle.adb_schema.specs.ReadFaults.{IsReadFault};
-ghost use Rattle.adb_schema.specs.Soundness.{first_fault};
+ghost use Rattle.adb_sound.specs.adb_fields.ListValue.{list_value};
+ghost use Rattle.adb_sound.specs.adb_fields.Repeated.{list_of};
+ghost use Rattle.adb_sound.specs.adb_schema.ReadFaults.{IsReadFault};
+ghost use Rattle.adb_sound.specs.adb_schema.Soundness.{first_fault};
 ghost use Rattle.adb_view.specs.Values.{entries_in, text_in};
 ghost use Rattle.adb_view.specs.declared.tables.Which.TheVariants.{Intent as IntentTable};
 ghost use Rattle.journal_intent.specs.FreeNames.{AllNamed};
 ghost use Rattle.journal_intent.specs.Intent.{read_intent};
 ghost use Rattle.journal_intent.specs.IntentValue.{intent_of_lists};
 
-use adb_fields::List;
-use adb_schema::{ReadFault, Which, read_adb, sound_containers_hold_sound_values};
+use adb_sound::{List, ReadFault, Which, read_adb, sound_containers_hold_sound_values};
 use base_core::{Name, Names};
 use std::alloc::{AllocError, Global};
 

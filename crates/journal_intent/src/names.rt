@@ -6,14 +6,14 @@
 ghost use Rattle.std.specs.Prelude.{◌≡◌, IfOk, ◌≢◌, ◌<◌, ◌^◌, ◌++◌, ℕ, true, List, Some, None};
 ghost use Rattle.journal_intent.specs.FreeNames.{stage_names_from, HasFreeNames, IsUsedByJournal};
 ghost use Rattle.journal_intent.specs.Intent.{intent_name, stage_folder, stage_name, AreChangeNames, Intent, intent_in, is_staged, read_intent};
-ghost use Rattle.adb_schema.specs.Soundness.{first_fault, payload_in, root_value};
+ghost use Rattle.adb_sound.specs.adb_schema.Soundness.{first_fault, payload_in, root_value};
 ghost use Rattle.adb_view.specs.declared.tables.Which.TheVariants.{Intent as IntentTable};
 ghost use Rattle.base_core.specs.Files.{IsFolderOf};
 ghost use Rattle.base_core.specs.Name.{is_name};
 ghost use Rattle.base_core.specs.declared.cause.Cause.{Cause};
 ghost use Rattle.journal_intent.specs.IntentValue.{intent_of_lists};
 
-use adb_schema::sound_containers_hold_sound_values;
+use adb_sound::sound_containers_hold_sound_values;
 use base_core::{Name, Names};
 use std::alloc::{AllocError, Global};
 

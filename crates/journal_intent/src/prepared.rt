@@ -1,10 +1,10 @@
 //! An intent with all the memory that its actions need. The rules are in `docs/crash-safety.md`, "A
 //! change of several files": memory is allocated when a stage begins, and never later.
 ghost use Rattle.std.specs.Prelude.{◌≡◌, ◌++◌, ◌≤◌, ◌<◌, ◌+◌, ◌^◌, ℕ, List, Some, None, length, slice_get, IfOk, IfErr, OnOk, IsErrOf};
-ghost use Rattle.adb_schema.specs.ReadFaults.{IsReadFault};
-ghost use Rattle.adb_schema.specs.Soundness.{first_fault};
+ghost use Rattle.adb_sound.specs.adb_schema.ReadFaults.{IsReadFault};
+ghost use Rattle.adb_sound.specs.adb_schema.Soundness.{first_fault};
 ghost use Rattle.adb_view.specs.declared.tables.Which.TheVariants.{Intent as IntentTable};
-ghost use Rattle.adb_write.specs.Canonical.{overflow_of};
+ghost use Rattle.adb_sound.specs.adb_write.Canonical.{overflow_of};
 ghost use Rattle.journal_intent.specs.FreeNames.{HasFreeNames, stage_names_from};
 ghost use Rattle.journal_intent.specs.Intent.{AreChangeNames, intent_name, read_intent, stage_name};
 ghost use Rattle.journal_intent.specs.IntentValue.{intent_of_lists, value_of_intent};
@@ -12,8 +12,7 @@ ghost use Rattle.journal_intent.specs.IntentValue.{intent_of_lists, value_of_int
 use crate::container::{copy_of_names, intent_file};
 use crate::lists::{IntentLists, read_lists};
 use crate::names::{a_read_intent_has_free_names, intent_name, stage_names};
-use adb_schema::ReadFault;
-use adb_write::WriteFault;
+use adb_sound::{ReadFault, WriteFault};
 use base_core::{Name, Names};
 use std::alloc::{AllocError, Global};
 use std::marker::Model;

@@ -8,7 +8,7 @@ use Rattle.base_core.specs.Read.{bytes_in}
 use Rattle.base_core.specs.Calls.{IfObservable, HoldsNow}
 use Rattle.base_core.specs.Crash.{Since}
 use Rattle.base_core.specs.Undone.{IsDurable}
-use Rattle.adb_schema.specs.Soundness.{first_fault}
+use Rattle.journal_core.specs.adb_schema.Soundness.{first_fault}
 use Rattle.adb_view.specs.declared.tables.Which.TheVariants.{Intent as IntentTable}
 use Rattle.journal_core.specs.Kept.{HasOldOrNewBytes, RecoversTo}
 use Rattle.journal_core.specs.Recovering.{IsReplayed}

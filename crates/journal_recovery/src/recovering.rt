@@ -2,7 +2,7 @@
 //! The rules are in `docs/crash-safety.md`, "Recovery"; which actions an intent has, in "A change
 //! of several files".
 ghost use Rattle.std.specs.Prelude.{◌≡◌, [], ℕ, Bool, true, List, Some, None, IsSome, OnOk, OnErr, IsErrOf};
-ghost use Rattle.adb_schema.specs.Soundness.{first_fault};
+ghost use Rattle.journal_core.specs.adb_schema.Soundness.{first_fault};
 ghost use Rattle.adb_view.specs.declared.tables.Which.TheVariants.{Intent as IntentTable};
 ghost use Rattle.base_core.specs.Calls.{HoldsNow, IfObservable};
 ghost use Rattle.base_core.specs.Crash.{Since};
@@ -18,8 +18,7 @@ ghost use Rattle.journal_core.specs.Staged.{AreReplayPathsFree, IsEmptyStage, Is
 
 use base_core::{Disk, Names, Tree, TreeFault, read_all};
 use journal_core::calls::{remove, sync_all_names};
-use journal_core::{RecoverFault, Stage, apply_all};
-use journal_intent::{intent_name, stage_folder};
+use journal_core::{RecoverFault, Stage, apply_all, intent_name, stage_folder};
 use std::alloc::{AllocError, Global};
 
 /// Does the actions of the intent, if there is one, and removes all staged files.

@@ -10,15 +10,15 @@ use Rattle.std.proofs.lemmas.List.Concat.{flat_map-cons}
 use Rattle.std.proofs.lemmas.List.{append-nil}
 use Rattle.base_core.proofs.Listed.{at_index}
 use Rattle.adb_view.specs.Plain.{Plain}
-use Rattle.adb_fields.specs.Pairs.{NameWithPosition}
-use Rattle.adb_fields.specs.FirstPair.{IsFirstOf}
-use Rattle.adb_fields.specs.FirstPair.{IsPair}
-use Rattle.adb_fields.specs.FirstPair.{IsIn}
-use Rattle.adb_fields.specs.Repeated.{file_twice, files_in, folder_twice, folders_in, name_of, numbered_from, repeated_fault, twice_in_one}
-use Rattle.adb_fields.specs.FirstPair.{IsPairInOne}
+use Rattle.make_index.specs.adb_fields.Pairs.{NameWithPosition}
+use Rattle.make_index.specs.adb_fields.FirstPair.{IsFirstOf}
+use Rattle.make_index.specs.adb_fields.FirstPair.{IsPair}
+use Rattle.make_index.specs.adb_fields.FirstPair.{IsIn}
+use Rattle.make_index.specs.adb_fields.Repeated.{file_twice, files_in, folder_twice, folders_in, name_of, numbered_from, repeated_fault, twice_in_one}
+use Rattle.make_index.specs.adb_fields.FirstPair.{IsPairInOne}
 use Rattle.adb_view.specs.declared.tables.Which.TheVariants.{Package}
-use Rattle.package_files.specs.Folders.{with_folders, sorted_names, with_folder, with_folder_by}
-use Rattle.package_files.specs.Package.{Script, Source, SourceFolder, value_of_file, value_of_folder, value_of_package, kind_of_file}
+use Rattle.make_package.specs.package_files.Folders.{with_folders, sorted_names, with_folder, with_folder_by}
+use Rattle.make_package.specs.package_files.Package.{Script, Source, SourceFolder, value_of_file, value_of_folder, value_of_package, kind_of_file}
 use Rattle.make_core.proofs.PackageFiles.{files_stand, folder_name_stands, folders_stand, name_stands}
 
 abbrev pub cmp : List ℕ → List ℕ → Ordering

@@ -4,7 +4,7 @@ use Rattle.base_core.specs.declared.cause.Cause.{Cause}
 use Rattle.base_core.specs.declared.cause.Cause.TheVariants.{BadText}
 use Rattle.adb_view.specs.Plain.{Plain, null, int, blob, arr, obj, Plains, none, more, Shape, number, text, hash, array, object, Fields, no_fields, field, blob_or_null, arr_value, obj_value, put_first_without_last_null, without_last_nulls, IsNormal, AreNormal}
 use Rattle.adb_view.specs.Shaped.{Each, HasShape, HaveShapes}
-use Rattle.adb_schema.specs.Texts.{Surroundings, Leaf, number_leaf, text_leaf, keeps_rule, number_of_leaf, leaves, field_leaves, each_leaf, surroundings_of_fields, first_bad, number_rule, text_rule}
+use Rattle.make_index.specs.adb_schema.Texts.{Surroundings, Leaf, number_leaf, text_leaf, keeps_rule, number_of_leaf, leaves, field_leaves, each_leaf, surroundings_of_fields, first_bad, number_rule, text_rule}
 use Rattle.adb_view.specs.Values.{text_in}
 use Rattle.adb_view.proofs.FoundShapes.{arr_value_shape, blob_value_hash, blob_value_text, obj_value_shape}
 use Rattle.adb_view.proofs.Normal.{arr_normal, blob_value_normal, obj_normal}

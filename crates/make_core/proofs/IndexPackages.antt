@@ -2,8 +2,8 @@
 use Rattle.std.proofs.Common.{◌≡◌, ℕ, ◌+◌, List, [], ◌∷◌, map, Option, Some, None, Result, Ok, Err, refl, ap, sym, subst, ◌∙◌}
 use Rattle.std.specs.List.Sorted.{IsPermutation, IsSorted}
 use Rattle.base_core.specs.declared.cause.Cause.{Cause}
-use Rattle.adb_fields.specs.Repeated.{list_of}
-use Rattle.adb_schema.specs.Soundness.{payload_in, root_value}
+use Rattle.make_index.specs.adb_fields.Repeated.{list_of}
+use Rattle.make_index.specs.adb_schema.Soundness.{payload_in, root_value}
 use Rattle.adb_view.specs.Values.{entries_in}
 use Rattle.adb_view.specs.declared.tables.Which.TheVariants.{Index}
 use Rattle.adb_view.proofs.ValueEntries.{entries_arr, nth_obj}
@@ -16,10 +16,10 @@ use Rattle.make_index.specs.Entries.{entry_of_package}
 use Rattle.make_index.specs.EntryOrder.{entry_cmp}
 use Rattle.make_index.specs.Files.{AreFiles}
 use Rattle.make_index.specs.Index.{and_entries, description_in, entry_unless, found_entries, found_entry, made_index, value_of_index}
-use Rattle.make_info.specs.Reads.{Reads}
-use Rattle.make_info.specs.Values.{plains_of_list}
-use Rattle.make_info.specs.declared.fault.MakeFault.{MakeFault}
-use Rattle.pkg_core.specs.Whole.{package_fault}
+use Rattle.make_index.specs.make_info.Reads.{Reads}
+use Rattle.make_index.specs.make_info.Values.{plains_of_list}
+use Rattle.make_index.specs.make_info.declared.fault.MakeFault.{MakeFault}
+use Rattle.make_index.specs.pkg_core.Whole.{package_fault}
 use Rattle.make_core.specs.IndexOrder.{AreSoundPackages, HasPackagesInOrder, packages_in}
 use Rattle.make_core.specs.ReadBack.{index_value_of}
 use Rattle.make_core.proofs.OpenedPackage.{Values}

@@ -16,18 +16,18 @@ use Rattle.command_core.specs.declared.values.OptionValue.{OptionValue}
 use Rattle.adb_view.specs.Plain.{Plain, null, Plains, none, more, text as text_shape, hash, number as number_shape, array, blob_or_null, obj_value}
 use Rattle.adb_view.specs.Shaped.{Each}
 use Rattle.adb_view.specs.Schema.{shape_of, shapes_of, table}
-use Rattle.adb_schema.specs.Texts.{Surroundings, number_rule, surroundings_of_fields, text_rule}
+use Rattle.make_index.specs.adb_schema.Texts.{Surroundings, number_rule, surroundings_of_fields, text_rule}
 use Rattle.adb_view.specs.declared.tables.Which.TheVariants.{Dep, PkgInfo}
 use Rattle.adb_view.specs.declared.tables.Kind.TheVariants.{Obj}
-use Rattle.make_info.specs.declared.field.Field.{Field}
-use Rattle.make_info.specs.declared.field.Field.TheVariants as Fields
-use Rattle.make_info.specs.declared.field.Kind.{Kind}
-use Rattle.make_info.specs.declared.field.Kind.TheVariants as Kinds
-use Rattle.make_info.specs.Fields.{FieldValue, text, number, need, kind_of_field, values_by_kind, text_if, if_untagged}
-use Rattle.make_info.specs.FieldTexts.{FieldText, field_text_in, values_of_info, is_for, is_text_for, is_same, is_too_long}
-use Rattle.make_info.specs.Information.{InfoItem, all_items, first_offence, information_fields, information_value, information_of, is_item_for, info_item, item_value, items_of_text, items_of_option, lacks_name_or_version, value_of_list, need_value, number_in, offends, replaces_priority, plain_value, value_of_single, unless_offence, plains_for, with_values}
-use Rattle.make_info.specs.Values.{number_value}
-use Rattle.make_info.proofs.OutputFacts.{no_offence}
+use Rattle.make_index.specs.make_info.declared.field.Field.{Field}
+use Rattle.make_index.specs.make_info.declared.field.Field.TheVariants as Fields
+use Rattle.make_index.specs.make_info.declared.field.Kind.{Kind}
+use Rattle.make_index.specs.make_info.declared.field.Kind.TheVariants as Kinds
+use Rattle.make_index.specs.make_info.Fields.{FieldValue, text, number, need, kind_of_field, values_by_kind, text_if, if_untagged}
+use Rattle.make_index.specs.make_info.FieldTexts.{FieldText, field_text_in, values_of_info, is_for, is_text_for, is_same, is_too_long}
+use Rattle.make_index.specs.make_info.Information.{InfoItem, all_items, first_offence, information_fields, information_value, information_of, is_item_for, info_item, item_value, items_of_text, items_of_option, lacks_name_or_version, value_of_list, need_value, number_in, offends, replaces_priority, plain_value, value_of_single, unless_offence, plains_for, with_values}
+use Rattle.make_index.specs.make_info.Values.{number_value}
+use Rattle.make_index.proofs.make_info.OutputFacts.{no_offence}
 use Rattle.make_core.proofs.GoodValues.{IsGood, arr_good, hash_good, null_number, number_good, obj_good, text_good}
 use Rattle.make_core.proofs.PackageFiles.{around_folder, size_good}
 use Rattle.make_core.proofs.SaidGood.{AreSaidAs, IsNeed, IsSaidAs, said_good, same_kind}

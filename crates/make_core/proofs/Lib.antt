@@ -1,3 +1,9 @@
+-- passed on: a crate above that names this one need not name these
+pub use Rattle.make_index.proofs as make_index
+pub use Rattle.make_index.proofs.adb_copy as adb_copy
+pub use Rattle.make_index.proofs.adb_fields as adb_fields
+pub use Rattle.make_index.proofs.make_info as make_info
+pub use Rattle.make_package.proofs as make_package
 pub mod Apart
 pub mod Blind
 pub mod GoodValues

@@ -7,15 +7,15 @@ use Rattle.std.proofs.lemmas.List.{drop_at, length-append}
 use Rattle.std.proofs.lemmas.List.Sums.{sum_by-cons}
 use Rattle.std.proofs.lemmas.Slice.Eq.{bytes_eq-Decides}
 use Rattle.base_core.specs.Name.{is_name}
-use Rattle.adb_fields.specs.FirstPair.{IsIn}
-use Rattle.adb_fields.proofs.Members.{from-flat_map, from-map}
-use Rattle.adb_fields.specs.Paths.{path_of}
-use Rattle.adb_schema.specs.Rules.{is_file_name, is_folder_name}
-use Rattle.package_files.specs.Folders.{FolderListing, before_slashes, path_below, names_in_folder, all_folders_above, folder_of, folders_of, folders_above, is_slash, listing_of, last_part_of}
-use Rattle.package_files.specs.Package.{Source, SourceFolder, kind_of_file, installed_size, size_of_folder, size_of_kind}
-use Rattle.package_files.specs.Sources.{and_then, each_from, file_at, sources_from, folder_at, source_folders_from, found_at}
-use Rattle.make_info.specs.Reads.{Reads}
-use Rattle.make_info.specs.declared.fault.MakeFault.{MakeFault}
+use Rattle.make_index.specs.adb_fields.FirstPair.{IsIn}
+use Rattle.make_index.proofs.adb_fields.Members.{from-flat_map, from-map}
+use Rattle.make_index.specs.adb_fields.Paths.{path_of}
+use Rattle.make_index.specs.adb_schema.Rules.{is_file_name, is_folder_name}
+use Rattle.make_package.specs.package_files.Folders.{FolderListing, before_slashes, path_below, names_in_folder, all_folders_above, folder_of, folders_of, folders_above, is_slash, listing_of, last_part_of}
+use Rattle.make_package.specs.package_files.Package.{Source, SourceFolder, kind_of_file, installed_size, size_of_folder, size_of_kind}
+use Rattle.make_package.specs.package_files.Sources.{and_then, each_from, file_at, sources_from, folder_at, source_folders_from, found_at}
+use Rattle.make_index.specs.make_info.Reads.{Reads}
+use Rattle.make_index.specs.make_info.declared.fault.MakeFault.{MakeFault}
 use Rattle.make_core.proofs.Apart.{AreApartFiles, IsApart, Rises, folder_names_of, in_order_in, in_order_rises, rises_apart, source_names}
 use Rattle.make_core.proofs.NameParts.{folder_good, path_good, same_part, sides}
 use Rattle.make_core.proofs.PackageFiles.{AreGoodFiles, AreGoodFolders}

@@ -1,23 +1,23 @@
 -- A file that is missing is reported at the option that gives it.
 use Rattle.command_core.specs.declared.values.TheConstants.{FILES, SCRIPT}
 use Rattle.std.proofs.Common.{◌≡◌, ◌⊎◌, inl, inr, ℕ, ◌+◌, List, [], ◌∷◌, length, map, Option, Some, None, Result, Ok, Err, refl, ap, subst}
-use Rattle.adb_fields.specs.FirstPair.{IsIn}
-use Rattle.adb_fields.proofs.Members.{contains-from_in, from-map}
+use Rattle.make_index.specs.adb_fields.FirstPair.{IsIn}
+use Rattle.make_index.proofs.adb_fields.Members.{contains-from_in, from-map}
 use Rattle.adb_view.specs.Plain.{Plain}
-use Rattle.adb_write.specs.Canonical.{PayloadCounts}
+use Rattle.make_index.specs.adb_write.Canonical.{PayloadCounts}
 use Rattle.command_core.specs.Command.{CommandLine}
 use Rattle.command_core.specs.Files.{without_dot}
 use Rattle.command_core.specs.Values.{script_file, script_type}
 use Rattle.command_core.specs.declared.values.OptionValue.{OptionValue}
-use Rattle.make_info.specs.Information.{InfoItem, information}
-use Rattle.make_info.specs.Reads.{Reads}
-use Rattle.make_info.specs.declared.fault.MakeFault.{MakeFault}
-use Rattle.make_info.specs.declared.fault.MakeFault.TheVariants.{FileMissing}
-use Rattle.package_files.specs.Folders.{FolderListing, all_folders_above, folders_of, last_part_of, listing_of, names_in_folder, path_below}
+use Rattle.make_index.specs.make_info.Information.{InfoItem, information}
+use Rattle.make_index.specs.make_info.Reads.{Reads}
+use Rattle.make_index.specs.make_info.declared.fault.MakeFault.{MakeFault}
+use Rattle.make_index.specs.make_info.declared.fault.MakeFault.TheVariants.{FileMissing}
+use Rattle.make_package.specs.package_files.Folders.{FolderListing, all_folders_above, folders_of, last_part_of, listing_of, names_in_folder, path_below}
 use Rattle.make_package.specs.Making.{container_unless, made_package, or_info_bad, package_container, package_of_parts}
-use Rattle.package_files.specs.Package.{Script, Source, SourceFolder}
-use Rattle.package_files.specs.Sources.{each_from, file_at, folder_at, folders_below, found_at, and_then, script_at, scripts_from, source_folders_from, sources_from, values_with}
-use Rattle.pkg_core.specs.Contents.{Contents}
+use Rattle.make_package.specs.package_files.Package.{Script, Source, SourceFolder}
+use Rattle.make_package.specs.package_files.Sources.{each_from, file_at, folder_at, folders_below, found_at, and_then, script_at, scripts_from, source_folders_from, sources_from, values_with}
+use Rattle.make_index.specs.pkg_core.Contents.{Contents}
 use Rattle.make_core.specs.Missing.{IsAbsent, IsMissingFile, IsMissingScript}
 use Rattle.make_core.proofs.ListedNames.{filter_in, stands_in}
 

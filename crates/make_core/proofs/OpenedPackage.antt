@@ -17,11 +17,11 @@ use Rattle.adb_view.specs.Shaped.{HasShape}
 use Rattle.adb_view.specs.Schema.{shape_of}
 use Rattle.adb_view.specs.Values.{value_at}
 use Rattle.adb_view.specs.Walk.{shape_fault}
-use Rattle.adb_schema.specs.Texts.{text_fault}
-use Rattle.adb_schema.specs.Soundness.{blocks_fault, file_fault, first_payload, payload_after_header, payload_fault, payload_in, root_value, schema_fault}
+use Rattle.make_index.specs.adb_schema.Texts.{text_fault}
+use Rattle.make_index.specs.adb_schema.Soundness.{blocks_fault, file_fault, first_payload, payload_after_header, payload_fault, payload_in, root_value, schema_fault}
 use Rattle.adb_view.specs.declared.tables.Which.TheVariants.{Package}
 use Rattle.adb_view.specs.declared.tables.Kind.TheVariants.{Obj}
-use Rattle.pkg_core.specs.Whole.{fault_after_first, package_fault, package_with_contents, whole_fault}
+use Rattle.make_index.specs.pkg_core.Whole.{fault_after_first, package_fault, package_with_contents, whole_fault}
 
 -- what the layers below say of values that are found
 pub record Values : Type 0 where

@@ -4,13 +4,13 @@ use Rattle.std.proofs.lemmas.Slice.Eq.{bytes_eq-Decides}
 use Rattle.sha2.specs.Sha256.{sha256}
 use Rattle.sha2.proofs.Facts256.{length-sha256}
 use Rattle.adb_view.specs.Plain.{Plain}
-use Rattle.adb_schema.specs.Texts.{is_with_contents}
+use Rattle.make_index.specs.adb_schema.Texts.{is_with_contents}
 use Rattle.adb_view.specs.Values.{entry_in, int_in, text_in}
-use Rattle.pkg_core.specs.Contents.{Contents, Expected, expected_at, expected_contents, expected_files, expected_folders, hash_fault}
-use Rattle.pkg_core.specs.GoodContents.{AreContentsOf}
-use Rattle.package_files.specs.Package.{Script, Source, SourceFolder, contents_of_file, contents_of_files, contents_of_folders, kind_of_file, value_of_kind, value_of_file, value_of_folder, has_contents, is_link_file, link_text, value_of_package}
-use Rattle.package_files.specs.declared.file.FileKind.{FileKind}
-use Rattle.package_files.specs.declared.file.FileKind.TheVariants.{Link, Regular}
+use Rattle.make_index.specs.pkg_core.Contents.{Contents, Expected, expected_at, expected_contents, expected_files, expected_folders, hash_fault}
+use Rattle.make_index.specs.pkg_core.GoodContents.{AreContentsOf}
+use Rattle.make_package.specs.package_files.Package.{Script, Source, SourceFolder, contents_of_file, contents_of_files, contents_of_folders, kind_of_file, value_of_kind, value_of_file, value_of_folder, has_contents, is_link_file, link_text, value_of_package}
+use Rattle.make_package.specs.package_files.declared.file.FileKind.{FileKind}
+use Rattle.make_package.specs.package_files.declared.file.FileKind.TheVariants.{Link, Regular}
 use Rattle.make_core.proofs.PackageFiles.{files_stand, folders_stand, hash_stands, size_stands, target_stands, with_contents}
 
 -- ---- a file

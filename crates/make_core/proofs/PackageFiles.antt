@@ -8,18 +8,18 @@ use Rattle.sha2.specs.Sha256.{sha256}
 use Rattle.sha2.proofs.Facts256.{length-sha256}
 use Rattle.adb_view.specs.Plain.{Plain, null, int, Plains, none, more, number, text, blob_or_null, arr_value, obj_value}
 use Rattle.adb_view.specs.Shaped.{Each}
-use Rattle.adb_fields.specs.Repeated.{files_in, folders_in, list_of}
-use Rattle.adb_schema.specs.Rules.{is_digest_length, is_digest_length_or_none, is_file_name, is_folder_name, is_target}
+use Rattle.make_index.specs.adb_fields.Repeated.{files_in, folders_in, list_of}
+use Rattle.make_index.specs.adb_schema.Rules.{is_digest_length, is_digest_length_or_none, is_file_name, is_folder_name, is_target}
 use Rattle.adb_view.specs.Schema.{shape_of, shapes_of, table}
-use Rattle.adb_schema.specs.Texts.{Surroundings, is_file_hash, number_rule, surroundings_of_fields, surroundings_of_root, text_rule}
+use Rattle.make_index.specs.adb_schema.Texts.{Surroundings, is_file_hash, number_rule, surroundings_of_fields, surroundings_of_root, text_rule}
 use Rattle.adb_view.specs.Values.{entries_in, entry_in, int_in, text_in}
 use Rattle.adb_view.specs.declared.tables.Which.TheVariants.{Acl, File, Dir, Scripts, PkgInfo, Package}
 use Rattle.adb_view.specs.declared.tables.Kind.TheVariants.{Obj}
 use Rattle.command_core.specs.Values.{script_types}
-use Rattle.package_files.specs.Package.{Source, SourceFolder, Script, access_value, kind_of_file, value_of_kind, value_of_file, value_of_folder, hash_of_kind, is_link_file, link_text, value_of_package, script_in, value_of_scripts, size_of_kind, target_of_kind}
-use Rattle.make_info.specs.Values.{number_value, plains_of_list, size_value}
-use Rattle.package_files.specs.declared.file.FileKind.{FileKind}
-use Rattle.package_files.specs.declared.file.FileKind.TheVariants.{Link, Regular}
+use Rattle.make_package.specs.package_files.Package.{Source, SourceFolder, Script, access_value, kind_of_file, value_of_kind, value_of_file, value_of_folder, hash_of_kind, is_link_file, link_text, value_of_package, script_in, value_of_scripts, size_of_kind, target_of_kind}
+use Rattle.make_index.specs.make_info.Values.{number_value, plains_of_list, size_value}
+use Rattle.make_package.specs.package_files.declared.file.FileKind.{FileKind}
+use Rattle.make_package.specs.package_files.declared.file.FileKind.TheVariants.{Link, Regular}
 use Rattle.adb_view.proofs.ValueEntries.{entries_arr, nth_obj, text_blob}
 use Rattle.make_core.proofs.GoodValues.{IsGood, arr_good, hash_good, null_array, null_number, number_good, obj_good, text_good}
 use Rattle.make_core.proofs.Zeros.{inside_same}

@@ -10,21 +10,21 @@ use Rattle.std.proofs.lemmas.List.Elements.{All-cons, All-nil}
 use Rattle.std.proofs.lemmas.List.Sorted.{IsPermutation-map}
 use Rattle.base_core.specs.Files.{Files}
 use Rattle.base_core.specs.Listed.{AreNamesBelow}
-use Rattle.adb_fields.specs.FirstPair.{IsIn}
-use Rattle.adb_fields.specs.Paths.{path_of}
-use Rattle.adb_fields.specs.Repeated.{files_in, folders_in, name_of, paths_under}
-use Rattle.adb_schema.specs.Soundness.{payload_in, root_value}
+use Rattle.make_index.specs.adb_fields.FirstPair.{IsIn}
+use Rattle.make_index.specs.adb_fields.Paths.{path_of}
+use Rattle.make_index.specs.adb_fields.Repeated.{files_in, folders_in, name_of, paths_under}
+use Rattle.make_index.specs.adb_schema.Soundness.{payload_in, root_value}
 use Rattle.adb_view.specs.declared.tables.Which.TheVariants.{Package}
 use Rattle.adb_view.specs.Plain.{Plain}
 use Rattle.command_core.specs.Command.{CommandLine}
 use Rattle.command_core.specs.Files.{without_dot}
 use Rattle.command_core.specs.declared.values.OptionValue.{OptionValue}
-use Rattle.make_info.specs.Information.{replaces_priority}
-use Rattle.package_files.specs.Folders.{FolderListing, all_folders_above, folders_of, last_part_of, listing_of, names_in_folder, path_below}
+use Rattle.make_index.specs.make_info.Information.{replaces_priority}
+use Rattle.make_package.specs.package_files.Folders.{FolderListing, all_folders_above, folders_of, last_part_of, listing_of, names_in_folder, path_below}
 use Rattle.make_package.specs.Making.{made_package}
-use Rattle.package_files.specs.Package.{Source, SourceFolder, value_of_file, value_of_folder, kind_of_file}
-use Rattle.package_files.specs.Sources.{AreNamesFor, file_at, folder_at, folders_below, found_at, source_folders_from, sources_from, texts_of, values_with}
-use Rattle.pkg_core.specs.Whole.{Packed}
+use Rattle.make_package.specs.package_files.Package.{Source, SourceFolder, value_of_file, value_of_folder, kind_of_file}
+use Rattle.make_package.specs.package_files.Sources.{AreNamesFor, file_at, folder_at, folders_below, found_at, source_folders_from, sources_from, texts_of, values_with}
+use Rattle.make_index.specs.pkg_core.Whole.{Packed}
 use Rattle.make_core.specs.FilesBelow.{HasFilesBelow, IsFileBelow, name_below}
 use Rattle.make_core.proofs.Apart.{Tells}
 use Rattle.make_core.proofs.InformationGood.{Needs}

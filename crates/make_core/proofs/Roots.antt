@@ -4,13 +4,13 @@ use Rattle.std.specs.Prelude.{is_some}
 use Rattle.std.proofs.lemmas.Bool.{ltb-false, or_parts}
 use Rattle.adb_view.specs.Plain.{IsNormal, Plain}
 use Rattle.adb_view.specs.Schema.{shape_of}
-use Rattle.adb_schema.specs.Texts.{surroundings_of_root}
-use Rattle.adb_fields.specs.Repeated.{repeated_fault}
+use Rattle.make_index.specs.adb_schema.Texts.{surroundings_of_root}
+use Rattle.make_index.specs.adb_fields.Repeated.{repeated_fault}
 use Rattle.adb_view.specs.declared.tables.Which.{Which}
 use Rattle.adb_view.specs.declared.tables.Kind.TheVariants.{Obj}
-use Rattle.adb_write.specs.Canonical.{PayloadCounts, canonical, or_overflow, overflow_of, passes, written_of, MOST_BYTES, MOST_VALUES}
-use Rattle.adb_write.specs.Size.{size_of, value_count}
-use Rattle.adb_sound.specs.Root.{IsRootOf}
+use Rattle.make_index.specs.adb_write.Canonical.{PayloadCounts, canonical, or_overflow, overflow_of, passes, written_of, MOST_BYTES, MOST_VALUES}
+use Rattle.make_index.specs.adb_write.Size.{size_of, value_count}
+use Rattle.make_package.specs.adb_sound.Root.{IsRootOf}
 use Rattle.make_core.proofs.GoodValues.{IsGood}
 
 pub record IsWritten (v : Plain) (payload : List ℕ) : Type 0 where

@@ -9,13 +9,13 @@ use Rattle.hex.specs.declared.error.FromHexError.{FromHexError}
 use Rattle.version_core.specs.Order.{is_version}
 use Rattle.dep_core.specs.Dependency.{Dependency, is_package_name}
 use Rattle.dep_core.specs.Reading.{dependency_of}
-use Rattle.make_info.specs.declared.field.Field.{Field}
-use Rattle.make_info.specs.declared.field.Field.TheVariants as Fields
-use Rattle.make_info.specs.declared.field.Kind.{Kind}
-use Rattle.make_info.specs.declared.field.Kind.TheVariants as Kinds
-use Rattle.make_info.specs.Fields.{FieldValue, text, number, need, value_of_digits, field_word, fields, kind_of_field, field_among, need_in, needs_in, decimal_number, nonempty_parts, values_by_kind, text_if, text_values, and_needs, if_untagged}
+use Rattle.make_index.specs.make_info.declared.field.Field.{Field}
+use Rattle.make_index.specs.make_info.declared.field.Field.TheVariants as Fields
+use Rattle.make_index.specs.make_info.declared.field.Kind.{Kind}
+use Rattle.make_index.specs.make_info.declared.field.Kind.TheVariants as Kinds
+use Rattle.make_index.specs.make_info.Fields.{FieldValue, text, number, need, value_of_digits, field_word, fields, kind_of_field, field_among, need_in, needs_in, decimal_number, nonempty_parts, values_by_kind, text_if, text_values, and_needs, if_untagged}
 use Rattle.command_core.specs.Operands.{is_decimal}
-use Rattle.make_info.specs.FieldTexts.{is_same}
+use Rattle.make_index.specs.make_info.FieldTexts.{is_same}
 
 -- ---- the kind of a field is that of its word
 

@@ -8,27 +8,27 @@ use Rattle.base_core.specs.declared.cause.Cause.{Cause}
 use Rattle.adb_view.specs.Plain.{Plain, Plains, none, more, arr_value, blob_or_null, obj_value}
 use Rattle.adb_view.specs.Shaped.{Each}
 use Rattle.adb_view.specs.Schema.{shape_of, shapes_of, table}
-use Rattle.adb_schema.specs.Texts.{Surroundings, surroundings_of_fields, surroundings_of_root, text_rule}
-use Rattle.adb_fields.specs.Repeated.{repeated_fault}
-use Rattle.adb_schema.specs.Soundness.{payload_in, root_value, schema_word}
+use Rattle.make_index.specs.adb_schema.Texts.{Surroundings, surroundings_of_fields, surroundings_of_root, text_rule}
+use Rattle.make_index.specs.adb_fields.Repeated.{repeated_fault}
+use Rattle.make_index.specs.adb_schema.Soundness.{payload_in, root_value, schema_word}
 use Rattle.adb_view.specs.declared.tables.Which.TheVariants.{Package, PkgInfo, Index}
 use Rattle.adb_view.specs.declared.tables.Kind.TheVariants.{Obj}
-use Rattle.adb_schema.specs.declared.read.TheConstants.{INDEX_WORD}
-use Rattle.adb_write.specs.Canonical.{PayloadCounts, written_of, canonical}
-use Rattle.adb_write.specs.File.{file_of}
-use Rattle.pkg_core.specs.Whole.{container_fault, package_fault}
+use Rattle.make_index.specs.adb_schema.declared.read.TheConstants.{INDEX_WORD}
+use Rattle.make_index.specs.adb_write.Canonical.{PayloadCounts, written_of, canonical}
+use Rattle.make_index.specs.adb_write.File.{file_of}
+use Rattle.make_index.specs.pkg_core.Whole.{container_fault, package_fault}
 use Rattle.command_core.specs.Files.{without_dot}
 use Rattle.command_core.specs.declared.operands.Operand.{Operand}
 use Rattle.make_index.specs.Index.{and_entries, found_entries, found_entry, index_container, index_of, index_of_found, value_of_index, entry_unless, description_in, made_index}
-use Rattle.make_info.specs.Values.{plains_of_list}
+use Rattle.make_index.specs.make_info.Values.{plains_of_list}
 use Rattle.command_core.specs.Command.{CommandLine}
 use Rattle.make_index.specs.Entries.{entry_of_package}
 use Rattle.make_index.specs.EntryOrder.{entry_cmp}
 use Rattle.base_core.specs.Sorted.{sorted_by, with_element}
 use Rattle.base_core.specs.Files.{IsFile}
 use Rattle.make_index.specs.Files.{AreFiles}
-use Rattle.adb_sound.specs.Root.{IsRootOf}
-use Rattle.make_info.specs.declared.fault.MakeFault.{MakeFault}
+use Rattle.make_package.specs.adb_sound.Root.{IsRootOf}
+use Rattle.make_index.specs.make_info.declared.fault.MakeFault.{MakeFault}
 use Rattle.make_core.specs.ReadBack.{index_value_by, index_value_of}
 use Rattle.make_core.proofs.IndexEntry.{entry_good}
 use Rattle.make_core.proofs.OpenedPackage.{Values}

@@ -5,23 +5,23 @@ use Rattle.std.specs.Prelude.{All}
 use Rattle.std.proofs.lemmas.List.Elements.{All-head, All-tail}
 use Rattle.base_core.specs.Listed.{IsNameBelow}
 use Rattle.adb_view.specs.Plain.{Plain}
-use Rattle.adb_schema.specs.declared.read.TheConstants.{PACKAGE_WORD}
+use Rattle.make_index.specs.adb_schema.declared.read.TheConstants.{PACKAGE_WORD}
 use Rattle.adb_view.specs.declared.tables.Which.TheVariants.{Package}
-use Rattle.adb_write.specs.Canonical.{PayloadCounts, canonical, overflow_of}
-use Rattle.pkg_core.specs.Contents.{Contents, expected_contents}
-use Rattle.pkg_core.specs.GoodContents.{AreContentsOf}
-use Rattle.pkg_core.specs.Whole.{container_fault, package_with_contents}
+use Rattle.make_index.specs.adb_write.Canonical.{PayloadCounts, canonical, overflow_of}
+use Rattle.make_index.specs.pkg_core.Contents.{Contents, expected_contents}
+use Rattle.make_index.specs.pkg_core.GoodContents.{AreContentsOf}
+use Rattle.make_index.specs.pkg_core.Whole.{container_fault, package_with_contents}
 use Rattle.command_core.specs.Command.{CommandLine}
 use Rattle.command_core.specs.Files.{without_dot}
 use Rattle.command_core.specs.declared.values.OptionValue.{OptionValue}
-use Rattle.make_info.specs.Information.{InfoItem, information_value, information, replaces_priority}
-use Rattle.adb_sound.specs.Contents.{contents_size}
-use Rattle.adb_sound.specs.Container.{container_of, package_by}
+use Rattle.make_index.specs.make_info.Information.{InfoItem, information_value, information, replaces_priority}
+use Rattle.make_package.specs.adb_sound.Contents.{contents_size}
+use Rattle.make_package.specs.adb_sound.Container.{container_of, package_by}
 use Rattle.make_package.specs.Making.{container_unless, made_package, or_info_bad, package_container, package_of_parts}
-use Rattle.package_files.specs.Package.{Script, SourceFolder, contents_of_folders, installed_size, value_of_package}
-use Rattle.package_files.specs.Sources.{AreNamesFor, and_then, folders_below, values_with, scripts_from, texts_of}
-use Rattle.adb_sound.specs.Root.{IsRootOf}
-use Rattle.make_info.specs.Reads.{Reads}
+use Rattle.make_package.specs.package_files.Package.{Script, SourceFolder, contents_of_folders, installed_size, value_of_package}
+use Rattle.make_package.specs.package_files.Sources.{AreNamesFor, and_then, folders_below, values_with, scripts_from, texts_of}
+use Rattle.make_package.specs.adb_sound.Root.{IsRootOf}
+use Rattle.make_index.specs.make_info.Reads.{Reads}
 use Rattle.make_core.proofs.Apart.{Tells, package_once, rises_from_pairs}
 use Rattle.make_core.proofs.InformationGood.{IsInformation, Needs, info_good, information_good, priority_good}
 use Rattle.make_core.proofs.ListedNames.{AreListed, AreSources, after_ok, folders_sized, sources_good}

@@ -4,13 +4,13 @@
 use Rattle.std.specs.Prelude.{◌≡◌, ℕ, ◌+◌, List, [], ◌∷◌, map, Some, None}
 use Rattle.std.specs.List.Sorted.{IsPermutation, IsSorted}
 use Rattle.adb_view.specs.Plain.{Plain}
-use Rattle.adb_fields.specs.Repeated.{entries_at}
+use Rattle.make_index.specs.adb_fields.Repeated.{entries_at}
 use Rattle.command_core.specs.Files.{without_dot}
 use Rattle.command_core.specs.declared.operands.Operand.{Operand}
 use Rattle.make_index.specs.Entries.{entry_of_package}
 use Rattle.make_index.specs.EntryOrder.{entry_cmp}
-use Rattle.make_info.specs.Reads.{Reads}
-use Rattle.pkg_core.specs.Whole.{package_fault}
+use Rattle.make_index.specs.make_info.Reads.{Reads}
+use Rattle.make_index.specs.pkg_core.Whole.{package_fault}
 use Rattle.adb_view.specs.FieldIndexes.{INDEX_PACKAGES}
 
 -- the entries that an index has of its packages

@@ -4,19 +4,19 @@
 -- `a_made_package_is_read_back` and `a_made_index_is_read_back`.
 use Rattle.command_core.specs.declared.values.TheConstants.{FILES, SCRIPT, TRIGGER}
 use Rattle.std.specs.Prelude.{ℕ, List, length, Result, Ok, Err}
-use Rattle.adb_sound.specs.Container.{package_by}
+use Rattle.make_package.specs.adb_sound.Container.{package_by}
 use Rattle.adb_view.specs.Plain.{Plain}
 use Rattle.command_core.specs.Command.{CommandLine}
 use Rattle.make_index.specs.EntryOrder.{entry_cmp}
 use Rattle.base_core.specs.Sorted.{sorted_by}
 use Rattle.make_index.specs.Index.{description_in, found_entries, value_of_index}
-use Rattle.make_info.specs.Information.{InfoItem, information, information_value, replaces_priority}
-use Rattle.make_info.specs.Reads.{Reads}
-use Rattle.make_info.specs.declared.fault.MakeFault.{MakeFault}
+use Rattle.make_index.specs.make_info.Information.{InfoItem, information, information_value, replaces_priority}
+use Rattle.make_index.specs.make_info.Reads.{Reads}
+use Rattle.make_index.specs.make_info.declared.fault.MakeFault.{MakeFault}
 use Rattle.make_package.specs.Making.{or_info_bad}
-use Rattle.package_files.specs.Package.{Script, SourceFolder, contents_of_folders, installed_size, value_of_package}
-use Rattle.package_files.specs.Sources.{folders_below, and_then, scripts_from, texts_of, values_with}
-use Rattle.pkg_core.specs.Whole.{Packed}
+use Rattle.make_package.specs.package_files.Package.{Script, SourceFolder, contents_of_folders, installed_size, value_of_package}
+use Rattle.make_package.specs.package_files.Sources.{folders_below, and_then, scripts_from, texts_of, values_with}
+use Rattle.make_index.specs.pkg_core.Whole.{Packed}
 
 -- the value and the contents of a package, given what was read of each part, in the order in which the
 -- parts are read

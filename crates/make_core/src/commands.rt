@@ -6,15 +6,15 @@ ghost use Rattle.base_core.specs.Read.{OnlyReads};
 ghost use Rattle.make_index.specs.Files.{AreFiles, reads_of};
 ghost use Rattle.make_index.specs.Index.{made_index};
 ghost use Rattle.make_index.specs.Kept.{IsMadeBy};
-ghost use Rattle.make_info.specs.Reads.{Reads};
+ghost use Rattle.make_index.specs.make_info.Reads.{Reads};
 ghost use Rattle.make_package.specs.Answers.{IsMadeBySome, IsMadeIn, OnRefusal};
-ghost use Rattle.pkg_core.specs.Whole.{container_fault};
+ghost use Rattle.make_index.specs.pkg_core.Whole.{container_fault};
 ghost use Rattle.std.specs.Prelude.{◌≡◌, Ok, None, IfOk, IfErr};
 
 use crate::laws::{a_made_index_is_sound, a_made_package_is_sound};
 use base_core::Tree;
 use command_core::{Applet, Command};
-use make_info::MakeFault;
+use make_index::MakeFault;
 use std::alloc::Global;
 
 /// Makes the package that a command describes (apk(8), `mkpkg`): the container's bytes, which pass

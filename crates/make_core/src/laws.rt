@@ -2,16 +2,16 @@
 //! read back.
 //! The rules are in `docs/commands.md`, "`mkpkg`" and "`mkndx PACKAGE..`", and in
 //! `docs/formats.md`, "Tests of a container".
-ghost use Rattle.adb_schema.specs.Soundness.{payload_in, root_value};
+ghost use Rattle.make_index.specs.adb_schema.Soundness.{payload_in, root_value};
 ghost use Rattle.adb_view.specs.declared.tables.Which.TheVariants.{Index, Package};
 ghost use Rattle.command_core.specs.declared.values.TheConstants.{FILES, SCRIPT};
 ghost use Rattle.make_index.specs.Files.{AreFiles};
 ghost use Rattle.make_index.specs.Index.{made_index};
-ghost use Rattle.make_info.specs.Reads.{Reads};
+ghost use Rattle.make_index.specs.make_info.Reads.{Reads};
 ghost use Rattle.make_package.specs.Making.{made_package};
-ghost use Rattle.package_files.specs.Sources.{AreNamesFor, values_with};
+ghost use Rattle.make_package.specs.package_files.Sources.{AreNamesFor, values_with};
 ghost use Rattle.make_core.specs.ReadBack.{index_value_by, packed_package};
-ghost use Rattle.pkg_core.specs.Whole.{container_fault, package_with_contents};
+ghost use Rattle.make_index.specs.pkg_core.Whole.{container_fault, package_with_contents};
 ghost use Rattle.std.specs.Prelude.{◌≡◌, ◌<◌, ◌^◌, ◌∷◌, ◌⊎◌, ℕ, List, length, None, Ok, Err};
 ghost use Rattle.base_core.specs.Files.{Files};
 ghost use Rattle.base_core.specs.Listed.{AreNamesBelow};
@@ -21,18 +21,19 @@ ghost use Rattle.command_core.specs.declared.values.OptionValue.{OptionValue};
 ghost use Rattle.make_core.specs.FilesBelow.{HasFilesBelow};
 ghost use Rattle.make_core.specs.IndexOrder.{HasPackagesInOrder};
 ghost use Rattle.make_core.specs.Missing.{IsMissingFile, IsMissingScript};
-ghost use Rattle.make_info.specs.declared.fault.MakeFault.TheVariants.{FileMissing};
+ghost use Rattle.make_index.specs.make_info.declared.fault.MakeFault.TheVariants.{FileMissing};
 
-use adb_fields::the_first_pair_in_one_of_several_lists_is_reported;
-use adb_sound::{
-    a_container_of_a_good_value_is_sound, a_package_of_a_good_value_and_its_contents_is_sound,
-    contents_are_in_their_container, what_a_container_is_made_of_is_read_back,
-};
 use adb_view::{values_are_normal, values_have_their_shape, values_of_few_visits_have_no_fault};
-use adb_write::a_value_overflows_exactly_past_a_limit;
 use dep_core::{read_texts_are_spelled, values_are_read_back};
-use make_index::an_index_is_in_order;
-use make_package::{each_name_is_in_one_folder, the_installed_size_is_that_of_the_contents};
+use make_index::{
+    a_value_overflows_exactly_past_a_limit, an_index_is_in_order,
+    the_first_pair_in_one_of_several_lists_is_reported,
+};
+use make_package::{
+    a_container_of_a_good_value_is_sound, a_package_of_a_good_value_and_its_contents_is_sound,
+    contents_are_in_their_container, each_name_is_in_one_folder,
+    the_installed_size_is_that_of_the_contents, what_a_container_is_made_of_is_read_back,
+};
 
 /// An index that `mkndx` makes is sound, whatever packages it is made from: files of bytes, fewer
 /// than 2^64 each.

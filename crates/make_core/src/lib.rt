@@ -17,8 +17,9 @@ pub use laws::{
     a_made_package_has_the_files_below_its_folder, a_made_package_is_read_back,
     a_made_package_is_sound, a_missing_file_is_reported_at_its_option,
 };
-pub use make_index::{an_entry_is_an_info, an_index_is_in_order};
-pub use make_info::{
-    Information, MakeFault, a_package_with_information_has_an_output, an_index_has_an_output,
-    an_output_is_short, output_name, read_information,
+pub use make_index::{
+    Information, MakeFault, a_package_with_information_has_an_output, an_entry_is_an_info,
+    an_index_has_an_output, an_index_is_in_order, an_output_is_short, output_name,
+    read_information,
 };
+pub use make_package::each_name_is_in_one_folder;

@@ -7,13 +7,13 @@ use Rattle.std.specs.Int.{w32, to_le_bytes}
 use Rattle.adb_view.specs.Head.{head_fault, root_of}
 use Rattle.adb_view.specs.Plain.{Plain, null, int, blob, arr, obj, Plains, none, more, Shape, plain_of, value_of, IsNormal, AreNormal}
 use Rattle.adb_view.specs.Shaped.{HasShape}
-use Rattle.adb_write.specs.Canonical.{Layout, write, empty_layout, payload_with_root, canonical, passes, overflow_of, or_overflow, written_of, PayloadCounts, MOST_BYTES}
-use Rattle.adb_write.specs.Size.{size_of, value_count}
+use Rattle.adb_copy.specs.adb_write.Canonical.{Layout, write, empty_layout, payload_with_root, canonical, passes, overflow_of, or_overflow, written_of, PayloadCounts, MOST_BYTES}
+use Rattle.adb_copy.specs.adb_write.Size.{size_of, value_count}
 use Rattle.adb_view.specs.Schema.{shape_of}
 use Rattle.adb_view.specs.Values.{is_sound, value_at, nth, entry_in, text_in}
-use Rattle.adb_schema.specs.SoundValues.{IsPackage}
-use Rattle.adb_schema.specs.Soundness.{root_value, payload_in, first_fault}
-use Rattle.adb_schema.specs.SoundContainers.{IsSoundValue}
+use Rattle.pkg_core.specs.adb_schema.SoundValues.{IsPackage}
+use Rattle.pkg_core.specs.adb_schema.Soundness.{root_value, payload_in, first_fault}
+use Rattle.pkg_core.specs.adb_schema.SoundContainers.{IsSoundValue}
 use Rattle.adb_view.specs.declared.tables.Which.{Which}
 use Rattle.adb_view.specs.declared.tables.Which.TheVariants as Tables
 use Rattle.adb_view.specs.declared.tables.Kind.{Kind}

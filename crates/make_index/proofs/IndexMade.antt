@@ -1,9 +1,9 @@
 -- The file of an index, and why there is none.
 use Rattle.std.proofs.Common.{◌≡◌, ℕ, List, Result, Ok, Err, ap, sym, subst, ◌∙◌}
-use Rattle.adb_schema.specs.declared.read.TheConstants.{INDEX_WORD}
+use Rattle.pkg_core.specs.adb_schema.declared.read.TheConstants.{INDEX_WORD}
 use Rattle.adb_view.specs.Plain.{Plain}
-use Rattle.adb_write.specs.Canonical.{PayloadCounts, written_of}
-use Rattle.adb_write.specs.File.{file_of}
+use Rattle.adb_copy.specs.adb_write.Canonical.{PayloadCounts, written_of}
+use Rattle.adb_copy.specs.adb_write.File.{file_of}
 use Rattle.make_index.specs.Index.{index_container, index_of, value_of_index}
 use Rattle.make_index.specs.Kept.{IsMade}
 use Rattle.make_info.specs.Faults.{IsOverflow}

@@ -8,7 +8,7 @@ use Rattle.adb_block.specs.Framing.{HeadFields, Step, ended, failed, block, step
 use Rattle.adb_block.specs.Piece.{Piece, comes_after, least_payload, padding_of}
 use Rattle.adb_block.specs.Header.{header_of}
 use Rattle.adb_block.specs.Reading.{Reading, reading_by_step, reading_from, reading_of}
-use Rattle.adb_schema.specs.Soundness.{first_payload, payload_after_header, payload_in}
+use Rattle.pkg_core.specs.adb_schema.Soundness.{first_payload, payload_after_header, payload_in}
 
 -- ---- the payload is a part of the file
 

@@ -1,3 +1,9 @@
+-- passed on: a crate above that names this one need not name these
+pub use Rattle.adb_copy.proofs as adb_copy
+pub use Rattle.adb_copy.proofs.adb_fields as adb_fields
+pub use Rattle.make_info.proofs as make_info
+pub use Rattle.pkg_core.proofs as pkg_core
+pub use Rattle.pkg_core.proofs.adb_schema as adb_schema
 pub mod EntryPlaces
 pub mod IndexAgain
 pub mod IndexHeld

@@ -6,9 +6,9 @@ use Rattle.std.specs.Prelude.{ℕ, ◌+◌, ◌==◌, List, [], ◌∷◌, Optio
 use Rattle.std.specs.List.{find}
 use Rattle.base_core.specs.declared.cause.Cause.{Cause}
 use Rattle.adb_view.specs.Plain.{Plain, none, more, blob_or_null, arr_value, obj_value}
-use Rattle.adb_schema.specs.declared.read.TheConstants.{INDEX_WORD}
-use Rattle.adb_write.specs.Canonical.{PayloadCounts, written_of}
-use Rattle.adb_write.specs.File.{file_of}
+use Rattle.pkg_core.specs.adb_schema.declared.read.TheConstants.{INDEX_WORD}
+use Rattle.adb_copy.specs.adb_write.Canonical.{PayloadCounts, written_of}
+use Rattle.adb_copy.specs.adb_write.File.{file_of}
 use Rattle.pkg_core.specs.Whole.{package_fault}
 use Rattle.command_core.specs.Command.{CommandLine}
 use Rattle.command_core.specs.Files.{without_dot}

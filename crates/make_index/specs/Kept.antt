@@ -6,7 +6,7 @@ use Rattle.std.specs.Prelude.{◌≡◌, ℕ, List, true, IsTrue, is_none, Optio
 use Rattle.base_core.specs.declared.cause.Cause.{Cause}
 use Rattle.adb_view.specs.Head.{head_fault, root_of}
 use Rattle.adb_view.specs.Plain.{Plain}
-use Rattle.adb_schema.specs.Soundness.{root_value}
+use Rattle.pkg_core.specs.adb_schema.Soundness.{root_value}
 use Rattle.adb_view.specs.FieldIndexes.{INFO_FILE_SIZE, INFO_HASHES}
 use Rattle.adb_view.specs.Values.{entry_in, int_in, is_sound, text_in}
 use Rattle.adb_view.specs.declared.tables.Which.TheVariants.{PkgInfo}

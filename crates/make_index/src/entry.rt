@@ -1,8 +1,8 @@
 //! An entry of an index: the tests of its package, and its order among the others.
 //! The rules are in `docs/commands.md`, "`mkndx PACKAGE..`" (the order of packages, and that each
 //! must pass all tests of `verify`), and "`verify FILE..`" there.
-ghost use Rattle.adb_schema.specs.Soundness.{first_fault, payload_in, root_value};
-ghost use Rattle.adb_values.specs.Drafts.{draft_with};
+ghost use Rattle.pkg_core.specs.adb_schema.Soundness.{first_fault, payload_in, root_value};
+ghost use Rattle.adb_copy.specs.adb_values.Drafts.{draft_with};
 ghost use Rattle.base_core.specs.declared.cause.Cause.{Cause};
 ghost use Rattle.make_index.specs.Entries.{entry_of_package};
 ghost use Rattle.make_index.specs.EntryOrder.{entry_cmp};
@@ -18,13 +18,14 @@ ghost use Rattle.version_core.specs.Order.{is_version, version_cmp};
 ghost use Rattle.adb_view.specs.declared.tables.Which.TheVariants as Tables;
 
 use crate::source::{EntryPayload, EntrySource, PackageFile, entry_payload};
-use adb_schema::sound_containers_hold_sound_values;
-use adb_values::Draft;
+use adb_copy::{Draft, a_canonical_payload_is_read_back, a_value_overflows_exactly_past_a_limit};
 use adb_view::{values_are_normal, values_have_their_shape};
-use adb_write::{a_canonical_payload_is_read_back, a_value_overflows_exactly_past_a_limit};
 use base_core::Cause;
 use make_info::MakeFault;
-use pkg_core::{Package, PackageFault, a_package_is_tested_by_its_values_and_then_its_files};
+use pkg_core::{
+    Package, PackageFault, a_package_is_tested_by_its_values_and_then_its_files,
+    sound_containers_hold_sound_values,
+};
 use std::alloc::{AllocError, Global};
 use std::cmp::Ordering;
 use version_core::Version;

@@ -4,13 +4,13 @@
 //! fields in `docs/formats.md`, "Schemas", table 8.
 
 ghost use Rattle.adb_view.specs.Schema.{shape_of, table};
-ghost use Rattle.adb_schema.specs.Soundness.{first_fault};
+ghost use Rattle.pkg_core.specs.adb_schema.Soundness.{first_fault};
 ghost use Rattle.adb_view.specs.declared.tables.Kind.TheVariants as Kinds;
 ghost use Rattle.adb_view.specs.declared.tables.Which.TheVariants as Tables;
 ghost use Rattle.adb_view.specs.Plain.{Plain, arr_value, IsNormal, Plains, obj_value};
 ghost use Rattle.adb_view.specs.Shaped.{HasShape};
-ghost use Rattle.adb_values.specs.Drafts.{draft_with};
-ghost use Rattle.adb_write.specs.Canonical.{written_of, MOST_BYTES};
+ghost use Rattle.adb_copy.specs.adb_values.Drafts.{draft_with};
+ghost use Rattle.adb_copy.specs.adb_write.Canonical.{written_of, MOST_BYTES};
 ghost use Rattle.base_core.specs.Calls.{IfObservable};
 ghost use Rattle.base_core.specs.Read.{OnlyReads, bytes_in};
 ghost use Rattle.base_core.specs.Tree.{files_of};
@@ -36,13 +36,12 @@ ghost use Rattle.make_info.specs.Named.{value_by_name};
 ghost use Rattle.std.specs.declared.cmp.Ordering.TheVariants.{Equal, Less};
 
 use crate::entry::Entry;
-use adb_schema::{INDEX_WORD, sound_containers_hold_sound_values};
-use adb_values::Draft;
+use adb_copy::{Draft, file_of};
 use adb_view::{values_are_normal, values_have_their_shape};
-use adb_write::file_of;
 use base_core::{Name, Tree, read_all};
 use command_core::{Applet, Command, DESCRIPTION, Operands, Values, file_operands_are_files};
 use make_info::MakeFault;
+use pkg_core::{INDEX_WORD, sound_containers_hold_sound_values};
 use std::alloc::{AllocError, Global};
 use version_core::order_is_total;
 

@@ -2,13 +2,13 @@
 //! `docs/DECISIONS.md`, "Making", has the rule: the file of a package whose information alone
 //! exceeds a limit of the writer is kept to the end. `docs/commands.md`, "`mkndx PACKAGE..`",
 //! defines an entry.
-ghost use Rattle.adb_schema.specs.Soundness.{first_fault, root_value};
+ghost use Rattle.pkg_core.specs.adb_schema.Soundness.{first_fault, root_value};
 ghost use Rattle.adb_view.specs.FieldIndexes.{PACKAGE_INFO};
 ghost use Rattle.adb_view.specs.Values.{entry_in, is_sound, value_at};
 ghost use Rattle.adb_view.specs.Adb.{payload_of};
 ghost use Rattle.adb_view.specs.Head.{head_fault, root_of};
-ghost use Rattle.adb_values.specs.Drafts.{draft_with};
-ghost use Rattle.adb_write.specs.Canonical.{written_of};
+ghost use Rattle.adb_copy.specs.adb_values.Drafts.{draft_with};
+ghost use Rattle.adb_copy.specs.adb_write.Canonical.{written_of};
 ghost use Rattle.make_index.specs.Entries.{entry_of_package};
 ghost use Rattle.adb_copy.specs.Zeros.{info_with};
 ghost use Rattle.pkg_core.specs.Opened.{opened_payload, opened_value};
@@ -17,12 +17,9 @@ ghost use Rattle.std.specs.Prelude.{◌≡◌, true, is_none, ◌<◌, ◌^◌, 
 ghost use Rattle.adb_view.specs.declared.tables.Kind.TheVariants as Kinds;
 ghost use Rattle.adb_view.specs.declared.tables.Which.TheVariants as Tables;
 
-use adb_copy::{KnownTexts, write_info};
-use adb_schema::{PkgInfo, View};
-use adb_values::Draft;
+use adb_copy::{Draft, KnownTexts, WriteFault, write_info};
 use adb_view::{Adb, Val};
-use adb_write::WriteFault;
-use pkg_core::{Package, PackageFault};
+use pkg_core::{Package, PackageFault, PkgInfo, View};
 use std::alloc::{AllocError, Global};
 
 /// A payload whose root is the entry of one package, and nothing else is in it.

@@ -1,3 +1,5 @@
+-- passed on: a crate above that names this one need not name these
+pub use Rattle.adb_values.proofs as adb_values
 pub mod FileNames
 pub mod FirstOffence
 pub mod Left

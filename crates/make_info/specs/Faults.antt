@@ -3,9 +3,9 @@
 use Rattle.std.specs.Prelude.{◌≡◌, ℕ, List, Result, Err}
 use Rattle.base_core.specs.declared.tree.TreeFault.{TreeFault}
 use Rattle.base_core.specs.declared.tree.TreeFault.TheVariants as Trees
-use Rattle.adb_write.specs.Canonical.{PayloadCounts}
-use Rattle.adb_write.specs.declared.writer.WriteFault.{WriteFault}
-use Rattle.adb_write.specs.declared.writer.WriteFault.TheVariants as Writes
+use Rattle.adb_values.specs.adb_write.Canonical.{PayloadCounts}
+use Rattle.adb_values.specs.adb_write.declared.writer.WriteFault.{WriteFault}
+use Rattle.adb_values.specs.adb_write.declared.writer.WriteFault.TheVariants as Writes
 use Rattle.make_info.specs.declared.fault.MakeFault.{MakeFault}
 use Rattle.make_info.specs.declared.fault.MakeFault.TheVariants.{FileMissing, FileBad, InfoBad, TooLarge, Disk, Memory}
 

@@ -1,6 +1,6 @@
 //! Why nothing was made. The rules are in `docs/commands.md`, "`mkpkg`" and "`mkndx PACKAGE..`",
 //! the tables of refusals.
-use adb_write::WriteFault;
+use adb_values::WriteFault;
 use base_core::{Cause, Disk, TreeFault};
 use std::alloc::AllocError;
 

@@ -12,6 +12,7 @@ mod information;
 mod output;
 mod writing;
 
+pub use adb_values::{Draft, WriteFault};
 pub use fault::MakeFault;
 pub use field::{Kind, read_number};
 pub use information::{

@@ -3,7 +3,7 @@ use Rattle.std.proofs.Common.{ℕ, List, [], ◌∷◌, map, refl, sym, subst}
 use Rattle.std.specs.Prelude.{All}
 use Rattle.std.proofs.lemmas.List.Elements.{All-cons, All-nil}
 use Rattle.adb_view.proofs.ValueEntries.{nth_obj}
-use Rattle.package_files.specs.Package.{Source, SourceFolder, access_value, file_fields, folder_fields, kind_of_file, value_of_file, value_of_folder}
+use Rattle.make_core.specs.package_files.Package.{Source, SourceFolder, access_value, file_fields, folder_fields, kind_of_file, value_of_file, value_of_folder}
 use Rattle.make_core.proofs.PackageFiles.{files_stand}
 use Rattle.make_laws.specs.MadePackages.{IsEnterableFolder, IsReadableFile, enterable, readable}
 use Rattle.make_laws.specs.NamedFields.{IsAccessOfRoot}

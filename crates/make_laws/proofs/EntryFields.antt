@@ -1,20 +1,20 @@
 -- What an entry of an index tells, and what values without zeros do.
 use Rattle.std.proofs.Common.{◌≡◌, ◌≢◌, ℕ, zero, suc, Bool, true, false, if◌then◌else◌, List, [], ◌∷◌, bytes_eq, length, codes, refl, ap, sym, ◌∙◌, arith}
 use Rattle.std.proofs.lemmas.Slice.Eq.{bytes_eq-Decides}
-use Rattle.adb_copy.specs.Zeros.{all_without_zeros, info_with, with_at, without_zeros}
-use Rattle.adb_copy.proofs.WithoutZeros.{int_zeros}
-use Rattle.adb_copy.proofs.Zeros.{nth_zeros, at_same}
+use Rattle.make_core.specs.adb_copy.Zeros.{all_without_zeros, info_with, with_at, without_zeros}
+use Rattle.make_core.proofs.adb_copy.WithoutZeros.{int_zeros}
+use Rattle.make_core.proofs.adb_copy.Zeros.{nth_zeros, at_same}
 use Rattle.adb_view.specs.Schema.{field_name_text, table}
 use Rattle.adb_view.specs.Values.{entries_in, entry_in, int_in, nth}
 use Rattle.adb_view.specs.declared.tables.Field.{Field}
 use Rattle.adb_view.specs.declared.tables.Which.TheVariants.{Package, PkgInfo}
 use Rattle.adb_view.proofs.ValueEntries.{nth_obj}
 use Rattle.adb_view.specs.Plain.{Plain, null, int, blob, arr, obj, Plains, none, more, blob_or_null, obj_of, without_last_nulls}
-use Rattle.make_index.specs.Entries.{entry_of_package}
+use Rattle.make_core.specs.make_index.Entries.{entry_of_package}
 use Rattle.make_core.proofs.ValueParts.{placed_later}
 use Rattle.make_laws.specs.MadePackages.{contained_package}
 use Rattle.make_laws.specs.NamedFields.{field_named, place_of_name}
-use Rattle.pkg_core.specs.Whole.{package_id}
+use Rattle.make_core.specs.pkg_core.Whole.{package_id}
 
 -- ---- values without zeros
 

@@ -17,9 +17,9 @@ use Rattle.dep_core.specs.Dependency.{Dependency, is_package_name}
 use Rattle.dep_core.specs.Reading.{dependency_of}
 use Rattle.dep_core.specs.Spelling.{SpellsDependency}
 use Rattle.version_core.specs.Order.{is_version}
-use Rattle.make_info.specs.declared.field.Field.{Field}
-use Rattle.make_info.specs.declared.field.Field.TheVariants as Fields
-use Rattle.make_info.specs.Fields.{FieldValue, text, number, need, and_needs, decimal_number, if_untagged, is_nonempty, kind_of_field, need_in, needs_in, nonempty_parts, text_if, text_values, value_of_digits, values_by_kind}
+use Rattle.make_core.specs.make_info.declared.field.Field.{Field}
+use Rattle.make_core.specs.make_info.declared.field.Field.TheVariants as Fields
+use Rattle.make_core.specs.make_info.Fields.{FieldValue, text, number, need, and_needs, decimal_number, if_untagged, is_nonempty, kind_of_field, need_in, needs_in, nonempty_parts, text_if, text_values, value_of_digits, values_by_kind}
 use Rattle.make_laws.specs.OptionGrammar.{SaysNeeds, SaysNumber, SaysOfField, SaysText, SpellNeeds, SpellsBytes, SpellsNumber, spaced_parts}
 
 -- ---- texts

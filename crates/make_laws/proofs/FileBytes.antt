@@ -5,15 +5,15 @@ use Rattle.std.proofs.lemmas.Bool.{and_parts, eq-eqb, ne_eqb, not-true, and_from
 use Rattle.std.proofs.lemmas.List.{length-append, take-append-drop}
 use Rattle.std.proofs.lemmas.Slice.Eq.{bytes_eq-Decides}
 use Rattle.sha2.specs.Sha256.{sha256}
-use Rattle.make_package.proofs.FileFields.{kind_by}
+use Rattle.make_core.proofs.make_package.FileFields.{kind_by}
 use Rattle.adb_view.specs.Values.{int_in}
 use Rattle.adb_view.specs.declared.tables.Which.TheVariants.{File}
 use Rattle.adb_view.proofs.ValueEntries.{nth_obj}
 use Rattle.adb_view.specs.Plain.{blob_or_null, null}
-use Rattle.make_info.specs.Values.{size_value}
-use Rattle.package_files.specs.Package.{file_fields, hash_of_kind, is_link_file, kind_of_file, link_text, size_of_kind, target_of_kind, value_of_file}
-use Rattle.package_files.specs.declared.file.FileKind.{FileKind}
-use Rattle.package_files.specs.declared.file.FileKind.TheVariants.{Link, Regular}
+use Rattle.make_core.specs.make_info.Values.{size_value}
+use Rattle.make_core.specs.package_files.Package.{file_fields, hash_of_kind, is_link_file, kind_of_file, link_text, size_of_kind, target_of_kind, value_of_file}
+use Rattle.make_core.specs.package_files.declared.file.FileKind.{FileKind}
+use Rattle.make_core.specs.package_files.declared.file.FileKind.TheVariants.{Link, Regular}
 use Rattle.make_core.proofs.PackageFiles.{int-size_value}
 use Rattle.make_laws.specs.NamedFields.{field_named}
 use Rattle.make_laws.specs.SourceBytes.{IsLinkTo, IsNoLink}

@@ -3,18 +3,18 @@ use Rattle.command_core.specs.declared.values.TheConstants.{FILES}
 use Rattle.std.proofs.Common.{◌≡◌, inl, inr, ℕ, Bool, true, false, if◌then◌else◌, List, [], ◌∷◌, ◌++◌, length, map, Ok, refl, ap, sym, subst, ◌∙◌}
 use Rattle.std.specs.Prelude.{Any, Contains}
 use Rattle.std.proofs.lemmas.Bool.{eqb-true}
-use Rattle.adb_fields.specs.FirstPair.{IsIn}
-use Rattle.adb_fields.proofs.Members.{contains-from_in, from-map, in-from_index, in-map}
-use Rattle.adb_fields.specs.Repeated.{folders_in, name_of}
+use Rattle.make_core.specs.adb_fields.FirstPair.{IsIn}
+use Rattle.make_core.proofs.adb_fields.Members.{contains-from_in, from-map, in-from_index, in-map}
+use Rattle.make_core.specs.adb_fields.Repeated.{folders_in, name_of}
 use Rattle.adb_view.specs.Plain.{Plain}
 use Rattle.base_core.specs.Files.{IsFolderOf}
 use Rattle.command_core.specs.Command.{CommandLine}
 use Rattle.command_core.specs.Files.{without_dot}
 use Rattle.command_core.specs.declared.values.OptionValue.{OptionValue}
-use Rattle.make_info.specs.Reads.{Reads}
-use Rattle.package_files.specs.Folders.{before_slashes, all_folders_above, folders_of, folders_above, is_slash, listing_of, path_below}
-use Rattle.package_files.specs.Package.{SourceFolder}
-use Rattle.package_files.specs.Sources.{AreNamesFor, folders_below, values_with}
+use Rattle.make_core.specs.make_info.Reads.{Reads}
+use Rattle.make_core.specs.package_files.Folders.{before_slashes, all_folders_above, folders_of, folders_above, is_slash, listing_of, path_below}
+use Rattle.make_core.specs.package_files.Package.{SourceFolder}
+use Rattle.make_core.specs.package_files.Sources.{AreNamesFor, folders_below, values_with}
 use Rattle.make_core.specs.FilesBelow.{name_below}
 use Rattle.make_core.proofs.ListedNames.{AreListed, below_is, listed_in}
 use Rattle.make_core.proofs.SoundPackage.{are_listed}

@@ -1,22 +1,22 @@
 -- Of what a package is made, by what is read back of it.
 use Rattle.command_core.specs.declared.values.TheConstants.{FILES, SCRIPT, TRIGGER}
 use Rattle.std.proofs.Common.{◌≡◌, ℕ, ◌^◌, ◌<◌, List, [], ◌∷◌, length, map, Ok, refl, ap, sym, ◌∙◌}
-use Rattle.adb_fields.specs.Repeated.{folders_in, list_of}
-use Rattle.adb_sound.specs.Container.{package_by}
+use Rattle.make_core.specs.adb_fields.Repeated.{folders_in, list_of}
+use Rattle.make_core.specs.adb_sound.Container.{package_by}
 use Rattle.adb_view.specs.Values.{entries_in, entry_in, text_in}
 use Rattle.adb_view.proofs.ValueEntries.{entries_arr, nth_obj, text_blob}
 use Rattle.adb_view.specs.Plain.{Plain, blob_or_null}
 use Rattle.command_core.specs.Command.{CommandLine}
-use Rattle.make_info.specs.Information.{InfoItem, information_value, information, replaces_priority}
-use Rattle.make_info.specs.Reads.{Reads}
-use Rattle.make_info.specs.Values.{number_value, plains_of_list}
-use Rattle.make_package.specs.Making.{made_package, or_info_bad}
-use Rattle.package_files.specs.Package.{Script, SourceFolder, contents_of_folders, installed_size, package_fields, value_of_folder, value_of_package, value_of_scripts}
-use Rattle.package_files.specs.Sources.{AreNamesFor, folders_below, and_then, scripts_from, texts_of, values_with}
+use Rattle.make_core.specs.make_info.Information.{InfoItem, information_value, information, replaces_priority}
+use Rattle.make_core.specs.make_info.Reads.{Reads}
+use Rattle.make_core.specs.make_info.Values.{number_value, plains_of_list}
+use Rattle.make_core.specs.make_package.Making.{made_package, or_info_bad}
+use Rattle.make_core.specs.package_files.Package.{Script, SourceFolder, contents_of_folders, installed_size, package_fields, value_of_folder, value_of_package, value_of_scripts}
+use Rattle.make_core.specs.package_files.Sources.{AreNamesFor, folders_below, and_then, scripts_from, texts_of, values_with}
 use Rattle.make_core.specs.ReadBack.{packed_of_parts, packed_package}
 use Rattle.make_core.proofs.ListedNames.{after_ok}
 use Rattle.make_core.proofs.PackageFiles.{folders_stand, list-plains}
-use Rattle.pkg_core.specs.Whole.{Packed, package_with_contents}
+use Rattle.make_core.specs.pkg_core.Whole.{Packed, package_with_contents}
 use Rattle.make_laws.specs.MadePackages.{HasTriggersInOrder, IsMadePackage, contained_package}
 
 -- what a package that is made is read back as

@@ -9,19 +9,19 @@ use Rattle.std.specs.declared.cmp.Ordering.TheVariants.{Less, Equal}
 use Rattle.std.specs.List.{flat_map}
 use Rattle.std.proofs.lemmas.List.Elements.{All-cons, All-nil}
 use Rattle.std.proofs.lemmas.List.Kept.{AllPairs-cons}
-use Rattle.adb_fields.specs.FirstPair.{IsIn}
-use Rattle.adb_fields.proofs.Members.{from-map}
-use Rattle.adb_fields.specs.Paths.{path_of}
-use Rattle.adb_fields.specs.Repeated.{files_in, name_of}
+use Rattle.make_core.specs.adb_fields.FirstPair.{IsIn}
+use Rattle.make_core.proofs.adb_fields.Members.{from-map}
+use Rattle.make_core.specs.adb_fields.Paths.{path_of}
+use Rattle.make_core.specs.adb_fields.Repeated.{files_in, name_of}
 use Rattle.adb_view.specs.Plain.{Plain}
 use Rattle.base_core.specs.Listed.{IsRising}
 use Rattle.command_core.specs.Command.{CommandLine}
 use Rattle.command_core.specs.Files.{without_dot}
 use Rattle.command_core.specs.declared.values.OptionValue.{OptionValue}
-use Rattle.make_info.specs.Reads.{Reads}
-use Rattle.package_files.specs.Folders.{FolderListing, all_folders_above, folders_of, folders_above, last_part_of, listing_of, names_in_folder, path_below}
-use Rattle.package_files.specs.Package.{Source, SourceFolder, kind_of_file, value_of_file, value_of_folder}
-use Rattle.package_files.specs.Sources.{AreNamesFor, file_at, folder_at, folders_below, found_at, source_folders_from, sources_from, values_with}
+use Rattle.make_core.specs.make_info.Reads.{Reads}
+use Rattle.make_core.specs.package_files.Folders.{FolderListing, all_folders_above, folders_of, folders_above, last_part_of, listing_of, names_in_folder, path_below}
+use Rattle.make_core.specs.package_files.Package.{Source, SourceFolder, kind_of_file, value_of_file, value_of_folder}
+use Rattle.make_core.specs.package_files.Sources.{AreNamesFor, file_at, folder_at, folders_below, found_at, source_folders_from, sources_from, values_with}
 use Rattle.make_core.proofs.Apart.{Rises, cmp, in_order_rises, rises_from_pairs}
 use Rattle.make_core.proofs.ListedNames.{AllOf, AreListed, after_ok, each_read, filter_in, listed_in, recovered, stands_in}
 use Rattle.make_core.proofs.PackageFiles.{files_stand, folder_name_stands, name_stands}

@@ -8,10 +8,10 @@ use Rattle.std.proofs.lemmas.List.{drop_at, length-append, take_at}
 use Rattle.std.proofs.lemmas.List.Quantifiers.{position-Some}
 use Rattle.std.proofs.lemmas.Slice.Eq.{bytes_eq-Decides}
 use Rattle.command_core.specs.Values.{script_file, script_type}
-use Rattle.make_info.specs.declared.field.Field.{Field}
-use Rattle.make_info.specs.declared.field.Field.TheVariants as Fields
-use Rattle.make_info.specs.Fields.{field_of, field_word, fields}
-use Rattle.make_info.specs.FieldTexts.{FieldText, field_text_from, field_text_in}
+use Rattle.make_core.specs.make_info.declared.field.Field.{Field}
+use Rattle.make_core.specs.make_info.declared.field.Field.TheVariants as Fields
+use Rattle.make_core.specs.make_info.Fields.{field_of, field_word, fields}
+use Rattle.make_core.specs.make_info.FieldTexts.{FieldText, field_text_from, field_text_in}
 use Rattle.make_laws.specs.OptionGrammar.{option_text}
 
 abbrev is_colon : ℕ → Bool

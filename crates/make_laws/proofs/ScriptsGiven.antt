@@ -1,16 +1,16 @@
 -- The scripts of a package are those that options give.
 use Rattle.std.proofs.Common.{◌≡◌, inl, inr, ℕ, Bool, true, false, if◌then◌else◌, List, [], ◌∷◌, bytes_eq, Some, Ok, refl, ap, sym, subst, ◌∙◌}
 use Rattle.std.proofs.lemmas.Slice.Eq.{bytes_eq-Decides}
-use Rattle.adb_fields.specs.FirstPair.{IsIn}
+use Rattle.make_core.specs.adb_fields.FirstPair.{IsIn}
 use Rattle.adb_view.proofs.ValueEntries.{nth_obj}
 use Rattle.adb_view.specs.declared.tables.Which.TheVariants.{Scripts}
 use Rattle.adb_view.specs.Plain.{Plain, blob_or_null}
 use Rattle.command_core.specs.Files.{without_dot}
 use Rattle.command_core.specs.Values.{script_file, script_type, script_types}
 use Rattle.command_core.specs.declared.values.OptionValue.{OptionValue}
-use Rattle.make_info.specs.Reads.{Reads}
-use Rattle.package_files.specs.Package.{Script, script_fields, script_in, value_of_scripts}
-use Rattle.package_files.specs.Sources.{found_at, script_at, script_with, scripts_from}
+use Rattle.make_core.specs.make_info.Reads.{Reads}
+use Rattle.make_core.specs.package_files.Package.{Script, script_fields, script_in, value_of_scripts}
+use Rattle.make_core.specs.package_files.Sources.{found_at, script_at, script_with, scripts_from}
 use Rattle.make_core.proofs.ListedNames.{AllOf, after_ok, each_read}
 use Rattle.make_core.proofs.PackageFolder.{found_is}
 use Rattle.make_laws.specs.NamedFields.{field_named}

@@ -4,13 +4,13 @@ use Rattle.std.specs.Prelude.{sum_by}
 use Rattle.std.specs.List.{flat_map}
 use Rattle.std.proofs.lemmas.List.Concat.{flat_map-cons}
 use Rattle.std.proofs.lemmas.List.Sums.{sum_by-append, sum_by-cons}
-use Rattle.adb_fields.specs.Repeated.{files_in}
+use Rattle.make_core.specs.adb_fields.Repeated.{files_in}
 use Rattle.adb_view.specs.Values.{int_in}
 use Rattle.adb_view.specs.declared.tables.Which.TheVariants.{PkgInfo}
 use Rattle.adb_view.proofs.ValueEntries.{nth_obj}
 use Rattle.adb_view.specs.Plain.{Plain}
-use Rattle.make_info.specs.Information.{InfoItem, information_fields, information_value}
-use Rattle.package_files.specs.Package.{Source, SourceFolder, installed_size, kind_of_file, size_of_folder, size_of_kind, value_of_file, value_of_folder}
+use Rattle.make_core.specs.make_info.Information.{InfoItem, information_fields, information_value}
+use Rattle.make_core.specs.package_files.Package.{Source, SourceFolder, installed_size, kind_of_file, size_of_folder, size_of_kind, value_of_file, value_of_folder}
 use Rattle.make_core.proofs.PackageFiles.{files_stand, int-size_value, size_stands}
 use Rattle.make_laws.specs.MadePackages.{listed_file_size}
 use Rattle.make_laws.specs.NamedFields.{field_named}

@@ -4,17 +4,17 @@ use Rattle.std.specs.Prelude.{is_some}
 use Rattle.std.specs.List.{list_any}
 use Rattle.std.proofs.lemmas.Slice.Eq.{bytes_eq-Decides}
 use Rattle.std.proofs.lemmas.Bool.{or_parts}
-use Rattle.adb_fields.specs.FirstPair.{IsIn}
+use Rattle.make_core.specs.adb_fields.FirstPair.{IsIn}
 use Rattle.command_core.specs.declared.values.OptionValue.{OptionValue}
 use Rattle.dep_core.specs.Dependency.{Dependency}
 use Rattle.dep_core.specs.Reading.{dependency_of}
 use Rattle.dep_core.specs.Spelling.{SpellsDependency}
-use Rattle.make_info.specs.declared.field.Field.{Field}
-use Rattle.make_info.specs.declared.field.Field.TheVariants as Fields
-use Rattle.make_info.specs.Fields.{FieldValue, field_word, kind_of_field, may_repeat, values_by_kind}
-use Rattle.make_info.specs.FieldTexts.{FieldText, field_text_in, is_for, is_same, is_text_for}
-use Rattle.make_info.specs.Information.{items_of_text, offends, repeats_field, with_values}
-use Rattle.make_info.proofs.Reading.{same_field}
+use Rattle.make_core.specs.make_info.declared.field.Field.{Field}
+use Rattle.make_core.specs.make_info.declared.field.Field.TheVariants as Fields
+use Rattle.make_core.specs.make_info.Fields.{FieldValue, field_word, kind_of_field, may_repeat, values_by_kind}
+use Rattle.make_core.specs.make_info.FieldTexts.{FieldText, field_text_in, is_for, is_same, is_text_for}
+use Rattle.make_core.specs.make_info.Information.{items_of_text, offends, repeats_field, with_values}
+use Rattle.make_core.proofs.make_info.Reading.{same_field}
 use Rattle.make_laws.specs.OptionGrammar.{IsGivenFor, IsTakenOption, is_list_field, option_text}
 use Rattle.make_laws.proofs.FieldValues.{says_from, says_to}
 use Rattle.make_laws.proofs.OptionTexts.{given, text_is}

@@ -4,7 +4,7 @@ use Rattle.std.specs.Prelude.{is_some, unwrap_or}
 use Rattle.std.specs.List.{filter, find}
 use Rattle.std.proofs.lemmas.List.Concat.{flat_map-cons}
 use Rattle.std.proofs.lemmas.Slice.Eq.{bytes_eq-Decides}
-use Rattle.adb_fields.specs.Repeated.{list_of}
+use Rattle.make_core.specs.adb_fields.Repeated.{list_of}
 use Rattle.adb_view.specs.Values.{entries_in}
 use Rattle.adb_view.specs.declared.tables.Which.TheVariants.{PkgInfo}
 use Rattle.adb_view.proofs.ValueEntries.{entries_arr, nth_obj}
@@ -13,13 +13,13 @@ use Rattle.command_core.specs.declared.values.OptionValue.{OptionValue}
 use Rattle.dep_core.specs.Dependency.{Dependency}
 use Rattle.dep_core.specs.Reading.{dependency_of}
 use Rattle.dep_core.specs.Spelling.{SpellsDependency}
-use Rattle.make_info.specs.declared.field.Field.{Field}
-use Rattle.make_info.specs.declared.field.Field.TheVariants as Fields
-use Rattle.make_info.specs.Fields.{FieldValue, text, number, need, field_word, kind_of_field, values_by_kind}
-use Rattle.make_info.specs.FieldTexts.{FieldText, field_text_in, is_same, is_too_long, values_of_info}
-use Rattle.make_info.specs.Information.{InfoItem, all_items, first_offence, info_item, information_fields, information_of, information_value, is_item_for, item_value, items_of_option, items_of_text, lacks_name_or_version, number_in, offends, plain_value, plains_for, replaces_priority, unless_offence, value_of_list, value_of_single, with_values}
-use Rattle.make_info.specs.Values.{number_value}
-use Rattle.make_info.proofs.Reading.{same_field}
+use Rattle.make_core.specs.make_info.declared.field.Field.{Field}
+use Rattle.make_core.specs.make_info.declared.field.Field.TheVariants as Fields
+use Rattle.make_core.specs.make_info.Fields.{FieldValue, text, number, need, field_word, kind_of_field, values_by_kind}
+use Rattle.make_core.specs.make_info.FieldTexts.{FieldText, field_text_in, is_same, is_too_long, values_of_info}
+use Rattle.make_core.specs.make_info.Information.{InfoItem, all_items, first_offence, info_item, information_fields, information_of, information_value, is_item_for, item_value, items_of_option, items_of_text, lacks_name_or_version, number_in, offends, plain_value, plains_for, replaces_priority, unless_offence, value_of_list, value_of_single, with_values}
+use Rattle.make_core.specs.make_info.Values.{number_value}
+use Rattle.make_core.proofs.make_info.Reading.{same_field}
 use Rattle.make_laws.specs.NamedFields.{field_named}
 use Rattle.make_laws.specs.OptionGrammar.{IsGivenFor, SaysOfField, option_text}
 use Rattle.make_laws.specs.SaidOfFields.{SayOfField, SaysOfOne, HasAllValues, HasFirstValue, HasValuesOfField}

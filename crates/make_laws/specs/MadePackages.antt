@@ -4,9 +4,9 @@
 use Rattle.command_core.specs.declared.values.TheConstants.{FILES, TRIGGER}
 use Rattle.std.specs.Prelude.{◌≡◌, ◌↔◌, ◌⊎◌, ◌==◌, ℕ, ◌+◌, ◌*◌, ◌^◌, ◌<◌, List, [], length, map, codes, sum_by, Ok, All}
 use Rattle.std.specs.List.{filter, flat_map}
-use Rattle.adb_fields.specs.FirstPair.{IsIn}
-use Rattle.adb_fields.specs.Repeated.{files_in, folders_in, name_of}
-use Rattle.adb_schema.specs.Soundness.{payload_in, root_value}
+use Rattle.make_core.specs.adb_fields.FirstPair.{IsIn}
+use Rattle.make_core.specs.adb_fields.Repeated.{files_in, folders_in, name_of}
+use Rattle.make_core.specs.adb_schema.Soundness.{payload_in, root_value}
 use Rattle.adb_view.specs.Values.{int_in, text_in}
 use Rattle.adb_view.specs.declared.tables.Which.TheVariants.{Dir, File, Package, PkgInfo}
 use Rattle.adb_view.specs.Plain.{Plain}
@@ -15,9 +15,9 @@ use Rattle.base_core.specs.Listed.{IsRising}
 use Rattle.command_core.specs.Command.{CommandLine}
 use Rattle.command_core.specs.declared.values.OptionValue.{OptionValue}
 use Rattle.make_core.specs.FilesBelow.{name_below}
-use Rattle.make_info.specs.Reads.{Reads}
-use Rattle.make_package.specs.Making.{made_package}
-use Rattle.package_files.specs.Sources.{AreNamesFor, values_with}
+use Rattle.make_core.specs.make_info.Reads.{Reads}
+use Rattle.make_core.specs.make_package.Making.{made_package}
+use Rattle.make_core.specs.package_files.Sources.{AreNamesFor, values_with}
 use Rattle.make_laws.specs.NamedFields.{IsAccessOfRoot, entries_named, field_named}
 
 -- `mkpkg` makes these bytes, fewer than 2^64, from names below the given folder

@@ -3,7 +3,7 @@
 -- of a field.
 use Rattle.std.specs.Prelude.{◌≡◌, ℕ, suc, List, [], ◌∷◌, codes, if◌then◌else◌}
 use Rattle.std.specs.Str.{bytes_eq}
-use Rattle.adb_fields.specs.Repeated.{list_of}
+use Rattle.make_core.specs.adb_fields.Repeated.{list_of}
 use Rattle.adb_view.specs.Schema.{field_name_text, table}
 use Rattle.adb_view.specs.Values.{entries_in, entry_in}
 use Rattle.adb_view.specs.declared.tables.Field.{Field}

@@ -5,14 +5,14 @@ use Rattle.std.specs.Prelude.{◌≡◌, ◌≢◌, ℕ, ◌*◌, ◌+◌, ◌^�
 use Rattle.std.specs.Fmt.{decimal}
 use Rattle.std.specs.List.{filter, slice_split}
 use Rattle.hex.specs.Hex.{hex_digit_value}
-use Rattle.adb_fields.specs.FirstPair.{IsIn}
+use Rattle.make_core.specs.adb_fields.FirstPair.{IsIn}
 use Rattle.command_core.specs.declared.values.OptionValue.{OptionValue}
 use Rattle.dep_core.specs.Dependency.{is_package_name}
 use Rattle.dep_core.specs.Spelling.{SpellsDependency}
 use Rattle.version_core.specs.Order.{is_version}
-use Rattle.make_info.specs.declared.field.Field.{Field}
-use Rattle.make_info.specs.declared.field.Field.TheVariants as Fields
-use Rattle.make_info.specs.Fields.{FieldValue, text, number, need, field_word}
+use Rattle.make_core.specs.make_info.declared.field.Field.{Field}
+use Rattle.make_core.specs.make_info.declared.field.Field.TheVariants as Fields
+use Rattle.make_core.specs.make_info.Fields.{FieldValue, text, number, need, field_word}
 
 -- the text of a value of `-I`: FIELD:VALUE, with a colon (58) between them
 abbrev pub option_text : Field → List ℕ → List ℕ

@@ -5,15 +5,15 @@
 use Rattle.command_core.specs.declared.values.TheConstants.{INFO}
 use Rattle.std.specs.Prelude.{◌≡◌, ◌⊎◌, ◌==◌, List, [], ◌∷◌, ◌++◌, map, Bool, true, false}
 use Rattle.std.specs.List.{filter}
-use Rattle.adb_fields.specs.Repeated.{list_of}
+use Rattle.make_core.specs.adb_fields.Repeated.{list_of}
 use Rattle.adb_view.specs.Values.{entries_in}
 use Rattle.adb_view.specs.declared.tables.Which.TheVariants.{Package, PkgInfo}
 use Rattle.adb_view.specs.Plain.{Plain, null}
 use Rattle.command_core.specs.declared.values.OptionValue.{OptionValue}
-use Rattle.make_info.specs.declared.field.Field.{Field}
-use Rattle.make_info.specs.declared.field.Field.TheVariants as Fields
-use Rattle.make_info.specs.Fields.{FieldValue, field_word}
-use Rattle.make_info.specs.Information.{plain_value}
+use Rattle.make_core.specs.make_info.declared.field.Field.{Field}
+use Rattle.make_core.specs.make_info.declared.field.Field.TheVariants as Fields
+use Rattle.make_core.specs.make_info.Fields.{FieldValue, field_word}
+use Rattle.make_core.specs.make_info.Information.{plain_value}
 use Rattle.make_laws.specs.NamedFields.{field_named}
 use Rattle.make_laws.specs.OptionGrammar.{IsGivenFor, SaysOfField, is_list_field, option_text}
 use Rattle.std.specs.Prelude.{ℕ, codes}

@@ -2,13 +2,13 @@
 -- The rule is in `docs/commands.md`, "`mkpkg`": TYPE of `-s`, and FILE is read whole. Serves
 -- the law `a_made_package_has_its_scripts`.
 use Rattle.std.specs.Prelude.{◌≡◌, ◌⊎◌, ℕ, List, Some}
-use Rattle.adb_fields.specs.FirstPair.{IsIn}
+use Rattle.make_core.specs.adb_fields.FirstPair.{IsIn}
 use Rattle.adb_view.specs.declared.tables.Which.TheVariants.{Package, Scripts}
 use Rattle.adb_view.specs.Plain.{Plain, null, blob_or_null}
 use Rattle.command_core.specs.Files.{without_dot}
 use Rattle.command_core.specs.Values.{script_file, script_type}
 use Rattle.command_core.specs.declared.values.OptionValue.{OptionValue}
-use Rattle.make_info.specs.Reads.{Reads}
+use Rattle.make_core.specs.make_info.Reads.{Reads}
 use Rattle.make_laws.specs.NamedFields.{field_named}
 use Rattle.std.specs.Prelude.{codes}
 

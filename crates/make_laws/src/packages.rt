@@ -1,24 +1,23 @@
 //! The contents of a package that was made: laws over the definitions of `make_package`.
 //! The rules are in `docs/commands.md`, "`mkpkg`": the paragraph on `-F DIR`, and the options
 //! `-I`, `-s` and `-t`.
-ghost use Rattle.adb_fields.specs.FirstPair.{IsIn};
-ghost use Rattle.adb_fields.specs.Repeated.{folders_in};
+ghost use Rattle.make_core.specs.adb_fields.FirstPair.{IsIn};
+ghost use Rattle.make_core.specs.adb_fields.Repeated.{folders_in};
 ghost use Rattle.command_core.specs.Command.{CommandLine};
 ghost use Rattle.command_core.specs.Files.{without_dot};
 ghost use Rattle.command_core.specs.Values.{script_types};
 ghost use Rattle.command_core.specs.declared.values.OptionValue.{OptionValue};
 ghost use Rattle.command_core.specs.declared.values.TheConstants.{FILES, SCRIPT};
-ghost use Rattle.make_info.specs.declared.field.Field.{Field};
-ghost use Rattle.make_info.specs.Reads.{Reads};
-ghost use Rattle.package_files.specs.Sources.{values_with};
+ghost use Rattle.make_core.specs.make_info.declared.field.Field.{Field};
+ghost use Rattle.make_core.specs.make_info.Reads.{Reads};
+ghost use Rattle.make_core.specs.package_files.Sources.{values_with};
 ghost use Rattle.make_laws.specs.MadePackages.{HasJustFoldersAbove, HasSizeOfFiles, HasTriggersInOrder, IsEnterableFolder, IsInByteOrder, IsMadePackage, contained_package};
 ghost use Rattle.make_laws.specs.SaidOfFields.{HasValuesOfOptions};
 ghost use Rattle.make_laws.specs.ScriptFiles.{IsScriptGiven, script_named};
 ghost use Rattle.std.specs.Prelude.{◌≡◌, ◌∷◌, ℕ, All, List};
 
 use dep_core::{read_texts_are_spelled, spelled_texts_are_read};
-use make_core::a_made_package_is_read_back;
-use make_package::each_name_is_in_one_folder;
+use make_core::{a_made_package_is_read_back, each_name_is_in_one_folder};
 
 /// The folders of a package that was made are in byte order, each once, and so are the files of
 /// each folder.

@@ -3,7 +3,7 @@
 //! `make_index`.
 //! The rules are in `docs/commands.md`, "`mkpkg`" (the table of fields) and "`mkndx PACKAGE..`";
 //! the names of fields in `docs/formats.md`, "Schemas".
-ghost use Rattle.adb_copy.specs.Zeros.{without_zeros};
+ghost use Rattle.make_core.specs.adb_copy.Zeros.{without_zeros};
 ghost use Rattle.adb_view.specs.Values.{entry_in, int_in, text_in};
 ghost use Rattle.adb_view.specs.declared.tables.Which.TheVariants.{Dep, File, Index, Package, PkgInfo};
 ghost use Rattle.adb_view.specs.Plain.{Plain, arr_value, blob_or_null, int, null};
@@ -11,19 +11,19 @@ ghost use Rattle.command_core.specs.Values.{script_file, script_type};
 ghost use Rattle.command_core.specs.declared.values.OptionValue.{OptionValue};
 ghost use Rattle.dep_core.specs.Dependency.{Dependency};
 ghost use Rattle.dep_core.specs.Value.{dep_value};
-ghost use Rattle.make_index.specs.Entries.{entry_of_package};
-ghost use Rattle.make_index.specs.Index.{value_of_index};
-ghost use Rattle.make_info.specs.FieldTexts.{field_text_in};
-ghost use Rattle.make_info.specs.Fields.{FieldValue, kind_of_field, values_by_kind, text, number, need};
-ghost use Rattle.make_info.specs.Information.{offends, plain_value};
-ghost use Rattle.make_info.specs.Values.{number_value, plains_of_list};
-ghost use Rattle.make_info.specs.declared.field.Field.{Field};
+ghost use Rattle.make_core.specs.make_index.Entries.{entry_of_package};
+ghost use Rattle.make_core.specs.make_index.Index.{value_of_index};
+ghost use Rattle.make_core.specs.make_info.FieldTexts.{field_text_in};
+ghost use Rattle.make_core.specs.make_info.Fields.{FieldValue, kind_of_field, values_by_kind, text, number, need};
+ghost use Rattle.make_core.specs.make_info.Information.{offends, plain_value};
+ghost use Rattle.make_core.specs.make_info.Values.{number_value, plains_of_list};
+ghost use Rattle.make_core.specs.make_info.declared.field.Field.{Field};
 ghost use Rattle.make_laws.specs.MadePackages.{contained_package};
 ghost use Rattle.make_laws.specs.NamedFields.{field_named};
 ghost use Rattle.make_laws.specs.OptionGrammar.{IsTakenOption, SaysOfField, option_text};
 ghost use Rattle.make_laws.specs.SourceBytes.{IsLinkTo, IsNoLink};
-ghost use Rattle.package_files.specs.Package.{value_of_file};
-ghost use Rattle.pkg_core.specs.Whole.{package_id};
+ghost use Rattle.make_core.specs.package_files.Package.{value_of_file};
+ghost use Rattle.make_core.specs.pkg_core.Whole.{package_id};
 ghost use Rattle.sha2.specs.Sha256.{sha256};
 ghost use Rattle.std.specs.List.{list_any};
 ghost use Rattle.std.specs.Prelude.{◌≡◌, ◌↔◌, ◌==◌, ◌++◌, ◌∷◌, ℕ, Bool, false, List, Some, ◌≢◌, codes, length};

@@ -4,8 +4,8 @@ use Rattle.std.specs.Prelude.{sum_by}
 use Rattle.std.proofs.lemmas.Bool.{ltb-false}
 use Rattle.std.proofs.lemmas.List.Sums.{sum_by-cons}
 use Rattle.sha2.specs.Sha256.{sha256}
-use Rattle.pkg_core.specs.Contents.{Contents}
-use Rattle.adb_sound.specs.Contents.{contents_size}
+use Rattle.package_files.specs.pkg_core.Contents.{Contents}
+use Rattle.package_files.specs.adb_sound.Contents.{contents_size}
 use Rattle.package_files.specs.Package.{Source, SourceFolder, contents_of_file, contents_of_files, contents_of_folders, has_contents, installed_size, is_link_file, kind_of_file, link_text, size_of_folder, size_of_kind}
 use Rattle.package_files.specs.declared.file.FileKind.{FileKind}
 use Rattle.package_files.specs.declared.file.FileKind.TheVariants.{Link, Regular}

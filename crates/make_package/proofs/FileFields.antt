@@ -4,8 +4,8 @@ use Rattle.sha2.specs.Sha256.{sha256}
 use Rattle.adb_view.specs.Schema.{table}
 use Rattle.adb_view.specs.declared.tables.Which.TheVariants.{File}
 use Rattle.adb_view.specs.Plain.{Plain, blob_or_null, null}
-use Rattle.make_info.specs.Named.{value_by_name}
-use Rattle.make_info.specs.Values.{size_value}
+use Rattle.package_files.specs.make_info.Named.{value_by_name}
+use Rattle.package_files.specs.make_info.Values.{size_value}
 use Rattle.package_files.specs.Package.{file_fields, hash_of_kind, is_link_file, kind_of_file, link_text, size_of_kind, target_of_kind}
 use Rattle.package_files.specs.declared.file.FileKind.{FileKind}
 use Rattle.package_files.specs.declared.file.FileKind.TheVariants.{Link, Regular}

@@ -14,10 +14,10 @@ use Rattle.std.proofs.lemmas.List.Sums.{sum_by-cons}
 use Rattle.adb_block.specs.Piece.{Piece}
 use Rattle.adb_block.specs.Written.{block_bytes}
 use Rattle.adb_view.specs.Plain.{Plain}
-use Rattle.adb_schema.specs.declared.read.TheConstants.{PACKAGE_WORD}
-use Rattle.adb_write.specs.Canonical.{PayloadCounts, canonical, or_overflow, overflow_of, written_of}
-use Rattle.adb_write.specs.File.{adb_piece, file_of}
-use Rattle.pkg_core.specs.Contents.{Contents}
+use Rattle.package_files.specs.adb_schema.declared.read.TheConstants.{PACKAGE_WORD}
+use Rattle.package_files.specs.adb_write.Canonical.{PayloadCounts, canonical, or_overflow, overflow_of, written_of}
+use Rattle.package_files.specs.adb_write.File.{adb_piece, file_of}
+use Rattle.package_files.specs.pkg_core.Contents.{Contents}
 use Rattle.command_core.specs.Sound.{value_rules, IsCommand, are_apart, rule_for, is_value_by, are_values}
 use Rattle.command_core.specs.declared.values.ValueRule.{ValueRule}
 use Rattle.command_core.specs.Command.{CommandLine}
@@ -28,18 +28,18 @@ use Rattle.command_core.specs.declared.command.Applet.TheVariants.{Mkpkg}
 use Rattle.command_core.specs.declared.values.OptionValue.{OptionValue}
 use Rattle.command_core.proofs.Parts.{value_at}
 use Rattle.package_files.specs.Blocks.{contents_block, contents_blocks}
-use Rattle.make_info.specs.Faults.{IsOverflow}
-use Rattle.make_info.specs.Information.{InfoItem, information_value, replaces_priority}
-use Rattle.adb_sound.specs.Contents.{contents_size}
-use Rattle.adb_sound.specs.Container.{contents_piece, container_of}
+use Rattle.package_files.specs.make_info.Faults.{IsOverflow}
+use Rattle.package_files.specs.make_info.Information.{InfoItem, information_value, replaces_priority}
+use Rattle.package_files.specs.adb_sound.Contents.{contents_size}
+use Rattle.package_files.specs.adb_sound.Container.{contents_piece, container_of}
 use Rattle.make_package.specs.Answers.{IsBytes, IsFirstValue, IsNotDisk}
 use Rattle.make_package.specs.Making.{container_unless, package_container}
 use Rattle.package_files.specs.Package.{Script, Source, SourceFolder, contents_of_folders, value_of_file, value_of_folder, folder_with, installed_size, kind_of_file, value_of_kind, value_of_package, package_with, size_of_folder, size_of_kind}
 use Rattle.package_files.specs.Packed.{AreFilesFrom, AreFoldersFrom, ArePackedFolders, packed_file, packed_folder, files_size, packed_size}
 use Rattle.package_files.specs.Runs.{IsAnswer}
 use Rattle.package_files.specs.Sources.{values_with, texts_of}
-use Rattle.make_info.specs.declared.fault.MakeFault.{MakeFault}
-use Rattle.make_info.specs.declared.fault.MakeFault.TheVariants.{FileMissing, FileBad, InfoBad, TooLarge, Disk, Memory}
+use Rattle.package_files.specs.make_info.declared.fault.MakeFault.{MakeFault}
+use Rattle.package_files.specs.make_info.declared.fault.MakeFault.TheVariants.{FileMissing, FileBad, InfoBad, TooLarge, Disk, Memory}
 use Rattle.package_files.specs.declared.file.File.{File}
 use Rattle.package_files.specs.declared.file.Folder.{Folder}
 use Rattle.make_package.proofs.ContentSizes.{installed_total}

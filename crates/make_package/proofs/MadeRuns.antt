@@ -14,8 +14,8 @@ use Rattle.command_core.specs.Values.{script_file}
 use Rattle.command_core.specs.Files.{without_dot}
 use Rattle.command_core.specs.declared.values.OptionValue.{OptionValue}
 use Rattle.package_files.specs.Folders.{folders_of}
-use Rattle.make_info.specs.Faults.{IsInfoFault}
-use Rattle.make_info.specs.Information.{InfoItem, information}
+use Rattle.package_files.specs.make_info.Faults.{IsInfoFault}
+use Rattle.package_files.specs.make_info.Information.{InfoItem, information}
 use Rattle.make_package.specs.Answers.{IsBytes, IsCutOff, IsMadeRun, IsNotDisk, AreBelow}
 use Rattle.make_package.specs.Making.{made_package, or_info_bad, package_of_parts}
 use Rattle.package_files.specs.Package as packages
@@ -24,9 +24,9 @@ use Rattle.package_files.specs.Packed.{IsPacking}
 use Rattle.package_files.specs.Runs.{Explains, IsAnswer}
 use Rattle.make_package.specs.Scripts.{AreScripts, IsScript, script_view, scripts_view}
 use Rattle.package_files.specs.Sources.{AreNamesFor, and_then, each_from, folder_at, folders_below, source_folders_from, found_at, values_with, script_at, scripts_from}
-use Rattle.make_info.specs.Reads.{Reads}
-use Rattle.make_info.specs.declared.fault.MakeFault.{MakeFault}
-use Rattle.make_info.specs.declared.fault.MakeFault.TheVariants.{FileMissing, FileBad, InfoBad, TooLarge, Disk, Memory}
+use Rattle.package_files.specs.make_info.Reads.{Reads}
+use Rattle.package_files.specs.make_info.declared.fault.MakeFault.{MakeFault}
+use Rattle.package_files.specs.make_info.declared.fault.MakeFault.TheVariants.{FileMissing, FileBad, InfoBad, TooLarge, Disk, Memory}
 use Rattle.package_files.specs.declared.file.Packing.{Packing}
 use Rattle.make_package.specs.declared.writing.Script.{Script}
 use Rattle.make_package.proofs.MadeParts.{IsFolder, given_here}

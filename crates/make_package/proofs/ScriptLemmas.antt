@@ -7,8 +7,8 @@ use Rattle.package_files.specs.Package as packages
 use Rattle.package_files.specs.Runs.{IsAnswer}
 use Rattle.make_package.specs.Scripts.{IsScript}
 use Rattle.package_files.specs.Sources.{and_then, found_at, script_at}
-use Rattle.make_info.specs.Reads.{Reads}
-use Rattle.make_info.specs.declared.fault.MakeFault.{MakeFault}
+use Rattle.package_files.specs.make_info.Reads.{Reads}
+use Rattle.package_files.specs.make_info.declared.fault.MakeFault.{MakeFault}
 use Rattle.make_package.specs.declared.writing.Script.{Script}
 use Rattle.package_files.proofs.ReadLemmas.{fault_of_part}
 use Rattle.package_files.proofs.PackLemmas.{IsFound}

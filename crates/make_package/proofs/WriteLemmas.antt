@@ -7,9 +7,9 @@ use Rattle.adb_view.specs.Plain.{blob_or_null, Plains, more}
 use Rattle.command_core.specs.declared.values.OptionValue.{OptionValue}
 use Rattle.package_files.specs.Sources.{values_with, texts_of}
 use Rattle.std.proofs.lemmas.List.{take_more}
-use Rattle.adb_values.specs.Drafts.{DraftState, draft_with, draft_with_all}
-use Rattle.adb_values.proofs.Lists.{drop_at}
-use Rattle.make_info.specs.Values.{plains_of_list}
+use Rattle.package_files.specs.adb_values.Drafts.{DraftState, draft_with, draft_with_all}
+use Rattle.package_files.proofs.adb_values.Lists.{drop_at}
+use Rattle.package_files.specs.make_info.Values.{plains_of_list}
 
 -- ---- the values of an option
 

@@ -11,9 +11,9 @@ use Rattle.base_core.specs.Tree.{TreeState, files_of}
 use Rattle.command_core.specs.Command.{CommandLine}
 use Rattle.command_core.specs.Files.{without_dot}
 use Rattle.command_core.specs.declared.values.OptionValue.{OptionValue}
-use Rattle.make_info.specs.Reads.{Reads}
-use Rattle.make_info.specs.declared.fault.MakeFault.{MakeFault}
-use Rattle.make_info.specs.declared.fault.MakeFault.TheVariants.{Disk, Memory}
+use Rattle.package_files.specs.make_info.Reads.{Reads}
+use Rattle.package_files.specs.make_info.declared.fault.MakeFault.{MakeFault}
+use Rattle.package_files.specs.make_info.declared.fault.MakeFault.TheVariants.{Disk, Memory}
 use Rattle.make_package.specs.Making.{made_package}
 use Rattle.package_files.specs.Runs.{Explains}
 use Rattle.package_files.specs.Sources.{AreNamesFor, values_with}

@@ -5,15 +5,15 @@
 use Rattle.command_core.specs.declared.values.TheConstants.{FILES, SCRIPT, TRIGGER}
 use Rattle.std.specs.Prelude.{ℕ, List, length, Option, Some, None, Result, Ok, Err}
 use Rattle.adb_view.specs.Plain.{Plain}
-use Rattle.adb_schema.specs.declared.read.TheConstants.{PACKAGE_WORD}
-use Rattle.adb_write.specs.Canonical.{PayloadCounts, overflow_of}
-use Rattle.pkg_core.specs.Contents.{Contents}
+use Rattle.package_files.specs.adb_schema.declared.read.TheConstants.{PACKAGE_WORD}
+use Rattle.package_files.specs.adb_write.Canonical.{PayloadCounts, overflow_of}
+use Rattle.package_files.specs.pkg_core.Contents.{Contents}
 use Rattle.command_core.specs.Command.{CommandLine}
-use Rattle.adb_sound.specs.Container.{container_of}
-use Rattle.make_info.specs.Information.{InfoItem, information, information_value, replaces_priority}
-use Rattle.make_info.specs.Reads.{Reads}
-use Rattle.make_info.specs.declared.fault.MakeFault.{MakeFault}
-use Rattle.make_info.specs.declared.fault.MakeFault.TheVariants.{InfoBad, TooLarge}
+use Rattle.package_files.specs.adb_sound.Container.{container_of}
+use Rattle.package_files.specs.make_info.Information.{InfoItem, information, information_value, replaces_priority}
+use Rattle.package_files.specs.make_info.Reads.{Reads}
+use Rattle.package_files.specs.make_info.declared.fault.MakeFault.{MakeFault}
+use Rattle.package_files.specs.make_info.declared.fault.MakeFault.TheVariants.{InfoBad, TooLarge}
 use Rattle.package_files.specs.Package.{SourceFolder, Script, value_of_package, installed_size, contents_of_folders}
 use Rattle.package_files.specs.Sources.{and_then, values_with, texts_of, scripts_from, folders_below}
 

@@ -4,14 +4,14 @@
 //! `docs/DECISIONS.md`, "Making".
 ghost use Rattle.command_core.specs.declared.values.TheConstants.{TRIGGER};
 ghost use Rattle.std.specs.Prelude.{ℕ, ◌≡◌, ◌≤◌, ◌<◌, ◌^◌, ◌++◌, Ok, List, length, map, IfOk, IfErr};
-ghost use Rattle.adb_schema.specs.declared.read.TheConstants.{PACKAGE_WORD};
-ghost use Rattle.adb_write.specs.Canonical.{MOST_BYTES, written_of};
-ghost use Rattle.adb_write.specs.File.{file_of};
-ghost use Rattle.make_info.specs.Faults.{IsOverflow};
-ghost use Rattle.make_info.specs.Information.{information_value, replaces_priority};
+ghost use Rattle.package_files.specs.adb_schema.declared.read.TheConstants.{PACKAGE_WORD};
+ghost use Rattle.package_files.specs.adb_write.Canonical.{MOST_BYTES, written_of};
+ghost use Rattle.package_files.specs.adb_write.File.{file_of};
+ghost use Rattle.package_files.specs.make_info.Faults.{IsOverflow};
+ghost use Rattle.package_files.specs.make_info.Information.{information_value, replaces_priority};
 ghost use Rattle.make_package.specs.Answers.{IsBytes, IsNotDisk};
 ghost use Rattle.make_package.specs.Making.{package_of_parts};
-ghost use Rattle.adb_sound.specs.Contents.{contents_size};
+ghost use Rattle.package_files.specs.adb_sound.Contents.{contents_size};
 ghost use Rattle.package_files.specs.Package.{SourceFolder, contents_of_folders, installed_size, package_with};
 ghost use Rattle.package_files.specs.Packed.{IsPacking, files_size, packed_folder, packed_size};
 ghost use Rattle.package_files.specs.Runs.{IsAnswer};
@@ -19,12 +19,10 @@ ghost use Rattle.make_package.specs.Scripts.{scripts_view};
 ghost use Rattle.package_files.specs.Sources.{values_with, texts_of};
 
 use crate::writing::{Script, write_package};
-use adb_schema::PACKAGE_WORD;
-use adb_values::Draft;
-use adb_write::file_of;
 use command_core::{Command, Values};
-use make_info::{Information, MakeFault};
-use package_files::{File, Folder, Packing, put_in_front};
+use package_files::{
+    Draft, File, Folder, Information, MakeFault, PACKAGE_WORD, Packing, file_of, put_in_front,
+};
 use std::alloc::{AllocError, Global};
 
 /// The bytes of the package of a command, with this information (`about`), these files (`packing`)

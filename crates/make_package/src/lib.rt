@@ -19,4 +19,8 @@ pub use laws::{
     the_fields_of_a_file_are_those_of_its_bytes,
 };
 pub use making::make;
-pub use package_files::{FileKind, folder_of};
+pub use package_files::{
+    FileKind, a_container_of_a_good_value_is_sound,
+    a_package_of_a_good_value_and_its_contents_is_sound, contents_are_in_their_container,
+    folder_of, what_a_container_is_made_of_is_read_back,
+};

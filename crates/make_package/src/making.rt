@@ -9,11 +9,9 @@ ghost use Rattle.std.specs.Prelude.{◌≡◌};
 use crate::assembly::package;
 use crate::reading::{list_names, pack_below, read_scripts};
 use crate::writing::Script;
-use adb_sound::contents_are_in_their_container;
 use base_core::{Names, Tree, consecutive_reads_compose};
 use command_core::{Applet, Command, a_command_has_what_its_applet_may_have};
-use make_info::{MakeFault, read_information};
-use package_files::Packing;
+use package_files::{MakeFault, Packing, contents_are_in_their_container, read_information};
 use std::alloc::Global;
 
 /// Makes the package that a command describes: lists the names below its folder, reads the scripts

@@ -19,8 +19,7 @@ ghost use Rattle.std.specs.Prelude.{◌≡◌, ◌++◌, ◌∷◌, [], ℕ, IfO
 use crate::writing::Script;
 use base_core::{Name, Names, Tree};
 use command_core::{FILES, OptionValue, SCRIPT, Values, without_dot};
-use make_info::MakeFault;
-use package_files::{Packing, pack_names, read_file};
+use package_files::{MakeFault, Packing, pack_names, read_file};
 use std::alloc::{AllocError, Global};
 
 /// The names below the folder that an option gives, in byte order and each once, whatever the tree

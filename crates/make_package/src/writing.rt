@@ -3,20 +3,18 @@
 //! The rules are in `docs/commands.md`, "`mkpkg`" (modes, users, which fields are left out), and
 //! in `docs/formats.md`, "Schemas", tables 2, 4, 5, 6 and 7: the fields in their order.
 ghost use Rattle.command_core.specs.declared.values.TheConstants.{TRIGGER};
-ghost use Rattle.adb_values.specs.Drafts.{draft_with};
+ghost use Rattle.package_files.specs.adb_values.Drafts.{draft_with};
 ghost use Rattle.adb_view.specs.Plain.{arr_value, blob_or_null};
-ghost use Rattle.make_info.specs.Information.{information_value, replaces_priority};
-ghost use Rattle.make_info.specs.Values.{plains_of_list};
+ghost use Rattle.package_files.specs.make_info.Information.{information_value, replaces_priority};
+ghost use Rattle.package_files.specs.make_info.Values.{plains_of_list};
 ghost use Rattle.package_files.specs.Package.{access_value, script_in, value_of_scripts, package_with};
 ghost use Rattle.package_files.specs.Packed.{packed_file, packed_folder};
 ghost use Rattle.make_package.specs.Scripts.{scripts_view};
 ghost use Rattle.package_files.specs.Sources.{values_with, texts_of};
 ghost use Rattle.std.specs.Prelude.{map, OnOk, ◌≡◌};
 
-use adb_values::Draft;
 use command_core::{TRIGGER, Values};
-use make_info::{Information, write_number, write_size};
-use package_files::{File, Folder};
+use package_files::{Draft, File, Folder, Information, write_number, write_size};
 use std::alloc::AllocError;
 
 /// The mode of every folder (493 in `docs/commands.md`, "`mkpkg`"): all may read and enter, and

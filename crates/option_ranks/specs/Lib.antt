@@ -1,3 +1,7 @@
+-- passed on: a crate above that names this one need not name these
+pub use Rattle.candidate_core.specs as candidate_core
+pub use Rattle.candidate_core.specs.adb_fields as adb_fields
+pub use Rattle.candidate_core.specs.adb_schema as adb_schema
 -- used by contracts and proofs only
 pub mod Ranking
 pub mod VersionRanks

@@ -1,14 +1,14 @@
 -- A command has one first clash of names, or none.
 use Rattle.std.proofs.Common.{◌≡◌, ◌∙◌, ℕ, Bool, true, false, List, Option, None, Result, Ok, Err, refl, sym}
 use Rattle.base_core.specs.Files.{Files, HasNamesAmong}
-use Rattle.change_inputs.specs.Inputs.{Inputs}
-use Rattle.change_outcome.specs.ChangeOutcome.{ChangeWishes, IsClashOfChange}
+use Rattle.tell_core.specs.change_inputs.Inputs.{Inputs}
+use Rattle.engine_core.specs.change_outcome.ChangeOutcome.{ChangeWishes, IsClashOfChange}
 use Rattle.command_core.specs.Command.{CommandLine}
 use Rattle.engine_core.specs.Changed.{IsClashOfSelected, IsClashUnlessSimulated, Selected, selected_for}
 use Rattle.engine_core.specs.Wishes.{wishes_of}
-use Rattle.make_info.specs.Reads.{Reads}
-use Rattle.package_changes.specs.Changes.{Replacement}
-use Rattle.path_clashes.specs.Clash.{NamePair}
+use Rattle.make_core.specs.make_info.Reads.{Reads}
+use Rattle.engine_core.specs.package_changes.Changes.{Replacement}
+use Rattle.tell_core.specs.path_clashes.Clash.{NamePair}
 use Rattle.report_core.specs.declared.refusal.Refusal.{Refusal}
 use Rattle.outcome.specs.Effect.{Effect, Changes}
 use Rattle.outcome.specs.Given.{IsClashBy}

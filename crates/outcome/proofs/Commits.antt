@@ -1,18 +1,18 @@
 -- A command that makes a file commits where it is not refused; and a refusal commits nothing.
 use Rattle.std.proofs.Common.{◌≡◌, ◌⊎◌, inl, inr, ℕ, Bool, true, false, List, [], length, Option, Some, None, IsSome, Result, Ok, Err, refl, sym, ap, subst, ◌∙◌, true≢false}
 use Rattle.std.specs.Prelude.{if◌then◌else◌, is_some, not, IsTrue}
-use Rattle.adb_schema.specs.Reserved.{is_reserved}
+use Rattle.gen_core.specs.adb_schema.Reserved.{is_reserved}
 use Rattle.base_core.specs.Files.{Files}
 use Rattle.base_core.specs.declared.cause.Cause.{Cause}
 use Rattle.command_core.specs.Command.{CommandLine}
 use Rattle.command_core.specs.declared.command.Applet.{Applet}
 use Rattle.command_core.specs.declared.command.Applet.TheVariants.{Mkndx, Mkpkg}
-use Rattle.make_index.specs.Index.{made_index}
-use Rattle.make_info.specs.Output.{output_name}
-use Rattle.make_info.specs.declared.fault.MakeFault.{MakeFault}
-use Rattle.make_info.specs.declared.fault.MakeFault.TheVariants.{FileMissing, FileBad, InfoBad, TooLarge, Disk, Memory}
-use Rattle.make_package.specs.Making.{made_package}
-use Rattle.change_outcome.specs.ChangeOutcome.{ChangeDone}
+use Rattle.make_core.specs.make_index.Index.{made_index}
+use Rattle.make_core.specs.make_info.Output.{output_name}
+use Rattle.make_core.specs.make_info.declared.fault.MakeFault.{MakeFault}
+use Rattle.make_core.specs.make_info.declared.fault.MakeFault.TheVariants.{FileMissing, FileBad, InfoBad, TooLarge, Disk, Memory}
+use Rattle.make_core.specs.make_package.Making.{made_package}
+use Rattle.engine_core.specs.change_outcome.ChangeOutcome.{ChangeDone}
 use Rattle.engine_core.specs.Changed.{change_of_command}
 use Rattle.report_core.specs.declared.refusal.Refusal.{Refusal}
 use Rattle.report_core.specs.declared.refusal.Refusal.TheVariants.{Reserved, ResultTooLarge}

@@ -4,7 +4,7 @@ use Rattle.std.specs.Prelude.{if◌then◌else◌, option_and_then, slice_get, t
 use Rattle.std.specs.List.{list_any}
 use Rattle.std.specs.Str.{bytes_eq}
 use Rattle.std.proofs.lemmas.Bool.{or_right}
-use Rattle.adb_schema.specs.Reserved.{is_reserved}
+use Rattle.gen_core.specs.adb_schema.Reserved.{is_reserved}
 use Rattle.base_core.specs.Files.{Files, HasNamesAmong, drop_name, no_names, put_name}
 use Rattle.base_core.specs.declared.cause.Cause.{Cause}
 use Rattle.command_core.specs.Command.{CommandLine}
@@ -12,12 +12,12 @@ use Rattle.command_core.specs.declared.command.Applet.{Applet}
 use Rattle.command_core.specs.declared.command.Applet.TheVariants.{Help, Mkndx, Mkpkg, ProgramVersion}
 use Rattle.demo_lines.specs.Lines.{add_words, demo_file, demo_repositories, demo_text, mkndx_words, mkpkg_words}
 use Rattle.demo_lines.specs.Report.{demo_line}
-use Rattle.journal_core.specs.Replacing.{scratch_of}
-use Rattle.make_index.specs.Index.{made_index}
-use Rattle.make_info.specs.Output.{output_name}
-use Rattle.make_info.specs.declared.fault.MakeFault.{MakeFault}
-use Rattle.make_info.specs.declared.fault.MakeFault.TheVariants.{FileMissing, FileBad, InfoBad, TooLarge, Disk, Memory}
-use Rattle.make_package.specs.Making.{made_package}
+use Rattle.engine_core.specs.journal_core.Replacing.{scratch_of}
+use Rattle.make_core.specs.make_index.Index.{made_index}
+use Rattle.make_core.specs.make_info.Output.{output_name}
+use Rattle.make_core.specs.make_info.declared.fault.MakeFault.{MakeFault}
+use Rattle.make_core.specs.make_info.declared.fault.MakeFault.TheVariants.{FileMissing, FileBad, InfoBad, TooLarge, Disk, Memory}
+use Rattle.make_core.specs.make_package.Making.{made_package}
 use Rattle.report_core.specs.declared.refusal.Refusal.{Refusal}
 use Rattle.report_core.specs.declared.refusal.Refusal.TheVariants.{Reserved, ResultTooLarge}
 use Rattle.root_names.specs.RootNames.{repositories_name}

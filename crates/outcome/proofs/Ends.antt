@@ -1,28 +1,28 @@
 -- How a change ends.
 use Rattle.std.proofs.Common.{◌≡◌, ℕ, ◌+◌, Bool, true, false, List, [], ◌∷◌, Option, Some, None, Result, Ok, Err, refl}
 use Rattle.std.specs.Prelude.{if◌then◌else◌, nat_lt, length}
-use Rattle.adb_schema.specs.Soundness.{first_fault}
+use Rattle.gen_core.specs.adb_schema.Soundness.{first_fault}
 use Rattle.adb_view.specs.declared.tables.Which.TheVariants.{Idb, Index}
 use Rattle.base_core.specs.declared.cause.Cause.{Cause}
-use Rattle.change_inputs.specs.Candidates.{candidates_of, root_pool}
-use Rattle.change_inputs.specs.Chains.{and_then, refused_as, unless_cause}
-use Rattle.change_inputs.specs.Database.{payload_database, root_database}
-use Rattle.change_inputs.specs.Indexes.{index_file, index_files_from, index_in_file, indexes_in_files}
-use Rattle.change_inputs.specs.Inputs.{Inputs, database_read, first_index_read, index_reads_from, indexes_of, inputs_of, repositories_read, root_for, root_found, text_database_read, world_read}
-use Rattle.change_inputs.specs.Repositories.{if_trusted, root_repositories}
-use Rattle.change_inputs.specs.World.{root_world, text_found}
+use Rattle.tell_core.specs.change_inputs.Candidates.{candidates_of, root_pool}
+use Rattle.tell_core.specs.change_inputs.Chains.{and_then, refused_as, unless_cause}
+use Rattle.tell_core.specs.change_inputs.Database.{payload_database, root_database}
+use Rattle.tell_core.specs.change_inputs.Indexes.{index_file, index_files_from, index_in_file, indexes_in_files}
+use Rattle.tell_core.specs.change_inputs.Inputs.{Inputs, database_read, first_index_read, index_reads_from, indexes_of, inputs_of, repositories_read, root_for, root_found, text_database_read, world_read}
+use Rattle.tell_core.specs.change_inputs.Repositories.{if_trusted, root_repositories}
+use Rattle.tell_core.specs.change_inputs.World.{root_world, text_found}
 use Rattle.command_core.specs.Command.{CommandLine}
 use Rattle.dep_core.specs.Repositories.{Repository, repositories_of}
 use Rattle.dep_core.specs.World.{world_of}
-use Rattle.make_info.specs.Reads.{Reads}
-use Rattle.candidate_core.specs.Rank.{UpgradedNames, sealed_pool_by}
-use Rattle.candidate_core.specs.declared.candidate_list.TheConstants.{MOST_CANDIDATES}
+use Rattle.make_core.specs.make_info.Reads.{Reads}
+use Rattle.tell_core.specs.candidate_core.Rank.{UpgradedNames, sealed_pool_by}
+use Rattle.tell_core.specs.candidate_core.declared.candidate_list.TheConstants.{MOST_CANDIDATES}
 use Rattle.report_core.specs.declared.refusal.Refusal.{Refusal}
 use Rattle.report_core.specs.declared.refusal.Refusal.TheVariants.{DatabaseBad, IndexBad, RepositoriesBad, TooMany, WorldBad}
 use Rattle.root_names.specs.RootNames.{database_name, repositories_name, text_database_name, world_name}
-use Rattle.v2_core.specs.Payload.{payload_of_text}
-use Rattle.v2_core.specs.declared.read.V2Fault.{V2Fault}
-use Rattle.v2_core.specs.declared.read.V2Fault.TheVariants.{Bad, Memory, TooLarge}
+use Rattle.tell_core.specs.v2_core.Payload.{payload_of_text}
+use Rattle.tell_core.specs.v2_core.declared.read.V2Fault.{V2Fault}
+use Rattle.tell_core.specs.v2_core.declared.read.V2Fault.TheVariants.{Bad, Memory, TooLarge}
 use Rattle.outcome.specs.ChangeEnd.{is_input_refusal}
 
 -- ---- chains of stated refusals

@@ -4,23 +4,23 @@ use Rattle.std.specs.Prelude.{if◌then◌else◌}
 use Rattle.std.proofs.lemmas.List.{append_assoc}
 use Rattle.base_core.specs.Files.{Files}
 use Rattle.base_core.specs.declared.cause.Cause.{Cause}
-use Rattle.change_inputs.specs.Chains.{and_then}
-use Rattle.change_inputs.specs.Inputs.{Inputs, inputs_of}
-use Rattle.change_outcome.specs.Made.{IsChangeMade}
-use Rattle.change_files.specs.PlanLists.{aside_of, kept_of}
-use Rattle.change_outcome.specs.ChangeOutcome.{ChangeDone, ChangeWishes, change_or_refusal, file_change, member_sum_line, touched_paths}
-use Rattle.change_outcome.specs.ConfigurationLines.{configuration_lines}
-use Rattle.change_outcome.specs.Triggers.{trigger_lines}
+use Rattle.tell_core.specs.change_inputs.Chains.{and_then}
+use Rattle.tell_core.specs.change_inputs.Inputs.{Inputs, inputs_of}
+use Rattle.engine_core.specs.change_outcome.Made.{IsChangeMade}
+use Rattle.engine_core.specs.change_files.PlanLists.{aside_of, kept_of}
+use Rattle.engine_core.specs.change_outcome.ChangeOutcome.{ChangeDone, ChangeWishes, change_or_refusal, file_change, member_sum_line, touched_paths}
+use Rattle.engine_core.specs.change_outcome.ConfigurationLines.{configuration_lines}
+use Rattle.engine_core.specs.change_outcome.Triggers.{trigger_lines}
 use Rattle.command_core.specs.Command.{CommandLine}
 use Rattle.engine_core.specs.Changed.{IsClashFor, Selected, change_of_selected, change_of_command, selected_by, selected_of_inputs, simulated_change}
 use Rattle.engine_core.specs.Choice.{IsChoiceFrom}
 use Rattle.engine_core.specs.Selecting.{pool_by, pool_for, replacement_of_choice}
 use Rattle.engine_core.specs.Wishes.{names_to_reinstall, names_to_upgrade, unknown_operand_place, unless_unknown_operand, wishes_of}
-use Rattle.make_info.specs.Reads.{Reads}
-use Rattle.package_changes.specs.Changes.{Replacement, changes_of}
-use Rattle.package_changes.specs.Report.{selected_sum_line, simulated_report, stay_lines}
-use Rattle.path_clashes.specs.Clash.{NamePair}
-use Rattle.candidate_core.specs.Rank.{SealedPool}
+use Rattle.make_core.specs.make_info.Reads.{Reads}
+use Rattle.engine_core.specs.package_changes.Changes.{Replacement, changes_of}
+use Rattle.engine_core.specs.package_changes.Report.{selected_sum_line, simulated_report, stay_lines}
+use Rattle.tell_core.specs.path_clashes.Clash.{NamePair}
+use Rattle.tell_core.specs.candidate_core.Rank.{SealedPool}
 use Rattle.report_core.specs.Reports.{change_lines}
 use Rattle.report_core.specs.declared.refusal.Refusal.{Refusal}
 use Rattle.report_core.specs.declared.refusal.Refusal.TheVariants.{NotInstalled}

@@ -1,13 +1,13 @@
 -- A command that commits nothing leaves the files.
 use Rattle.std.proofs.Common.{◌≡◌, ◌⊎◌, inl, inr, ◌∙◌, ℕ, Bool, true, false, List, [], ◌∷◌, length, Option, Some, None, Result, Ok, Err, refl, sym, ap, subst, true≢false}
 use Rattle.std.specs.Prelude.{if◌then◌else◌}
-use Rattle.adb_schema.specs.Reserved.{is_reserved}
+use Rattle.gen_core.specs.adb_schema.Reserved.{is_reserved}
 use Rattle.base_core.specs.Files.{Files}
 use Rattle.base_core.specs.declared.cause.Cause.{Cause}
-use Rattle.change_inputs.specs.Chains.{and_then}
-use Rattle.change_inputs.specs.Inputs.{Inputs, inputs_of}
-use Rattle.change_outcome.specs.Premises.{IsRootOfFiles}
-use Rattle.change_outcome.specs.ChangeOutcome.{ChangeDone, ChangeWishes, change_or_refusal}
+use Rattle.tell_core.specs.change_inputs.Chains.{and_then}
+use Rattle.tell_core.specs.change_inputs.Inputs.{Inputs, inputs_of}
+use Rattle.engine_core.specs.change_outcome.Premises.{IsRootOfFiles}
+use Rattle.engine_core.specs.change_outcome.ChangeOutcome.{ChangeDone, ChangeWishes, change_or_refusal}
 use Rattle.command_core.specs.Command.{CommandLine}
 use Rattle.command_core.specs.Files.{without_dot}
 use Rattle.command_core.specs.declared.command.Applet.{Applet}
@@ -20,15 +20,15 @@ use Rattle.engine_core.specs.Wishes.{unknown_operand_place, unless_unknown_opera
 use Rattle.gen_core.specs.Generated.{generated_file}
 use Rattle.gen_core.specs.declared.generate.GenFault.{GenFault}
 use Rattle.gen_core.specs.declared.generate.GenFault.TheVariants.{Bad as BadLine, TooLarge as TextTooLarge, Memory as NoMemory}
-use Rattle.make_index.specs.Index.{made_index}
-use Rattle.make_info.specs.Output.{output_name}
-use Rattle.make_info.specs.Reads.{Reads}
-use Rattle.make_info.specs.declared.fault.MakeFault.{MakeFault}
-use Rattle.make_info.specs.declared.fault.MakeFault.TheVariants.{FileMissing, FileBad, InfoBad, TooLarge, Disk, Memory}
-use Rattle.make_package.specs.Making.{made_package}
-use Rattle.package_changes.specs.Changes.{Replacement}
-use Rattle.path_clashes.specs.Clash.{NamePair}
-use Rattle.candidate_core.specs.Rank.{SealedPool}
+use Rattle.make_core.specs.make_index.Index.{made_index}
+use Rattle.make_core.specs.make_info.Output.{output_name}
+use Rattle.make_core.specs.make_info.Reads.{Reads}
+use Rattle.make_core.specs.make_info.declared.fault.MakeFault.{MakeFault}
+use Rattle.make_core.specs.make_info.declared.fault.MakeFault.TheVariants.{FileMissing, FileBad, InfoBad, TooLarge, Disk, Memory}
+use Rattle.make_core.specs.make_package.Making.{made_package}
+use Rattle.engine_core.specs.package_changes.Changes.{Replacement}
+use Rattle.tell_core.specs.path_clashes.Clash.{NamePair}
+use Rattle.tell_core.specs.candidate_core.Rank.{SealedPool}
 use Rattle.report_core.specs.declared.refusal.Refusal.{Refusal}
 use Rattle.report_core.specs.declared.refusal.Refusal.TheVariants.{Reserved, ResultTooLarge}
 use Rattle.tell_core.specs.ReportForCommand.{report_for_command}

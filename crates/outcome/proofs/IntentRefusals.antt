@@ -2,19 +2,19 @@
 use Rattle.std.proofs.Common.{◌≡◌, ◌⊎◌, inl, inr, ◌∙◌, ℕ, Bool, true, false, List, Option, Some, None, Result, Ok, Err, refl, sym, ap, subst}
 use Rattle.std.specs.Prelude.{if◌then◌else◌}
 use Rattle.std.proofs.lemmas.Bool.{false≢true}
-use Rattle.adb_schema.specs.Reserved.{is_reserved}
+use Rattle.gen_core.specs.adb_schema.Reserved.{is_reserved}
 use Rattle.base_core.specs.Files.{Files}
 use Rattle.base_core.specs.declared.cause.Cause.{Cause}
-use Rattle.change_outcome.specs.ChangeOutcome.{ChangeDone}
+use Rattle.engine_core.specs.change_outcome.ChangeOutcome.{ChangeDone}
 use Rattle.command_core.specs.Command.{CommandLine}
 use Rattle.command_core.specs.declared.command.Applet.{Applet}
 use Rattle.command_core.specs.declared.command.Applet.TheVariants.{Demo, Mkndx, Mkpkg}
 use Rattle.engine_core.specs.Changed.{Selected, change_of_selected}
-use Rattle.installed_info.specs.declared.telling.ReportAndRefusal.{ReportAndRefusal}
-use Rattle.make_info.specs.Output.{output_name}
-use Rattle.make_info.specs.Reads.{Reads as Reading}
-use Rattle.make_info.specs.declared.fault.MakeFault.{MakeFault}
-use Rattle.make_info.specs.declared.fault.MakeFault.TheVariants.{FileMissing as NoFile, FileBad as BadFile, InfoBad as BadInfo, TooLarge, Disk, Memory}
+use Rattle.tell_core.specs.installed_info.declared.telling.ReportAndRefusal.{ReportAndRefusal}
+use Rattle.make_core.specs.make_info.Output.{output_name}
+use Rattle.make_core.specs.make_info.Reads.{Reads as Reading}
+use Rattle.make_core.specs.make_info.declared.fault.MakeFault.{MakeFault}
+use Rattle.make_core.specs.make_info.declared.fault.MakeFault.TheVariants.{FileMissing as NoFile, FileBad as BadFile, InfoBad as BadInfo, TooLarge, Disk, Memory}
 use Rattle.report_core.specs.declared.refusal.Refusal.{Refusal}
 use Rattle.report_core.specs.declared.refusal.Refusal.TheVariants.{IntentBad, Reserved, Unsatisfied}
 use Rattle.tell_core.specs.ReportForCommand.{report_for_command}

@@ -1,22 +1,22 @@
 -- A root has no database only where no file of one stands there.
 use Rattle.std.proofs.Common.{◌≡◌, ℕ, Bool, true, false, List, Option, Some, None, Result, Ok, Err, refl}
-use Rattle.adb_schema.specs.Soundness.{first_fault, payload_fault}
+use Rattle.gen_core.specs.adb_schema.Soundness.{first_fault, payload_fault}
 use Rattle.adb_view.specs.declared.tables.Which.TheVariants.{Idb}
-use Rattle.adb_write.specs.Canonical.{PayloadCounts, written_of}
+use Rattle.gen_core.specs.adb_write.Canonical.{PayloadCounts, written_of}
 use Rattle.base_core.specs.Files.{Files}
 use Rattle.base_core.specs.declared.cause.Cause.{Cause}
-use Rattle.change_inputs.specs.Chains.{unless_cause}
-use Rattle.change_inputs.specs.Database.{Database, payload_database, root_database}
-use Rattle.change_inputs.specs.Inputs.{database_for}
+use Rattle.tell_core.specs.change_inputs.Chains.{unless_cause}
+use Rattle.tell_core.specs.change_inputs.Database.{Database, payload_database, root_database}
+use Rattle.tell_core.specs.change_inputs.Inputs.{database_for}
 use Rattle.command_core.specs.Command.{CommandLine}
 use Rattle.report_core.specs.declared.refusal.Refusal.TheVariants.{DatabaseBad, NoDatabase}
 use Rattle.root_names.specs.RootNames.{database_name, text_database_name}
-use Rattle.v2_core.specs.Database.{value_of_records}
-use Rattle.v2_core.specs.Payload.{or_too_large, payload_of_text, payload_if_sound, unless_bad, written_payload}
-use Rattle.v2_core.specs.Reading.{records_of}
-use Rattle.v2_core.specs.Records.{Record}
-use Rattle.v2_core.specs.declared.read.V2Fault.{V2Fault}
-use Rattle.v2_core.specs.declared.read.V2Fault.TheVariants.{Bad, Memory, TooLarge}
+use Rattle.tell_core.specs.v2_core.Database.{value_of_records}
+use Rattle.tell_core.specs.v2_core.Payload.{or_too_large, payload_of_text, payload_if_sound, unless_bad, written_payload}
+use Rattle.tell_core.specs.v2_core.Reading.{records_of}
+use Rattle.tell_core.specs.v2_core.Records.{Record}
+use Rattle.tell_core.specs.v2_core.declared.read.V2Fault.{V2Fault}
+use Rattle.tell_core.specs.v2_core.declared.read.V2Fault.TheVariants.{Bad, Memory, TooLarge}
 use Rattle.outcome.specs.Commands.{reads_in}
 
 -- ---- a text is never refused for want of memory

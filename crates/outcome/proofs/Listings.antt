@@ -4,7 +4,7 @@ use Rattle.std.specs.Prelude.{if◌then◌else◌, nat_eq}
 use Rattle.std.specs.List.{starts_with}
 use Rattle.base_core.specs.Listed.{IsListOf, IsNamesOf}
 use Rattle.base_core.specs.Tree.{TreeState, bytes_at, files_of}
-use Rattle.journal_core.proofs.Below.{begins, is_below}
+use Rattle.engine_core.proofs.journal_core.Below.{begins, is_below}
 use Rattle.outcome.specs.Make.{files_below}
 
 has_bytes : (v : TreeState) (n : Option ℕ) → IsSome n → IsSome (bytes_at v.files n)

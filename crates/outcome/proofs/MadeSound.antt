@@ -4,31 +4,31 @@ use Rattle.std.specs.Prelude.{if◌then◌else◌, nat_eq}
 use Rattle.std.specs.List.{starts_with}
 use Rattle.std.proofs.lemmas.List.Elements.{All-contains_itself, All-weaker}
 use Rattle.std.proofs.lemmas.Slice.Eq.{bytes_eq-Decides}
-use Rattle.adb_schema.specs.Reserved.{is_reserved}
+use Rattle.gen_core.specs.adb_schema.Reserved.{is_reserved}
 use Rattle.adb_view.specs.Plain.{Plain}
-use Rattle.adb_write.specs.Canonical.{PayloadCounts, overflow_of, written_of}
+use Rattle.gen_core.specs.adb_write.Canonical.{PayloadCounts, overflow_of, written_of}
 use Rattle.base_core.specs.Files.{AreNamedFiles, Files, drop_name}
 use Rattle.base_core.specs.Listed.{AreNamesBelow, IsNameBelow, IsNamesOf}
 use Rattle.base_core.specs.Tree.{IsWellFormed, TreeState, files_of}
 use Rattle.base_core.specs.declared.cause.Cause.{Cause}
 use Rattle.command_core.specs.declared.values.TheConstants.{FILES, SCRIPT, TRIGGER}
-use Rattle.journal_core.specs.Replacing.{replaced_files, scratch_of}
-use Rattle.journal_core.specs.Staged.{unstaged_files}
-use Rattle.package_files.specs.Folders.{FolderListing, folders_of, last_part_of}
-use Rattle.make_index.specs.Index.{and_entries, found_entries, found_entry, index_container, index_of, index_of_found, value_of_index, entry_unless, description_in, made_index}
-use Rattle.make_index.specs.EntryOrder.{entry_cmp}
+use Rattle.engine_core.specs.journal_core.Replacing.{replaced_files, scratch_of}
+use Rattle.engine_core.specs.journal_core.Staged.{unstaged_files}
+use Rattle.make_core.specs.package_files.Folders.{FolderListing, folders_of, last_part_of}
+use Rattle.make_core.specs.make_index.Index.{and_entries, found_entries, found_entry, index_container, index_of, index_of_found, value_of_index, entry_unless, description_in, made_index}
+use Rattle.make_core.specs.make_index.EntryOrder.{entry_cmp}
 use Rattle.base_core.specs.Sorted.{sorted_by}
-use Rattle.make_info.specs.Information.{InfoItem, information_value, information, replaces_priority}
-use Rattle.make_package.specs.Making.{container_unless, made_package, or_info_bad, package_container, package_of_parts}
-use Rattle.make_info.specs.Output.{output_name}
-use Rattle.package_files.specs.Package.{Script, Source, SourceFolder, contents_of_folders, installed_size, value_of_package}
-use Rattle.make_index.specs.Files.{AreFiles}
-use Rattle.package_files.specs.Sources.{AreNamesFor, and_then, each_from, file_at, sources_from, folder_at, folders_below, found_at, values_with, script_at, scripts_from, texts_of}
-use Rattle.make_info.specs.Reads.{Reads}
-use Rattle.make_info.specs.declared.fault.MakeFault.{MakeFault}
-use Rattle.make_info.specs.declared.fault.MakeFault.TheVariants.{FileMissing, FileBad, InfoBad, TooLarge, Disk, Memory}
-use Rattle.pkg_core.specs.Contents.{Contents}
-use Rattle.pkg_core.specs.Whole.{container_fault, package_fault}
+use Rattle.make_core.specs.make_info.Information.{InfoItem, information_value, information, replaces_priority}
+use Rattle.make_core.specs.make_package.Making.{container_unless, made_package, or_info_bad, package_container, package_of_parts}
+use Rattle.make_core.specs.make_info.Output.{output_name}
+use Rattle.make_core.specs.package_files.Package.{Script, Source, SourceFolder, contents_of_folders, installed_size, value_of_package}
+use Rattle.make_core.specs.make_index.Files.{AreFiles}
+use Rattle.make_core.specs.package_files.Sources.{AreNamesFor, and_then, each_from, file_at, sources_from, folder_at, folders_below, found_at, values_with, script_at, scripts_from, texts_of}
+use Rattle.make_core.specs.make_info.Reads.{Reads}
+use Rattle.make_core.specs.make_info.declared.fault.MakeFault.{MakeFault}
+use Rattle.make_core.specs.make_info.declared.fault.MakeFault.TheVariants.{FileMissing, FileBad, InfoBad, TooLarge, Disk, Memory}
+use Rattle.make_core.specs.pkg_core.Contents.{Contents}
+use Rattle.make_core.specs.pkg_core.Whole.{container_fault, package_fault}
 use Rattle.report_core.specs.declared.refusal.Refusal.{Refusal}
 use Rattle.report_core.specs.declared.refusal.Refusal.TheVariants.{IntentBad, Reserved, ResultTooLarge}
 use Rattle.command_core.specs.Command.{CommandLine}
@@ -39,7 +39,7 @@ use Rattle.command_core.specs.declared.command.Applet.{Applet}
 use Rattle.command_core.specs.declared.command.Applet.TheVariants.{Mkndx, Mkpkg}
 use Rattle.command_core.specs.declared.operands.Operand.{Operand}
 use Rattle.command_core.specs.declared.values.OptionValue.{OptionValue}
-use Rattle.journal_core.proofs.Below.{is_below}
+use Rattle.engine_core.proofs.journal_core.Below.{is_below}
 use Rattle.outcome.proofs.Listings.{if_some}
 use Rattle.outcome.specs.Given.{Given, IsListingFor}
 use Rattle.outcome.specs.Commands.{IsOutcomeOf, IsOutcomeUnlessBadIntent, effect_outcome, reads_in}

@@ -3,17 +3,17 @@ use Rattle.std.proofs.Common.{◌≡◌, ◌∙◌, ℕ, Bool, true, false, List
 use Rattle.std.specs.Prelude.{if◌then◌else◌}
 use Rattle.base_core.specs.Files.{Files}
 use Rattle.base_core.specs.declared.cause.Cause.{Cause}
-use Rattle.change_inputs.specs.Inputs.{Inputs}
-use Rattle.change_outcome.specs.ChangeOutcome.{ChangeDone, ChangeWishes, IsClashOfChange, change_or_refusal}
+use Rattle.tell_core.specs.change_inputs.Inputs.{Inputs}
+use Rattle.engine_core.specs.change_outcome.ChangeOutcome.{ChangeDone, ChangeWishes, IsClashOfChange, change_or_refusal}
 use Rattle.command_core.specs.Command.{CommandLine}
 use Rattle.command_core.specs.declared.command.Applet.{Applet}
 use Rattle.engine_core.specs.Changed.{IsClashFor, IsClashOfSelected, IsClashUnlessSimulated, Selected, change_of_selected, change_of_command, selected_for, simulated_change}
 use Rattle.engine_core.specs.Wishes.{wishes_of}
-use Rattle.journal_core.specs.Recovery.{Intent, intent_at, intent_name, is_staged, recovered_files, recovered_files_by}
-use Rattle.journal_core.specs.Staged.{AreReplayPathsFree, AreStagingPathsFree, unstaged_files}
-use Rattle.make_info.specs.Reads.{Reads}
-use Rattle.package_changes.specs.Changes.{Replacement}
-use Rattle.path_clashes.specs.Clash.{NamePair}
+use Rattle.engine_core.specs.journal_core.Recovery.{Intent, intent_at, intent_name, is_staged, recovered_files, recovered_files_by}
+use Rattle.engine_core.specs.journal_core.Staged.{AreReplayPathsFree, AreStagingPathsFree, unstaged_files}
+use Rattle.make_core.specs.make_info.Reads.{Reads}
+use Rattle.engine_core.specs.package_changes.Changes.{Replacement}
+use Rattle.tell_core.specs.path_clashes.Clash.{NamePair}
 use Rattle.report_core.specs.declared.refusal.Refusal.{Refusal}
 use Rattle.words_core.specs.Grammar.{command_of}
 use Rattle.outcome.proofs.Applets.{change_is}

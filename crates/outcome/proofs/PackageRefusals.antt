@@ -2,27 +2,27 @@
 use Rattle.std.proofs.Common.{◌≡◌, ℕ, suc, Bool, true, false, not, List, [], ◌∷◌, Option, Some, None, Result, Ok, Err, refl}
 use Rattle.std.specs.Prelude.{if◌then◌else◌, bytes_eq}
 use Rattle.adb_view.specs.Plain.{Plain}
-use Rattle.adb_fields.specs.Repeated.{package_name}
-use Rattle.adb_write.specs.Canonical.{PayloadCounts, overflow_of}
+use Rattle.make_core.specs.adb_fields.Repeated.{package_name}
+use Rattle.gen_core.specs.adb_write.Canonical.{PayloadCounts, overflow_of}
 use Rattle.base_core.specs.Files.{Files}
 use Rattle.base_core.specs.declared.cause.Cause.{Cause}
-use Rattle.change_files.specs.PlanLists.{first_reserved}
-use Rattle.change_inputs.specs.Chains.{and_then}
-use Rattle.change_inputs.specs.Inputs.{Inputs}
-use Rattle.change_outcome.specs.ChangeOutcome.{ChangeDone, ChangeWishes, actions_of, change_done, change_members, change_or_refusal, change_with_members, file_change, new_records, touched_paths, unless_clash, unless_contested, unless_large, unless_overflow, unless_reserved_path, unless_too_large}
-use Rattle.change_outcome.specs.MembersAfter.{MemberFound, added_package_by_path, added_member_found, members_after, name_after, name_by_change, name_by_selected, member_of_removed_name, names_after}
-use Rattle.change_outcome.specs.PackageFiles.{AddedPackage, first_script_of, package_file_of, package_found, scripts_of_change, unless_different, unless_script_number, unless_package_bad, unless_script}
-use Rattle.change_outcome.specs.Triggers.{folders_of_paths, has_due_trigger, unless_trigger}
-use Rattle.db_core.specs.Members.{Member}
-use Rattle.db_write.specs.NewDatabase.{database_of}
+use Rattle.engine_core.specs.change_files.PlanLists.{first_reserved}
+use Rattle.tell_core.specs.change_inputs.Chains.{and_then}
+use Rattle.tell_core.specs.change_inputs.Inputs.{Inputs}
+use Rattle.engine_core.specs.change_outcome.ChangeOutcome.{ChangeDone, ChangeWishes, actions_of, change_done, change_members, change_or_refusal, change_with_members, file_change, new_records, touched_paths, unless_clash, unless_contested, unless_large, unless_overflow, unless_reserved_path, unless_too_large}
+use Rattle.engine_core.specs.change_outcome.MembersAfter.{MemberFound, added_package_by_path, added_member_found, members_after, name_after, name_by_change, name_by_selected, member_of_removed_name, names_after}
+use Rattle.engine_core.specs.change_outcome.PackageFiles.{AddedPackage, first_script_of, package_file_of, package_found, scripts_of_change, unless_different, unless_script_number, unless_package_bad, unless_script}
+use Rattle.engine_core.specs.change_outcome.Triggers.{folders_of_paths, has_due_trigger, unless_trigger}
+use Rattle.tell_core.specs.db_core.Members.{Member}
+use Rattle.engine_core.specs.db_write.NewDatabase.{database_of}
 use Rattle.dep_core.specs.Repositories.{Repository}
-use Rattle.file_owners.specs.Owners.{contested_of, owned_of}
-use Rattle.journal_intent.specs.IntentValue.{intent_of_lists, value_of_intent}
-use Rattle.make_info.specs.Reads.{Reads}
-use Rattle.package_changes.specs.Changes.{Replacement}
-use Rattle.path_claims.specs.Claims.{ContestedPath}
-use Rattle.path_clashes.specs.Clash.{NamePair}
-use Rattle.candidate_core.specs.Candidates.{Candidate, is_same_id}
+use Rattle.tell_core.specs.file_owners.Owners.{contested_of, owned_of}
+use Rattle.engine_core.specs.journal_intent.IntentValue.{intent_of_lists, value_of_intent}
+use Rattle.make_core.specs.make_info.Reads.{Reads}
+use Rattle.engine_core.specs.package_changes.Changes.{Replacement}
+use Rattle.tell_core.specs.path_claims.Claims.{ContestedPath}
+use Rattle.tell_core.specs.path_clashes.Clash.{NamePair}
+use Rattle.tell_core.specs.candidate_core.Candidates.{Candidate, is_same_id}
 use Rattle.report_core.specs.Reports.{Change}
 use Rattle.report_core.specs.declared.refusal.Refusal.{Refusal}
 use Rattle.outcome.proofs.Ends.{HasKnownRefusal, then_stated}

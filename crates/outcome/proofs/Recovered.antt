@@ -6,12 +6,12 @@ use Rattle.std.specs.Str.{bytes_eq}
 use Rattle.std.proofs.lemmas.Bool.{and_parts, or_right, or_left}
 use Rattle.std.proofs.lemmas.Option.{same_Some}
 use Rattle.std.proofs.lemmas.Slice.Eq.{bytes_eq-Decides}
-use Rattle.adb_fields.specs.Repeated.{list_of}
-use Rattle.adb_schema.specs.Reserved.{is_intent_or_stage_name}
-use Rattle.adb_schema.specs.Rules.{is_change_name}
-use Rattle.adb_schema.specs.SoundValues.{IsChangeName}
-use Rattle.adb_schema.specs.SoundContainers.{IsSound, IsSoundValue}
-use Rattle.adb_schema.specs.Soundness.{first_fault, payload_in, root_value}
+use Rattle.make_core.specs.adb_fields.Repeated.{list_of}
+use Rattle.gen_core.specs.adb_schema.Reserved.{is_intent_or_stage_name}
+use Rattle.gen_core.specs.adb_schema.Rules.{is_change_name}
+use Rattle.gen_core.specs.adb_schema.SoundValues.{IsChangeName}
+use Rattle.gen_core.specs.adb_schema.SoundContainers.{IsSound, IsSoundValue}
+use Rattle.gen_core.specs.adb_schema.Soundness.{first_fault, payload_in, root_value}
 use Rattle.adb_view.specs.Values.{entries_in, entry_in, text_in}
 use Rattle.adb_view.specs.declared.tables.Which.{Which}
 use Rattle.adb_view.specs.declared.tables.Which.TheVariants.{Intent as IntentTable}
@@ -20,8 +20,8 @@ use Rattle.adb_view.specs.Shaped.{Each}
 use Rattle.base_core.specs.Files.{AreNamedFiles, Files, IsFile, HasNamesAmong, drop_name, move_name}
 use Rattle.base_core.specs.Name.{IsName, is_name}
 use Rattle.base_core.specs.declared.cause.Cause.{Cause}
-use Rattle.journal_core.specs.Recovery.{Intent, after_actions, after_moves, intent_at, intent_in, intent_name, intent_of, is_staged, move_if, read_intent, recovered_files, recovered_files_by, stage_name, without_names}
-use Rattle.journal_core.specs.Staged.{unstaged_files}
+use Rattle.engine_core.specs.journal_core.Recovery.{Intent, after_actions, after_moves, intent_at, intent_in, intent_name, intent_of, is_staged, move_if, read_intent, recovered_files, recovered_files_by, stage_name, without_names}
+use Rattle.engine_core.specs.journal_core.Staged.{unstaged_files}
 
 -- ---- of each file
 

@@ -1,19 +1,19 @@
 -- A command that only reports is refused for its input alone.
 use Rattle.std.proofs.Common.{◌≡◌, ℕ, Bool, true, false, List, [], ◌∷◌, ◌++◌, Option, Some, None, Result, Ok, Err, refl, ap, sym, subst, ◌∙◌}
 use Rattle.adb_view.specs.Plain.{Plain}
-use Rattle.audit_core.specs.Manifest.{manifest_of, manifest_with, operand_package, package_manifest}
-use Rattle.candidate_core.specs.Rank.{no_names}
-use Rattle.change_inputs.specs.Candidates.{root_pool}
-use Rattle.change_inputs.specs.Chains.{and_then}
-use Rattle.change_inputs.specs.Inputs.{database_for, inputs_of}
+use Rattle.tell_core.specs.audit_core.Manifest.{manifest_of, manifest_with, operand_package, package_manifest}
+use Rattle.tell_core.specs.candidate_core.Rank.{no_names}
+use Rattle.tell_core.specs.change_inputs.Candidates.{root_pool}
+use Rattle.tell_core.specs.change_inputs.Chains.{and_then}
+use Rattle.tell_core.specs.change_inputs.Inputs.{database_for, inputs_of}
 use Rattle.command_core.specs.Command.{CommandLine}
 use Rattle.command_core.specs.declared.command.Applet.{Applet}
 use Rattle.command_core.specs.declared.command.Applet.TheVariants.{Audit, Info, List as ListApplet, Manifest, Policy, Search}
 use Rattle.command_core.specs.declared.operands.Operand.{Operand}
-use Rattle.installed_info.specs.Info.{info_of}
-use Rattle.installed_info.specs.Refusals.{IsOfAnOperand}
-use Rattle.installed_info.specs.declared.telling.ReportAndRefusal.{ReportAndRefusal}
-use Rattle.make_info.specs.Reads.{Reads}
+use Rattle.tell_core.specs.installed_info.Info.{info_of}
+use Rattle.tell_core.specs.installed_info.Refusals.{IsOfAnOperand}
+use Rattle.tell_core.specs.installed_info.declared.telling.ReportAndRefusal.{ReportAndRefusal}
+use Rattle.make_core.specs.make_info.Reads.{Reads}
 use Rattle.report_core.specs.declared.refusal.Refusal.{Refusal}
 use Rattle.tell_core.specs.AuditResult.{audit_of, manifest_report}
 use Rattle.tell_core.specs.QueryResult.{query_report, query_result}

@@ -2,11 +2,11 @@
 use Rattle.std.proofs.Common.{◌≡◌, ℕ, false, true, List, [], ◌∷◌, Some, None, refl}
 use Rattle.std.specs.Prelude.{codes}
 use Rattle.adb_view.specs.Plain.{Plain, blob, more, none, obj}
-use Rattle.change_files.specs.PlanLists.{names_in_order}
+use Rattle.engine_core.specs.change_files.PlanLists.{names_in_order}
 use Rattle.demo_lines.specs.Lines.{demo_text}
 use Rattle.dep_core.specs.Dependency.{Dependency, dependency_by}
-use Rattle.package_changes.specs.Report.{stay_lines}
-use Rattle.candidate_core.specs.Candidates.{Candidate, candidate_by}
+use Rattle.engine_core.specs.package_changes.Report.{stay_lines}
+use Rattle.tell_core.specs.candidate_core.Candidates.{Candidate, candidate_by}
 
 -- ---- who needs a package that stays: in byte order, whatever is selected first
 

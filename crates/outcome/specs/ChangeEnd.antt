@@ -5,18 +5,18 @@
 use Rattle.std.specs.Prelude.{◌≡◌, ◌⊎◌, ◌++◌, ℕ, Bool, true, false, List, Option, Some, Result, Ok, Err}
 use Rattle.base_core.specs.Files.{Files}
 use Rattle.base_core.specs.declared.cause.Cause.{Cause}
-use Rattle.change_outcome.specs.ChangeOutcome.{ChangeDone}
+use Rattle.engine_core.specs.change_outcome.ChangeOutcome.{ChangeDone}
 use Rattle.command_core.specs.Command.{CommandLine}
 use Rattle.engine_core.specs.Changed.{IsClashFor, Selected, change_of_selected, selected_for}
 use Rattle.engine_core.specs.Selecting.{pool_for}
-use Rattle.package_changes.specs.Changes.{changes_of}
-use Rattle.package_changes.specs.Placed.{candidates_at}
-use Rattle.path_clashes.specs.Clash.{NamePair}
-use Rattle.candidate_core.specs.Rank.{SealedPool}
+use Rattle.engine_core.specs.package_changes.Changes.{changes_of}
+use Rattle.engine_core.specs.package_changes.Placed.{candidates_at}
+use Rattle.tell_core.specs.path_clashes.Clash.{NamePair}
+use Rattle.tell_core.specs.candidate_core.Rank.{SealedPool}
 use Rattle.report_core.specs.Reports.{change_lines}
 use Rattle.report_core.specs.declared.refusal.Refusal.{Refusal}
 use Rattle.report_core.specs.declared.refusal.Refusal.TheVariants.{DatabaseBad, IndexBad, IndexMissing, IntentBad, NoDatabase, NotInstalled, Owned, PackageBad, PackageDiffers, PackageMissing, PathClash, RepositoriesBad, Reserved, ResultTooLarge, ScriptNeeded, TooMany, TriggerNeeded, Unsatisfied, Untrusted, WorldBad}
-use Rattle.search_tables.specs.Selection.{IsFirstSelection, IsSatisfying}
+use Rattle.engine_core.specs.search_tables.Selection.{IsFirstSelection, IsSatisfying}
 use Rattle.outcome.specs.Changing.{change_outcome}
 use Rattle.outcome.specs.Commands.{reads_in}
 use Rattle.outcome.specs.Effect.{Changes}

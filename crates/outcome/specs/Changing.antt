@@ -2,7 +2,7 @@
 -- "`add` and `del`" and "`upgrade` and `fix`"; the result of a change is defined in `engine_core`.
 use Rattle.std.specs.Prelude.{Result, Ok, Err}
 use Rattle.base_core.specs.Files.{Files}
-use Rattle.change_outcome.specs.ChangeOutcome.{ChangeDone}
+use Rattle.engine_core.specs.change_outcome.ChangeOutcome.{ChangeDone}
 use Rattle.report_core.specs.declared.refusal.Refusal.{Refusal}
 use Rattle.outcome.specs.Outcome.{Outcome, just_refusal, just_report}
 

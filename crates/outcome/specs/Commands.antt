@@ -1,11 +1,11 @@
 -- The outcome of a command. `demo` is apart, since it runs other commands. The rules are in
 -- `docs/commands.md`, "Commands that recover first", and in the section of each command.
 use Rattle.std.specs.Prelude.{◌≡◌, ◌⊎◌, ℕ, true, List, [], Option, Some, None, Result, Ok, Err}
-use Rattle.adb_schema.specs.Soundness.{first_fault}
+use Rattle.gen_core.specs.adb_schema.Soundness.{first_fault}
 use Rattle.adb_view.specs.declared.tables.Which.TheVariants.{Intent as IntentTable}
 use Rattle.base_core.specs.Files.{Files, no_names}
 use Rattle.base_core.specs.declared.cause.Cause.{Cause}
-use Rattle.make_info.specs.Reads.{Reads}
+use Rattle.make_core.specs.make_info.Reads.{Reads}
 use Rattle.report_core.specs.declared.refusal.Refusal.{Refusal}
 use Rattle.report_core.specs.declared.refusal.Refusal.TheVariants.{IntentBad, Usage}
 use Rattle.command_core.specs.Command.{CommandLine}

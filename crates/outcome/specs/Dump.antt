@@ -13,13 +13,13 @@ use Rattle.adb_block.specs.ReaderPosition.{start_of}
 use Rattle.adb_block.specs.Reading.{Reading, done, fault, more, reading_of}
 use Rattle.adb_view.specs.Head.{head_fault, root_of}
 use Rattle.adb_view.specs.Schema.{shape_of}
-use Rattle.adb_schema.specs.Soundness.{first_payload, root_value}
+use Rattle.gen_core.specs.adb_schema.Soundness.{first_payload, root_value}
 use Rattle.adb_view.specs.Walk.{shape_fault}
 use Rattle.adb_view.specs.declared.tables.Which.{Which}
 use Rattle.adb_view.specs.declared.tables.Kind.TheVariants.{Obj}
-use Rattle.adb_dump.specs.Dump.{dump_text}
-use Rattle.make_info.specs.Reads.{Reads}
-use Rattle.pkg_core.specs.Whole.{root_of_schema}
+use Rattle.gen_core.specs.adb_dump.Dump.{dump_text}
+use Rattle.make_core.specs.make_info.Reads.{Reads}
+use Rattle.make_core.specs.pkg_core.Whole.{root_of_schema}
 use Rattle.outcome.specs.Outcome.{Outcome, just_refusal, just_report}
 
 -- the first fault of the framing of the remaining blocks; their payloads are not tested

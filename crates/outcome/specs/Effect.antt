@@ -1,7 +1,7 @@
 -- What a command reads, and what it changes. The rules are in `docs/commands.md`, "Commands that
 -- recover first", and in `docs/crash-safety.md`, "Misuses, faults and counts", its last paragraph.
 use Rattle.std.specs.Prelude.{ℕ, Bool, true, false, List, Option, None, Result, Ok, Err}
-use Rattle.make_info.specs.Output.{output_name}
+use Rattle.make_core.specs.make_info.Output.{output_name}
 use Rattle.command_core.specs.Command.{CommandLine}
 use Rattle.words_core.specs.Grammar.{command_of}
 use Rattle.command_core.specs.declared.command.Applet.{Applet}

@@ -11,9 +11,9 @@ use Rattle.command_core.specs.declared.values.TheConstants.{FILES}
 use Rattle.engine_core.specs.Changed.{IsClashFor, IsClashForAmong}
 use Rattle.engine_core.specs.Choice.{IsChoiceFrom}
 use Rattle.engine_core.specs.Selecting.{pool_for}
-use Rattle.make_info.specs.Reads.{Reads}
-use Rattle.package_files.specs.Sources.{AreNamesFor, values_with}
-use Rattle.path_clashes.specs.Clash.{NamePair}
+use Rattle.make_core.specs.make_info.Reads.{Reads}
+use Rattle.make_core.specs.package_files.Sources.{AreNamesFor, values_with}
+use Rattle.tell_core.specs.path_clashes.Clash.{NamePair}
 use Rattle.outcome.specs.Effect.{Effect, Changes, effect_of}
 use Rattle.outcome.specs.Make.{IsListing}
 

@@ -2,7 +2,7 @@
 -- container"; it serves the law `what_is_made_is_sound`.
 use Rattle.std.specs.Prelude.{◌≡◌, ℕ, ◌<◌, ◌^◌, List, length, Some, None}
 use Rattle.base_core.specs.Files.{Files}
-use Rattle.pkg_core.specs.Whole.{container_fault}
+use Rattle.make_core.specs.pkg_core.Whole.{container_fault}
 
 -- there is a file under the name; it passes all tests of a container, if it has fewer than 2 ^ 64 bytes
 abbrev pub IsSoundAt : List ℕ → Files → Type 0

@@ -1,12 +1,12 @@
 -- The files on which a command works, and why it may not begin. The rules are in `docs/commands.md`,
 -- "Commands that recover first", and in `docs/crash-safety.md`, "Recovery".
 use Rattle.std.specs.Prelude.{ℕ, List, Option, Some, None}
-use Rattle.adb_schema.specs.Soundness.{first_fault}
+use Rattle.gen_core.specs.adb_schema.Soundness.{first_fault}
 use Rattle.adb_view.specs.declared.tables.Which.TheVariants.{Intent as IntentTable}
 use Rattle.base_core.specs.Files.{Files}
 use Rattle.base_core.specs.declared.cause.Cause.{Cause}
-use Rattle.journal_core.specs.Recovery.{intent_name}
-use Rattle.journal_core.specs.Staged.{unstaged_files}
+use Rattle.engine_core.specs.journal_core.Recovery.{intent_name}
+use Rattle.engine_core.specs.journal_core.Staged.{unstaged_files}
 use Rattle.outcome.specs.Effect.{Effect, Computes, Reads, Tells, Makes, Changes}
 
 -- the files on which a command works: the recovered files, if it recovers

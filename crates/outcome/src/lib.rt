@@ -23,13 +23,13 @@ ghost use Rattle.base_core.specs.Files.{Files, HasNamesAmong};
 ghost use Rattle.base_core.specs.Listed.{IsListOf, IsNamesOf};
 ghost use Rattle.base_core.specs.Tree.{IsWellFormed, TreeState, files_of};
 ghost use Rattle.base_core.specs.declared.cause.Cause.{Cause};
-ghost use Rattle.change_inputs.specs.Inputs.{database_for};
+ghost use Rattle.tell_core.specs.change_inputs.Inputs.{database_for};
 ghost use Rattle.command_core.specs.Command.{CommandLine};
 ghost use Rattle.command_core.specs.declared.command.Applet.{Applet};
-ghost use Rattle.journal_core.specs.Recovery.{intent_name};
-ghost use Rattle.journal_core.specs.Staged.{AreReplayPathsFree, AreStagingPathsFree, unstaged_files};
-ghost use Rattle.installed_info.specs.declared.telling.ReportAndRefusal.{ReportAndRefusal};
-ghost use Rattle.make_info.specs.Reads.{Reads};
+ghost use Rattle.engine_core.specs.journal_core.Recovery.{intent_name};
+ghost use Rattle.engine_core.specs.journal_core.Staged.{AreReplayPathsFree, AreStagingPathsFree, unstaged_files};
+ghost use Rattle.tell_core.specs.installed_info.declared.telling.ReportAndRefusal.{ReportAndRefusal};
+ghost use Rattle.make_core.specs.make_info.Reads.{Reads};
 ghost use Rattle.outcome.specs.ChangeEnd.{IsChangeEnd, IsRunEnd, is_input_refusal};
 ghost use Rattle.outcome.specs.Commands.{IsOutcomeOf, IsOutcomeOn, reads_in};
 ghost use Rattle.outcome.specs.Effect.{Changes, Makes, Tells, does_recover, effect_by, effect_of, output, reads_only, depends_only_on_arguments};
@@ -45,17 +45,16 @@ ghost use Rattle.root_names.specs.RootNames.{database_name, text_database_name};
 ghost use Rattle.tell_core.specs.ReportForCommand.{report_for_command};
 ghost use Rattle.words_core.specs.Grammar.{command_of};
 
-use adb_schema::sound_containers_hold_sound_values;
 use base_core::{files_have_one_list_of_names, the_files_of_a_well_formed_state_are_named_files};
-use change_outcome::{
+use engine_core::{
     a_change_has_a_first_clash_or_none, a_change_keeps_paths_free,
     a_change_that_is_made_passes_each_test, a_change_that_writes_nothing_leaves_the_files,
+    a_choice_exists, a_choice_is_unique, an_intent_is_read_from_a_sound_container,
     what_is_read_of_a_root_is_in_the_tree,
 };
-use engine_core::{a_choice_exists, a_choice_is_unique};
-use installed_info::info_refuses_only_for_an_operand;
-use journal_intent::an_intent_is_read_from_a_sound_container;
+use gen_core::sound_containers_hold_sound_values;
 use make_core::{a_made_index_is_sound, a_made_package_is_sound};
+use tell_core::info_refuses_only_for_an_operand;
 
 /// A command line has an outcome over any files under finitely many names.
 pub fn an_outcome_exists()
@@ -288,3 +287,13 @@ pub fn what_is_made_is_sound()
     a_made_package_is_sound();
     a_made_index_is_sound();
 }
+
+pub use demo_lines::{
+    add_words, demo_count, demo_file, demo_line, demo_repositories, demo_text, mkndx_words,
+    mkpkg_words,
+};
+pub use gen_core::{
+    a_canonical_payload_is_read_back, a_canonical_payload_is_visited_once,
+    a_text_is_accepted_exactly_if_a_root_has_it, a_value_overflows_exactly_past_a_limit,
+    values_found_in_bytes_are_of_their_table,
+};

@@ -7,8 +7,8 @@ use Rattle.adb_block.specs.Reading.{Reading, done, fault, more, reading_of}
 use Rattle.adb_block.specs.ReaderPosition.{start_of}
 use Rattle.adb_block.specs.declared.block.BlockKind.{BlockKind}
 use Rattle.adb_block.specs.declared.block.BlockKind.TheVariants as Kinds
-use Rattle.adb_dump.specs.Dump.{dump_text}
-use Rattle.adb_schema.specs.Soundness.{block_fault, file_pair, first_payload, further_fault, payload_after_header, payload_in, root_value}
+use Rattle.outcome.specs.adb_dump.Dump.{dump_text}
+use Rattle.container_laws.specs.adb_schema.Soundness.{block_fault, file_pair, first_payload, further_fault, payload_after_header, payload_in, root_value}
 use Rattle.adb_view.specs.Head.{root_of}
 use Rattle.adb_view.specs.Plain.{Plain}
 use Rattle.adb_view.specs.Schema.{shape_of}
@@ -23,10 +23,10 @@ use Rattle.base_core.proofs.Causes.{both_none}
 use Rattle.command_core.specs.Files.{without_dot}
 use Rattle.command_core.specs.declared.operands.Operand.{Operand}
 use Rattle.container_laws.specs.TestsInOrder.{PassesEveryTest}
-use Rattle.make_info.specs.Reads.{Reads}
+use Rattle.outcome.specs.make_info.Reads.{Reads}
 use Rattle.outcome.specs.Dump.{adbdump, dump_fault, dump_of, dump_of_blocks, dump_outcome, dump_with_root, dump_with_schema, framing_fault, or_text, text_outcome}
-use Rattle.pkg_core.specs.Contents.{Expected, POSITIONS_LEN, contents_block_fault, expected_contents, fault_in, files_at_block, files_by_blocks, unless_fault, with_next}
-use Rattle.pkg_core.specs.Whole.{fault_after_first, root_of_schema}
+use Rattle.container_laws.specs.pkg_core.Contents.{Expected, POSITIONS_LEN, contents_block_fault, expected_contents, fault_in, files_at_block, files_by_blocks, unless_fault, with_next}
+use Rattle.container_laws.specs.pkg_core.Whole.{fault_after_first, root_of_schema}
 use Rattle.report_core.specs.declared.refusal.Refusal.TheVariants.{FileBad, FileMissing}
 use Rattle.outcome_laws.specs.DumpedFiles.{HasTextOfValue}
 

@@ -9,10 +9,10 @@ use Rattle.command_core.specs.Files.{without_dot}
 use Rattle.command_core.specs.declared.operands.Operand.{Operand}
 use Rattle.container_laws.proofs.EveryTest.{every_test}
 use Rattle.container_laws.proofs.FirstTests.{any_told}
-use Rattle.make_info.specs.Reads.{Reads}
+use Rattle.outcome.specs.make_info.Reads.{Reads}
 use Rattle.outcome.specs.Outcome.{report_unless}
 use Rattle.outcome.specs.Verify.{file_refusal, sound_lines, test_refusal, verify, verify_refusal}
-use Rattle.pkg_core.specs.Whole.{container_fault}
+use Rattle.container_laws.specs.pkg_core.Whole.{container_fault}
 use Rattle.report_core.specs.Reports.{report_line, report_lines}
 use Rattle.report_core.specs.declared.refusal.Refusal.{Refusal}
 use Rattle.report_core.specs.declared.refusal.Refusal.TheVariants.{FileBad, FileMissing}

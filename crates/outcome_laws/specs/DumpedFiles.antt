@@ -2,10 +2,10 @@
 -- in `docs/formats.md`, "Dump text". Serves the laws of `src/dump.rt`.
 use Rattle.std.specs.Prelude.{◌≡◌, ℕ, List, Some, Ok}
 use Rattle.adb_block.specs.Header.{header_of}
-use Rattle.adb_dump.specs.Dump.{dump_text}
-use Rattle.adb_schema.specs.Soundness.{payload_in, root_value}
+use Rattle.outcome.specs.adb_dump.Dump.{dump_text}
+use Rattle.container_laws.specs.adb_schema.Soundness.{payload_in, root_value}
 use Rattle.adb_view.specs.declared.tables.Which.{Which}
-use Rattle.pkg_core.specs.Whole.{root_of_schema}
+use Rattle.container_laws.specs.pkg_core.Whole.{root_of_schema}
 
 -- a text is that of the value of a file, by the table that the schema of its header has at its root
 pub record HasTextOfValue (file text : List ℕ) : Type 0 where

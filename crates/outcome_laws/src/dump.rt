@@ -6,7 +6,7 @@ ghost use Rattle.base_core.specs.Files.{Files};
 ghost use Rattle.command_core.specs.Files.{without_dot};
 ghost use Rattle.command_core.specs.declared.operands.Operand.{Operand};
 ghost use Rattle.container_laws.specs.TestsInOrder.{PassesEveryTest};
-ghost use Rattle.make_info.specs.Reads.{Reads};
+ghost use Rattle.outcome.specs.make_info.Reads.{Reads};
 ghost use Rattle.outcome.specs.Dump.{adbdump};
 ghost use Rattle.outcome_laws.specs.DumpedFiles.{HasTextOfValue};
 ghost use Rattle.report_core.specs.declared.refusal.Refusal.TheVariants.{FileMissing};

@@ -5,7 +5,7 @@ ghost use Rattle.std.specs.Prelude.{◌≡◌, ◌↔◌, ◌++◌, [], List, So
 ghost use Rattle.base_core.specs.Files.{Files};
 ghost use Rattle.command_core.specs.Files.{without_dot};
 ghost use Rattle.command_core.specs.declared.operands.Operand.{Operand};
-ghost use Rattle.make_info.specs.Reads.{Reads};
+ghost use Rattle.outcome.specs.make_info.Reads.{Reads};
 ghost use Rattle.outcome.specs.Verify.{verify};
 ghost use Rattle.outcome_laws.specs.TestedFiles.{AreFilesSound, IsFirstUnsound};
 ghost use Rattle.report_core.specs.Reports.{report_lines};

@@ -9,16 +9,16 @@ use Rattle.std.proofs.lemmas.Bool.{le-leb}
 use Rattle.base_core.specs.Listed.{IsRising}
 use Rattle.base_core.specs.ByteOrder.{bytes_cmp}
 use Rattle.base_core.proofs.Sorting.{sorted_up}
-use Rattle.db_core.specs.Members.{members_of_kept}
-use Rattle.db_core.specs.Seen.{members_of, packages_of}
-use Rattle.path_claims.specs.Claims.{PathClaim, claim_cmp, is_of_path}
-use Rattle.path_claims.specs.Seen.{claim_seen}
-use Rattle.path_claims.specs.declared.claim.Claim.{Claim}
-use Rattle.path_claims.proofs.ClaimOrder.{claims_total}
-use Rattle.path_claims.proofs.Places.{map_len, seen_at}
-use Rattle.file_guard.specs.Listed.{IsOfEntry}
-use Rattle.file_guard.specs.declared.compare.ListedFile.{ListedFile}
-use Rattle.file_owners.specs.Owners.{claims_in}
+use Rattle.change_files.specs.db_core.Members.{members_of_kept}
+use Rattle.change_files.specs.db_core.Seen.{members_of, packages_of}
+use Rattle.path_claim_lists.specs.path_claims.Claims.{PathClaim, claim_cmp, is_of_path}
+use Rattle.path_claim_lists.specs.path_claims.Seen.{claim_seen}
+use Rattle.path_claim_lists.specs.path_claims.declared.claim.Claim.{Claim}
+use Rattle.path_claim_lists.proofs.path_claims.ClaimOrder.{claims_total}
+use Rattle.path_claim_lists.proofs.path_claims.Places.{map_len, seen_at}
+use Rattle.change_files.specs.file_guard.Listed.{IsOfEntry}
+use Rattle.change_files.specs.file_guard.declared.compare.ListedFile.{ListedFile}
+use Rattle.change_files.specs.file_owners.Owners.{claims_in}
 use Rattle.change_files.specs.FileChange.{is_claimed, old_entry, old_listings}
 use Rattle.own_core.specs.ClaimEntries.{claim_entry}
 use Rattle.own_core.specs.Fates.{IsOfEntryIfAny}

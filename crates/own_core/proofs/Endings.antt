@@ -7,7 +7,7 @@ use Rattle.std.proofs.lemmas.List.Folds.{list_any-append}
 use Rattle.std.proofs.Math.Seq.{take-append_seam, drop-append_seam}
 use Rattle.base_core.specs.Name.{IsName}
 use Rattle.base_core.proofs.NameParts.{IsEnding, ending_makes_name}
-use Rattle.adb_fields.specs.Paths.{path_of}
+use Rattle.path_claim_lists.specs.adb_fields.Paths.{path_of}
 use Rattle.change_files.specs.Fate.{aside_name}
 use Rattle.change_files.specs.FilesAfter.{path_beside}
 

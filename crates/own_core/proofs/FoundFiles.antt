@@ -8,9 +8,9 @@ use Rattle.base_core.specs.Files.{Files}
 use Rattle.base_core.specs.Tree.{TreeState, files_of}
 use Rattle.base_core.proofs.Rising as Names
 use Rattle.base_core.proofs.NameParts.{other_bytes}
-use Rattle.path_claims.specs.Claims.{PathClaim}
-use Rattle.claim_lists.proofs.Firsts.{paths}
-use Rattle.claim_lists.proofs.PathOrder.{less_apart}
+use Rattle.path_claim_lists.specs.path_claims.Claims.{PathClaim}
+use Rattle.path_claim_lists.proofs.Firsts.{paths}
+use Rattle.path_claim_lists.proofs.PathOrder.{less_apart}
 use Rattle.own_core.specs.Found.{AreAnswersByFiles, said_of}
 
 pub by_tree : {Y : Type 0} (said : PathClaim → Option (List ℕ) → Y) (v : TreeState) (earlier : List TreeState) (cs : List PathClaim) (ys : List Y) → AreAnswersByFiles said (v ∷ earlier) cs ys → ys ≡ said_of said (files_of v) cs

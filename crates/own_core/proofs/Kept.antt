@@ -2,11 +2,11 @@
 use Rattle.std.proofs.Common.{◌≡◌, ℕ, suc, zero, ◌+◌, ◌<◌, ◌≤◌, Bool, true, false, cond, List, [], ◌∷◌, ◌++◌, length, map, take, Some, refl, ap, sym, ◌∙◌, arith}
 use Rattle.std.specs.Prelude.{slice_get, slice_index_or}
 use Rattle.std.specs.List.{filter}
-use Rattle.path_claims.specs.Claims.{PathClaim}
-use Rattle.path_claims.specs.Seen.{claim_seen}
-use Rattle.path_claims.specs.declared.claim.Claim.{Claim}
-use Rattle.path_claims.proofs.Places.{map_len, no_some, seen_at, value_or}
-use Rattle.claim_lists.proofs.Lists.{some_at, take_whole}
+use Rattle.path_claim_lists.specs.path_claims.Claims.{PathClaim}
+use Rattle.path_claim_lists.specs.path_claims.Seen.{claim_seen}
+use Rattle.path_claim_lists.specs.path_claims.declared.claim.Claim.{Claim}
+use Rattle.path_claim_lists.proofs.path_claims.Places.{map_len, no_some, seen_at, value_or}
+use Rattle.path_claim_lists.proofs.Lists.{some_at, take_whole}
 use Rattle.own_core.specs.Fates.{marked_claims}
 
 pub map_more : {X Y : Type 0} (f : X → Y) (xs : List X) (x : X) → map f (xs ++ x ∷ []) ≡ map f xs ++ f x ∷ []

@@ -1,3 +1,6 @@
+-- passed on: a crate above that names this one need not name these
+pub use Rattle.change_files.proofs as change_files
+pub use Rattle.change_files.proofs.file_owners as file_owners
 pub mod Written
 pub mod NamesOnce
 pub mod OwnNames

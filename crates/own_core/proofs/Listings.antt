@@ -10,18 +10,18 @@ use Rattle.std.proofs.Math.Bool.{and-false}
 use Rattle.base_core.specs.Name.{IsName}
 use Rattle.adb_view.specs.Plain.{Plains, none, more}
 use Rattle.adb_view.specs.Values.{count_of, entries_in, entry_in, nth}
-use Rattle.adb_fields.specs.Repeated.{files_in, list_of, name_of}
+use Rattle.path_claim_lists.specs.adb_fields.Repeated.{files_in, list_of, name_of}
 use Rattle.base_core.specs.Sorted.{sorted_by}
 use Rattle.base_core.proofs.Sorting.{Each, stable_in_order}
-use Rattle.db_core.specs.Members.{Listing, Member, claims_of, is_added, listings_by, listings_from, listings_in_folder, listings_in_folders, member_listing, member_listings}
-use Rattle.path_claims.specs.Claims.{PathClaim, claim_cmp, is_member, is_of_path}
-use Rattle.path_claims.proofs.ClaimOrder.{claims_total}
-use Rattle.path_claims.proofs.Owned.{ties_path}
-use Rattle.path_claims.proofs.Places.{no_some, value_or}
-use Rattle.path_claims.proofs.Runs.{filter_ext}
-use Rattle.path_claims.proofs.Whole.{from_sorted}
-use Rattle.claim_lists.proofs.Lists.{found_ext, found_filtered, found_first, found_is, first_of}
-use Rattle.file_owners.specs.Owners.{claim_by, claims_from, claims_in, owner_of_path}
+use Rattle.change_files.specs.db_core.Members.{Listing, Member, claims_of, is_added, listings_by, listings_from, listings_in_folder, listings_in_folders, member_listing, member_listings}
+use Rattle.path_claim_lists.specs.path_claims.Claims.{PathClaim, claim_cmp, is_member, is_of_path}
+use Rattle.path_claim_lists.proofs.path_claims.ClaimOrder.{claims_total}
+use Rattle.path_claim_lists.proofs.path_claims.Owned.{ties_path}
+use Rattle.path_claim_lists.proofs.path_claims.Places.{no_some, value_or}
+use Rattle.path_claim_lists.proofs.path_claims.Runs.{filter_ext}
+use Rattle.path_claim_lists.proofs.path_claims.Whole.{from_sorted}
+use Rattle.path_claim_lists.proofs.Lists.{found_ext, found_filtered, found_first, found_is, first_of}
+use Rattle.change_files.specs.file_owners.Owners.{claim_by, claims_from, claims_in, owner_of_path}
 use Rattle.change_files.specs.FileChange.{FileChange, added_owner_listing, if_member_added, is_claimed, old_entry, old_listings, owner_listing}
 use Rattle.own_core.specs.ClaimEntries.{AreClaimsOf, HasFileAt, IsClaimOf, claim_entry, is_added_at, is_added_if_any, listed_file_at, folders_if_any, is_of_added_owner}
 

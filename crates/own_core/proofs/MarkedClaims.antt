@@ -5,12 +5,12 @@ use Rattle.std.specs.List.{filter, find}
 use Rattle.std.specs.List.Sorted.{IsSorted}
 use Rattle.base_core.specs.Tree.{TreeState}
 use Rattle.base_core.proofs.Rising as Names
-use Rattle.db_core.specs.Members.{Member}
-use Rattle.path_claims.specs.Claims.{PathClaim, claim_cmp}
-use Rattle.path_claims.specs.Seen.{claim_seen}
-use Rattle.path_claims.specs.declared.claim.Claim.{Claim}
-use Rattle.path_claims.proofs.Places.{map_len, no_some}
-use Rattle.claim_lists.proofs.Firsts.{paths}
+use Rattle.change_files.specs.db_core.Members.{Member}
+use Rattle.path_claim_lists.specs.path_claims.Claims.{PathClaim, claim_cmp}
+use Rattle.path_claim_lists.specs.path_claims.Seen.{claim_seen}
+use Rattle.path_claim_lists.specs.path_claims.declared.claim.Claim.{Claim}
+use Rattle.path_claim_lists.proofs.path_claims.Places.{map_len, no_some}
+use Rattle.path_claim_lists.proofs.Firsts.{paths}
 use Rattle.own_core.specs.ClaimEntries.{AreClaimsOf}
 use Rattle.own_core.specs.Fates.{marked_claims}
 use Rattle.own_core.specs.Found.{AreAnswersByFiles}

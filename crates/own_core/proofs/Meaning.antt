@@ -6,12 +6,12 @@ use Rattle.std.specs.List.{filter, find, list_any}
 use Rattle.base_core.specs.Files.{Files}
 use Rattle.base_core.proofs.Rising as Names
 use Rattle.base_core.specs.Sorted.{sorted_by}
-use Rattle.db_core.specs.Members.{Listing, is_added, member_listings, members_of_kept}
-use Rattle.path_claims.specs.Claims.{PathClaim, claim_cmp, is_of_path}
-use Rattle.path_claims.proofs.Places.{no_some, value_or}
-use Rattle.claim_lists.proofs.Firsts.{found_in, in_found, paths}
-use Rattle.claim_lists.proofs.Lists.{found_passes}
-use Rattle.file_owners.specs.Owners.{claims_in}
+use Rattle.change_files.specs.db_core.Members.{Listing, is_added, member_listings, members_of_kept}
+use Rattle.path_claim_lists.specs.path_claims.Claims.{PathClaim, claim_cmp, is_of_path}
+use Rattle.path_claim_lists.proofs.path_claims.Places.{no_some, value_or}
+use Rattle.path_claim_lists.proofs.Firsts.{found_in, in_found, paths}
+use Rattle.path_claim_lists.proofs.Lists.{found_passes}
+use Rattle.change_files.specs.file_owners.Owners.{claims_in}
 use Rattle.change_files.specs.Fate as Fates
 use Rattle.change_files.specs.Fate.{fate_by, fate_of, goes_aside, goes_in, gives_way, is_guarded}
 use Rattle.change_files.specs.FileChange.{FileChange, added_owner_listing, if_member_added, is_claimed, old_entry, old_listings, owner_listing, was_listed}

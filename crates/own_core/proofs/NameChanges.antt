@@ -13,11 +13,11 @@ use Rattle.base_core.specs.Sorted.{sorted_by, with_element}
 use Rattle.base_core.proofs.Sorting.{Each}
 use Rattle.base_core.proofs.Booleans.{or_swap}
 use Rattle.base_core.proofs.AtName.{either_way}
-use Rattle.db_core.specs.Members.{Listing, Member, is_added, member_listings, members_of_kept}
-use Rattle.db_core.specs.Seen.{members_of}
-use Rattle.path_claims.specs.Claims.{PathClaim, claim_cmp, is_of_path}
-use Rattle.claim_lists.specs.Once.{HasFirsts}
-use Rattle.file_owners.specs.Owners.{claims_from, claims_in}
+use Rattle.change_files.specs.db_core.Members.{Listing, Member, is_added, member_listings, members_of_kept}
+use Rattle.change_files.specs.db_core.Seen.{members_of}
+use Rattle.path_claim_lists.specs.path_claims.Claims.{PathClaim, claim_cmp, is_of_path}
+use Rattle.path_claim_lists.specs.Once.{HasFirsts}
+use Rattle.change_files.specs.file_owners.Owners.{claims_from, claims_in}
 use Rattle.change_files.specs.Fate.{aside_name}
 use Rattle.change_files.specs.FileChange.{old_entry, was_listed}
 use Rattle.change_files.specs.FilesAfter.{database_name, is_kept, is_no_longer_listed, aside_claim_at, may_be_kept, path_beside, world_name}

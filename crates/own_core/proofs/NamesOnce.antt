@@ -9,9 +9,9 @@ use Rattle.base_core.proofs.Rising as Names
 use Rattle.base_core.specs.ByteOrder.{bytes_cmp, precedes}
 use Rattle.base_core.proofs.Sorting as Sorting
 use Rattle.base_core.proofs.Orderings.{is_less}
-use Rattle.path_claims.specs.Claims.{PathClaim, is_of_path}
-use Rattle.claim_lists.proofs.Firsts.{paths}
-use Rattle.claim_lists.proofs.PathOrder.{behind}
+use Rattle.path_claim_lists.specs.path_claims.Claims.{PathClaim, is_of_path}
+use Rattle.path_claim_lists.proofs.Firsts.{paths}
+use Rattle.path_claim_lists.proofs.PathOrder.{behind}
 use Rattle.change_files.specs.PlanLists.{names_in_order, unless_next, without_repeats}
 use Rattle.change_files.proofs.InOrder.{from_with, in_sorted, from_sorted, from_unless, from_once, in_order, from_order, order_rises, filter_rises}
 

@@ -5,13 +5,13 @@ use Rattle.adb_view.specs.Plain.{Plain}
 use Rattle.base_core.specs.Calls.{IfObservable}
 use Rattle.base_core.specs.Tree.{TreeState, files_of}
 use Rattle.base_core.proofs.Observed.{found_there}
-use Rattle.db_core.specs.Members.{members_of_kept}
-use Rattle.path_claims.specs.Claims.{PathClaim}
-use Rattle.file_guard.specs.AsListed.{is_as_listed}
-use Rattle.file_guard.specs.Listed.{IsOfEntry, comparison_of, is_as_described}
-use Rattle.file_guard.specs.declared.compare.Comparison.{Comparison}
-use Rattle.file_guard.specs.declared.compare.ListedFile.{ListedFile}
-use Rattle.file_guard.proofs.Told.{told_as_listed}
+use Rattle.change_files.specs.db_core.Members.{members_of_kept}
+use Rattle.path_claim_lists.specs.path_claims.Claims.{PathClaim}
+use Rattle.change_files.specs.file_guard.AsListed.{is_as_listed}
+use Rattle.change_files.specs.file_guard.Listed.{IsOfEntry, comparison_of, is_as_described}
+use Rattle.change_files.specs.file_guard.declared.compare.Comparison.{Comparison}
+use Rattle.change_files.specs.file_guard.declared.compare.ListedFile.{ListedFile}
+use Rattle.change_files.proofs.file_guard.Told.{told_as_listed}
 use Rattle.change_files.specs.Fate as Fates
 use Rattle.change_files.specs.Fate.{fate_beside, fate_by, goes_in, is_as_old, is_guarded}
 use Rattle.change_files.specs.FileChange.{FileChange, old_entry}

@@ -2,15 +2,15 @@
 use Rattle.std.proofs.Common.{◌≡◌, inl, inr, ℕ, zero, suc, ◌≤◌, Bool, true, false, List, [], ◌∷◌, length, map, All, Contains, Option, Some, None, Result, Ok, Err, refl, ap, sym, subst, arith, true≢false}
 use Rattle.std.specs.Prelude.{◌&&◌, ◌||◌, not, if◌then◌else◌, is_some, nat_le, IfOk}
 use Rattle.std.proofs.lemmas.Bool.{and_parts, leb-true}
-use Rattle.adb_schema.specs.Reserved.{is_reserved}
+use Rattle.change_files.specs.adb_schema.Reserved.{is_reserved}
 use Rattle.adb_view.specs.Plain.{Plain}
 use Rattle.base_core.specs.Files.{Files}
 use Rattle.base_core.specs.Listed.{IsRising}
 use Rattle.base_core.specs.Name.{IsName}
 use Rattle.base_core.specs.Tree.{TreeState}
 use Rattle.base_core.proofs.Rising as Names
-use Rattle.db_core.specs.Members.{Listing, member_listings, member_of_kept}
-use Rattle.file_guard.specs.AsListed.{is_as_listed}
+use Rattle.change_files.specs.db_core.Members.{Listing, member_listings, member_of_kept}
+use Rattle.change_files.specs.file_guard.AsListed.{is_as_listed}
 use Rattle.change_files.specs.Fate.{agrees_with_old, aside_name, fate_beside, fate_by, fate_of, gives_way, goes_aside, goes_in, is_as_old, is_guarded}
 use Rattle.change_files.specs.FileChange.{FileChange, is_claimed, old_entry, old_listings}
 use Rattle.change_files.specs.FilesAfter.{is_removed, is_written, aside_claim_at, written_as}

@@ -8,14 +8,14 @@ use Rattle.base_core.specs.Tree.{TreeState}
 use Rattle.base_core.proofs.Rising as Names
 use Rattle.base_core.specs.Sorted.{sorted_by}
 use Rattle.base_core.proofs.Sorting.{Each}
-use Rattle.db_core.specs.Seen.{members_of}
-use Rattle.db_core.specs.Members.{members_of_kept}
-use Rattle.path_claims.specs.Claims.{PathClaim, claim_cmp, is_of_path}
-use Rattle.path_claims.proofs.Places.{no_some, value_or}
-use Rattle.claim_lists.specs.Named.{HaveNames}
-use Rattle.claim_lists.specs.Once.{HasFirsts}
-use Rattle.claim_lists.proofs.Firsts.{paths}
-use Rattle.file_owners.specs.Owners.{claims_in}
+use Rattle.change_files.specs.db_core.Seen.{members_of}
+use Rattle.change_files.specs.db_core.Members.{members_of_kept}
+use Rattle.path_claim_lists.specs.path_claims.Claims.{PathClaim, claim_cmp, is_of_path}
+use Rattle.path_claim_lists.proofs.path_claims.Places.{no_some, value_or}
+use Rattle.path_claim_lists.specs.Named.{HaveNames}
+use Rattle.path_claim_lists.specs.Once.{HasFirsts}
+use Rattle.path_claim_lists.proofs.Firsts.{paths}
+use Rattle.change_files.specs.file_owners.Owners.{claims_in}
 use Rattle.change_files.specs.Fate as Fates
 use Rattle.change_files.specs.Fate.{gives_way, goes_aside, goes_in}
 use Rattle.change_files.specs.FileChange.{FileChange}

@@ -14,16 +14,16 @@ use Rattle.base_core.specs.ByteOrder.{bytes_cmp}
 use Rattle.base_core.specs.Sorted.{sorted_by, with_element}
 use Rattle.base_core.proofs.Sorting.{Each, sorted_up}
 use Rattle.base_core.proofs.Orderings.{names_total}
-use Rattle.db_core.specs.Members.{Member, member_listings, members_of_kept}
-use Rattle.db_core.specs.Seen.{members_of, packages_of}
-use Rattle.path_claims.specs.Claims.{PathClaim, claim_cmp, is_of_path}
-use Rattle.path_clashes.specs.Clash.{NameChange}
-use Rattle.path_clashes.specs.ClashSeen.{clash_seen}
-use Rattle.path_clashes.specs.FirstClash.{IsClashOf, MayBeClashOf}
-use Rattle.path_clashes.specs.declared.clash.Clash.{Clash}
-use Rattle.claim_lists.specs.Once.{HasFirsts}
-use Rattle.claim_lists.proofs.Firsts.{paths}
-use Rattle.file_owners.specs.Owners.{claims_in}
+use Rattle.change_files.specs.db_core.Members.{Member, member_listings, members_of_kept}
+use Rattle.change_files.specs.db_core.Seen.{members_of, packages_of}
+use Rattle.path_claim_lists.specs.path_claims.Claims.{PathClaim, claim_cmp, is_of_path}
+use Rattle.path_claim_lists.specs.path_clashes.Clash.{NameChange}
+use Rattle.path_claim_lists.specs.path_clashes.ClashSeen.{clash_seen}
+use Rattle.path_claim_lists.specs.path_clashes.FirstClash.{IsClashOf, MayBeClashOf}
+use Rattle.path_claim_lists.specs.path_clashes.declared.clash.Clash.{Clash}
+use Rattle.path_claim_lists.specs.Once.{HasFirsts}
+use Rattle.path_claim_lists.proofs.Firsts.{paths}
+use Rattle.change_files.specs.file_owners.Owners.{claims_in}
 use Rattle.change_files.specs.Fate.{aside_name}
 use Rattle.change_files.specs.FilesAfter.{database_name, world_name}
 use Rattle.change_files.specs.NamesAfter.{name_change}

@@ -13,18 +13,18 @@ use Rattle.base_core.specs.Sorted.{sorted_by}
 use Rattle.base_core.proofs.Smallest.{smallest_first}
 use Rattle.base_core.proofs.Sorting.{Each, Rises, one_order, ranks, rises_in_order, stable_in_order}
 use Rattle.base_core.proofs.Orderings.{names_total}
-use Rattle.adb_schema.specs.Reserved.{is_reserved}
-use Rattle.db_core.specs.Members.{Listing, Member, is_added, member_listings}
-use Rattle.path_claims.specs.Claims.{ContestedPath, PathClaim, claim_cmp, claimants, contested_at, contested_by, contested_path, is_of_path, owner_by}
-use Rattle.path_claims.specs.Contest.{first_rivals, rivals_of}
-use Rattle.path_claims.specs.Seen.{claim_seen}
-use Rattle.path_claims.specs.declared.claim.Claim.{Claim}
-use Rattle.path_claims.specs.declared.contest.Rivals.{Rivals}
-use Rattle.path_claims.proofs.ClaimOrder.{claims_total}
-use Rattle.path_claims.proofs.Places.{map_len, no_some, seen_at, value_or}
-use Rattle.path_claims.proofs.Whole.{paths_in_order}
-use Rattle.claim_lists.proofs.Lists.{filter_swap, first_of, found_both, found_first, found_is, or_found, take_at, take_whole}
-use Rattle.file_owners.specs.Owners.{claim_by, claims_from, claims_in, contested_of, member_beats}
+use Rattle.change_files.specs.adb_schema.Reserved.{is_reserved}
+use Rattle.change_files.specs.db_core.Members.{Listing, Member, is_added, member_listings}
+use Rattle.path_claim_lists.specs.path_claims.Claims.{ContestedPath, PathClaim, claim_cmp, claimants, contested_at, contested_by, contested_path, is_of_path, owner_by}
+use Rattle.path_claim_lists.specs.path_claims.Contest.{first_rivals, rivals_of}
+use Rattle.path_claim_lists.specs.path_claims.Seen.{claim_seen}
+use Rattle.path_claim_lists.specs.path_claims.declared.claim.Claim.{Claim}
+use Rattle.path_claim_lists.specs.path_claims.declared.contest.Rivals.{Rivals}
+use Rattle.path_claim_lists.proofs.path_claims.ClaimOrder.{claims_total}
+use Rattle.path_claim_lists.proofs.path_claims.Places.{map_len, no_some, seen_at, value_or}
+use Rattle.path_claim_lists.proofs.path_claims.Whole.{paths_in_order}
+use Rattle.path_claim_lists.proofs.Lists.{filter_swap, first_of, found_both, found_first, found_is, or_found, take_at, take_whole}
+use Rattle.change_files.specs.file_owners.Owners.{claim_by, claims_from, claims_in, contested_of, member_beats}
 use Rattle.change_files.specs.PlanLists.{first_reserved}
 use Rattle.change_files.proofs.InOrder.{from_sorted}
 use Rattle.own_core.specs.ClaimEntries.{is_added_at, is_added_if_any, is_added_and_reserved}

@@ -5,10 +5,10 @@ use Rattle.base_core.specs.Faults.{Counts}
 use Rattle.base_core.specs.Read.{OnlyReads}
 use Rattle.base_core.specs.Tree.{TreeState}
 use Rattle.base_core.proofs.Counting.{readings_two}
-use Rattle.path_claims.specs.Claims.{PathClaim}
-use Rattle.path_claims.specs.Seen.{claim_seen}
-use Rattle.path_claims.specs.declared.claim.Claim.{Claim}
-use Rattle.claim_lists.proofs.Lists.{take_at, take_whole}
+use Rattle.path_claim_lists.specs.path_claims.Claims.{PathClaim}
+use Rattle.path_claim_lists.specs.path_claims.Seen.{claim_seen}
+use Rattle.path_claim_lists.specs.path_claims.declared.claim.Claim.{Claim}
+use Rattle.path_claim_lists.proofs.Lists.{take_at, take_whole}
 use Rattle.own_core.specs.Found.{AreAnswersByFiles, IsByFile}
 use Rattle.own_core.proofs.Kept.{map_more, same_map}
 

@@ -10,18 +10,18 @@ use Rattle.base_core.specs.Tree.{TreeState, files_of}
 use Rattle.base_core.specs.Files.{Files}
 use Rattle.base_core.proofs.Rising as Names
 use Rattle.base_core.proofs.Counting.{readings_two}
-use Rattle.db_core.specs.Members.{Member}
-use Rattle.db_core.specs.Seen.{members_of}
-use Rattle.path_claims.specs.Claims.{PathClaim, is_of_path}
-use Rattle.path_claims.specs.Seen.{claim_seen}
-use Rattle.path_claims.specs.declared.claim.Claim.{Claim}
-use Rattle.path_clashes.specs.Clash.{HasNoClash, NameChange, NamePair}
-use Rattle.path_clashes.specs.ClashSeen.{clash_seen}
-use Rattle.path_clashes.specs.FirstClash.{IsClashOf, MayBeClashOf}
-use Rattle.path_clashes.specs.declared.clash.Clash.{Clash}
-use Rattle.claim_lists.specs.Once.{HasFirsts}
-use Rattle.claim_lists.proofs.Firsts.{found_in, paths}
-use Rattle.claim_lists.proofs.Lists.{found_passes, found_some}
+use Rattle.change_files.specs.db_core.Members.{Member}
+use Rattle.change_files.specs.db_core.Seen.{members_of}
+use Rattle.path_claim_lists.specs.path_claims.Claims.{PathClaim, is_of_path}
+use Rattle.path_claim_lists.specs.path_claims.Seen.{claim_seen}
+use Rattle.path_claim_lists.specs.path_claims.declared.claim.Claim.{Claim}
+use Rattle.path_claim_lists.specs.path_clashes.Clash.{HasNoClash, NameChange, NamePair}
+use Rattle.path_claim_lists.specs.path_clashes.ClashSeen.{clash_seen}
+use Rattle.path_claim_lists.specs.path_clashes.FirstClash.{IsClashOf, MayBeClashOf}
+use Rattle.path_claim_lists.specs.path_clashes.declared.clash.Clash.{Clash}
+use Rattle.path_claim_lists.specs.Once.{HasFirsts}
+use Rattle.path_claim_lists.proofs.Firsts.{found_in, paths}
+use Rattle.path_claim_lists.proofs.Lists.{found_passes, found_some}
 use Rattle.change_files.specs.FileChange.{is_claimed}
 use Rattle.change_files.specs.NamesAfter.{name_change}
 use Rattle.own_core.specs.ClaimEntries.{AreClaimsOf, is_of_added_owner}

@@ -12,15 +12,15 @@ use Rattle.base_core.specs.ByteOrder.{bytes_cmp}
 use Rattle.base_core.specs.Sorted.{sorted_by, with_element}
 use Rattle.base_core.proofs.Sorting as Sorting
 use Rattle.base_core.proofs.Sorting.{Each, sort_seen, sorted_up, stable}
-use Rattle.db_core.specs.Members.{Listing}
-use Rattle.path_claims.specs.Claims.{PathClaim, claim_cmp, is_of_path}
-use Rattle.claim_lists.proofs.Firsts.{found_in, paths}
-use Rattle.claim_lists.proofs.Lists.{found_is}
-use Rattle.claim_lists.proofs.PathOrder.{behind, less_apart}
-use Rattle.file_owners.specs.Owners.{claims_in}
+use Rattle.change_files.specs.db_core.Members.{Listing}
+use Rattle.path_claim_lists.specs.path_claims.Claims.{PathClaim, claim_cmp, is_of_path}
+use Rattle.path_claim_lists.proofs.Firsts.{found_in, paths}
+use Rattle.path_claim_lists.proofs.Lists.{found_is}
+use Rattle.path_claim_lists.proofs.PathOrder.{behind, less_apart}
+use Rattle.change_files.specs.file_owners.Owners.{claims_in}
 use Rattle.change_files.specs.Fate as Fates
 use Rattle.change_files.specs.Fate.{agrees_with_old, aside_name, fate_by, fate_of, goes_aside, goes_in, gives_way, is_as_old, is_guarded}
-use Rattle.file_guard.specs.AsListed.{is_as_listed}
+use Rattle.change_files.specs.file_guard.AsListed.{is_as_listed}
 use Rattle.change_files.specs.FileChange.{FileChange, added_owner_listing, is_claimed, old_entry}
 use Rattle.change_files.specs.FilesAfter.{if_aside, if_in, aside_claim_at, path_beside, written_as, written_in}
 use Rattle.std.specs.Option.{option_or}

@@ -2,13 +2,13 @@
 use Rattle.std.proofs.Common.{◌≡◌, ℕ, suc, zero, ◌+◌, ◌<◌, ◌≤◌, Bool, true, false, cond, List, [], ◌∷◌, ◌++◌, length, map, take, Some, refl, ap, sym, ◌∙◌, arith, append_assoc}
 use Rattle.std.specs.Prelude.{slice_get, slice_index_or}
 use Rattle.std.specs.List.{filter}
-use Rattle.adb_fields.specs.JoinedPath.{joined_path}
-use Rattle.adb_fields.specs.declared.file_path.FilePath.{FilePath}
-use Rattle.path_claims.specs.Claims.{PathClaim}
-use Rattle.path_claims.proofs.Places.{map_len, seen_at}
-use Rattle.path_claims.specs.Seen.{claim_seen}
-use Rattle.path_claims.specs.declared.claim.Claim.{Claim}
-use Rattle.claim_lists.proofs.Lists.{take_at, take_whole}
+use Rattle.path_claim_lists.specs.adb_fields.JoinedPath.{joined_path}
+use Rattle.path_claim_lists.specs.adb_fields.declared.file_path.FilePath.{FilePath}
+use Rattle.path_claim_lists.specs.path_claims.Claims.{PathClaim}
+use Rattle.path_claim_lists.proofs.path_claims.Places.{map_len, seen_at}
+use Rattle.path_claim_lists.specs.path_claims.Seen.{claim_seen}
+use Rattle.path_claim_lists.specs.path_claims.declared.claim.Claim.{Claim}
+use Rattle.path_claim_lists.proofs.Lists.{take_at, take_whole}
 use Rattle.change_files.specs.PlanLists.{FileWrite}
 use Rattle.own_core.specs.WritesSeen.{write_by}
 use Rattle.own_core.proofs.Kept.{filter_step, map_more, none_more}

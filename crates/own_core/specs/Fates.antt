@@ -3,9 +3,9 @@
 -- user's**; *fate_by* of `change_files` defines it.
 use Rattle.std.specs.Prelude.{ℕ, Bool, true, false, not, ◌&&◌, nat_le, List, [], ◌∷◌, length, Option, Some, None, cond}
 use Rattle.adb_view.specs.Plain.{Plain}
-use Rattle.path_claims.specs.Claims.{PathClaim}
-use Rattle.file_guard.specs.Listed.{IsOfEntry}
-use Rattle.file_guard.specs.declared.compare.ListedFile.{ListedFile}
+use Rattle.path_claim_lists.specs.path_claims.Claims.{PathClaim}
+use Rattle.change_files.specs.file_guard.Listed.{IsOfEntry}
+use Rattle.change_files.specs.file_guard.declared.compare.ListedFile.{ListedFile}
 use Rattle.change_files.specs.Fate as Fates
 use Rattle.change_files.specs.Fate.{aside_name, fate_by, gives_way, goes_aside, goes_in, longest_name}
 use Rattle.change_files.specs.FileChange.{FileChange, is_claimed}

@@ -5,7 +5,7 @@ use Rattle.std.specs.Prelude.{◌≡◌, ℕ, List, [], ◌∷◌, map, Option}
 use Rattle.base_core.specs.Calls.{IfObservable}
 use Rattle.base_core.specs.Files.{Files}
 use Rattle.base_core.specs.Tree.{TreeState, files_of}
-use Rattle.path_claims.specs.Claims.{PathClaim}
+use Rattle.path_claim_lists.specs.path_claims.Claims.{PathClaim}
 
 -- a value is what `said` says of a claim, given some file under its path or its absence: the tree's, if
 -- its files are observable

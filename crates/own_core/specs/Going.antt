@@ -3,8 +3,8 @@
 -- which of those below `etc/` are kept.
 use Rattle.std.specs.Prelude.{ℕ, Bool, not, ◌&&◌, List, Option, option_and_then, is_some}
 use Rattle.std.specs.List.{find}
-use Rattle.db_core.specs.Members.{members_of_kept}
-use Rattle.path_claims.specs.Claims.{PathClaim, is_of_path}
+use Rattle.change_files.specs.db_core.Members.{members_of_kept}
+use Rattle.path_claim_lists.specs.path_claims.Claims.{PathClaim, is_of_path}
 use Rattle.change_files.specs.Fate.{is_guarded}
 use Rattle.change_files.specs.FileChange.{FileChange, is_claimed}
 use Rattle.change_files.specs.FilesAfter.{is_changed, path_beside}

@@ -3,13 +3,13 @@
 -- of `src/clashes.rt`.
 use Rattle.std.specs.Prelude.{◌&&◌, ◌||◌, ◌++◌, ◌∷◌, [], ℕ, Bool, not, List, map, bytes_eq, is_some}
 use Rattle.std.specs.List.{filter, find, list_any}
-use Rattle.db_core.specs.Seen.{members_of}
+use Rattle.change_files.specs.db_core.Seen.{members_of}
 use Rattle.base_core.specs.ByteOrder.{bytes_cmp}
 use Rattle.base_core.specs.Sorted.{sorted_by}
-use Rattle.path_claims.specs.Claims.{is_of_path}
+use Rattle.path_claim_lists.specs.path_claims.Claims.{is_of_path}
 use Rattle.change_files.specs.Fate.{aside_name}
 use Rattle.change_files.specs.FilesAfter.{database_name, world_name}
-use Rattle.path_clashes.specs.Clash.{NameChange}
+use Rattle.path_claim_lists.specs.path_clashes.Clash.{NameChange}
 use Rattle.own_core.specs.ClaimEntries.{is_added_at}
 use Rattle.own_core.specs.Parts.{asides_of, kept_of_parts}
 use Rattle.own_core.specs.Sides.{claims_after, claims_before}

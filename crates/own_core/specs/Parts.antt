@@ -4,8 +4,8 @@
 use Rattle.std.specs.Prelude.{◌≡◌, Bool, true, false, List, map}
 use Rattle.std.specs.List.{filter}
 use Rattle.base_core.specs.Tree.{TreeState}
-use Rattle.path_claims.specs.Claims.{PathClaim}
-use Rattle.path_claims.specs.Seen.{claim_seen}
+use Rattle.path_claim_lists.specs.path_claims.Claims.{PathClaim}
+use Rattle.path_claim_lists.specs.path_claims.Seen.{claim_seen}
 use Rattle.change_files.specs.Fate as Fates
 use Rattle.change_files.specs.Fate.{goes_aside, goes_in}
 use Rattle.own_core.specs.Fates.{claim_fate, is_fate, is_flag, marked_claims}

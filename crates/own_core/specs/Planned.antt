@@ -3,7 +3,7 @@
 -- `change_files`, `path_clashes` and `file_owners`; this file says which of them a plan or a refusal
 -- ensures, and over which files.
 use Rattle.std.specs.Prelude.{◌≡◌, ℕ, Bool, true, false, List, map, Option, Some, None, All, Contains, option_map, slice_get}
-use Rattle.adb_schema.specs.Reserved.{is_reserved}
+use Rattle.change_files.specs.adb_schema.Reserved.{is_reserved}
 use Rattle.adb_view.specs.FieldIndexes.{PACKAGE_PATHS}
 use Rattle.adb_view.specs.Values.{entry_in}
 use Rattle.base_core.specs.Calls.{IfObservable}
@@ -11,14 +11,14 @@ use Rattle.base_core.specs.Files.{Files}
 use Rattle.base_core.specs.Listed.{IsRising}
 use Rattle.base_core.specs.Name.{IsName}
 use Rattle.base_core.specs.Tree.{TreeState, files_of}
-use Rattle.db_core.specs.Members.{Member, is_added, member_name}
-use Rattle.db_core.specs.Seen.{members_of, packages_of}
-use Rattle.db_core.specs.declared.db.Db.{Db}
-use Rattle.db_core.specs.declared.members.Members.{Members}
-use Rattle.path_claims.specs.Claims.{ContestedPath}
-use Rattle.path_clashes.specs.Clash.{HasNoClash, IsFirstClash, NamePair}
-use Rattle.path_clashes.specs.FirstClash.{MayBeClashOf}
-use Rattle.file_owners.specs.Owners.{contested_of, owned_of}
+use Rattle.change_files.specs.db_core.Members.{Member, is_added, member_name}
+use Rattle.change_files.specs.db_core.Seen.{members_of, packages_of}
+use Rattle.change_files.specs.db_core.declared.db.Db.{Db}
+use Rattle.change_files.specs.db_core.declared.members.Members.{Members}
+use Rattle.path_claim_lists.specs.path_claims.Claims.{ContestedPath}
+use Rattle.path_claim_lists.specs.path_clashes.Clash.{HasNoClash, IsFirstClash, NamePair}
+use Rattle.path_claim_lists.specs.path_clashes.FirstClash.{MayBeClashOf}
+use Rattle.change_files.specs.file_owners.Owners.{contested_of, owned_of}
 use Rattle.change_files.specs.FileChange.{FileChange}
 use Rattle.change_files.specs.NamesAfter.{name_change}
 use Rattle.change_files.specs.PlanLists.{FileWrite, aside_of, file_writes_of, first_reserved, kept_of, removals_of}

@@ -3,12 +3,12 @@
 -- *FileChange* of `change_files`.
 use Rattle.std.specs.Prelude.{◌≡◌, List, map}
 use Rattle.base_core.specs.Sorted.{sorted_by}
-use Rattle.db_core.specs.Members.{members_of_kept}
-use Rattle.db_core.specs.Seen.{members_of, packages_of}
-use Rattle.path_claims.specs.Claims.{PathClaim, claim_cmp}
-use Rattle.path_claims.specs.Seen.{claim_seen}
-use Rattle.claim_lists.specs.Once.{HasFirsts}
-use Rattle.file_owners.specs.Owners.{claims_in}
+use Rattle.change_files.specs.db_core.Members.{members_of_kept}
+use Rattle.change_files.specs.db_core.Seen.{members_of, packages_of}
+use Rattle.path_claim_lists.specs.path_claims.Claims.{PathClaim, claim_cmp}
+use Rattle.path_claim_lists.specs.path_claims.Seen.{claim_seen}
+use Rattle.path_claim_lists.specs.Once.{HasFirsts}
+use Rattle.change_files.specs.file_owners.Owners.{claims_in}
 use Rattle.change_files.specs.FileChange.{FileChange}
 use Rattle.own_core.specs.ClaimEntries.{AreClaimsOf}
 use Rattle.own_core.specs.declared.change.Change.{Change}

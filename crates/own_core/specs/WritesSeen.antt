@@ -6,7 +6,7 @@ use Rattle.std.specs.Ordering.{on}
 use Rattle.std.specs.declared.cmp.Ordering.{Ordering}
 use Rattle.base_core.specs.Name.{IsName}
 use Rattle.base_core.specs.ByteOrder.{bytes_cmp}
-use Rattle.path_claims.specs.Claims.{PathClaim}
+use Rattle.path_claim_lists.specs.path_claims.Claims.{PathClaim}
 use Rattle.change_files.specs.Fate.{aside_name, longest_name}
 use Rattle.change_files.specs.PlanLists.{FileWrite}
 use Rattle.own_core.specs.declared.writes.Write.{Write}

@@ -2,8 +2,8 @@
 //! `docs/commands.md`, "Files that several packages list", says which packages and files these are;
 //! *HasClaims* of `specs/Sides.antt`, what holds of the lists of claims.
 
-use db_core::{Db, Members};
-use path_claims::Claim;
+use change_files::{Db, Members};
+use path_claim_lists::Claim;
 
 /// The packages before a change and after it, with the files that they list in the order of their
 /// paths: before it one claim for each path, after it all claims.

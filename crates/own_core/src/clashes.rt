@@ -7,25 +7,22 @@
 ghost use Rattle.std.specs.Prelude.{◌≡◌, ◌&&◌, ◌||◌, ◌++◌, ◌∷◌, [], not, is_some, IfOk, OnOk, map};
 ghost use Rattle.std.specs.List.{filter, find};
 ghost use Rattle.std.specs.List.Sorted.{IsSorted};
-ghost use Rattle.adb_fields.specs.JoinedPath.{joined_path};
+ghost use Rattle.path_claim_lists.specs.adb_fields.JoinedPath.{joined_path};
 ghost use Rattle.change_files.specs.Fate.{aside_name};
 ghost use Rattle.change_files.specs.FilesAfter.{database_name, world_name};
-ghost use Rattle.db_core.specs.Seen.{members_of};
+ghost use Rattle.change_files.specs.db_core.Seen.{members_of};
 ghost use Rattle.base_core.specs.ByteOrder.{bytes_cmp};
 ghost use Rattle.base_core.specs.Sorted.{sorted_by};
-ghost use Rattle.path_claims.specs.Claims.{claim_cmp, is_of_path};
-ghost use Rattle.path_claims.specs.Seen.{claim_seen};
+ghost use Rattle.path_claim_lists.specs.path_claims.Claims.{claim_cmp, is_of_path};
+ghost use Rattle.path_claim_lists.specs.path_claims.Seen.{claim_seen};
 ghost use Rattle.own_core.specs.ClaimEntries.{AreClaimsOf, is_added_at};
 ghost use Rattle.own_core.specs.WritesSeen.{HaveNamesBeside};
 
 use crate::coming::comes;
 use crate::guarded::name_beside;
-use adb_fields::FilePath;
 use base_core::Names;
-use claim_lists::{find_claim, name_of_path};
-use db_core::Members;
-use path_claims::Claim;
-use path_clashes::IsReleased;
+use change_files::Members;
+use path_claim_lists::{Claim, FilePath, IsReleased, find_claim, name_of_path};
 use root_names::{DATABASE_NAME, WORLD_NAME};
 use std::alloc::{AllocError, Global};
 

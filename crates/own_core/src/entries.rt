@@ -3,20 +3,18 @@
 //! what an entry says of a file's bytes; `docs/formats.md`, "Schemas", table 4, has its fields.
 
 ghost use Rattle.std.specs.Prelude.{◌-◌, ◌<◌, ◌≤◌};
-ghost use Rattle.adb_fields.specs.ListValue.{list_value};
-ghost use Rattle.adb_schema.specs.Views.{package_value};
+ghost use Rattle.path_claim_lists.specs.adb_fields.ListValue.{list_value};
+ghost use Rattle.change_files.specs.adb_schema.Views.{package_value};
 ghost use Rattle.adb_view.specs.FieldIndexes.{PACKAGE_PATHS};
 ghost use Rattle.adb_view.specs.Values.{count_of, entries_in, entry_in};
-ghost use Rattle.db_core.specs.Members.{members_of_kept};
-ghost use Rattle.db_core.specs.Seen.{members_of, packages_of};
-ghost use Rattle.file_guard.specs.Listed.{IsOfEntry};
-ghost use Rattle.path_claims.specs.Seen.{claim_seen};
+ghost use Rattle.change_files.specs.db_core.Members.{members_of_kept};
+ghost use Rattle.change_files.specs.db_core.Seen.{members_of, packages_of};
+ghost use Rattle.change_files.specs.file_guard.Listed.{IsOfEntry};
+ghost use Rattle.path_claim_lists.specs.path_claims.Seen.{claim_seen};
 ghost use Rattle.own_core.specs.ClaimEntries.{HasFileAt, IsClaimOf, claim_entry, listed_file_at};
 
-use adb_schema::{DirInfo, FileInfo, List, PackageView};
-use db_core::{Db, Members};
-use file_guard::{ListedFile, listed_file};
-use path_claims::Claim;
+use change_files::{Db, DirInfo, FileInfo, List, ListedFile, Members, PackageView, listed_file};
+use path_claim_lists::Claim;
 use std::marker::PhantomData;
 
 /// The entry of the file at a position of a folder; positions count from 1.

@@ -3,14 +3,14 @@
 //! user's**: when a file counts as changed, and where the new one is laid then.
 
 ghost use Rattle.std.specs.Prelude.{◌≡◌, ◌↔◌, ◌∷◌, ◌++◌, [], Option, true, false, map, IfOk, IsTrue, IsSomeAnd, OnOk};
-ghost use Rattle.adb_fields.specs.JoinedPath.{joined_path};
+ghost use Rattle.path_claim_lists.specs.adb_fields.JoinedPath.{joined_path};
 ghost use Rattle.adb_view.specs.Plain.{Plain};
 ghost use Rattle.base_core.specs.Read.{OnlyReads};
 ghost use Rattle.change_files.specs.Fate.{agrees_with_old, fate_beside, is_guarded};
 ghost use Rattle.change_files.specs.FileChange.{old_entry};
-ghost use Rattle.db_core.specs.Seen.{members_of};
-ghost use Rattle.file_guard.specs.Listed.{IsOfEntry};
-ghost use Rattle.path_claims.specs.Seen.{claim_seen};
+ghost use Rattle.change_files.specs.db_core.Seen.{members_of};
+ghost use Rattle.change_files.specs.file_guard.Listed.{IsOfEntry};
+ghost use Rattle.path_claim_lists.specs.path_claims.Seen.{claim_seen};
 ghost use Rattle.own_core.specs.ClaimEntries.{AreClaimsOf, IsClaimOf};
 ghost use Rattle.own_core.specs.Fates.{IsOfEntryIfAny, claim_fate, fate_seen, is_free_beside};
 ghost use Rattle.own_core.specs.Found.{AreAnswersByFiles, IsByFile};
@@ -19,11 +19,9 @@ ghost use Rattle.own_core.specs.Sides.{HasClaims, file_change_of};
 use crate::change::Change;
 use crate::entries::{listed_after, listed_before};
 use crate::guarded::{LONGEST_NAME, aside_bytes, is_guarded};
-use adb_fields::FilePath;
 use base_core::{Name, Tree, TreeFault};
-use claim_lists::{find_claim, name_of_path};
-use file_guard::{Comparison, ListedFile, compare_file};
-use path_claims::Claim;
+use change_files::{Comparison, ListedFile, compare_file};
+use path_claim_lists::{Claim, FilePath, find_claim, name_of_path};
 use std::alloc::{AllocError, Global};
 use std::marker::PhantomData;
 

@@ -3,12 +3,12 @@
 //! user's**.
 
 ghost use Rattle.std.specs.Prelude.{◌≡◌, ◌≤◌, IfOk, length, option_map};
-ghost use Rattle.adb_fields.specs.JoinedPath.{joined_path};
+ghost use Rattle.path_claim_lists.specs.adb_fields.JoinedPath.{joined_path};
 ghost use Rattle.change_files.specs.Fate.{aside_name, is_guarded, longest_name};
 ghost use Rattle.change_files.specs.FilesAfter.{path_beside};
 
-use adb_fields::FilePath;
 use base_core::Name;
+use path_claim_lists::FilePath;
 use std::alloc::{AllocError, Global};
 
 /// How many bytes a name may have at most (`docs/commands.md`, "Words").

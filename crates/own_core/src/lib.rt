@@ -25,6 +25,10 @@ mod planning;
 mod writes;
 
 pub use change::Change;
+pub use change_files::{
+    no_path_is_owned_by_two_members, the_files_of_an_added_package_are_as_listed,
+    what_is_written_is_not_reserved,
+};
 pub use coming::{added_claims, comes};
 pub use fault::PlanFault;
 pub use guarded::name_beside;

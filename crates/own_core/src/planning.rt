@@ -10,17 +10,17 @@ ghost use Rattle.base_core.specs.Read.{OnlyReads};
 ghost use Rattle.base_core.specs.Tree.{files_of};
 ghost use Rattle.change_files.specs.NamesAfter.{name_change};
 ghost use Rattle.change_files.specs.PlanLists.{first_reserved};
-ghost use Rattle.claim_lists.specs.Named.{HaveNames};
-ghost use Rattle.claim_lists.specs.Once.{HasFirsts};
-ghost use Rattle.db_core.specs.Members.{member_listings};
-ghost use Rattle.db_core.specs.Seen.{members_of};
-ghost use Rattle.file_owners.specs.Owners.{claims_in, contested_of, owned_of};
+ghost use Rattle.path_claim_lists.specs.Named.{HaveNames};
+ghost use Rattle.path_claim_lists.specs.Once.{HasFirsts};
+ghost use Rattle.change_files.specs.db_core.Members.{member_listings};
+ghost use Rattle.change_files.specs.db_core.Seen.{members_of};
+ghost use Rattle.change_files.specs.file_owners.Owners.{claims_in, contested_of, owned_of};
 ghost use Rattle.base_core.specs.Sorted.{sorted_by};
-ghost use Rattle.path_claims.specs.Claims.{claim_cmp};
-ghost use Rattle.path_claims.specs.ContestedSeen.{contested_seen};
-ghost use Rattle.path_claims.specs.Seen.{claim_seen};
-ghost use Rattle.path_clashes.specs.ClashSeen.{clash_seen};
-ghost use Rattle.path_clashes.specs.FirstClash.{IsClashOf, MayBeClashOf};
+ghost use Rattle.path_claim_lists.specs.path_claims.Claims.{claim_cmp};
+ghost use Rattle.path_claim_lists.specs.path_claims.ContestedSeen.{contested_seen};
+ghost use Rattle.path_claim_lists.specs.path_claims.Seen.{claim_seen};
+ghost use Rattle.path_claim_lists.specs.path_clashes.ClashSeen.{clash_seen};
+ghost use Rattle.path_claim_lists.specs.path_clashes.FirstClash.{IsClashOf, MayBeClashOf};
 ghost use Rattle.own_core.specs.ClaimEntries.{AreClaimsOf, IsClaimOf, is_of_added_owner, is_added_and_reserved};
 ghost use Rattle.own_core.specs.ListsSeen.{AreListsOfParts};
 ghost use Rattle.own_core.specs.Parts.{AreFilesByFate, asides_of, ins_of, kept_of_parts, removed_of};
@@ -35,13 +35,13 @@ use crate::coming::{added_claims, comes};
 use crate::fault::PlanFault;
 use crate::parts::{Parts, parts_of};
 use crate::writes::{Writes, writes_of};
-use adb_schema::is_reserved_file;
 use base_core::{Name, Names, Text, Tree, TreeFault};
-use claim_lists::{name_of_path, names_of_claims, one_of_each_path};
-use db_core::{Db, Members, Owned};
-use file_owners::{Contested, claims_in_database, owners_of_files};
-use path_claims::Claim;
-use path_clashes::{Clash, first_clash};
+use change_files::{
+    Contested, Db, Members, Owned, claims_in_database, is_reserved_file, owners_of_files,
+};
+use path_claim_lists::{
+    Claim, Clash, first_clash, name_of_path, names_of_claims, one_of_each_path,
+};
 use std::alloc::{AllocError, Global};
 
 /// What a change removes, writes and keeps.

@@ -5,14 +5,13 @@
 
 ghost use Rattle.std.specs.Prelude.{◌≡◌, ◌<◌, ◌==◌, ◌++◌, ◌∷◌, [], IfOk, OnOk, Some, length, map, slice_get};
 ghost use Rattle.base_core.specs.Sorted.{sorted_by};
-ghost use Rattle.path_claims.specs.Seen.{claim_seen};
-ghost use Rattle.claim_lists.specs.Named.{HaveNames};
+ghost use Rattle.path_claim_lists.specs.path_claims.Seen.{claim_seen};
+ghost use Rattle.path_claim_lists.specs.Named.{HaveNames};
 ghost use Rattle.own_core.specs.WritesSeen.{HaveNamesBeside, aside_write, claim_write, write_by, write_cmp, write_seen, writes_in};
 
 use crate::guarded::name_beside;
 use base_core::Name;
-use claim_lists::name_of_path;
-use path_claims::Claim;
+use path_claim_lists::{Claim, name_of_path};
 use std::alloc::{AllocError, Global};
 
 /// A name, and the file whose contents it gets. The member's place counts from 0; the folder's

@@ -1,3 +1,8 @@
+-- passed on: a crate above that names this one need not name these
+pub use Rattle.change_files.proofs as change_files
+pub use Rattle.change_files.proofs.path_clashes as path_clashes
+pub use Rattle.solve_core.proofs as solve_core
+pub use Rattle.solve_core.proofs.search_tables as search_tables
 pub mod Lists
 mod NamesInOrder
 mod NameTable

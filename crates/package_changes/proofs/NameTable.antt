@@ -8,7 +8,7 @@ use Rattle.std.specs.Cmp.Lexicographic.{bytes_decides}
 use Rattle.std.proofs.lemmas.List.{drop_all}
 use Rattle.indexmap.specs.IndexMap.{insert_entry}
 use Rattle.base_core.proofs.AtName.{either_way}
-use Rattle.candidate_core.specs.Candidates.{Candidate}
+use Rattle.solve_core.specs.candidate_core.Candidates.{Candidate}
 use Rattle.package_changes.specs.Changes.{is_selected_named}
 use Rattle.package_changes.specs.SelectedNames.{names_and_places, place_beside}
 use Rattle.package_changes.proofs.Lists.{left_at}

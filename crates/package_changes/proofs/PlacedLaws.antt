@@ -6,9 +6,9 @@ use Rattle.std.specs.Option.{option_map_or}
 use Rattle.std.specs.List.Sorted.{IsPermutation}
 use Rattle.std.proofs.lemmas.List.Sorted.{list_any-IsPermutation}
 use Rattle.adb_view.specs.Plain.{Plain}
-use Rattle.db_core.specs.Packages.{is_package_named}
-use Rattle.candidate_core.specs.Candidates.{Candidate}
-use Rattle.candidate_core.specs.Rank.{SealedPool, candidate_at, is_at}
+use Rattle.change_files.specs.db_core.Packages.{is_package_named}
+use Rattle.solve_core.specs.candidate_core.Candidates.{Candidate}
+use Rattle.solve_core.specs.candidate_core.Rank.{SealedPool, candidate_at, is_at}
 use Rattle.report_core.specs.Reports.{Change}
 use Rattle.package_changes.specs.Changes.{change_between, change_of_name, changes_of, is_selected_named, names_on_both_sides}
 use Rattle.package_changes.specs.Placed.{PlacedChange, PlacedName, PlacedReplacement, candidates_at, change_in, new_candidate, old_package, placed_change_of, placed_changes_of, placed_name_of, placed_name_with, placed_names_of, replacement_of, selected_place}

@@ -5,7 +5,7 @@ use Rattle.std.specs.List.{cons_option, filter, flat_map, position_from, list_an
 use Rattle.std.specs.Option.{option_map_or}
 use Rattle.std.specs.Prelude.{is_some, ◌||◌}
 use Rattle.base_core.proofs.Texts.{joined}
-use Rattle.candidate_core.specs.Candidates.{Candidate}
+use Rattle.solve_core.specs.candidate_core.Candidates.{Candidate}
 use Rattle.package_changes.proofs.Lists.{item_at}
 
 pub four : (r r1 r2 r3 r4 a b c d : List ℕ) → r1 ≡ r ++ a → r2 ≡ r1 ++ b → r3 ≡ r2 ++ c → r4 ≡ r3 ++ d → r4 ≡ r ++ (a ++ b ++ c ++ d)

@@ -4,8 +4,8 @@ use Rattle.std.specs.Prelude.{is_some, option_and_then}
 use Rattle.std.specs.List.{filter, find, flat_map}
 use Rattle.base_core.proofs.Options.{is_none}
 use Rattle.adb_view.specs.Plain.{Plain}
-use Rattle.candidate_core.specs.Candidates.{Candidate}
-use Rattle.candidate_core.specs.Rank.{SealedPool, candidate_at}
+use Rattle.solve_core.specs.candidate_core.Candidates.{Candidate}
+use Rattle.solve_core.specs.candidate_core.Rank.{SealedPool, candidate_at}
 use Rattle.report_core.specs.Reports.{report_line, stays_text}
 use Rattle.package_changes.specs.Changes.{is_selected_named}
 use Rattle.package_changes.specs.Placed.{candidates_at, selected_place}

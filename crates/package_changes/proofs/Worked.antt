@@ -4,7 +4,7 @@ use Rattle.std.specs.Prelude.{codes}
 use Rattle.adb_view.specs.Plain.{Plain, blob, more, none, obj}
 use Rattle.change_files.specs.PlanLists.{names_in_order}
 use Rattle.dep_core.specs.Dependency.{Dependency, dependency_by}
-use Rattle.candidate_core.specs.Candidates.{Candidate, candidate_by}
+use Rattle.solve_core.specs.candidate_core.Candidates.{Candidate, candidate_by}
 use Rattle.package_changes.specs.Changes.{change_of_name, changes_of}
 use Rattle.package_changes.specs.Report.{stay_lines}
 use Rattle.report_core.specs.Reports.{Install, Purge, Reinstall, Replace, Upgrade}

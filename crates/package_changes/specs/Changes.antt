@@ -9,11 +9,11 @@ use Rattle.std.specs.declared.cmp.Ordering.TheVariants.{Less, Equal, Greater}
 use Rattle.adb_view.specs.Plain.{Plain}
 use Rattle.adb_view.specs.FieldIndexes.{INFO_VERSION}
 use Rattle.adb_view.specs.Values.{entry_in, text_in}
-use Rattle.adb_fields.specs.Repeated.{package_name}
-use Rattle.db_core.specs.Packages.{installed_id, is_package_named}
-use Rattle.file_owners.specs.Replaces.{version_text}
+use Rattle.change_files.specs.adb_fields.Repeated.{package_name}
+use Rattle.change_files.specs.db_core.Packages.{installed_id, is_package_named}
+use Rattle.change_files.specs.file_owners.Replaces.{version_text}
 use Rattle.change_files.specs.PlanLists.{names_in_order}
-use Rattle.candidate_core.specs.Candidates.{Candidate, is_same_id, version_of_text}
+use Rattle.solve_core.specs.candidate_core.Candidates.{Candidate, is_same_id, version_of_text}
 use Rattle.std.specs.Option.{option_cmp}
 use Rattle.version_core.specs.Order.{version_cmp}
 use Rattle.report_core.specs.Reports.{Change, Downgrade, Install, Purge, Reinstall, Replace, Upgrade}

@@ -3,9 +3,9 @@
 use Rattle.std.specs.Prelude.{ℕ, List, Option, bytes_eq, map, option_map, option_and_then, slice_get}
 use Rattle.std.specs.List.{filter_map, find, list_any, position_from}
 use Rattle.adb_view.specs.Plain.{Plain}
-use Rattle.db_core.specs.Packages.{is_package_named}
-use Rattle.candidate_core.specs.Candidates.{Candidate}
-use Rattle.candidate_core.specs.Rank.{SealedPool, candidate_at, is_at}
+use Rattle.change_files.specs.db_core.Packages.{is_package_named}
+use Rattle.solve_core.specs.candidate_core.Candidates.{Candidate}
+use Rattle.solve_core.specs.candidate_core.Rank.{SealedPool, candidate_at, is_at}
 use Rattle.report_core.specs.Reports.{Change}
 use Rattle.package_changes.specs.Changes.{Replacement, change_between, is_selected_named, names_on_both_sides}
 

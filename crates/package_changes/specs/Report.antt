@@ -6,9 +6,9 @@ use Rattle.adb_view.specs.Plain.{Plain}
 use Rattle.adb_view.specs.FieldIndexes.{INFO_INSTALLED_SIZE}
 use Rattle.adb_view.specs.Values.{entry_in, int_in}
 use Rattle.change_files.specs.PlanLists.{names_in_order}
-use Rattle.db_core.specs.Packages.{is_package_named}
+use Rattle.change_files.specs.db_core.Packages.{is_package_named}
 use Rattle.dep_core.specs.Dependency.{Dependency}
-use Rattle.candidate_core.specs.Candidates.{Candidate, meets_dependency}
+use Rattle.solve_core.specs.candidate_core.Candidates.{Candidate, meets_dependency}
 use Rattle.report_core.specs.Reports.{change_lines, report_line, stays_text, sum_text}
 use Rattle.package_changes.specs.Changes.{Replacement, changes_of, is_selected_named}
 

@@ -1,9 +1,9 @@
 -- What the changes of the program denote.
 -- No document has a rule for this: it serves the contracts of `src/`, whose texts are slices.
 use Rattle.std.specs.Prelude.{ℕ, List, map, option_map}
-use Rattle.db_core.specs.Seen.{packages_of}
-use Rattle.db_core.specs.declared.db.Db.{Db}
-use Rattle.candidate_core.specs.Rank.{SealedPool}
+use Rattle.change_files.specs.db_core.Seen.{packages_of}
+use Rattle.change_files.specs.db_core.declared.db.Db.{Db}
+use Rattle.solve_core.specs.candidate_core.Rank.{SealedPool}
 use Rattle.report_core.specs.Reports as Texts
 use Rattle.package_changes.specs.Placed.{PlacedChange, PlacedName, PlacedReplacement}
 use Rattle.package_changes.specs.declared.change.Change.{Change}

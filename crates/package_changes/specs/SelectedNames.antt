@@ -4,8 +4,8 @@ use Rattle.std.specs.Prelude.{ℕ, List, [], ◌∷◌, map, Option, Some, None,
 use Rattle.std.specs.Borrow.{Bor}
 use Rattle.std.specs.List.{position_from}
 use Rattle.adb_view.specs.Plain.{Plain}
-use Rattle.db_core.specs.Packages.{is_package_named}
-use Rattle.candidate_core.specs.Rank.{SealedPool}
+use Rattle.change_files.specs.db_core.Packages.{is_package_named}
+use Rattle.solve_core.specs.candidate_core.Rank.{SealedPool}
 use Rattle.package_changes.specs.Placed.{PlacedName, placed_name_with}
 
 -- the table as contracts see it: each name with the place of its candidate

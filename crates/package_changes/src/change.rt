@@ -2,20 +2,19 @@
 //! The rules are in `docs/selection.md`, "What there is to choose from" (when a candidate is the
 //! installed package), in `docs/formats.md`, "Versions" (their order), and in `docs/names.md`,
 //! "A change of what is installed".
-ghost use Rattle.adb_schema.specs.Views.{package_value};
-ghost use Rattle.db_core.specs.Seen.{packages_of};
-ghost use Rattle.file_owners.specs.Replaces.{version_text};
-ghost use Rattle.db_core.specs.Packages.{installed_id};
+ghost use Rattle.change_files.specs.adb_schema.Views.{package_value};
+ghost use Rattle.change_files.specs.db_core.Seen.{packages_of};
+ghost use Rattle.change_files.specs.file_owners.Replaces.{version_text};
+ghost use Rattle.change_files.specs.db_core.Packages.{installed_id};
 ghost use Rattle.package_changes.specs.Changes.{change_between, is_installed_as, selected_version, version_change, version_text_cmp};
 ghost use Rattle.package_changes.specs.Seen.{change_seen};
-ghost use Rattle.candidate_core.specs.Candidates.{is_same_id};
-ghost use Rattle.candidate_core.specs.Values.{candidate_value};
+ghost use Rattle.solve_core.specs.candidate_core.Candidates.{is_same_id};
+ghost use Rattle.solve_core.specs.candidate_core.Values.{candidate_value};
 ghost use Rattle.report_core.specs.Reports as Texts;
 ghost use Rattle.std.specs.Prelude.{◌≡◌, ◌<◌, false, Some, None, length, option_map, slice_get};
 
-use adb_schema::PackageView;
-use db_core::Db;
-use pool_core::{CandId, Candidate};
+use change_files::{Db, PackageView};
+use solve_core::{CandId, Candidate};
 use std::cmp::Ordering;
 use std::marker::PhantomData;
 use version_core::Version;

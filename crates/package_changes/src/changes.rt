@@ -10,9 +10,8 @@ ghost use Rattle.std.specs.Prelude.{◌≡◌, ◌<◌, ◌==◌, ◌++◌, Some
 use crate::change::PlacedChange;
 use crate::placed::{PlacedName, PlacedNames};
 use base_core::Words;
-use db_core::Db;
-use pool_core::Sealed;
-use solve_core::Trace;
+use change_files::Db;
+use solve_core::{Sealed, Trace};
 use std::alloc::{AllocError, Global};
 
 /// The changes that a selection leads to, in byte order of names.

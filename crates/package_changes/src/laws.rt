@@ -1,7 +1,7 @@
 //! Laws: each is a function that does nothing; its contract is what it says.
 //! No document has a rule for this: the law joins *Placed*, which knows packages by their places,
 //! to *Changes*, which knows them by their names.
-ghost use Rattle.db_core.specs.Packages.{is_package_named};
+ghost use Rattle.change_files.specs.db_core.Packages.{is_package_named};
 ghost use Rattle.package_changes.specs.Changes.{change_of_name, is_selected_named};
 ghost use Rattle.package_changes.specs.Placed.{PlacedReplacement, candidates_at, new_candidate, old_package, placed_name_of, replacement_of};
 ghost use Rattle.std.specs.List.{find};

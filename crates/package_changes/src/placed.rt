@@ -1,18 +1,18 @@
 //! What happens to each package, name by name, with the kept ones.
 //! The rules are in `docs/commands.md`, "`add` and `del`", **What is reported**, and "`upgrade` and
 //! `fix`"; the terms in `docs/names.md`, "A change of what is installed".
-ghost use Rattle.adb_fields.specs.Repeated.{package_name};
-ghost use Rattle.adb_schema.specs.Views.{package_value};
+ghost use Rattle.change_files.specs.adb_fields.Repeated.{package_name};
+ghost use Rattle.change_files.specs.adb_schema.Views.{package_value};
 ghost use Rattle.change_files.specs.PlanLists.{names_in_order};
-ghost use Rattle.db_core.specs.Packages.{is_package_named};
-ghost use Rattle.db_core.specs.Seen.{packages_of};
+ghost use Rattle.change_files.specs.db_core.Packages.{is_package_named};
+ghost use Rattle.change_files.specs.db_core.Seen.{packages_of};
 ghost use Rattle.package_changes.specs.Changes.{change_between};
 ghost use Rattle.package_changes.specs.Placed.{candidates_at, new_candidate, placed_name_with, placed_names_of};
 ghost use Rattle.package_changes.specs.Seen.{change_seen, placed_name_seen, placed_names_seen, replacement_by};
 ghost use Rattle.package_changes.specs.SelectedNames.{placed_name_at};
-ghost use Rattle.candidate_core.specs.Candidates.{Candidate as CandidateValue};
-ghost use Rattle.candidate_core.specs.Rank.{candidate_at};
-ghost use Rattle.candidate_core.specs.Values.{candidate_value};
+ghost use Rattle.solve_core.specs.candidate_core.Candidates.{Candidate as CandidateValue};
+ghost use Rattle.solve_core.specs.candidate_core.Rank.{candidate_at};
+ghost use Rattle.solve_core.specs.candidate_core.Values.{candidate_value};
 ghost use Rattle.std.specs.Option.{ForSome};
 ghost use Rattle.std.specs.List.{list_any, position_from};
 ghost use Rattle.std.specs.Prelude.{◌≡◌, ◌<◌, ◌==◌, ◌++◌, Some, length, map, bytes_eq, option_map, option_and_then, option_to_list, slice_get, IfOk, OnOk};
@@ -20,11 +20,9 @@ ghost use Rattle.std.specs.Prelude.{◌≡◌, ◌<◌, ◌==◌, ◌++◌, Some
 use crate::change::{Change, install, purge, replace};
 use crate::names::names_in_order;
 use crate::selected::{SelectedNames, candidate_at};
-use adb_schema::PackageView;
 use base_core::Words;
-use db_core::Db;
-use pool_core::{CandId, Candidate, Sealed, SortedWords};
-use solve_core::Trace;
+use change_files::{Db, PackageView};
+use solve_core::{CandId, Candidate, Sealed, SortedWords, Trace};
 use std::alloc::{AllocError, Global};
 use std::marker::PhantomData;
 

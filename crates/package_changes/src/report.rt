@@ -5,7 +5,7 @@ ghost use Rattle.package_changes.specs.Changes.{changes_of};
 ghost use Rattle.package_changes.specs.Placed.{candidates_at, replacement_of};
 ghost use Rattle.package_changes.specs.Report.{candidate_size, selected_sum_line, simulated_report};
 ghost use Rattle.package_changes.specs.Seen.{change_seen, changes_seen, replacement_by};
-ghost use Rattle.candidate_core.specs.Rank.{candidate_at};
+ghost use Rattle.solve_core.specs.candidate_core.Rank.{candidate_at};
 ghost use Rattle.report_core.specs.Reports.{change_lines, change_text, from_version_to, name_and_version, numbered_change, report_line, sum_text};
 ghost use Rattle.std.specs.Fmt.{decimal};
 ghost use Rattle.std.specs.Option.{option_map_or};
@@ -16,10 +16,9 @@ use crate::changes::Changes;
 use crate::selected::candidate_at;
 use crate::stays::push_stay_lines;
 use base_core::Words;
-use db_core::Db;
-use pool_core::{CandId, Sealed};
+use change_files::Db;
 use report_core::Report;
-use solve_core::Trace;
+use solve_core::{CandId, Sealed, Trace};
 use std::alloc::{AllocError, Global};
 
 /// The report of a change that is only simulated: its changes, the installed packages among

@@ -6,13 +6,12 @@ ghost use Rattle.package_changes.specs.Changes.{is_selected_named};
 ghost use Rattle.package_changes.specs.Placed.{selected_place};
 ghost use Rattle.package_changes.specs.SelectedNames.{place_beside};
 ghost use Rattle.std.specs.Option.{option_or};
-ghost use Rattle.candidate_core.specs.Rank.{candidate_at, is_at};
-ghost use Rattle.candidate_core.specs.Values.{candidate_value};
+ghost use Rattle.solve_core.specs.candidate_core.Rank.{candidate_at, is_at};
+ghost use Rattle.solve_core.specs.candidate_core.Values.{candidate_value};
 ghost use Rattle.std.specs.Prelude.{◌≡◌, ℕ, List, [], Some, None, if◌then◌else◌, bytes_eq, option_map, IfOk, OnOk};
 
 use indexmap::IndexMap;
-use pool_core::{CandId, Candidate, Sealed};
-use solve_core::Trace;
+use solve_core::{CandId, Candidate, Sealed, Trace};
 use std::alloc::{AllocError, Global};
 use std::marker::Model;
 

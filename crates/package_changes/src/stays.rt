@@ -1,13 +1,13 @@
 //! Packages that were to be removed and are kept, since others need them. The line is defined in
 //! `docs/commands.md`, "`add` and `del`", what is reported: `NAME stays`.
 ghost use Rattle.change_files.specs.PlanLists.{names_in_order};
-ghost use Rattle.db_core.specs.Seen.{packages_of};
+ghost use Rattle.change_files.specs.db_core.Seen.{packages_of};
 ghost use Rattle.package_changes.specs.Changes.{is_selected_named};
 ghost use Rattle.package_changes.specs.Placed.{candidates_at};
 ghost use Rattle.package_changes.specs.SelectedNames.{place_beside};
 ghost use Rattle.package_changes.specs.Report.{is_in_need, names_in_need, selected_stay_lines, stay_lines, was_installed};
-ghost use Rattle.candidate_core.specs.Candidates.{Candidate};
-ghost use Rattle.candidate_core.specs.Rank.{candidate_at};
+ghost use Rattle.solve_core.specs.candidate_core.Candidates.{Candidate};
+ghost use Rattle.solve_core.specs.candidate_core.Rank.{candidate_at};
 ghost use Rattle.report_core.specs.Reports.{report_line, with_spaces_before, stays_text};
 ghost use Rattle.std.specs.List.{filter, flat_map};
 ghost use Rattle.std.specs.Prelude.{◌≡◌, ◌++◌, if◌then◌else◌, [], ◌∷◌, map, option_to_list, is_some, IfOk, OnOk};
@@ -15,10 +15,9 @@ ghost use Rattle.std.specs.Prelude.{◌≡◌, ◌++◌, if◌then◌else◌, []
 use crate::names::{names_in_order, names_of_words};
 use crate::selected::SelectedNames;
 use base_core::Words;
-use db_core::Db;
-use pool_core::{CandId, Details, Sealed};
+use change_files::Db;
 use report_core::Report;
-use solve_core::Trace;
+use solve_core::{CandId, Details, Sealed, Trace};
 use std::alloc::{AllocError, Global};
 
 /// Adds a line for each of these names that a package of the database and a selected candidate

@@ -1,3 +1,7 @@
+-- passed on: a crate above that names this one need not name these
+pub use Rattle.adb_sound.proofs as adb_sound
+pub use Rattle.make_info.proofs as make_info
+pub use Rattle.make_info.proofs.adb_values as adb_values
 pub mod FolderLaws
 pub mod FolderLemmas
 pub mod FoldersThere

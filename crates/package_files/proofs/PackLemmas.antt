@@ -4,7 +4,7 @@ use Rattle.std.proofs.lemmas.Option.{get_or_from_slice_get}
 use Rattle.std.proofs.lemmas.List.{take-append-drop, take_more, length-map, get_or-map, length-append}
 use Rattle.std.proofs.lemmas.Grind.{flat_map-append}
 use Rattle.std.specs.declared.alloc.Global.{Global}
-use Rattle.pkg_core.specs.Contents.{Contents}
+use Rattle.adb_sound.specs.pkg_core.Contents.{Contents}
 use Rattle.package_files.specs.declared.file.File.{File}
 use Rattle.package_files.specs.declared.file.Folder.{Folder}
 use Rattle.package_files.specs.Blocks.{contents_block, contents_blocks}

@@ -13,7 +13,7 @@ use Rattle.base_core.proofs.ReadAfter.{whole_read}
 use Rattle.adb_block.specs.Piece.{padding_of}
 use Rattle.adb_block.specs.Written.{head_bytes}
 use Rattle.adb_block.specs.declared.block.BlockKind.TheVariants as Kinds
-use Rattle.pkg_core.specs.Contents.{Contents}
+use Rattle.adb_sound.specs.pkg_core.Contents.{Contents}
 use Rattle.package_files.specs.Blocks.{HasBlockFront, contents_block, contents_blocks, contents_front}
 use Rattle.package_files.specs.Package.{contents_of_file, has_contents, kind_of_file}
 use Rattle.package_files.specs.declared.file.FileKind.{FileKind}

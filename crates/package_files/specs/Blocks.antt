@@ -6,7 +6,7 @@ use Rattle.std.specs.Int.{w32, to_le_bytes}
 use Rattle.std.specs.List.{flat_map}
 use Rattle.adb_block.specs.Written.{block_bytes, head_bytes}
 use Rattle.adb_block.specs.declared.block.BlockKind.TheVariants as Kinds
-use Rattle.pkg_core.specs.Contents.{Contents}
+use Rattle.adb_sound.specs.pkg_core.Contents.{Contents}
 use Rattle.adb_sound.specs.Container.{contents_piece}
 
 -- one block as in the file: the contents of one file after their two positions

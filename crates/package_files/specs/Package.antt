@@ -6,7 +6,7 @@ use Rattle.std.specs.Prelude.{ℕ, ◌+◌, ◌*◌, ◌^◌, ◌==◌, nat_lt, 
 use Rattle.std.specs.Str.{is_utf8}
 use Rattle.sha2.specs.Sha256.{sha256}
 use Rattle.adb_view.specs.Plain.{Plain, Plains, null, int, none, more, blob_or_null, arr_value, obj_value}
-use Rattle.pkg_core.specs.Contents.{Contents}
+use Rattle.adb_sound.specs.pkg_core.Contents.{Contents}
 use Rattle.command_core.specs.Values.{script_types}
 use Rattle.make_info.specs.Values.{number_value, plains_of_list, size_value}
 use Rattle.package_files.specs.declared.file.FileKind.{FileKind}

@@ -11,6 +11,7 @@ mod claim;
 mod contest;
 mod owner;
 
+pub use adb_fields::{FilePath, field_word, objects_field};
 pub use claim::{Claim, begins_path, run_at, sort_claims};
 pub use contest::{Contest, Rivals};
 pub use owner::{Contested, Owners, a_path_has_one_owner, owners_of};

@@ -1,6 +1,8 @@
 -- The definitions of this crate, whose rule is in `docs/commands.md`, "What a change does
 -- with files", test 2.
 
+-- passed on: a crate above that names this one need not name these
+pub use Rattle.adb_fields.specs as adb_fields
 -- what the contract of `apk` says
 pub mod Clash
 pub mod FirstClash

@@ -10,6 +10,7 @@
 mod clash;
 mod near;
 
+pub use adb_fields::FilePath;
 pub use clash::{
     Clash, IsReleased, a_change_has_one_first_clash, changes_that_agree_clash_alike,
     files_without_a_clash_have_no_file_as_folder, first_clash, path_bytes,

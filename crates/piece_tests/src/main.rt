@@ -1,4 +1,4 @@
-//! Answers questions about `pkg_core`, `piece_reader` and `package_test`: a file's contents in
+//! Answers questions about `pkg_core`, `package_reader` and `package_verifier`: a file's contents in
 //! pieces, a block of contents against the next file, the front of a package, and the pieces of a
 //! package's files in a tree. Its stored run has all rows; `tests/lines.md` describes their form.
 //! The README of this crate has a row for each question.

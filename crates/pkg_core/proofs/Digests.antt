@@ -13,7 +13,7 @@ use Rattle.base_core.specs.declared.cause.Cause.TheVariants.{HashDiffers}
 use Rattle.base_core.specs.declared.cause.Digest.{Digest}
 use Rattle.base_core.specs.declared.cause.Digest.TheVariants.{Sha1, Sha256, Sha512}
 use Rattle.adb_view.specs.Plain.{Plain, null, Plains, none, more, Shape, hash, array, Fields, no_fields, field}
-use Rattle.adb_fields.specs.Repeated.{list_of, files_in}
+use Rattle.adb_schema.specs.adb_fields.Repeated.{list_of, files_in}
 use Rattle.adb_schema.specs.Rules.{is_digest_length, is_digest_length_or_none}
 use Rattle.adb_view.specs.Schema.{shape_of, shapes_of, table}
 use Rattle.adb_schema.specs.Texts.{Surroundings, Leaf, text_leaf, keeps_rule, leaves, field_leaves, each_leaf, surroundings_of_fields, surroundings_of_root, leaves_of, text_fault, text_rule, is_with_contents, needs_hash}

@@ -1,3 +1,6 @@
+-- passed on: a crate above that names this one need not name these
+pub use Rattle.adb_schema.proofs as adb_schema
+pub use Rattle.adb_schema.proofs.adb_fields as adb_fields
 pub mod Listed
 pub mod OneFile
 pub mod Steps

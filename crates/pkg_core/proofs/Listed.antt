@@ -3,8 +3,8 @@ use Rattle.std.proofs.Common.{◌≡◌, ℕ, Bool, true, false, if◌then◌els
 use Rattle.adb_view.specs.Plain.{Plain, Plains}
 use Rattle.adb_view.specs.Values.{nth, count_of, entries_in, entry_in, int_in, text_in}
 use Rattle.adb_schema.specs.Texts.{is_with_contents}
-use Rattle.adb_fields.specs.Repeated.{list_of}
-use Rattle.adb_fields.proofs.Listed.{next_listed, none_listed}
+use Rattle.adb_schema.specs.adb_fields.Repeated.{list_of}
+use Rattle.adb_schema.proofs.adb_fields.Listed.{next_listed, none_listed}
 use Rattle.pkg_core.specs.Contents.{Expected, expected_at, expected_files, expected_folders}
 use Rattle.pkg_core.specs.Opened.{left_from}
 

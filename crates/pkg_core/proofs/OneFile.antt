@@ -5,7 +5,7 @@ use Rattle.std.proofs.lemmas.Bool.{eqb-true, false_from_ne_true, eq-eqb}
 use Rattle.adb_view.specs.Plain.{Plain, Plains, none, more}
 use Rattle.adb_view.specs.Values.{nth, count_of, entries_in, entry_in, int_in, text_in}
 use Rattle.adb_schema.specs.Texts.{is_with_contents}
-use Rattle.adb_fields.specs.Repeated.{files_in, list_of}
+use Rattle.adb_schema.specs.adb_fields.Repeated.{files_in, list_of}
 use Rattle.pkg_core.specs.Contents.{Expected, expected_at, expected_files, expected_folders}
 use Rattle.pkg_core.specs.Opened.{expected_file_at, has_positions}
 

@@ -16,7 +16,7 @@ use Rattle.adb_block.specs.declared.block.BlockKind.TheVariants as Kinds
 use Rattle.adb_view.specs.Plain.{Plain}
 use Rattle.adb_view.specs.FieldIndexes.{FILE_HASHES, FILE_SIZE}
 use Rattle.adb_view.specs.Values.{entry_in, int_in, text_in}
-use Rattle.adb_fields.specs.Repeated.{folders_in, files_in}
+use Rattle.adb_schema.specs.adb_fields.Repeated.{folders_in, files_in}
 use Rattle.adb_schema.specs.Soundness.{file_pair}
 use Rattle.adb_schema.specs.Texts.{is_with_contents}
 

@@ -8,8 +8,8 @@ use Rattle.adb_block.specs.Reading.{reading_of}
 use Rattle.adb_view.specs.Plain.{Plain}
 use Rattle.adb_view.specs.Values.{entries_in}
 use Rattle.adb_schema.specs.Checked.{checked_value}
-use Rattle.adb_fields.specs.ListValue.{list_value}
-use Rattle.adb_fields.specs.Repeated.{list_of, files_in}
+use Rattle.adb_schema.specs.adb_fields.ListValue.{list_value}
+use Rattle.adb_schema.specs.adb_fields.Repeated.{list_of, files_in}
 use Rattle.pkg_core.specs.Contents.{Expected, Contents, FilesRead, no_more, refused, given, expected_files, expected_folders, files_by_blocks, contents_by, contents_block_fault}
 use Rattle.pkg_core.specs.declared.pack.Package.{Package}
 use Rattle.pkg_core.specs.declared.walk.Walk.{Walk}

@@ -16,8 +16,9 @@ ghost use Rattle.pkg_core.specs.Whole.{container_fault};
 ghost use Rattle.pkg_core.specs.Front.{IsFrontOf, behind_front, front_fault, front_payload};
 ghost use Rattle.pkg_core.specs.declared.front.Front.{Front};
 
-use adb_fields::no_repeated_name_is_reported_if_there_is_none;
-use adb_schema::no_text_is_bad_where_each_keeps_its_rule;
+use adb_schema::{
+    no_repeated_name_is_reported_if_there_is_none, no_text_is_bad_where_each_keeps_its_rule,
+};
 use adb_view::{values_are_normal, values_have_their_shape, values_of_few_visits_have_no_fault};
 
 /// The tests of a package's front, followed by those of its values, are the tests of a whole

@@ -41,6 +41,13 @@ mod place;
 mod read;
 mod walk;
 
+pub use adb_schema::{
+    DepView, DirInfo, FileInfo, FilePath, IDB_WORD, INDEX_WORD, INTENT_WORD, IdbView, IndexView,
+    List, PACKAGE_WORD, PackageView, PkgInfo, ReadFault, ScriptsView, Soundness, View, Which,
+    is_reserved_file, no_repeated_name_is_reported_if_there_is_none,
+    no_text_is_bad_where_each_keeps_its_rule, read_adb, sound_containers_hold_sound_values,
+    the_first_bad_text_is_reported,
+};
 pub use checks::{
     a_package_has_the_contents_of_its_files, a_package_is_tested_by_its_values_and_then_its_files,
     good_blocks_give_the_contents_of_each_file, root_of_schema, sha1_fault, sha256_fault,

@@ -5,8 +5,8 @@ ghost use Rattle.std.specs.Prelude.{◌≡◌, ◌&&◌, ◌+◌, ◌-◌, ◌<�
 ghost use Rattle.std.specs.Result.{result_err};
 ghost use Rattle.adb_view.specs.Values.{entries_in, count_of};
 ghost use Rattle.adb_schema.specs.Views.{file_value, package_value};
-ghost use Rattle.adb_fields.specs.ListValue.{list_value};
-ghost use Rattle.adb_fields.specs.Repeated.{list_of};
+ghost use Rattle.adb_schema.specs.adb_fields.ListValue.{list_value};
+ghost use Rattle.adb_schema.specs.adb_fields.Repeated.{list_of};
 ghost use Rattle.adb_schema.specs.Texts.{is_with_contents};
 ghost use Rattle.pkg_core.specs.Contents.{POSITIONS_LEN, expected_contents, expected_files, expected_folders, contents_bytes, expected_fault, missing_fault};
 ghost use Rattle.pkg_core.specs.Opened.{expected_file_at, expected_of};
@@ -44,7 +44,7 @@ pub struct Wanted<'a> {
 }
 
 impl<'a> Walk<'a> {
-    ghost use Rattle.adb_fields.specs.Repeated.{files_in};
+    ghost use Rattle.adb_schema.specs.adb_fields.Repeated.{files_in};
     ghost use Rattle.pkg_core.specs.Opened.{left_in, TakesFirst};
 
     /// A walk before the first of these folders.

@@ -8,9 +8,9 @@ use Rattle.std.proofs.lemmas.Bool.{cases_Bool}
 use Rattle.base_core.proofs.Booleans.{both_second, both_first, or_weaker}
 use Rattle.dep_core.specs.Dependency.{Dependency}
 use Rattle.dep_core.specs.Meets.{is_wanted}
-use Rattle.candidate_core.specs.Candidates.{Candidate, Need, entry, named, is_eligible, is_met_by_entry, meets_dependency, offers_name, need_name}
-use Rattle.candidate_core.specs.Rank.{SealedPool, is_at, meets_at}
-use Rattle.candidate_core.specs.Options.{may_meet, places_offering, places_from}
+use Rattle.option_ranks.specs.candidate_core.Candidates.{Candidate, Need, entry, named, is_eligible, is_met_by_entry, meets_dependency, offers_name, need_name}
+use Rattle.option_ranks.specs.candidate_core.Rank.{SealedPool, is_at, meets_at}
+use Rattle.option_ranks.specs.candidate_core.Options.{may_meet, places_offering, places_from}
 
 any_weaker : (p q : Dependency → Bool) (xs : List Dependency) → ((x : Dependency) → p x ≡ true → q x ≡ true) → list_any p xs ≡ true → list_any q xs ≡ true
 any_weaker p q [] to h = h

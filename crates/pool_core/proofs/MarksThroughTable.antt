@@ -11,12 +11,12 @@ use Rattle.std.proofs.lemmas.Bool.{cases_Bool}
 use Rattle.dep_core.specs.Dependency.{Dependency}
 use Rattle.pool_core.specs.declared.marks.Effect.{Effect}
 use Rattle.pool_core.specs.declared.marks.Effect.TheVariants.{Bar, Pin}
-use Rattle.candidate_core.specs.Candidates.{Candidate, is_allowed, is_barred_by, offers_name}
+use Rattle.option_ranks.specs.candidate_core.Candidates.{Candidate, is_allowed, is_barred_by, offers_name}
 use Rattle.pool_core.specs.Marks.{affects, is_affected, mark_at, marks_with}
-use Rattle.candidate_core.specs.Options.{places_from}
-use Rattle.candidate_core.specs.Rank.{is_pinned, is_pinned_to}
+use Rattle.option_ranks.specs.candidate_core.Options.{places_from}
+use Rattle.option_ranks.specs.candidate_core.Rank.{is_pinned, is_pinned_to}
 use Rattle.pool_core.proofs.Filtered.{meeting_offers}
-use Rattle.candidate_core.proofs.Steps.{any_snoc}
+use Rattle.option_ranks.proofs.candidate_core.Steps.{any_snoc}
 
 pub length-marks_with : (test : Candidate → Bool) (ms : List Bool) (cs : List Candidate) → length (marks_with test ms cs) ≡ length ms
 length-marks_with test [] cs = refl

@@ -7,7 +7,7 @@ use Rattle.std.specs.Str.{bytes_eq}
 use Rattle.std.proofs.Math.Bool.{or-true, and-false}
 use Rattle.std.proofs.lemmas.Bool.{cases_Bool}
 use Rattle.base_core.proofs.Booleans.{both_second, both_first}
-use Rattle.candidate_core.specs.Candidates.{Candidate, as_installed, as_installed_where_same, is_same_id, is_same_package, is_same_version, with_installed}
+use Rattle.option_ranks.specs.candidate_core.Candidates.{Candidate, as_installed, as_installed_where_same, is_same_id, is_same_package, is_same_version, with_installed}
 
 pub same_version : (a b : Option (List ℕ)) → is_same_version a b ≡ true → a ≡ b
 same_version None None h = refl

@@ -8,10 +8,10 @@ use Rattle.std.proofs.lemmas.Bool.{cases_Bool}
 use Rattle.base_core.proofs.Booleans.{both_second, both_first}
 use Rattle.dep_core.specs.Dependency.{Dependency}
 use Rattle.pool_core.specs.declared.world_marks.EntryKind.TheVariants.{Conflict, Tagged}
-use Rattle.candidate_core.specs.Candidates.{Candidate, has_usable_install_if, is_allowed, is_eligible, is_barred_by, meets_dependency, uses_tag}
-use Rattle.candidate_core.specs.Options.{places_from}
-use Rattle.candidate_core.specs.Rank.{is_pinned, is_pinned_to}
-use Rattle.candidate_core.specs.PositiveInstallIfs.{has_positive_install_if, places_marked}
+use Rattle.option_ranks.specs.candidate_core.Candidates.{Candidate, has_usable_install_if, is_allowed, is_eligible, is_barred_by, meets_dependency, uses_tag}
+use Rattle.option_ranks.specs.candidate_core.Options.{places_from}
+use Rattle.option_ranks.specs.candidate_core.Rank.{is_pinned, is_pinned_to}
+use Rattle.option_ranks.specs.candidate_core.PositiveInstallIfs.{has_positive_install_if, places_marked}
 use Rattle.pool_core.specs.World.{entries_of_kind, is_entry_of_kind}
 
 any_filter : {X : Type 0} (p q : X → Bool) (xs : List X) → ((x : X) → p x ≡ true → q x ≡ true) → list_any p (filter q xs) ≡ list_any p xs

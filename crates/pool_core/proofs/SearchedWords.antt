@@ -14,9 +14,9 @@ use Rattle.std.proofs.lemmas.List.Folds.{list_any_at, list_any_none}
 use Rattle.std.proofs.lemmas.List.Sorted.{IsPermutation-map, list_any-IsPermutation, searchable_from_sorted}
 use Rattle.std.proofs.lemmas.Map.Text.{is_eq-slice_cmp}
 use Rattle.std.proofs.lemmas.Option.{get_or_from_slice_get, slice_get_within}
-use Rattle.candidate_core.specs.Candidates.{Candidate}
-use Rattle.candidate_core.specs.Rank.{bytes_cmp, is_kept_installed, listed_names}
-use Rattle.candidate_core.proofs.Anyone.{any_map}
+use Rattle.option_ranks.specs.candidate_core.Candidates.{Candidate}
+use Rattle.option_ranks.specs.candidate_core.Rank.{bytes_cmp, is_kept_installed, listed_names}
+use Rattle.option_ranks.proofs.candidate_core.Anyone.{any_map}
 
 -- ---- the binary search
 

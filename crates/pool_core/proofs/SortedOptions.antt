@@ -6,9 +6,9 @@ use Rattle.std.specs.List.Sorted.{IsPermutation, IsSortedBy, ties}
 use Rattle.std.specs.Cmp.{IsStrictWeakOrder}
 use Rattle.std.proofs.lemmas.Bool.{cases_eq, cases_Bool}
 use Rattle.std.proofs.lemmas.List.Sorted.{IsPermutation-sym, sorted_far}
-use Rattle.candidate_core.specs.Options.{AreDistinct, IsIn, IsBestFirst, rank_order_of}
+use Rattle.option_ranks.specs.candidate_core.Options.{AreDistinct, IsIn, IsBestFirst, rank_order_of}
 use Rattle.option_ranks.proofs.MovedMembers.{moved_filter, moved_member}
-use Rattle.candidate_core.proofs.OptionLists.{ranked_in, in_ranked}
+use Rattle.option_ranks.proofs.candidate_core.OptionLists.{ranked_in, in_ranked}
 
 module _ (better : ℕ → ℕ → Bool) (weak : IsStrictWeakOrder better) (chain : (a b c : ℕ) → better a b ≡ true → better b c ≡ true → better a c ≡ true) (one_of : (a b : ℕ) → (a ≡ b → ⊥) → (better a b ≡ true) ⊎ (better b a ≡ true)) where
   no_true : false ≡ true → ⊥

@@ -9,7 +9,7 @@ use Rattle.std.specs.Str.{bytes_eq}
 use Rattle.dep_core.specs.Dependency.{Dependency}
 use Rattle.pool_core.specs.declared.marks.Effect.{Effect}
 use Rattle.pool_core.specs.declared.marks.Effect.TheVariants.{Bar, Pin}
-use Rattle.candidate_core.specs.Candidates.{Candidate, meets_dependency}
+use Rattle.option_ranks.specs.candidate_core.Candidates.{Candidate, meets_dependency}
 
 -- whether an entry of world has an effect on a candidate: a conflict bars the candidates that meet it;
 -- an entry with a tag pins the candidates of its name with that tag

@@ -2,13 +2,13 @@
 //! the command does not upgrade. The names that it upgrades are sorted once, and each candidate is
 //! marked. The rule is in `docs/selection.md`, "Which selection is taken", key 4 of the table.
 ghost use Rattle.std.specs.Prelude.{◌≡◌, ◌&&◌, map, not, IfOk};
-ghost use Rattle.candidate_core.specs.Packages.{candidates_of_packages};
-ghost use Rattle.candidate_core.specs.Rank.{is_kept_installed, listed_names};
-ghost use Rattle.candidate_core.specs.Values.{names_upgraded_by};
+ghost use Rattle.option_ranks.specs.candidate_core.Packages.{candidates_of_packages};
+ghost use Rattle.option_ranks.specs.candidate_core.Rank.{is_kept_installed, listed_names};
+ghost use Rattle.option_ranks.specs.candidate_core.Values.{names_upgraded_by};
 
 use crate::sorted::SortedWords;
 use base_core::Words;
-use candidate_core::{Details, Packages, Upgrade};
+use option_ranks::{Details, Packages, Upgrade};
 use std::alloc::{AllocError, Global};
 
 /// For each candidate, whether it is installed and the command does not upgrade its name.

@@ -8,10 +8,10 @@ ghost use Rattle.std.specs.declared.cmp.Ordering.TheVariants.{Equal};
 ghost use Rattle.std.specs.List.{list_any};
 ghost use Rattle.adb_view.specs.Plain.{Plain};
 ghost use Rattle.adb_view.specs.Values.{int_in, text_in};
-ghost use Rattle.candidate_core.specs.Candidates.{Candidate, Need, as_installed, candidate_by, candidate_of, dependencies_in, is_same_id, is_same_package, need_name, offers_name, version_of_text, with_installed};
+ghost use Rattle.option_ranks.specs.candidate_core.Candidates.{Candidate, Need, as_installed, candidate_by, candidate_of, dependencies_in, is_same_id, is_same_package, need_name, offers_name, version_of_text, with_installed};
 ghost use Rattle.pool_core.specs.FieldNames.{info_under_name};
-ghost use Rattle.candidate_core.specs.Rank.{SealedPool, is_at, is_better, is_eligible_at, meets_at, rank_cmp};
-ghost use Rattle.candidate_core.specs.Options.{AreRising, IsBestFirst, IsIn, options_for, places_offering};
+ghost use Rattle.option_ranks.specs.candidate_core.Rank.{SealedPool, is_at, is_better, is_eligible_at, meets_at, rank_cmp};
+ghost use Rattle.option_ranks.specs.candidate_core.Options.{AreRising, IsBestFirst, IsIn, options_for, places_offering};
 
 use version_core::order_is_total;
 

@@ -14,14 +14,15 @@ mod sealed;
 mod sorted;
 mod world_marks;
 
-pub use candidate_core::{
-    CandId, Candidate, Deps, Details, MOST_CANDIDATES, Need, NeedRef, Options, PackageDep,
-    PackageMatches, PoolFault, Upgrade,
-};
 pub use laws::{
     a_candidate_is_read_by_field_names, an_installed_package_is_known_by_text_and_id,
     installed_candidates_count_once, offers_are_the_places, offers_hold_what_meets,
     options_are_the_best_first, rank_is_total,
+};
+pub use option_ranks::{
+    CandId, Candidate, Deps, Details, MOST_CANDIDATES, Need, NeedRef, Options, PackageDep,
+    PackageMatches, Packages, PoolFault, RankedOption, RankedVersion, Upgrade, VersionKey, is_long,
+    rank_long_versions,
 };
 pub use pool::Pool;
 pub use sealed::Sealed;

@@ -8,17 +8,17 @@ ghost use Rattle.std.specs.Option.{option_map_or};
 ghost use Rattle.std.specs.List.{list_any};
 ghost use Rattle.std.specs.Str.{bytes_eq};
 ghost use Rattle.dep_core.specs.Meets.{dependency};
-ghost use Rattle.candidate_core.specs.Candidates.{is_allowed, is_barred_by, meets_dependency, uses_tag};
-ghost use Rattle.candidate_core.specs.Matches.{AreMatchesOf};
+ghost use Rattle.option_ranks.specs.candidate_core.Candidates.{is_allowed, is_barred_by, meets_dependency, uses_tag};
+ghost use Rattle.option_ranks.specs.candidate_core.Matches.{AreMatchesOf};
 ghost use Rattle.pool_core.specs.Marks.{affects, is_affected, mark_at, marks_with};
-ghost use Rattle.candidate_core.specs.Options.{places_offering};
-ghost use Rattle.candidate_core.specs.Packages.{candidates_of_packages};
-ghost use Rattle.candidate_core.specs.Rank.{is_pinned};
-ghost use Rattle.candidate_core.specs.Table.{LeadsToOffers};
-ghost use Rattle.candidate_core.specs.VersionTexts.{source_text};
+ghost use Rattle.option_ranks.specs.candidate_core.Options.{places_offering};
+ghost use Rattle.option_ranks.specs.candidate_core.Packages.{candidates_of_packages};
+ghost use Rattle.option_ranks.specs.candidate_core.Rank.{is_pinned};
+ghost use Rattle.option_ranks.specs.candidate_core.Table.{LeadsToOffers};
+ghost use Rattle.option_ranks.specs.candidate_core.VersionTexts.{source_text};
 
-use candidate_core::{CandId, Details, KnownMatches, NeedRef, Packages, Table, is_long};
 use dep_core::Dep;
+use option_ranks::{CandId, Details, KnownMatches, NeedRef, Packages, Table, is_long};
 use std::alloc::{AllocError, Global};
 
 /// The effect of an entry of world on a candidate.
@@ -278,7 +278,7 @@ fn is_allowed(one: &Details<'_>, tagged: &[Dep<'_>]) -> bool
 }
 
 // Whether one of some entries of world has this tag.
-#[tactic(auto, using(candidate_core::proofs::Anyone::any_map))]
+#[tactic(auto, using(option_ranks::proofs::candidate_core::Anyone::any_map))]
 fn uses_tag(tagged: &[Dep<'_>], tag: &[u8]) -> bool
     ensures { result ≡ uses_tag (map dependency tagged.now) tag.now }
 {

@@ -1,21 +1,22 @@
 //! A pool under construction: the candidates of indexes and of the database, until they are sealed.
 //! The rules are in `docs/selection.md`, "What there is to choose from".
 ghost use Rattle.std.specs.Prelude.{◌≡◌, ◌≤◌, ◌<◌, ◌+◌, [], ◌++◌, length, true, None, Some, IfOk, OnOk, OnErr, IfErr, option_copied};
-ghost use Rattle.adb_schema.specs.Views.{index_value, info_value};
+ghost use Rattle.option_ranks.specs.adb_schema.Views.{index_value, info_value};
 ghost use Rattle.adb_view.specs.Values.{count_of, entries_in, entry_in};
-ghost use Rattle.candidate_core.specs.declared.candidate_list.TheConstants.{MOST_CANDIDATES};
-ghost use Rattle.candidate_core.specs.Candidates.{candidate_of, candidates_of_index, with_installed};
-ghost use Rattle.candidate_core.specs.CandidateList.{IsCandidateList};
-ghost use Rattle.candidate_core.specs.Packages.{candidates_of_packages};
-ghost use Rattle.candidate_core.specs.Rank.{sealed_pool_by};
-ghost use Rattle.candidate_core.specs.Values.{IsPoolFault, names_upgraded_by};
+ghost use Rattle.option_ranks.specs.candidate_core.declared.candidate_list.TheConstants.{MOST_CANDIDATES};
+ghost use Rattle.option_ranks.specs.candidate_core.Candidates.{candidate_of, candidates_of_index, with_installed};
+ghost use Rattle.option_ranks.specs.candidate_core.CandidateList.{IsCandidateList};
+ghost use Rattle.option_ranks.specs.candidate_core.Packages.{candidates_of_packages};
+ghost use Rattle.option_ranks.specs.candidate_core.Rank.{sealed_pool_by};
+ghost use Rattle.option_ranks.specs.candidate_core.Values.{IsPoolFault, names_upgraded_by};
 
 use crate::sealed::{Sealed, seal_list};
-use adb_fields::objects_field;
-use adb_schema::{IndexView, PkgInfo, entries_keep_the_rule_of_their_list};
 use adb_view::Which;
-use candidate_core::{CandidateList, PoolFault, Source, Upgrade};
 use dep_core::World;
+use option_ranks::{
+    CandidateList, IndexView, PkgInfo, PoolFault, Source, Upgrade,
+    entries_keep_the_rule_of_their_list, objects_field,
+};
 use std::alloc::{AllocError, Global};
 use std::marker::Model;
 
@@ -32,11 +33,11 @@ pub struct Pool<'a> {
 
 impl<'a> Model for Pool<'a> {
     ghost use Rattle.std.specs.Coded.{codes};
-    ghost use Rattle.candidate_core.specs.PlainCode.{plain_code};
+    ghost use Rattle.option_ranks.specs.candidate_core.PlainCode.{plain_code};
     ghost use Rattle.std.specs.Prelude.{List as Items};
     ghost use Rattle.std.specs.Option.{ForSome};
-    ghost use Rattle.candidate_core.specs.Candidates.{Candidate};
-    ghost use Rattle.candidate_core.specs.CandidateList.{IsCandidateList, candidates_in};
+    ghost use Rattle.option_ranks.specs.candidate_core.Candidates.{Candidate};
+    ghost use Rattle.option_ranks.specs.candidate_core.CandidateList.{IsCandidateList, candidates_in};
 
     ghost Value = { Items Candidate };
 

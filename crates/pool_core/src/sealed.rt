@@ -4,27 +4,26 @@
 //! (install-if), and "Which selection is taken" (the rank of options).
 ghost use Rattle.std.specs.Prelude.{◌≡◌, ◌<◌, ◌==◌, ◌++◌, ◌∷◌, [], map, length, slice_get, All, Some, IfOk, OnOk, filter, not, if◌then◌else◌, false};
 ghost use Rattle.dep_core.specs.Meets.{dependency};
-ghost use Rattle.candidate_core.specs.Candidates.{has_usable_install_if, is_eligible};
-ghost use Rattle.candidate_core.specs.CandidateList.{IsCandidateList};
-ghost use Rattle.candidate_core.specs.Matches.{AreMatchesFor};
-ghost use Rattle.candidate_core.specs.Options.{may_meet, places_offering, options_for, places_from};
-ghost use Rattle.candidate_core.specs.Packages.{candidates_of_packages};
-ghost use Rattle.candidate_core.specs.Rank.{candidate_at, is_at, is_kept_installed, is_pinned, is_pinned_at, sealed_pool_by};
+ghost use Rattle.option_ranks.specs.candidate_core.Candidates.{has_usable_install_if, is_eligible};
+ghost use Rattle.option_ranks.specs.candidate_core.CandidateList.{IsCandidateList};
+ghost use Rattle.option_ranks.specs.candidate_core.Matches.{AreMatchesFor};
+ghost use Rattle.option_ranks.specs.candidate_core.Options.{may_meet, places_offering, options_for, places_from};
+ghost use Rattle.option_ranks.specs.candidate_core.Packages.{candidates_of_packages};
+ghost use Rattle.option_ranks.specs.candidate_core.Rank.{candidate_at, is_at, is_kept_installed, is_pinned, is_pinned_at, sealed_pool_by};
 ghost use Rattle.option_ranks.specs.Ranking.{IsRankingIn};
-ghost use Rattle.candidate_core.specs.Values.{candidate_value, names_upgraded_by, need_by, need_of};
-ghost use Rattle.candidate_core.specs.VersionTexts.{source_text};
+ghost use Rattle.option_ranks.specs.candidate_core.Values.{candidate_value, names_upgraded_by, need_by, need_of};
+ghost use Rattle.option_ranks.specs.candidate_core.VersionTexts.{source_text};
 ghost use Rattle.option_ranks.specs.VersionRanks.{AreReadAlike, IsReadFrom};
-ghost use Rattle.candidate_core.specs.declared.versions.VersionKind.TheVariants as Kinds;
+ghost use Rattle.option_ranks.specs.candidate_core.declared.versions.VersionKind.TheVariants as Kinds;
 
 use crate::keeping::kept_marks;
 use crate::laws::rank_is_total;
 use crate::world_marks::marks_by_world;
-use candidate_core::{
-    CandId, Candidate, CandidateList, Details, KnownMatches, Need, NeedRef, Options, Packages,
-    Table, Upgrade,
-};
 use dep_core::World;
-use option_ranks::{RankedOption, rank_long_versions};
+use option_ranks::{
+    CandId, Candidate, CandidateList, Details, KnownMatches, Need, NeedRef, Options, Packages,
+    RankedOption, Table, Upgrade, rank_long_versions,
+};
 use std::alloc::{AllocError, Global};
 use std::marker::Model;
 use version_core::order_is_total;
@@ -53,14 +52,14 @@ pub struct Sealed<'a> {
 
 impl<'a> Model for Sealed<'a> {
     ghost use Rattle.std.specs.Coded.{codes};
-    ghost use Rattle.candidate_core.specs.PlainCode.{plain_code};
+    ghost use Rattle.option_ranks.specs.candidate_core.PlainCode.{plain_code};
     ghost use Rattle.std.specs.Prelude.{◌≡◌, map};
-    ghost use Rattle.candidate_core.specs.Candidates.{has_usable_install_if, is_eligible};
-    ghost use Rattle.candidate_core.specs.Options.{places_from};
-    ghost use Rattle.candidate_core.specs.Packages.{candidates_of_packages};
-    ghost use Rattle.candidate_core.specs.Rank.{SealedPool, is_kept_installed, is_pinned, sealed_pool_by};
-    ghost use Rattle.candidate_core.specs.Table.{LeadsToOffers};
-    ghost use Rattle.candidate_core.specs.Values.{names_upgraded_by};
+    ghost use Rattle.option_ranks.specs.candidate_core.Candidates.{has_usable_install_if, is_eligible};
+    ghost use Rattle.option_ranks.specs.candidate_core.Options.{places_from};
+    ghost use Rattle.option_ranks.specs.candidate_core.Packages.{candidates_of_packages};
+    ghost use Rattle.option_ranks.specs.candidate_core.Rank.{SealedPool, is_kept_installed, is_pinned, sealed_pool_by};
+    ghost use Rattle.option_ranks.specs.candidate_core.Table.{LeadsToOffers};
+    ghost use Rattle.option_ranks.specs.candidate_core.Values.{names_upgraded_by};
 
     ghost Value = { SealedPool };
 

@@ -20,7 +20,7 @@ pub struct SortedWords<'a> {
 impl<'a> Model for SortedWords<'a> {
     ghost use Rattle.std.specs.Prelude.{ℕ, List, map};
     ghost use Rattle.std.specs.List.Sorted.{IsSorted};
-    ghost use Rattle.candidate_core.specs.Rank.{bytes_cmp};
+    ghost use Rattle.option_ranks.specs.candidate_core.Rank.{bytes_cmp};
 
     ghost Value = { List (List ℕ) };
 

@@ -4,17 +4,17 @@
 //! "Which selection is taken", key 1 (pins).
 ghost use Rattle.std.specs.Prelude.{◌≡◌, ◌<◌, ◌^◌, ◌++◌, ◌∷◌, [], map, length, IfOk, OnOk, ◌&&◌, not, if◌then◌else◌};
 ghost use Rattle.dep_core.specs.Meets.{dependency};
-ghost use Rattle.candidate_core.specs.Candidates.{has_usable_install_if, is_eligible};
-ghost use Rattle.candidate_core.specs.CandidateList.{IsCandidateList};
-ghost use Rattle.candidate_core.specs.Options.{places_from};
-ghost use Rattle.candidate_core.specs.Packages.{candidates_of_packages};
-ghost use Rattle.candidate_core.specs.Rank.{is_pinned};
-ghost use Rattle.candidate_core.specs.PositiveInstallIfs.{has_positive_install_if, places_marked};
+ghost use Rattle.option_ranks.specs.candidate_core.Candidates.{has_usable_install_if, is_eligible};
+ghost use Rattle.option_ranks.specs.candidate_core.CandidateList.{IsCandidateList};
+ghost use Rattle.option_ranks.specs.candidate_core.Options.{places_from};
+ghost use Rattle.option_ranks.specs.candidate_core.Packages.{candidates_of_packages};
+ghost use Rattle.option_ranks.specs.candidate_core.Rank.{is_pinned};
+ghost use Rattle.option_ranks.specs.candidate_core.PositiveInstallIfs.{has_positive_install_if, places_marked};
 ghost use Rattle.pool_core.specs.World.{entries_of_kind, is_entry_of_kind};
 
 use crate::marks::{eligible_marks, pinned_marks};
-use candidate_core::{CandId, CandidateList, Details, Packages};
 use dep_core::{Dep, World};
+use option_ranks::{CandId, CandidateList, Details, Packages};
 use std::alloc::{AllocError, Global};
 
 /// The kinds of entries of world that affect candidates; an entry can be of both.

@@ -9,11 +9,11 @@ use Rattle.std.proofs.lemmas.List.Elements.{filter_map-append}
 use Rattle.std.proofs.lemmas.List.Sorted.{IsPermutation-sym}
 use Rattle.std.proofs.lemmas.Map.Keys.{ge_from_not_lt}
 use Rattle.base_core.proofs.Sorting.{Each, Rises, ranks, rises_sorted}
-use Rattle.candidate_core.specs.Candidates.{Candidate}
-use Rattle.candidate_core.specs.Options.{IsIn}
-use Rattle.candidate_core.proofs.Steps.{any_snoc, take_one_more}
-use Rattle.option_ranks.specs.Ranking.{Ranking}
-use Rattle.option_ranks.proofs.MovedMembers.{moved_member}
+use Rattle.pool_core.specs.candidate_core.Candidates.{Candidate}
+use Rattle.pool_core.specs.candidate_core.Options.{IsIn}
+use Rattle.pool_core.proofs.candidate_core.Steps.{any_snoc, take_one_more}
+use Rattle.pool_core.specs.option_ranks.Ranking.{Ranking}
+use Rattle.pool_core.proofs.option_ranks.MovedMembers.{moved_member}
 use Rattle.query_core.specs.VersionPlaces.{NeverFall, SaysPlacesOf, version_places_by}
 use Rattle.query_core.proofs.RisingLines.{has_number, numbered, numbers_of}
 

@@ -16,17 +16,17 @@ use Rattle.base_core.proofs.Sorting.{sorted_same, sorted_up}
 use Rattle.std.proofs.lemmas.List.Sorted.{IsPermutation-sym}
 use Rattle.std.proofs.lemmas.Bool.{and_parts, cases_Bool, ltb-true, ltb-false}
 use Rattle.pool_core.proofs.SamePackage.{same_version}
-use Rattle.candidate_core.specs.Candidates.{Candidate, is_same_version}
-use Rattle.candidate_core.specs.Options.{IsIn, places_from}
-use Rattle.candidate_core.specs.Rank.{bytes_cmp, greater_version}
-use Rattle.candidate_core.proofs.OptionLists.{in_places, places_in}
-use Rattle.candidate_core.proofs.LoopTests.{any_at}
-use Rattle.candidate_core.proofs.Steps.{get_at}
-use Rattle.option_ranks.specs.Ranking.{Ranking}
-use Rattle.option_ranks.specs.declared.rank.VersionKey.{VersionKey}
-use Rattle.option_ranks.proofs.CountedRanks.{here_is}
-use Rattle.option_ranks.proofs.MovedMembers.{member_of_all, moved_member}
-use Rattle.option_ranks.proofs.RankedOptions.{place_of}
+use Rattle.pool_core.specs.candidate_core.Candidates.{Candidate, is_same_version}
+use Rattle.pool_core.specs.candidate_core.Options.{IsIn, places_from}
+use Rattle.pool_core.specs.candidate_core.Rank.{bytes_cmp, greater_version}
+use Rattle.pool_core.proofs.candidate_core.OptionLists.{in_places, places_in}
+use Rattle.pool_core.proofs.candidate_core.LoopTests.{any_at}
+use Rattle.pool_core.proofs.candidate_core.Steps.{get_at}
+use Rattle.pool_core.specs.option_ranks.Ranking.{Ranking}
+use Rattle.pool_core.specs.option_ranks.declared.rank.VersionKey.{VersionKey}
+use Rattle.pool_core.proofs.option_ranks.CountedRanks.{here_is}
+use Rattle.pool_core.proofs.option_ranks.MovedMembers.{member_of_all, moved_member}
+use Rattle.pool_core.proofs.option_ranks.RankedOptions.{place_of}
 use Rattle.query_core.specs.Order.{name_and_version_cmp, query_cmp, selected_places}
 use Rattle.query_core.specs.Policy.{has_name_and_version, has_own_name, is_of_repository, versions_of_name, versions_once}
 use Rattle.query_core.specs.QueryRanking.{AreInQueryOrder, IsQueryRanking, have_one_version}

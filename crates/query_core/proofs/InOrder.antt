@@ -16,13 +16,13 @@ use Rattle.pool_core.proofs.SamePackage.{same_version}
 use Rattle.version_core.specs.Order.{version_cmp}
 use Rattle.base_core.specs.Sorted.{sorted_by, with_element}
 use Rattle.base_core.proofs.Sorting.{Rises, ranks, rises_in_order, sorted_same}
-use Rattle.candidate_core.specs.Candidates.{Candidate, is_same_version}
-use Rattle.candidate_core.specs.Options.{AreDistinct, IsIn, places_from}
-use Rattle.candidate_core.specs.Rank.{bytes_cmp, greater_version}
-use Rattle.candidate_core.proofs.OptionLists.{in_places, places_apart, places_in}
+use Rattle.pool_core.specs.candidate_core.Candidates.{Candidate, is_same_version}
+use Rattle.pool_core.specs.candidate_core.Options.{AreDistinct, IsIn, places_from}
+use Rattle.pool_core.specs.candidate_core.Rank.{bytes_cmp, greater_version}
+use Rattle.pool_core.proofs.candidate_core.OptionLists.{in_places, places_apart, places_in}
 use Rattle.dep_core.specs.Repositories.{Repository}
-use Rattle.option_ranks.proofs.MovedMembers.{moved_member}
-use Rattle.option_ranks.proofs.RankOrder.{versions_back}
+use Rattle.pool_core.proofs.option_ranks.MovedMembers.{moved_member}
+use Rattle.pool_core.proofs.option_ranks.RankOrder.{versions_back}
 use Rattle.report_core.specs.QueryReports.{policy_heading}
 use Rattle.query_core.specs.Asked.{AreInOrderBy, IsVersionOfName}
 use Rattle.query_core.specs.Order.{query_cmp, selected_candidates, selected_places}

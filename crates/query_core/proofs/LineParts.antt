@@ -2,10 +2,10 @@
 use Rattle.std.proofs.Common.{◌≡◌, ℕ, zero, suc, ◌+◌, ◌<◌, ◌≤◌, List, [], ◌∷◌, ◌++◌, All, Bool, length, drop, map, get_or, refl, sym, ap, ◌∙◌, arith, append_assoc}
 use Rattle.std.specs.Prelude.{Some, nat_lt, slice_get, if◌then◌else◌}
 use Rattle.std.specs.List.{filter, filter_map, flat_map, list_any}
-use Rattle.candidate_core.specs.Candidates.{Candidate}
+use Rattle.pool_core.specs.candidate_core.Candidates.{Candidate}
 use Rattle.dep_core.specs.Repositories.{Repository}
-use Rattle.option_ranks.specs.Ranking.{Ranking}
-use Rattle.option_ranks.proofs.RankedOptions.{place_of}
+use Rattle.pool_core.specs.option_ranks.Ranking.{Ranking}
+use Rattle.pool_core.proofs.option_ranks.RankedOptions.{place_of}
 use Rattle.query_core.specs.Lines.{line_in_form}
 use Rattle.query_core.specs.QueryRanking.{IsQueryRanking}
 use Rattle.report_core.specs.QueryReports.{database_line, version_heading}

@@ -4,9 +4,9 @@ use Rattle.std.specs.Prelude.{slice_get}
 use Rattle.std.specs.List.{filter}
 use Rattle.std.proofs.lemmas.Bool.{cases_Bool}
 use Rattle.pool_core.proofs.Filtered.{filter_places}
-use Rattle.candidate_core.specs.Candidates.{offers_name}
-use Rattle.candidate_core.specs.Options.{places_from, places_offering}
-use Rattle.candidate_core.specs.Rank.{SealedPool, is_at}
+use Rattle.pool_core.specs.candidate_core.Candidates.{offers_name}
+use Rattle.pool_core.specs.candidate_core.Options.{places_from, places_offering}
+use Rattle.pool_core.specs.candidate_core.Rank.{SealedPool, is_at}
 use Rattle.query_core.specs.Policy.{has_own_name}
 
 pub own_places : (pool : SealedPool) (name : List ℕ) → filter (λ k. is_at pool (has_own_name name) k) (places_offering name pool.candidates) ≡ places_from 0 (has_own_name name) pool.candidates

@@ -15,18 +15,18 @@ use Rattle.std.proofs.lemmas.Slice.Eq.{bytes_eq-Decides}
 use Rattle.pool_core.proofs.SamePackage.{same_version}
 use Rattle.version_core.specs.Order.{version_cmp}
 use Rattle.version_core.proofs.Fits.{nat_cmp-Equal}
-use Rattle.candidate_core.specs.Candidates.{Candidate, is_same_version}
-use Rattle.candidate_core.specs.Rank.{bytes_cmp, greater_version}
-use Rattle.candidate_core.specs.declared.versions.VersionKind.{VersionKind}
-use Rattle.candidate_core.specs.declared.versions.VersionKind.TheVariants.{Under, Own}
-use Rattle.option_ranks.specs.Ranking.{Ranking, ranking_by, ranking_cmp, version_order}
-use Rattle.option_ranks.specs.VersionRanks.{AreRankedTwice, AreReadyFor, with_rank}
-use Rattle.option_ranks.specs.declared.rank.VersionKey.{VersionKey}
-use Rattle.option_ranks.specs.declared.rank.VersionKey.TheVariants.{ByRank, ByText}
-use Rattle.option_ranks.proofs.MovedMembers.{member_of_all}
-use Rattle.option_ranks.proofs.RankOrder.{versions_back}
-use Rattle.option_ranks.proofs.RankedOptions.{comes_before, place_of, same_by_rank}
-use Rattle.option_ranks.proofs.RankedVersions.{HasRank, all_kept, all_ranked, places_kept}
+use Rattle.pool_core.specs.candidate_core.Candidates.{Candidate, is_same_version}
+use Rattle.pool_core.specs.candidate_core.Rank.{bytes_cmp, greater_version}
+use Rattle.pool_core.specs.candidate_core.declared.versions.VersionKind.{VersionKind}
+use Rattle.pool_core.specs.candidate_core.declared.versions.VersionKind.TheVariants.{Under, Own}
+use Rattle.pool_core.specs.option_ranks.Ranking.{Ranking, ranking_by, ranking_cmp, version_order}
+use Rattle.pool_core.specs.option_ranks.VersionRanks.{AreRankedTwice, AreReadyFor, with_rank}
+use Rattle.pool_core.specs.option_ranks.declared.rank.VersionKey.{VersionKey}
+use Rattle.pool_core.specs.option_ranks.declared.rank.VersionKey.TheVariants.{ByRank, ByText}
+use Rattle.pool_core.proofs.option_ranks.MovedMembers.{member_of_all}
+use Rattle.pool_core.proofs.option_ranks.RankOrder.{versions_back}
+use Rattle.pool_core.proofs.option_ranks.RankedOptions.{comes_before, place_of, same_by_rank}
+use Rattle.pool_core.proofs.option_ranks.RankedVersions.{HasRank, all_kept, all_ranked, places_kept}
 use Rattle.query_core.specs.Order.{name_and_version_cmp, query_cmp}
 use Rattle.query_core.specs.QueryRanking.{AreInQueryOrder, IsQueryRanking, query_ranking}
 

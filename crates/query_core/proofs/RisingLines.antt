@@ -5,8 +5,8 @@ use Rattle.std.specs.List.{cons_option, filter_map, list_any}
 use Rattle.std.specs.Option.{option_map_or}
 use Rattle.std.proofs.lemmas.Bool.Decides.{Decides-eqb}
 use Rattle.std.proofs.lemmas.Bool.{cases_Bool, le-ltb, ltb-true, ltb-false}
-use Rattle.candidate_core.specs.Candidates.{Candidate}
-use Rattle.candidate_core.specs.Options.{IsIn}
+use Rattle.pool_core.specs.candidate_core.Candidates.{Candidate}
+use Rattle.pool_core.specs.candidate_core.Options.{IsIn}
 use Rattle.dep_core.specs.Repositories.{Repository}
 use Rattle.report_core.specs.QueryReports.{repository_line}
 use Rattle.query_core.specs.Policy.{is_of_repository, repository_lines}

@@ -6,9 +6,9 @@ use Rattle.std.proofs.lemmas.Slice.Eq.{bytes_eq-Decides}
 use Rattle.std.proofs.Math.Bool.{or-true}
 use Rattle.std.proofs.lemmas.Bool.{cases_Bool}
 use Rattle.pool_core.proofs.SamePackage.{same_version}
-use Rattle.candidate_core.specs.Candidates.{is_same_version}
-use Rattle.candidate_core.specs.Options.{IsIn}
-use Rattle.candidate_core.proofs.LoopTests.{any_at}
+use Rattle.pool_core.specs.candidate_core.Candidates.{is_same_version}
+use Rattle.pool_core.specs.candidate_core.Options.{IsIn}
+use Rattle.pool_core.proofs.candidate_core.LoopTests.{any_at}
 use Rattle.query_core.specs.Policy.{versions_once}
 
 pub bool_same : (a b : Bool) → (a ≡ true → b ≡ true) → (b ≡ true → a ≡ true) → a ≡ b

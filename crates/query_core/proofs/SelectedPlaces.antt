@@ -2,10 +2,10 @@
 use Rattle.std.proofs.Common.{◌≡◌, inl, inr, ℕ, zero, suc, ◌+◌, ◌<◌, Bool, All, List, [], ◌∷◌, ◌++◌, length, take, refl, sym, ap, subst, ◌∙◌, arith}
 use Rattle.std.specs.Prelude.{Some, slice_get, if◌then◌else◌}
 use Rattle.std.proofs.lemmas.Bool.{cases_Bool}
-use Rattle.candidate_core.specs.Candidates.{Candidate}
-use Rattle.candidate_core.specs.Options.{places_from}
-use Rattle.candidate_core.proofs.Steps.{take_one_more}
-use Rattle.candidate_core.proofs.OfferLists.{places_more}
+use Rattle.pool_core.specs.candidate_core.Candidates.{Candidate}
+use Rattle.pool_core.specs.candidate_core.Options.{places_from}
+use Rattle.pool_core.proofs.candidate_core.Steps.{take_one_more}
+use Rattle.pool_core.proofs.candidate_core.OfferLists.{places_more}
 
 length_taken : (cs : List Candidate) (i : ℕ) (c : Candidate) → slice_get cs i ≡ Some c → length (take i cs) ≡ i
 length_taken [] zero c h = absurd (cc)

@@ -11,7 +11,7 @@ use Rattle.std.proofs.lemmas.List.Sorted.{IsPermutation-sym, IsPermutation-trans
 use Rattle.std.proofs.lemmas.Bool.{cases_Bool}
 use Rattle.base_core.specs.Sorted.{sorted_by}
 use Rattle.base_core.proofs.Sorting.{one_order, ranks, rises_in_order, rises_sorted, sorted_same}
-use Rattle.option_ranks.proofs.MovedMembers.{moved_filter}
+use Rattle.pool_core.proofs.option_ranks.MovedMembers.{moved_filter}
 
 both_not : (a b : Bool) → (not a && not b) ≡ true → (a ≡ false) × (b ≡ false)
 both_not true b h = absurd (cc)

@@ -3,8 +3,8 @@
 use Rattle.std.specs.Prelude.{◌≡◌, ◌⊎◌, ℕ, false, List, [], ◌∷◌, ◌++◌, Option, Some, slice_get}
 use Rattle.std.specs.declared.cmp.Ordering.{Ordering}
 use Rattle.std.specs.declared.cmp.Ordering.TheVariants.{Less}
-use Rattle.candidate_core.specs.Candidates.{Candidate}
-use Rattle.candidate_core.specs.Options.{IsIn}
+use Rattle.pool_core.specs.candidate_core.Candidates.{Candidate}
+use Rattle.pool_core.specs.candidate_core.Options.{IsIn}
 use Rattle.command_core.specs.declared.operands.Operand.{Operand}
 use Rattle.dep_core.specs.Dependency.{Dependency}
 use Rattle.star_patterns.specs.Fills.{IsFilledTo}

@@ -3,7 +3,7 @@ use Rattle.std.specs.Prelude.{ℕ, ◌==◌, Bool, not, ◌&&◌, ◌||◌, List
 use Rattle.std.specs.List.{flat_map, list_any}
 use Rattle.adb_view.specs.FieldIndexes.{INFO_ARCH, INFO_LICENSE, INFO_ORIGIN}
 use Rattle.adb_view.specs.Values.{entry_in, text_in}
-use Rattle.candidate_core.specs.Candidates.{Candidate}
+use Rattle.pool_core.specs.candidate_core.Candidates.{Candidate}
 use Rattle.command_core.specs.declared.operands.Operand.{Operand}
 use Rattle.report_core.specs.QueryReports.{list_line}
 use Rattle.star_patterns.specs.Patterns.{is_matched}

@@ -4,9 +4,9 @@ use Rattle.std.specs.List.{filter_map}
 use Rattle.std.specs.Option.{option_cmp}
 use Rattle.std.specs.Ordering.{nat_cmp, on, then_cmp}
 use Rattle.std.specs.declared.cmp.Ordering.{Ordering}
-use Rattle.candidate_core.specs.Candidates.{Candidate}
-use Rattle.candidate_core.specs.Options.{places_from}
-use Rattle.candidate_core.specs.Rank.{bytes_cmp, greater_version}
+use Rattle.pool_core.specs.candidate_core.Candidates.{Candidate}
+use Rattle.pool_core.specs.candidate_core.Options.{places_from}
+use Rattle.pool_core.specs.candidate_core.Rank.{bytes_cmp, greater_version}
 use Rattle.base_core.specs.Sorted.{sorted_by}
 
 -- the text of a version, as it is printed; empty if there is none, and no candidate of a tested

@@ -3,7 +3,7 @@ use Rattle.std.specs.Prelude.{ℕ, ◌+◌, ◌==◌, Bool, false, ◌&&◌, if�
 use Rattle.std.specs.List.{filter, flat_map, list_any}
 use Rattle.std.specs.Option.{option_map_or}
 use Rattle.std.specs.Str.{bytes_eq}
-use Rattle.candidate_core.specs.Candidates.{Candidate, is_same_version}
+use Rattle.pool_core.specs.candidate_core.Candidates.{Candidate, is_same_version}
 use Rattle.command_core.specs.declared.operands.Operand.{Operand}
 use Rattle.dep_core.specs.Repositories.{Repository}
 use Rattle.report_core.specs.QueryReports.{database_line, policy_heading, repository_line, version_heading}

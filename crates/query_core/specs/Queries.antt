@@ -1,7 +1,7 @@
 -- What a query prints, by its command: `list`, `search` or `policy` (apk(8)). The rules are in
 -- `docs/commands.md`, in the section of each.
 use Rattle.std.specs.Prelude.{ℕ, List, []}
-use Rattle.candidate_core.specs.Rank.{SealedPool}
+use Rattle.pool_core.specs.candidate_core.Rank.{SealedPool}
 use Rattle.command_core.specs.Command.{CommandLine}
 use Rattle.command_core.specs.declared.command.Applet.{Applet}
 use Rattle.command_core.specs.declared.command.Applet.TheVariants.{List as ListApplet, Policy, Search}

@@ -1,11 +1,11 @@
 -- What candidates are ordered by in a query: the keys of options, all but three the same for all.
 -- No rule of a document: serves the contracts of `src/order.rt`.
 use Rattle.std.specs.Prelude.{◌≡◌, ◌==◌, Bool, true, false, All, List, None, Some, slice_get}
-use Rattle.candidate_core.specs.Candidates.{Candidate, is_same_version}
-use Rattle.candidate_core.specs.Options.{IsIn}
-use Rattle.option_ranks.specs.Ranking.{Ranking, ranking_by, with_version}
-use Rattle.option_ranks.specs.declared.rank.VersionKey.{VersionKey}
-use Rattle.option_ranks.specs.declared.rank.VersionKey.TheVariants.{ByRank, ByText}
+use Rattle.pool_core.specs.candidate_core.Candidates.{Candidate, is_same_version}
+use Rattle.pool_core.specs.candidate_core.Options.{IsIn}
+use Rattle.pool_core.specs.option_ranks.Ranking.{Ranking, ranking_by, with_version}
+use Rattle.pool_core.specs.option_ranks.declared.rank.VersionKey.{VersionKey}
+use Rattle.pool_core.specs.option_ranks.declared.rank.VersionKey.TheVariants.{ByRank, ByText}
 
 -- what is read of a candidate for its order in a query, at the place and with the ranks of a
 -- ranking

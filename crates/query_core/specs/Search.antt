@@ -1,7 +1,7 @@
 -- What `search` prints (apk(8)). The rule is in `docs/commands.md`, "`search`".
 use Rattle.std.specs.Prelude.{ℕ, Bool, not, ◌&&◌, List, ◌∷◌, map, is_some}
 use Rattle.std.specs.List.{filter, flat_map, list_any}
-use Rattle.candidate_core.specs.Candidates.{Candidate}
+use Rattle.pool_core.specs.candidate_core.Candidates.{Candidate}
 use Rattle.command_core.specs.declared.operands.Operand.{Operand}
 use Rattle.dep_core.specs.Dependency.{Dependency}
 use Rattle.report_core.specs.QueryReports.{search_line}

@@ -12,9 +12,7 @@ ghost use Rattle.std.specs.Prelude.{◌≡◌, ◌<◌, ◌∷◌, ◌++◌, [],
 use crate::order::in_order;
 use crate::report_out::{ReportLength, ReportOut};
 use base_core::Text;
-use candidate_core::{CandId, Details};
-use option_ranks::RankedOption;
-use pool_core::Sealed;
+use pool_core::{CandId, Details, RankedOption, Sealed};
 use std::alloc::{AllocError, Global};
 use version_core::Version;
 

@@ -1,8 +1,8 @@
 //! What the definitions of queries keep, each as the contract of a function that does nothing.
 //! The rules are in `docs/commands.md`, "`list`", "`search`" and "`policy`".
-ghost use Rattle.candidate_core.specs.Candidates.{Candidate};
-ghost use Rattle.candidate_core.specs.Options.{IsIn};
-ghost use Rattle.candidate_core.specs.Rank.{UpgradedNames, bytes_cmp, greater_version, sealed_pool_by};
+ghost use Rattle.pool_core.specs.candidate_core.Candidates.{Candidate};
+ghost use Rattle.pool_core.specs.candidate_core.Options.{IsIn};
+ghost use Rattle.pool_core.specs.candidate_core.Rank.{UpgradedNames, bytes_cmp, greater_version, sealed_pool_by};
 ghost use Rattle.command_core.specs.Command.{CommandLine};
 ghost use Rattle.command_core.specs.declared.operands.Operand.{Operand};
 ghost use Rattle.dep_core.specs.Dependency.{Dependency};

@@ -1,13 +1,12 @@
 //! What `list` prints (apk(8)). The rule is in `docs/commands.md`, "`list`".
-ghost use Rattle.candidate_core.specs.Options.{places_from};
+ghost use Rattle.pool_core.specs.candidate_core.Options.{places_from};
 ghost use Rattle.query_core.specs.List.{is_list_candidate, is_name_matched, list_report};
 ghost use Rattle.std.specs.Prelude.{◌≡◌, IfOk};
 
 use crate::candidates::{LineForm, place_of, push_if, report};
 use base_core::Text;
-use candidate_core::{CandId, Details};
 use command_core::Operands;
-use pool_core::Sealed;
+use pool_core::{CandId, Details, Sealed};
 use std::alloc::{AllocError, Global};
 
 /// What `list` prints: a line for each candidate whose name a pattern matches, of all candidates if

@@ -1,17 +1,17 @@
 //! The order in which a query prints what it selects: by name, then the greater version, then the
 //! text of the version, then the place in the list of candidates.
 //! The rule is in `docs/commands.md`, "Queries".
-ghost use Rattle.candidate_core.specs.declared.versions.VersionKind.TheVariants as Kinds;
-ghost use Rattle.candidate_core.specs.Packages.{candidates_of_packages};
+ghost use Rattle.pool_core.specs.candidate_core.declared.versions.VersionKind.TheVariants as Kinds;
+ghost use Rattle.pool_core.specs.candidate_core.Packages.{candidates_of_packages};
 ghost use Rattle.base_core.specs.Sorted.{sorted_by};
-ghost use Rattle.option_ranks.specs.VersionRanks.{AreReadAlike, IsReadFrom};
+ghost use Rattle.pool_core.specs.option_ranks.VersionRanks.{AreReadAlike, IsReadFrom};
 ghost use Rattle.query_core.specs.Order.{query_cmp};
 ghost use Rattle.query_core.specs.QueryRanking.{AreInQueryOrder, IsQueryRanking};
 ghost use Rattle.std.specs.Prelude.{◌≡◌, ◌<◌, All, IfOk, length, map};
 
-use candidate_core::{CandId, Packages, RankedVersion};
-use option_ranks::{RankedOption, VersionKey, rank_long_versions};
-use pool_core::Sealed;
+use pool_core::{
+    CandId, Packages, RankedOption, RankedVersion, Sealed, VersionKey, rank_long_versions,
+};
 use std::alloc::{AllocError, Global};
 use version_core::order_is_total;
 

@@ -1,5 +1,5 @@
 //! What `search` prints (apk(8)). The rule is in `docs/commands.md`, "`search`".
-ghost use Rattle.candidate_core.specs.Options.{places_from};
+ghost use Rattle.pool_core.specs.candidate_core.Options.{places_from};
 ghost use Rattle.dep_core.specs.Meets.{dependency};
 ghost use Rattle.query_core.specs.EntryFound.{is_entry_found};
 ghost use Rattle.query_core.specs.Search.{is_name_found, is_search_candidate, provided_names, search_report};
@@ -8,10 +8,9 @@ ghost use Rattle.std.specs.Prelude.{◌≡◌, IfOk};
 
 use crate::candidates::{LineForm, place_of, push_if, report};
 use base_core::Text;
-use candidate_core::{CandId, Deps, Details};
 use command_core::Operands;
 use dep_core::Dep;
-use pool_core::Sealed;
+use pool_core::{CandId, Deps, Details, Sealed};
 use std::alloc::{AllocError, Global};
 
 /// What `search` prints: a line for each candidate of a repository of which a pattern matches some

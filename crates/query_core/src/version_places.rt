@@ -1,10 +1,10 @@
 //! The versions of the candidates of a name, and where each of them is: whether it is installed,
 //! and which repositories have it.
 //! The rule is in `docs/commands.md`, "`policy`".
-ghost use Rattle.candidate_core.specs.Candidates.{Candidate, is_same_version};
-ghost use Rattle.candidate_core.specs.Options.{places_from};
-ghost use Rattle.candidate_core.specs.Rank.{is_at};
-ghost use Rattle.option_ranks.specs.Ranking.{Ranking};
+ghost use Rattle.pool_core.specs.candidate_core.Candidates.{Candidate, is_same_version};
+ghost use Rattle.pool_core.specs.candidate_core.Options.{places_from};
+ghost use Rattle.pool_core.specs.candidate_core.Rank.{is_at};
+ghost use Rattle.pool_core.specs.option_ranks.Ranking.{Ranking};
 ghost use Rattle.query_core.specs.Order.{selected_places};
 ghost use Rattle.query_core.specs.Policy.{has_own_name, versions_of_name};
 ghost use Rattle.query_core.specs.QueryRanking.{AreInQueryOrder, have_one_version};
@@ -14,9 +14,7 @@ ghost use Rattle.std.specs.Prelude.{◌≡◌, ◌<◌, ◌≤◌, ◌++◌, ℕ
 
 use crate::candidates::push_if;
 use crate::order::{Ordered, in_order};
-use candidate_core::CandId;
-use option_ranks::{RankedOption, VersionKey};
-use pool_core::Sealed;
+use pool_core::{CandId, RankedOption, Sealed, VersionKey};
 use std::alloc::{AllocError, Global};
 use std::marker::Model;
 use version_core::{Version, order_is_total};

@@ -2,30 +2,30 @@
 use Rattle.std.proofs.Common.{◌≡◌, inl, inr, ◌∙◌, ℕ, Bool, true, false, List, [], ◌∷◌, map, Option, Some, None, Result, Ok, Err, refl, ap, sym, subst}
 use Rattle.std.specs.Prelude.{if◌then◌else◌}
 use Rattle.std.proofs.lemmas.Bool.{and_parts}
-use Rattle.adb_fields.specs.FirstPair.{IsIn}
+use Rattle.outcome.specs.adb_fields.FirstPair.{IsIn}
 use Rattle.adb_view.specs.Plain.{Plain}
-use Rattle.adb_write.specs.Canonical.{PayloadCounts, empty_layout, overflow_of, passes, trace, written_of}
+use Rattle.outcome.specs.adb_write.Canonical.{PayloadCounts, empty_layout, overflow_of, passes, trace, written_of}
 use Rattle.base_core.specs.Files.{Files}
-use Rattle.change_files.specs.FileChange.{FileChange}
-use Rattle.change_files.specs.PlanLists.{first_reserved}
-use Rattle.change_files.proofs.InOrder.{from_order}
-use Rattle.change_inputs.specs.Chains.{and_then}
-use Rattle.change_inputs.specs.Inputs.{Inputs}
-use Rattle.change_outcome.specs.ChangeOutcome.{ChangeDone, ChangeWishes, IsClashFound, IsClashOfChange, actions_of, change_done, change_members, change_or_refusal, change_with_members, file_change, name_at_place, new_records, touched_paths, unless_clash, unless_contested, unless_large, unless_overflow, unless_reserved_path, unless_too_large}
-use Rattle.change_outcome.specs.MembersAfter.{MemberFound}
-use Rattle.change_outcome.specs.PackageFiles.{has_script_of}
+use Rattle.outcome.specs.change_files.FileChange.{FileChange}
+use Rattle.outcome.specs.change_files.PlanLists.{first_reserved}
+use Rattle.outcome.proofs.change_files.InOrder.{from_order}
+use Rattle.outcome.specs.change_inputs.Chains.{and_then}
+use Rattle.outcome.specs.change_inputs.Inputs.{Inputs}
+use Rattle.outcome.specs.change_outcome.ChangeOutcome.{ChangeDone, ChangeWishes, IsClashFound, IsClashOfChange, actions_of, change_done, change_members, change_or_refusal, change_with_members, file_change, name_at_place, new_records, touched_paths, unless_clash, unless_contested, unless_large, unless_overflow, unless_reserved_path, unless_too_large}
+use Rattle.outcome.specs.change_outcome.MembersAfter.{MemberFound}
+use Rattle.outcome.specs.change_outcome.PackageFiles.{has_script_of}
 use Rattle.report_core.specs.Numbers.{TRIGGER_SCRIPT}
-use Rattle.change_outcome.specs.Triggers.{folders_of_paths, has_due_trigger, is_due, is_folder_matched, is_watched, patterns_of, unless_trigger}
-use Rattle.db_core.specs.Members.{Member, member_name}
-use Rattle.db_write.specs.NewDatabase.{database_container, database_of, database_value}
-use Rattle.file_owners.specs.Owners.{contested_of, owned_of}
-use Rattle.journal_intent.specs.IntentValue.{intent_of_lists, value_of_intent}
-use Rattle.journal_intent.proofs.Rooted.{payload_large}
-use Rattle.make_info.specs.Reads.{Reads}
-use Rattle.package_files.specs.Folders.{folder_of}
-use Rattle.package_changes.specs.Changes.{Replacement}
-use Rattle.path_claims.specs.Claims.{ContestedPath}
-use Rattle.path_clashes.specs.Clash.{NamePair}
+use Rattle.outcome.specs.change_outcome.Triggers.{folders_of_paths, has_due_trigger, is_due, is_folder_matched, is_watched, patterns_of, unless_trigger}
+use Rattle.outcome.specs.db_core.Members.{Member, member_name}
+use Rattle.outcome.specs.db_write.NewDatabase.{database_container, database_of, database_value}
+use Rattle.outcome.specs.file_owners.Owners.{contested_of, owned_of}
+use Rattle.outcome.specs.journal_intent.IntentValue.{intent_of_lists, value_of_intent}
+use Rattle.outcome.proofs.journal_intent.Rooted.{payload_large}
+use Rattle.outcome.specs.make_info.Reads.{Reads}
+use Rattle.outcome.specs.package_files.Folders.{folder_of}
+use Rattle.outcome.specs.package_changes.Changes.{Replacement}
+use Rattle.outcome.specs.path_claims.Claims.{ContestedPath}
+use Rattle.outcome.specs.path_clashes.Clash.{NamePair}
 use Rattle.report_core.specs.declared.refusal.Refusal.{Refusal}
 use Rattle.report_core.specs.declared.refusal.Refusal.TheVariants.{Owned, PathClash, Reserved, ResultTooLarge, TriggerNeeded}
 use Rattle.refusal_laws.specs.ChangeFaults.{IsFaultOfChange, IsFaultOfFiles, IsResultTooLarge, IsTooLarge, IsTriggerNeeded, IsWatchedFor}

@@ -2,19 +2,19 @@
 use Rattle.std.proofs.Common.{◌≡◌, inl, inr, ◌∙◌, ℕ, ◌+◌, Bool, true, false, List, [], ◌∷◌, length, Option, Some, None, Result, Ok, Err, refl, ap, sym, subst, true≢false}
 use Rattle.std.specs.Prelude.{not, bytes_eq, if◌then◌else◌, option_and_then, slice_get}
 use Rattle.std.proofs.lemmas.Slice.Eq.{bytes_eq-Decides}
-use Rattle.adb_fields.specs.FirstPair.{IsIn}
-use Rattle.adb_fields.specs.Repeated.{package_name}
+use Rattle.outcome.specs.adb_fields.FirstPair.{IsIn}
+use Rattle.outcome.specs.adb_fields.Repeated.{package_name}
 use Rattle.adb_view.specs.Plain.{Plain}
 use Rattle.base_core.specs.declared.cause.Cause.{Cause}
-use Rattle.change_inputs.specs.Inputs.{Inputs, first_index_read}
-use Rattle.change_outcome.specs.ChangeOutcome.{ChangeWishes}
-use Rattle.change_outcome.specs.MembersAfter.{added_package_by_path}
-use Rattle.change_outcome.specs.PackageFiles.{AddedPackage, first_script_of, has_script_of, package_file_of, package_found, package_in_file, scripts_of_change, unless_different, unless_script_number, unless_package_bad, unless_script}
-use Rattle.file_owners.specs.Replaces.{version_text}
-use Rattle.make_info.specs.Reads.{Reads}
-use Rattle.package_changes.specs.Changes.{Replacement, change_of_name, is_selected_named, names_on_both_sides, selected_version}
-use Rattle.pkg_core.specs.Whole.{package_fault}
-use Rattle.candidate_core.specs.Candidates.{Candidate, is_same_id}
+use Rattle.outcome.specs.change_inputs.Inputs.{Inputs, first_index_read}
+use Rattle.outcome.specs.change_outcome.ChangeOutcome.{ChangeWishes}
+use Rattle.outcome.specs.change_outcome.MembersAfter.{added_package_by_path}
+use Rattle.outcome.specs.change_outcome.PackageFiles.{AddedPackage, first_script_of, has_script_of, package_file_of, package_found, package_in_file, scripts_of_change, unless_different, unless_script_number, unless_package_bad, unless_script}
+use Rattle.outcome.specs.file_owners.Replaces.{version_text}
+use Rattle.outcome.specs.make_info.Reads.{Reads}
+use Rattle.outcome.specs.package_changes.Changes.{Replacement, change_of_name, is_selected_named, names_on_both_sides, selected_version}
+use Rattle.outcome.specs.pkg_core.Whole.{package_fault}
+use Rattle.outcome.specs.candidate_core.Candidates.{Candidate, is_same_id}
 use Rattle.report_core.specs.Numbers.{HASHES_FIELD, NAME_FIELD, VERSION_FIELD}
 use Rattle.report_core.specs.Reports.{Change}
 use Rattle.report_core.specs.declared.refusal.Refusal.{Refusal}

@@ -2,25 +2,25 @@
 use Rattle.std.proofs.Common.{◌≡◌, inl, inr, ◌∙◌, ℕ, ◌+◌, Bool, true, false, List, [], ◌∷◌, length, Option, Some, None, Result, Ok, Err, refl, ap, subst}
 use Rattle.std.specs.Prelude.{nat_lt, if◌then◌else◌}
 use Rattle.std.proofs.lemmas.Bool.{ltb-true, or_parts}
-use Rattle.adb_fields.specs.FirstPair.{IsIn}
+use Rattle.outcome.specs.adb_fields.FirstPair.{IsIn}
 use Rattle.base_core.specs.Files.{Files}
-use Rattle.change_inputs.specs.Candidates.{candidates_of, root_pool}
-use Rattle.change_inputs.specs.Chains.{and_then}
-use Rattle.change_inputs.specs.Inputs.{Inputs, inputs_of}
-use Rattle.change_outcome.specs.ChangeOutcome.{ChangeDone, change_or_refusal}
+use Rattle.outcome.specs.change_inputs.Candidates.{candidates_of, root_pool}
+use Rattle.outcome.specs.change_inputs.Chains.{and_then}
+use Rattle.outcome.specs.change_inputs.Inputs.{Inputs, inputs_of}
+use Rattle.outcome.specs.change_outcome.ChangeOutcome.{ChangeDone, change_or_refusal}
 use Rattle.command_core.specs.Command.{CommandLine}
 use Rattle.command_core.specs.declared.command.Applet.{Applet}
 use Rattle.command_core.specs.declared.command.Applet.TheVariants.{Del, Fix, Upgrade}
 use Rattle.command_core.specs.declared.operands.Operand.{Operand}
 use Rattle.dep_core.specs.World.{has_name}
-use Rattle.engine_core.specs.Changed.{IsClashFor, IsClashOfSelected, IsClashUnlessSimulated, Selected, change_of_selected, change_of_command, selected_by, selected_for, selected_of_inputs, simulated_change}
-use Rattle.engine_core.specs.Choice.{IsChoiceFrom}
-use Rattle.engine_core.specs.Selecting.{pool_by, pool_for}
-use Rattle.engine_core.specs.Wishes.{first_unknown, is_installed_name, is_known_name, names_to_upgrade, unknown_operand_place, unless_unknown_operand, wishes_of}
-use Rattle.make_info.specs.Reads.{Reads}
-use Rattle.path_clashes.specs.Clash.{NamePair}
-use Rattle.candidate_core.specs.Rank.{SealedPool, UpgradedNames, sealed_pool_by}
-use Rattle.candidate_core.specs.declared.candidate_list.TheConstants.{MOST_CANDIDATES}
+use Rattle.outcome.specs.engine_core.Changed.{IsClashFor, IsClashOfSelected, IsClashUnlessSimulated, Selected, change_of_selected, change_of_command, selected_by, selected_for, selected_of_inputs, simulated_change}
+use Rattle.outcome.specs.engine_core.Choice.{IsChoiceFrom}
+use Rattle.outcome.specs.engine_core.Selecting.{pool_by, pool_for}
+use Rattle.outcome.specs.engine_core.Wishes.{first_unknown, is_installed_name, is_known_name, names_to_upgrade, unknown_operand_place, unless_unknown_operand, wishes_of}
+use Rattle.outcome.specs.make_info.Reads.{Reads}
+use Rattle.outcome.specs.path_clashes.Clash.{NamePair}
+use Rattle.outcome.specs.candidate_core.Rank.{SealedPool, UpgradedNames, sealed_pool_by}
+use Rattle.outcome.specs.candidate_core.declared.candidate_list.TheConstants.{MOST_CANDIDATES}
 use Rattle.report_core.specs.declared.refusal.Refusal.{Refusal}
 use Rattle.report_core.specs.declared.refusal.Refusal.TheVariants.{NotInstalled, TooMany, Unsatisfied}
 use Rattle.refusal_laws.specs.CommandFaults.{IsChangeRefused, IsFaultOfCommand, IsFaultOfSelection, IsUnknownTo}

@@ -6,25 +6,25 @@ use Rattle.std.specs.Ordering.{is_lt}
 use Rattle.std.proofs.lemmas.Bool.{cases_lt, false_from_ne_true}
 use Rattle.std.proofs.lemmas.Option.{get_or_from_slice_get, slice_get_within}
 use Rattle.std.proofs.lemmas.Slice.Eq.{bytes_eq-Decides}
-use Rattle.adb_fields.specs.Repeated.{package_name}
+use Rattle.outcome.specs.adb_fields.Repeated.{package_name}
 use Rattle.adb_view.specs.Plain.{Plain}
 use Rattle.base_core.specs.declared.cause.Cause.{Cause}
 use Rattle.base_core.proofs.Rising as Names
-use Rattle.change_files.proofs.InOrder.{in_left, in_order, order_rises}
-use Rattle.change_inputs.specs.Chains.{and_then}
-use Rattle.change_inputs.specs.Inputs.{Inputs, first_index_read}
-use Rattle.change_outcome.specs.ChangeOutcome.{ChangeWishes, change_members}
-use Rattle.change_outcome.specs.MembersAfter.{MemberFound, added_package_by_path, added_member_found, members_after, name_after, name_by_change, name_by_selected, member_of_added_name, member_of_removed_name, names_after}
-use Rattle.change_outcome.specs.PackageFiles.{AddedPackage, first_script_of, package_file_of, package_found, package_in_file, scripts_of_change, unless_script_number, unless_package_bad, unless_script}
-use Rattle.db_core.specs.Packages.{is_package_named}
-use Rattle.file_owners.specs.Replaces.{version_text}
+use Rattle.outcome.proofs.change_files.InOrder.{in_left, in_order, order_rises}
+use Rattle.outcome.specs.change_inputs.Chains.{and_then}
+use Rattle.outcome.specs.change_inputs.Inputs.{Inputs, first_index_read}
+use Rattle.outcome.specs.change_outcome.ChangeOutcome.{ChangeWishes, change_members}
+use Rattle.outcome.specs.change_outcome.MembersAfter.{MemberFound, added_package_by_path, added_member_found, members_after, name_after, name_by_change, name_by_selected, member_of_added_name, member_of_removed_name, names_after}
+use Rattle.outcome.specs.change_outcome.PackageFiles.{AddedPackage, first_script_of, package_file_of, package_found, package_in_file, scripts_of_change, unless_script_number, unless_package_bad, unless_script}
+use Rattle.outcome.specs.db_core.Packages.{is_package_named}
+use Rattle.outcome.specs.file_owners.Replaces.{version_text}
 use Rattle.base_core.specs.ByteOrder.{precedes}
 use Rattle.base_core.proofs.Orderings.{precedes_one_way}
-use Rattle.make_info.specs.Reads.{Reads}
-use Rattle.package_changes.specs.Changes.{Replacement, change_of_name, is_selected_named, names_on_both_sides, selected_version}
-use Rattle.path_clashes.proofs.PairOrder.{precedes_itself}
-use Rattle.pkg_core.specs.Whole.{package_fault}
-use Rattle.candidate_core.specs.Candidates.{Candidate, is_same_id}
+use Rattle.outcome.specs.make_info.Reads.{Reads}
+use Rattle.outcome.specs.package_changes.Changes.{Replacement, change_of_name, is_selected_named, names_on_both_sides, selected_version}
+use Rattle.outcome.proofs.path_clashes.PairOrder.{precedes_itself}
+use Rattle.outcome.specs.pkg_core.Whole.{package_fault}
+use Rattle.outcome.specs.candidate_core.Candidates.{Candidate, is_same_id}
 use Rattle.report_core.specs.Reports.{Change}
 use Rattle.report_core.specs.declared.refusal.Refusal.{Refusal}
 use Rattle.report_core.specs.declared.refusal.Refusal.TheVariants.{PackageBad, PackageDiffers, PackageMissing, ScriptNeeded}

@@ -1,21 +1,21 @@
 -- An `info` that is refused is refused for its fault.
 use Rattle.std.proofs.Common.{◌≡◌, inl, inr, ℕ, Bool, true, false, List, Option, Some, None, Result, Ok, Err, refl, subst}
 use Rattle.outcome.proofs.Lacking.{text_remembers}
-use Rattle.adb_schema.specs.Soundness.{first_fault}
+use Rattle.outcome.specs.adb_schema.Soundness.{first_fault}
 use Rattle.adb_view.specs.declared.tables.Which.TheVariants.{Idb}
-use Rattle.change_inputs.specs.Database.{payload_database, root_database}
-use Rattle.change_inputs.specs.Inputs.{database_for, database_read, text_database_read}
+use Rattle.outcome.specs.change_inputs.Database.{payload_database, root_database}
+use Rattle.outcome.specs.change_inputs.Inputs.{database_for, database_read, text_database_read}
 use Rattle.command_core.specs.Command.{CommandLine}
-use Rattle.tell_core.specs.InfoResult.{info_result}
-use Rattle.installed_info.specs.Info.{info_of}
-use Rattle.installed_info.specs.declared.telling.ReportAndRefusal.{ReportAndRefusal}
-use Rattle.make_info.specs.Reads.{Reads}
+use Rattle.outcome.specs.tell_core.InfoResult.{info_result}
+use Rattle.outcome.specs.installed_info.Info.{info_of}
+use Rattle.outcome.specs.installed_info.declared.telling.ReportAndRefusal.{ReportAndRefusal}
+use Rattle.outcome.specs.make_info.Reads.{Reads}
 use Rattle.report_core.specs.declared.refusal.Refusal.{Refusal}
 use Rattle.report_core.specs.declared.refusal.Refusal.TheVariants.{DatabaseBad, NoDatabase, ResultTooLarge}
 use Rattle.root_names.specs.RootNames.{database_name, text_database_name}
-use Rattle.v2_core.specs.Payload.{payload_of_text}
-use Rattle.v2_core.specs.declared.read.V2Fault.{V2Fault}
-use Rattle.v2_core.specs.declared.read.V2Fault.TheVariants.{Bad, Memory, TooLarge}
+use Rattle.outcome.specs.v2_core.Payload.{payload_of_text}
+use Rattle.outcome.specs.v2_core.declared.read.V2Fault.{V2Fault}
+use Rattle.outcome.specs.v2_core.declared.read.V2Fault.TheVariants.{Bad, Memory, TooLarge}
 use Rattle.refusal_laws.specs.InfoFaults.{AreOperandsFound, IsFaultOfDatabase, IsFaultOfInfo, IsFaultOfOperand}
 use Rattle.refusal_laws.proofs.InputFaults.{cause_err}
 use Rattle.refusal_laws.proofs.InfoOperands.{operand_late, operand_refused, operands_told}

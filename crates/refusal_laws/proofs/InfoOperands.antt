@@ -2,21 +2,21 @@
 use Rattle.std.proofs.Common.{◌≡◌, ◌⊎◌, inl, inr, ◌∙◌, ℕ, Bool, true, false, List, [], ◌∷◌, ◌++◌, Option, Some, None, Ok, Err, refl, ap, sym, subst, true≢false}
 use Rattle.std.specs.Prelude.{if◌then◌else◌, bytes_eq, is_some}
 use Rattle.std.proofs.lemmas.Slice.Eq.{bytes_eq-Decides}
-use Rattle.adb_fields.specs.FirstPair.{IsIn}
-use Rattle.adb_fields.specs.Repeated.{package_name, paths_in}
+use Rattle.outcome.specs.adb_fields.FirstPair.{IsIn}
+use Rattle.outcome.specs.adb_fields.Repeated.{package_name, paths_in}
 use Rattle.adb_view.specs.Plain.{Plain}
 use Rattle.command_core.specs.Command.{CommandLine}
 use Rattle.command_core.specs.declared.command.Flags.{Flags}
 use Rattle.command_core.specs.declared.operands.Operand.{Operand}
-use Rattle.db_core.specs.Packages.{is_package_named, lists_path}
+use Rattle.outcome.specs.db_core.Packages.{is_package_named, lists_path}
 use Rattle.dep_core.specs.LeadingSlash.{without_slash}
 use Rattle.report_core.specs.declared.refusal.Refusal.{Refusal}
 use Rattle.report_core.specs.declared.refusal.Refusal.TheVariants.{NotInstalled}
-use Rattle.installed_info.specs.Form.{form_of}
-use Rattle.installed_info.specs.Info.{form_info, info_of, info_refusal, info_unless, operands_info}
-use Rattle.installed_info.specs.Packages.{package_asked, package_named, path_owner}
-use Rattle.installed_info.specs.declared.telling.ReportAndRefusal.{ReportAndRefusal}
-use Rattle.installed_info.proofs.Refusing.{unless_err}
+use Rattle.outcome.specs.installed_info.Form.{form_of}
+use Rattle.outcome.specs.installed_info.Info.{form_info, info_of, info_refusal, info_unless, operands_info}
+use Rattle.outcome.specs.installed_info.Packages.{package_asked, package_named, path_owner}
+use Rattle.outcome.specs.installed_info.declared.telling.ReportAndRefusal.{ReportAndRefusal}
+use Rattle.outcome.proofs.installed_info.Refusing.{unless_err}
 use Rattle.refusal_laws.specs.InfoFaults.{AreFoundInstalled, IsAskedFor, IsFirstNotInstalled, IsFoundInstalled}
 use Rattle.refusal_laws.proofs.Lists.{any_in, found_in, in_any, none_found}
 

@@ -2,9 +2,9 @@
 use Rattle.std.proofs.Common.{Bool, Err, List, None, Ok, Result, Some, [], ap, cond, false, inl, inr, map, refl, sym, true, true≢false, ℕ, ◌&&◌, ◌∙◌, ◌∷◌, ◌≡◌, ◌⊎◌}
 use Rattle.std.specs.List.{find, list_all, list_any}
 use Rattle.std.proofs.lemmas.Bool.{or_cases, or_left, or_right}
-use Rattle.adb_fields.specs.FirstPair.{IsIn}
+use Rattle.outcome.specs.adb_fields.FirstPair.{IsIn}
 use Rattle.base_core.proofs.Rising as Names
-use Rattle.change_inputs.specs.Chains.{and_then}
+use Rattle.outcome.specs.change_inputs.Chains.{and_then}
 use Rattle.report_core.specs.declared.refusal.Refusal.{Refusal}
 
 -- ---- chains

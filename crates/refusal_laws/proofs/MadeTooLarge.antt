@@ -1,23 +1,23 @@
 -- A package that is too large is refused with its counts.
 use Rattle.command_core.specs.declared.values.TheConstants.{FILES, SCRIPT, TRIGGER}
 use Rattle.std.proofs.Common.{◌≡◌, ◌⊎◌, inl, inr, ◌∙◌, ℕ, ◌+◌, List, [], ◌∷◌, length, Option, Some, None, Result, Ok, Err, refl, ap}
-use Rattle.adb_sound.specs.Container.{package_by}
+use Rattle.outcome.specs.adb_sound.Container.{package_by}
 use Rattle.adb_view.specs.Plain.{Plain}
-use Rattle.adb_write.specs.Canonical.{PayloadCounts, overflow_of}
+use Rattle.outcome.specs.adb_write.Canonical.{PayloadCounts, overflow_of}
 use Rattle.command_core.specs.Command.{CommandLine}
 use Rattle.command_core.specs.Files.{without_dot}
 use Rattle.command_core.specs.Values.{script_file, script_type}
 use Rattle.command_core.specs.declared.values.OptionValue.{OptionValue}
-use Rattle.make_core.specs.ReadBack.{packed_of_parts, packed_package}
-use Rattle.make_info.specs.Information.{InfoItem, information, information_value, replaces_priority}
-use Rattle.make_info.specs.Reads.{Reads}
-use Rattle.make_info.specs.declared.fault.MakeFault.{MakeFault}
-use Rattle.make_info.specs.declared.fault.MakeFault.TheVariants.{TooLarge}
-use Rattle.package_files.specs.Folders.{FolderListing, folders_of}
-use Rattle.make_package.specs.Making.{container_unless, made_package, or_info_bad, package_container, package_of_parts}
-use Rattle.package_files.specs.Package.{Script, Source, SourceFolder, contents_of_folders, installed_size, value_of_package}
-use Rattle.package_files.specs.Sources.{each_from, file_at, folder_at, folders_below, found_at, and_then, script_at, script_with, scripts_from, source_with, sources_from, texts_of, values_with}
-use Rattle.pkg_core.specs.Contents.{Contents}
+use Rattle.outcome.specs.make_core.ReadBack.{packed_of_parts, packed_package}
+use Rattle.outcome.specs.make_info.Information.{InfoItem, information, information_value, replaces_priority}
+use Rattle.outcome.specs.make_info.Reads.{Reads}
+use Rattle.outcome.specs.make_info.declared.fault.MakeFault.{MakeFault}
+use Rattle.outcome.specs.make_info.declared.fault.MakeFault.TheVariants.{TooLarge}
+use Rattle.outcome.specs.package_files.Folders.{FolderListing, folders_of}
+use Rattle.outcome.specs.make_package.Making.{container_unless, made_package, or_info_bad, package_container, package_of_parts}
+use Rattle.outcome.specs.package_files.Package.{Script, Source, SourceFolder, contents_of_folders, installed_size, value_of_package}
+use Rattle.outcome.specs.package_files.Sources.{each_from, file_at, folder_at, folders_below, found_at, and_then, script_at, script_with, scripts_from, source_with, sources_from, texts_of, values_with}
+use Rattle.outcome.specs.pkg_core.Contents.{Contents}
 use Rattle.refusal_laws.specs.MadeTooLarge.{IsPackageTooLarge}
 use Rattle.refusal_laws.proofs.ChangeFaults.{too_large}
 

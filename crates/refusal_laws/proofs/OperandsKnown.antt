@@ -1,16 +1,16 @@
 -- A selection that is refused has passed the tests before.
 use Rattle.std.proofs.Common.{◌≡◌, inl, inr, ◌∙◌, ℕ, Bool, true, false, List, [], ◌∷◌, ◌++◌, Option, Some, None, Ok, Err, refl, ap, sym, subst, true≢false}
 use Rattle.std.specs.Prelude.{◌||◌, if◌then◌else◌}
-use Rattle.adb_fields.specs.FirstPair.{IsIn}
-use Rattle.change_inputs.specs.Inputs.{Inputs}
+use Rattle.outcome.specs.adb_fields.FirstPair.{IsIn}
+use Rattle.outcome.specs.change_inputs.Inputs.{Inputs}
 use Rattle.command_core.specs.Command.{CommandLine}
 use Rattle.command_core.specs.declared.command.Applet.{Applet}
 use Rattle.command_core.specs.declared.command.Applet.TheVariants.{Del, Fix, Upgrade}
 use Rattle.command_core.specs.declared.operands.Operand.{Operand}
-use Rattle.engine_core.specs.Changed.{selected_by, selected_of_inputs}
-use Rattle.engine_core.specs.Selecting.{pool_by}
-use Rattle.engine_core.specs.Wishes.{first_unknown, is_installed_name, is_known_name, names_to_upgrade, unknown_operand_place, unless_unknown_operand}
-use Rattle.candidate_core.specs.Rank.{SealedPool}
+use Rattle.outcome.specs.engine_core.Changed.{selected_by, selected_of_inputs}
+use Rattle.outcome.specs.engine_core.Selecting.{pool_by}
+use Rattle.outcome.specs.engine_core.Wishes.{first_unknown, is_installed_name, is_known_name, names_to_upgrade, unknown_operand_place, unless_unknown_operand}
+use Rattle.outcome.specs.candidate_core.Rank.{SealedPool}
 use Rattle.report_core.specs.declared.refusal.Refusal.{Refusal}
 use Rattle.report_core.specs.declared.refusal.Refusal.TheVariants.{NotInstalled, Unsatisfied}
 use Rattle.refusal_laws.specs.CommandFaults.{IsUnknownTo}

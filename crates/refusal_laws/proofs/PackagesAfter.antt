@@ -3,21 +3,21 @@ use Rattle.std.proofs.Common.{◌≡◌, ◌⊎◌, inl, inr, ◌∙◌, ℕ, su
 use Rattle.std.specs.Prelude.{option_map, bytes_eq}
 use Rattle.std.specs.List.{cons_option, find, list_any}
 use Rattle.std.proofs.lemmas.Slice.Eq.{bytes_eq-Decides}
-use Rattle.adb_fields.specs.FirstPair.{IsIn}
-use Rattle.adb_fields.specs.Repeated.{package_name}
+use Rattle.outcome.specs.adb_fields.FirstPair.{IsIn}
+use Rattle.outcome.specs.adb_fields.Repeated.{package_name}
 use Rattle.adb_view.specs.Plain.{Plain}
 use Rattle.base_core.proofs.Rising as Names
-use Rattle.change_files.proofs.InOrder.{in_order, in_right, order_rises}
-use Rattle.change_inputs.specs.Chains.{and_then}
-use Rattle.change_inputs.specs.Inputs.{Inputs, first_index_read}
-use Rattle.change_outcome.specs.ChangeOutcome.{ChangeWishes, change_members}
-use Rattle.change_outcome.specs.MembersAfter.{MemberFound, added_package_by_path, added_member_found, members_after, found_members, name_after, name_by_change, name_by_selected, member_of_added_name, member_of_removed_name, names_after, kept_member_found}
-use Rattle.change_outcome.specs.PackageFiles.{AddedPackage, package_file_of, scripts_of_change, unless_script}
-use Rattle.db_core.specs.Members.{member_name}
-use Rattle.db_core.specs.Packages.{is_package_named}
-use Rattle.make_info.specs.Reads.{Reads}
-use Rattle.package_changes.specs.Changes.{Replacement, change_between, change_of_name, is_same_selected, is_selected_named, names_on_both_sides, unless_same}
-use Rattle.candidate_core.specs.Candidates.{Candidate}
+use Rattle.outcome.proofs.change_files.InOrder.{in_order, in_right, order_rises}
+use Rattle.outcome.specs.change_inputs.Chains.{and_then}
+use Rattle.outcome.specs.change_inputs.Inputs.{Inputs, first_index_read}
+use Rattle.outcome.specs.change_outcome.ChangeOutcome.{ChangeWishes, change_members}
+use Rattle.outcome.specs.change_outcome.MembersAfter.{MemberFound, added_package_by_path, added_member_found, members_after, found_members, name_after, name_by_change, name_by_selected, member_of_added_name, member_of_removed_name, names_after, kept_member_found}
+use Rattle.outcome.specs.change_outcome.PackageFiles.{AddedPackage, package_file_of, scripts_of_change, unless_script}
+use Rattle.outcome.specs.db_core.Members.{member_name}
+use Rattle.outcome.specs.db_core.Packages.{is_package_named}
+use Rattle.outcome.specs.make_info.Reads.{Reads}
+use Rattle.outcome.specs.package_changes.Changes.{Replacement, change_between, change_of_name, is_same_selected, is_selected_named, names_on_both_sides, unless_same}
+use Rattle.outcome.specs.candidate_core.Candidates.{Candidate}
 use Rattle.report_core.specs.Reports.{Change}
 use Rattle.report_core.specs.declared.refusal.Refusal.{Refusal}
 use Rattle.refusal_laws.specs.AddedPackages.{selected_of_name}

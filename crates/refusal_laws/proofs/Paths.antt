@@ -7,27 +7,27 @@ use Rattle.std.specs.Ordering.{is_lt}
 use Rattle.std.proofs.lemmas.Bool.{or_left, or_right}
 use Rattle.std.proofs.lemmas.Cmp.{nat_list_cmp_total, tied_itself}
 use Rattle.std.proofs.lemmas.Slice.Eq.{bytes_eq-Decides}
-use Rattle.adb_fields.specs.FirstPair.{IsIn}
-use Rattle.adb_schema.specs.Reserved.{is_reserved}
+use Rattle.outcome.specs.adb_fields.FirstPair.{IsIn}
+use Rattle.outcome.specs.adb_schema.Reserved.{is_reserved}
 use Rattle.base_core.proofs.Rising as Names
-use Rattle.change_files.proofs.InOrder.{from_filter, in_filter, in_sorted, from_sorted}
-use Rattle.change_files.specs.NamesAfter.{added_paths}
-use Rattle.change_files.specs.PlanLists.{first_reserved}
-use Rattle.change_outcome.specs.ChangeOutcome.{name_at_place}
-use Rattle.db_core.specs.Members.{Listing, Member, member_listings, member_name}
-use Rattle.file_owners.specs.Owners.{claim_by, claims_from, claims_in, contested_of, member_beats, owner_of_path, takes_over_if_any}
-use Rattle.file_owners.specs.Replaces.{takes_over}
-use Rattle.file_owners.proofs.Claiming.{owner_is}
+use Rattle.outcome.proofs.change_files.InOrder.{from_filter, in_filter, in_sorted, from_sorted}
+use Rattle.outcome.specs.change_files.NamesAfter.{added_paths}
+use Rattle.outcome.specs.change_files.PlanLists.{first_reserved}
+use Rattle.outcome.specs.change_outcome.ChangeOutcome.{name_at_place}
+use Rattle.outcome.specs.db_core.Members.{Listing, Member, member_listings, member_name}
+use Rattle.outcome.specs.file_owners.Owners.{claim_by, claims_from, claims_in, contested_of, member_beats, owner_of_path, takes_over_if_any}
+use Rattle.outcome.specs.file_owners.Replaces.{takes_over}
+use Rattle.outcome.proofs.file_owners.Claiming.{owner_is}
 use Rattle.base_core.specs.ByteOrder.{bytes_cmp, precedes, smallest_text}
 use Rattle.base_core.specs.Sorted.{sorted_by}
 use Rattle.base_core.proofs.Smallest.{smallest_first}
 use Rattle.base_core.proofs.Sorting.{Each, Rises, ranks, rises_in_order}
 use Rattle.base_core.proofs.Numbers.{same_number}
-use Rattle.own_core.proofs.Listings.{IsPlaced, each_placed}
-use Rattle.own_core.proofs.NamesOnce.{not_below}
-use Rattle.path_claims.specs.Claims.{ContestedPath, claimants, contested_at, contested_by, contested_path, is_of_path, owner_by}
-use Rattle.path_claims.specs.Contest.{beats_each, first_rivals, rivals_of, winner}
-use Rattle.path_claims.specs.declared.contest.Rivals.{Rivals}
+use Rattle.outcome.proofs.own_core.Listings.{IsPlaced, each_placed}
+use Rattle.outcome.proofs.own_core.NamesOnce.{not_below}
+use Rattle.outcome.specs.path_claims.Claims.{ContestedPath, claimants, contested_at, contested_by, contested_path, is_of_path, owner_by}
+use Rattle.outcome.specs.path_claims.Contest.{beats_each, first_rivals, rivals_of, winner}
+use Rattle.outcome.specs.path_claims.declared.contest.Rivals.{Rivals}
 use Rattle.refusal_laws.specs.ChangeFaults.{IsContested, IsFirstReserved}
 use Rattle.refusal_laws.specs.TestsPassed.{AreUnreserved, HaveOwners}
 use Rattle.refusal_laws.proofs.Lists.{all_pass, found_in, in_names, name_in, none_found}

@@ -1,25 +1,25 @@
 -- What was read without a refusal before a later one.
 use Rattle.std.proofs.Common.{◌≡◌, ◌<◌, inl, inr, ◌∙◌, ℕ, zero, suc, ◌+◌, Bool, true, false, List, [], ◌∷◌, Option, Some, None, Result, Ok, Err, refl, ap, sym, subst, arith}
 use Rattle.std.specs.Prelude.{slice_get}
-use Rattle.adb_schema.specs.Soundness.{first_fault}
+use Rattle.outcome.specs.adb_schema.Soundness.{first_fault}
 use Rattle.adb_view.specs.declared.tables.Which.TheVariants.{Idb, Index}
 use Rattle.base_core.specs.declared.cause.Cause.{Cause}
-use Rattle.change_inputs.specs.Chains.{and_then, refused_as, unless_cause}
-use Rattle.change_inputs.specs.Database.{payload_database, root_database}
-use Rattle.change_inputs.specs.Indexes.{index_file, index_files_from, index_in_file, indexes_in_files}
-use Rattle.change_inputs.specs.Inputs.{Root, database_read, first_index_read, index_reads_from, indexes_of, inputs_by, inputs_of, root_by, root_for, text_database_read, world_read}
-use Rattle.change_inputs.specs.Repositories.{if_trusted, root_repositories}
-use Rattle.change_inputs.specs.World.{root_world, text_found}
+use Rattle.outcome.specs.change_inputs.Chains.{and_then, refused_as, unless_cause}
+use Rattle.outcome.specs.change_inputs.Database.{payload_database, root_database}
+use Rattle.outcome.specs.change_inputs.Indexes.{index_file, index_files_from, index_in_file, indexes_in_files}
+use Rattle.outcome.specs.change_inputs.Inputs.{Root, database_read, first_index_read, index_reads_from, indexes_of, inputs_by, inputs_of, root_by, root_for, text_database_read, world_read}
+use Rattle.outcome.specs.change_inputs.Repositories.{if_trusted, root_repositories}
+use Rattle.outcome.specs.change_inputs.World.{root_world, text_found}
 use Rattle.command_core.specs.Command.{CommandLine}
 use Rattle.dep_core.specs.Repositories.{Repository, repositories_of}
 use Rattle.dep_core.specs.World.{world_of}
-use Rattle.make_info.specs.Reads.{Reads}
+use Rattle.outcome.specs.make_info.Reads.{Reads}
 use Rattle.report_core.specs.declared.refusal.Refusal.{Refusal}
 use Rattle.report_core.specs.declared.refusal.Refusal.TheVariants.{DatabaseBad, IndexBad, IndexMissing, NoDatabase, RepositoriesBad, ResultTooLarge, Untrusted, WorldBad}
 use Rattle.root_names.specs.RootNames.{database_name, text_database_name, world_name}
-use Rattle.v2_core.specs.Payload.{payload_of_text}
-use Rattle.v2_core.specs.declared.read.V2Fault.{V2Fault}
-use Rattle.v2_core.specs.declared.read.V2Fault.TheVariants.{Bad, Memory, TooLarge}
+use Rattle.outcome.specs.v2_core.Payload.{payload_of_text}
+use Rattle.outcome.specs.v2_core.declared.read.V2Fault.{V2Fault}
+use Rattle.outcome.specs.v2_core.declared.read.V2Fault.TheVariants.{Bad, Memory, TooLarge}
 use Rattle.refusal_laws.specs.InputFaults.{IsIndexRead, repositories_found}
 use Rattle.refusal_laws.specs.ReadBefore.{ArePassedBefore, HasDatabaseAndWorld, HasDatabase, HasIndexes, HasIndexesBefore, AllowsUntrusted, HasReadBefore}
 use Rattle.refusal_laws.proofs.InputFaults.{as_err, cause_err, no_refusal, root_listed, world_then}

@@ -1,24 +1,24 @@
 -- An `audit`, a `manifest` or a query that is refused is refused for its fault.
 use Rattle.std.proofs.Common.{◌≡◌, inl, inr, ℕ, Bool, true, false, List, [], ◌∷◌, ◌++◌, Option, Some, None, Result, Ok, Err, refl, sym, ap, subst}
 use Rattle.std.specs.Prelude.{is_some}
-use Rattle.adb_fields.specs.FirstPair.{IsIn}
-use Rattle.adb_fields.specs.Repeated.{package_name}
+use Rattle.outcome.specs.adb_fields.FirstPair.{IsIn}
+use Rattle.outcome.specs.adb_fields.Repeated.{package_name}
 use Rattle.adb_view.specs.Plain.{Plain}
-use Rattle.audit_core.specs.Manifest.{manifest_of, manifest_with, operand_package, package_manifest, manifest_after}
-use Rattle.candidate_core.specs.Rank.{SealedPool, no_names}
-use Rattle.change_inputs.specs.Candidates.{root_pool}
-use Rattle.change_inputs.specs.Database.{Database}
-use Rattle.change_inputs.specs.Inputs.{Inputs, database_for, database_read, inputs_of, text_database_read}
+use Rattle.outcome.specs.audit_core.Manifest.{manifest_of, manifest_with, operand_package, package_manifest, manifest_after}
+use Rattle.outcome.specs.candidate_core.Rank.{SealedPool, no_names}
+use Rattle.outcome.specs.change_inputs.Candidates.{root_pool}
+use Rattle.outcome.specs.change_inputs.Database.{Database}
+use Rattle.outcome.specs.change_inputs.Inputs.{Inputs, database_for, database_read, inputs_of, text_database_read}
 use Rattle.command_core.specs.Command.{CommandLine}
 use Rattle.command_core.specs.declared.operands.Operand.{Operand}
-use Rattle.installed_info.specs.Info.{report_and_refusal}
-use Rattle.make_info.specs.Reads.{Reads}
-use Rattle.query_core.specs.Queries.{queried}
+use Rattle.outcome.specs.installed_info.Info.{report_and_refusal}
+use Rattle.outcome.specs.make_info.Reads.{Reads}
+use Rattle.outcome.specs.query_core.Queries.{queried}
 use Rattle.report_core.specs.declared.refusal.Refusal.{Refusal}
 use Rattle.report_core.specs.declared.refusal.Refusal.TheVariants.{NotInstalled}
 use Rattle.root_names.specs.RootNames.{database_name, text_database_name}
-use Rattle.tell_core.specs.AuditResult.{audit_of, audit_result, manifest_report, manifest_result}
-use Rattle.tell_core.specs.QueryResult.{query_report, query_result}
+use Rattle.outcome.specs.tell_core.AuditResult.{audit_of, audit_result, manifest_report, manifest_result}
+use Rattle.outcome.specs.tell_core.QueryResult.{query_report, query_result}
 use Rattle.refusal_laws.specs.InfoFaults.{IsAskedFor, IsFaultOfDatabase, IsFaultOfInfo, IsFirstNotInstalled, IsFoundInstalled}
 use Rattle.refusal_laws.specs.QueryFaults.{HasTooManyCandidates, IsFaultOfQuery}
 use Rattle.refusal_laws.proofs.CommandFaults.{pool_fault}

@@ -2,13 +2,13 @@
 use Rattle.std.proofs.Common.{◌≡◌, inl, inr, ◌∙◌, Option, Some, None, Result, Ok, Err, refl, ap, sym, subst}
 use Rattle.base_core.specs.Files.{Files}
 use Rattle.base_core.specs.declared.cause.Cause.{Cause}
-use Rattle.change_outcome.specs.ChangeOutcome.{ChangeDone}
+use Rattle.outcome.specs.change_outcome.ChangeOutcome.{ChangeDone}
 use Rattle.command_core.specs.Command.{CommandLine}
-use Rattle.engine_core.specs.Changed.{IsClashFor, change_of_command}
-use Rattle.engine_core.specs.Choice.{IsChoiceFrom}
-use Rattle.engine_core.specs.Selecting.{pool_for}
-use Rattle.journal_core.specs.Recovery.{intent_name}
-use Rattle.journal_core.specs.Staged.{unstaged_files}
+use Rattle.outcome.specs.engine_core.Changed.{IsClashFor, change_of_command}
+use Rattle.outcome.specs.engine_core.Choice.{IsChoiceFrom}
+use Rattle.outcome.specs.engine_core.Selecting.{pool_for}
+use Rattle.outcome.specs.journal_core.Recovery.{intent_name}
+use Rattle.outcome.specs.journal_core.Staged.{unstaged_files}
 use Rattle.outcome.specs.Changing.{change_outcome}
 use Rattle.outcome.specs.Commands.{IsOutcomeOn, reads_in}
 use Rattle.outcome.specs.Effect.{Changes, Effect, effect_of}

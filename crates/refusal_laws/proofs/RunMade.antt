@@ -2,10 +2,10 @@
 use Rattle.std.proofs.Common.{◌≡◌, inl, inr, ◌∙◌, false, Some, None, Result, Ok, Err, refl, ap, sym, subst}
 use Rattle.std.specs.Prelude.{if◌then◌else◌}
 use Rattle.base_core.specs.Files.{Files}
-use Rattle.change_outcome.specs.ChangeOutcome.{ChangeDone, change_or_refusal}
+use Rattle.outcome.specs.change_outcome.ChangeOutcome.{ChangeDone, change_or_refusal}
 use Rattle.command_core.specs.Command.{CommandLine}
-use Rattle.engine_core.specs.Changed.{IsClashOfSelected, IsClashUnlessSimulated, Selected, change_of_selected, simulated_change}
-use Rattle.engine_core.specs.Wishes.{wishes_of}
+use Rattle.outcome.specs.engine_core.Changed.{IsClashOfSelected, IsClashUnlessSimulated, Selected, change_of_selected, simulated_change}
+use Rattle.outcome.specs.engine_core.Wishes.{wishes_of}
 use Rattle.outcome.specs.ChangeEnd.{IsChangeEnd, IsEndBy, TakesFirstSelection}
 use Rattle.outcome.specs.Commands.{reads_in}
 use Rattle.outcome.specs.Outcome.{Outcome, just_refusal}

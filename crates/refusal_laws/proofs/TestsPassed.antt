@@ -2,26 +2,26 @@
 use Rattle.std.proofs.Common.{◌≡◌, inl, inr, ◌∙◌, ℕ, Bool, true, false, List, [], ◌∷◌, map, Option, Some, None, Result, Ok, Err, refl, ap, sym, subst, true≢false}
 use Rattle.std.specs.Prelude.{if◌then◌else◌}
 use Rattle.std.proofs.lemmas.Bool.{and_from}
-use Rattle.adb_fields.specs.FirstPair.{IsIn}
+use Rattle.outcome.specs.adb_fields.FirstPair.{IsIn}
 use Rattle.adb_view.specs.Plain.{Plain}
 use Rattle.base_core.specs.Files.{Files}
-use Rattle.change_files.specs.FileChange.{FileChange}
-use Rattle.change_files.specs.PlanLists.{first_reserved}
-use Rattle.change_files.proofs.InOrder.{in_order}
-use Rattle.change_inputs.specs.Chains.{and_then}
-use Rattle.change_inputs.specs.Inputs.{Inputs}
-use Rattle.change_outcome.specs.ChangeOutcome.{ChangeDone, ChangeWishes, IsClashFound, IsClashOfChange, change_members, change_or_refusal, change_with_members, file_change, name_at_place, touched_paths, unless_clash, unless_contested, unless_reserved_path, unless_too_large}
-use Rattle.change_outcome.specs.MembersAfter.{MemberFound}
-use Rattle.change_outcome.specs.PackageFiles.{has_script_of}
+use Rattle.outcome.specs.change_files.FileChange.{FileChange}
+use Rattle.outcome.specs.change_files.PlanLists.{first_reserved}
+use Rattle.outcome.proofs.change_files.InOrder.{in_order}
+use Rattle.outcome.specs.change_inputs.Chains.{and_then}
+use Rattle.outcome.specs.change_inputs.Inputs.{Inputs}
+use Rattle.outcome.specs.change_outcome.ChangeOutcome.{ChangeDone, ChangeWishes, IsClashFound, IsClashOfChange, change_members, change_or_refusal, change_with_members, file_change, name_at_place, touched_paths, unless_clash, unless_contested, unless_reserved_path, unless_too_large}
+use Rattle.outcome.specs.change_outcome.MembersAfter.{MemberFound}
+use Rattle.outcome.specs.change_outcome.PackageFiles.{has_script_of}
 use Rattle.report_core.specs.Numbers.{TRIGGER_SCRIPT}
-use Rattle.change_outcome.specs.Triggers.{folders_of_paths, has_due_trigger, is_due, is_folder_matched, is_watched, patterns_of, unless_trigger}
-use Rattle.db_core.specs.Members.{Member, member_name}
-use Rattle.file_owners.specs.Owners.{contested_of}
-use Rattle.make_info.specs.Reads.{Reads}
-use Rattle.package_files.specs.Folders.{folder_of}
-use Rattle.package_changes.specs.Changes.{Replacement}
-use Rattle.path_claims.specs.Claims.{ContestedPath}
-use Rattle.path_clashes.specs.Clash.{NamePair}
+use Rattle.outcome.specs.change_outcome.Triggers.{folders_of_paths, has_due_trigger, is_due, is_folder_matched, is_watched, patterns_of, unless_trigger}
+use Rattle.outcome.specs.db_core.Members.{Member, member_name}
+use Rattle.outcome.specs.file_owners.Owners.{contested_of}
+use Rattle.outcome.specs.make_info.Reads.{Reads}
+use Rattle.outcome.specs.package_files.Folders.{folder_of}
+use Rattle.outcome.specs.package_changes.Changes.{Replacement}
+use Rattle.outcome.specs.path_claims.Claims.{ContestedPath}
+use Rattle.outcome.specs.path_clashes.Clash.{NamePair}
 use Rattle.report_core.specs.declared.refusal.Refusal.{Refusal}
 use Rattle.report_core.specs.declared.refusal.Refusal.TheVariants.{Owned, PathClash, Reserved, TriggerNeeded}
 use Rattle.refusal_laws.specs.ChangeFaults.{IsWatchedFor}

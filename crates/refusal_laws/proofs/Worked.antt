@@ -2,12 +2,12 @@
 use Rattle.std.proofs.Common.{◌≡◌, ℕ, ◌==◌, Bool, List, [], ◌∷◌, None, Some, refl}
 use Rattle.std.specs.Prelude.{◌&&◌}
 use Rattle.base_core.specs.Files.{Files}
-use Rattle.change_inputs.specs.Inputs.{Inputs}
-use Rattle.change_outcome.specs.ChangeOutcome.{ChangeWishes}
-use Rattle.change_outcome.specs.MembersAfter.{MemberFound}
+use Rattle.outcome.specs.change_inputs.Inputs.{Inputs}
+use Rattle.outcome.specs.change_outcome.ChangeOutcome.{ChangeWishes}
+use Rattle.outcome.specs.change_outcome.MembersAfter.{MemberFound}
 use Rattle.command_core.specs.Command.{CommandLine}
-use Rattle.make_info.specs.Reads.{Reads}
-use Rattle.path_claims.specs.Contest.{first_rivals, rivals_of, winner}
+use Rattle.outcome.specs.make_info.Reads.{Reads}
+use Rattle.outcome.specs.path_claims.Contest.{first_rivals, rivals_of, winner}
 use Rattle.report_core.specs.declared.refusal.Refusal.TheVariants.{NoDatabase, Unsatisfied}
 use Rattle.refusal_laws.specs.ChangeFaults.{IsFaultOfFiles}
 use Rattle.refusal_laws.specs.InputFaults.{HasNoDatabase, IsFaultOfInput}

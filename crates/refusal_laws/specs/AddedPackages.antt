@@ -2,15 +2,15 @@
 -- `docs/commands.md`, "`add` and `del`", what is read.
 use Rattle.std.specs.Prelude.{◌≡◌, ◌+◌, ℕ, true, List, length, Option, Some, None, option_and_then, slice_get}
 use Rattle.std.specs.List.{find}
-use Rattle.adb_fields.specs.Repeated.{package_name}
-use Rattle.change_inputs.specs.Inputs.{Inputs, first_index_read}
-use Rattle.change_outcome.specs.PackageFiles.{AddedPackage, package_file_of, package_in_file}
+use Rattle.outcome.specs.adb_fields.Repeated.{package_name}
+use Rattle.outcome.specs.change_inputs.Inputs.{Inputs, first_index_read}
+use Rattle.outcome.specs.change_outcome.PackageFiles.{AddedPackage, package_file_of, package_in_file}
 use Rattle.dep_core.specs.Repositories.{Repository}
-use Rattle.file_owners.specs.Replaces.{version_text}
-use Rattle.make_info.specs.Reads.{Reads}
-use Rattle.package_changes.specs.Changes.{Replacement, change_of_name, is_selected_named, names_on_both_sides, selected_version}
-use Rattle.pkg_core.specs.Whole.{package_fault}
-use Rattle.candidate_core.specs.Candidates.{Candidate, is_same_id}
+use Rattle.outcome.specs.file_owners.Replaces.{version_text}
+use Rattle.outcome.specs.make_info.Reads.{Reads}
+use Rattle.outcome.specs.package_changes.Changes.{Replacement, change_of_name, is_selected_named, names_on_both_sides, selected_version}
+use Rattle.outcome.specs.pkg_core.Whole.{package_fault}
+use Rattle.outcome.specs.candidate_core.Candidates.{Candidate, is_same_id}
 use Rattle.report_core.specs.Reports.{Change}
 
 -- the selected candidate of a name, if there is one

@@ -2,29 +2,29 @@
 -- change does with files" and "`add` and `del`", what is refused; their meanings are in the README of
 -- this crate.
 use Rattle.std.specs.Prelude.{◌≡◌, ◌⊎◌, ℕ, true, false, List, Some, None, Ok, is_some}
-use Rattle.adb_fields.specs.FirstPair.{IsIn}
-use Rattle.adb_schema.specs.Reserved.{is_reserved}
+use Rattle.outcome.specs.adb_fields.FirstPair.{IsIn}
+use Rattle.outcome.specs.adb_schema.Reserved.{is_reserved}
 use Rattle.adb_view.specs.Plain.{Plain}
-use Rattle.adb_write.specs.Canonical.{overflow_of, passes}
+use Rattle.outcome.specs.adb_write.Canonical.{overflow_of, passes}
 use Rattle.base_core.specs.Files.{Files}
-use Rattle.change_files.specs.FileChange.{FileChange}
-use Rattle.change_files.specs.NamesAfter.{added_paths, name_change}
-use Rattle.change_inputs.specs.Inputs.{Inputs}
-use Rattle.change_outcome.specs.ChangeOutcome.{ChangeWishes, actions_of, change_members, file_change, new_records, touched_paths}
-use Rattle.change_outcome.specs.MembersAfter.{MemberFound, found_members}
-use Rattle.change_outcome.specs.PackageFiles.{has_script_of}
+use Rattle.outcome.specs.change_files.FileChange.{FileChange}
+use Rattle.outcome.specs.change_files.NamesAfter.{added_paths, name_change}
+use Rattle.outcome.specs.change_inputs.Inputs.{Inputs}
+use Rattle.outcome.specs.change_outcome.ChangeOutcome.{ChangeWishes, actions_of, change_members, file_change, new_records, touched_paths}
+use Rattle.outcome.specs.change_outcome.MembersAfter.{MemberFound, found_members}
+use Rattle.outcome.specs.change_outcome.PackageFiles.{has_script_of}
 use Rattle.report_core.specs.Numbers.{TRIGGER_SCRIPT}
-use Rattle.change_outcome.specs.Triggers.{is_folder_matched, patterns_of}
-use Rattle.db_core.specs.Members.{Listing, Member, member_listings, member_name}
-use Rattle.db_write.specs.NewDatabase.{database_of, database_value}
-use Rattle.file_owners.specs.Owners.{owned_of, owner_of_path}
-use Rattle.file_owners.specs.Replaces.{takes_over}
-use Rattle.journal_intent.specs.IntentValue.{intent_of_lists, value_of_intent}
+use Rattle.outcome.specs.change_outcome.Triggers.{is_folder_matched, patterns_of}
+use Rattle.outcome.specs.db_core.Members.{Listing, Member, member_listings, member_name}
+use Rattle.outcome.specs.db_write.NewDatabase.{database_of, database_value}
+use Rattle.outcome.specs.file_owners.Owners.{owned_of, owner_of_path}
+use Rattle.outcome.specs.file_owners.Replaces.{takes_over}
+use Rattle.outcome.specs.journal_intent.IntentValue.{intent_of_lists, value_of_intent}
 use Rattle.base_core.specs.ByteOrder.{precedes}
-use Rattle.make_info.specs.Reads.{Reads}
-use Rattle.package_files.specs.Folders.{folder_of}
-use Rattle.package_changes.specs.Changes.{Replacement}
-use Rattle.path_clashes.specs.Clash.{IsFirstClash}
+use Rattle.outcome.specs.make_info.Reads.{Reads}
+use Rattle.outcome.specs.package_files.Folders.{folder_of}
+use Rattle.outcome.specs.package_changes.Changes.{Replacement}
+use Rattle.outcome.specs.path_clashes.Clash.{IsFirstClash}
 use Rattle.report_core.specs.declared.refusal.Refusal.{Refusal}
 use Rattle.report_core.specs.declared.refusal.Refusal.TheVariants.{Owned, PackageBad, PackageDiffers, PackageMissing, PathClash, Reserved, ResultTooLarge, ScriptNeeded, TriggerNeeded}
 use Rattle.refusal_laws.specs.PackageFaults.{IsFileBad, IsPackageMissing, IsPackageOther, IsScriptNeeded}

@@ -1,22 +1,22 @@
 -- Why a command is refused that changes the installed packages. The refusals are in `docs/commands.md`,
 -- "`add` and `del`" and "`upgrade` and `fix`", in their order.
 use Rattle.std.specs.Prelude.{◌≡◌, ◌⊎◌, ℕ, false, List, Option, Ok}
-use Rattle.adb_fields.specs.FirstPair.{IsIn}
+use Rattle.outcome.specs.adb_fields.FirstPair.{IsIn}
 use Rattle.base_core.specs.Files.{Files}
-use Rattle.change_inputs.specs.Inputs.{Inputs, inputs_of}
+use Rattle.outcome.specs.change_inputs.Inputs.{Inputs, inputs_of}
 use Rattle.command_core.specs.Command.{CommandLine}
 use Rattle.command_core.specs.declared.command.Applet.{Applet}
 use Rattle.command_core.specs.declared.command.Applet.TheVariants.{Del, Fix, Upgrade}
 use Rattle.command_core.specs.declared.operands.Operand.{Operand}
 use Rattle.dep_core.specs.World.{has_name}
-use Rattle.engine_core.specs.Changed.{Selected, selected_for}
-use Rattle.engine_core.specs.Selecting.{pool_by}
-use Rattle.engine_core.specs.Wishes.{is_installed_name, wishes_of}
-use Rattle.make_info.specs.Reads.{Reads}
-use Rattle.candidate_core.specs.Rank.{SealedPool}
+use Rattle.outcome.specs.engine_core.Changed.{Selected, selected_for}
+use Rattle.outcome.specs.engine_core.Selecting.{pool_by}
+use Rattle.outcome.specs.engine_core.Wishes.{is_installed_name, wishes_of}
+use Rattle.outcome.specs.make_info.Reads.{Reads}
+use Rattle.outcome.specs.candidate_core.Rank.{SealedPool}
 use Rattle.report_core.specs.declared.refusal.Refusal.{Refusal}
 use Rattle.report_core.specs.declared.refusal.Refusal.TheVariants.{NotInstalled, TooMany, Unsatisfied}
-use Rattle.search_tables.specs.Selection.{IsSatisfying}
+use Rattle.outcome.specs.search_tables.Selection.{IsSatisfying}
 use Rattle.refusal_laws.specs.ChangeFaults.{IsFaultOfChange}
 use Rattle.refusal_laws.specs.InputFaults.{AreTooMany, IsFaultOfInput}
 

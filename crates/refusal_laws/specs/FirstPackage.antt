@@ -1,11 +1,11 @@
 -- Which added or removed package of a change is refused. The order is in `docs/commands.md`, "`add` and
 -- `del`": package by package in byte order of the names.
 use Rattle.std.specs.Prelude.{◌≡◌, ℕ, false, List, []}
-use Rattle.change_inputs.specs.Inputs.{Inputs}
-use Rattle.change_outcome.specs.ChangeOutcome.{ChangeWishes}
+use Rattle.outcome.specs.change_inputs.Inputs.{Inputs}
+use Rattle.outcome.specs.change_outcome.ChangeOutcome.{ChangeWishes}
 use Rattle.base_core.specs.ByteOrder.{precedes}
-use Rattle.make_info.specs.Reads.{Reads}
-use Rattle.package_changes.specs.Changes.{Replacement}
+use Rattle.outcome.specs.make_info.Reads.{Reads}
+use Rattle.outcome.specs.package_changes.Changes.{Replacement}
 use Rattle.report_core.specs.declared.refusal.Refusal.{Refusal}
 use Rattle.report_core.specs.declared.refusal.Refusal.TheVariants.{PackageBad, PackageDiffers, PackageMissing, ScriptNeeded}
 use Rattle.refusal_laws.specs.ChangeFaults.{IsFaultOfPackage}

@@ -1,17 +1,17 @@
 -- Why `info` is refused. The refusals are in `docs/commands.md`, "`info`", what is refused.
 use Rattle.std.specs.Prelude.{◌≡◌, ◌⊎◌, ℕ, Bool, true, false, List, ◌∷◌, ◌++◌, Ok}
-use Rattle.adb_fields.specs.FirstPair.{IsIn}
-use Rattle.adb_fields.specs.Repeated.{package_name, paths_in}
+use Rattle.outcome.specs.adb_fields.FirstPair.{IsIn}
+use Rattle.outcome.specs.adb_fields.Repeated.{package_name, paths_in}
 use Rattle.adb_view.specs.Plain.{Plain}
-use Rattle.change_inputs.specs.Database.{Database}
-use Rattle.change_inputs.specs.Inputs.{database_for}
+use Rattle.outcome.specs.change_inputs.Database.{Database}
+use Rattle.outcome.specs.change_inputs.Inputs.{database_for}
 use Rattle.command_core.specs.Command.{CommandLine}
 use Rattle.command_core.specs.declared.operands.Operand.{Operand}
 use Rattle.dep_core.specs.LeadingSlash.{without_slash}
-use Rattle.make_info.specs.Reads.{Reads}
+use Rattle.outcome.specs.make_info.Reads.{Reads}
 use Rattle.report_core.specs.declared.refusal.Refusal.{Refusal}
 use Rattle.report_core.specs.declared.refusal.Refusal.TheVariants.{DatabaseBad, NoDatabase, NotInstalled, ResultTooLarge}
-use Rattle.v2_core.specs.declared.read.V2Fault.TheVariants.{Bad, TooLarge}
+use Rattle.outcome.specs.v2_core.declared.read.V2Fault.TheVariants.{Bad, TooLarge}
 use Rattle.refusal_laws.specs.InputFaults.{HasNoDatabase, IsContainerBad, IsTextRefused}
 
 -- ---- the database

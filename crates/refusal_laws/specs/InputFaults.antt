@@ -1,23 +1,23 @@
 -- Why what a change reads of a root is refused. The refusals are in `docs/commands.md`, "`add` and
 -- `del`", what is refused, in their order, and in "Error lines".
 use Rattle.std.specs.Prelude.{◌≡◌, ◌⊎◌, ◌+◌, ◌<◌, ℕ, suc, false, List, ◌∷◌, length, Option, Some, None, Ok, Err, slice_get}
-use Rattle.adb_schema.specs.Soundness.{first_fault}
+use Rattle.outcome.specs.adb_schema.Soundness.{first_fault}
 use Rattle.adb_view.specs.declared.tables.Which.TheVariants.{Idb, Index}
 use Rattle.base_core.specs.declared.cause.Cause.{Cause}
-use Rattle.change_inputs.specs.Candidates.{candidates_of}
-use Rattle.change_inputs.specs.Inputs.{Inputs, database_read, first_index_read, repositories_read, text_database_read, world_read}
-use Rattle.change_inputs.specs.World.{text_found}
+use Rattle.outcome.specs.change_inputs.Candidates.{candidates_of}
+use Rattle.outcome.specs.change_inputs.Inputs.{Inputs, database_read, first_index_read, repositories_read, text_database_read, world_read}
+use Rattle.outcome.specs.change_inputs.World.{text_found}
 use Rattle.command_core.specs.Command.{CommandLine}
 use Rattle.dep_core.specs.Repositories.{Repository, repositories_of}
 use Rattle.dep_core.specs.World.{world_of}
-use Rattle.make_info.specs.Reads.{Reads}
-use Rattle.candidate_core.specs.declared.candidate_list.TheConstants.{MOST_CANDIDATES}
+use Rattle.outcome.specs.make_info.Reads.{Reads}
+use Rattle.outcome.specs.candidate_core.declared.candidate_list.TheConstants.{MOST_CANDIDATES}
 use Rattle.report_core.specs.declared.refusal.Refusal.{Refusal}
 use Rattle.report_core.specs.declared.refusal.Refusal.TheVariants.{DatabaseBad, IndexBad, IndexMissing, NoDatabase, RepositoriesBad, ResultTooLarge, Untrusted, WorldBad}
 use Rattle.root_names.specs.RootNames.{database_name, repositories_name, text_database_name, world_name}
-use Rattle.v2_core.specs.Payload.{payload_of_text}
-use Rattle.v2_core.specs.declared.read.V2Fault.{V2Fault}
-use Rattle.v2_core.specs.declared.read.V2Fault.TheVariants.{Bad, TooLarge}
+use Rattle.outcome.specs.v2_core.Payload.{payload_of_text}
+use Rattle.outcome.specs.v2_core.declared.read.V2Fault.{V2Fault}
+use Rattle.outcome.specs.v2_core.declared.read.V2Fault.TheVariants.{Bad, TooLarge}
 
 -- ---- the database
 

@@ -1,3 +1,6 @@
+-- passed on: a crate above that names this one need not name these
+pub use Rattle.outcome.specs as outcome
+pub use Rattle.outcome.specs.words_core as words_core
 -- cited by laws of changes
 pub mod InputFaults
 pub mod ReadBefore

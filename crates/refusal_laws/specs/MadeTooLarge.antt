@@ -2,9 +2,9 @@
 -- the limits in `docs/formats.md`, "Canonical layout".
 use Rattle.std.specs.Prelude.{◌≡◌, ℕ, List, Ok}
 use Rattle.command_core.specs.Command.{CommandLine}
-use Rattle.make_core.specs.ReadBack.{packed_package}
-use Rattle.make_info.specs.Reads.{Reads}
-use Rattle.pkg_core.specs.Whole.{Packed}
+use Rattle.outcome.specs.make_core.ReadBack.{packed_package}
+use Rattle.outcome.specs.make_info.Reads.{Reads}
+use Rattle.outcome.specs.pkg_core.Whole.{Packed}
 use Rattle.refusal_laws.specs.ChangeFaults.{IsTooLarge}
 
 -- what is written of the value of the package that a command asks for exceeds a limit, first at this

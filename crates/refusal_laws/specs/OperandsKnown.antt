@@ -1,12 +1,12 @@
 -- What holds of the candidates and the operands if a selection is refused. The order of these refusals
 -- is in `docs/commands.md`, "`add` and `del`", what is refused.
 use Rattle.std.specs.Prelude.{◌≡◌, ℕ, List, ◌∷◌, ◌++◌, Ok}
-use Rattle.adb_fields.specs.FirstPair.{IsIn}
-use Rattle.change_inputs.specs.Inputs.{Inputs}
+use Rattle.outcome.specs.adb_fields.FirstPair.{IsIn}
+use Rattle.outcome.specs.change_inputs.Inputs.{Inputs}
 use Rattle.command_core.specs.Command.{CommandLine}
 use Rattle.command_core.specs.declared.operands.Operand.{Operand}
-use Rattle.engine_core.specs.Selecting.{pool_by}
-use Rattle.candidate_core.specs.Rank.{SealedPool}
+use Rattle.outcome.specs.engine_core.Selecting.{pool_by}
+use Rattle.outcome.specs.candidate_core.Rank.{SealedPool}
 use Rattle.report_core.specs.declared.refusal.Refusal.{Refusal}
 use Rattle.report_core.specs.declared.refusal.Refusal.TheVariants.{NotInstalled, Unsatisfied}
 use Rattle.refusal_laws.specs.CommandFaults.{IsUnknownTo}

@@ -2,19 +2,19 @@
 -- "`add` and `del`", what is refused package by package, and in "Error lines".
 use Rattle.std.specs.Prelude.{◌≡◌, ◌⊎◌, ℕ, true, false, List, Some, None}
 use Rattle.std.specs.List.{find}
-use Rattle.adb_fields.specs.FirstPair.{IsIn}
-use Rattle.adb_fields.specs.Repeated.{package_name}
+use Rattle.outcome.specs.adb_fields.FirstPair.{IsIn}
+use Rattle.outcome.specs.adb_fields.Repeated.{package_name}
 use Rattle.adb_view.specs.Plain.{Plain}
 use Rattle.base_core.specs.declared.cause.Cause.{Cause}
-use Rattle.change_inputs.specs.Inputs.{Inputs}
-use Rattle.change_outcome.specs.ChangeOutcome.{ChangeWishes}
-use Rattle.change_outcome.specs.PackageFiles.{AddedPackage, first_script_of, has_script_of, package_in_file, scripts_of_change}
-use Rattle.db_core.specs.Packages.{is_package_named}
-use Rattle.file_owners.specs.Replaces.{version_text}
-use Rattle.make_info.specs.Reads.{Reads}
-use Rattle.package_changes.specs.Changes.{Replacement, change_of_name, selected_version}
-use Rattle.pkg_core.specs.Whole.{package_fault}
-use Rattle.candidate_core.specs.Candidates.{Candidate, is_same_id}
+use Rattle.outcome.specs.change_inputs.Inputs.{Inputs}
+use Rattle.outcome.specs.change_outcome.ChangeOutcome.{ChangeWishes}
+use Rattle.outcome.specs.change_outcome.PackageFiles.{AddedPackage, first_script_of, has_script_of, package_in_file, scripts_of_change}
+use Rattle.outcome.specs.db_core.Packages.{is_package_named}
+use Rattle.outcome.specs.file_owners.Replaces.{version_text}
+use Rattle.outcome.specs.make_info.Reads.{Reads}
+use Rattle.outcome.specs.package_changes.Changes.{Replacement, change_of_name, selected_version}
+use Rattle.outcome.specs.pkg_core.Whole.{package_fault}
+use Rattle.outcome.specs.candidate_core.Candidates.{Candidate, is_same_id}
 use Rattle.report_core.specs.Numbers.{HASHES_FIELD, NAME_FIELD, VERSION_FIELD}
 use Rattle.report_core.specs.Reports.{Change}
 use Rattle.refusal_laws.specs.AddedPackages.{IsAddedAsSelected, IsReadFor, selected_of_name}

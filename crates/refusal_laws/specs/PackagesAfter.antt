@@ -2,16 +2,16 @@
 -- in `docs/formats.md`, "The database after a change", on the kept and the added ones.
 use Rattle.std.specs.Prelude.{◌≡◌, ◌⊎◌, ℕ, true, List, Some, None}
 use Rattle.std.specs.List.{find}
-use Rattle.adb_fields.specs.FirstPair.{IsIn}
+use Rattle.outcome.specs.adb_fields.FirstPair.{IsIn}
 use Rattle.adb_view.specs.Plain.{Plain}
-use Rattle.change_inputs.specs.Inputs.{Inputs}
-use Rattle.change_outcome.specs.MembersAfter.{MemberFound, added_member_found, found_members, kept_member_found}
-use Rattle.change_outcome.specs.PackageFiles.{AddedPackage}
-use Rattle.db_core.specs.Members.{AreInOrder, member_name}
-use Rattle.db_core.specs.Packages.{is_package_named}
-use Rattle.make_info.specs.Reads.{Reads}
-use Rattle.package_changes.specs.Changes.{Replacement, change_of_name, is_same_selected}
-use Rattle.candidate_core.specs.Candidates.{Candidate}
+use Rattle.outcome.specs.change_inputs.Inputs.{Inputs}
+use Rattle.outcome.specs.change_outcome.MembersAfter.{MemberFound, added_member_found, found_members, kept_member_found}
+use Rattle.outcome.specs.change_outcome.PackageFiles.{AddedPackage}
+use Rattle.outcome.specs.db_core.Members.{AreInOrder, member_name}
+use Rattle.outcome.specs.db_core.Packages.{is_package_named}
+use Rattle.outcome.specs.make_info.Reads.{Reads}
+use Rattle.outcome.specs.package_changes.Changes.{Replacement, change_of_name, is_same_selected}
+use Rattle.outcome.specs.candidate_core.Candidates.{Candidate}
 use Rattle.refusal_laws.specs.AddedPackages.{IsAddedAsSelected, selected_of_name}
 
 -- a member is the package of its name before, to the letter, which is the selected candidate and does

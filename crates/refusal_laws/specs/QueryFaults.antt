@@ -1,9 +1,9 @@
 -- Why `list`, `search` and `policy` are refused. The refusals are in `docs/commands.md`, under each
 -- command's name.
 use Rattle.std.specs.Prelude.{◌≡◌, ◌⊎◌, ℕ, Ok}
-use Rattle.change_inputs.specs.Inputs.{Inputs, inputs_of}
+use Rattle.outcome.specs.change_inputs.Inputs.{Inputs, inputs_of}
 use Rattle.command_core.specs.Command.{CommandLine}
-use Rattle.make_info.specs.Reads.{Reads}
+use Rattle.outcome.specs.make_info.Reads.{Reads}
 use Rattle.report_core.specs.declared.refusal.Refusal.{Refusal}
 use Rattle.report_core.specs.declared.refusal.Refusal.TheVariants.{TooMany}
 use Rattle.refusal_laws.specs.InputFaults.{AreTooMany, IsFaultOfInput}

@@ -2,13 +2,13 @@
 -- `del`", what is read and refused.
 use Rattle.std.specs.Prelude.{◌≡◌, ◌<◌, ℕ, true, List, None, Ok}
 use Rattle.base_core.specs.declared.cause.Cause.{Cause}
-use Rattle.change_inputs.specs.Database.{Database}
-use Rattle.change_inputs.specs.Inputs.{database_for, world_read}
-use Rattle.change_inputs.specs.World.{root_world, text_found}
+use Rattle.outcome.specs.change_inputs.Database.{Database}
+use Rattle.outcome.specs.change_inputs.Inputs.{database_for, world_read}
+use Rattle.outcome.specs.change_inputs.World.{root_world, text_found}
 use Rattle.command_core.specs.Command.{CommandLine}
 use Rattle.dep_core.specs.Dependency.{Dependency}
 use Rattle.dep_core.specs.Repositories.{Repository, repositories_of}
-use Rattle.make_info.specs.Reads.{Reads}
+use Rattle.outcome.specs.make_info.Reads.{Reads}
 use Rattle.report_core.specs.declared.refusal.Refusal.{Refusal}
 use Rattle.report_core.specs.declared.refusal.Refusal.TheVariants.{IndexBad, IndexMissing, RepositoriesBad, Untrusted, WorldBad}
 use Rattle.root_names.specs.RootNames.{world_name}

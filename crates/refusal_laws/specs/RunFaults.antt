@@ -4,10 +4,10 @@ use Rattle.std.specs.Prelude.{◌≡◌, ◌⊎◌, ℕ, List, Option, Some, Non
 use Rattle.base_core.specs.Files.{Files}
 use Rattle.base_core.specs.declared.cause.Cause.{Cause}
 use Rattle.command_core.specs.Command.{CommandLine}
-use Rattle.engine_core.specs.Choice.{IsChoiceFrom}
-use Rattle.engine_core.specs.Selecting.{pool_for}
-use Rattle.journal_core.specs.Recovery.{intent_name}
-use Rattle.journal_core.specs.Staged.{unstaged_files}
+use Rattle.outcome.specs.engine_core.Choice.{IsChoiceFrom}
+use Rattle.outcome.specs.engine_core.Selecting.{pool_for}
+use Rattle.outcome.specs.journal_core.Recovery.{intent_name}
+use Rattle.outcome.specs.journal_core.Staged.{unstaged_files}
 use Rattle.outcome.specs.Commands.{reads_in}
 use Rattle.outcome.specs.Work.{fault_of_intent}
 use Rattle.report_core.specs.declared.refusal.Refusal.{Refusal}

@@ -2,16 +2,16 @@
 -- "Which selection is taken", and in `docs/commands.md`, "What a change does with files".
 use Rattle.std.specs.Prelude.{◌≡◌, ℕ, List, Some, Ok}
 use Rattle.base_core.specs.Files.{Files}
-use Rattle.change_outcome.specs.ChangeOutcome.{change_members, file_change}
-use Rattle.change_outcome.specs.MembersAfter.{MemberFound}
+use Rattle.outcome.specs.change_outcome.ChangeOutcome.{change_members, file_change}
+use Rattle.outcome.specs.change_outcome.MembersAfter.{MemberFound}
 use Rattle.command_core.specs.Command.{CommandLine}
-use Rattle.engine_core.specs.Changed.{Selected, selected_for}
-use Rattle.engine_core.specs.Selecting.{pool_for}
-use Rattle.engine_core.specs.Wishes.{wishes_of}
+use Rattle.outcome.specs.engine_core.Changed.{Selected, selected_for}
+use Rattle.outcome.specs.engine_core.Selecting.{pool_for}
+use Rattle.outcome.specs.engine_core.Wishes.{wishes_of}
 use Rattle.outcome.specs.Commands.{reads_in}
-use Rattle.package_changes.specs.Placed.{candidates_at}
-use Rattle.candidate_core.specs.Rank.{SealedPool}
-use Rattle.search_tables.specs.Selection.{IsFirstSelection}
+use Rattle.outcome.specs.package_changes.Placed.{candidates_at}
+use Rattle.outcome.specs.candidate_core.Rank.{SealedPool}
+use Rattle.outcome.specs.search_tables.Selection.{IsFirstSelection}
 use Rattle.refusal_laws.specs.PackagesAfter.{AreSelectedOnes}
 use Rattle.refusal_laws.specs.TestsPassed.{HasNoFault}
 

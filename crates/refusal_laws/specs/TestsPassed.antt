@@ -1,17 +1,17 @@
 -- What holds of the packages after a change that has passed some of its tests. The tests are in
 -- `docs/commands.md`, "What a change does with files", 1 to 3, and "`add` and `del`", what is refused.
 use Rattle.std.specs.Prelude.{◌≡◌, ℕ, true, false, List, is_some}
-use Rattle.adb_fields.specs.FirstPair.{IsIn}
-use Rattle.adb_schema.specs.Reserved.{is_reserved}
+use Rattle.outcome.specs.adb_fields.FirstPair.{IsIn}
+use Rattle.outcome.specs.adb_schema.Reserved.{is_reserved}
 use Rattle.base_core.specs.Files.{Files}
-use Rattle.change_files.specs.FileChange.{FileChange}
-use Rattle.change_files.specs.NamesAfter.{added_paths, name_change}
-use Rattle.change_outcome.specs.ChangeOutcome.{ChangeWishes}
-use Rattle.change_outcome.specs.PackageFiles.{has_script_of}
+use Rattle.outcome.specs.change_files.FileChange.{FileChange}
+use Rattle.outcome.specs.change_files.NamesAfter.{added_paths, name_change}
+use Rattle.outcome.specs.change_outcome.ChangeOutcome.{ChangeWishes}
+use Rattle.outcome.specs.change_outcome.PackageFiles.{has_script_of}
 use Rattle.report_core.specs.Numbers.{TRIGGER_SCRIPT}
-use Rattle.db_core.specs.Members.{Listing, Member, member_listings}
-use Rattle.file_owners.specs.Owners.{owner_of_path}
-use Rattle.path_clashes.specs.Clash.{HasNoClash}
+use Rattle.outcome.specs.db_core.Members.{Listing, Member, member_listings}
+use Rattle.outcome.specs.file_owners.Owners.{owner_of_path}
+use Rattle.outcome.specs.path_clashes.Clash.{HasNoClash}
 use Rattle.report_core.specs.declared.refusal.Refusal.{Refusal}
 use Rattle.report_core.specs.declared.refusal.Refusal.TheVariants.{Owned, PathClash, ResultTooLarge, TriggerNeeded}
 use Rattle.refusal_laws.specs.ChangeFaults.{IsWatchedFor}

@@ -18,3 +18,6 @@ pub use laws::{
     the_packages_after_a_change_are_the_selected_ones,
     the_packages_after_a_run_are_those_of_the_first_selection,
 };
+pub use outcome::{
+    a_change_takes_the_first_selection_or_is_refused, a_command_recovers, an_outcome_is_unique,
+};

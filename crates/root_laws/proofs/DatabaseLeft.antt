@@ -1,19 +1,19 @@
 -- The database that a change leaves is read.
 use Rattle.std.proofs.Common.{◌≡◌, ◌∙◌, ℕ, Bool, false, List, Some, None, Ok, ap}
-use Rattle.adb_fields.specs.Repeated.{entries_at, list_of}
-use Rattle.adb_schema.specs.SoundContainers.{IsSound}
-use Rattle.adb_schema.specs.Soundness.{first_fault, payload_in, root_value}
-use Rattle.adb_sound.specs.Root.{IsRootOf}
+use Rattle.make_index.specs.adb_fields.Repeated.{entries_at, list_of}
+use Rattle.make_index.specs.adb_schema.SoundContainers.{IsSound}
+use Rattle.make_index.specs.adb_schema.Soundness.{first_fault, payload_in, root_value}
+use Rattle.engine_core.specs.adb_sound.Root.{IsRootOf}
 use Rattle.adb_view.specs.declared.tables.Which.TheVariants.{Idb}
 use Rattle.adb_view.specs.Plain.{Plain}
-use Rattle.change_inputs.specs.Chains.{unless_cause}
-use Rattle.change_inputs.specs.Database.{container_database, database_by}
-use Rattle.db_core.specs.Members.{AreInOrder, Member, member_listings}
-use Rattle.db_core.specs.OwnedListings.{HaveOneOwner, owned_listings}
-use Rattle.db_core.specs.SoundMembers.{AreOfSoundContainers, MayBeListed}
-use Rattle.db_write.specs.NewDatabase.{database_of, database_value, packages_after}
-use Rattle.change_files.specs.PlanLists.{first_reserved}
-use Rattle.file_owners.specs.Owners.{owned_of}
+use Rattle.engine_core.specs.change_inputs.Chains.{unless_cause}
+use Rattle.engine_core.specs.change_inputs.Database.{container_database, database_by}
+use Rattle.engine_core.specs.db_core.Members.{AreInOrder, Member, member_listings}
+use Rattle.engine_core.specs.db_core.OwnedListings.{HaveOneOwner, owned_listings}
+use Rattle.engine_core.specs.db_core.SoundMembers.{AreOfSoundContainers, MayBeListed}
+use Rattle.engine_core.specs.db_write.NewDatabase.{database_of, database_value, packages_after}
+use Rattle.engine_core.specs.change_files.PlanLists.{first_reserved}
+use Rattle.engine_core.specs.file_owners.Owners.{owned_of}
 use Rattle.report_core.specs.declared.refusal.Refusal.TheVariants.{DatabaseBad}
 use Rattle.root_laws.specs.RootLeft.{database_of_members}
 use Rattle.root_laws.proofs.Unreserved.{may_be_listed}

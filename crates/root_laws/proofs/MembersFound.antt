@@ -5,33 +5,33 @@ use Rattle.std.specs.Option.{option_or}
 use Rattle.std.specs.List.{cons_option, find}
 use Rattle.std.proofs.lemmas.Slice.Eq.{bytes_eq-Decides}
 use Rattle.sha2.proofs.Facts256.{length-sha256}
-use Rattle.adb_fields.specs.FirstPair.{IsIn}
-use Rattle.adb_fields.specs.Repeated.{package_name}
-use Rattle.adb_schema.specs.Rules.{is_digest_length}
-use Rattle.adb_schema.specs.SoundContainers.{IsSound}
-use Rattle.adb_schema.specs.Soundness.{first_fault, payload_in, root_value}
+use Rattle.make_index.specs.adb_fields.FirstPair.{IsIn}
+use Rattle.make_index.specs.adb_fields.Repeated.{package_name}
+use Rattle.make_index.specs.adb_schema.Rules.{is_digest_length}
+use Rattle.make_index.specs.adb_schema.SoundContainers.{IsSound}
+use Rattle.make_index.specs.adb_schema.Soundness.{first_fault, payload_in, root_value}
 use Rattle.adb_view.specs.declared.tables.Which.TheVariants.{Package}
 use Rattle.adb_view.specs.Plain.{Plain}
 use Rattle.base_core.specs.declared.cause.Cause.{Cause}
 use Rattle.base_core.proofs.Rising as Names
 use Rattle.base_core.proofs.Causes.{first_none}
-use Rattle.change_files.proofs.InOrder.{order_rises}
-use Rattle.change_inputs.specs.Chains.{and_then}
-use Rattle.change_inputs.specs.Inputs.{first_index_read}
-use Rattle.change_outcome.proofs.Made.{and_then_ok}
-use Rattle.change_outcome.specs.MembersAfter.{MemberFound, added_package_by_path, added_member_found, members_after, found_members, name_after, name_by_change, name_by_selected, member_of_added_name, member_of_removed_name, names_after, kept_member_found}
-use Rattle.change_outcome.specs.PackageFiles.{AddedPackage, package_file_of, package_found, package_in_file, scripts_of_change, unless_different, unless_script_number, unless_package_bad, unless_script, first_script_of}
-use Rattle.db_core.specs.Members.{AreInOrder, Member, member_name}
-use Rattle.db_core.specs.Packages.{is_package_named}
-use Rattle.db_core.specs.SoundMembers.{AreOfSoundContainers, IsOfSoundContainer}
+use Rattle.engine_core.proofs.change_files.InOrder.{order_rises}
+use Rattle.engine_core.specs.change_inputs.Chains.{and_then}
+use Rattle.engine_core.specs.change_inputs.Inputs.{first_index_read}
+use Rattle.engine_core.proofs.change_outcome.Made.{and_then_ok}
+use Rattle.engine_core.specs.change_outcome.MembersAfter.{MemberFound, added_package_by_path, added_member_found, members_after, found_members, name_after, name_by_change, name_by_selected, member_of_added_name, member_of_removed_name, names_after, kept_member_found}
+use Rattle.engine_core.specs.change_outcome.PackageFiles.{AddedPackage, package_file_of, package_found, package_in_file, scripts_of_change, unless_different, unless_script_number, unless_package_bad, unless_script, first_script_of}
+use Rattle.engine_core.specs.db_core.Members.{AreInOrder, Member, member_name}
+use Rattle.engine_core.specs.db_core.Packages.{is_package_named}
+use Rattle.engine_core.specs.db_core.SoundMembers.{AreOfSoundContainers, IsOfSoundContainer}
 use Rattle.dep_core.specs.Repositories.{Repository}
-use Rattle.file_owners.specs.Replaces.{version_text}
+use Rattle.engine_core.specs.file_owners.Replaces.{version_text}
 use Rattle.make_index.proofs.IndexSound.{payload_all}
-use Rattle.make_info.specs.Reads.{Reads}
-use Rattle.package_changes.specs.Changes.{Replacement, change_of_name, is_selected_named, names_on_both_sides, selected_version}
-use Rattle.pkg_core.specs.Contents.{fault_in}
-use Rattle.pkg_core.specs.Whole.{files_in_file, package_fault, package_id}
-use Rattle.candidate_core.specs.Candidates.{Candidate, is_same_id}
+use Rattle.make_index.specs.make_info.Reads.{Reads}
+use Rattle.engine_core.specs.package_changes.Changes.{Replacement, change_of_name, is_selected_named, names_on_both_sides, selected_version}
+use Rattle.make_index.specs.pkg_core.Contents.{fault_in}
+use Rattle.make_index.specs.pkg_core.Whole.{files_in_file, package_fault, package_id}
+use Rattle.engine_core.specs.candidate_core.Candidates.{Candidate, is_same_id}
 use Rattle.report_core.specs.Reports.{Change}
 use Rattle.report_core.specs.declared.refusal.Refusal.{Refusal}
 use Rattle.root_laws.specs.RootLeft.{FindBytes}

@@ -1,14 +1,14 @@
 -- The world that a change is made for is a world, and is read back.
 use Rattle.std.proofs.Common.{◌≡◌, ℕ, List, [], ◌∷◌, Option, Some, None, Result, Ok, Err, refl, ap}
 use Rattle.base_core.specs.Files.{Files}
-use Rattle.change_files.specs.FileChange.{FileChange}
-use Rattle.change_files.specs.FilesAfter.{Records, changed_files, world_bytes_after, world_name}
-use Rattle.change_inputs.specs.Chains.{refused_as}
-use Rattle.change_inputs.specs.World.{new_world, root_world, text_found, world_with_operand, world_with_operands, world_without_operands}
+use Rattle.engine_core.specs.change_files.FileChange.{FileChange}
+use Rattle.engine_core.specs.change_files.FilesAfter.{Records, changed_files, world_bytes_after, world_name}
+use Rattle.engine_core.specs.change_inputs.Chains.{refused_as}
+use Rattle.engine_core.specs.change_inputs.World.{new_world, root_world, text_found, world_with_operand, world_with_operands, world_without_operands}
 use Rattle.command_core.specs.declared.command.Applet.{Applet}
 use Rattle.command_core.specs.declared.command.Applet.TheVariants.{Add, Del}
 use Rattle.command_core.specs.declared.operands.Operand.{Operand}
-use Rattle.db_core.specs.Members.{Listing}
+use Rattle.engine_core.specs.db_core.Members.{Listing}
 use Rattle.dep_core.specs.Dependency.{Dependency}
 use Rattle.dep_core.specs.Reading.{dependency_of}
 use Rattle.dep_core.specs.World.{IsWorld, with_entry, without_name, world_of, world_text}

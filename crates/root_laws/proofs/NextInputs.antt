@@ -1,21 +1,21 @@
 -- What a command begins with that reads the root which a change has left.
 use Rattle.std.proofs.Common.{◌≡◌, ℕ, ◌+◌, Bool, true, false, List, [], ◌∷◌, Option, Some, None, Result, Ok, Err, sym, subst}
-use Rattle.adb_schema.specs.Soundness.{first_fault, payload_in, root_value}
+use Rattle.make_index.specs.adb_schema.Soundness.{first_fault, payload_in, root_value}
 use Rattle.adb_view.specs.declared.tables.Which.TheVariants.{Index}
 use Rattle.adb_view.specs.Plain.{Plain}
 use Rattle.base_core.specs.declared.cause.Cause.{Cause}
-use Rattle.change_inputs.specs.Chains.{and_then, refused_as, unless_cause}
-use Rattle.change_inputs.specs.Database.{Database}
-use Rattle.change_inputs.specs.Indexes.{index_file, index_files_from, index_in_file, indexes_in_files, root_indexes}
-use Rattle.change_inputs.specs.Inputs.{Inputs, Root, database_for, index_reads_from, first_index_read, indexes_of, inputs_by, inputs_of, repositories_read, root_by, root_for, world_read}
-use Rattle.change_inputs.specs.Repositories.{if_trusted, root_repositories}
-use Rattle.change_inputs.specs.World.{root_world, text_found}
-use Rattle.change_outcome.specs.ChangeOutcome.{ChangeDone}
-use Rattle.change_outcome.specs.MembersAfter.{found_members}
+use Rattle.engine_core.specs.change_inputs.Chains.{and_then, refused_as, unless_cause}
+use Rattle.engine_core.specs.change_inputs.Database.{Database}
+use Rattle.engine_core.specs.change_inputs.Indexes.{index_file, index_files_from, index_in_file, indexes_in_files, root_indexes}
+use Rattle.engine_core.specs.change_inputs.Inputs.{Inputs, Root, database_for, index_reads_from, first_index_read, indexes_of, inputs_by, inputs_of, repositories_read, root_by, root_for, world_read}
+use Rattle.engine_core.specs.change_inputs.Repositories.{if_trusted, root_repositories}
+use Rattle.engine_core.specs.change_inputs.World.{root_world, text_found}
+use Rattle.engine_core.specs.change_outcome.ChangeOutcome.{ChangeDone}
+use Rattle.engine_core.specs.change_outcome.MembersAfter.{found_members}
 use Rattle.command_core.specs.Command.{CommandLine}
 use Rattle.dep_core.specs.Dependency.{Dependency}
 use Rattle.dep_core.specs.Repositories.{Repository, repositories_of}
-use Rattle.make_info.specs.Reads.{Reads}
+use Rattle.make_index.specs.make_info.Reads.{Reads}
 use Rattle.report_core.specs.declared.refusal.Refusal.{Refusal}
 use Rattle.report_core.specs.declared.refusal.Refusal.TheVariants.{IndexBad, RepositoriesBad}
 use Rattle.root_names.specs.RootNames.{repositories_name, world_name}

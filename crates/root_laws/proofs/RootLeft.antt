@@ -2,23 +2,23 @@
 use Rattle.std.proofs.Common.{◌≡◌, ◌∙◌, ℕ, Bool, true, false, List, Option, Some, None, Result, Ok, refl, sym, ap, subst}
 use Rattle.std.specs.Prelude.{if◌then◌else◌}
 use Rattle.base_core.specs.Files.{Files}
-use Rattle.change_files.specs.FileChange.{FileChange}
-use Rattle.change_files.specs.FilesAfter.{Records, listing_bytes}
-use Rattle.change_files.proofs.RecordNames.{database_after}
-use Rattle.change_inputs.specs.Database.{root_database}
-use Rattle.change_inputs.specs.Inputs.{Inputs, inputs_of, text_database_read}
-use Rattle.change_inputs.specs.World.{root_world, text_found}
-use Rattle.change_outcome.specs.Made.{IsChangeMade}
-use Rattle.change_outcome.proofs.Made.{and_then_ok, made}
-use Rattle.change_outcome.specs.ChangeOutcome.{ChangeDone, change_or_refusal, file_change, new_records}
-use Rattle.change_outcome.specs.MembersAfter.{found_package_contents, found_members}
+use Rattle.engine_core.specs.change_files.FileChange.{FileChange}
+use Rattle.engine_core.specs.change_files.FilesAfter.{Records, listing_bytes}
+use Rattle.engine_core.proofs.change_files.RecordNames.{database_after}
+use Rattle.engine_core.specs.change_inputs.Database.{root_database}
+use Rattle.engine_core.specs.change_inputs.Inputs.{Inputs, inputs_of, text_database_read}
+use Rattle.engine_core.specs.change_inputs.World.{root_world, text_found}
+use Rattle.engine_core.specs.change_outcome.Made.{IsChangeMade}
+use Rattle.engine_core.proofs.change_outcome.Made.{and_then_ok, made}
+use Rattle.engine_core.specs.change_outcome.ChangeOutcome.{ChangeDone, change_or_refusal, file_change, new_records}
+use Rattle.engine_core.specs.change_outcome.MembersAfter.{found_package_contents, found_members}
 use Rattle.command_core.specs.Command.{CommandLine}
 use Rattle.engine_core.specs.Changed.{Selected, change_of_selected, change_of_command, selected_by, selected_for, selected_of_inputs, simulated_change}
 use Rattle.engine_core.specs.Selecting.{pool_by}
 use Rattle.engine_core.specs.Wishes.{unknown_operand_place, unless_unknown_operand, wishes_of}
-use Rattle.make_info.specs.Reads.{Reads}
-use Rattle.path_clashes.specs.Clash.{NamePair}
-use Rattle.candidate_core.specs.Rank.{SealedPool}
+use Rattle.make_index.specs.make_info.Reads.{Reads}
+use Rattle.engine_core.specs.path_clashes.Clash.{NamePair}
+use Rattle.engine_core.specs.candidate_core.Rank.{SealedPool}
 use Rattle.report_core.specs.declared.refusal.Refusal.{Refusal}
 use Rattle.root_names.specs.RootNames.{database_name, text_database_name, world_name}
 use Rattle.root_laws.specs.RootLeft.{FindBytes, IsRootLeft}

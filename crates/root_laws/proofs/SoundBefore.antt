@@ -1,34 +1,34 @@
 -- The packages before a change are of a sound database.
 use Rattle.std.proofs.Common.{◌≡◌, ◌∙◌, ℕ, ◌<◌, Bool, true, false, List, [], Option, Some, None, Result, Ok, Err, refl, sym, ap, subst}
 use Rattle.std.specs.Prelude.{All}
-use Rattle.adb_fields.specs.FirstPair.{IsIn}
-use Rattle.adb_fields.specs.Repeated.{entries_at}
-use Rattle.adb_schema.specs.SoundContainers.{IsSound}
-use Rattle.adb_schema.proofs.Sound as Values
-use Rattle.adb_schema.specs.Soundness.{first_fault, payload_in, root_value}
+use Rattle.make_index.specs.adb_fields.FirstPair.{IsIn}
+use Rattle.make_index.specs.adb_fields.Repeated.{entries_at}
+use Rattle.make_index.specs.adb_schema.SoundContainers.{IsSound}
+use Rattle.make_index.proofs.adb_schema.Sound as Values
+use Rattle.make_index.specs.adb_schema.Soundness.{first_fault, payload_in, root_value}
 use Rattle.adb_view.specs.declared.tables.Which.TheVariants.{Idb}
 use Rattle.adb_view.specs.Plain.{Plain}
 use Rattle.base_core.specs.declared.cause.Cause.{Cause}
-use Rattle.change_inputs.specs.Chains.{and_then, unless_cause}
-use Rattle.change_inputs.specs.Database.{Database, container_database, database_by, payload_database, root_database}
-use Rattle.change_inputs.specs.Inputs.{Inputs, Root, database_for, database_read, indexes_of, inputs_by, inputs_of, repositories_read, root_by, root_for, text_database_read, world_read}
-use Rattle.change_inputs.specs.Repositories.{root_repositories}
-use Rattle.change_inputs.specs.World.{new_world, root_world, text_found}
-use Rattle.change_outcome.proofs.Made.{and_then_ok}
+use Rattle.engine_core.specs.change_inputs.Chains.{and_then, unless_cause}
+use Rattle.engine_core.specs.change_inputs.Database.{Database, container_database, database_by, payload_database, root_database}
+use Rattle.engine_core.specs.change_inputs.Inputs.{Inputs, Root, database_for, database_read, indexes_of, inputs_by, inputs_of, repositories_read, root_by, root_for, text_database_read, world_read}
+use Rattle.engine_core.specs.change_inputs.Repositories.{root_repositories}
+use Rattle.engine_core.specs.change_inputs.World.{new_world, root_world, text_found}
+use Rattle.engine_core.proofs.change_outcome.Made.{and_then_ok}
 use Rattle.command_core.specs.Command.{CommandLine}
-use Rattle.db_core.specs.SoundMembers.{IsOfSoundContainer, IsOfSoundDatabase}
+use Rattle.engine_core.specs.db_core.SoundMembers.{IsOfSoundContainer, IsOfSoundDatabase}
 use Rattle.dep_core.specs.Dependency.{Dependency}
 use Rattle.dep_core.specs.Repositories.{Repository}
 use Rattle.dep_core.specs.World.{IsWorld}
 use Rattle.make_index.proofs.IndexSound.{payload_all}
-use Rattle.make_info.specs.Reads.{Reads}
+use Rattle.make_index.specs.make_info.Reads.{Reads}
 use Rattle.report_core.specs.declared.refusal.Refusal.{Refusal}
 use Rattle.report_core.specs.declared.refusal.Refusal.TheVariants.{DatabaseBad}
 use Rattle.root_names.specs.RootNames.{database_name, repositories_name, text_database_name, world_name}
-use Rattle.change_inputs.proofs.Texts.{text_passes}
-use Rattle.v2_core.specs.Payload.{payload_of_text}
-use Rattle.v2_core.specs.declared.read.V2Fault.{V2Fault}
-use Rattle.v2_core.specs.declared.read.V2Fault.TheVariants.{Bad, Memory, TooLarge}
+use Rattle.engine_core.proofs.change_inputs.Texts.{text_passes}
+use Rattle.engine_core.specs.v2_core.Payload.{payload_of_text}
+use Rattle.engine_core.specs.v2_core.declared.read.V2Fault.{V2Fault}
+use Rattle.engine_core.specs.v2_core.declared.read.V2Fault.TheVariants.{Bad, Memory, TooLarge}
 use Rattle.root_laws.specs.RootLeft.{FindBytes}
 use Rattle.root_laws.proofs.TextNormal.{Exact, ReadBack, text_normal}
 use Rattle.root_laws.proofs.NewWorld.{new_world_is, read_world_is}

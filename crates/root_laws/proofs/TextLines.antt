@@ -9,7 +9,7 @@ use Rattle.adb_view.specs.Plain.{Plain, Shape, Fields, null, int, blob_or_null, 
 use Rattle.adb_view.specs.Shaped.{Each, HasShape, HaveShapes}
 use Rattle.adb_view.proofs.FoundShapes.{arr_value_shape, blob_value_text, obj_value_shape}
 use Rattle.adb_view.proofs.Normal.{arr_normal, blob_value_normal, obj_normal}
-use Rattle.db_write.proofs.RootParts.{EachIn}
+use Rattle.engine_core.proofs.db_write.RootParts.{EachIn}
 use Rattle.dep_core.specs.Dependency.{Dependency, is_dep_name}
 use Rattle.dep_core.specs.DependencyText.{IsDependency, is_constraint, is_tag_or_none, operator_text}
 use Rattle.dep_core.specs.Reading.{dependency_of}
@@ -22,19 +22,19 @@ use Rattle.command_core.specs.Operands.{is_decimal}
 use Rattle.hex.specs.Hex.{decode_of as hex_bytes}
 use Rattle.hex.specs.declared.error.FromHexError.{FromHexError}
 use Rattle.std.specs.Str.Parse.{digits_value}
-use Rattle.make_info.specs.Fields.{FieldValue, need, and_needs, decimal_number, if_untagged, need_in, needs_in, nonempty_parts, text_if}
-use Rattle.make_info.specs.Information.{plain_value}
-use Rattle.make_info.specs.Values.{number_value, plains_of_list}
-use Rattle.v2_core.specs.Database.{array_of, object_of}
-use Rattle.v2_core.specs.Records.{InfoLine, info_by}
-use Rattle.v2_lines.specs.Accesses.{Access, access_by, access_in, before_colon, after_colon, is_id, is_octal, octal_number}
-use Rattle.v2_lines.specs.InfoFields.{field_of_letter, grammar_of}
-use Rattle.v2_lines.specs.InfoValues.{commit_values, one_number, one_text, sha1_of, values_by_grammar}
-use Rattle.v2_lines.specs.Lines.{RecordLine, info_line, folder_line, folder_access_line, file_line, file_access_line, file_hash_line, other_line, file_line_of, folder_line_of, info_line_by, record_line_by, record_line_of}
-use Rattle.v2_lines.specs.declared.field.Grammar.{Grammar}
-use Rattle.v2_lines.specs.declared.field.Grammar.TheVariants as Grammars
-use Rattle.v2_lines.specs.declared.field.InfoField.{InfoField}
-use Rattle.adb_schema.specs.Rules.{is_folder_name, is_one_part}
+use Rattle.make_index.specs.make_info.Fields.{FieldValue, need, and_needs, decimal_number, if_untagged, need_in, needs_in, nonempty_parts, text_if}
+use Rattle.make_index.specs.make_info.Information.{plain_value}
+use Rattle.make_index.specs.make_info.Values.{number_value, plains_of_list}
+use Rattle.engine_core.specs.v2_core.Database.{array_of, object_of}
+use Rattle.engine_core.specs.v2_core.Records.{InfoLine, info_by}
+use Rattle.engine_core.specs.v2_lines.Accesses.{Access, access_by, access_in, before_colon, after_colon, is_id, is_octal, octal_number}
+use Rattle.engine_core.specs.v2_lines.InfoFields.{field_of_letter, grammar_of}
+use Rattle.engine_core.specs.v2_lines.InfoValues.{commit_values, one_number, one_text, sha1_of, values_by_grammar}
+use Rattle.engine_core.specs.v2_lines.Lines.{RecordLine, info_line, folder_line, folder_access_line, file_line, file_access_line, file_hash_line, other_line, file_line_of, folder_line_of, info_line_by, record_line_by, record_line_of}
+use Rattle.engine_core.specs.v2_lines.declared.field.Grammar.{Grammar}
+use Rattle.engine_core.specs.v2_lines.declared.field.Grammar.TheVariants as Grammars
+use Rattle.engine_core.specs.v2_lines.declared.field.InfoField.{InfoField}
+use Rattle.make_index.specs.adb_schema.Rules.{is_folder_name, is_one_part}
 
 -- ---- values that fit a field
 

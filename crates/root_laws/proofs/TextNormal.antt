@@ -2,7 +2,7 @@
 use Rattle.std.proofs.Common.{◌≡◌, ◌∙◌, ℕ, ◌≤◌, false, List, Option, Some, None, Result, Ok, Err, refl, sym, ap, subst}
 use Rattle.std.specs.Prelude.{is_some, unwrap_or}
 use Rattle.std.proofs.lemmas.Bool.{ltb-false}
-use Rattle.adb_schema.specs.Soundness.{payload_fault, root_value}
+use Rattle.make_index.specs.adb_schema.Soundness.{payload_fault, root_value}
 use Rattle.adb_view.specs.Schema.{shape_of}
 use Rattle.adb_view.specs.Values.{value_at}
 use Rattle.adb_view.specs.declared.tables.Kind.TheVariants.{Obj}
@@ -10,15 +10,15 @@ use Rattle.adb_view.specs.declared.tables.Which.TheVariants as Tables
 use Rattle.adb_view.specs.Head.{root_of}
 use Rattle.adb_view.specs.Plain.{IsNormal, Plain, Shape, null, plain_of, value_of}
 use Rattle.adb_view.specs.Shaped.{HasShape}
-use Rattle.adb_write.specs.Canonical.{MOST_BYTES, PayloadCounts, canonical, or_overflow, overflow_of, passes, written_of}
-use Rattle.adb_write.specs.Size.{size_of, value_count}
+use Rattle.make_index.specs.adb_write.Canonical.{MOST_BYTES, PayloadCounts, canonical, or_overflow, overflow_of, passes, written_of}
+use Rattle.make_index.specs.adb_write.Size.{size_of, value_count}
 use Rattle.base_core.specs.declared.cause.Cause.{Cause}
 use Rattle.base_core.proofs.Booleans.{neither_first}
-use Rattle.v2_core.specs.Database.{value_of_records}
-use Rattle.v2_core.specs.Payload.{or_too_large, payload_of_text, payload_if_sound, unless_bad, written_payload}
-use Rattle.v2_core.specs.Reading.{records_of}
-use Rattle.v2_core.specs.Records.{Record}
-use Rattle.v2_core.specs.declared.read.V2Fault.{V2Fault}
+use Rattle.engine_core.specs.v2_core.Database.{value_of_records}
+use Rattle.engine_core.specs.v2_core.Payload.{or_too_large, payload_of_text, payload_if_sound, unless_bad, written_payload}
+use Rattle.engine_core.specs.v2_core.Reading.{records_of}
+use Rattle.engine_core.specs.v2_core.Records.{Record}
+use Rattle.engine_core.specs.v2_core.declared.read.V2Fault.{V2Fault}
 use Rattle.root_laws.proofs.TextLines.{IsFit}
 use Rattle.root_laws.proofs.TextRecords.{AreGoodIfRead, records_fit, records_good}
 

@@ -8,19 +8,19 @@ use Rattle.adb_view.specs.Schema.{shape_of}
 use Rattle.adb_view.specs.declared.tables.Kind.TheVariants.{Obj}
 use Rattle.adb_view.specs.declared.tables.Which.TheVariants as Tables
 use Rattle.adb_view.specs.Plain.{Plain, Shape, null, int, blob_or_null, number as number_shape, hash as hash_shape, array}
-use Rattle.db_write.proofs.RootParts.{EachIn}
+use Rattle.engine_core.proofs.db_write.RootParts.{EachIn}
 use Rattle.dep_core.specs.World.{lines_of}
-use Rattle.make_info.specs.Fields.{FieldValue}
-use Rattle.make_info.specs.Information.{plain_value}
-use Rattle.v2_core.specs.Database.{array_of, joined_value, listed_access_value, listed_file_value, listed_folder_value, listed_hash_value, record_info_value, record_value, single_value, value_of_first, value_of_line, value_of_records, values_for}
-use Rattle.v2_core.specs.Reading.{at_record_end, records_from, records_of, with_records, with_text}
-use Rattle.v2_core.specs.Records.{InfoLine, ListedFile, ListedFolder, Record, empty_record, file_by, file_with_access, file_with_hash, folder_by, folder_with_access, folder_with_file, folder_with_files, folder_with_last, has_line_of, info_by, is_line_of, lacks_needed_line, record_of_parts, with_info_line, with_last_changed, with_path_line, with_record_line}
-use Rattle.v2_lines.specs.Accesses.{Access}
-use Rattle.v2_lines.specs.InfoFields.{adds_to_list, grammar_of, info_field_among, info_fields, letter_of}
-use Rattle.v2_lines.specs.Lines.{RecordLine, info_line, folder_line, folder_access_line, file_line, file_access_line, file_hash_line, other_line, record_line_of}
-use Rattle.v2_lines.specs.declared.field.Grammar.{Grammar}
-use Rattle.v2_lines.specs.declared.field.InfoField.{InfoField}
-use Rattle.v2_lines.specs.declared.field.InfoField.TheVariants as InfoFields
+use Rattle.make_index.specs.make_info.Fields.{FieldValue}
+use Rattle.make_index.specs.make_info.Information.{plain_value}
+use Rattle.engine_core.specs.v2_core.Database.{array_of, joined_value, listed_access_value, listed_file_value, listed_folder_value, listed_hash_value, record_info_value, record_value, single_value, value_of_first, value_of_line, value_of_records, values_for}
+use Rattle.engine_core.specs.v2_core.Reading.{at_record_end, records_from, records_of, with_records, with_text}
+use Rattle.engine_core.specs.v2_core.Records.{InfoLine, ListedFile, ListedFolder, Record, empty_record, file_by, file_with_access, file_with_hash, folder_by, folder_with_access, folder_with_file, folder_with_files, folder_with_last, has_line_of, info_by, is_line_of, lacks_needed_line, record_of_parts, with_info_line, with_last_changed, with_path_line, with_record_line}
+use Rattle.engine_core.specs.v2_lines.Accesses.{Access}
+use Rattle.engine_core.specs.v2_lines.InfoFields.{adds_to_list, grammar_of, info_field_among, info_fields, letter_of}
+use Rattle.engine_core.specs.v2_lines.Lines.{RecordLine, info_line, folder_line, folder_access_line, file_line, file_access_line, file_hash_line, other_line, record_line_of}
+use Rattle.engine_core.specs.v2_lines.declared.field.Grammar.{Grammar}
+use Rattle.engine_core.specs.v2_lines.declared.field.InfoField.{InfoField}
+use Rattle.engine_core.specs.v2_lines.declared.field.InfoField.TheVariants as InfoFields
 use Rattle.root_laws.proofs.TextLines.{IsFit, IsGoodAccess, IsGoodLine, IsGoodRecordLine, IsOfGrammar, array_fit, hash_fit, if_each, int_fit, line_good, map_some, null_fit, object_fit, shape_for, text_fit}
 
 -- ---- what is said so far

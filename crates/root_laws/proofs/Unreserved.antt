@@ -7,15 +7,15 @@ use Rattle.adb_view.specs.Plain.{Plain, Plains, none, more}
 use Rattle.adb_view.specs.Shaped.{Each}
 use Rattle.adb_view.specs.Values.{entries_in, entry_in}
 use Rattle.adb_view.specs.declared.tables.Which.TheVariants.{Idb}
-use Rattle.adb_fields.specs.FirstPair.{IsIn}
-use Rattle.adb_fields.specs.Paths.{path_of}
-use Rattle.adb_fields.specs.Repeated.{files_in, folders_in, list_of, name_of}
-use Rattle.adb_schema.specs.Reserved.{is_reserved}
-use Rattle.adb_schema.specs.SoundValues.{IsFileOf, IsFolder, IsPackage}
-use Rattle.change_files.specs.PlanLists.{first_reserved}
-use Rattle.db_core.specs.Members.{Listing, Member, is_added, listings_by, listings_from, listings_in_folder, listings_in_folders, member_listings}
-use Rattle.db_core.specs.OwnedListings.{HaveOneOwner, owned_listings}
-use Rattle.db_core.specs.SoundMembers.{AreOfSoundContainers, IsOfSoundContainer, IsOfSoundDatabase, MayBeListed, NoneReserved}
+use Rattle.make_index.specs.adb_fields.FirstPair.{IsIn}
+use Rattle.make_index.specs.adb_fields.Paths.{path_of}
+use Rattle.make_index.specs.adb_fields.Repeated.{files_in, folders_in, list_of, name_of}
+use Rattle.make_index.specs.adb_schema.Reserved.{is_reserved}
+use Rattle.make_index.specs.adb_schema.SoundValues.{IsFileOf, IsFolder, IsPackage}
+use Rattle.engine_core.specs.change_files.PlanLists.{first_reserved}
+use Rattle.engine_core.specs.db_core.Members.{Listing, Member, is_added, listings_by, listings_from, listings_in_folder, listings_in_folders, member_listings}
+use Rattle.engine_core.specs.db_core.OwnedListings.{HaveOneOwner, owned_listings}
+use Rattle.engine_core.specs.db_core.SoundMembers.{AreOfSoundContainers, IsOfSoundContainer, IsOfSoundDatabase, MayBeListed, NoneReserved}
 use Rattle.base_core.specs.ByteOrder.{precedes, smaller_text, smallest_text}
 
 -- ---- a property of each listing

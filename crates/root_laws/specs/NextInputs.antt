@@ -1,11 +1,11 @@
 -- The inputs of a command that reads the root which a change has left. The rules are in
 -- `docs/commands.md`, "`add` and `del`", what is read.
 use Rattle.std.specs.Prelude.{◌≡◌, ℕ, List, Option}
-use Rattle.change_inputs.specs.Inputs.{Inputs}
-use Rattle.change_outcome.specs.ChangeOutcome.{ChangeDone}
-use Rattle.change_outcome.specs.MembersAfter.{found_members}
+use Rattle.engine_core.specs.change_inputs.Inputs.{Inputs}
+use Rattle.engine_core.specs.change_outcome.ChangeOutcome.{ChangeDone}
+use Rattle.engine_core.specs.change_outcome.MembersAfter.{found_members}
 use Rattle.command_core.specs.Command.{CommandLine}
-use Rattle.make_info.specs.Reads.{Reads}
+use Rattle.make_index.specs.make_info.Reads.{Reads}
 use Rattle.report_core.specs.declared.refusal.Refusal.{Refusal}
 use Rattle.report_core.specs.declared.refusal.Refusal.TheVariants.{IndexBad, IndexMissing, RepositoriesBad, Untrusted}
 use Rattle.root_laws.specs.RootLeft.{IsRootLeft, database_of_members}

@@ -1,21 +1,21 @@
 -- The root that a change leaves, as a later command reads it. The rules are in `docs/formats.md`, "The
 -- database after a change" and "World".
 use Rattle.std.specs.Prelude.{◌≡◌, ℕ, ◌<◌, false, List, All, Option, Some, Ok}
-use Rattle.adb_fields.specs.Repeated.{list_of}
+use Rattle.make_index.specs.adb_fields.Repeated.{list_of}
 use Rattle.base_core.specs.Files.{Files}
-use Rattle.change_inputs.specs.Database.{Database, database_by}
-use Rattle.change_inputs.specs.Inputs.{database_for, database_read, world_read}
-use Rattle.change_inputs.specs.World.{root_world, text_found}
-use Rattle.change_outcome.specs.ChangeOutcome.{ChangeDone, change_members}
-use Rattle.change_outcome.specs.MembersAfter.{MemberFound, found_members}
+use Rattle.engine_core.specs.change_inputs.Database.{Database, database_by}
+use Rattle.engine_core.specs.change_inputs.Inputs.{database_for, database_read, world_read}
+use Rattle.engine_core.specs.change_inputs.World.{root_world, text_found}
+use Rattle.engine_core.specs.change_outcome.ChangeOutcome.{ChangeDone, change_members}
+use Rattle.engine_core.specs.change_outcome.MembersAfter.{MemberFound, found_members}
 use Rattle.command_core.specs.Command.{CommandLine}
-use Rattle.db_core.specs.Members.{Member}
-use Rattle.db_write.specs.NewDatabase.{packages_after}
+use Rattle.engine_core.specs.db_core.Members.{Member}
+use Rattle.engine_core.specs.db_write.NewDatabase.{packages_after}
 use Rattle.dep_core.specs.World.{world_text}
 use Rattle.engine_core.specs.Changed.{Selected, selected_for}
 use Rattle.engine_core.specs.Wishes.{wishes_of}
-use Rattle.file_owners.specs.Owners.{owned_of}
-use Rattle.make_info.specs.Reads.{Reads}
+use Rattle.engine_core.specs.file_owners.Owners.{owned_of}
+use Rattle.make_index.specs.make_info.Reads.{Reads}
 use Rattle.root_names.specs.RootNames.{database_name, world_name}
 
 -- each file that reads find has bytes: numbers below 256

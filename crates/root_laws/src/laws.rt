@@ -4,27 +4,27 @@
 
 ghost use Rattle.std.specs.Prelude.{◌≡◌, ℕ, false, Err, List, Ok, Option};
 ghost use Rattle.base_core.specs.Files.{AreNamedFiles, Files};
-ghost use Rattle.change_inputs.specs.Inputs.{Inputs, inputs_of};
-ghost use Rattle.change_outcome.specs.ChangeOutcome.{ChangeDone};
+ghost use Rattle.engine_core.specs.change_inputs.Inputs.{Inputs, inputs_of};
+ghost use Rattle.engine_core.specs.change_outcome.ChangeOutcome.{ChangeDone};
 ghost use Rattle.command_core.specs.Command.{CommandLine};
 ghost use Rattle.engine_core.specs.Changed.{change_of_command};
-ghost use Rattle.make_info.specs.Reads.{Reads};
-ghost use Rattle.path_clashes.specs.Clash.{NamePair};
+ghost use Rattle.make_index.specs.make_info.Reads.{Reads};
+ghost use Rattle.engine_core.specs.path_clashes.Clash.{NamePair};
 ghost use Rattle.report_core.specs.declared.refusal.Refusal.{Refusal};
 ghost use Rattle.root_laws.specs.NextInputs.{AreInputsFrom, IsOfRepositories};
 ghost use Rattle.root_laws.specs.RootLeft.{FindBytes, IsRootLeft, ReadsRoot};
 
-use adb_fields::no_repeated_name_is_reported_if_there_is_none;
-use adb_schema::no_text_is_bad_where_each_keeps_its_rule;
 use adb_view::{values_have_their_shape, values_of_few_visits_have_no_fault};
-use adb_write::{a_canonical_payload_is_read_back, a_value_overflows_exactly_past_a_limit};
-use db_write::{
-    a_database_of_sound_packages_may_be_the_root, a_written_database_is_read_back,
-    packages_of_sound_containers_may_be_members,
-};
 use dep_core::worlds_are_read_back;
-use file_owners::no_path_is_owned_by_two_members;
-use pkg_core::a_package_is_tested_by_its_values_and_then_its_files;
+use engine_core::{
+    a_database_of_sound_packages_may_be_the_root, a_written_database_is_read_back,
+    no_path_is_owned_by_two_members, packages_of_sound_containers_may_be_members,
+};
+use make_index::{
+    a_canonical_payload_is_read_back, a_package_is_tested_by_its_values_and_then_its_files,
+    a_value_overflows_exactly_past_a_limit, no_repeated_name_is_reported_if_there_is_none,
+    no_text_is_bad_where_each_keeps_its_rule,
+};
 
 /// If a change is not refused, each command that reads the files that it leaves finds a database,
 /// whose packages are those after the change, each with the files that it owns; and the world that

@@ -1,16 +1,17 @@
 //! Packages are added to the members of a change, if they are in order. The order is that of
 //! names, as `docs/formats.md`, "The database after a change", has it.
 
-ghost use Rattle.adb_fields.specs.Repeated.{package_name};
+ghost use Rattle.db_core.specs.adb_fields.Repeated.{package_name};
 ghost use Rattle.adb_view.specs.Plain.{Plain};
 ghost use Rattle.db_core.specs.Seen.{packages_of};
-ghost use Rattle.pkg_core.specs.Values.{value_of_contents};
+ghost use Rattle.db_core.specs.pkg_core.Values.{value_of_contents};
 ghost use Rattle.std.specs.Prelude.{◌≡◌, ◌<◌, Some, length, slice_get};
 
-use adb_schema::{PACKAGE_WORD, PackageView};
 use base_core::Name;
-use db_core::{Db, MOST_MEMBERS, Members};
-use pkg_core::{Contents, Front, FrontFault, PackageFault, read_front};
+use db_core::{
+    Contents, Db, Front, FrontFault, MOST_MEMBERS, Members, PACKAGE_WORD, PackageFault,
+    PackageView, read_front,
+};
 use std::alloc::{AllocError, Global};
 use std::marker::PhantomData;
 use tree_memory::MemoryTree;

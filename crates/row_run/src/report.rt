@@ -1,10 +1,8 @@
 //! A whole text of rows, and what is printed of each: that it passed, or what differs and where.
 //! The lines are in `tests/rows.md`, "What runs them" and "A text that is none".
 use crate::run::run_row;
-use row_check::{Program, RowFault, add_number};
-use row_text::{Fault, Row, read_rows};
+use row_check::{Fault, MemoryTree, Program, Row, RowFault, add_number, read_rows};
 use std::alloc::{AllocError, Global};
-use tree_memory::MemoryTree;
 
 /// Runs all rows of a text, and adds a line for each. Returns whether the text is one of rows and
 /// none failed.

@@ -1,10 +1,11 @@
 //! A row, and one command line over a tree and two sinks. What a row expects is in
 //! `tests/rows.md`, "Lines", and of further runs in "What goes wrong".
 use crate::sweep::Swept;
-use row_check::{Program, RowFault, Run, Sides, check_images, check_run, copy_of, tree_of};
-use row_text::{Row, SinkPlan, Step, TreePlan};
+use row_check::{
+    MemorySink, MemoryTree, Program, Row, RowFault, Run, Sides, SinkPlan, Step, TreePlan,
+    check_images, check_run, copy_of, tree_of,
+};
 use std::alloc::Global;
-use tree_memory::{MemorySink, MemoryTree};
 
 /// After how many bytes the two streams fail, in place of what the row plans.
 #[derive(Clone, Copy)]

@@ -3,12 +3,10 @@
 //! "What goes wrong", its table and what follows.
 use crate::run::{StreamEnds, run_once};
 use row_check::{
-    Found, Program, RowFault, Run, Sides, add_number, bytes_of, check_run, check_streams, compare,
-    compare_numbers, copy_of, differs, images_of,
+    Found, MemoryTree, Program, RowFault, Run, Sides, Step, TreePlan, add_number, bytes_of,
+    check_run, check_streams, compare, compare_numbers, copy_of, differs, images_of,
 };
-use row_text::{Step, TreePlan};
 use std::alloc::{AllocError, Global};
-use tree_memory::MemoryTree;
 
 /// The most calls that a run may make of which each fails in turn: a run of a row makes far fewer,
 /// and the loop has to end.

@@ -7,9 +7,9 @@ use Rattle.base_core.specs.Calls.{HoldsNow}
 use Rattle.base_core.specs.Files.{Files}
 use Rattle.base_core.specs.Undone.{IsAfterCrash, IsDurable}
 use Rattle.base_core.specs.Tree.{TreeState, files_of}
-use Rattle.journal_core.specs.Quiet.{EachCrashLeavesOld}
-use Rattle.journal_core.specs.Recovery.{EachCrashLeaves, StateDependsOn, intent_name}
-use Rattle.outcome.specs.Effect.{output}
+use Rattle.apk_front.specs.journal_core.Quiet.{EachCrashLeavesOld}
+use Rattle.apk_front.specs.journal_core.Recovery.{EachCrashLeaves, StateDependsOn, intent_name}
+use Rattle.apk_front.specs.outcome.Effect.{output}
 use Rattle.run_lists.specs.Events.{Crashes, Edits, Ends, Event, HasNoPendingRun, Reaches, ReachesOneState, IsAllSynced, IsRunWithoutCommit, IsMomentOf, IsRunFrom, IsTornFrom, KeepsOneState, IsTransition, MakesOneState, Run, Stops, Touches, ignored_after, ignored_by, ignored_in, nothing_ignored, with_scratch, with_touched}
 use Rattle.run_lists.specs.Safety.{IsAtomic, IsSafe, LeavesOutcome}
 use Rattle.run_lists.proofs.AtMoments.{now_at}

@@ -7,10 +7,10 @@ use Rattle.base_core.specs.Files.{Files}
 use Rattle.base_core.specs.Tree.{TreeState, files_of}
 use Rattle.base_core.specs.declared.cause.Cause.{Cause}
 use Rattle.command_core.specs.Command.{CommandLine}
-use Rattle.journal_core.specs.Recovery.{intent_name}
-use Rattle.outcome.specs.Effect.{Effect, Computes, Reads, Tells, Makes, Changes, does_only_read, effect_by, reads_only}
-use Rattle.outcome.specs.Work.{fault_of_intent, recovery_fault}
-use Rattle.words_core.specs.Grammar.{command_of}
+use Rattle.apk_front.specs.journal_core.Recovery.{intent_name}
+use Rattle.apk_front.specs.outcome.Effect.{Effect, Computes, Reads, Tells, Makes, Changes, does_only_read, effect_by, reads_only}
+use Rattle.apk_front.specs.outcome.Work.{fault_of_intent, recovery_fault}
+use Rattle.apk_front.specs.words_core.Grammar.{command_of}
 use Rattle.run_lists.specs.Events.{Crashes, Edits, Ends, Event, IsRunFrom, IsTransition, Run, Stops, Touches}
 use Rattle.run_lists.specs.Reading.{HasBadIntent, ReachesByRuns, IsAnyRun, IsRunWith}
 use Rattle.run_lists.proofs.AtMoments.{at_last, at_moment, now_at}

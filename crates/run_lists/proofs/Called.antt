@@ -8,16 +8,16 @@ use Rattle.base_core.specs.Crash.{Since}
 use Rattle.base_core.specs.Undone.{IsDurable}
 use Rattle.base_core.specs.Faults.{HasCause}
 use Rattle.base_core.specs.Tree.{TreeState, files_of}
-use Rattle.journal_core.specs.Quiet.{StateIsUnchanged}
-use Rattle.journal_core.specs.Recovery.{StateDependsOn, intent_name}
-use Rattle.outcome.specs.Effect.{effect_by, output, reads_only}
-use Rattle.outcome.specs.Work.{recovery_fault}
-use Rattle.words_core.specs.Grammar.{command_of}
+use Rattle.apk_front.specs.journal_core.Quiet.{StateIsUnchanged}
+use Rattle.apk_front.specs.journal_core.Recovery.{StateDependsOn, intent_name}
+use Rattle.apk_front.specs.outcome.Effect.{effect_by, output, reads_only}
+use Rattle.apk_front.specs.outcome.Work.{recovery_fault}
+use Rattle.apk_front.specs.words_core.Grammar.{command_of}
 use Rattle.run_lists.specs.Events.{IsOutcomeFrom, IsRunFrom, Run}
 use Rattle.run_lists.specs.Safety.{IsAtomicAfterAnyEvents, IsSafeAfterAnyEvents}
 use Rattle.run_lists.proofs.AtMoments.{History}
 use Rattle.run_lists.proofs.Facts.{Ignored}
-use Rattle.outcome.specs.Words.{IsOutcome}
+use Rattle.apk_front.specs.outcome.Words.{IsOutcome}
 
 observed : (h : History) (A B C D E F G H I J Z : TreeState → Type 0)
     → ((v : TreeState) → HoldsNow h (λ u. u ≡ v) → A v → B v → C v → D v → E v → F v → G v → H v → I v → J v → Z v)

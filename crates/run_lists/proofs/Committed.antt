@@ -3,43 +3,43 @@ use Rattle.std.proofs.Common.{◌≡◌, ◌∙◌, ℕ, Bool, true, false, List
 use Rattle.std.specs.Prelude.{if◌then◌else◌, IsTrue}
 use Rattle.std.specs.Str.{bytes_eq}
 use Rattle.std.proofs.lemmas.Bool.{false≢true}
-use Rattle.adb_schema.specs.Reserved.{is_reserved}
-use Rattle.adb_schema.specs.Soundness.{first_fault, payload_in, root_value}
+use Rattle.apk_front.specs.adb_schema.Reserved.{is_reserved}
+use Rattle.apk_front.specs.adb_schema.Soundness.{first_fault, payload_in, root_value}
 use Rattle.adb_view.specs.declared.tables.Which.TheVariants.{Intent as IntentTable}
 use Rattle.base_core.specs.Files.{Files}
 use Rattle.base_core.specs.declared.cause.Cause.{Cause}
 use Rattle.base_core.proofs.NameParts.{other_bytes}
-use Rattle.change_inputs.specs.Chains.{and_then}
-use Rattle.change_inputs.specs.Inputs.{Inputs}
-use Rattle.change_outcome.specs.ChangeOutcome.{ChangeDone, ChangeWishes, change_or_refusal}
+use Rattle.apk_front.specs.change_inputs.Chains.{and_then}
+use Rattle.apk_front.specs.change_inputs.Inputs.{Inputs}
+use Rattle.apk_front.specs.change_outcome.ChangeOutcome.{ChangeDone, ChangeWishes, change_or_refusal}
 use Rattle.command_core.specs.Command.{CommandLine}
 use Rattle.command_core.specs.declared.command.Applet.{Applet}
 use Rattle.command_core.specs.declared.command.Applet.TheVariants.{Demo, Mkndx, Mkpkg}
-use Rattle.engine_core.specs.Changed.{Selected, change_of_selected, change_of_command, selected_for, simulated_change}
-use Rattle.engine_core.specs.Wishes.{wishes_of}
-use Rattle.journal_core.specs.Recovery.{Intent, intent_at, intent_in, intent_name, read_intent, recovered_files_by}
-use Rattle.journal_core.specs.Replacing.{replaced_files, scratch_of}
-use Rattle.journal_core.specs.Staged.{unstaged_files}
-use Rattle.make_index.specs.Index.{made_index}
-use Rattle.make_info.specs.Output.{output_name}
-use Rattle.make_info.specs.Reads.{Reads as Reading}
-use Rattle.make_info.specs.declared.fault.MakeFault.{MakeFault}
-use Rattle.make_info.specs.declared.fault.MakeFault.TheVariants.{FileMissing as NoFile, FileBad as BadFile, InfoBad as BadInfo, TooLarge, Disk, Memory}
-use Rattle.make_package.specs.Making.{made_package}
-use Rattle.package_changes.specs.Changes.{Replacement}
-use Rattle.path_clashes.specs.Clash.{NamePair}
+use Rattle.apk_front.specs.engine_core.Changed.{Selected, change_of_selected, change_of_command, selected_for, simulated_change}
+use Rattle.apk_front.specs.engine_core.Wishes.{wishes_of}
+use Rattle.apk_front.specs.journal_core.Recovery.{Intent, intent_at, intent_in, intent_name, read_intent, recovered_files_by}
+use Rattle.apk_front.specs.journal_core.Replacing.{replaced_files, scratch_of}
+use Rattle.apk_front.specs.journal_core.Staged.{unstaged_files}
+use Rattle.apk_front.specs.make_index.Index.{made_index}
+use Rattle.apk_front.specs.make_info.Output.{output_name}
+use Rattle.apk_front.specs.make_info.Reads.{Reads as Reading}
+use Rattle.apk_front.specs.make_info.declared.fault.MakeFault.{MakeFault}
+use Rattle.apk_front.specs.make_info.declared.fault.MakeFault.TheVariants.{FileMissing as NoFile, FileBad as BadFile, InfoBad as BadInfo, TooLarge, Disk, Memory}
+use Rattle.apk_front.specs.make_package.Making.{made_package}
+use Rattle.apk_front.specs.package_changes.Changes.{Replacement}
+use Rattle.apk_front.specs.path_clashes.Clash.{NamePair}
 use Rattle.report_core.specs.declared.refusal.Refusal.{Refusal}
 use Rattle.report_core.specs.declared.refusal.Refusal.TheVariants.{Reserved}
-use Rattle.words_core.specs.Grammar.{command_of}
-use Rattle.outcome.proofs.Applets.{change_is}
-use Rattle.outcome.specs.Changing.{change_outcome}
-use Rattle.outcome.specs.Commands.{IsOutcomeOf, IsOutcomeUnlessBadIntent, effect_outcome, reads_in}
-use Rattle.outcome.specs.Effect.{Effect, Computes, Reads, Tells, Makes, Changes, effect_by, effect_of, reads_only}
-use Rattle.outcome.specs.Given.{Given}
-use Rattle.outcome.specs.Make.{files_with_output, index_line, make_outcome, unless_reserved}
-use Rattle.outcome.specs.Outcome.{Outcome, commit_report, just_refusal}
-use Rattle.outcome.specs.Words.{IsOutcome, IsOutcomeFor}
-use Rattle.outcome.specs.Work.{fault_of_intent, recovery_fault, work_files}
+use Rattle.apk_front.specs.words_core.Grammar.{command_of}
+use Rattle.apk_front.proofs.outcome.Applets.{change_is}
+use Rattle.apk_front.specs.outcome.Changing.{change_outcome}
+use Rattle.apk_front.specs.outcome.Commands.{IsOutcomeOf, IsOutcomeUnlessBadIntent, effect_outcome, reads_in}
+use Rattle.apk_front.specs.outcome.Effect.{Effect, Computes, Reads, Tells, Makes, Changes, effect_by, effect_of, reads_only}
+use Rattle.apk_front.specs.outcome.Given.{Given}
+use Rattle.apk_front.specs.outcome.Make.{files_with_output, index_line, make_outcome, unless_reserved}
+use Rattle.apk_front.specs.outcome.Outcome.{Outcome, commit_report, just_refusal}
+use Rattle.apk_front.specs.outcome.Words.{IsOutcome, IsOutcomeFor}
+use Rattle.apk_front.specs.outcome.Work.{fault_of_intent, recovery_fault, work_files}
 use Rattle.run_lists.proofs.BadIntent.{only_reads}
 use Rattle.run_lists.proofs.Names.{no_scratch}
 

@@ -10,12 +10,12 @@ use Rattle.base_core.specs.Calls.{HoldsNow}
 use Rattle.base_core.specs.Undone.{IsDurable}
 use Rattle.base_core.specs.Files.{Files}
 use Rattle.base_core.specs.Tree.{TreeState, files_of}
-use Rattle.journal_core.specs.Quiet.{StateIsUnchanged}
-use Rattle.journal_core.specs.Recovery.{StateDependsOn, intent_name}
-use Rattle.outcome.specs.Effect.{output}
-use Rattle.outcome.specs.Outcome.{Outcome}
+use Rattle.apk_front.specs.journal_core.Quiet.{StateIsUnchanged}
+use Rattle.apk_front.specs.journal_core.Recovery.{StateDependsOn, intent_name}
+use Rattle.apk_front.specs.outcome.Effect.{output}
+use Rattle.apk_front.specs.outcome.Outcome.{Outcome}
 use Rattle.report_core.specs.declared.refusal.Refusal.{Refusal}
-use Rattle.words_core.specs.Grammar.{command_of}
+use Rattle.apk_front.specs.words_core.Grammar.{command_of}
 use Rattle.run_lists.specs.Events.{HasCommit, IsRunWithoutCommit, IsOutcomeFrom, IsRunFrom, Run, ignored_by, ignored_in}
 use Rattle.run_lists.specs.Safety.{LeavesOutcome}
 use Rattle.run_lists.proofs.AtMoments.{now_at}

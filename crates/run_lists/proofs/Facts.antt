@@ -5,12 +5,12 @@ use Rattle.base_core.specs.Crash.{Since}
 use Rattle.base_core.specs.Files.{Files}
 use Rattle.base_core.specs.Undone.{IsAfterCrash, IsDurable, IsCrashImage}
 use Rattle.base_core.specs.Tree.{TreeState, files_of}
-use Rattle.journal_core.specs.Recovery.{EachCrashLeaves, StateDependsOn}
-use Rattle.journal_core.specs.Replacing.{IsMomentOfReplacing}
-use Rattle.outcome.specs.Effect.{Makes, effect_by, output}
-use Rattle.outcome.specs.Outcome.{Outcome}
-use Rattle.outcome.specs.Words.{IsOutcome}
-use Rattle.words_core.specs.Grammar.{command_of}
+use Rattle.apk_front.specs.journal_core.Recovery.{EachCrashLeaves, StateDependsOn}
+use Rattle.apk_front.specs.journal_core.Replacing.{IsMomentOfReplacing}
+use Rattle.apk_front.specs.outcome.Effect.{Makes, effect_by, output}
+use Rattle.apk_front.specs.outcome.Outcome.{Outcome}
+use Rattle.apk_front.specs.outcome.Words.{IsOutcome}
+use Rattle.apk_front.specs.words_core.Grammar.{command_of}
 
 abbrev pub Ignored : Type 0
 Ignored = List ℕ → Bool

@@ -6,14 +6,14 @@ use Rattle.apk_front.specs.Moments.{IsDurableState}
 use Rattle.base_core.specs.Files.{Files}
 use Rattle.base_core.specs.Undone.{IsAfterCrash, IsDurable, IsCrashImage}
 use Rattle.base_core.specs.Tree.{TreeState, files_of}
-use Rattle.journal_core.specs.Quiet.{EachCrashLeavesOld, StateIsUnchanged}
-use Rattle.journal_core.specs.Recovery.{StateDependsOn, is_staged, recovered_files, state_of}
-use Rattle.journal_core.specs.Staged.{unstaged_files}
-use Rattle.journal_core.proofs.More.{settled_more, states_same}
-use Rattle.outcome.specs.Effect.{reads_only}
-use Rattle.outcome.specs.Outcome.{Outcome}
-use Rattle.outcome.specs.Words.{IsOutcome}
-use Rattle.words_core.specs.Grammar.{command_of}
+use Rattle.apk_front.specs.journal_core.Quiet.{EachCrashLeavesOld, StateIsUnchanged}
+use Rattle.apk_front.specs.journal_core.Recovery.{StateDependsOn, is_staged, recovered_files, state_of}
+use Rattle.apk_front.specs.journal_core.Staged.{unstaged_files}
+use Rattle.apk_front.proofs.journal_core.More.{settled_more, states_same}
+use Rattle.apk_front.specs.outcome.Effect.{reads_only}
+use Rattle.apk_front.specs.outcome.Outcome.{Outcome}
+use Rattle.apk_front.specs.outcome.Words.{IsOutcome}
+use Rattle.apk_front.specs.words_core.Grammar.{command_of}
 use Rattle.run_lists.specs.Events.{Crashes, Edits, Ends, Event, ReachesWithoutCommit, IsEventWithoutCommit, IsRunWithoutCommit, IsTransition, Run, Stops, Touches, with_all_touched, with_touched}
 use Rattle.run_lists.proofs.Facts.{AreMore, Ignored}
 use Rattle.run_lists.proofs.Names.{reader_output, touched_more}

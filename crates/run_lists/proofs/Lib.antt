@@ -1,3 +1,5 @@
+-- passed on: a crate above that names this one need not name these
+pub use Rattle.apk_front.proofs.journal_core as journal_core
 pub mod Along
 pub mod AtMoments
 pub mod BadIntent

@@ -10,16 +10,16 @@ use Rattle.base_core.specs.Tree.{File, TreeState, bytes_at, files_of}
 use Rattle.base_core.specs.Undone.{IsDurable, IsCrashImage, IsCrashMap}
 use Rattle.base_core.proofs.NameParts.{other_bytes}
 use Rattle.base_core.proofs.Left.{left_as_read as synced_as_read}
-use Rattle.journal_core.specs.Kept.{IsJournalName}
-use Rattle.journal_core.specs.Recovery.{StateDependsOn, intent_at, intent_name, intent_of, is_staged}
-use Rattle.journal_core.specs.Replacing.{scratch_of}
-use Rattle.journal_core.specs.Staged.{unstaged_files}
-use Rattle.journal_core.proofs.Lasting.{some_none}
-use Rattle.journal_intent.specs.FreeNames.{IsNoneOf}
-use Rattle.outcome.specs.Effect.{Effect, Computes, Reads, Tells, Makes, Changes, does_recover, effect_by, output}
-use Rattle.outcome.specs.Outcome.{Outcome}
-use Rattle.outcome.specs.Work.{work_files}
-use Rattle.words_core.specs.Grammar.{command_of}
+use Rattle.apk_front.specs.journal_core.Kept.{IsJournalName}
+use Rattle.apk_front.specs.journal_core.Recovery.{StateDependsOn, intent_at, intent_name, intent_of, is_staged}
+use Rattle.apk_front.specs.journal_core.Replacing.{scratch_of}
+use Rattle.apk_front.specs.journal_core.Staged.{unstaged_files}
+use Rattle.apk_front.proofs.journal_core.Lasting.{some_none}
+use Rattle.apk_front.specs.journal_intent.FreeNames.{IsNoneOf}
+use Rattle.apk_front.specs.outcome.Effect.{Effect, Computes, Reads, Tells, Makes, Changes, does_recover, effect_by, output}
+use Rattle.apk_front.specs.outcome.Outcome.{Outcome}
+use Rattle.apk_front.specs.outcome.Work.{work_files}
+use Rattle.apk_front.specs.words_core.Grammar.{command_of}
 use Rattle.run_lists.specs.Events.{Crashes, Edits, Ends, Event, Reaches, IsMomentOf, IsOutcomeFrom, IsRunFrom, IsTransition, Run, Stops, Touches, ignored_after, ignored_in, with_scratch}
 use Rattle.run_lists.specs.Reading.{HasBytesOfRun, HasOutcomeBytes, ReachesByRuns, IsDurablyDone, IsOrdinaryName, IsNoDraft, IsRunWith, IsTrueAt, LeavesTrueAt}
 use Rattle.run_lists.proofs.Along.{seen_durable}

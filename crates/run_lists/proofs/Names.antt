@@ -8,9 +8,9 @@ use Rattle.apk_front.specs.Moments.{IgnoresScratchOf, ignored_but}
 use Rattle.apk_front.specs.declared.answer.Answer.{Answer}
 use Rattle.apk_front.specs.declared.answer.Answer.TheVariants.{Ok as Done, Refused, TreeFault, OutFault, Memory}
 use Rattle.command_core.specs.Command.{CommandLine}
-use Rattle.journal_core.specs.Recovery.{intent_name}
-use Rattle.journal_core.specs.Replacing.{scratch_of}
-use Rattle.outcome.specs.Effect.{Effect, Computes, Reads, Tells, Makes, Changes, does_only_read, effect_by, effect_of, output, output_by, output_if, reads_only}
+use Rattle.apk_front.specs.journal_core.Recovery.{intent_name}
+use Rattle.apk_front.specs.journal_core.Replacing.{scratch_of}
+use Rattle.apk_front.specs.outcome.Effect.{Effect, Computes, Reads, Tells, Makes, Changes, does_only_read, effect_by, effect_of, output, output_by, output_if, reads_only}
 use Rattle.run_lists.specs.Events.{Crashes, Edits, Ends, Event, HasNoPendingOutput, Run, Stops, Touches, ignored_after, ignored_by, names_of_others, nothing_ignored, with_all_touched, with_scratch, with_touched}
 use Rattle.run_lists.proofs.Facts.{AreMore, Ignored}
 use Rattle.run_lists.proofs.Touched.{intent_off}

@@ -11,12 +11,12 @@ use Rattle.base_core.specs.Undone.{IsDurable, IsCrashImage}
 use Rattle.base_core.specs.Files.{Files}
 use Rattle.base_core.specs.Sink.{SinkChange}
 use Rattle.base_core.specs.Tree.{TreeState, files_of}
-use Rattle.journal_core.specs.Quiet.{EachCrashLeavesOld, StateIsUnchanged}
-use Rattle.journal_core.specs.Recovery.{EachCrashLeaves, StateDependsOn, intent_name}
-use Rattle.journal_core.specs.Replacing.{IsMomentOfReplacing}
-use Rattle.outcome.specs.Effect.{Effect, effect_by, output}
-use Rattle.outcome.specs.Outcome.{Outcome}
-use Rattle.words_core.specs.Grammar.{command_of}
+use Rattle.apk_front.specs.journal_core.Quiet.{EachCrashLeavesOld, StateIsUnchanged}
+use Rattle.apk_front.specs.journal_core.Recovery.{EachCrashLeaves, StateDependsOn, intent_name}
+use Rattle.apk_front.specs.journal_core.Replacing.{IsMomentOfReplacing}
+use Rattle.apk_front.specs.outcome.Effect.{Effect, effect_by, output}
+use Rattle.apk_front.specs.outcome.Outcome.{Outcome}
+use Rattle.apk_front.specs.words_core.Grammar.{command_of}
 use Rattle.run_lists.specs.Events.{HasCommit, IsRunWithoutCommit, IsMomentOf, IsOutcomeFrom, IsRunFrom, Run, ignored_in, with_scratch}
 use Rattle.run_lists.specs.Safety.{HasOldOrOutcome, IsAtomic, IsOldOrOutcome, IsSafe, LeavesOutcome}
 use Rattle.run_lists.proofs.AtMoments.{History, at_last, at_moment, now_at, now_map, now_under, now_with}

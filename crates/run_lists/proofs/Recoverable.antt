@@ -1,7 +1,7 @@
 -- No list leaves a bad intent, and a run that was stopped is recovered by the next one.
 use Rattle.std.proofs.Common.{◌≡◌, inl, inr, ⊎_elim, ℕ, Bool, true, false, cond, ◌||◌, List, [], ◌∷◌, Option, Some, None, refl, sym, ap, subst, ◌∙◌}
 use Rattle.std.specs.Prelude.{if◌then◌else◌}
-use Rattle.adb_schema.specs.Soundness.{first_fault}
+use Rattle.apk_front.specs.adb_schema.Soundness.{first_fault}
 use Rattle.adb_view.specs.declared.tables.Which.TheVariants.{Intent as IntentTable}
 use Rattle.apk_front.specs.Answers.{answer_by}
 use Rattle.apk_front.specs.Moments.{AnswersOutcome, HasOutcomeWithoutCommit}
@@ -12,17 +12,17 @@ use Rattle.base_core.specs.Files.{Files}
 use Rattle.base_core.specs.Undone.{IsAfterCrash, IsDurable, IsCrashImage}
 use Rattle.base_core.specs.Tree.{TreeState, files_of}
 use Rattle.base_core.specs.declared.cause.Cause.{Cause}
-use Rattle.journal_core.specs.Quiet.{EachCrashLeavesOld}
-use Rattle.journal_core.specs.Recovery.{EachCrashLeaves, StateDependsOn, intent_name, is_staged, recovered_files, state_of}
-use Rattle.journal_core.specs.Staged.{IsIntentFault, unstaged_files}
-use Rattle.journal_core.proofs.More.{quiet_more, states_same}
-use Rattle.outcome.specs.Effect.{Effect, Computes, Reads, Tells, Makes, Changes, does_recover, effect_by, output}
-use Rattle.outcome.specs.Outcome.{Outcome}
-use Rattle.outcome.specs.Words.{IsOutcome}
-use Rattle.outcome.specs.Work.{fault_of_intent, recovery_fault}
+use Rattle.apk_front.specs.journal_core.Quiet.{EachCrashLeavesOld}
+use Rattle.apk_front.specs.journal_core.Recovery.{EachCrashLeaves, StateDependsOn, intent_name, is_staged, recovered_files, state_of}
+use Rattle.apk_front.specs.journal_core.Staged.{IsIntentFault, unstaged_files}
+use Rattle.apk_front.proofs.journal_core.More.{quiet_more, states_same}
+use Rattle.apk_front.specs.outcome.Effect.{Effect, Computes, Reads, Tells, Makes, Changes, does_recover, effect_by, output}
+use Rattle.apk_front.specs.outcome.Outcome.{Outcome}
+use Rattle.apk_front.specs.outcome.Words.{IsOutcome}
+use Rattle.apk_front.specs.outcome.Work.{fault_of_intent, recovery_fault}
 use Rattle.report_core.specs.declared.refusal.Refusal.{Refusal}
 use Rattle.report_core.specs.declared.refusal.Refusal.TheVariants.{IntentBad}
-use Rattle.words_core.specs.Grammar.{command_of}
+use Rattle.apk_front.specs.words_core.Grammar.{command_of}
 use Rattle.run_lists.specs.Events.{Crashes, Edits, Ends, Event, Reaches, ReachesWithoutCommit, IsEventWithoutCommit, IsMomentOf, IsOutcomeFrom, IsRunFrom, IsStopOf, IsTransition, Run, Stops, Touches, ignored_after, ignored_in, nothing_ignored, with_all_touched, with_touched}
 use Rattle.run_lists.specs.Reading.{HasBadIntent}
 use Rattle.run_lists.specs.Recovered.{ReachesWithoutBadIntent, HasStateBefore, HasStateBeforeOrOutcome, HasStateOf, IsRecoveredBy, IsNotRefusedForIntent, LeavesNoBadIntent, PutsNoBadIntent}

@@ -8,14 +8,14 @@ use Rattle.base_core.specs.declared.cause.Cause.{Cause}
 use Rattle.command_core.specs.Command.{CommandLine}
 use Rattle.command_core.specs.declared.command.Applet.{Applet}
 use Rattle.command_core.specs.declared.command.Applet.TheVariants.{Demo}
-use Rattle.journal_core.specs.Staged.{unstaged_files}
-use Rattle.outcome.specs.Commands.{IsOutcomeOf, IsOutcomeOn, IsOutcomeUnlessBadIntent}
-use Rattle.outcome.specs.Effect.{does_recover, effect_by, effect_of}
-use Rattle.outcome.specs.Outcome.{Outcome}
-use Rattle.outcome.specs.Words.{IsOutcome, IsOutcomeFor}
-use Rattle.outcome.specs.Work.{recovery_fault, work_files}
-use Rattle.outcome.proofs.Recovering.{work_is}
-use Rattle.words_core.specs.Grammar.{command_of}
+use Rattle.apk_front.specs.journal_core.Staged.{unstaged_files}
+use Rattle.apk_front.specs.outcome.Commands.{IsOutcomeOf, IsOutcomeOn, IsOutcomeUnlessBadIntent}
+use Rattle.apk_front.specs.outcome.Effect.{does_recover, effect_by, effect_of}
+use Rattle.apk_front.specs.outcome.Outcome.{Outcome}
+use Rattle.apk_front.specs.outcome.Words.{IsOutcome, IsOutcomeFor}
+use Rattle.apk_front.specs.outcome.Work.{recovery_fault, work_files}
+use Rattle.apk_front.proofs.outcome.Recovering.{work_is}
+use Rattle.apk_front.specs.words_core.Grammar.{command_of}
 use Rattle.run_lists.specs.Events.{IsOutcomeFrom, IsRunFrom, Run}
 use Rattle.run_lists.proofs.AtMoments.{now_map}
 use Rattle.run_lists.proofs.OneRun.{told}

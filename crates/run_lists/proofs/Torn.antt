@@ -4,8 +4,8 @@ use Rattle.base_core.specs.Crash.{CrashMayLeave}
 use Rattle.base_core.specs.Files.{Files, NameMap}
 use Rattle.base_core.specs.Tree.{File, TreeState, bytes_at, files_by}
 use Rattle.base_core.specs.Undone.{IsDurable, IsLeftOf, IsCrashImage, IsCrashMap}
-use Rattle.journal_core.specs.Quiet.{EachCrashLeavesOld}
-use Rattle.journal_core.specs.Recovery.{Intent, IsStagedNameOf, StateDependsOn, intent_at, intent_name, intent_of}
+use Rattle.apk_front.specs.journal_core.Quiet.{EachCrashLeavesOld}
+use Rattle.apk_front.specs.journal_core.Recovery.{Intent, IsStagedNameOf, StateDependsOn, intent_at, intent_name, intent_of}
 use Rattle.run_lists.specs.Events.{IsTornFrom}
 use Rattle.run_lists.specs.Recovered.{LeavesNoBadIntent}
 use Rattle.run_lists.proofs.Facts.{Ignored}

@@ -9,10 +9,10 @@ use Rattle.base_core.specs.Undone.{IsDurable}
 use Rattle.base_core.specs.Files.{Files, NameMap}
 use Rattle.base_core.specs.Tree.{File, TreeState, bytes_at, files_by}
 use Rattle.base_core.proofs.Left.{may_leave_as_read}
-use Rattle.journal_intent.proofs.StageNames.{stage_name_staged}
-use Rattle.journal_core.specs.Quiet.{EachCrashLeavesOld}
-use Rattle.journal_core.specs.Recovery.{Intent, IsStagedNameOf, StateDependsOn, intent_at, intent_name, intent_of, is_staged}
-use Rattle.journal_core.proofs.Agree.{state_agree}
+use Rattle.apk_front.proofs.journal_intent.StageNames.{stage_name_staged}
+use Rattle.apk_front.specs.journal_core.Quiet.{EachCrashLeavesOld}
+use Rattle.apk_front.specs.journal_core.Recovery.{Intent, IsStagedNameOf, StateDependsOn, intent_at, intent_name, intent_of, is_staged}
+use Rattle.apk_front.proofs.journal_core.Agree.{state_agree}
 use Rattle.run_lists.specs.Events.{IsSameExcept, IsTouchOf, names_of_others, with_touched}
 use Rattle.run_lists.proofs.Facts.{Ignored}
 

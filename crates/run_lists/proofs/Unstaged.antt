@@ -2,9 +2,9 @@
 use Rattle.std.proofs.Common.{◌≡◌, inr, ℕ, Bool, true, false, List, Option, Some, None, refl, ap, ◌∙◌}
 use Rattle.std.specs.Prelude.{if◌then◌else◌}
 use Rattle.base_core.specs.Files.{Files}
-use Rattle.journal_core.specs.Kept.{IsJournalName}
-use Rattle.journal_core.specs.Recovery.{Intent, intent_at, intent_name, intent_of, is_staged, recovered_files, recovered_files_by}
-use Rattle.journal_core.specs.Staged.{unstaged_files}
+use Rattle.apk_front.specs.journal_core.Kept.{IsJournalName}
+use Rattle.apk_front.specs.journal_core.Recovery.{Intent, intent_at, intent_name, intent_of, is_staged, recovered_files, recovered_files_by}
+use Rattle.apk_front.specs.journal_core.Staged.{unstaged_files}
 
 -- a name that does not wait is not staged
 pub not_staged : (q : List ℕ) → (IsJournalName q → ⊥) → is_staged q ≡ false

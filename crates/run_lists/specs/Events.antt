@@ -14,14 +14,14 @@ use Rattle.base_core.specs.Sink.{SinkChange}
 use Rattle.base_core.specs.Files.{NameMap}
 use Rattle.base_core.specs.Tree.{TreeState, files_of}
 use Rattle.base_core.specs.Undone.{IsAfterCrash, IsDurable, IsCrashMap}
-use Rattle.journal_core.specs.Quiet.{StateIsUnchanged}
-use Rattle.journal_core.specs.Recovery.{StateDependsOn, intent_name, is_staged}
-use Rattle.journal_core.specs.Replacing.{scratch_of}
-use Rattle.outcome.specs.Effect.{effect_by, output, reads_only}
-use Rattle.outcome.specs.Outcome.{Outcome}
-use Rattle.outcome.specs.Words.{IsOutcome}
-use Rattle.outcome.specs.Work.{recovery_fault}
-use Rattle.words_core.specs.Grammar.{command_of}
+use Rattle.apk_front.specs.journal_core.Quiet.{StateIsUnchanged}
+use Rattle.apk_front.specs.journal_core.Recovery.{StateDependsOn, intent_name, is_staged}
+use Rattle.apk_front.specs.journal_core.Replacing.{scratch_of}
+use Rattle.apk_front.specs.outcome.Effect.{effect_by, output, reads_only}
+use Rattle.apk_front.specs.outcome.Outcome.{Outcome}
+use Rattle.apk_front.specs.outcome.Words.{IsOutcome}
+use Rattle.apk_front.specs.outcome.Work.{recovery_fault}
+use Rattle.apk_front.specs.words_core.Grammar.{command_of}
 
 -- ---- a run
 

@@ -6,12 +6,12 @@ use Rattle.base_core.specs.Undone.{IsCrashImage}
 use Rattle.base_core.specs.Files.{Files}
 use Rattle.base_core.specs.Tree.{TreeState, files_of}
 use Rattle.base_core.specs.declared.cause.Cause.{Cause}
-use Rattle.journal_core.specs.Kept.{IsJournalName}
-use Rattle.journal_core.specs.Staged.{IsIntentFault, unstaged_files}
-use Rattle.journal_intent.specs.FreeNames.{IsNoneOf}
-use Rattle.outcome.specs.Effect.{does_recover, effect_by, output}
-use Rattle.outcome.specs.Outcome.{Outcome}
-use Rattle.words_core.specs.Grammar.{command_of}
+use Rattle.apk_front.specs.journal_core.Kept.{IsJournalName}
+use Rattle.apk_front.specs.journal_core.Staged.{IsIntentFault, unstaged_files}
+use Rattle.apk_front.specs.journal_intent.FreeNames.{IsNoneOf}
+use Rattle.apk_front.specs.outcome.Effect.{does_recover, effect_by, output}
+use Rattle.apk_front.specs.outcome.Outcome.{Outcome}
+use Rattle.apk_front.specs.words_core.Grammar.{command_of}
 use Rattle.run_lists.specs.Events.{Crashes, Edits, Ends, Event, IsMomentOf, IsOutcomeFrom, IsTransition, Run, Stops, Touches}
 
 -- ---- at each moment of a run

@@ -8,13 +8,13 @@ use Rattle.base_core.specs.Undone.{IsCrashImage}
 use Rattle.base_core.specs.Files.{Files}
 use Rattle.base_core.specs.Tree.{TreeState, files_of}
 use Rattle.base_core.specs.declared.cause.Cause.{Cause}
-use Rattle.journal_core.specs.Recovery.{intent_name, state_of}
-use Rattle.journal_core.specs.Staged.{IsEmptyStage, unstaged_files}
-use Rattle.outcome.specs.Effect.{effect_by}
-use Rattle.outcome.specs.Outcome.{Outcome}
-use Rattle.outcome.specs.Work.{recovery_fault}
+use Rattle.apk_front.specs.journal_core.Recovery.{intent_name, state_of}
+use Rattle.apk_front.specs.journal_core.Staged.{IsEmptyStage, unstaged_files}
+use Rattle.apk_front.specs.outcome.Effect.{effect_by}
+use Rattle.apk_front.specs.outcome.Outcome.{Outcome}
+use Rattle.apk_front.specs.outcome.Work.{recovery_fault}
 use Rattle.report_core.specs.declared.refusal.Refusal.TheVariants.{IntentBad}
-use Rattle.words_core.specs.Grammar.{command_of}
+use Rattle.apk_front.specs.words_core.Grammar.{command_of}
 use Rattle.run_lists.specs.Events.{Crashes, Edits, Ends, Event, IsOutcomeFrom, IsTransition, Run, Stops, Touches}
 use Rattle.run_lists.specs.Reading.{HasBadIntent}
 

@@ -8,11 +8,11 @@ use Rattle.base_core.specs.Calls.{HoldsNow}
 use Rattle.base_core.specs.Undone.{IsDurable, IsCrashImage}
 use Rattle.base_core.specs.Files.{Files}
 use Rattle.base_core.specs.Tree.{TreeState, files_of}
-use Rattle.journal_core.specs.Quiet.{EachCrashLeavesOld}
-use Rattle.journal_core.specs.Recovery.{EachCrashLeavesOldOrNew, EachCrashLeaves, StateDependsOn, intent_name, state_of}
-use Rattle.outcome.specs.Effect.{effect_by, output}
-use Rattle.outcome.specs.Outcome.{Outcome}
-use Rattle.words_core.specs.Grammar.{command_of}
+use Rattle.apk_front.specs.journal_core.Quiet.{EachCrashLeavesOld}
+use Rattle.apk_front.specs.journal_core.Recovery.{EachCrashLeavesOldOrNew, EachCrashLeaves, StateDependsOn, intent_name, state_of}
+use Rattle.apk_front.specs.outcome.Effect.{effect_by, output}
+use Rattle.apk_front.specs.outcome.Outcome.{Outcome}
+use Rattle.apk_front.specs.words_core.Grammar.{command_of}
 use Rattle.run_lists.specs.Events.{Event, Reaches, ReachesOneState, IsRunWithoutCommit, IsMomentOf, IsOutcomeFrom, Run, ignored_after, ignored_in}
 
 -- ---- from any states that a crash might have left before the run

@@ -6,29 +6,26 @@ ghost use Rattle.base_core.specs.Calls.{HoldsNow};
 ghost use Rattle.base_core.specs.Undone.{IsDurable, IsCrashImage};
 ghost use Rattle.base_core.specs.Files.{Files};
 ghost use Rattle.base_core.specs.Tree.{TreeState, files_of};
-ghost use Rattle.journal_core.specs.Kept.{IsJournalName};
-ghost use Rattle.journal_core.specs.Recovery.{EachCrashLeaves, StateDependsOn, intent_name, state_of};
-ghost use Rattle.journal_core.specs.Staged.{unstaged_files};
-ghost use Rattle.outcome.specs.Effect.{does_recover, effect_by, output, reads_only};
-ghost use Rattle.outcome.specs.Outcome.{Outcome};
-ghost use Rattle.outcome.specs.Words.{IsOutcome};
-ghost use Rattle.outcome.specs.Work.{recovery_fault};
+ghost use Rattle.apk_front.specs.journal_core.Kept.{IsJournalName};
+ghost use Rattle.apk_front.specs.journal_core.Recovery.{EachCrashLeaves, StateDependsOn, intent_name, state_of};
+ghost use Rattle.apk_front.specs.journal_core.Staged.{unstaged_files};
+ghost use Rattle.apk_front.specs.outcome.Effect.{does_recover, effect_by, output, reads_only};
+ghost use Rattle.apk_front.specs.outcome.Outcome.{Outcome};
+ghost use Rattle.apk_front.specs.outcome.Words.{IsOutcome};
+ghost use Rattle.apk_front.specs.outcome.Work.{recovery_fault};
 ghost use Rattle.run_lists.specs.Events.{AreAmong, Event, HasNoPendingOutput, HasNoPendingRun, Reaches, ReachesWithoutCommit, ReachesOneState, IsRunWithoutCommit, IsMomentOf, IsOutcomeFrom, IsRunFrom, IsStopOf, Run, ignored_after, ignored_in, nothing_ignored, with_all_touched, with_scratch};
 ghost use Rattle.run_lists.specs.Reading.{HasBadIntent, HasBytesOfRun, ReachesByRuns, IsAnyRun, IsDurablyDone, IsOrdinaryName, IsNoDraft, IsTrueAt, LeavesTrueAt};
 ghost use Rattle.run_lists.specs.Recovered.{ReachesWithoutBadIntent, HasStateBeforeOrOutcome, HasStateOf, IsRecoveredBy, IsNotRefusedForIntent, LeavesNoBadIntent};
 ghost use Rattle.run_lists.specs.Safety.{HasOldOrOutcome, IsAtomicAfterAnyEvents, IsSafeAfterAnyEvents};
-ghost use Rattle.words_core.specs.Grammar.{command_of};
+ghost use Rattle.apk_front.specs.words_core.Grammar.{command_of};
 
-use apk_front::a_crash_leaves_the_old_files_or_those_of_the_outcome;
-use change_outcome::a_change_keeps_paths_free;
-use journal_core::{
-    a_crash_leaves_a_durable_settled_tree, a_state_shows_a_bad_intent, more_names_may_be_ignored,
-};
-use journal_intent::an_intent_is_read_from_a_sound_container;
-use outcome::{
-    a_command_that_commits_nothing_leaves_the_files, a_command_that_makes_commits_unless_refused,
-    a_command_that_reads_leaves_the_files, a_reporting_command_leaves_the_files,
-    an_outcome_is_unique, only_a_bad_intent_is_refused_as_one,
+use apk_front::{
+    a_change_keeps_paths_free, a_command_that_commits_nothing_leaves_the_files,
+    a_command_that_makes_commits_unless_refused, a_command_that_reads_leaves_the_files,
+    a_crash_leaves_a_durable_settled_tree, a_crash_leaves_the_old_files_or_those_of_the_outcome,
+    a_reporting_command_leaves_the_files, a_state_shows_a_bad_intent,
+    an_intent_is_read_from_a_sound_container, an_outcome_is_unique, more_names_may_be_ignored,
+    only_a_bad_intent_is_refused_as_one,
 };
 
 /// Safety, after whatever list of runs, stops, crashes and changes by others that a root has seen

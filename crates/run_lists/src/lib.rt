@@ -10,6 +10,7 @@
 mod laws;
 mod root;
 
+pub use apk_front::{Answer, apk, more_names_may_be_ignored};
 pub use laws::{
     a_bad_intent_and_all_files_are_kept, a_root_that_commits_nothing_keeps_its_state,
     a_run_is_safe_after_any_events, a_stopped_run_is_recovered,

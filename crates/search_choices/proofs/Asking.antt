@@ -11,12 +11,12 @@ use Rattle.std.specs.declared.cmp.Ordering.TheVariants.{Less, Equal, Greater}
 use Rattle.std.specs.Cmp.Lexicographic.{bytes_decides, nat_list_cmp_total}
 use Rattle.std.proofs.lemmas.Bool.{cases_lt, and_parts, or_cases, cases_Bool}
 use Rattle.std.proofs.lemmas.Map.Text.{is_eq-slice_cmp}
-use Rattle.pool_core.proofs.Filtered.{meeting_offers}
+use Rattle.search_tables.proofs.pool_core.Filtered.{meeting_offers}
 use Rattle.dep_core.specs.Dependency.{Dependency}
-use Rattle.candidate_core.specs.Candidates.{Candidate, Need, entry, has_usable_install_if, named, offers_name, meets_dependency}
-use Rattle.candidate_core.specs.Rank.{SealedPool, bytes_cmp, candidate_at, meets_at}
-use Rattle.candidate_core.specs.Options.{IsIn, options_for}
-use Rattle.candidate_core.proofs.Places.{place_of}
+use Rattle.search_tables.specs.candidate_core.Candidates.{Candidate, Need, entry, has_usable_install_if, named, offers_name, meets_dependency}
+use Rattle.search_tables.specs.candidate_core.Rank.{SealedPool, bytes_cmp, candidate_at, meets_at}
+use Rattle.search_tables.specs.candidate_core.Options.{IsIn, options_for}
+use Rattle.search_tables.proofs.candidate_core.Places.{place_of}
 use Rattle.search_tables.specs.Selection.{AreMembers, is_met, is_unmet, names_by_install_if, install_if_applies, least_name, lesser_name, needs, next_need, raised_needs}
 use Rattle.search_tables.specs.Reasons.{FrameValue, IsFrameOf}
 use Rattle.search_tables.specs.InstallIf.{AreInstallIfs, AreUnasked, IsLeastAsking, IsNoneAsking, all_met, asks_at, asks_for_name, has_lesser_name, install_if_at, is_usable_at, name_at, rank_asks}

@@ -5,12 +5,12 @@ use Rattle.std.specs.Bool.{MatchBool}
 use Rattle.dep_core.specs.Dependency.{Dependency}
 use Rattle.std.specs.Option.{option_map_or}
 use Rattle.std.specs.List.{filter, find, flat_map}
-use Rattle.candidate_core.specs.Candidates.{Candidate, Need, entry, named}
-use Rattle.candidate_core.specs.Rank.{SealedPool, is_at}
-use Rattle.candidate_core.specs.Candidates.{is_eligible}
+use Rattle.search_tables.specs.candidate_core.Candidates.{Candidate, Need, entry, named}
+use Rattle.search_tables.specs.candidate_core.Rank.{SealedPool, is_at}
+use Rattle.search_tables.specs.candidate_core.Candidates.{is_eligible}
 use Rattle.search_tables.specs.Reasons.{IsFrameTaking, options_in}
 use Rattle.std.proofs.lemmas.Bool.{cases_Bool}
-use Rattle.candidate_core.specs.Options.{IsIn, options_for}
+use Rattle.search_tables.specs.candidate_core.Options.{IsIn, options_for}
 use Rattle.search_tables.specs.Selection.{AreMembers, names_by_install_if, depends_at, is_met, is_unmet, needs, positive_needs, next_need, raised_needs}
 use Rattle.search_tables.specs.Reasons.{FrameValue, IsFrameOf}
 use Rattle.search_tables.specs.InstallIf.{AreInstallIfs, AreUnasked}

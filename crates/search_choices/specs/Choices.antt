@@ -2,8 +2,8 @@
 -- of a document: serves the contracts of `src/choices.rt` and `src/search.rt` of `solve_core`. The
 -- search is described in `docs/selection.md`, "How the search works".
 use Rattle.std.specs.Prelude.{◌≡◌, ◌<◌, length, ℕ, List, [], ◌∷◌, ◌++◌}
-use Rattle.candidate_core.specs.Rank.{SealedPool}
-use Rattle.candidate_core.specs.Options.{IsIn}
+use Rattle.search_tables.specs.candidate_core.Rank.{SealedPool}
+use Rattle.search_tables.specs.candidate_core.Options.{IsIn}
 use Rattle.search_tables.specs.Conflicts.{AreConflictsOf}
 use Rattle.search_tables.specs.Excluders.{AreListed}
 use Rattle.search_tables.specs.InstallIf.{AreInstallIfs, AreUnasked}

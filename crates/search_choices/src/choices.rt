@@ -5,10 +5,10 @@ ghost use Rattle.std.specs.Prelude.{◌≡◌, ◌≤◌, ℕ, List, [], ◌∷�
 ghost use Rattle.std.specs.List.{find};
 ghost use Rattle.dep_core.specs.Dependency.{Dependency};
 ghost use Rattle.dep_core.specs.Meets.{dependency};
-ghost use Rattle.candidate_core.specs.Candidates.{Candidate, entry};
-ghost use Rattle.candidate_core.specs.Candidates.{offers_name};
-ghost use Rattle.candidate_core.specs.Options.{IsIn, options_for};
-ghost use Rattle.candidate_core.specs.PackageMatches.{AreMatchesAmong};
+ghost use Rattle.search_tables.specs.candidate_core.Candidates.{Candidate, entry};
+ghost use Rattle.search_tables.specs.candidate_core.Candidates.{offers_name};
+ghost use Rattle.search_tables.specs.candidate_core.Options.{IsIn, options_for};
+ghost use Rattle.search_tables.specs.candidate_core.PackageMatches.{AreMatchesAmong};
 ghost use Rattle.search_tables.specs.InstallIf.{AreUnasked, IsLeastAsking, IsNoneAsking, rank_asks};
 ghost use Rattle.search_tables.specs.NameTable.{items_of};
 ghost use Rattle.search_tables.specs.Queue.{AreMet, is_unmet_dep, queue_of};
@@ -22,9 +22,9 @@ mod excluders;
 
 use crate::trace::Trace;
 use dep_core::World;
-use pool_core::{CandId, Deps, Details, NeedRef, PackageDep, PackageMatches, Sealed};
 use search_tables::{
-    CandidateSet, Checkpoint, Conflicts, Frame, InstallIfs, RaisedDep, asks_for_name, is_held_met,
+    CandId, CandidateSet, Checkpoint, Conflicts, Deps, Details, Frame, InstallIfs, NeedRef,
+    PackageDep, PackageMatches, RaisedDep, Sealed, asks_for_name, is_held_met,
     is_met_by_latest_or_other, queue_all, queue_world, raisers,
 };
 use std::alloc::{AllocError, Global};

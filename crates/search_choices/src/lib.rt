@@ -10,4 +10,8 @@ mod choices;
 mod trace;
 
 pub use choices::Choices;
+pub use search_tables::{
+    CandId, Candidate, CandidateSet, Details, Frame, PackageMatches, RuledOutOption, Sealed,
+    SortedWords, options_are_the_best_first, rank_is_total,
+};
 pub use trace::Trace;

@@ -1,7 +1,7 @@
 //! The choices of a search, as they are returned.
 ghost use Rattle.std.specs.Prelude.{◌≡◌, ◌<◌, IfOk, Some, length, slice_get};
 
-use pool_core::CandId;
+use search_tables::CandId;
 use std::alloc::{AllocError, Global};
 use std::marker::Model;
 

@@ -9,12 +9,12 @@ use Rattle.std.proofs.lemmas.Bool.{cases_lt}
 use Rattle.std.proofs.lemmas.Bool.Decides.{eqb_tells}
 use Rattle.std.proofs.lemmas.List.Sorted.{list_any-IsPermutation, ranks_by, sorted_far}
 use Rattle.dep_core.specs.Dependency.{Dependency}
-use Rattle.candidate_core.specs.Candidates.{has_usable_install_if}
-use Rattle.candidate_core.specs.Rank.{SealedPool}
-use Rattle.candidate_core.specs.Options.{AreMembers, IsIn, places_from}
+use Rattle.pool_core.specs.candidate_core.Candidates.{has_usable_install_if}
+use Rattle.pool_core.specs.candidate_core.Rank.{SealedPool}
+use Rattle.pool_core.specs.candidate_core.Options.{AreMembers, IsIn, places_from}
 use Rattle.search_tables.specs.InstallIf.{has_lesser_name, install_if_at, is_usable_at, name_at}
 use Rattle.search_tables.specs.NameTable.{items_of}
-use Rattle.candidate_core.proofs.OptionLists.{in_places, places_in}
+use Rattle.pool_core.proofs.candidate_core.OptionLists.{in_places, places_in}
 use Rattle.search_tables.proofs.Satisfying.{any_one, one_any}
 
 self_eq : (x : ℕ) → (x == x) ≡ true

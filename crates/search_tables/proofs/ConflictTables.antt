@@ -6,10 +6,10 @@ use Rattle.std.proofs.lemmas.List.{length-map, map-append, take_all}
 use Rattle.std.specs.Str.{bytes_eq}
 use Rattle.std.proofs.lemmas.Bool.{cases_Bool}
 use Rattle.dep_core.specs.Dependency.{Dependency}
-use Rattle.candidate_core.specs.Candidates.{Candidate}
-use Rattle.candidate_core.specs.Options.{IsIn}
-use Rattle.candidate_core.specs.Rank.{SealedPool}
-use Rattle.candidate_core.proofs.Steps.{take_one_more}
+use Rattle.pool_core.specs.candidate_core.Candidates.{Candidate}
+use Rattle.pool_core.specs.candidate_core.Options.{IsIn}
+use Rattle.pool_core.specs.candidate_core.Rank.{SealedPool}
+use Rattle.pool_core.proofs.candidate_core.Steps.{take_one_more}
 use Rattle.search_tables.specs.Conflicts.{AreConflictsOf, IsConflictOf, ListedValue, conflicts_among, conflicts_in, conflicts_named, without_index}
 use Rattle.search_tables.specs.Excluders.{AreListed}
 use Rattle.search_tables.specs.NameTable.{items_of, without_last}

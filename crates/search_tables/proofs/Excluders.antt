@@ -10,9 +10,9 @@ use Rattle.std.proofs.lemmas.Bool.Decides.{eqb_tells}
 use Rattle.std.proofs.lemmas.Bool.{and_parts, or_cases, cases_Bool, both_ways}
 use Rattle.pool_core.proofs.Filtered.{meeting_offers}
 use Rattle.dep_core.specs.Dependency.{Dependency}
-use Rattle.candidate_core.specs.Candidates.{Candidate, entry, meets_dependency, occupies_name, offers_name}
-use Rattle.candidate_core.specs.Rank.{SealedPool, candidate_at, is_at, meets_at}
-use Rattle.candidate_core.specs.Options.{IsIn}
+use Rattle.pool_core.specs.candidate_core.Candidates.{Candidate, entry, meets_dependency, occupies_name, offers_name}
+use Rattle.pool_core.specs.candidate_core.Rank.{SealedPool, candidate_at, is_at, meets_at}
+use Rattle.pool_core.specs.candidate_core.Options.{IsIn}
 use Rattle.search_tables.specs.Selection.{exclude_each_other, depends_at, conflicts_with, is_met, occupied_names_at, occupied_names, does_exclude, share_a_name}
 use Rattle.search_tables.specs.Conflicts.{conflicts_in, conflicts_named}
 use Rattle.search_tables.specs.Excluders.{AreListed, IsExcluder, IsFreeAt}

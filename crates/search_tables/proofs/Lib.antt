@@ -1,3 +1,6 @@
+-- passed on: a crate above that names this one need not name these
+pub use Rattle.pool_core.proofs as pool_core
+pub use Rattle.pool_core.proofs.candidate_core as candidate_core
 pub mod Theory
 pub mod Turns
 pub mod PoolFacts

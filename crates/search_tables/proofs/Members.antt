@@ -1,6 +1,6 @@
 -- Lists with the same members.
 use Rattle.std.proofs.Common.{◌≡◌, inl, inr, ℕ, List, [], ◌∷◌, ◌++◌, sym, subst, ap, ◌∙◌, append_assoc, append-nil}
-use Rattle.candidate_core.specs.Options.{IsIn}
+use Rattle.pool_core.specs.candidate_core.Options.{IsIn}
 use Rattle.search_tables.specs.Reasons.{HasSameMembers, others_in}
 use Rattle.search_tables.proofs.Theory.{in_left, in_right, in_append}
 

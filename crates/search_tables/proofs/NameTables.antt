@@ -9,8 +9,8 @@ use Rattle.std.specs.Option.{option_map_or}
 use Rattle.std.specs.Str.{bytes_eq}
 use Rattle.indexmap.specs.IndexMap.{insert_entry}
 use Rattle.std.proofs.lemmas.Bool.{cases_Bool}
-use Rattle.candidate_core.specs.Options.{AreMembers, IsIn}
-use Rattle.candidate_core.proofs.TableLookup.{same_name, other_name}
+use Rattle.pool_core.specs.candidate_core.Options.{AreMembers, IsIn}
+use Rattle.pool_core.proofs.candidate_core.TableLookup.{same_name, other_name}
 use Rattle.search_tables.specs.NameTable.{items_of, names_and_items, without_last}
 use Rattle.search_tables.proofs.Theory.{in_left, in_right}
 

@@ -1,18 +1,18 @@
 -- What meets a need offers its name.
 use Rattle.std.proofs.Common.{◌≡◌, ◌≤◌, inl, inr, ℕ, ◌+◌, true, false, List, [], ◌∷◌, ◌++◌, length, take, sym, subst, arith}
 use Rattle.std.proofs.lemmas.List.{take_all}
-use Rattle.candidate_core.proofs.Steps.{take_one_more}
+use Rattle.pool_core.proofs.candidate_core.Steps.{take_one_more}
 use Rattle.std.specs.Prelude.{Some, slice_get, not, ◌&&◌, is_some}
 use Rattle.std.specs.List.{list_any}
 use Rattle.std.specs.Str.{bytes_eq}
 use Rattle.std.proofs.lemmas.Bool.{and_parts, or_cases, cases_Bool, both_ways}
 use Rattle.pool_core.proofs.Filtered.{meeting_offers, at_weaker}
 use Rattle.dep_core.specs.Dependency.{Dependency}
-use Rattle.candidate_core.specs.Candidates.{Candidate, Need, entry, entry_occupies, named, need_name, meets_dependency, occupies_name, offers_name}
-use Rattle.candidate_core.specs.Rank.{SealedPool, is_at, meets_at}
-use Rattle.candidate_core.specs.Options.{IsIn, places_offering}
+use Rattle.pool_core.specs.candidate_core.Candidates.{Candidate, Need, entry, entry_occupies, named, need_name, meets_dependency, occupies_name, offers_name}
+use Rattle.pool_core.specs.candidate_core.Rank.{SealedPool, is_at, meets_at}
+use Rattle.pool_core.specs.candidate_core.Options.{IsIn, places_offering}
 use Rattle.search_tables.specs.Selection.{is_met}
-use Rattle.candidate_core.proofs.OptionLists.{in_places}
+use Rattle.pool_core.proofs.candidate_core.OptionLists.{in_places}
 use Rattle.search_tables.proofs.PoolFacts.{any_in}
 use Rattle.search_tables.proofs.Satisfying.{true_or, any_one, one_any}
 use Rattle.search_tables.proofs.Theory.{in_append}

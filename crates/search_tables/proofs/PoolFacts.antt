@@ -7,9 +7,9 @@ use Rattle.std.specs.Cmp.{nat_eq_equiv}
 use Rattle.std.specs.List.{filter, find, flat_map, list_all, list_any}
 use Rattle.std.proofs.lemmas.Bool.{cases_Bool}
 use Rattle.dep_core.specs.Dependency.{Dependency}
-use Rattle.candidate_core.specs.Candidates.{Candidate, Need, entry, has_usable_install_if, named}
-use Rattle.candidate_core.specs.Rank.{SealedPool, bytes_cmp, is_eligible_at, is_better, meets_at}
-use Rattle.candidate_core.specs.Options.{IsIn, IsBestFirst, options_for}
+use Rattle.pool_core.specs.candidate_core.Candidates.{Candidate, Need, entry, has_usable_install_if, named}
+use Rattle.pool_core.specs.candidate_core.Rank.{SealedPool, bytes_cmp, is_eligible_at, is_better, meets_at}
+use Rattle.pool_core.specs.candidate_core.Options.{IsIn, IsBestFirst, options_for}
 use Rattle.search_tables.specs.Selection.{AreMembers, AreDistinct, exclude_each_other, names_by_install_if, install_if_applies, depends_at, is_met, is_unmet, does_exclude, least_name, lesser_name, needs, positive_needs, next_need, raised_needs}
 use Rattle.search_tables.specs.Reasons.{AreCompatible}
 use Rattle.search_tables.specs.Reasons.{HasOptions}

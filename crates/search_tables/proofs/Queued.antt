@@ -4,8 +4,8 @@ use Rattle.std.specs.Prelude.{Option, Some, None, not, ◌||◌, if◌then◌els
 use Rattle.std.specs.List.{filter, find, flat_map, list_any}
 use Rattle.std.proofs.lemmas.Bool.{not-false, cases_Bool}
 use Rattle.dep_core.specs.Dependency.{Dependency}
-use Rattle.candidate_core.specs.Candidates.{entry}
-use Rattle.candidate_core.specs.Rank.{SealedPool, meets_at}
+use Rattle.pool_core.specs.candidate_core.Candidates.{entry}
+use Rattle.pool_core.specs.candidate_core.Rank.{SealedPool, meets_at}
 use Rattle.search_tables.specs.Selection.{is_met}
 use Rattle.search_tables.specs.Queue.{AreMet, RaisedDepValue, is_unmet_dep, queue_of, raised_deps_at, raised_deps, raised_from}
 

@@ -2,11 +2,11 @@
 use Rattle.std.proofs.Common.{◌≡◌, inl, inr, ℕ, zero, suc, ◌+◌, true, false, List, [], ◌∷◌, ◌++◌, take, refl, sym, subst, ap, ◌∙◌}
 use Rattle.std.specs.Prelude.{Option, Some, None, is_some, slice_get, MatchOption}
 use Rattle.std.proofs.lemmas.Bool.{and_parts, cases_Bool}
-use Rattle.candidate_core.proofs.Steps.{take_one_more}
+use Rattle.pool_core.proofs.candidate_core.Steps.{take_one_more}
 use Rattle.dep_core.specs.Dependency.{Dependency}
-use Rattle.candidate_core.specs.Candidates.{Need, entry}
-use Rattle.candidate_core.specs.Rank.{SealedPool, meets_at}
-use Rattle.candidate_core.specs.Options.{IsIn}
+use Rattle.pool_core.specs.candidate_core.Candidates.{Need, entry}
+use Rattle.pool_core.specs.candidate_core.Rank.{SealedPool, meets_at}
+use Rattle.pool_core.specs.candidate_core.Options.{IsIn}
 use Rattle.search_tables.specs.Selection.{AreMembers, is_met}
 use Rattle.search_tables.specs.InstallIf.{all_met}
 use Rattle.search_tables.proofs.Theory.{in_left, in_right, in_append}

@@ -8,9 +8,9 @@ use Rattle.std.proofs.lemmas.Bool.Decides.{eqb_tells}
 use Rattle.std.specs.Cmp.Lexicographic.{bytes_decides}
 use Rattle.std.proofs.lemmas.Bool.{and_parts, or_cases, cases_Bool}
 use Rattle.dep_core.specs.Dependency.{Dependency}
-use Rattle.candidate_core.specs.Candidates.{Candidate, Need, named, occupies_name}
-use Rattle.candidate_core.specs.Rank.{SealedPool, candidate_at, is_at}
-use Rattle.candidate_core.specs.Options.{IsIn}
+use Rattle.pool_core.specs.candidate_core.Candidates.{Candidate, Need, named, occupies_name}
+use Rattle.pool_core.specs.candidate_core.Rank.{SealedPool, candidate_at, is_at}
+use Rattle.pool_core.specs.candidate_core.Options.{IsIn}
 use Rattle.search_tables.specs.Selection.{IsSatisfying, exclude_each_other, names_by_install_if, depends_at, conflicts_with, occupied_names_at, occupied_names, is_unmet, does_exclude, least_name, needs, positive_needs, next_need, raised_needs, share_a_name}
 use Rattle.search_tables.specs.Reasons.{IsSolution}
 use Rattle.search_tables.proofs.Theory.{in_left, in_right, in_append}

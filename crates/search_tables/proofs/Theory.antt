@@ -3,7 +3,7 @@
 use Rattle.std.proofs.Common.{◌≡◌, ◌⊎◌, inl, inr, ℕ, ◌≤◌, List, [], ◌∷◌, ◌++◌, refl, sym, subst, ap, ◌∙◌, append_assoc, append-nil, arith, zero, suc, length}
 use Rattle.std.specs.Prelude.{Option, Some, None}
 use Rattle.std.proofs.lemmas.Bool.{cases_eq}
-use Rattle.candidate_core.specs.Options.{IsIn as In}
+use Rattle.pool_core.specs.candidate_core.Options.{IsIn as In}
 use Rattle.search_tables.specs.Selection.{AreMembers as Sub}
 
 pub in_left : {X : Type 0} (c : X) (xs ys : List X) → In c xs → In c (xs ++ ys)

@@ -1,9 +1,9 @@
 -- The turns of a search: what each step keeps, from the facts of a pool.
 use Rattle.std.proofs.Common.{◌≡◌, ℕ, true, List, [], ◌∷◌, ◌++◌, refl, sym, subst, ap, ◌∙◌, append_assoc, append-nil}
 use Rattle.std.specs.Prelude.{Some, None, slice_get, zero, suc}
-use Rattle.candidate_core.specs.Candidates.{Need}
-use Rattle.candidate_core.specs.Rank.{SealedPool, is_eligible_at, is_better, meets_at}
-use Rattle.candidate_core.specs.Options.{IsIn, options_for}
+use Rattle.pool_core.specs.candidate_core.Candidates.{Need}
+use Rattle.pool_core.specs.candidate_core.Rank.{SealedPool, is_eligible_at, is_better, meets_at}
+use Rattle.pool_core.specs.candidate_core.Options.{IsIn, options_for}
 use Rattle.search_tables.specs.Selection.{AreMembers, exclude_each_other, needs, next_need}
 use Rattle.search_tables.specs.Reasons.{AreCompatible, RulesOut, FrameValue, options_in, AreRuledOut, IsFrameOf, IsFrameTaking, AreTurnsFrom, choices_in}
 use Rattle.search_tables.proofs.Theory as law

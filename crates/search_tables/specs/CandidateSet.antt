@@ -2,7 +2,7 @@
 -- No rule of a document: serves the contract of `src/candidate_set.rt`.
 use Rattle.std.specs.Prelude.{ℕ, Bool, false, List, slice_index_or}
 use Rattle.std.specs.Bool.{MatchBool}
-use Rattle.candidate_core.specs.Options.{IsIn}
+use Rattle.pool_core.specs.candidate_core.Options.{IsIn}
 use Rattle.search_tables.specs.Selection.{AreDistinct}
 
 -- each mark says whether its place is in the list, and the list has each candidate once

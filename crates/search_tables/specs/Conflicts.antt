@@ -4,9 +4,9 @@ use Rattle.std.specs.Prelude.{◌≡◌, ℕ, ◌&&◌, List, map, Some, slice_g
 use Rattle.std.specs.List.{filter, flat_map}
 use Rattle.std.specs.Str.{bytes_eq}
 use Rattle.dep_core.specs.Dependency.{Dependency}
-use Rattle.candidate_core.specs.Candidates.{Candidate}
-use Rattle.candidate_core.specs.Options.{IsIn}
-use Rattle.candidate_core.specs.Rank.{SealedPool}
+use Rattle.pool_core.specs.candidate_core.Candidates.{Candidate}
+use Rattle.pool_core.specs.candidate_core.Options.{IsIn}
+use Rattle.pool_core.specs.candidate_core.Rank.{SealedPool}
 use Rattle.search_tables.specs.NameTable.{items_of}
 use Rattle.search_tables.specs.Selection.{depends_at}
 

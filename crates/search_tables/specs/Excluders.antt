@@ -3,9 +3,9 @@
 -- `src/choices/excluders.rt` of `search_choices`.
 use Rattle.std.specs.Prelude.{◌≡◌, ℕ, Bool, true, false, List}
 use Rattle.dep_core.specs.Dependency.{Dependency}
-use Rattle.candidate_core.specs.Candidates.{Candidate, meets_dependency, occupies_name}
-use Rattle.candidate_core.specs.Options.{IsIn}
-use Rattle.candidate_core.specs.Rank.{SealedPool, is_at}
+use Rattle.pool_core.specs.candidate_core.Candidates.{Candidate, meets_dependency, occupies_name}
+use Rattle.pool_core.specs.candidate_core.Options.{IsIn}
+use Rattle.pool_core.specs.candidate_core.Rank.{SealedPool, is_at}
 use Rattle.search_tables.specs.Conflicts.{conflicts_among, conflicts_in}
 use Rattle.search_tables.specs.Selection.{depends_at, exclude_each_other}
 use Rattle.search_tables.specs.declared.conflicts.Conflicts.{Conflicts}

@@ -6,9 +6,9 @@ use Rattle.std.specs.Option.{option_map_or}
 use Rattle.std.specs.List.{list_all}
 use Rattle.std.specs.Ordering.{is_lt}
 use Rattle.dep_core.specs.Dependency.{Dependency}
-use Rattle.candidate_core.specs.Candidates.{Candidate, entry, has_usable_install_if, named}
-use Rattle.candidate_core.specs.Options.{IsIn}
-use Rattle.candidate_core.specs.Rank.{SealedPool, bytes_cmp, candidate_at, is_at}
+use Rattle.pool_core.specs.candidate_core.Candidates.{Candidate, entry, has_usable_install_if, named}
+use Rattle.pool_core.specs.candidate_core.Options.{IsIn}
+use Rattle.pool_core.specs.candidate_core.Rank.{SealedPool, bytes_cmp, candidate_at, is_at}
 use Rattle.search_tables.specs.NameTable.{items_of}
 use Rattle.search_tables.specs.Selection.{is_met, is_unmet}
 

@@ -4,8 +4,8 @@
 use Rattle.std.specs.Prelude.{◌≡◌, ◌≤◌, ℕ, suc, Bool, if◌then◌else◌, List, [], ◌∷◌, ◌++◌, length, take, Option, Some, None}
 use Rattle.std.specs.List.{find, flat_map}
 use Rattle.dep_core.specs.Dependency.{Dependency}
-use Rattle.candidate_core.specs.Candidates.{entry}
-use Rattle.candidate_core.specs.Rank.{SealedPool}
+use Rattle.pool_core.specs.candidate_core.Candidates.{entry}
+use Rattle.pool_core.specs.candidate_core.Rank.{SealedPool}
 use Rattle.search_tables.specs.Selection.{depends_at, is_unmet}
 
 -- a dependency, the choice that has it, and its index among those of the choice; a dependency of world

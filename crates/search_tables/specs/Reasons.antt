@@ -3,9 +3,9 @@
 -- the words in `docs/names.md`, "Choosing packages". Serves the contracts of `src/frame.rt`, and in
 -- `solve_core` those of `src/search.rt`.
 use Rattle.std.specs.Prelude.{◌≡◌, ℕ, true, List, [], ◌∷◌, ◌++◌, Some, None}
-use Rattle.candidate_core.specs.Candidates.{Need}
-use Rattle.candidate_core.specs.Rank.{SealedPool, is_better, is_eligible_at, meets_at}
-use Rattle.candidate_core.specs.Options.{IsBestFirst, IsIn, options_for}
+use Rattle.pool_core.specs.candidate_core.Candidates.{Need}
+use Rattle.pool_core.specs.candidate_core.Rank.{SealedPool, is_better, is_eligible_at, meets_at}
+use Rattle.pool_core.specs.candidate_core.Options.{IsBestFirst, IsIn, options_for}
 use Rattle.search_tables.specs.Selection.{AreMembers, AreDistinct, exclude_each_other, needs, next_need}
 
 -- candidates that are compatible: each may be selected, none occurs twice, and no two exclude each

@@ -5,10 +5,10 @@ use Rattle.std.specs.Option.{option_map, option_map_or, option_or}
 use Rattle.std.specs.List.{filter, find, flat_map, list_all, list_any}
 use Rattle.std.specs.Ordering.{is_lt}
 use Rattle.dep_core.specs.Dependency.{Dependency}
-use Rattle.candidate_core.specs.Candidates.{Candidate, Need, entry, named, occupies_name, has_usable_install_if, meets_dependency}
-use Rattle.candidate_core.specs.Rank.{SealedPool, bytes_cmp, candidate_at, is_at, is_eligible_at, is_better, meets_at}
-use Rattle.candidate_core.specs.Options.{IsIn}
-pub use Rattle.candidate_core.specs.Options.{AreMembers, AreDistinct}
+use Rattle.pool_core.specs.candidate_core.Candidates.{Candidate, Need, entry, named, occupies_name, has_usable_install_if, meets_dependency}
+use Rattle.pool_core.specs.candidate_core.Rank.{SealedPool, bytes_cmp, candidate_at, is_at, is_eligible_at, is_better, meets_at}
+use Rattle.pool_core.specs.candidate_core.Options.{IsIn}
+pub use Rattle.pool_core.specs.candidate_core.Options.{AreMembers, AreDistinct}
 
 -- ---- needs
 

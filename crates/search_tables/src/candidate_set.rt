@@ -2,7 +2,7 @@
 //! the choices and the reason of a dead end are such lists (`docs/selection.md`, "How the search
 //! works"), and the search tests them often.
 ghost use Rattle.std.specs.Prelude.{◌≡◌, ◌<◌, ◌^◌, ℕ, List, [], ◌∷◌, ◌++◌, false, length, MatchBool, OnOk, Some, vec_len, slice_index_or};
-ghost use Rattle.candidate_core.specs.Options.{IsIn};
+ghost use Rattle.pool_core.specs.candidate_core.Options.{IsIn};
 ghost use Rattle.search_tables.specs.Reasons.{HasSameMembers};
 
 use pool_core::CandId;

@@ -5,9 +5,9 @@ ghost use Rattle.std.specs.Prelude.{◌≡◌, ◌<◌, ◌∷◌, ◌++◌, ℕ
 ghost use Rattle.std.specs.Option.{option_map};
 ghost use Rattle.dep_core.specs.Dependency.{Dependency};
 ghost use Rattle.dep_core.specs.Meets.{dependency};
-ghost use Rattle.candidate_core.specs.Candidates.{Candidate, meets_dependency};
-ghost use Rattle.candidate_core.specs.PackageMatches.{AreMatchesAmong};
-ghost use Rattle.candidate_core.specs.Packages.{candidates_of_packages};
+ghost use Rattle.pool_core.specs.candidate_core.Candidates.{Candidate, meets_dependency};
+ghost use Rattle.pool_core.specs.candidate_core.PackageMatches.{AreMatchesAmong};
+ghost use Rattle.pool_core.specs.candidate_core.Packages.{candidates_of_packages};
 ghost use Rattle.search_tables.specs.Conflicts.{AreConflictsOf, HasDepends, IsConflictOf, conflicts_in, conflicts_named};
 
 use crate::name_table::NameTable;

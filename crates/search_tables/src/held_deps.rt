@@ -5,16 +5,15 @@
 //! saves time.
 ghost use Rattle.std.specs.Prelude.{◌≡◌, ℕ, false, true, IfOk, MatchBool, MatchOption, OnOk};
 ghost use Rattle.dep_core.specs.Meets.{dependency};
-ghost use Rattle.candidate_core.specs.Candidates.{entry};
-ghost use Rattle.candidate_core.specs.Options.{IsIn};
-ghost use Rattle.candidate_core.specs.PackageMatches.{AreMatchesAmong, IsDepOf};
-ghost use Rattle.candidate_core.specs.Rank.{meets_at};
+ghost use Rattle.pool_core.specs.candidate_core.Candidates.{entry};
+ghost use Rattle.pool_core.specs.candidate_core.Options.{IsIn};
+ghost use Rattle.pool_core.specs.candidate_core.PackageMatches.{AreMatchesAmong, IsDepOf};
+ghost use Rattle.pool_core.specs.candidate_core.Rank.{meets_at};
 ghost use Rattle.search_tables.specs.Selection.{is_met};
 
 use crate::candidate_set::CandidateSet;
 use crate::needs::{choice_meeting, is_met_by_latest_or_other};
-use candidate_core::is_long;
-use pool_core::{CandId, NeedRef, PackageDep, PackageMatches, Sealed};
+use pool_core::{CandId, NeedRef, PackageDep, PackageMatches, Sealed, is_long};
 use std::alloc::AllocError;
 
 /// A choice that meets a dependency of a candidate, whether that is a conflict or not. All choices

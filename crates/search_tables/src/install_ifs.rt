@@ -3,8 +3,8 @@
 //! selection is taken" (names are needed in byte order).
 ghost use Rattle.std.specs.Prelude.{◌≡◌, ◌≤◌, ◌<◌, ℕ, List, length, get_or, true, false, IfOk, OnOk, slice_get};
 ghost use Rattle.dep_core.specs.Dependency.{Dependency};
-ghost use Rattle.candidate_core.specs.Options.{AreMembers, IsIn};
-ghost use Rattle.candidate_core.specs.Rank.{bytes_cmp};
+ghost use Rattle.pool_core.specs.candidate_core.Options.{AreMembers, IsIn};
+ghost use Rattle.pool_core.specs.candidate_core.Rank.{bytes_cmp};
 ghost use Rattle.search_tables.specs.InstallIf.{AreInstallIfs, has_lesser_name, install_if_at, is_usable_at, name_at};
 ghost use Rattle.search_tables.specs.NameTable.{items_of};
 

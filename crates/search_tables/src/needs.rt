@@ -3,10 +3,10 @@
 //! meets a dependency), and "What satisfies world", 3 (occupied names) and 4 (install-if).
 ghost use Rattle.std.specs.Prelude.{◌≡◌, ℕ, false, true, MatchBool, MatchOption, IfOk, OnOk};
 ghost use Rattle.dep_core.specs.Meets.{dependency};
-ghost use Rattle.candidate_core.specs.Candidates.{entry, meets_need, need_name, occupies_name};
-ghost use Rattle.candidate_core.specs.Options.{IsIn, places_offering};
-ghost use Rattle.candidate_core.specs.Rank.{is_at, meets_at};
-ghost use Rattle.candidate_core.specs.Values.{need_by};
+ghost use Rattle.pool_core.specs.candidate_core.Candidates.{entry, meets_need, need_name, occupies_name};
+ghost use Rattle.pool_core.specs.candidate_core.Options.{IsIn, places_offering};
+ghost use Rattle.pool_core.specs.candidate_core.Rank.{is_at, meets_at};
+ghost use Rattle.pool_core.specs.candidate_core.Values.{need_by};
 ghost use Rattle.search_tables.specs.Selection.{is_met, AreMembers};
 ghost use Rattle.search_tables.specs.InstallIf.{all_met, asks_at, asks_for_name};
 

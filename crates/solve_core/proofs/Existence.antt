@@ -3,14 +3,14 @@
 use Rattle.std.proofs.Common.{◌≡◌, ◌⊎◌, inl, inr, ℕ, zero, suc, ◌≤◌, true, false, List, [], ◌∷◌, ◌++◌, length, refl, sym, subst, ◌∙◌, arith, append_assoc}
 use Rattle.std.specs.Prelude.{Some}
 use Rattle.std.proofs.lemmas.Bool.{cases_Bool}
-use Rattle.candidate_core.specs.Candidates.{Need}
-use Rattle.candidate_core.specs.Rank.{SealedPool, is_eligible_at}
-use Rattle.candidate_core.specs.Options.{IsIn, options_for}
-use Rattle.search_tables.specs.Selection.{exclude_each_other, next_need}
-use Rattle.search_tables.specs.Reasons.{AreCompatible}
-use Rattle.search_tables.proofs.Theory as law
-use Rattle.search_tables.proofs.Theory.{in_left, in_right, in_append, none_or_some, removed}
-use Rattle.search_tables.proofs.Turns.{PoolFacts}
+use Rattle.search_choices.specs.candidate_core.Candidates.{Need}
+use Rattle.search_choices.specs.candidate_core.Rank.{SealedPool, is_eligible_at}
+use Rattle.search_choices.specs.candidate_core.Options.{IsIn, options_for}
+use Rattle.search_choices.specs.search_tables.Selection.{exclude_each_other, next_need}
+use Rattle.search_choices.specs.search_tables.Reasons.{AreCompatible}
+use Rattle.search_choices.proofs.search_tables.Theory as law
+use Rattle.search_choices.proofs.search_tables.Theory.{in_left, in_right, in_append, none_or_some, removed}
+use Rattle.search_choices.proofs.search_tables.Turns.{PoolFacts}
 
 module _ (pool : SealedPool) (facts : PoolFacts pool) where
   abbrev pub Found : Type 0

@@ -1,16 +1,16 @@
 -- A search that ends with no need left has found the first selection; one that ends with an empty reason shows that there is none.
 use Rattle.std.proofs.Common.{◌≡◌, ℕ, List, [], subst, sym}
 use Rattle.std.specs.Prelude.{None}
-use Rattle.candidate_core.specs.Candidates.{Need}
-use Rattle.candidate_core.specs.Rank.{SealedPool}
-use Rattle.search_tables.specs.Selection.{IsSatisfying, IsFirstSelection, next_need}
-use Rattle.search_tables.specs.Reasons.{FrameValue, AreCompatible, IsReason, AreTurnsFrom, choices_in}
-use Rattle.search_tables.specs.Reasons.{HasOptions}
+use Rattle.search_choices.specs.candidate_core.Candidates.{Need}
+use Rattle.search_choices.specs.candidate_core.Rank.{SealedPool}
+use Rattle.search_choices.specs.search_tables.Selection.{IsSatisfying, IsFirstSelection, next_need}
+use Rattle.search_choices.specs.search_tables.Reasons.{FrameValue, AreCompatible, IsReason, AreTurnsFrom, choices_in}
+use Rattle.search_choices.specs.search_tables.Reasons.{HasOptions}
 use Rattle.search_choices.specs.Choices.{IsSearch, choices_of, pool_of}
 use Rattle.search_choices.specs.declared.choices.Choices.{Choices}
-use Rattle.search_tables.proofs.Turns.{turns_found}
-use Rattle.search_tables.proofs.PoolFacts.{pool_facts}
-use Rattle.search_tables.proofs.Satisfying.{closed_of_satisfying, satisfying_of_closed}
+use Rattle.search_choices.proofs.search_tables.Turns.{turns_found}
+use Rattle.search_choices.proofs.search_tables.PoolFacts.{pool_facts}
+use Rattle.search_choices.proofs.search_tables.Satisfying.{closed_of_satisfying, satisfying_of_closed}
 
 pub first_found : (pool : SealedPool) → ((need : Need) → HasOptions pool need) → (chosen : Choices) (turns : List (FrameValue × ℕ)) → IsSearch chosen turns → pool_of chosen ≡ pool → next_need (pool_of chosen) (choices_of chosen) ≡ None → IsFirstSelection pool (choices_of chosen)
 first_found pool has chosen turns search same end =

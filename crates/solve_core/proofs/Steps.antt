@@ -1,18 +1,18 @@
 -- What each step of a search keeps.
 use Rattle.std.proofs.Common.{◌≡◌, ◌⊎◌, inl, inr, ℕ, false, List, [], ◌∷◌, ◌++◌, refl, sym, subst, ap, ◌∙◌, append-nil}
 use Rattle.std.specs.Prelude.{not, filter, ◌==◌}
-use Rattle.candidate_core.specs.Candidates.{Need}
-use Rattle.candidate_core.specs.Rank.{SealedPool}
-use Rattle.candidate_core.specs.Options.{IsIn, options_for}
-use Rattle.search_tables.specs.Selection.{AreMembers, AreDistinct, exclude_each_other}
-use Rattle.search_tables.specs.Reasons.{AreCompatible, IsReason, RulesOut, FrameValue, options_in, AreRuledOut, IsFrameOf, IsExhaustedFrame, IsFrameTaking, AreTurnsFrom, choices_in, others_in, dead_end_reason, HasSameMembers}
-use Rattle.search_tables.specs.Reasons.{HasOptions}
+use Rattle.search_choices.specs.candidate_core.Candidates.{Need}
+use Rattle.search_choices.specs.candidate_core.Rank.{SealedPool}
+use Rattle.search_choices.specs.candidate_core.Options.{IsIn, options_for}
+use Rattle.search_choices.specs.search_tables.Selection.{AreMembers, AreDistinct, exclude_each_other}
+use Rattle.search_choices.specs.search_tables.Reasons.{AreCompatible, IsReason, RulesOut, FrameValue, options_in, AreRuledOut, IsFrameOf, IsExhaustedFrame, IsFrameTaking, AreTurnsFrom, choices_in, others_in, dead_end_reason, HasSameMembers}
+use Rattle.search_choices.specs.search_tables.Reasons.{HasOptions}
 use Rattle.search_choices.specs.Choices.{IsSearch, IsConsistent, choices_of, pool_of}
 use Rattle.search_choices.specs.declared.choices.Choices.{Choices}
-use Rattle.search_tables.proofs.Theory as law
-use Rattle.search_tables.proofs.Theory.{Facts, in_left, in_right, in_append}
-use Rattle.search_tables.proofs.Turns.{reasons_dead, turns_more, turns_less, choices-append}
-use Rattle.search_tables.proofs.PoolFacts.{pool_facts}
+use Rattle.search_choices.proofs.search_tables.Theory as law
+use Rattle.search_choices.proofs.search_tables.Theory.{Facts, in_left, in_right, in_append}
+use Rattle.search_choices.proofs.search_tables.Turns.{reasons_dead, turns_more, turns_less, choices-append}
+use Rattle.search_choices.proofs.search_tables.PoolFacts.{pool_facts}
 use Rattle.std.proofs.lemmas.Bool.Decides.{eqb_tells}
 
 module _ (pool : SealedPool) where

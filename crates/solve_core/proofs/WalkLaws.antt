@@ -5,17 +5,17 @@ use Rattle.std.specs.Cmp.{IsTotalOrder}
 use Rattle.std.specs.Ordering.{is_lt, ordering_reverse}
 use Rattle.std.specs.declared.cmp.Ordering.{Ordering}
 use Rattle.std.specs.declared.cmp.Ordering.TheVariants.{Less, Equal, Greater}
-use Rattle.candidate_core.specs.Candidates.{Need, is_eligible}
-use Rattle.candidate_core.specs.Rank.{SealedPool, is_better, meets_at, rank_cmp}
-use Rattle.candidate_core.specs.Options.{IsBestFirst, IsIn, options_for, places_from}
-use Rattle.search_tables.specs.Reasons.{HasOptions}
-use Rattle.search_tables.specs.Selection.{AreMembers, IsPreferredTo, IsPreferredFrom, IsFirstSelection, IsSatisfying, IsWalk, IsWalkFrom, next_need}
-use Rattle.search_tables.proofs.Theory as law
-use Rattle.search_tables.proofs.Turns.{PoolFacts}
-use Rattle.search_tables.proofs.PoolFacts.{pool_facts}
-use Rattle.search_tables.proofs.Satisfying.{closed_of_satisfying, satisfying_of_closed}
+use Rattle.search_choices.specs.candidate_core.Candidates.{Need, is_eligible}
+use Rattle.search_choices.specs.candidate_core.Rank.{SealedPool, is_better, meets_at, rank_cmp}
+use Rattle.search_choices.specs.candidate_core.Options.{IsBestFirst, IsIn, options_for, places_from}
+use Rattle.search_choices.specs.search_tables.Reasons.{HasOptions}
+use Rattle.search_choices.specs.search_tables.Selection.{AreMembers, IsPreferredTo, IsPreferredFrom, IsFirstSelection, IsSatisfying, IsWalk, IsWalkFrom, next_need}
+use Rattle.search_choices.proofs.search_tables.Theory as law
+use Rattle.search_choices.proofs.search_tables.Turns.{PoolFacts}
+use Rattle.search_choices.proofs.search_tables.PoolFacts.{pool_facts}
+use Rattle.search_choices.proofs.search_tables.Satisfying.{closed_of_satisfying, satisfying_of_closed}
 use Rattle.solve_core.proofs.FirstFound.{none_satisfies}
-use Rattle.candidate_core.proofs.OptionLists.{in_places}
+use Rattle.search_choices.proofs.candidate_core.OptionLists.{in_places}
 use Rattle.solve_core.proofs.Existence.{first_or_none}
 
 less_of : (o : Ordering) → is_lt o ≡ true → o ≡ Less

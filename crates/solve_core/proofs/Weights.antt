@@ -1,6 +1,6 @@
 -- The weight of a search falls at each step.
 use Rattle.std.proofs.Common.{◌≡◌, ℕ, zero, suc, ◌+◌, ◌*◌, ◌-◌, ◌<◌, ◌≤◌, ◌^◌, List, [], ◌∷◌, ◌++◌, length, refl, sym, subst, ap, ◌∙◌, arith, append_assoc, mul-le-mul, mul-le-mul_right}
-use Rattle.search_tables.specs.Reasons.{FrameValue}
+use Rattle.search_choices.specs.search_tables.Reasons.{FrameValue}
 use Rattle.solve_core.specs.Measure.{power, weight, weight_of, base, most_digits, digit, digits}
 
 power_pos : (b n : ℕ) → 1 ≤ b → 1 ≤ power b n

@@ -3,7 +3,7 @@
 -- `docs/selection.md`, "How the search works"). An option that is taken or ruled out makes its frame's
 -- digit smaller, and the digits after it have less weight.
 use Rattle.std.specs.Prelude.{ℕ, zero, suc, ◌+◌, ◌*◌, ◌^◌, List, [], ◌∷◌, ◌++◌, length}
-use Rattle.search_tables.specs.Reasons.{FrameValue}
+use Rattle.search_choices.specs.search_tables.Reasons.{FrameValue}
 
 -- the number b to the power n
 unfoldable pub power : ℕ → ℕ → ℕ

@@ -2,12 +2,12 @@
 //! are in `docs/selection.md`, "Which selection is taken": "the selection that is taken is the
 //! *first* one" and the text after it.
 ghost use Rattle.std.specs.Prelude.{◌≡◌, ◌⊎◌, ℕ, true, List, [], ◌∷◌, ◌++◌, Some};
-ghost use Rattle.candidate_core.specs.Candidates.{Need};
-ghost use Rattle.candidate_core.specs.Rank.{SealedPool, is_better, meets_at};
-ghost use Rattle.search_tables.specs.Selection.{AreMembers, IsPreferredTo, IsFirstSelection, IsSatisfying, IsWalk, next_need};
+ghost use Rattle.search_choices.specs.candidate_core.Candidates.{Need};
+ghost use Rattle.search_choices.specs.candidate_core.Rank.{SealedPool, is_better, meets_at};
+ghost use Rattle.search_choices.specs.search_tables.Selection.{AreMembers, IsPreferredTo, IsFirstSelection, IsSatisfying, IsWalk, next_need};
 
 use crate::selection::options_are_as_promised;
-use pool_core::rank_is_total;
+use search_choices::rank_is_total;
 
 /// The walk of a satisfying selection satisfies too, and is its own walk.
 pub fn walks_satisfy()

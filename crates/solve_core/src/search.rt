@@ -1,18 +1,18 @@
 //! The search: it takes options, rules options out, and backtracks at a dead end. The rule is in
 //! `docs/selection.md`, "How the search works".
 ghost use Rattle.std.specs.Prelude.{◌≡◌, ◌<◌, ◌^◌, ◌≤◌, ◌==◌, not, filter, ℕ, [], ◌∷◌, ◌++◌, false, true, length, IfOk, OnOk, IfSome, MatchOption, None, Some, slice_get};
-ghost use Rattle.candidate_core.specs.Options.{IsIn};
-ghost use Rattle.candidate_core.specs.PackageMatches.{AreMatchesAmong};
-ghost use Rattle.search_tables.specs.Selection.{AreMembers, exclude_each_other, next_need};
-ghost use Rattle.search_tables.specs.Reasons.{AreCompatible, FrameValue, IsReason, HasSameMembers, RulesOut, IsFrameOf, IsExhaustedFrame, IsFrameTaking, dead_end_reason};
+ghost use Rattle.search_choices.specs.candidate_core.Options.{IsIn};
+ghost use Rattle.search_choices.specs.candidate_core.PackageMatches.{AreMatchesAmong};
+ghost use Rattle.search_choices.specs.search_tables.Selection.{AreMembers, exclude_each_other, next_need};
+ghost use Rattle.search_choices.specs.search_tables.Reasons.{AreCompatible, FrameValue, IsReason, HasSameMembers, RulesOut, IsFrameOf, IsExhaustedFrame, IsFrameTaking, dead_end_reason};
 ghost use Rattle.solve_core.specs.Measure.{weight_of};
 ghost use Rattle.search_choices.specs.Choices.{IsSearch, choices_of, pool_of};
 
 use crate::selection::options_are_as_promised;
 use dep_core::World;
-use pool_core::{CandId, PackageMatches, Sealed};
-use search_choices::{Choices, Trace};
-use search_tables::{CandidateSet, Frame, RuledOutOption};
+use search_choices::{
+    CandId, CandidateSet, Choices, Frame, PackageMatches, RuledOutOption, Sealed, Trace,
+};
 use std::alloc::{AllocError, Global};
 use std::marker::Model;
 

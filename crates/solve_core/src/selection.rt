@@ -2,17 +2,16 @@
 //! rules are in `docs/selection.md`: "What satisfies world", "Which selection is taken", and "How
 //! the search works" for the loop.
 ghost use Rattle.std.specs.Prelude.{◌≡◌, ◌<◌, Some, IfOk, length, slice_get, [], List, ℕ, MatchOption};
-ghost use Rattle.candidate_core.specs.Candidates.{Need};
-ghost use Rattle.candidate_core.specs.PackageMatches.{AreMatchesAmong};
-ghost use Rattle.candidate_core.specs.Rank.{SealedPool};
-ghost use Rattle.search_tables.specs.Reasons.{HasOptions};
+ghost use Rattle.search_choices.specs.candidate_core.Candidates.{Need};
+ghost use Rattle.search_choices.specs.candidate_core.PackageMatches.{AreMatchesAmong};
+ghost use Rattle.search_choices.specs.candidate_core.Rank.{SealedPool};
+ghost use Rattle.search_choices.specs.search_tables.Reasons.{HasOptions};
 ghost use Rattle.search_choices.specs.Choices.{IsSearch, pool_of};
-ghost use Rattle.search_tables.specs.Selection.{IsFirstSelection, IsSatisfying};
+ghost use Rattle.search_choices.specs.search_tables.Selection.{IsFirstSelection, IsSatisfying};
 
 use crate::search::Search;
 use dep_core::World;
-use pool_core::{CandId, Sealed, options_are_the_best_first};
-use search_choices::Trace;
+use search_choices::{CandId, Sealed, Trace, options_are_the_best_first};
 use std::alloc::{AllocError, Global};
 
 /// The promise of a pool about the options of each need: they are those that may be selected and

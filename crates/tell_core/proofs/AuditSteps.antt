@@ -14,9 +14,9 @@ use Rattle.change_inputs.specs.declared.root.Refused.{Refused}
 use Rattle.command_core.specs.Command.{CommandLine}
 use Rattle.installed_info.specs.Info.{report_and_refusal}
 use Rattle.installed_info.specs.declared.telling.ReportAndRefusal.{ReportAndRefusal}
-use Rattle.make_info.specs.Reads.{Reads}
-use Rattle.package_files.proofs.ReadLemmas.{explained, explained_as}
-use Rattle.package_files.specs.Runs.{AreObserved, Explains}
+use Rattle.change_inputs.specs.make_info.Reads.{Reads}
+use Rattle.change_inputs.proofs.package_files.ReadLemmas.{explained, explained_as}
+use Rattle.change_inputs.specs.package_files.Runs.{AreObserved, Explains}
 use Rattle.report_core.specs.declared.refusal.Refusal.{Refusal}
 use Rattle.tell_core.proofs.ReportSteps.{IsPartRead, IsReported}
 use Rattle.tell_core.specs.AuditResult.{audit_of, first_audit_read}

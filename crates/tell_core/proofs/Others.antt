@@ -8,9 +8,9 @@ use Rattle.command_core.specs.declared.command.Applet.{Applet}
 use Rattle.command_core.specs.declared.command.Applet.TheVariants.{Audit, Info, List as ListApplet, Manifest, Policy, Search}
 use Rattle.installed_info.specs.Info.{report_and_refusal}
 use Rattle.installed_info.specs.declared.telling.ReportAndRefusal.{ReportAndRefusal}
-use Rattle.make_info.specs.Reads.{Reads}
-use Rattle.package_files.proofs.ReadLemmas.{explained}
-use Rattle.package_files.specs.Runs.{Explains}
+use Rattle.change_inputs.specs.make_info.Reads.{Reads}
+use Rattle.change_inputs.proofs.package_files.ReadLemmas.{explained}
+use Rattle.change_inputs.specs.package_files.Runs.{Explains}
 use Rattle.tell_core.specs.ReportForCommand.{report_for_command, report_for_applet}
 
 abbrev pub IsTold : List TreeState → CommandLine → Applet → Result ReportAndRefusal Refused → Type 0

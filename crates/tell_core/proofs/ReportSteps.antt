@@ -9,8 +9,8 @@ use Rattle.change_inputs.specs.Answers.{Agrees, AgreesUnlessDisk}
 use Rattle.change_inputs.specs.Chains.{and_then}
 use Rattle.change_inputs.specs.declared.root.Refused.{Refused}
 use Rattle.installed_info.specs.declared.telling.ReportAndRefusal.{ReportAndRefusal}
-use Rattle.make_info.specs.Reads.{Reads}
-use Rattle.package_files.specs.Runs.{Explains}
+use Rattle.change_inputs.specs.make_info.Reads.{Reads}
+use Rattle.change_inputs.specs.package_files.Runs.{Explains}
 use Rattle.report_core.specs.declared.refusal.Refusal.{Refusal}
 
 -- the part of a root that is read, as the program has it and as contracts see it

@@ -9,7 +9,7 @@ use Rattle.change_inputs.specs.Inputs.{database_for}
 use Rattle.command_core.specs.Command.{CommandLine}
 use Rattle.installed_info.specs.Info.{report_and_refusal}
 use Rattle.installed_info.specs.declared.telling.ReportAndRefusal.{ReportAndRefusal}
-use Rattle.make_info.specs.Reads.{Reads}
+use Rattle.change_inputs.specs.make_info.Reads.{Reads}
 use Rattle.report_core.specs.declared.refusal.Refusal.{Refusal}
 
 -- the number of the read of the first listed file: the reads of the two databases precede it

@@ -6,7 +6,7 @@ use Rattle.change_inputs.specs.Inputs.{database_for}
 use Rattle.command_core.specs.Command.{CommandLine}
 use Rattle.installed_info.specs.Info.{info_of}
 use Rattle.installed_info.specs.declared.telling.ReportAndRefusal.{ReportAndRefusal}
-use Rattle.make_info.specs.Reads.{Reads}
+use Rattle.change_inputs.specs.make_info.Reads.{Reads}
 use Rattle.report_core.specs.declared.refusal.Refusal.{Refusal}
 
 -- what `info` reports on the packages of the database, which alone is read, or its refusal

@@ -6,7 +6,7 @@ use Rattle.command_core.specs.declared.command.Applet.{Applet}
 use Rattle.command_core.specs.declared.command.Applet.TheVariants.{Audit, Info, List as ListApplet, Manifest, Policy, Search}
 use Rattle.installed_info.specs.Info.{report_and_refusal}
 use Rattle.installed_info.specs.declared.telling.ReportAndRefusal.{ReportAndRefusal}
-use Rattle.make_info.specs.Reads.{Reads}
+use Rattle.change_inputs.specs.make_info.Reads.{Reads}
 use Rattle.report_core.specs.declared.refusal.Refusal.{Refusal}
 use Rattle.tell_core.specs.AuditResult.{audit_result, manifest_result}
 use Rattle.tell_core.specs.InfoResult.{info_result}

@@ -3,7 +3,7 @@
 ghost use Rattle.base_core.specs.Read.{OnlyReads};
 ghost use Rattle.change_inputs.specs.Answers.{Agrees, AgreesUnlessDisk};
 ghost use Rattle.change_inputs.specs.Seen.{installed_seen};
-ghost use Rattle.package_files.specs.Runs.{Explains};
+ghost use Rattle.change_inputs.specs.package_files.Runs.{Explains};
 ghost use Rattle.tell_core.specs.AuditResult.{audit_of, audit_result, manifest_report, manifest_result};
 
 use audit_core::{audit, audits_depend_on_their_own_reads, manifest};

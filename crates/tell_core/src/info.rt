@@ -4,7 +4,7 @@ ghost use Rattle.change_inputs.specs.Answers.{Agrees, AgreesUnlessDisk};
 ghost use Rattle.change_inputs.specs.Seen.{installed_seen};
 ghost use Rattle.tell_core.specs.InfoResult.{info_result};
 ghost use Rattle.installed_info.specs.Info.{info_of};
-ghost use Rattle.package_files.specs.Runs.{Explains};
+ghost use Rattle.change_inputs.specs.package_files.Runs.{Explains};
 
 use base_core::Tree;
 use change_inputs::{Installed, Refused};

@@ -12,5 +12,5 @@ mod query;
 mod telling;
 
 pub use change_inputs::Refused;
-pub use installed_info::ReportAndRefusal;
+pub use installed_info::{ReportAndRefusal, info_refuses_only_for_an_operand};
 pub use telling::tell;

@@ -3,18 +3,16 @@
 ghost use Rattle.base_core.specs.Read.{OnlyReads};
 ghost use Rattle.change_inputs.specs.Answers.{Agrees, AgreesUnlessDisk};
 ghost use Rattle.change_inputs.specs.Seen.{inputs_seen};
-ghost use Rattle.package_files.specs.Runs.{Explains};
+ghost use Rattle.change_inputs.specs.package_files.Runs.{Explains};
 ghost use Rattle.query_core.specs.Queries.{queried};
 ghost use Rattle.std.specs.Prelude.{◌≡◌, IfOk};
 ghost use Rattle.tell_core.specs.QueryResult.{query_report, query_result};
 
 use base_core::{Text, Tree};
-use candidate_core::Upgrade;
-use change_inputs::{Loaded, Refused};
+use change_inputs::{Loaded, Refused, Sealed};
 use command_core::{Applet, Command};
 use dep_core::Repos;
-use installed_info::ReportAndRefusal;
-use pool_core::Sealed;
+use installed_info::{ReportAndRefusal, Upgrade};
 use query_core::{list, policy, search};
 use std::alloc::{AllocError, Global};
 

@@ -3,7 +3,7 @@
 ghost use Rattle.base_core.specs.Read.{OnlyReads};
 ghost use Rattle.change_inputs.specs.Answers.{AgreesUnlessDisk};
 ghost use Rattle.installed_info.specs.Info.{report_and_refusal};
-ghost use Rattle.package_files.specs.Runs.{Explains};
+ghost use Rattle.change_inputs.specs.package_files.Runs.{Explains};
 ghost use Rattle.std.specs.Prelude.{◌≡◌, [], None};
 ghost use Rattle.tell_core.specs.ReportForCommand.{report_for_command};
 

@@ -4,7 +4,7 @@ use Rattle.std.specs.Prelude.{Some, None, Result, Ok, Err, OnOk, slice_get, code
 use Rattle.std.specs.Result.{is_ok}
 use Rattle.std.specs.List.{flat_map}
 use Rattle.std.proofs.lemmas.List.{map-append, take_all}
-use Rattle.candidate_core.proofs.Steps.{take_one_more}
+use Rattle.search_tables.proofs.candidate_core.Steps.{take_one_more}
 use Rattle.words_core.specs.Usage.{shown_byte, shown_bytes}
 use Rattle.words_core.proofs.Hints.{shown_chain}
 use Rattle.dep_core.specs.Dependency.{Dependency}

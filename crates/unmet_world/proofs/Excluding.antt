@@ -5,8 +5,8 @@ use Rattle.std.specs.Option.{option_and_then, option_copied, option_map, option_
 use Rattle.std.specs.List.{filter, find, list_any}
 use Rattle.std.proofs.lemmas.Bool.{cases_Bool}
 use Rattle.dep_core.specs.Dependency.{Dependency}
-use Rattle.candidate_core.specs.Candidates.{Candidate, meets_dependency, occupies_name}
-use Rattle.candidate_core.specs.Rank.{SealedPool, candidate_at}
+use Rattle.search_tables.specs.candidate_core.Candidates.{Candidate, meets_dependency, occupies_name}
+use Rattle.search_tables.specs.candidate_core.Rank.{SealedPool, candidate_at}
 use Rattle.search_tables.specs.Selection.{conflicts_with, does_exclude, exclude_each_other, occupied_names, share_a_name}
 use Rattle.unmet_world.specs.Exclusion.{conflict_between, conflict_with, is_conflict_met_by, name_of_both, occupied_among, shared_name}
 

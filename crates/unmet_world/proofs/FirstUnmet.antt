@@ -5,9 +5,9 @@ use Rattle.std.specs.declared.alloc.Global.{Global}
 use Rattle.dep_core.specs.Repositories.{Repository}
 use Rattle.unmet_world.specs.Lines.{ExplainsWorld, explanation_text}
 use Rattle.std.proofs.lemmas.Bool.Decides.{eqb_tells}
-use Rattle.candidate_core.specs.Candidates.{entry}
-use Rattle.candidate_core.specs.Rank.{SealedPool}
-use Rattle.candidate_core.specs.Options.{IsIn, options_for}
+use Rattle.search_tables.specs.candidate_core.Candidates.{entry}
+use Rattle.search_tables.specs.candidate_core.Rank.{SealedPool}
+use Rattle.search_tables.specs.candidate_core.Options.{IsIn, options_for}
 use Rattle.dep_core.specs.Dependency.{Dependency}
 use Rattle.unmet_world.specs.Refutation.{AreSteps, IsFirstUnmetOfWorld, IsMetOnlyBy, IsRefutation, IsSure, IsUnmet, if_positive, made_sure, ruled_out, wanted, world_want}
 use Rattle.unmet_world.specs.declared.refutation.Refutation.{Refutation}

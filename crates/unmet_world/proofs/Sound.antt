@@ -2,9 +2,9 @@
 use Rattle.std.proofs.Common.{◌≡◌, inl, inr, ℕ, zero, suc, Bool, true, false, List, [], ◌∷◌, refl, sym, subst, ap}
 use Rattle.std.specs.Prelude.{Option, Some, None, not, slice_get, if◌then◌else◌}
 use Rattle.dep_core.specs.Dependency.{Dependency}
-use Rattle.candidate_core.specs.Candidates.{Need, entry}
-use Rattle.candidate_core.specs.Rank.{SealedPool, is_eligible_at, meets_at}
-use Rattle.candidate_core.specs.Options.{IsIn, options_for}
+use Rattle.search_tables.specs.candidate_core.Candidates.{Need, entry}
+use Rattle.search_tables.specs.candidate_core.Rank.{SealedPool, is_eligible_at, meets_at}
+use Rattle.search_tables.specs.candidate_core.Options.{IsIn, options_for}
 use Rattle.search_tables.specs.Selection.{IsSatisfying, is_met, positive_needs}
 use Rattle.search_tables.proofs.PoolFacts.{any_in, in_filter, in_map}
 use Rattle.search_tables.proofs.Satisfying.{closed_of_satisfying}

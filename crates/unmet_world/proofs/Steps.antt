@@ -3,8 +3,8 @@ use Rattle.std.proofs.Common.{◌≡◌, inl, inr, ℕ, zero, suc, List, [], ◌
 use Rattle.std.specs.Prelude.{Bool, Some, Result, Ok, Err, IfOk, OnOk, slice_get, true}
 use Rattle.search_tables.specs.Reasons.{HasSameMembers}
 use Rattle.std.proofs.lemmas.List.{drop_all}
-use Rattle.candidate_core.specs.Rank.{SealedPool}
-use Rattle.candidate_core.specs.Options.{IsIn}
+use Rattle.search_tables.specs.candidate_core.Rank.{SealedPool}
+use Rattle.search_tables.specs.candidate_core.Options.{IsIn}
 use Rattle.search_tables.specs.Selection.{AreMembers}
 use Rattle.search_tables.proofs.Theory.{in_left, in_right, in_append}
 use Rattle.unmet_world.specs.Refutation.{AreSteps, Follows, IsMetOnlyBy, IsRefutation, IsSure, made_sure, makes_sure, ruled_out, rules_out}

@@ -4,8 +4,8 @@ use Rattle.std.specs.Prelude.{ℕ, Bool, not, ◌&&◌, if◌then◌else◌, Lis
 use Rattle.std.specs.Option.{option_and_then, option_map}
 use Rattle.std.specs.List.{find}
 use Rattle.dep_core.specs.Dependency.{Dependency}
-use Rattle.candidate_core.specs.Candidates.{Candidate, meets_dependency, occupies_name}
-use Rattle.candidate_core.specs.Rank.{SealedPool, candidate_at}
+use Rattle.search_tables.specs.candidate_core.Candidates.{Candidate, meets_dependency, occupies_name}
+use Rattle.search_tables.specs.candidate_core.Rank.{SealedPool, candidate_at}
 
 -- whether a dependency is a conflict, and a candidate meets it
 abbrev pub is_conflict_met_by : Candidate → Dependency → Bool

@@ -6,9 +6,9 @@ use Rattle.std.specs.Str.{bytes_eq}
 use Rattle.dep_core.specs.Dependency.{Dependency}
 use Rattle.dep_core.specs.DependencyText.{dep_text}
 use Rattle.dep_core.specs.Repositories.{Repository}
-use Rattle.candidate_core.specs.Candidates.{Candidate, entry, is_allowed}
-use Rattle.candidate_core.specs.Rank.{SealedPool, candidate_at}
-use Rattle.candidate_core.specs.Options.{options_for, places_offering}
+use Rattle.search_tables.specs.candidate_core.Candidates.{Candidate, entry, is_allowed}
+use Rattle.search_tables.specs.candidate_core.Rank.{SealedPool, candidate_at}
+use Rattle.search_tables.specs.candidate_core.Options.{options_for, places_offering}
 use Rattle.words_core.specs.Usage.{shown_bytes}
 use Rattle.unmet_world.specs.declared.refutation.Owner.{Owner}
 use Rattle.unmet_world.specs.declared.refutation.Owner.TheVariants.{World, Package}

@@ -3,9 +3,9 @@
 -- `a_refuted_world_has_no_selection` says that a refutation is a proof.
 use Rattle.std.specs.Prelude.{◌≡◌, ◌<◌, ℕ, true, if◌then◌else◌, List, [], ◌∷◌, ◌++◌, Option, Some, None, slice_get}
 use Rattle.dep_core.specs.Dependency.{Dependency}
-use Rattle.candidate_core.specs.Candidates.{entry}
-use Rattle.candidate_core.specs.Rank.{SealedPool}
-use Rattle.candidate_core.specs.Options.{IsIn, options_for}
+use Rattle.search_tables.specs.candidate_core.Candidates.{entry}
+use Rattle.search_tables.specs.candidate_core.Rank.{SealedPool}
+use Rattle.search_tables.specs.candidate_core.Options.{IsIn, options_for}
 use Rattle.search_tables.specs.Selection.{AreMembers, depends_at, exclude_each_other}
 use Rattle.unmet_world.specs.declared.refutation.Owner.{Owner}
 use Rattle.unmet_world.specs.declared.refutation.Owner.TheVariants.{World, Package}

@@ -6,7 +6,7 @@ ghost use Rattle.search_tables.specs.Selection.{exclude_each_other};
 ghost use Rattle.unmet_world.specs.Exclusion.{both_occupy, conflict_between, is_conflict_met_by, name_of_both, occupied_among, shared_name};
 
 use dep_core::Dep;
-use pool_core::{CandId, Deps, Details, Sealed};
+use search_tables::{CandId, Deps, Details, Sealed};
 
 /// Whether two candidates exclude each other, so that no selection has both.
 pub(crate) fn exclude_each_other(pool: &Sealed<'_>, a: CandId, b: CandId) -> bool

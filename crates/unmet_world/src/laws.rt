@@ -1,12 +1,12 @@
 //! Theorems about refutations, each proved as the contract of an empty function. The rules are in
 //! `docs/selection.md`, "What satisfies world".
 ghost use Rattle.std.specs.Prelude.{ℕ, List};
-ghost use Rattle.candidate_core.specs.Rank.{SealedPool};
+ghost use Rattle.search_tables.specs.candidate_core.Rank.{SealedPool};
 ghost use Rattle.search_tables.specs.Selection.{IsSatisfying};
 ghost use Rattle.unmet_world.specs.Refutation.{IsRefutation};
 ghost use Rattle.unmet_world.specs.declared.refutation.Refutation.{Refutation};
 
-use pool_core::options_are_the_best_first;
+use search_tables::options_are_the_best_first;
 
 /// If there is a refutation of a world, no selection satisfies the world.
 pub fn a_refuted_world_has_no_selection()

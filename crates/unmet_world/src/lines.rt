@@ -12,7 +12,7 @@ use crate::refutation::{Owner, Refutation, Step, Want, candidate, wanted};
 use crate::texts::{Sources, add_candidate_at, add_dep, add_once, add_owner, offers_line};
 use base_core::Text;
 use dep_core::Dep;
-use pool_core::{CandId, NeedRef};
+use search_tables::{CandId, NeedRef};
 use std::alloc::{AllocError, Global};
 
 /// How many lines there are at most.

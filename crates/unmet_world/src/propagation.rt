@@ -7,8 +7,7 @@
 use crate::exclusion::exclude_each_other;
 use crate::refutation::{Owner, Refutation, Step, Want, candidate, wanted};
 use dep_core::World;
-use pool_core::{CandId, Deps, NeedRef, Options, Sealed};
-use search_tables::NameTable;
+use search_tables::{CandId, Deps, NameTable, NeedRef, Options, Sealed};
 use std::alloc::{AllocError, Global};
 
 /// How many options the search lists at most, how many pairs of candidates it compares, and how

@@ -3,14 +3,13 @@
 //! satisfies world". How the steps were found does not matter here.
 ghost use Rattle.std.specs.Prelude.{◌≡◌, ◌<◌, ◌∷◌, ◌++◌, [], length, Some, true, OnOk, IfOk, option_map, option_to_list, slice_get};
 ghost use Rattle.dep_core.specs.Meets.{dependency};
-ghost use Rattle.candidate_core.specs.Options.{IsIn};
+ghost use Rattle.search_tables.specs.candidate_core.Options.{IsIn};
 ghost use Rattle.search_tables.specs.Selection.{AreMembers, depends_at};
 ghost use Rattle.unmet_world.specs.Refutation.{Follows, IsMetOnlyBy, IsRefutation, IsSure, if_positive, makes_sure, owned_by, rules_out, wanted};
 
 use crate::exclusion::exclude_each_other;
 use dep_core::{Dep, World};
-use pool_core::{CandId, Deps, NeedRef, Options, Sealed};
-use search_tables::CandidateSet;
+use search_tables::{CandId, CandidateSet, Deps, NeedRef, Options, Sealed};
 use std::alloc::{AllocError, Global};
 
 /// Who has dependencies.

@@ -5,7 +5,7 @@ ghost use Rattle.std.specs.Option.{option_map_or};
 ghost use Rattle.std.specs.List.{list_any};
 ghost use Rattle.dep_core.specs.DependencyText.{dep_text};
 ghost use Rattle.dep_core.specs.Meets.{dependency};
-ghost use Rattle.candidate_core.specs.Candidates.{uses_tag, is_allowed};
+ghost use Rattle.search_tables.specs.candidate_core.Candidates.{uses_tag, is_allowed};
 ghost use Rattle.unmet_world.specs.Exclusion.{is_conflict_met_by};
 ghost use Rattle.unmet_world.specs.Lines.{origin_text, name_and_version_text, candidate_text, text_at, dependency_owner_text, bar_text, bar_reason_text, offer_text, offer_text_at, with_text, with_texts, joined_texts, most_offers, dots_if, offered_text, offers_line};
 
@@ -13,7 +13,7 @@ use crate::exclusion::is_conflict_met_by;
 use crate::refutation::{Owner, candidate};
 use base_core::Text;
 use dep_core::{Dep, Repos, World, dep_text};
-use pool_core::{CandId, Details, Sealed};
+use search_tables::{CandId, Details, Sealed};
 use std::alloc::{AllocError, Global};
 
 /// How many candidates of a name are shown.

@@ -9,7 +9,7 @@ use crate::propagation::propagate;
 use crate::refutation::{Owner, Refutation, Want, is_refutation, wanted};
 use crate::texts::Sources;
 use dep_core::{Repos, World};
-use pool_core::{NeedRef, Sealed};
+use search_tables::{NeedRef, Sealed};
 use std::alloc::{AllocError, Global};
 
 /// A refutation of the world that the pool was sealed with, if one is found. If no candidate that

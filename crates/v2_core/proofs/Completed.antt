@@ -6,7 +6,7 @@ use Rattle.std.proofs.lemmas.List.Folds.{list_any-append}
 use Rattle.dep_core.specs.Dependency.{is_package_name}
 use Rattle.version_core.specs.Order.{is_version, tokens}
 use Rattle.version_core.specs.Token.{component_lexeme, next_lexeme, number_lexeme}
-use Rattle.make_info.specs.Fields.{FieldValue, text, text_if}
+use Rattle.v2_lines.specs.make_info.Fields.{FieldValue, text, text_if}
 use Rattle.v2_lines.specs.InfoFields.{field_of_letter, adds_to_list}
 use Rattle.v2_lines.specs.Lines.{info_line, record_line_by, record_line_of}
 use Rattle.v2_lines.specs.declared.field.InfoField.{InfoField}

@@ -1,6 +1,6 @@
 -- What is read from the end of a record on.
 use Rattle.std.proofs.Common.{◌≡◌, ℕ, true, false, cond, List, [], ◌∷◌, Result, Ok, Err, refl, sym, ◌∙◌, ap}
-use Rattle.adb_values.specs.Drafts.{DraftState, draft_with}
+use Rattle.v2_lines.specs.adb_values.Drafts.{DraftState, draft_with}
 use Rattle.v2_core.specs.Database.{record_value}
 use Rattle.v2_core.specs.Reading.{at_record_end, with_records}
 use Rattle.v2_core.specs.Records.{Record, lacks_needed_line}

@@ -4,9 +4,9 @@
 use Rattle.std.specs.Prelude.{ℕ, List, [], ◌∷◌, map, Option, Some, None, if◌then◌else◌}
 use Rattle.std.specs.List.{find, flat_map}
 use Rattle.adb_view.specs.Plain.{Plain, null, int, blob_or_null, arr_value, obj_value}
-use Rattle.make_info.specs.Fields.{FieldValue}
-use Rattle.make_info.specs.Information.{plain_value}
-use Rattle.make_info.specs.Values.{plains_of_list}
+use Rattle.v2_lines.specs.make_info.Fields.{FieldValue}
+use Rattle.v2_lines.specs.make_info.Information.{plain_value}
+use Rattle.v2_lines.specs.make_info.Values.{plains_of_list}
 use Rattle.v2_lines.specs.Accesses.{Access}
 use Rattle.v2_lines.specs.declared.field.InfoField.{InfoField}
 use Rattle.v2_lines.specs.declared.field.InfoField.TheVariants as Fields

@@ -1,3 +1,5 @@
+-- passed on: a crate above that names this one need not name these
+pub use Rattle.v2_lines.specs as v2_lines
 -- The definitions of this crate. Each file names the document with its rule.
 -- what the contract of `apk` says
 pub mod Records

@@ -3,7 +3,7 @@
 -- after it.
 use Rattle.std.specs.Prelude.{ℕ, Bool, true, false, not, ◌&&◌, ◌||◌, ◌==◌, if◌then◌else◌, List, [], ◌∷◌, ◌++◌, Option, Some, None, option_map, is_some}
 use Rattle.std.specs.List.{list_any}
-use Rattle.make_info.specs.Fields.{FieldValue}
+use Rattle.v2_lines.specs.make_info.Fields.{FieldValue}
 use Rattle.v2_lines.specs.Accesses.{Access}
 use Rattle.v2_lines.specs.InfoFields.{adds_to_list, letter_of}
 use Rattle.v2_lines.specs.Lines.{RecordLine, info_line, folder_line, folder_access_line, file_line, file_access_line, file_hash_line, other_line}

@@ -4,9 +4,9 @@
 
 ghost use Rattle.std.specs.Prelude.{◌≡◌, ◌<◌, ◌-◌, ◌∷◌, IfErr, IfOk, List, None, OnOk, Ok, Result, ℕ, Err};
 ghost use Rattle.base_core.specs.declared.cause.Cause.TheVariants.{TextLine};
-ghost use Rattle.adb_schema.specs.ReadFaults.{IsReadFault};
+ghost use Rattle.v2_lines.specs.adb_schema.ReadFaults.{IsReadFault};
 ghost use Rattle.v2_core.specs.declared.read.V2Fault.TheVariants.{Bad};
-ghost use Rattle.adb_schema.specs.Soundness.{payload_fault};
+ghost use Rattle.v2_lines.specs.adb_schema.Soundness.{payload_fault};
 ghost use Rattle.adb_view.specs.declared.tables.Which.TheVariants as Tables;
 ghost use Rattle.v2_core.specs.Payload.{IsV2Fault, payload_of_text, written_payload};
 ghost use Rattle.v2_core.specs.Reading.{at_record_end, records_from, records_of};
@@ -18,13 +18,11 @@ ghost use Rattle.v2_core.specs.Spelling.{SpellsText};
 
 use crate::record::Record;
 use crate::writing::write_package;
-use adb_schema::{Checked, ReadFault, Which, repeated, shape};
-use adb_values::Draft;
 use adb_view::Adb;
-use adb_write::WriteFault;
 use base_core::Cause;
 use std::alloc::{AllocError, Global};
 use thiserror::Error;
+use v2_lines::{Checked, Draft, ReadFault, Which, WriteFault, repeated, shape};
 
 /// Reads a text database (`lib/apk/db/installed` of apk-tools 2): returns the payload of the
 /// installed database.

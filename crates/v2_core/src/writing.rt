@@ -1,11 +1,11 @@
 //! Writes the package of a record, as an installed database has it (apk-v3(5)).
 //! The rules are in `docs/formats.md`, "Text database of version 2", the column "Goes to"; the
 //! order of fields in "Schemas", tables 2 to 5 and 7.
-ghost use Rattle.adb_values.specs.Drafts.{draft_with, draft_with_all};
+ghost use Rattle.v2_lines.specs.adb_values.Drafts.{draft_with, draft_with_all};
 ghost use Rattle.dep_core.specs.Meets.{dependency};
-ghost use Rattle.make_info.specs.Fields.{need};
-ghost use Rattle.make_info.specs.Information.{plain_value};
-ghost use Rattle.make_info.specs.Values.{plains_of_list};
+ghost use Rattle.v2_lines.specs.make_info.Fields.{need};
+ghost use Rattle.v2_lines.specs.make_info.Information.{plain_value};
+ghost use Rattle.v2_lines.specs.make_info.Values.{plains_of_list};
 ghost use Rattle.std.specs.List.{find};
 ghost use Rattle.std.specs.Option.{option_map};
 ghost use Rattle.std.specs.Prelude.{◌≡◌, OnOk, Some, map};
@@ -17,11 +17,9 @@ ghost use Rattle.v2_lines.specs.Accesses.{access_view};
 ghost use Rattle.v2_lines.specs.Views.{line_value_view};
 
 use crate::record::{File, Folder, InfoLine, Record};
-use adb_values::Draft;
 use dep_core::Dep;
-use make_info::write_need;
 use std::alloc::AllocError;
-use v2_lines::{Access, InfoField, Value};
+use v2_lines::{Access, Draft, InfoField, Value, write_need};
 
 /// The source of a field of the package's information.
 #[derive(Clone, Copy)]

@@ -1,3 +1,8 @@
+-- passed on: a crate above that names this one need not name these
+pub use Rattle.adb_schema.specs as adb_schema
+pub use Rattle.make_info.specs as make_info
+pub use Rattle.make_info.specs.adb_values as adb_values
+pub use Rattle.make_info.specs.adb_write as adb_write
 -- The definitions of this crate. Each file names the document with its rule.
 -- what the contract of `apk` says
 pub mod InfoFields

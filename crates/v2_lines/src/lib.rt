@@ -12,6 +12,8 @@ mod line;
 mod value;
 
 pub use access::Access;
+pub use adb_schema::{Checked, ReadFault, Which, repeated, shape};
 pub use field::{Grammar, InfoField};
 pub use line::{Line, read_line};
+pub use make_info::{Draft, WriteFault, write_need};
 pub use value::Value;

@@ -3,24 +3,24 @@ use Rattle.std.proofs.Common.{◌≡◌, ◌⊎◌, ◌≤◌, inl, inr, ℕ, ze
 use Rattle.std.specs.Prelude.{slice_get, nat_lt, if◌then◌else◌}
 use Rattle.std.specs.List.{list_any}
 use Rattle.std.proofs.lemmas.Bool.{ltb-false}
-use Rattle.adb_fields.specs.FirstPair.{IsIn}
-use Rattle.adb_fields.specs.Repeated.{entries_at, list_of}
-use Rattle.adb_schema.specs.Soundness.{first_fault, payload_in, root_value}
+use Rattle.engine_core.specs.adb_fields.FirstPair.{IsIn}
+use Rattle.engine_core.specs.adb_fields.Repeated.{entries_at, list_of}
+use Rattle.engine_core.specs.adb_schema.Soundness.{first_fault, payload_in, root_value}
 use Rattle.adb_view.specs.FieldIndexes.{INDEX_PACKAGES}
 use Rattle.adb_view.specs.Values.{entries_in, entry_in}
 use Rattle.adb_view.specs.declared.tables.Which.TheVariants.{Index}
 use Rattle.adb_view.specs.Plain.{Plain, Plains, none, more}
 use Rattle.base_core.specs.declared.cause.Cause.{Cause}
-use Rattle.candidate_core.specs.Candidates.{Candidate, as_installed, candidate_of, candidates_of_index, is_same_package}
-use Rattle.candidate_core.specs.Rank.{SealedPool, UpgradedNames, sealed_pool_by}
-use Rattle.candidate_core.specs.declared.candidate_list.TheConstants.{MOST_CANDIDATES}
-use Rattle.change_inputs.specs.Candidates.{candidates_from, candidates_of, installed_candidate, root_pool}
-use Rattle.change_inputs.specs.Chains.{and_then, unless_cause}
-use Rattle.change_inputs.specs.Indexes.{index_file, index_files_from, index_in_file, indexes_in_files}
-use Rattle.change_inputs.specs.Inputs.{Inputs, first_index_read, index_reads_from, indexes_of, inputs_by, inputs_of, root_for}
+use Rattle.engine_core.specs.candidate_core.Candidates.{Candidate, as_installed, candidate_of, candidates_of_index, is_same_package}
+use Rattle.engine_core.specs.candidate_core.Rank.{SealedPool, UpgradedNames, sealed_pool_by}
+use Rattle.engine_core.specs.candidate_core.declared.candidate_list.TheConstants.{MOST_CANDIDATES}
+use Rattle.engine_core.specs.change_inputs.Candidates.{candidates_from, candidates_of, installed_candidate, root_pool}
+use Rattle.engine_core.specs.change_inputs.Chains.{and_then, unless_cause}
+use Rattle.engine_core.specs.change_inputs.Indexes.{index_file, index_files_from, index_in_file, indexes_in_files}
+use Rattle.engine_core.specs.change_inputs.Inputs.{Inputs, first_index_read, index_reads_from, indexes_of, inputs_by, inputs_of, root_for}
 use Rattle.command_core.specs.Command.{CommandLine}
 use Rattle.dep_core.specs.Repositories.{Repository}
-use Rattle.make_info.specs.Reads.{Reads}
+use Rattle.engine_core.specs.make_info.Reads.{Reads}
 use Rattle.report_core.specs.declared.refusal.Refusal.TheVariants.{IndexBad, TooMany}
 use Rattle.world_laws.specs.CommandPool.{AreCandidates, IsCandidateFor, IsInstalledAlone, IsOfIndex, IsIndexed}
 use Rattle.world_laws.proofs.InstalledCounted.{IsCounted, all_back, all_there, in_any, in_append, in_left, in_right, installed_there}

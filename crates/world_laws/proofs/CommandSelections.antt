@@ -3,12 +3,12 @@ use Rattle.std.proofs.Common.{◌≡◌, ◌↔◌, inl, inr, ℕ, true, List, [
 use Rattle.std.specs.List.{list_any}
 use Rattle.std.specs.Str.{bytes_eq}
 use Rattle.std.proofs.lemmas.Slice.Eq.{bytes_eq-Decides}
-use Rattle.adb_fields.specs.FirstPair.{IsIn}
-use Rattle.candidate_core.specs.Candidates.{Candidate}
-use Rattle.candidate_core.specs.Rank.{SealedPool, is_upgraded}
-use Rattle.change_inputs.specs.Candidates.{candidates_of}
-use Rattle.change_inputs.specs.Chains.{and_then}
-use Rattle.change_inputs.specs.Inputs.{Inputs, inputs_of}
+use Rattle.engine_core.specs.adb_fields.FirstPair.{IsIn}
+use Rattle.engine_core.specs.candidate_core.Candidates.{Candidate}
+use Rattle.engine_core.specs.candidate_core.Rank.{SealedPool, is_upgraded}
+use Rattle.engine_core.specs.change_inputs.Candidates.{candidates_of}
+use Rattle.engine_core.specs.change_inputs.Chains.{and_then}
+use Rattle.engine_core.specs.change_inputs.Inputs.{Inputs, inputs_of}
 use Rattle.command_core.specs.Command.{CommandLine}
 use Rattle.command_core.specs.declared.command.Applet.{Applet}
 use Rattle.command_core.specs.declared.command.Applet.TheVariants as Applets
@@ -18,10 +18,10 @@ use Rattle.engine_core.specs.Changed.{Selected, selected_by, selected_for, selec
 use Rattle.engine_core.specs.Choice.{IsChoiceFrom}
 use Rattle.engine_core.specs.Selecting.{pool_by, pool_for, replacement_of_choice}
 use Rattle.engine_core.specs.Wishes.{names_to_reinstall, names_to_upgrade, operand_texts, unknown_operand_place, unless_unknown_operand}
-use Rattle.make_info.specs.Reads.{Reads}
-use Rattle.package_changes.specs.Placed.{candidates_at}
+use Rattle.engine_core.specs.make_info.Reads.{Reads}
+use Rattle.engine_core.specs.package_changes.Placed.{candidates_at}
 use Rattle.report_core.specs.declared.refusal.Refusal.{Refusal}
-use Rattle.search_tables.specs.Selection.{IsFirstSelection}
+use Rattle.engine_core.specs.search_tables.Selection.{IsFirstSelection}
 use Rattle.world_laws.specs.CommandPool.{IsCommandPool, IsToUpgrade}
 use Rattle.world_laws.specs.SatisfiedWorld.{IsNeeded, SatisfyWorld}
 use Rattle.world_laws.proofs.CommandPools.{candidates_are, root_pool_is}

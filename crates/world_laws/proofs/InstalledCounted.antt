@@ -2,10 +2,10 @@
 use Rattle.std.proofs.Common.{◌≡◌, ◌⊎◌, inl, inr, Bool, true, false, true≢false, List, [], ◌∷◌, ◌++◌, refl, ap, sym, subst, ◌∙◌, cond}
 use Rattle.std.specs.List.{list_any}
 use Rattle.std.proofs.lemmas.Bool.{or_cases, or_left, or_right}
-use Rattle.adb_fields.specs.FirstPair.{IsIn}
+use Rattle.engine_core.specs.adb_fields.FirstPair.{IsIn}
 use Rattle.adb_view.specs.Plain.{Plain}
-use Rattle.candidate_core.specs.Candidates.{Candidate, as_installed, as_installed_where_same, is_same_package, with_installed}
-use Rattle.change_inputs.specs.Candidates.{installed_candidate, with_all_installed}
+use Rattle.engine_core.specs.candidate_core.Candidates.{Candidate, as_installed, as_installed_where_same, is_same_package, with_installed}
+use Rattle.engine_core.specs.change_inputs.Candidates.{installed_candidate, with_all_installed}
 
 -- ---- lists
 

@@ -8,11 +8,11 @@ use Rattle.std.proofs.lemmas.Bool.{and_from, and_parts, not-true}
 use Rattle.dep_core.specs.Dependency.{Dependency}
 use Rattle.base_core.specs.ByteOrder.{bytes_cmp, precedes}
 use Rattle.base_core.proofs.Orderings.{names_total}
-use Rattle.candidate_core.specs.Candidates.{Candidate, Need, entry, named, has_usable_install_if}
-use Rattle.candidate_core.specs.Options.{IsIn}
-use Rattle.candidate_core.specs.Rank.{SealedPool, meets_at}
-use Rattle.search_tables.specs.Selection.{depends_at, install_if_applies, is_met, is_unmet, least_name, lesser_name, names_by_install_if, next_need, positive_needs, raised_needs}
-use Rattle.search_tables.proofs.PoolFacts.{any_in, filter_in, in_filter, in_map, least_in, least_none, map_in, in_any}
+use Rattle.engine_core.specs.candidate_core.Candidates.{Candidate, Need, entry, named, has_usable_install_if}
+use Rattle.engine_core.specs.candidate_core.Options.{IsIn}
+use Rattle.engine_core.specs.candidate_core.Rank.{SealedPool, meets_at}
+use Rattle.engine_core.specs.search_tables.Selection.{depends_at, install_if_applies, is_met, is_unmet, least_name, lesser_name, names_by_install_if, next_need, positive_needs, raised_needs}
+use Rattle.engine_core.proofs.search_tables.PoolFacts.{any_in, filter_in, in_filter, in_map, least_in, least_none, map_in, in_any}
 use Rattle.world_laws.specs.NextNeed.{AreMetByChoices, AreMetOfEach, IsAskedByInstallIf, IsFirstOfChoices, IsFirstUnmet, IsMetByChoice, IsNextOrNone}
 
 -- ---- the least name

@@ -6,10 +6,10 @@ use Rattle.dep_core.specs.Dependency.{Dependency}
 use Rattle.dep_core.proofs.Worlds.{cmp-equal}
 use Rattle.base_core.specs.ByteOrder.{bytes_cmp}
 use Rattle.base_core.proofs.Orderings.{names_total}
-use Rattle.candidate_core.specs.Candidates.{Need, entry, named}
-use Rattle.candidate_core.specs.Options.{IsIn}
-use Rattle.candidate_core.specs.Rank.{SealedPool}
-use Rattle.search_tables.specs.Selection.{depends_at}
+use Rattle.engine_core.specs.candidate_core.Candidates.{Need, entry, named}
+use Rattle.engine_core.specs.candidate_core.Options.{IsIn}
+use Rattle.engine_core.specs.candidate_core.Rank.{SealedPool}
+use Rattle.engine_core.specs.search_tables.Selection.{depends_at}
 use Rattle.world_laws.specs.NextNeed.{AreMetByChoices, AreMetOfEach, IsFirstByInstallIf, IsFirstOfChoices, IsFirstUnmet, IsMetByChoice, IsNext, IsNextOrNone}
 
 -- ---- the first place of a list

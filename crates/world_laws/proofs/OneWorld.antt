@@ -1,6 +1,6 @@
 -- Two worlds with the same entries are one.
 use Rattle.std.proofs.Common.{◌≡◌, ◌↔◌, true, List, [], ◌∷◌, inl, inr, refl, ap, sym, ◌∙◌}
-use Rattle.adb_fields.specs.FirstPair.{IsIn}
+use Rattle.engine_core.specs.adb_fields.FirstPair.{IsIn}
 use Rattle.command_core.specs.declared.command.Applet.{Applet}
 use Rattle.command_core.specs.declared.command.Applet.TheVariants as Applets
 use Rattle.command_core.specs.declared.operands.Operand.{Operand}

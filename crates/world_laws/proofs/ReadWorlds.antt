@@ -1,14 +1,14 @@
 -- World among what a change reads of a root.
 use Rattle.std.proofs.Common.{◌≡◌, ℕ, List, Result, Ok, Err, refl, ap, subst}
-use Rattle.change_inputs.specs.Chains.{and_then, refused_as}
-use Rattle.change_inputs.specs.Database.{root_database}
-use Rattle.change_inputs.specs.Inputs.{Inputs, Root, database_read, indexes_of, inputs_by, inputs_of, repositories_read, root_by, root_for, text_database_read, world_read}
-use Rattle.change_inputs.specs.Repositories.{root_repositories}
-use Rattle.change_inputs.specs.World.{root_world, text_found}
+use Rattle.engine_core.specs.change_inputs.Chains.{and_then, refused_as}
+use Rattle.engine_core.specs.change_inputs.Database.{root_database}
+use Rattle.engine_core.specs.change_inputs.Inputs.{Inputs, Root, database_read, indexes_of, inputs_by, inputs_of, repositories_read, root_by, root_for, text_database_read, world_read}
+use Rattle.engine_core.specs.change_inputs.Repositories.{root_repositories}
+use Rattle.engine_core.specs.change_inputs.World.{root_world, text_found}
 use Rattle.command_core.specs.Command.{CommandLine}
 use Rattle.dep_core.specs.World.{world_of}
 use Rattle.dep_core.proofs.WorldWords.{world-words}
-use Rattle.make_info.specs.Reads.{Reads}
+use Rattle.engine_core.specs.make_info.Reads.{Reads}
 use Rattle.report_core.specs.declared.refusal.Refusal.{Refusal}
 use Rattle.root_names.specs.RootNames.{database_name, repositories_name, text_database_name, world_name}
 use Rattle.world_laws.specs.NewWorld.{IsReadWorld}

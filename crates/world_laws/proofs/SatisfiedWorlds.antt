@@ -6,12 +6,12 @@ use Rattle.std.specs.List.{filter, filter_map, list_all}
 use Rattle.std.proofs.lemmas.Bool.{and_from, and_parts, eqb-false, eqb-true, not_from_false}
 use Rattle.std.proofs.lemmas.Slice.Eq.{bytes_eq-Decides}
 use Rattle.dep_core.specs.Dependency.{Dependency}
-use Rattle.candidate_core.specs.Candidates.{Candidate, Need, entry, named, has_usable_install_if, is_allowed, is_barred_by, is_eligible, meets_dependency, meets_need, occupies_name}
-use Rattle.candidate_core.specs.Options.{IsIn}
-use Rattle.candidate_core.specs.Rank.{SealedPool, candidate_at, is_at, meets_at}
-use Rattle.package_changes.specs.Placed.{candidates_at}
-use Rattle.search_tables.specs.Selection.{IsBestMember, IsSatisfying, IsWalkFrom, conflicts_with, depends_at, install_if_applies, is_met, names_by_install_if, next_need, positive_needs}
-use Rattle.search_tables.proofs.PoolFacts.{any_in, in_filter, in_map}
+use Rattle.engine_core.specs.candidate_core.Candidates.{Candidate, Need, entry, named, has_usable_install_if, is_allowed, is_barred_by, is_eligible, meets_dependency, meets_need, occupies_name}
+use Rattle.engine_core.specs.candidate_core.Options.{IsIn}
+use Rattle.engine_core.specs.candidate_core.Rank.{SealedPool, candidate_at, is_at, meets_at}
+use Rattle.engine_core.specs.package_changes.Placed.{candidates_at}
+use Rattle.engine_core.specs.search_tables.Selection.{IsBestMember, IsSatisfying, IsWalkFrom, conflicts_with, depends_at, install_if_applies, is_met, names_by_install_if, next_need, positive_needs}
+use Rattle.engine_core.proofs.search_tables.PoolFacts.{any_in, in_filter, in_map}
 use Rattle.world_laws.specs.NextNeed.{IsFirstUnmet, IsMetByChoice, IsNextOrNone}
 use Rattle.world_laws.specs.SatisfiedWorld.{InstallIfApplies, IsNeeded, IsMetByOne, MeetsOne, SatisfyWorld}
 use Rattle.world_laws.proofs.InstalledCounted.{in_append, in_right}

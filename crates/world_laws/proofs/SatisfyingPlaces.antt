@@ -6,13 +6,13 @@ use Rattle.std.proofs.lemmas.Bool.{and_from, and_parts, or_left, not-true, not_f
 use Rattle.std.proofs.lemmas.Slice.Eq.{bytes_eq-Decides}
 use Rattle.base_core.proofs.AtName.{own_name}
 use Rattle.dep_core.specs.Dependency.{Dependency}
-use Rattle.candidate_core.specs.Candidates.{Candidate, Need, entry, entry_occupies, named, has_usable_install_if, is_allowed, is_barred_by, is_eligible, meets_dependency, meets_need, occupies_name}
-use Rattle.candidate_core.specs.Options.{IsIn}
-use Rattle.candidate_core.specs.Rank.{SealedPool, candidate_at, is_at, is_eligible_at, meets_at}
-use Rattle.candidate_core.proofs.Places.{place_of}
-use Rattle.package_changes.specs.Placed.{candidates_at}
-use Rattle.search_tables.specs.Selection.{AreDistinct, IsSatisfying, conflicts_with, depends_at, install_if_applies, is_met, names_by_install_if, positive_needs}
-use Rattle.search_tables.proofs.PoolFacts.{any_in, filter_in, map_in}
+use Rattle.engine_core.specs.candidate_core.Candidates.{Candidate, Need, entry, entry_occupies, named, has_usable_install_if, is_allowed, is_barred_by, is_eligible, meets_dependency, meets_need, occupies_name}
+use Rattle.engine_core.specs.candidate_core.Options.{IsIn}
+use Rattle.engine_core.specs.candidate_core.Rank.{SealedPool, candidate_at, is_at, is_eligible_at, meets_at}
+use Rattle.engine_core.proofs.candidate_core.Places.{place_of}
+use Rattle.engine_core.specs.package_changes.Placed.{candidates_at}
+use Rattle.engine_core.specs.search_tables.Selection.{AreDistinct, IsSatisfying, conflicts_with, depends_at, install_if_applies, is_met, names_by_install_if, positive_needs}
+use Rattle.engine_core.proofs.search_tables.PoolFacts.{any_in, filter_in, map_in}
 use Rattle.world_laws.specs.SatisfiedWorld.{AreSamePackages, InstallIfApplies, IsMetByOne, SatisfyWorld}
 use Rattle.world_laws.proofs.InstalledCounted.{in_any, no_any}
 use Rattle.world_laws.proofs.InstalledCounted as Lists

@@ -2,24 +2,24 @@
 use Rattle.std.proofs.Common.{◌≡◌, ℕ, Bool, false, List, ◌++◌, length, Option, Result, Ok, Err, append_assoc, refl, ap, sym, ◌∙◌, subst}
 use Rattle.std.specs.Prelude.{if◌then◌else◌, sum_by}
 use Rattle.base_core.specs.Files.{Files}
-use Rattle.change_files.specs.FileChange.{FileChange}
-use Rattle.change_files.specs.PlanLists.{aside_of, kept_of}
-use Rattle.change_inputs.specs.Chains.{and_then}
-use Rattle.change_inputs.specs.Inputs.{Inputs, inputs_of}
-use Rattle.change_outcome.specs.Made.{IsChangeMade}
-use Rattle.change_outcome.specs.ChangeOutcome.{ChangeDone, ChangeWishes, change_or_refusal, change_report, file_change, member_size, touched_paths}
-use Rattle.change_outcome.specs.ConfigurationLines.{configuration_lines}
-use Rattle.change_outcome.specs.Triggers.{trigger_lines}
+use Rattle.engine_core.specs.change_files.FileChange.{FileChange}
+use Rattle.engine_core.specs.change_files.PlanLists.{aside_of, kept_of}
+use Rattle.engine_core.specs.change_inputs.Chains.{and_then}
+use Rattle.engine_core.specs.change_inputs.Inputs.{Inputs, inputs_of}
+use Rattle.engine_core.specs.change_outcome.Made.{IsChangeMade}
+use Rattle.engine_core.specs.change_outcome.ChangeOutcome.{ChangeDone, ChangeWishes, change_or_refusal, change_report, file_change, member_size, touched_paths}
+use Rattle.engine_core.specs.change_outcome.ConfigurationLines.{configuration_lines}
+use Rattle.engine_core.specs.change_outcome.Triggers.{trigger_lines}
 use Rattle.command_core.specs.Command.{CommandLine}
 use Rattle.engine_core.specs.Changed.{Selected, change_of_selected, change_of_command, selected_for, simulated_change}
 use Rattle.engine_core.specs.Choice.{IsChoiceFrom}
 use Rattle.engine_core.specs.Selecting.{pool_for}
 use Rattle.engine_core.specs.Wishes.{wishes_of}
-use Rattle.make_info.specs.Reads.{Reads}
-use Rattle.package_changes.specs.Changes.{Replacement, changes_of}
-use Rattle.package_changes.specs.Report.{candidate_size, simulated_report, stay_lines}
-use Rattle.path_clashes.specs.Clash.{NamePair}
-use Rattle.candidate_core.specs.Rank.{SealedPool}
+use Rattle.engine_core.specs.make_info.Reads.{Reads}
+use Rattle.engine_core.specs.package_changes.Changes.{Replacement, changes_of}
+use Rattle.engine_core.specs.package_changes.Report.{candidate_size, simulated_report, stay_lines}
+use Rattle.engine_core.specs.path_clashes.Clash.{NamePair}
+use Rattle.engine_core.specs.candidate_core.Rank.{SealedPool}
 use Rattle.report_core.specs.Reports.{change_lines, report_line, sum_text}
 use Rattle.report_core.specs.declared.refusal.Refusal.{Refusal}
 use Rattle.world_laws.specs.Simulation.{IsPredicted, with_simulation}

@@ -2,17 +2,17 @@
 use Rattle.std.proofs.Common.{◌≡◌, ◌↔◌, ℕ, Bool, true, false, List, [], ◌∷◌, Option, Some, None, Result, Ok, Err, refl, ap, sym, subst, ◌∙◌}
 use Rattle.std.specs.Prelude.{◌+◌, nat_lt, length, if◌then◌else◌}
 use Rattle.base_core.specs.declared.cause.Cause.{Cause}
-use Rattle.candidate_core.specs.Rank.{SealedPool, UpgradedNames, sealed_pool_by}
-use Rattle.candidate_core.specs.declared.candidate_list.TheConstants.{MOST_CANDIDATES}
-use Rattle.adb_schema.specs.Soundness.{first_fault, payload_in, root_value}
+use Rattle.engine_core.specs.candidate_core.Rank.{SealedPool, UpgradedNames, sealed_pool_by}
+use Rattle.engine_core.specs.candidate_core.declared.candidate_list.TheConstants.{MOST_CANDIDATES}
+use Rattle.engine_core.specs.adb_schema.Soundness.{first_fault, payload_in, root_value}
 use Rattle.adb_view.specs.declared.tables.Which.TheVariants.{Idb, Index}
-use Rattle.change_inputs.specs.Candidates.{candidates_of, root_pool}
-use Rattle.change_inputs.specs.Chains.{and_then, refused_as, unless_cause}
-use Rattle.change_inputs.specs.Database.{payload_database, root_database}
-use Rattle.change_inputs.specs.Indexes.{index_file, index_files_from, index_in_file, indexes_in_files}
-use Rattle.change_inputs.specs.Inputs.{Inputs, database_read, first_index_read, index_reads_from, inputs_of, repositories_read, root_for, text_database_read, world_read}
-use Rattle.change_inputs.specs.Repositories.{if_trusted, root_repositories}
-use Rattle.change_inputs.specs.World.{root_world, text_found}
+use Rattle.engine_core.specs.change_inputs.Candidates.{candidates_of, root_pool}
+use Rattle.engine_core.specs.change_inputs.Chains.{and_then, refused_as, unless_cause}
+use Rattle.engine_core.specs.change_inputs.Database.{payload_database, root_database}
+use Rattle.engine_core.specs.change_inputs.Indexes.{index_file, index_files_from, index_in_file, indexes_in_files}
+use Rattle.engine_core.specs.change_inputs.Inputs.{Inputs, database_read, first_index_read, index_reads_from, inputs_of, repositories_read, root_for, text_database_read, world_read}
+use Rattle.engine_core.specs.change_inputs.Repositories.{if_trusted, root_repositories}
+use Rattle.engine_core.specs.change_inputs.World.{root_world, text_found}
 use Rattle.command_core.specs.Command.{CommandLine}
 use Rattle.dep_core.specs.Repositories.{Repository, repositories_of}
 use Rattle.dep_core.specs.World.{world_of}
@@ -20,14 +20,14 @@ use Rattle.engine_core.specs.Changed.{selected_by, selected_for, selected_of_inp
 use Rattle.engine_core.specs.Choice.{IsChoice, IsChoiceFrom}
 use Rattle.engine_core.specs.Selecting.{pool_by, pool_for}
 use Rattle.engine_core.specs.Wishes.{names_to_upgrade, unknown_operand_place, unless_unknown_operand}
-use Rattle.make_info.specs.Reads.{Reads}
-use Rattle.package_changes.specs.Placed.{candidates_at}
+use Rattle.engine_core.specs.make_info.Reads.{Reads}
+use Rattle.engine_core.specs.package_changes.Placed.{candidates_at}
 use Rattle.report_core.specs.declared.refusal.Refusal.{Refusal}
 use Rattle.report_core.specs.declared.refusal.Refusal.TheVariants.{DatabaseBad, IndexBad, RepositoriesBad, TooMany, Unsatisfied, WorldBad}
 use Rattle.root_names.specs.RootNames.{database_name, repositories_name, text_database_name, world_name}
-use Rattle.v2_core.specs.Payload.{payload_of_text}
-use Rattle.v2_core.specs.declared.read.V2Fault.{V2Fault}
-use Rattle.v2_core.specs.declared.read.V2Fault.TheVariants.{Bad, Memory, TooLarge}
+use Rattle.engine_core.specs.v2_core.Payload.{payload_of_text}
+use Rattle.engine_core.specs.v2_core.declared.read.V2Fault.{V2Fault}
+use Rattle.engine_core.specs.v2_core.declared.read.V2Fault.TheVariants.{Bad, Memory, TooLarge}
 use Rattle.world_laws.specs.SatisfiedWorld.{IsUnsatisfiable}
 use Rattle.world_laws.proofs.CommandPools.{root_pool_is}
 use Rattle.world_laws.proofs.SatisfiedWorlds.{satisfied}

@@ -2,23 +2,23 @@
 -- The rules are in `docs/selection.md`, "What there is to choose from", and in `docs/commands.md`,
 -- "`upgrade` and `fix`".
 use Rattle.std.specs.Prelude.{◌≡◌, ◌⊎◌, ◌↔◌, ◌≤◌, ◌+◌, ℕ, true, false, List, [], ◌∷◌, length, Some, Ok, slice_get}
-use Rattle.adb_fields.specs.FirstPair.{IsIn}
-use Rattle.adb_fields.specs.Repeated.{entries_at}
-use Rattle.adb_schema.specs.Soundness.{payload_in, root_value}
+use Rattle.engine_core.specs.adb_fields.FirstPair.{IsIn}
+use Rattle.engine_core.specs.adb_fields.Repeated.{entries_at}
+use Rattle.engine_core.specs.adb_schema.Soundness.{payload_in, root_value}
 use Rattle.adb_view.specs.FieldIndexes.{INDEX_PACKAGES}
 use Rattle.adb_view.specs.declared.tables.Which.TheVariants.{Index}
 use Rattle.adb_view.specs.Plain.{Plain}
-use Rattle.candidate_core.specs.Candidates.{Candidate, candidate_of, is_same_package}
-use Rattle.candidate_core.specs.Rank.{SealedPool, is_upgraded}
-use Rattle.candidate_core.specs.declared.candidate_list.TheConstants.{MOST_CANDIDATES}
-use Rattle.change_inputs.specs.Candidates.{installed_candidate}
-use Rattle.change_inputs.specs.Inputs.{Inputs, first_index_read, inputs_of}
+use Rattle.engine_core.specs.candidate_core.Candidates.{Candidate, candidate_of, is_same_package}
+use Rattle.engine_core.specs.candidate_core.Rank.{SealedPool, is_upgraded}
+use Rattle.engine_core.specs.candidate_core.declared.candidate_list.TheConstants.{MOST_CANDIDATES}
+use Rattle.engine_core.specs.change_inputs.Candidates.{installed_candidate}
+use Rattle.engine_core.specs.change_inputs.Inputs.{Inputs, first_index_read, inputs_of}
 use Rattle.command_core.specs.Command.{CommandLine}
 use Rattle.command_core.specs.declared.command.Applet.{Applet}
 use Rattle.command_core.specs.declared.command.Applet.TheVariants.{Upgrade}
 use Rattle.command_core.specs.declared.operands.Operand.{Operand}
 use Rattle.dep_core.specs.Repositories.{Repository}
-use Rattle.make_info.specs.Reads.{Reads}
+use Rattle.engine_core.specs.make_info.Reads.{Reads}
 
 -- ---- the candidates
 

@@ -2,8 +2,8 @@
 -- names with one entry per name, so the entries alone determine a world. The rules are in
 -- `docs/commands.md`, "`add` and `del`", and in `docs/formats.md`, "World".
 use Rattle.std.specs.Prelude.{◌≡◌, ◌≢◌, ◌⊎◌, ◌↔◌, ℕ, List, [], ◌∷◌, ◌++◌, Some, Ok, unwrap_or}
-use Rattle.adb_fields.specs.FirstPair.{IsIn}
-use Rattle.change_inputs.specs.Inputs.{Root, world_read}
+use Rattle.engine_core.specs.adb_fields.FirstPair.{IsIn}
+use Rattle.engine_core.specs.change_inputs.Inputs.{Root, world_read}
 use Rattle.command_core.specs.Command.{CommandLine}
 use Rattle.command_core.specs.declared.command.Applet.{Applet}
 use Rattle.command_core.specs.declared.command.Applet.TheVariants.{Add, Del}
@@ -11,7 +11,7 @@ use Rattle.command_core.specs.declared.operands.Operand.{Operand}
 use Rattle.dep_core.specs.Dependency.{Dependency}
 use Rattle.dep_core.specs.Reading.{dependency_of}
 use Rattle.dep_core.specs.World.{IsWorld, world_of}
-use Rattle.make_info.specs.Reads.{Reads}
+use Rattle.engine_core.specs.make_info.Reads.{Reads}
 use Rattle.root_names.specs.RootNames.{world_name}
 
 -- ---- `add`

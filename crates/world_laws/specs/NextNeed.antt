@@ -3,10 +3,10 @@
 use Rattle.std.specs.Prelude.{◌≡◌, ◌⊎◌, ℕ, true, false, List, ◌∷◌, ◌++◌, Option, Some, None}
 use Rattle.dep_core.specs.Dependency.{Dependency}
 use Rattle.base_core.specs.ByteOrder.{precedes}
-use Rattle.candidate_core.specs.Candidates.{Candidate, Need, entry, named, has_usable_install_if}
-use Rattle.candidate_core.specs.Options.{IsIn}
-use Rattle.candidate_core.specs.Rank.{SealedPool, meets_at}
-use Rattle.search_tables.specs.Selection.{depends_at}
+use Rattle.engine_core.specs.candidate_core.Candidates.{Candidate, Need, entry, named, has_usable_install_if}
+use Rattle.engine_core.specs.candidate_core.Options.{IsIn}
+use Rattle.engine_core.specs.candidate_core.Rank.{SealedPool, meets_at}
+use Rattle.engine_core.specs.search_tables.Selection.{depends_at}
 
 -- a chosen candidate meets a need
 abbrev pub IsMetByChoice : SealedPool → List ℕ → Need → Type 0

@@ -2,8 +2,8 @@
 -- is needed. The rules are in `docs/selection.md`, "What satisfies world", 1 to 4, and "Which selection
 -- is taken", the end of its second paragraph.
 use Rattle.std.specs.Prelude.{◌≡◌, ◌⊎◌, ◌↔◌, ℕ, true, false, List}
-use Rattle.adb_fields.specs.FirstPair.{IsIn}
-use Rattle.candidate_core.specs.Candidates.{Candidate, has_usable_install_if, is_allowed, meets_dependency, occupies_name}
+use Rattle.engine_core.specs.adb_fields.FirstPair.{IsIn}
+use Rattle.engine_core.specs.candidate_core.Candidates.{Candidate, has_usable_install_if, is_allowed, meets_dependency, occupies_name}
 use Rattle.dep_core.specs.Dependency.{Dependency}
 
 -- ---- world

@@ -9,30 +9,30 @@
 #![tactic(auto)]
 
 ghost use Rattle.std.specs.Prelude.{◌≡◌, ◌↔◌, ℕ, List, Option, None, false, Err, Ok};
-ghost use Rattle.adb_fields.specs.FirstPair.{IsIn};
-ghost use Rattle.candidate_core.specs.Candidates.{Candidate, Need};
-ghost use Rattle.candidate_core.specs.Rank.{SealedPool};
-ghost use Rattle.search_tables.specs.Selection.{IsSatisfying, next_need};
+ghost use Rattle.engine_core.specs.adb_fields.FirstPair.{IsIn};
+ghost use Rattle.engine_core.specs.candidate_core.Candidates.{Candidate, Need};
+ghost use Rattle.engine_core.specs.candidate_core.Rank.{SealedPool};
+ghost use Rattle.engine_core.specs.search_tables.Selection.{IsSatisfying, next_need};
 ghost use Rattle.world_laws.specs.NextNeed.{IsNextOrNone};
 ghost use Rattle.base_core.specs.Files.{Files};
-ghost use Rattle.change_files.specs.FileChange.{FileChange};
-ghost use Rattle.change_outcome.specs.ChangeOutcome.{ChangeDone, ChangeWishes, change_report};
+ghost use Rattle.engine_core.specs.change_files.FileChange.{FileChange};
+ghost use Rattle.engine_core.specs.change_outcome.ChangeOutcome.{ChangeDone, ChangeWishes, change_report};
 ghost use Rattle.command_core.specs.Command.{CommandLine};
 ghost use Rattle.engine_core.specs.Changed.{Selected, change_of_command, selected_for};
 ghost use Rattle.engine_core.specs.Choice.{IsChoice, IsChoiceFrom};
 ghost use Rattle.engine_core.specs.Selecting.{pool_for};
 ghost use Rattle.engine_core.specs.Wishes.{unknown_operand_place};
-ghost use Rattle.make_info.specs.Reads.{Reads};
-ghost use Rattle.package_changes.specs.Changes.{Replacement};
-ghost use Rattle.package_changes.specs.Placed.{candidates_at};
-ghost use Rattle.package_changes.specs.Report.{simulated_report};
-ghost use Rattle.path_clashes.specs.Clash.{NamePair};
+ghost use Rattle.engine_core.specs.make_info.Reads.{Reads};
+ghost use Rattle.engine_core.specs.package_changes.Changes.{Replacement};
+ghost use Rattle.engine_core.specs.package_changes.Placed.{candidates_at};
+ghost use Rattle.engine_core.specs.package_changes.Report.{simulated_report};
+ghost use Rattle.engine_core.specs.path_clashes.Clash.{NamePair};
 ghost use Rattle.report_core.specs.declared.refusal.Refusal.{Refusal};
 ghost use Rattle.report_core.specs.declared.refusal.Refusal.TheVariants.{Unsatisfied};
 ghost use Rattle.world_laws.specs.Simulation.{IsPredicted, with_simulation};
-ghost use Rattle.change_inputs.specs.Candidates.{candidates_of};
-ghost use Rattle.change_inputs.specs.Inputs.{Inputs, inputs_of};
-ghost use Rattle.change_inputs.specs.World.{new_world};
+ghost use Rattle.engine_core.specs.change_inputs.Candidates.{candidates_of};
+ghost use Rattle.engine_core.specs.change_inputs.Inputs.{Inputs, inputs_of};
+ghost use Rattle.engine_core.specs.change_inputs.World.{new_world};
 ghost use Rattle.command_core.specs.declared.command.Applet.{Applet};
 ghost use Rattle.command_core.specs.declared.operands.Operand.{Operand};
 ghost use Rattle.dep_core.specs.Dependency.{Dependency};
@@ -42,8 +42,7 @@ ghost use Rattle.world_laws.specs.NewWorld.{HasRequestedEntries, IsReadWorld};
 ghost use Rattle.world_laws.specs.SatisfiedWorld.{AreSamePackages, IsNeeded, SatisfyWorld};
 ghost use Rattle.world_laws.specs.SatisfiedWorld.{IsUnsatisfiable};
 
-use change_outcome::a_change_that_is_made_passes_each_test;
-use engine_core::a_choice_is_unique;
+use engine_core::{a_change_that_is_made_passes_each_test, a_choice_is_unique};
 
 /// After some choices, the next need (the dependency to be satisfied next) is the first of these
 /// that no choice meets: the entries of world; then the dependencies of each choice in turn; then

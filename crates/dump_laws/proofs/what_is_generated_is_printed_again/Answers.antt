@@ -1,4 +1,4 @@
-use Rattle.adb_sound.proofs.Lower.{Lower}
+use Rattle.outcome.proofs.adb_sound.Lower.{Lower}
 use Rattle.dump_laws.proofs.Generating.{Texts, printed_again}
 use Rattle.dump_laws.proofs.what_is_generated_is_printed_again.Goals as goal
 

@@ -6,10 +6,10 @@
 ghost use Rattle.std.specs.Prelude.{◌≡◌, ◌<◌, ℕ, length, true, false, IfOk, MatchOption, OnOk, Some, is_some, slice_get};
 ghost use Rattle.dep_core.specs.Dependency.{Dependency};
 ghost use Rattle.dep_core.specs.Meets.{dependency};
-ghost use Rattle.candidate_core.specs.Candidates.{entry, occupies_name};
-ghost use Rattle.candidate_core.specs.Options.{IsIn};
-ghost use Rattle.candidate_core.specs.PackageMatches.{AreMatchesAmong};
-ghost use Rattle.candidate_core.specs.Rank.{candidate_at, is_at};
+ghost use Rattle.search_tables.specs.candidate_core.Candidates.{entry, occupies_name};
+ghost use Rattle.search_tables.specs.candidate_core.Options.{IsIn};
+ghost use Rattle.search_tables.specs.candidate_core.PackageMatches.{AreMatchesAmong};
+ghost use Rattle.search_tables.specs.candidate_core.Rank.{candidate_at, is_at};
 ghost use Rattle.search_choices.specs.Choices.{IsConsistent, choices_of, pool_of};
 ghost use Rattle.search_tables.specs.Conflicts.{AreConflictsOf};
 ghost use Rattle.search_tables.specs.Excluders.{AreListed, IsExcluder, IsFreeAt};
@@ -17,8 +17,7 @@ ghost use Rattle.search_tables.specs.Selection.{exclude_each_other, is_met, occu
 
 use super::Choices;
 use dep_core::Dep;
-use pool_core::{CandId, Details, PackageDep, PackageMatches};
-use search_tables::{choice_meeting_own, occupant};
+use search_tables::{CandId, Details, PackageDep, PackageMatches, choice_meeting_own, occupant};
 use std::alloc::AllocError;
 
 impl<'p> Choices<'p> {

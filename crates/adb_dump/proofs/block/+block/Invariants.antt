@@ -1,7 +1,7 @@
 use Rattle.std.proofs.Common.{◌≡◌, ◌+◌, ◌*◌, drop, true}
 use Rattle.adb_view.specs.Adb.{payload_of}
 use Rattle.adb_view.specs.Entries.{array_entries}
-use Rattle.adb_fields.specs.Fields.{are_all_sound, values_at}
+use Rattle.adb_schema.specs.adb_fields.Fields.{are_all_sound, values_at}
 use Rattle.adb_view.specs.Schema.{shape_of, shapes_of}
 use Rattle.adb_dump.specs.Dump.{block_lines, array_lines, fields_lines}
 use Rattle.adb_view.specs.Rank.{rank, rank_of_all}

@@ -1,6 +1,6 @@
 use Rattle.std.proofs.Common.{◌∙◌}
 use Rattle.base_core.specs.Tree.{files_of}
-use Rattle.demo_lines.specs.Lines.{demo_file, demo_text, mkpkg_words}
+use Rattle.outcome.specs.demo_lines.Lines.{demo_file, demo_text, mkpkg_words}
 use Rattle.outcome.specs.Demo.{with_demo_file}
 use Rattle.tree_memory.specs.Memory.{tree_state}
 use Rattle.apk_front.proofs.Demos.{package_to, put_to}

@@ -1,6 +1,6 @@
 use Rattle.std.proofs.Common.{refl}
 use Rattle.apk_front.proofs.Containers.{refused_made, refused_run, written_made}
-use Rattle.make_info.specs.Output.{output_name}
+use Rattle.make_core.specs.make_info.Output.{output_name}
 use Rattle.apk_front.proofs.make.finish.Goals as goal
 
 pub returns-in-Err-clause-reported : goal.returns-in-Err-clause-reported

@@ -1,4 +1,4 @@
-use Rattle.make_info.specs.Output.{output_name}
+use Rattle.make_core.specs.make_info.Output.{output_name}
 use Rattle.apk_front.proofs.Containers.{large_is}
 use Rattle.apk_front.proofs.make.refusal_of.Goals as goal
 

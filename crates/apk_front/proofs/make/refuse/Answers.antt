@@ -1,5 +1,5 @@
 use Rattle.apk_front.proofs.Containers.{refused_some, refusal_reports}
-use Rattle.make_info.specs.Output.{output_name}
+use Rattle.make_core.specs.make_info.Output.{output_name}
 use Rattle.apk_front.proofs.make.refuse.Goals as goal
 
 pub returns-clause-reported : goal.returns-clause-reported

@@ -1,6 +1,6 @@
 use Rattle.std.proofs.Common.{◌∙◌, refl, sym, ap}
 use Rattle.std.proofs.lemmas.Result.{err_from_is_err_and}
-use Rattle.adb_schema.specs.Reserved.{is_reserved}
+use Rattle.adb_dump.specs.adb_schema.Reserved.{is_reserved}
 use Rattle.apk_front.proofs.Runs.{any_proper, cut_run, free_reports, report_no_refusal, reserved_run, reserved_reports, room_proper, written_run}
 use Rattle.apk_front.proofs.make.write.Goals as goal
 

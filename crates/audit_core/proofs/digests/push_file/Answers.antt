@@ -1,7 +1,7 @@
 use Rattle.std.proofs.Common.{◌≡◌, ◌∙◌, ◌+◌, ◌-◌, ap, arith}
-use Rattle.adb_fields.specs.ListValue.{list_value}
-use Rattle.adb_fields.specs.Paths.{path_of}
-use Rattle.adb_fields.specs.Repeated.{name_of}
+use Rattle.path_clashes.specs.adb_fields.ListValue.{list_value}
+use Rattle.path_clashes.specs.adb_fields.Paths.{path_of}
+use Rattle.path_clashes.specs.adb_fields.Repeated.{name_of}
 use Rattle.adb_view.specs.Values.{entry_in}
 use Rattle.file_guard.specs.AsListed.{file_hash}
 use Rattle.audit_core.proofs.ManifestSteps.{line_added}

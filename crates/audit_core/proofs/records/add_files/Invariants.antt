@@ -1,7 +1,7 @@
 -- The records of the files so far are added.
 use Rattle.std.proofs.Common.{◌≡◌, ◌++◌, map, take}
-use Rattle.adb_fields.specs.ListValue.{list_value}
-use Rattle.adb_fields.specs.Repeated.{list_of}
+use Rattle.path_clashes.specs.adb_fields.ListValue.{list_value}
+use Rattle.path_clashes.specs.adb_fields.Repeated.{list_of}
 use Rattle.adb_view.specs.Values.{entries_in}
 use Rattle.audit_core.specs.Records.{file_record}
 use Rattle.audit_core.specs.Seen.{record_seen}

@@ -1,7 +1,7 @@
 use Rattle.std.proofs.Common.{◌∙◌, ◌++◌, map, ap, arith}
 use Rattle.std.specs.List.{flat_map}
-use Rattle.adb_fields.specs.ListValue.{list_value}
-use Rattle.adb_fields.specs.Repeated.{list_of}
+use Rattle.path_clashes.specs.adb_fields.ListValue.{list_value}
+use Rattle.path_clashes.specs.adb_fields.Repeated.{list_of}
 use Rattle.adb_view.specs.Values.{entries_in, nth}
 use Rattle.audit_core.specs.Records.{folder_records}
 use Rattle.audit_core.specs.Seen.{record_seen}

@@ -2,7 +2,7 @@ use Rattle.std.proofs.Common.{◌≡◌, ◌++◌, [], map, sym, subst}
 use Rattle.std.specs.Prelude.{OnOk}
 use Rattle.std.specs.List.{flat_map}
 use Rattle.std.specs.Option.{option_map_or}
-use Rattle.adb_fields.specs.Repeated.{list_of}
+use Rattle.path_clashes.specs.adb_fields.Repeated.{list_of}
 use Rattle.adb_view.specs.Plain.{Plain}
 use Rattle.adb_view.specs.Values.{entries_in}
 use Rattle.audit_core.specs.Records.{folder_records, package_records}

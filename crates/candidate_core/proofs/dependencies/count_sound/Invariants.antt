@@ -1,5 +1,5 @@
 use Rattle.std.proofs.Common.{◌≡◌, ◌≤◌, length}
-use Rattle.adb_fields.specs.ListValue.{list_value}
+use Rattle.adb_schema.specs.adb_fields.ListValue.{list_value}
 use Rattle.adb_view.specs.Values.{entries_in}
 use Rattle.candidate_core.proofs.DependencyLists.{dependencies_to}
 use Rattle.candidate_core.proofs.dependencies.count_sound.Given as goal

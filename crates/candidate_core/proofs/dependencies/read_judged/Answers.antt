@@ -1,6 +1,6 @@
 use Rattle.std.proofs.Common.{◌≡◌, ◌∙◌, ℕ, ap, sym, arith, length}
 use Rattle.adb_view.specs.Plain.{Plains}
-use Rattle.adb_fields.specs.ListValue.{list_value}
+use Rattle.adb_schema.specs.adb_fields.ListValue.{list_value}
 use Rattle.adb_schema.specs.Views.{dependency_value}
 use Rattle.adb_view.specs.Values.{count_of, entries_in}
 use Rattle.dep_core.specs.Meets.{dependency}

@@ -1,7 +1,7 @@
 use Rattle.std.proofs.Common.{◌≡◌, ◌<◌, ℕ}
 use Rattle.adb_view.specs.Adb.{payload_of}
 use Rattle.adb_view.specs.Entries.{array_entries}
-use Rattle.adb_fields.specs.Fields.{array_at}
+use Rattle.adb_schema.specs.adb_fields.Fields.{array_at}
 use Rattle.adb_schema.specs.SoundValues.{IsSoundDependency}
 use Rattle.adb_view.specs.Values.{entry_in}
 use Rattle.adb_view.specs.declared.tables.Kind.TheVariants as Kinds

@@ -5,8 +5,8 @@ use Rattle.std.specs.Option.{option_and_then}
 use Rattle.adb_view.specs.Adb.{payload_of}
 use Rattle.adb_view.specs.Entries.{array_entries}
 use Rattle.adb_view.specs.Plain.{Plain, Plains}
-use Rattle.adb_fields.specs.Fields.{array_at}
-use Rattle.adb_fields.proofs.FieldReads.{entry_count}
+use Rattle.adb_schema.specs.adb_fields.Fields.{array_at}
+use Rattle.adb_schema.proofs.adb_fields.FieldReads.{entry_count}
 use Rattle.adb_schema.specs.SoundValues.{IsSoundDependency}
 use Rattle.adb_view.specs.Values.{count_of, entries_in, entry_in, nth, value_at}
 use Rattle.adb_view.specs.declared.tables.Kind.TheVariants as Kinds

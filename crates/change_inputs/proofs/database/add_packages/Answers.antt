@@ -1,5 +1,5 @@
 use Rattle.std.proofs.Common.{arith}
-use Rattle.adb_fields.specs.ListValue.{list_value}
+use Rattle.db_core.specs.adb_fields.ListValue.{list_value}
 use Rattle.adb_view.specs.Values.{entries_in}
 use Rattle.change_inputs.proofs.PoolSteps.{fault_handed, installed_all, installed_more, installed_passes}
 use Rattle.change_inputs.proofs.database.add_packages.Goals as goal

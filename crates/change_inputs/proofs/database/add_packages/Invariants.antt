@@ -1,7 +1,7 @@
 use Rattle.std.proofs.Common.{◌≤◌, length}
-use Rattle.adb_fields.specs.ListValue.{list_value}
+use Rattle.db_core.specs.adb_fields.ListValue.{list_value}
 use Rattle.adb_view.specs.Values.{entries_in}
-use Rattle.candidate_core.specs.declared.candidate_list.TheConstants.{MOST_CANDIDATES}
+use Rattle.pool_core.specs.candidate_core.declared.candidate_list.TheConstants.{MOST_CANDIDATES}
 use Rattle.change_inputs.proofs.PoolSteps.{IsInstalledTo}
 use Rattle.change_inputs.proofs.database.add_packages.Given as goal
 

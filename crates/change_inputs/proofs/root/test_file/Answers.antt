@@ -1,4 +1,4 @@
-use Rattle.adb_schema.proofs.Sound.{sound_payload}
+use Rattle.db_core.proofs.adb_schema.Sound.{sound_payload}
 use Rattle.change_inputs.proofs.root.test_file.Goals as goal
 
 pub returns-clause-sound : goal.returns-clause-sound

@@ -1,5 +1,5 @@
 use Rattle.change_outcome.specs.ChangeOutcome.{actions_of, new_records}
-use Rattle.change_files.specs.FilesAfter.{changed_files}
+use Rattle.package_changes.specs.change_files.FilesAfter.{changed_files}
 use Rattle.change_outcome.proofs.ChangeLeads.{leads}
 use Rattle.change_outcome.proofs.Leading.{acted_is}
 use Rattle.change_outcome.proofs.laws.the_actions_of_a_change_lead_to_its_files.Goals as goal

@@ -1,5 +1,5 @@
 use Rattle.std.proofs.Common.{arith}
-use Rattle.db_core.specs.Seen.{members_of}
+use Rattle.change_outcome.specs.db_core.Seen.{members_of}
 use Rattle.change_report.proofs.Loops.{placed_at}
 use Rattle.change_report.proofs.Watching.{is_due_of, no_trigger_due, trigger_due, trigger_not_due}
 use Rattle.change_report.proofs.due.first_due.Goals as goal

@@ -1,6 +1,6 @@
 -- No trigger so far is due: the rest decides.
 use Rattle.std.proofs.Common.{◌≡◌, ℕ, List, false, drop, map}
-use Rattle.db_core.specs.Seen.{members_of}
+use Rattle.change_outcome.specs.db_core.Seen.{members_of}
 use Rattle.change_outcome.specs.Triggers.{folders_of_paths, unless_trigger}
 use Rattle.change_report.proofs.due.first_due.Given as goal
 

@@ -1,6 +1,6 @@
 use Rattle.std.proofs.Common.{List, ℕ, Bor, ◌∙◌, sym, arith}
 use Rattle.std.proofs.lemmas.List.{length-map}
-use Rattle.adb_schema.specs.Views.{package_value}
+use Rattle.change_outcome.specs.adb_schema.Views.{package_value}
 use Rattle.change_outcome.specs.Triggers.{is_due, is_watched}
 use Rattle.change_report.proofs.Loops.{any_none, none_passes}
 use Rattle.change_report.proofs.Watching.{names_of, not_watched_here, watched_here}

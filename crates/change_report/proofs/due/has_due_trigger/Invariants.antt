@@ -1,7 +1,7 @@
 -- The package watches no folder so far: the rest decides.
 use Rattle.std.proofs.Common.{◌≡◌, drop, map}
 use Rattle.std.specs.List.{list_any}
-use Rattle.adb_schema.specs.Views.{package_value}
+use Rattle.change_outcome.specs.adb_schema.Views.{package_value}
 use Rattle.change_outcome.specs.Triggers.{is_due}
 use Rattle.change_report.proofs.due.has_due_trigger.Given as goal
 

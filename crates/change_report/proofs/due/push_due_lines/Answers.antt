@@ -1,5 +1,5 @@
 use Rattle.std.proofs.Common.{◌∙◌, ◌+◌, List, ℕ, Bor, drop, map, ap, sym}
-use Rattle.adb_schema.specs.Views.{package_value}
+use Rattle.change_outcome.specs.adb_schema.Views.{package_value}
 use Rattle.change_outcome.specs.Triggers.{due_lines, due_line, is_watched}
 use Rattle.change_report.proofs.Loops.{all_told, lines_where, made_at, made_none, no_lines, told}
 use Rattle.change_report.proofs.due.push_due_lines.Goals as goal

@@ -1,6 +1,6 @@
 -- The lines of the folders that are left are still to come.
 use Rattle.std.proofs.Common.{◌≡◌, ◌++◌, drop, map}
-use Rattle.adb_schema.specs.Views.{package_value}
+use Rattle.change_outcome.specs.adb_schema.Views.{package_value}
 use Rattle.change_outcome.specs.Triggers.{due_lines}
 use Rattle.change_report.proofs.due.push_due_lines.Given as goal
 

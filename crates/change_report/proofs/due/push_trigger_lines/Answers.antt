@@ -1,8 +1,8 @@
 use Rattle.std.proofs.Common.{◌∙◌, ◌+◌, ◌++◌, List, ℕ, Bor, drop, map, ap, arith}
 use Rattle.std.specs.List.{flat_map}
 use Rattle.std.proofs.lemmas.List.{drop_all}
-use Rattle.db_core.specs.Members.{Member}
-use Rattle.db_core.specs.Seen.{members_of}
+use Rattle.change_outcome.specs.db_core.Members.{Member}
+use Rattle.change_outcome.specs.db_core.Seen.{members_of}
 use Rattle.change_outcome.specs.Triggers.{due_lines, trigger_lines}
 use Rattle.change_report.proofs.Loops.{all_told, left_at, placed_at, told}
 use Rattle.change_report.proofs.due.push_trigger_lines.Goals as goal

@@ -1,8 +1,8 @@
 -- The lines of the packages that are left are still to come.
 use Rattle.std.proofs.Common.{◌≡◌, ◌++◌, drop, map}
 use Rattle.std.specs.List.{flat_map}
-use Rattle.db_core.specs.Members.{Member}
-use Rattle.db_core.specs.Seen.{members_of}
+use Rattle.change_outcome.specs.db_core.Members.{Member}
+use Rattle.change_outcome.specs.db_core.Seen.{members_of}
 use Rattle.change_outcome.specs.Triggers.{due_lines}
 use Rattle.change_report.proofs.due.push_trigger_lines.Given as goal
 

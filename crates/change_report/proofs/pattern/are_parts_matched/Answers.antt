@@ -6,7 +6,7 @@ use Rattle.std.proofs.lemmas.Iterator.Search.{all_from_yields_List}
 use Rattle.std.proofs.lemmas.Iterator.Splits.{YieldsList-from_slice_split}
 use Rattle.std.proofs.lemmas.List.Splits.{length-slice_split}
 use Rattle.base_core.specs.Name.{parts_of}
-use Rattle.star_patterns.specs.Patterns.{is_matched}
+use Rattle.change_outcome.specs.star_patterns.Patterns.{is_matched}
 use Rattle.change_report.proofs.PatternParts.{unlike, zipped}
 use Rattle.change_report.proofs.pattern.are_parts_matched.Goals as goal
 

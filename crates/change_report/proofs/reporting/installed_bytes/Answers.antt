@@ -1,8 +1,8 @@
 use Rattle.std.proofs.Common.{◌≡◌, ◌∙◌, ◌+◌, ◌<◌, Some, arith, drop, ap, refl, sym}
 use Rattle.std.specs.Prelude.{fold, option_map}
 use Rattle.std.proofs.lemmas.List.{drop_all}
-use Rattle.db_core.specs.Members.{Member}
-use Rattle.db_core.specs.Seen.{members_of}
+use Rattle.change_outcome.specs.db_core.Members.{Member}
+use Rattle.change_outcome.specs.db_core.Seen.{members_of}
 use Rattle.change_outcome.specs.ChangeOutcome.{member_size}
 use Rattle.change_report.proofs.Loops.{left_at, placed_at}
 use Rattle.change_report.proofs.reporting.installed_bytes.Goals as goal

@@ -1,8 +1,8 @@
 -- The packages that are left are still to be summed.
 use Rattle.std.proofs.Common.{◌≡◌, ◌≤◌, ◌+◌, ◌*◌, ℕ, List, drop}
 use Rattle.std.specs.Prelude.{fold, sum_by}
-use Rattle.db_core.specs.Members.{Member}
-use Rattle.db_core.specs.Seen.{members_of}
+use Rattle.change_outcome.specs.db_core.Members.{Member}
+use Rattle.change_outcome.specs.db_core.Seen.{members_of}
 use Rattle.change_outcome.specs.ChangeOutcome.{member_size}
 use Rattle.change_report.proofs.reporting.installed_bytes.Given as goal
 

@@ -1,6 +1,6 @@
 use Rattle.std.proofs.Common.{arith}
-use Rattle.adb_fields.specs.ListValue.{list_value}
-use Rattle.adb_schema.specs.Views.{package_value}
+use Rattle.change_outcome.specs.adb_fields.ListValue.{list_value}
+use Rattle.change_outcome.specs.adb_schema.Views.{package_value}
 use Rattle.change_report.proofs.Watching.{no_pattern, pattern_fails, pattern_matches}
 use Rattle.change_report.proofs.watched.is_watched.Goals as goal
 

@@ -1,8 +1,8 @@
 -- No pattern so far matches: the rest decides.
 use Rattle.std.proofs.Common.{◌≡◌, drop}
 use Rattle.std.specs.List.{list_any}
-use Rattle.adb_fields.specs.ListValue.{list_value}
-use Rattle.adb_fields.specs.Repeated.{list_of}
+use Rattle.change_outcome.specs.adb_fields.ListValue.{list_value}
+use Rattle.change_outcome.specs.adb_fields.Repeated.{list_of}
 use Rattle.adb_view.specs.Values.{entries_in, text_in}
 use Rattle.change_outcome.specs.Triggers.{is_folder_matched}
 use Rattle.change_report.proofs.watched.is_watched.Given as goal

@@ -1,5 +1,5 @@
 use Rattle.std.proofs.Common.{arith}
-use Rattle.adb_fields.specs.ListValue.{list_value}
+use Rattle.pkg_core.specs.adb_fields.ListValue.{list_value}
 use Rattle.adb_view.specs.Values.{entries_in}
 use Rattle.db_core.specs.Packages.{lists_path}
 use Rattle.db_core.proofs.Places.{place_found, place_next, place_none}

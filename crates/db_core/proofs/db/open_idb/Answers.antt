@@ -1,5 +1,5 @@
 use Rattle.adb_view.specs.declared.tables.Which.TheVariants.{Idb}
-use Rattle.adb_schema.proofs.SoundPayload.{payload_head, payload_sound}
+use Rattle.pkg_core.proofs.adb_schema.SoundPayload.{payload_head, payload_sound}
 use Rattle.db_core.proofs.db.open_idb.Goals as goal
 
 pub open_root-requires-clause-head : goal.open_root-requires-clause-head

@@ -1,8 +1,8 @@
 use Rattle.std.proofs.Common.{◌≡◌, ◌<◌, ℕ, length, Some, ◌∙◌, ap, sym, subst}
 use Rattle.std.specs.Prelude.{option_map, slice_get}
-use Rattle.adb_fields.proofs.NameLists.{count-listed}
+use Rattle.pkg_core.proofs.adb_fields.NameLists.{count-listed}
 use Rattle.adb_view.specs.Plain.{Plain, Plains}
-use Rattle.adb_schema.specs.Views.{idb_value}
+use Rattle.pkg_core.specs.adb_schema.Views.{idb_value}
 use Rattle.adb_view.specs.Values.{count_of, entries_in, entry_in}
 use Rattle.db_core.specs.EntrySeen.{payload_of_database}
 use Rattle.db_core.specs.Packages.{packages_by}

@@ -1,10 +1,10 @@
 use Rattle.std.proofs.Common.{◌≡◌, ◌+◌, ◌-◌, ◌∙◌, ap, arith, sym}
 use Rattle.std.specs.Prelude.{bytes_eq}
 use Rattle.std.specs.List.{list_any}
-use Rattle.adb_fields.specs.ListValue.{list_value}
-use Rattle.adb_fields.specs.Paths.{path_of}
-use Rattle.adb_fields.specs.Repeated.{list_of, name_of, files_in, paths_under}
-use Rattle.adb_schema.specs.Views.{dir_value}
+use Rattle.pkg_core.specs.adb_fields.ListValue.{list_value}
+use Rattle.pkg_core.specs.adb_fields.Paths.{path_of}
+use Rattle.pkg_core.specs.adb_fields.Repeated.{list_of, name_of, files_in, paths_under}
+use Rattle.pkg_core.specs.adb_schema.Views.{dir_value}
 use Rattle.adb_view.specs.Values.{entries_in, entry_in}
 use Rattle.db_core.proofs.AnyOf.{any_map}
 use Rattle.db_core.proofs.listed_paths.is_path_in_folder.Goals as goal

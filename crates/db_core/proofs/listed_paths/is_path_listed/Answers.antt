@@ -1,8 +1,8 @@
 use Rattle.std.proofs.Common.{◌∙◌, arith, sym}
 use Rattle.std.specs.Prelude.{bytes_eq}
 use Rattle.std.specs.List.{list_any}
-use Rattle.adb_fields.specs.ListValue.{list_value}
-use Rattle.adb_fields.specs.Repeated.{list_of, paths_under}
+use Rattle.pkg_core.specs.adb_fields.ListValue.{list_value}
+use Rattle.pkg_core.specs.adb_fields.Repeated.{list_of, paths_under}
 use Rattle.adb_view.specs.Values.{entries_in}
 use Rattle.db_core.proofs.AnyOf.{any_flat, any_found, any_next, any_none}
 use Rattle.db_core.proofs.listed_paths.is_path_listed.Goals as goal

@@ -1,8 +1,8 @@
 -- No folder so far lists the path: the rest decides.
 use Rattle.std.specs.Prelude.{bytes_eq}
 use Rattle.std.specs.List.{list_any}
-use Rattle.adb_fields.specs.ListValue.{list_value}
-use Rattle.adb_fields.specs.Repeated.{paths_under}
+use Rattle.pkg_core.specs.adb_fields.ListValue.{list_value}
+use Rattle.pkg_core.specs.adb_fields.Repeated.{paths_under}
 use Rattle.adb_view.specs.Values.{entries_in}
 use Rattle.db_core.proofs.AnyOf.{IsRest}
 use Rattle.db_core.proofs.listed_paths.is_path_listed.Given as goal

@@ -1,8 +1,8 @@
 use Rattle.std.proofs.Common.{◌≡◌, ◌+◌, ◌-◌, ◌∙◌, ap, arith}
 use Rattle.std.specs.Prelude.{bytes_eq}
-use Rattle.adb_fields.specs.ListValue.{list_value}
-use Rattle.adb_fields.specs.Paths.{path_of}
-use Rattle.adb_fields.specs.Repeated.{name_of}
+use Rattle.pkg_core.specs.adb_fields.ListValue.{list_value}
+use Rattle.pkg_core.specs.adb_fields.Paths.{path_of}
+use Rattle.pkg_core.specs.adb_fields.Repeated.{name_of}
 use Rattle.adb_view.specs.Values.{entry_in}
 use Rattle.db_core.proofs.listed_paths.is_path_of_file.Goals as goal
 

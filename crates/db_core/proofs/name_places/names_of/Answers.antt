@@ -1,5 +1,5 @@
 use Rattle.std.proofs.Common.{arith, refl}
-use Rattle.adb_fields.specs.ListValue.{list_value}
+use Rattle.pkg_core.specs.adb_fields.ListValue.{list_value}
 use Rattle.adb_view.specs.Values.{entries_in}
 use Rattle.db_core.proofs.NamePlaces.{name_added, names_added}
 use Rattle.db_core.proofs.name_places.names_of.Goals as goal

@@ -1,6 +1,6 @@
 -- The names of the packages that are left are still to come.
 use Rattle.std.proofs.Common.{map}
-use Rattle.adb_fields.specs.ListValue.{list_value}
+use Rattle.pkg_core.specs.adb_fields.ListValue.{list_value}
 use Rattle.adb_view.specs.Values.{entries_in}
 use Rattle.db_core.specs.NameSeen.{name_seen}
 use Rattle.db_core.proofs.NamePlaces.{NamesLeft}

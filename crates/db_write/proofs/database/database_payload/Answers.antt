@@ -1,6 +1,6 @@
 use Rattle.std.proofs.Common.{ap, ◌∙◌}
 use Rattle.adb_view.specs.Plain.{Plain}
-use Rattle.adb_values.specs.Drafts.{DraftState, draft_with}
+use Rattle.adb_copy.specs.adb_values.Drafts.{DraftState, draft_with}
 use Rattle.db_core.specs.Seen.{members_of}
 use Rattle.db_write.specs.NewDatabase.{database_value}
 use Rattle.db_write.proofs.database.database_payload.Goals as goal

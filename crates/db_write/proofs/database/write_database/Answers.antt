@@ -1,6 +1,6 @@
 use Rattle.std.proofs.Common.{refl}
 use Rattle.adb_view.specs.Plain.{none, more, arr_value, obj_value}
-use Rattle.adb_values.proofs.Lists.{closed}
+use Rattle.adb_copy.proofs.adb_values.Lists.{closed}
 use Rattle.db_core.specs.Seen.{members_of}
 use Rattle.db_write.specs.NewDatabase.{database_value, packages_after}
 use Rattle.db_write.proofs.database.write_database.Goals as goal

@@ -1,5 +1,5 @@
 use Rattle.std.proofs.Common.{ℕ, Vec, Global}
-use Rattle.adb_schema.specs.Soundness.{first_fault}
+use Rattle.adb_sound.specs.adb_schema.Soundness.{first_fault}
 use Rattle.adb_view.specs.declared.tables.Which.TheVariants.{Idb}
 use Rattle.db_core.specs.Seen.{members_of}
 use Rattle.db_write.proofs.Container.{file_refused, file_written}

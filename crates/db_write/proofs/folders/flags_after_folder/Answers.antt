@@ -3,7 +3,7 @@ use Rattle.adb_view.specs.Adb.{payload_of}
 use Rattle.adb_view.specs.Entries.{array_entries}
 use Rattle.adb_view.specs.declared.tables.Kind.TheVariants as Kinds
 use Rattle.adb_view.specs.declared.tables.Which.TheVariants as Tables
-use Rattle.adb_fields.specs.Repeated.{list_of}
+use Rattle.adb_copy.specs.adb_fields.Repeated.{list_of}
 use Rattle.adb_view.specs.Values.{entries_in, value_at}
 use Rattle.db_write.specs.NewDatabase.{file_count}
 use Rattle.db_write.proofs.Segments.{drop_past}

@@ -1,15 +1,15 @@
 use Rattle.std.proofs.Common.{◌≡◌, ℕ, List, ◌<◌, length, arith, ap, refl, sym, subst, ◌∙◌}
 use Rattle.adb_view.specs.Adb.{payload_of}
 use Rattle.adb_view.specs.Entries.{array_entries}
-use Rattle.adb_fields.specs.Fields.{array_at}
+use Rattle.adb_copy.specs.adb_fields.Fields.{array_at}
 use Rattle.adb_view.specs.declared.tables.Kind.TheVariants as Kinds
 use Rattle.adb_view.specs.declared.tables.Which.TheVariants as Tables
 use Rattle.adb_view.specs.Plain.{Plain, Plains, arr_value}
-use Rattle.adb_fields.specs.Repeated.{list_of}
-use Rattle.adb_fields.proofs.FieldReads.{entry_count}
+use Rattle.adb_copy.specs.adb_fields.Repeated.{list_of}
+use Rattle.adb_copy.proofs.adb_fields.FieldReads.{entry_count}
 use Rattle.adb_view.specs.Values.{count_of, entries_in}
-use Rattle.adb_values.specs.Drafts.{DraftState, draft_with, draft_with_all, draft_with_open_list}
-use Rattle.adb_values.proofs.Lists.{closed, on_ok}
+use Rattle.adb_copy.specs.adb_values.Drafts.{DraftState, draft_with, draft_with_all, draft_with_open_list}
+use Rattle.adb_copy.proofs.adb_values.Lists.{closed, on_ok}
 use Rattle.adb_copy.specs.Known.{AreBlobsOf}
 use Rattle.adb_copy.specs.Zeros.{without_zeros}
 use Rattle.adb_copy.specs.declared.known_texts.KnownTexts.{KnownTexts}

@@ -3,12 +3,12 @@ use Rattle.adb_view.specs.Adb.{payload_of}
 use Rattle.adb_view.specs.declared.tables.Kind.TheVariants as Kinds
 use Rattle.adb_view.specs.declared.tables.Which.TheVariants as Tables
 use Rattle.adb_view.specs.Plain.{Plain, Plains, none, more, blob_or_null, arr_value, obj_value}
-use Rattle.adb_fields.specs.Repeated.{files_in, list_of, name_of}
+use Rattle.adb_copy.specs.adb_fields.Repeated.{files_in, list_of, name_of}
 use Rattle.adb_view.specs.Values.{entries_in, entry_in, value_at}
 use Rattle.adb_copy.specs.Zeros.{without_zeros}
 use Rattle.adb_copy.proofs.Known.{known_closed_object, known_opened}
-use Rattle.adb_values.specs.Drafts.{draft_with, draft_with_all, draft_with_open_list}
-use Rattle.adb_values.proofs.Lists.{closed, on_ok}
+use Rattle.adb_copy.specs.adb_values.Drafts.{draft_with, draft_with_all, draft_with_open_list}
+use Rattle.adb_copy.proofs.adb_values.Lists.{closed, on_ok}
 use Rattle.db_write.specs.NewDatabase.{owned_entries}
 use Rattle.db_write.proofs.folders.write_folder.Goals as goal
 

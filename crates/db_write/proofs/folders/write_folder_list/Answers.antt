@@ -1,14 +1,14 @@
 use Rattle.std.proofs.Common.{◌≡◌, ℕ, List, ◌<◌, length, arith, refl}
 use Rattle.adb_view.specs.Adb.{payload_of}
 use Rattle.adb_view.specs.Entries.{array_entries}
-use Rattle.adb_fields.specs.Fields.{array_at}
+use Rattle.adb_copy.specs.adb_fields.Fields.{array_at}
 use Rattle.adb_view.specs.declared.tables.Kind.TheVariants as Kinds
 use Rattle.adb_view.specs.declared.tables.Which.TheVariants as Tables
 use Rattle.adb_view.specs.Plain.{Plains, arr_value}
-use Rattle.adb_fields.specs.Repeated.{list_of}
+use Rattle.adb_copy.specs.adb_fields.Repeated.{list_of}
 use Rattle.adb_view.specs.Values.{entries_in, value_at}
-use Rattle.adb_values.specs.Drafts.{draft_with_all, draft_with_open_list}
-use Rattle.adb_values.proofs.Lists.{closed, on_ok}
+use Rattle.adb_copy.specs.adb_values.Drafts.{draft_with_all, draft_with_open_list}
+use Rattle.adb_copy.proofs.adb_values.Lists.{closed, on_ok}
 use Rattle.adb_copy.proofs.Known.{known_closed_array, known_opened}
 use Rattle.adb_copy.proofs.ReadWords.{word_sound}
 use Rattle.db_write.specs.NewDatabase.{file_count, folder_after, folders_after}

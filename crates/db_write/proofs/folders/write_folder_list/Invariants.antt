@@ -2,12 +2,12 @@
 use Rattle.std.proofs.Common.{◌≡◌, drop}
 use Rattle.adb_view.specs.Adb.{payload_of}
 use Rattle.adb_view.specs.Entries.{array_entries}
-use Rattle.adb_fields.specs.Fields.{array_at}
+use Rattle.adb_copy.specs.adb_fields.Fields.{array_at}
 use Rattle.adb_view.specs.declared.tables.Kind.TheVariants as Kinds
 use Rattle.adb_view.specs.declared.tables.Which.TheVariants as Tables
-use Rattle.adb_fields.specs.Repeated.{list_of}
+use Rattle.adb_copy.specs.adb_fields.Repeated.{list_of}
 use Rattle.adb_view.specs.Values.{entries_in}
-use Rattle.adb_values.specs.Drafts.{draft_with_all}
+use Rattle.adb_copy.specs.adb_values.Drafts.{draft_with_all}
 use Rattle.adb_copy.specs.Known.{AreBlobsOf}
 use Rattle.db_write.specs.NewDatabase.{each_by_flags, file_count, folder_after}
 use Rattle.db_write.proofs.folders.write_folder_list.Given as goal

@@ -1,5 +1,5 @@
 use Rattle.adb_copy.specs.Zeros.{without_zeros}
-use Rattle.adb_fields.specs.Repeated.{name_of}
+use Rattle.adb_copy.specs.adb_fields.Repeated.{name_of}
 use Rattle.adb_view.specs.Values.{entry_in}
 use Rattle.db_write.proofs.KeptParts.{folder_acl, folder_parts}
 use Rattle.db_write.proofs.RootNames.{folder_name}

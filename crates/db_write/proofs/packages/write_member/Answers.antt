@@ -2,12 +2,12 @@ use Rattle.std.proofs.Common.{◌≡◌, ◌∙◌, ℕ, false, List, Option, So
 use Rattle.std.specs.Prelude.{is_some}
 use Rattle.adb_view.specs.Adb.{payload_of}
 use Rattle.adb_view.specs.Plain.{Plain}
-use Rattle.adb_schema.specs.Views.{package_value}
+use Rattle.adb_sound.specs.adb_schema.Views.{package_value}
 use Rattle.adb_view.specs.Values.{value_at}
 use Rattle.adb_view.specs.declared.tables.Kind.TheVariants as Kinds
 use Rattle.adb_view.specs.declared.tables.Which.TheVariants as Tables
-use Rattle.adb_values.specs.Drafts.{draft_with}
-use Rattle.adb_values.proofs.Lists.{on_ok}
+use Rattle.adb_copy.specs.adb_values.Drafts.{draft_with}
+use Rattle.adb_copy.proofs.adb_values.Lists.{on_ok}
 use Rattle.adb_copy.specs.Known.{AreBlobsOf}
 use Rattle.adb_copy.proofs.Known.{known_more}
 use Rattle.db_core.specs.Seen.{members_of, payload_before}

@@ -5,8 +5,8 @@ use Rattle.adb_view.specs.Plain.{Plain}
 use Rattle.adb_view.specs.Values.{entry_in, int_in, text_in, value_at}
 use Rattle.adb_view.specs.declared.tables.Kind.TheVariants as Kinds
 use Rattle.adb_view.specs.declared.tables.Which.TheVariants as Tables
-use Rattle.adb_values.specs.Drafts.{draft_with}
-use Rattle.adb_values.proofs.Lists.{on_ok}
+use Rattle.adb_copy.specs.adb_values.Drafts.{draft_with}
+use Rattle.adb_copy.proofs.adb_values.Lists.{on_ok}
 use Rattle.adb_copy.specs.Zeros.{info_with}
 use Rattle.db_write.proofs.packages.write_member_info.Goals as goal
 

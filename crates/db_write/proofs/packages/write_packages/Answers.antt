@@ -1,6 +1,6 @@
 use Rattle.std.proofs.Common.{arith, refl}
 use Rattle.adb_view.specs.Plain.{arr_value}
-use Rattle.adb_values.proofs.Lists.{closed}
+use Rattle.adb_copy.proofs.adb_values.Lists.{closed}
 use Rattle.adb_copy.proofs.Known.{known_opened}
 use Rattle.db_core.specs.Seen.{members_of, payload_before}
 use Rattle.db_write.specs.NewDatabase.{member_file_count, package_after, packages_after}

@@ -1,6 +1,6 @@
 -- With the members that are left, by the flags that are left, it has all.
 use Rattle.std.proofs.Common.{◌≡◌, drop}
-use Rattle.adb_values.specs.Drafts.{draft_with_all}
+use Rattle.adb_copy.specs.adb_values.Drafts.{draft_with_all}
 use Rattle.adb_copy.specs.Known.{AreBlobsOf}
 use Rattle.db_core.specs.Seen.{members_of, payload_before}
 use Rattle.db_write.specs.NewDatabase.{each_by_flags, member_file_count, package_after}

@@ -1,15 +1,15 @@
 use Rattle.base_core.specs.Listed.{IsRising}
-use Rattle.own_core.specs.Planned.{IsOpenName}
+use Rattle.change_report.specs.own_core.Planned.{IsOpenName}
 use Rattle.std.proofs.Common.{All, sym, true, false, ◌≡◌, ◌++◌, ◌∙◌, List, Some, map, Ok, Err, ap, subst}
 use Rattle.std.specs.Prelude.{slice_get}
-use Rattle.change_files.specs.PlanLists.{names_in_order}
-use Rattle.change_outcome.specs.ChangeOutcome.{name_if_needed}
-use Rattle.db_core.specs.Members.{Member}
-use Rattle.journal_core.specs.Staged.{new_stage}
+use Rattle.change_report.specs.change_files.PlanLists.{names_in_order}
+use Rattle.change_report.specs.change_outcome.ChangeOutcome.{name_if_needed}
+use Rattle.change_report.specs.db_core.Members.{Member}
+use Rattle.change_report.specs.journal_core.Staged.{new_stage}
 use Rattle.root_names.specs.RootNames.{text_database_name}
-use Rattle.stage_files.specs.Carried.{IsCarriedTo}
-use Rattle.stage_files.specs.Spoiled.{HasSpoiledFile}
-use Rattle.stage_files.specs.declared.writes.StagedWrite.{StagedWrite}
+use Rattle.journal_staging.specs.Carried.{IsCarriedTo}
+use Rattle.journal_staging.specs.Spoiled.{HasSpoiledFile}
+use Rattle.journal_staging.specs.declared.writes.StagedWrite.{StagedWrite}
 use Rattle.engine_core.specs.Carrying.{ready_change}
 use Rattle.engine_core.specs.ChangeRun.{CarriesOut}
 use Rattle.engine_core.specs.Finishing.{arrived_inputs, arrived_replacement}

@@ -1,5 +1,5 @@
 use Rattle.std.proofs.Common.{Bool, ◌++◌, map}
-use Rattle.change_outcome.specs.Triggers.{unless_trigger}
+use Rattle.change_report.specs.change_outcome.Triggers.{unless_trigger}
 use Rattle.engine_core.specs.ChangeRun.{CarriesOut}
 use Rattle.engine_core.proofs.Carries.{part_fails}
 use Rattle.engine_core.proofs.SelectedRuns.{with_error}

@@ -1,7 +1,7 @@
 use Rattle.std.proofs.Common.{◌∙◌, sym, ap, subst}
-use Rattle.change_inputs.specs.Inputs.{Inputs}
-use Rattle.change_inputs.specs.Seen.{inputs_seen}
-use Rattle.change_inputs.specs.declared.root.Refused.TheVariants.{Memory}
+use Rattle.change_report.specs.change_inputs.Inputs.{Inputs}
+use Rattle.change_report.specs.change_inputs.Seen.{inputs_seen}
+use Rattle.change_report.specs.change_inputs.declared.root.Refused.TheVariants.{Memory}
 use Rattle.command_core.specs.declared.command.Flags.{Flags}
 use Rattle.engine_core.specs.ChangeRun.{IsChangeRun}
 use Rattle.engine_core.specs.Finishing.{IsRootRead}

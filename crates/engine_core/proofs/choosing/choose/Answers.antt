@@ -1,7 +1,7 @@
 use Rattle.std.proofs.Common.{◌∙◌, refl, sym, ap}
-use Rattle.change_inputs.specs.Candidates.{root_pool}
-use Rattle.change_inputs.specs.Seen.{inputs_seen}
-use Rattle.change_inputs.specs.declared.root.Refused.TheVariants.{Memory}
+use Rattle.change_report.specs.change_inputs.Candidates.{root_pool}
+use Rattle.change_report.specs.change_inputs.Seen.{inputs_seen}
+use Rattle.change_report.specs.change_inputs.declared.root.Refused.TheVariants.{Memory}
 use Rattle.engine_core.specs.SelectionSeen.{IsSelectedFrom}
 use Rattle.engine_core.specs.Selecting.{replacement_of_choice}
 use Rattle.engine_core.proofs.Pools.{pool_world}

@@ -1,6 +1,6 @@
 use Rattle.std.proofs.Common.{◌∙◌, ap}
 use Rattle.adb_view.specs.Values.{entry_in, text_in}
-use Rattle.db_core.specs.Seen.{members_of}
+use Rattle.change_report.specs.db_core.Seen.{members_of}
 use Rattle.report_core.specs.declared.refusal.Refusal.TheVariants.{PackageBad}
 use Rattle.engine_core.proofs.Members.{at_place}
 use Rattle.engine_core.proofs.finishing.package_bad.Goals as goal

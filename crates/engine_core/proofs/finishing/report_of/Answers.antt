@@ -3,9 +3,9 @@ use Rattle.std.specs.Prelude.{IfOk}
 use Rattle.std.specs.List.{filter_map}
 use Rattle.std.specs.declared.alloc.AllocError.{AllocError}
 use Rattle.adb_view.specs.Plain.{Plain}
-use Rattle.change_outcome.specs.ChangeOutcome.{change_report, file_change}
-use Rattle.package_changes.specs.Placed.{PlacedChange, candidates_at, change_in}
-use Rattle.package_changes.specs.Seen.{replacement_by}
+use Rattle.change_report.specs.change_outcome.ChangeOutcome.{change_report, file_change}
+use Rattle.change_report.specs.package_changes.Placed.{PlacedChange, candidates_at, change_in}
+use Rattle.change_report.specs.package_changes.Seen.{replacement_by}
 use Rattle.engine_core.specs.Finishing.{arrived_inputs}
 use Rattle.engine_core.specs.Wishes.{wishes_of}
 use Rattle.engine_core.proofs.Reporting.{changes_named}

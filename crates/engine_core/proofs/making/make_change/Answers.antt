@@ -1,4 +1,4 @@
-use Rattle.change_inputs.specs.declared.root.Refused.TheVariants.{Memory}
+use Rattle.change_report.specs.change_inputs.declared.root.Refused.TheVariants.{Memory}
 use Rattle.std.proofs.Common.{◌∙◌}
 use Rattle.std.specs.Prelude.{Ok}
 use Rattle.engine_core.specs.Runs.{IsRunCounted, IsSelectedRun}

@@ -2,7 +2,7 @@ use Rattle.std.proofs.Common.{subst}
 use Rattle.base_core.specs.Calls.{IfObservable}
 use Rattle.base_core.specs.Tree.{files_of}
 use Rattle.command_core.specs.declared.command.Flags.{Flags}
-use Rattle.own_core.specs.Planned.{IsPlanOf, IsRefusalOf, MayBeRefusalOf, change_by}
+use Rattle.change_report.specs.own_core.Planned.{IsPlanOf, IsRefusalOf, MayBeRefusalOf, change_by}
 use Rattle.engine_core.proofs.PlanSteps.{plan_read, refused_read}
 use Rattle.engine_core.proofs.planning.plan_files.Goals as goal
 

@@ -1,7 +1,7 @@
 use Rattle.std.proofs.Common.{◌≡◌, ◌∙◌, ℕ, Bool, List, [], ◌∷◌, ◌++◌, Bor, Result, Ok, Err, ap, sym, map, refl}
 use Rattle.std.specs.Prelude.{IfOk}
 use Rattle.std.specs.declared.alloc.AllocError.{AllocError}
-use Rattle.change_outcome.specs.ChangeOutcome.{name_if_needed}
+use Rattle.change_report.specs.change_outcome.ChangeOutcome.{name_if_needed}
 use Rattle.base_core.specs.ByteOrder.{bytes_cmp}
 use Rattle.base_core.specs.Sorted.{sorted_by}
 use Rattle.root_names.specs.RootNames.{text_database_name}

@@ -1,6 +1,6 @@
 use Rattle.std.proofs.Common.{arith, ap, ◌∙◌}
-use Rattle.db_core.specs.Seen.{packages_of}
-use Rattle.package_changes.specs.Report.{was_installed}
+use Rattle.change_report.specs.db_core.Seen.{packages_of}
+use Rattle.change_report.specs.package_changes.Report.{was_installed}
 use Rattle.engine_core.proofs.Known.{all_known, known_here, unknown_here}
 use Rattle.engine_core.proofs.wishes.first_not_installed.Goals as goal
 

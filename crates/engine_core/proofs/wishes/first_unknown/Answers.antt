@@ -1,5 +1,5 @@
 use Rattle.std.proofs.Common.{arith, ap, ◌∙◌}
-use Rattle.change_inputs.specs.Seen.{inputs_seen}
+use Rattle.change_report.specs.change_inputs.Seen.{inputs_seen}
 use Rattle.engine_core.specs.Wishes.{is_known_name}
 use Rattle.engine_core.proofs.Known.{all_known, known_here, unknown_here}
 use Rattle.engine_core.proofs.wishes.first_unknown.Goals as goal

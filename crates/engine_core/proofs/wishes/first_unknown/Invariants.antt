@@ -1,5 +1,5 @@
 use Rattle.std.proofs.Common.{◌≡◌, drop}
-use Rattle.change_inputs.specs.Seen.{inputs_seen}
+use Rattle.change_report.specs.change_inputs.Seen.{inputs_seen}
 use Rattle.engine_core.specs.Wishes.{first_unknown, is_known_name}
 use Rattle.engine_core.proofs.wishes.first_unknown.Given as goal
 

@@ -1,7 +1,7 @@
 use Rattle.std.proofs.Common.{ap, ◌∙◌}
 use Rattle.std.specs.Prelude.{is_some}
-use Rattle.db_core.specs.Packages.{is_package_named}
-use Rattle.db_core.specs.Seen.{packages_of}
+use Rattle.change_report.specs.db_core.Packages.{is_package_named}
+use Rattle.change_report.specs.db_core.Seen.{packages_of}
 use Rattle.engine_core.proofs.Known.{is_found}
 use Rattle.engine_core.proofs.wishes.is_installed.Goals as goal
 

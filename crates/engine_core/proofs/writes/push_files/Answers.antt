@@ -1,9 +1,9 @@
 use Rattle.std.proofs.Common.{◌∙◌, ap, sym, refl, length, arith}
 use Rattle.std.specs.Prelude.{slice_get}
-use Rattle.db_core.specs.Seen.{members_of}
-use Rattle.own_core.specs.Planned.{IsOfAddedFile}
-use Rattle.own_core.specs.WritesSeen.{write_seen, writes_in}
-use Rattle.own_core.specs.declared.writes.Writes.{Writes}
+use Rattle.change_report.specs.db_core.Seen.{members_of}
+use Rattle.change_report.specs.own_core.Planned.{IsOfAddedFile}
+use Rattle.change_report.specs.own_core.WritesSeen.{write_seen, writes_in}
+use Rattle.change_report.specs.own_core.declared.writes.Writes.{Writes}
 use Rattle.engine_core.specs.Writing.{package_at}
 use Rattle.engine_core.proofs.Elements.{all_at}
 use Rattle.engine_core.proofs.Written.{all_wrote, none_wrote, one_wrote}

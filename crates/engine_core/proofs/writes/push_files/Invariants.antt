@@ -1,4 +1,4 @@
-use Rattle.db_core.specs.Seen.{members_of}
+use Rattle.change_report.specs.db_core.Seen.{members_of}
 use Rattle.engine_core.specs.Writing.{package_at}
 use Rattle.engine_core.proofs.Written.{Wrote}
 use Rattle.engine_core.proofs.writes.push_files.Given as goal

@@ -1,6 +1,6 @@
 use Rattle.std.proofs.Common.{◌∙◌, ap, sym, true≢false}
 use Rattle.std.specs.Prelude.{Option, is_some}
-use Rattle.package_test.specs.declared.package.TestedPackage.{TestedPackage}
+use Rattle.journal_staging.specs.package_verifier.declared.package.TestedPackage.{TestedPackage}
 use Rattle.engine_core.proofs.writes.source_of.Goals as goal
 
 pub unreachable-requires : goal.unreachable-requires

@@ -1,6 +1,6 @@
 use Rattle.std.proofs.Common.{◌∙◌, ◌++◌, List, ap}
-use Rattle.db_core.specs.Seen.{members_of}
-use Rattle.stage_files.specs.declared.writes.StagedWrite.{StagedWrite}
+use Rattle.change_report.specs.db_core.Seen.{members_of}
+use Rattle.journal_staging.specs.declared.writes.StagedWrite.{StagedWrite}
 use Rattle.engine_core.specs.Writing.{package_at, record_writes}
 use Rattle.engine_core.proofs.Written.{each_gathered, names_gathered}
 use Rattle.engine_core.proofs.writes.writes_of.Goals as goal

@@ -1,6 +1,6 @@
 use Rattle.std.proofs.Common.{arith, ap, map, ◌∙◌, ◌≡◌, ◌+◌, ◌-◌}
-use Rattle.adb_fields.specs.ListValue.{list_value}
-use Rattle.adb_fields.specs.Repeated.{name_of}
+use Rattle.path_claims.specs.adb_fields.ListValue.{list_value}
+use Rattle.path_claims.specs.adb_fields.Repeated.{name_of}
 use Rattle.adb_view.specs.Values.{entries_in, entry_in}
 use Rattle.path_claims.specs.Seen.{claim_seen}
 use Rattle.file_owners.proofs.Gathering.{file_added, files_added}

@@ -1,6 +1,6 @@
 -- What is left of the files is still to be added.
 use Rattle.std.proofs.Common.{map}
-use Rattle.adb_fields.specs.ListValue.{list_value}
+use Rattle.path_claims.specs.adb_fields.ListValue.{list_value}
 use Rattle.adb_view.specs.Values.{entries_in}
 use Rattle.db_core.specs.Members.{Member}
 use Rattle.path_claims.specs.Seen.{claim_seen}

@@ -1,5 +1,5 @@
 use Rattle.std.proofs.Common.{arith, map}
-use Rattle.adb_fields.specs.ListValue.{list_value}
+use Rattle.path_claims.specs.adb_fields.ListValue.{list_value}
 use Rattle.adb_view.specs.Values.{entries_in}
 use Rattle.path_claims.specs.Seen.{claim_seen}
 use Rattle.file_owners.proofs.Gathering.{folder_added, folders_added}

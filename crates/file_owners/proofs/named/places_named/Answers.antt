@@ -1,9 +1,9 @@
 use Rattle.std.proofs.Common.{◌≡◌, ◌∙◌, ap, subst, sym}
 use Rattle.std.specs.List.{list_any}
-use Rattle.adb_fields.specs.Fields.{array_at}
-use Rattle.adb_fields.specs.Repeated.{list_of}
-use Rattle.adb_schema.specs.SoundValues.{IsSoundDependency}
-use Rattle.adb_schema.specs.Views.{package_value}
+use Rattle.path_claims.specs.adb_fields.Fields.{array_at}
+use Rattle.path_claims.specs.adb_fields.Repeated.{list_of}
+use Rattle.db_core.specs.adb_schema.SoundValues.{IsSoundDependency}
+use Rattle.db_core.specs.adb_schema.Views.{package_value}
 use Rattle.adb_view.specs.Values.{entries_in, entry_in}
 use Rattle.adb_view.specs.declared.tables.Kind.TheVariants as Kinds
 use Rattle.adb_view.specs.declared.tables.Which.TheVariants as Tables

@@ -1,6 +1,6 @@
 use Rattle.std.proofs.Common.{◌∙◌, ap, map, arith}
 use Rattle.std.proofs.lemmas.List.{map_push}
-use Rattle.adb_schema.specs.Views.{package_value}
+use Rattle.db_core.specs.adb_schema.Views.{package_value}
 use Rattle.db_core.specs.Seen.{members_of}
 use Rattle.file_owners.proofs.NamedPlaces.{all_gathered, member_gathered}
 use Rattle.file_owners.proofs.SoundMembers.{replaced_sound}

@@ -1,7 +1,7 @@
 use Rattle.std.proofs.Common.{◌≡◌, ◌<◌, List, ℕ, Some, map, length, arith, ap, sym, ◌∙◌}
 use Rattle.std.specs.Prelude.{slice_get}
 use Rattle.std.proofs.lemmas.List.{length-map}
-use Rattle.adb_schema.specs.Views.{package_value}
+use Rattle.db_core.specs.adb_schema.Views.{package_value}
 use Rattle.db_core.specs.Seen.{members_of}
 use Rattle.file_owners.proofs.NamedPlaces.{by_preference, kept_at, not_back, not_named, rising_at}
 use Rattle.file_owners.proofs.owner.member_beats.Goals as goal

@@ -1,6 +1,6 @@
 use Rattle.std.proofs.Common.{◌∙◌, ap, cond, false, sym}
 use Rattle.std.specs.Prelude.{◌==◌, slice_get}
-use Rattle.adb_schema.specs.Views.{package_value}
+use Rattle.db_core.specs.adb_schema.Views.{package_value}
 use Rattle.adb_view.specs.Adb.{payload_of}
 use Rattle.adb_view.specs.Plain.{Plain}
 use Rattle.db_core.specs.Seen.{members_of}

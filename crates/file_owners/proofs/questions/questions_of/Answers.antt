@@ -1,9 +1,9 @@
 use Rattle.std.proofs.Common.{◌<◌, ℕ, List, length, sym, subst, arith}
 use Rattle.std.specs.Prelude.{All}
-use Rattle.adb_fields.specs.Fields.{array_at}
-use Rattle.adb_fields.proofs.FieldReads.{entry_count}
-use Rattle.adb_schema.specs.SoundValues.{IsSoundDependency}
-use Rattle.adb_schema.proofs.SoundLeaves.{each_at}
+use Rattle.path_claims.specs.adb_fields.Fields.{array_at}
+use Rattle.path_claims.proofs.adb_fields.FieldReads.{entry_count}
+use Rattle.db_core.specs.adb_schema.SoundValues.{IsSoundDependency}
+use Rattle.db_core.proofs.adb_schema.SoundLeaves.{each_at}
 use Rattle.adb_view.specs.Values.{entries_in, value_at}
 use Rattle.adb_view.specs.declared.tables.Kind.{Kind}
 use Rattle.adb_view.specs.declared.tables.Kind.TheVariants as Kinds

@@ -1,6 +1,6 @@
 -- The questions so far, and the entries that are left, make up all that is asked.
 use Rattle.std.specs.Prelude.{All}
-use Rattle.adb_fields.specs.Fields.{array_at}
+use Rattle.path_claims.specs.adb_fields.Fields.{array_at}
 use Rattle.adb_view.specs.Values.{entries_in}
 use Rattle.adb_view.specs.declared.tables.Kind.TheVariants as Kinds
 use Rattle.adb_view.specs.declared.tables.Which.TheVariants as Tables

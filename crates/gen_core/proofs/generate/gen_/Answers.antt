@@ -1,8 +1,8 @@
 use Rattle.std.proofs.Common.{◌≡◌, ℕ, List, Ok, Err, Result, sym, subst, ap, ◌∙◌}
 use Rattle.std.proofs.lemmas.Result.{err_from_is_err_and}
 use Rattle.adb_values.specs.Drafts.{DraftState, empty_draft}
-use Rattle.adb_write.specs.Canonical.{PayloadCounts}
-use Rattle.adb_write.specs.File.{file_of}
+use Rattle.adb_values.specs.adb_write.Canonical.{PayloadCounts}
+use Rattle.adb_values.specs.adb_write.File.{file_of}
 use Rattle.gen_core.specs.Generated.{IsGenFault, dumped_root, file_unless_too_large, generated_file, word_of_root}
 use Rattle.gen_core.specs.Reads.{IsTextFault, root_taken}
 use Rattle.gen_core.specs.declared.generate.GenFault.{GenFault}

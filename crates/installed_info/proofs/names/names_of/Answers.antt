@@ -1,6 +1,6 @@
 use Rattle.std.proofs.Common.{◌+◌, ℕ, List, Bor, map, drop, arith}
-use Rattle.adb_fields.specs.Repeated.{package_name}
-use Rattle.db_core.specs.Seen.{packages_of}
+use Rattle.candidate_core.specs.adb_fields.Repeated.{package_name}
+use Rattle.file_owners.specs.db_core.Seen.{packages_of}
 use Rattle.installed_info.proofs.LineSteps.{mapped_left, pushed}
 use Rattle.installed_info.proofs.names.names_of.Goals as goal
 

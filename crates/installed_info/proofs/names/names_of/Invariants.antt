@@ -1,7 +1,7 @@
 -- The names of the packages that are left are still to come.
 use Rattle.std.proofs.Common.{◌≡◌, ◌++◌, map, drop}
-use Rattle.adb_fields.specs.Repeated.{package_name}
-use Rattle.db_core.specs.Seen.{packages_of}
+use Rattle.candidate_core.specs.adb_fields.Repeated.{package_name}
+use Rattle.file_owners.specs.db_core.Seen.{packages_of}
 use Rattle.installed_info.proofs.names.names_of.Given as goal
 
 abbrev pub invariant-loop-i : goal.invariant-loop-i

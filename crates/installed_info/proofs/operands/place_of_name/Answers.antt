@@ -1,8 +1,8 @@
 use Rattle.std.proofs.Common.{◌∙◌, ap}
 use Rattle.std.specs.Prelude.{slice_get}
 use Rattle.std.specs.Option.{option_and_then}
-use Rattle.db_core.specs.Packages.{is_package_named}
-use Rattle.db_core.specs.Seen.{packages_of}
+use Rattle.file_owners.specs.db_core.Packages.{is_package_named}
+use Rattle.file_owners.specs.db_core.Seen.{packages_of}
 use Rattle.installed_info.proofs.Found.{found_at}
 use Rattle.installed_info.proofs.operands.place_of_name.Goals as goal
 

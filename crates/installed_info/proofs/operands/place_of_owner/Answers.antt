@@ -1,8 +1,8 @@
 use Rattle.std.proofs.Common.{◌≡◌, ◌∙◌, ap, sym, subst}
 use Rattle.std.specs.Prelude.{IfSome, is_some, slice_get}
 use Rattle.std.specs.Option.{option_and_then}
-use Rattle.db_core.specs.Packages.{lists_path}
-use Rattle.db_core.specs.Seen.{packages_of}
+use Rattle.file_owners.specs.db_core.Packages.{lists_path}
+use Rattle.file_owners.specs.db_core.Seen.{packages_of}
 use Rattle.installed_info.specs.Packages.{path_owner}
 use Rattle.installed_info.proofs.Found.{found_at}
 use Rattle.installed_info.proofs.NoName.{no_owner}

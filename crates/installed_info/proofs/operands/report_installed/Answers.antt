@@ -2,7 +2,7 @@ use Rattle.std.proofs.Common.{◌∙◌, ◌+◌, ◌++◌, [], drop, ap}
 use Rattle.std.specs.Prelude.{is_some}
 use Rattle.std.specs.Option.{option_map_or}
 use Rattle.command_core.specs.declared.operands.Operand.{Operand}
-use Rattle.db_core.specs.Seen.{packages_of}
+use Rattle.file_owners.specs.db_core.Seen.{packages_of}
 use Rattle.report_core.specs.declared.refusal.Refusal.TheVariants.{NotInstalled}
 use Rattle.installed_info.specs.Info.{info_refusal, operand_info, operands_info, package_info}
 use Rattle.installed_info.specs.Packages.{package_asked}

@@ -2,7 +2,7 @@
 use Rattle.std.proofs.Common.{◌≡◌, ℕ, List, ◌++◌, drop}
 use Rattle.adb_view.specs.Plain.{Plain}
 use Rattle.command_core.specs.declared.operands.Operand.{Operand}
-use Rattle.db_core.specs.Seen.{packages_of}
+use Rattle.file_owners.specs.db_core.Seen.{packages_of}
 use Rattle.installed_info.specs.Info.{info_refusal, operands_info}
 use Rattle.installed_info.specs.declared.telling.Form.{Form}
 use Rattle.installed_info.proofs.operands.report_operands.Given as goal

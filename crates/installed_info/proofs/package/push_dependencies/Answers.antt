@@ -1,8 +1,8 @@
 use Rattle.std.proofs.Common.{◌≡◌, ◌∙◌, ◌+◌, ◌-◌, ◌++◌, [], map, drop, ap, arith}
 use Rattle.std.specs.Option.{option_map_or}
-use Rattle.adb_fields.specs.ListValue.{list_value}
-use Rattle.adb_fields.specs.Repeated.{list_of}
-use Rattle.adb_fields.proofs.Listed.{none_listed}
+use Rattle.candidate_core.specs.adb_fields.ListValue.{list_value}
+use Rattle.candidate_core.specs.adb_fields.Repeated.{list_of}
+use Rattle.candidate_core.proofs.adb_fields.Listed.{none_listed}
 use Rattle.adb_view.specs.Values.{entries_in, entry_in, nth}
 use Rattle.dep_core.specs.DependencyText.{dep_text}
 use Rattle.candidate_core.specs.Candidates.{dependency_in}

@@ -1,7 +1,7 @@
 -- The lines of the entries that are left are still to be added.
 use Rattle.std.proofs.Common.{◌≡◌, ◌++◌, drop}
-use Rattle.adb_fields.specs.ListValue.{list_value}
-use Rattle.adb_fields.specs.Repeated.{list_of}
+use Rattle.candidate_core.specs.adb_fields.ListValue.{list_value}
+use Rattle.candidate_core.specs.adb_fields.Repeated.{list_of}
 use Rattle.adb_view.specs.Values.{entries_in}
 use Rattle.installed_info.proofs.LineSteps.{dependency_lines}
 use Rattle.installed_info.proofs.package.push_dependencies.Given as goal

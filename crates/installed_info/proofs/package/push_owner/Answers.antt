@@ -1,6 +1,6 @@
 use Rattle.std.specs.Prelude.{codes}
-use Rattle.adb_fields.specs.Repeated.{package_name}
-use Rattle.adb_schema.specs.Views.{package_value}
+use Rattle.candidate_core.specs.adb_fields.Repeated.{package_name}
+use Rattle.candidate_core.specs.adb_schema.Views.{package_value}
 use Rattle.file_owners.specs.Replaces.{version_text}
 use Rattle.report_core.specs.Reports.{name_version}
 use Rattle.installed_info.proofs.LineSteps.{owned}

@@ -1,9 +1,9 @@
 use Rattle.std.proofs.Common.{◌≡◌, ◌∙◌, ◌+◌, ◌-◌, ◌++◌, ℕ, List, map, drop, ap, arith}
 use Rattle.adb_view.specs.Plain.{Plain}
-use Rattle.adb_fields.specs.ListValue.{list_value}
-use Rattle.adb_fields.specs.Paths.{path_of}
-use Rattle.adb_fields.specs.Repeated.{list_of, name_of}
-use Rattle.adb_fields.proofs.Listed.{next_listed, none_listed}
+use Rattle.candidate_core.specs.adb_fields.ListValue.{list_value}
+use Rattle.candidate_core.specs.adb_fields.Paths.{path_of}
+use Rattle.candidate_core.specs.adb_fields.Repeated.{list_of, name_of}
+use Rattle.candidate_core.proofs.adb_fields.Listed.{next_listed, none_listed}
 use Rattle.adb_view.specs.Values.{entries_in, entry_in, nth}
 use Rattle.report_core.specs.Reports.{report_line, report_lines}
 use Rattle.installed_info.proofs.LineSteps.{all_told, told}

@@ -1,8 +1,8 @@
 -- What is left of the paths is still to be added.
 use Rattle.std.proofs.Common.{◌≡◌, ◌++◌, map, drop}
-use Rattle.adb_fields.specs.ListValue.{list_value}
-use Rattle.adb_fields.specs.Paths.{path_of}
-use Rattle.adb_fields.specs.Repeated.{list_of, name_of}
+use Rattle.candidate_core.specs.adb_fields.ListValue.{list_value}
+use Rattle.candidate_core.specs.adb_fields.Paths.{path_of}
+use Rattle.candidate_core.specs.adb_fields.Repeated.{list_of, name_of}
 use Rattle.adb_view.specs.Values.{entries_in}
 use Rattle.report_core.specs.Reports.{report_lines}
 use Rattle.installed_info.proofs.paths.push_files.Given as goal

@@ -1,8 +1,8 @@
 use Rattle.std.proofs.Common.{◌+◌, drop, ap, arith}
 use Rattle.std.specs.List.{flat_map}
-use Rattle.adb_fields.specs.ListValue.{list_value}
-use Rattle.adb_fields.specs.Repeated.{list_of, paths_under}
-use Rattle.adb_fields.proofs.Listed.{none_listed}
+use Rattle.candidate_core.specs.adb_fields.ListValue.{list_value}
+use Rattle.candidate_core.specs.adb_fields.Repeated.{list_of, paths_under}
+use Rattle.candidate_core.proofs.adb_fields.Listed.{none_listed}
 use Rattle.adb_view.specs.Values.{entries_in, nth}
 use Rattle.report_core.specs.Reports.{report_lines}
 use Rattle.installed_info.proofs.LineSteps.{all_told, folder_left, told}

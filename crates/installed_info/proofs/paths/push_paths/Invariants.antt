@@ -1,8 +1,8 @@
 -- What is left of the folders is still to be added.
 use Rattle.std.proofs.Common.{◌≡◌, ◌++◌, drop}
 use Rattle.std.specs.List.{flat_map}
-use Rattle.adb_fields.specs.ListValue.{list_value}
-use Rattle.adb_fields.specs.Repeated.{list_of, paths_under}
+use Rattle.candidate_core.specs.adb_fields.ListValue.{list_value}
+use Rattle.candidate_core.specs.adb_fields.Repeated.{list_of, paths_under}
 use Rattle.adb_view.specs.Values.{entries_in}
 use Rattle.report_core.specs.Reports.{report_lines}
 use Rattle.installed_info.proofs.paths.push_paths.Given as goal

@@ -1,5 +1,5 @@
-use Rattle.adb_fields.specs.Repeated.{entries_at, paths_in}
-use Rattle.db_core.specs.Packages.{lists_path}
+use Rattle.candidate_core.specs.adb_fields.Repeated.{entries_at, paths_in}
+use Rattle.file_owners.specs.db_core.Packages.{lists_path}
 use Rattle.installed_info.proofs.Listers.{found_is, listed, lister_owns}
 use Rattle.installed_info.proofs.telling.owners_are_those_that_list_a_path.Goals as goal
 

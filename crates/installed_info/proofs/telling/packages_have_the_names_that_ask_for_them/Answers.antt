@@ -1,6 +1,6 @@
 use Rattle.std.proofs.lemmas.Slice.Eq.{bytes_eq-Decides}
-use Rattle.adb_fields.specs.Repeated.{entries_at, package_name}
-use Rattle.db_core.specs.Packages.{is_package_named}
+use Rattle.candidate_core.specs.adb_fields.Repeated.{entries_at, package_name}
+use Rattle.file_owners.specs.db_core.Packages.{is_package_named}
 use Rattle.installed_info.proofs.Listers.{found_is, named_is}
 use Rattle.installed_info.proofs.telling.packages_have_the_names_that_ask_for_them.Goals as goal
 

@@ -1,9 +1,9 @@
 use Rattle.std.proofs.Common.{◌∙◌, Some, ap, arith, refl}
-use Rattle.adb_schema.specs.declared.read.TheConstants.{INTENT_WORD}
+use Rattle.adb_sound.specs.adb_schema.declared.read.TheConstants.{INTENT_WORD}
 use Rattle.adb_sound.specs.Root.{IsRootOf}
 use Rattle.adb_view.specs.declared.tables.Which.TheVariants as Tables
-use Rattle.adb_write.specs.Canonical.{overflow_of}
-use Rattle.adb_write.specs.Size.{size_of, value_count}
+use Rattle.adb_sound.specs.adb_write.Canonical.{overflow_of}
+use Rattle.adb_sound.specs.adb_write.Size.{size_of, value_count}
 use Rattle.journal_intent.specs.IntentValue.{intent_of_lists, value_of_intent}
 use Rattle.journal_intent.proofs.Limits.{fits_of, few_of}
 use Rattle.journal_intent.proofs.Sound.{header_is, intent_read, not_package}

@@ -1,9 +1,9 @@
 use Rattle.std.proofs.Common.{rules, ◌≤◌, ◌∙◌, ap, sym, subst, List, ℕ, length}
 use Rattle.std.specs.Prelude.{Vec}
 use Rattle.std.specs.declared.alloc.Global.{Global}
-use Rattle.adb_schema.specs.declared.read.TheConstants.{INTENT_WORD}
-use Rattle.adb_write.specs.Canonical.{MOST_BYTES}
-use Rattle.adb_write.specs.File.{file_of}
+use Rattle.adb_sound.specs.adb_schema.declared.read.TheConstants.{INTENT_WORD}
+use Rattle.adb_sound.specs.adb_write.Canonical.{MOST_BYTES}
+use Rattle.adb_sound.specs.adb_write.File.{file_of}
 use Rattle.journal_intent.specs.Intent.{Intent, read_intent}
 use Rattle.journal_intent.specs.IntentValue.{intent_of_lists, value_of_intent}
 use Rattle.journal_intent.proofs.Rooted.{intent_given, large_of, payload_fits, payload_large}

@@ -1,5 +1,5 @@
 use Rattle.std.proofs.Common.{arith, ◌∙◌, ap, ◌++◌, ◌∷◌, [], List, ℕ}
-use Rattle.adb_fields.specs.ListValue.{list_value}
+use Rattle.adb_sound.specs.adb_fields.ListValue.{list_value}
 use Rattle.adb_view.specs.Values.{entries_in}
 use Rattle.journal_intent.proofs.Texts.{at_nth, text_named, texts_all, texts_more}
 use Rattle.journal_intent.proofs.lists.names_in.Goals as goal

@@ -1,6 +1,6 @@
 use Rattle.std.proofs.Common.{◌≡◌, map, take}
-use Rattle.adb_fields.specs.Repeated.{list_of}
-use Rattle.adb_fields.specs.ListValue.{list_value}
+use Rattle.adb_sound.specs.adb_fields.Repeated.{list_of}
+use Rattle.adb_sound.specs.adb_fields.ListValue.{list_value}
 use Rattle.adb_view.specs.Values.{entries_in, text_in}
 use Rattle.journal_intent.proofs.lists.names_in.Given as goal
 

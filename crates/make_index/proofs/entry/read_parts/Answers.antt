@@ -1,6 +1,6 @@
 use Rattle.std.proofs.Common.{ap, ◌∙◌, ◌++◌, List, ℕ}
 use Rattle.sha2.specs.Sha256.{sha256}
-use Rattle.adb_schema.specs.Views.{info_value}
+use Rattle.pkg_core.specs.adb_schema.Views.{info_value}
 use Rattle.adb_view.specs.Values.{entry_in}
 use Rattle.make_index.proofs.IndexHeld.{holds_found, keyed_of, bytes_all}
 use Rattle.make_index.proofs.entry.read_parts.Goals as goal

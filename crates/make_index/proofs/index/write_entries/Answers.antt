@@ -1,6 +1,6 @@
 use Rattle.std.proofs.Common.{arith, map}
 use Rattle.adb_view.specs.Plain.{arr_value}
-use Rattle.adb_values.proofs.Lists.{closed}
+use Rattle.adb_copy.proofs.adb_values.Lists.{closed}
 use Rattle.make_info.specs.Values.{plains_of_list}
 use Rattle.make_info.proofs.Mapped.{mapped_left, mapped_open}
 use Rattle.make_index.specs.Views.{entry_view}

@@ -1,6 +1,6 @@
 use Rattle.std.proofs.Common.{map, refl}
 use Rattle.adb_view.specs.Plain.{none, more, arr_value, blob_or_null, obj_value}
-use Rattle.adb_values.proofs.Lists.{closed}
+use Rattle.adb_copy.proofs.adb_values.Lists.{closed}
 use Rattle.make_info.specs.Values.{plains_of_list}
 use Rattle.make_index.specs.Index.{value_of_index}
 use Rattle.make_index.specs.Views.{entry_view}

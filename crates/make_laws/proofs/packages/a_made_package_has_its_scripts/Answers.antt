@@ -1,7 +1,7 @@
 use Rattle.command_core.specs.declared.values.TheConstants.{SCRIPT}
 use Rattle.std.proofs.Common.{ap, sym, subst}
 use Rattle.adb_view.specs.declared.tables.Which.TheVariants.{Scripts}
-use Rattle.package_files.specs.Sources.{values_with}
+use Rattle.make_core.specs.package_files.Sources.{values_with}
 use Rattle.make_laws.proofs.MadeFrom.{made_from, scripts_are}
 use Rattle.make_laws.proofs.ScriptsGiven.{scripts_given}
 use Rattle.make_laws.specs.MadePackages.{contained_package}

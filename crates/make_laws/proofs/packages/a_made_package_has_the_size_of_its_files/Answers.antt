@@ -1,10 +1,10 @@
 use Rattle.std.proofs.Common.{codes, ap, sym, ◌∙◌}
 use Rattle.std.specs.Prelude.{sum_by}
 use Rattle.std.specs.List.{flat_map}
-use Rattle.adb_fields.specs.Repeated.{files_in}
+use Rattle.make_core.specs.adb_fields.Repeated.{files_in}
 use Rattle.adb_view.specs.Values.{int_in}
 use Rattle.adb_view.specs.declared.tables.Which.TheVariants.{PkgInfo}
-use Rattle.package_files.specs.Package.{installed_size}
+use Rattle.make_core.specs.package_files.Package.{installed_size}
 use Rattle.make_laws.proofs.MadeFrom.{folders_are, info_is, made_from}
 use Rattle.make_laws.proofs.SizesTold.{size_is, sizes_told}
 use Rattle.make_laws.specs.MadePackages.{contained_package, listed_file_size}

@@ -4,13 +4,13 @@ use Rattle.adb_view.specs.Values.{entry_in}
 use Rattle.adb_view.specs.declared.tables.Which.TheVariants.{PkgInfo}
 use Rattle.adb_view.specs.Plain.{Plain}
 use Rattle.command_core.specs.Command.{CommandLine}
-use Rattle.make_info.specs.declared.field.Field.{Field}
-use Rattle.make_info.specs.declared.field.Field.TheVariants as Fields
-use Rattle.make_info.specs.FieldTexts.{is_too_long, values_of_info}
-use Rattle.make_info.specs.Fields.{field_word}
-use Rattle.make_info.specs.Information.{InfoItem, information}
-use Rattle.make_info.specs.Reads.{Reads}
-use Rattle.package_files.specs.Package.{installed_size}
+use Rattle.make_core.specs.make_info.declared.field.Field.{Field}
+use Rattle.make_core.specs.make_info.declared.field.Field.TheVariants as Fields
+use Rattle.make_core.specs.make_info.FieldTexts.{is_too_long, values_of_info}
+use Rattle.make_core.specs.make_info.Fields.{field_word}
+use Rattle.make_core.specs.make_info.Information.{InfoItem, information}
+use Rattle.make_core.specs.make_info.Reads.{Reads}
+use Rattle.make_core.specs.package_files.Package.{installed_size}
 use Rattle.make_laws.proofs.MadeFrom.{IsMadeFrom, info_is, made_from, priority_is}
 use Rattle.make_laws.proofs.ToldFields.{items_of, say_of_field, told_info, told_priority, values_for}
 use Rattle.make_laws.specs.MadePackages.{contained_package}

@@ -1,5 +1,5 @@
 use Rattle.std.proofs.Common.{ap, ◌∙◌}
-use Rattle.make_info.specs.FieldTexts.{field_text_in}
+use Rattle.make_core.specs.make_info.FieldTexts.{field_text_in}
 use Rattle.make_laws.proofs.OptionTexts.{given, text_is}
 use Rattle.make_laws.proofs.values.a_text_gives_a_value_to_a_field.Goals as goal
 

@@ -2,7 +2,7 @@ use Rattle.std.proofs.Common.{refl}
 use Rattle.adb_view.proofs.ValueEntries.{nth_obj}
 use Rattle.adb_view.specs.Plain.{none, more, blob_or_null}
 use Rattle.dep_core.specs.Value.{dep_value}
-use Rattle.make_info.specs.Values.{number_value}
+use Rattle.make_core.specs.make_info.Values.{number_value}
 use Rattle.make_laws.proofs.values.a_value_is_stored_as_given.Goals as goal
 
 pub returns : goal.returns

@@ -1,5 +1,5 @@
-use Rattle.adb_copy.proofs.WithoutZeros.{int_zeros, text_zeros}
-use Rattle.adb_copy.proofs.Entries.{entry_zeros}
+use Rattle.make_core.proofs.adb_copy.WithoutZeros.{int_zeros, text_zeros}
+use Rattle.make_core.proofs.adb_copy.Entries.{entry_zeros}
 use Rattle.make_laws.proofs.EntryFields.{none_zero}
 use Rattle.make_laws.proofs.values.values_without_zeros_tell_the_same.Goals as goal
 

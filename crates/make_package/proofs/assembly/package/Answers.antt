@@ -1,7 +1,7 @@
 use Rattle.std.proofs.Common.{◌≡◌, ◌∙◌, ◌++◌, ap, subst, refl, List, ℕ, Ok, Err, arith}
-use Rattle.adb_schema.specs.declared.read.TheConstants.{PACKAGE_WORD}
+use Rattle.package_files.specs.adb_schema.declared.read.TheConstants.{PACKAGE_WORD}
 use Rattle.adb_view.specs.Plain.{Plain}
-use Rattle.adb_write.specs.File.{file_of}
+use Rattle.package_files.specs.adb_write.File.{file_of}
 use Rattle.make_package.specs.Answers.{IsBytes}
 use Rattle.make_package.specs.Making.{package_container}
 use Rattle.package_files.specs.Package.{contents_of_folders}

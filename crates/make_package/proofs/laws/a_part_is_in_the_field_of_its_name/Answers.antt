@@ -4,7 +4,7 @@ use Rattle.adb_view.specs.Schema.{table}
 use Rattle.adb_view.specs.declared.tables.Which.TheVariants.{Scripts}
 use Rattle.adb_view.specs.Plain.{blob_or_null}
 use Rattle.command_core.specs.Values.{script_types}
-use Rattle.make_info.specs.Named.{value_by_name}
+use Rattle.package_files.specs.make_info.Named.{value_by_name}
 use Rattle.package_files.specs.Package.{script_fields, script_in}
 use Rattle.make_package.proofs.laws.a_part_is_in_the_field_of_its_name.Goals as goal
 

@@ -1,8 +1,8 @@
 use Rattle.command_core.specs.declared.values.TheConstants.{SCRIPT}
 use Rattle.std.proofs.Common.{take, ℕ, Ok}
 use Rattle.base_core.specs.Read.{OnlyReads}
-use Rattle.make_info.specs.declared.fault.MakeFault.{MakeFault}
-use Rattle.make_info.specs.declared.fault.MakeFault.TheVariants.{Disk}
+use Rattle.package_files.specs.make_info.declared.fault.MakeFault.{MakeFault}
+use Rattle.package_files.specs.make_info.declared.fault.MakeFault.TheVariants.{Disk}
 use Rattle.make_package.specs.Scripts.{AreScripts}
 use Rattle.package_files.specs.Sources.{values_with, script_at}
 use Rattle.make_package.proofs.MadeRuns.{one_read}

@@ -1,6 +1,6 @@
 use Rattle.std.proofs.Common.{codes, refl}
 use Rattle.adb_view.specs.Plain.{none, more, int, blob_or_null, obj_value}
-use Rattle.adb_values.proofs.Lists.{closed}
+use Rattle.package_files.proofs.adb_values.Lists.{closed}
 use Rattle.make_package.proofs.writing.write_acl.Goals as goal
 
 pub returns : goal.returns

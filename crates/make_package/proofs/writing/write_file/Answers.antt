@@ -1,8 +1,8 @@
 use Rattle.std.proofs.Common.{List, ℕ, ap, refl, ◌∙◌}
 use Rattle.adb_view.specs.Plain.{blob_or_null, obj_value}
-use Rattle.adb_values.specs.Drafts.{draft_with}
-use Rattle.adb_values.proofs.Lists.{closed}
-use Rattle.make_info.specs.Values.{size_value}
+use Rattle.package_files.specs.adb_values.Drafts.{draft_with}
+use Rattle.package_files.proofs.adb_values.Lists.{closed}
+use Rattle.package_files.specs.make_info.Values.{size_value}
 use Rattle.package_files.specs.Package.{file_fields}
 use Rattle.make_package.proofs.writing.write_file.Goals as goal
 

@@ -1,5 +1,5 @@
 use Rattle.std.proofs.Common.{◌≡◌, drop, map}
-use Rattle.make_info.proofs.Mapped.{with_list}
+use Rattle.package_files.proofs.make_info.Mapped.{with_list}
 use Rattle.package_files.specs.Packed.{packed_file}
 use Rattle.make_package.proofs.writing.write_files.Given as goal
 

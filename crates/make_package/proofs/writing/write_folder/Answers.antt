@@ -1,8 +1,8 @@
 use Rattle.std.proofs.Common.{List, ap, map, refl, ◌∙◌}
 use Rattle.adb_view.specs.Plain.{arr_value, obj_value}
-use Rattle.adb_values.specs.Drafts.{draft_with}
-use Rattle.adb_values.proofs.Lists.{closed}
-use Rattle.make_info.specs.Values.{plains_of_list}
+use Rattle.package_files.specs.adb_values.Drafts.{draft_with}
+use Rattle.package_files.proofs.adb_values.Lists.{closed}
+use Rattle.package_files.specs.make_info.Values.{plains_of_list}
 use Rattle.package_files.specs.declared.file.File.{File}
 use Rattle.package_files.specs.Package.{folder_fields}
 use Rattle.package_files.specs.Packed.{packed_file}

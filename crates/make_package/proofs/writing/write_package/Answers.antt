@@ -1,10 +1,10 @@
 use Rattle.command_core.specs.declared.values.TheConstants.{TRIGGER}
 use Rattle.std.proofs.Common.{ap, map, refl, ◌∙◌}
 use Rattle.adb_view.specs.Plain.{obj_value}
-use Rattle.adb_values.specs.Drafts.{draft_with}
-use Rattle.adb_values.proofs.Lists.{closed}
-use Rattle.make_info.specs.Information.{information_value, replaces_priority}
-use Rattle.make_info.specs.Values.{number_value}
+use Rattle.package_files.specs.adb_values.Drafts.{draft_with}
+use Rattle.package_files.proofs.adb_values.Lists.{closed}
+use Rattle.package_files.specs.make_info.Information.{information_value, replaces_priority}
+use Rattle.package_files.specs.make_info.Values.{number_value}
 use Rattle.package_files.specs.Package.{package_fields}
 use Rattle.package_files.specs.Packed.{packed_folder}
 use Rattle.make_package.specs.Scripts.{scripts_view}

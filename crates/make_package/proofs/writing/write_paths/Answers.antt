@@ -1,8 +1,8 @@
 use Rattle.std.proofs.Common.{arith, map}
 use Rattle.adb_view.specs.Plain.{arr_value}
-use Rattle.adb_values.proofs.Lists.{closed}
-use Rattle.make_info.specs.Values.{plains_of_list}
-use Rattle.make_info.proofs.Mapped.{mapped_left, mapped_open}
+use Rattle.package_files.proofs.adb_values.Lists.{closed}
+use Rattle.package_files.specs.make_info.Values.{plains_of_list}
+use Rattle.package_files.proofs.make_info.Mapped.{mapped_left, mapped_open}
 use Rattle.package_files.specs.Packed.{packed_folder}
 use Rattle.make_package.proofs.writing.write_paths.Goals as goal
 

@@ -1,7 +1,7 @@
 use Rattle.std.proofs.Common.{◌≡◌, List, ℕ, ap, refl, ◌∙◌}
 use Rattle.adb_view.specs.Plain.{blob_or_null, obj_value}
-use Rattle.adb_values.specs.Drafts.{DraftState, draft_with}
-use Rattle.adb_values.proofs.Lists.{closed}
+use Rattle.package_files.specs.adb_values.Drafts.{DraftState, draft_with}
+use Rattle.package_files.proofs.adb_values.Lists.{closed}
 use Rattle.package_files.specs.Package.{script_fields}
 use Rattle.make_package.specs.Scripts.{scripts_view}
 use Rattle.make_package.proofs.writing.write_scripts.Goals as goal

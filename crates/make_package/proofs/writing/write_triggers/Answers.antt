@@ -1,8 +1,8 @@
 use Rattle.command_core.specs.declared.values.TheConstants.{TRIGGER}
 use Rattle.std.proofs.Common.{◌∙◌, ap, List, ℕ, arith, refl}
 use Rattle.adb_view.specs.Plain.{arr_value, blob_or_null}
-use Rattle.adb_values.specs.Drafts.{draft_with}
-use Rattle.adb_values.proofs.Lists.{closed, list_given}
+use Rattle.package_files.specs.adb_values.Drafts.{draft_with}
+use Rattle.package_files.proofs.adb_values.Lists.{closed, list_given}
 use Rattle.package_files.specs.Sources.{values_with}
 use Rattle.make_package.proofs.WriteLemmas.{blob_given, blob_passed, blobs}
 use Rattle.make_package.proofs.writing.write_triggers.Goals as goal

@@ -1,6 +1,6 @@
 use Rattle.command_core.specs.declared.values.TheConstants.{TRIGGER}
 use Rattle.std.proofs.Common.{◌≡◌, drop}
-use Rattle.adb_values.specs.Drafts.{draft_with_all}
+use Rattle.package_files.specs.adb_values.Drafts.{draft_with_all}
 use Rattle.package_files.specs.Sources.{values_with}
 use Rattle.make_package.proofs.WriteLemmas.{blobs}
 use Rattle.make_package.proofs.writing.write_triggers.Given as goal

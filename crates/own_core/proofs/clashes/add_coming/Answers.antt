@@ -1,8 +1,8 @@
 use Rattle.std.proofs.Common.{ap, ◌∙◌, arith, map}
-use Rattle.adb_fields.specs.JoinedPath.{joined_path}
-use Rattle.db_core.specs.Seen.{members_of}
-use Rattle.path_claims.specs.Seen.{claim_seen}
-use Rattle.path_claims.proofs.Places.{seen_at}
+use Rattle.path_claim_lists.specs.adb_fields.JoinedPath.{joined_path}
+use Rattle.change_files.specs.db_core.Seen.{members_of}
+use Rattle.path_claim_lists.specs.path_claims.Seen.{claim_seen}
+use Rattle.path_claim_lists.proofs.path_claims.Places.{seen_at}
 use Rattle.own_core.specs.ClaimEntries.{is_added_at}
 use Rattle.own_core.proofs.Written.{path_left, path_more, paths_whole}
 use Rattle.own_core.proofs.clashes.add_coming.Goals as goal

@@ -1,9 +1,9 @@
 -- The paths of the claims so far that come stand behind the others.
 use Rattle.std.proofs.Common.{◌≡◌, ◌++◌, map, take}
 use Rattle.std.specs.List.{filter}
-use Rattle.adb_fields.specs.JoinedPath.{joined_path}
-use Rattle.db_core.specs.Seen.{members_of}
-use Rattle.path_claims.specs.Seen.{claim_seen}
+use Rattle.path_claim_lists.specs.adb_fields.JoinedPath.{joined_path}
+use Rattle.change_files.specs.db_core.Seen.{members_of}
+use Rattle.path_claim_lists.specs.path_claims.Seen.{claim_seen}
 use Rattle.own_core.specs.ClaimEntries.{is_added_at}
 use Rattle.own_core.proofs.clashes.add_coming.Given as goal
 

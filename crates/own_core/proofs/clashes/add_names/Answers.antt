@@ -1,5 +1,5 @@
 use Rattle.std.proofs.Common.{arith, map}
-use Rattle.adb_fields.specs.JoinedPath.{joined_path}
+use Rattle.path_claim_lists.specs.adb_fields.JoinedPath.{joined_path}
 use Rattle.own_core.proofs.Written.{name_more, names_whole}
 use Rattle.own_core.proofs.clashes.add_names.Goals as goal
 

@@ -1,6 +1,6 @@
 -- The names so far stand behind the others.
 use Rattle.std.proofs.Common.{◌≡◌, ◌++◌, map, take}
-use Rattle.adb_fields.specs.JoinedPath.{joined_path}
+use Rattle.path_claim_lists.specs.adb_fields.JoinedPath.{joined_path}
 use Rattle.own_core.proofs.clashes.add_names.Given as goal
 
 abbrev pub invariant-loop-i : goal.invariant-loop-i

@@ -1,7 +1,7 @@
 use Rattle.std.proofs.Common.{◌≤◌, ℕ, List, sym, subst, length}
 use Rattle.change_files.specs.Fate.{aside_name}
-use Rattle.path_claims.specs.Seen.{claim_seen}
-use Rattle.path_claims.proofs.Places.{seen_at}
+use Rattle.path_claim_lists.specs.path_claims.Seen.{claim_seen}
+use Rattle.path_claim_lists.proofs.path_claims.Places.{seen_at}
 use Rattle.own_core.proofs.clashes.names_beside.Goals as goal
 
 pub name_of_path-requires : goal.name_of_path-requires

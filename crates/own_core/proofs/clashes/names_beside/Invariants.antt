@@ -1,7 +1,7 @@
 -- The names beside the claims that were passed.
 use Rattle.std.proofs.Common.{◌≡◌, map, take}
 use Rattle.change_files.specs.Fate.{aside_name}
-use Rattle.path_claims.specs.Seen.{claim_seen}
+use Rattle.path_claim_lists.specs.path_claims.Seen.{claim_seen}
 use Rattle.own_core.proofs.clashes.names_beside.Given as goal
 
 abbrev pub invariant-loop-claim : goal.invariant-loop-claim

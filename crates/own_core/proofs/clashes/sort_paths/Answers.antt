@@ -1,7 +1,7 @@
 use Rattle.std.proofs.Common.{ap, rules}
 use Rattle.std.specs.Ordering.{is_lt}
 use Rattle.std.proofs.lemmas.List.Sorted.{ranks_by, answers_always}
-use Rattle.adb_fields.specs.JoinedPath.{joined_path}
+use Rattle.path_claim_lists.specs.adb_fields.JoinedPath.{joined_path}
 use Rattle.base_core.specs.ByteOrder.{bytes_cmp}
 use Rattle.base_core.proofs.Sorting.{sort_seen}
 use Rattle.base_core.proofs.Orderings.{names_total}

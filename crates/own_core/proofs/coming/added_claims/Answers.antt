@@ -3,10 +3,10 @@ use Rattle.std.specs.List.Sorted.{IsSorted}
 use Rattle.std.specs.Ordering.{is_lt}
 use Rattle.std.proofs.lemmas.List.Kept.{IsSortedBy-filter}
 use Rattle.base_core.proofs.Sorting.{ranks}
-use Rattle.db_core.specs.Seen.{members_of}
-use Rattle.path_claims.specs.Claims.{claim_cmp}
-use Rattle.path_claims.specs.Seen.{claim_seen}
-use Rattle.path_claims.proofs.ClaimOrder.{claims_total}
+use Rattle.change_files.specs.db_core.Seen.{members_of}
+use Rattle.path_claim_lists.specs.path_claims.Claims.{claim_cmp}
+use Rattle.path_claim_lists.specs.path_claims.Seen.{claim_seen}
+use Rattle.path_claim_lists.proofs.path_claims.ClaimOrder.{claims_total}
 use Rattle.own_core.specs.ClaimEntries.{is_of_added_owner}
 use Rattle.own_core.proofs.coming.added_claims.Goals as goal
 

@@ -1,8 +1,8 @@
 use Rattle.std.proofs.Common.{◌∙◌, ap, arith}
-use Rattle.db_core.specs.Seen.{members_of}
-use Rattle.file_owners.specs.Owners.{owner_of_path}
-use Rattle.path_claims.specs.Seen.{claim_seen}
-use Rattle.path_claims.proofs.Places.{seen_at}
+use Rattle.change_files.specs.db_core.Seen.{members_of}
+use Rattle.change_files.specs.file_owners.Owners.{owner_of_path}
+use Rattle.path_claim_lists.specs.path_claims.Seen.{claim_seen}
+use Rattle.path_claim_lists.proofs.path_claims.Places.{seen_at}
 use Rattle.own_core.specs.ClaimEntries.{is_of_added_owner}
 use Rattle.own_core.proofs.Kept.{beside_at, kept_one, kept_whole, left_one}
 use Rattle.own_core.proofs.coming.owned_claims.Goals as goal

@@ -1,5 +1,5 @@
 use Rattle.std.proofs.Common.{◌∙◌, sym}
-use Rattle.path_claims.specs.Seen.{claim_seen}
+use Rattle.path_claim_lists.specs.path_claims.Seen.{claim_seen}
 use Rattle.own_core.specs.Sides.{file_change_of}
 use Rattle.own_core.proofs.OneFile.{unguarded_fate}
 use Rattle.own_core.proofs.fate.fate_of.Goals as goal

@@ -1,7 +1,7 @@
 use Rattle.std.proofs.Common.{◌∙◌, ap}
 use Rattle.change_files.specs.Fate.{fate_beside}
-use Rattle.db_core.specs.Seen.{members_of}
-use Rattle.path_claims.specs.Seen.{claim_seen}
+use Rattle.change_files.specs.db_core.Seen.{members_of}
+use Rattle.path_claim_lists.specs.path_claims.Seen.{claim_seen}
 use Rattle.own_core.specs.ClaimEntries.{claim_entry}
 use Rattle.own_core.specs.Fates.{fate_seen}
 use Rattle.own_core.specs.Sides.{file_change_of}

@@ -1,7 +1,7 @@
 use Rattle.std.proofs.Common.{refl}
-use Rattle.adb_fields.specs.JoinedPath.{joined_path}
-use Rattle.path_claims.specs.Seen.{claim_seen}
-use Rattle.path_claims.proofs.Places.{seen_at}
+use Rattle.path_claim_lists.specs.adb_fields.JoinedPath.{joined_path}
+use Rattle.path_claim_lists.specs.path_claims.Seen.{claim_seen}
+use Rattle.path_claim_lists.proofs.path_claims.Places.{seen_at}
 use Rattle.own_core.proofs.ChangeClaims.{before_sorted, entry_found, none_found}
 use Rattle.own_core.proofs.fate.listed_so_far.Goals as goal
 

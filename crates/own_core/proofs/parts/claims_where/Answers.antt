@@ -1,5 +1,5 @@
 use Rattle.std.proofs.Common.{ap, ◌∙◌, arith, map, Bool}
-use Rattle.path_claims.specs.Seen.{claim_seen}
+use Rattle.path_claim_lists.specs.path_claims.Seen.{claim_seen}
 use Rattle.own_core.specs.Fates.{is_flag, marked_claims}
 use Rattle.own_core.proofs.Kept.{marked_one, marked_whole, same_map, unmarked_one}
 use Rattle.own_core.proofs.parts.claims_where.Goals as goal

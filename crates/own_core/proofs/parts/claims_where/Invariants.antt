@@ -1,6 +1,6 @@
 -- What is kept are the claims so far with the flag.
 use Rattle.std.proofs.Common.{◌≡◌, map, take}
-use Rattle.path_claims.specs.Seen.{claim_seen}
+use Rattle.path_claim_lists.specs.path_claims.Seen.{claim_seen}
 use Rattle.own_core.specs.Fates.{is_flag, marked_claims}
 use Rattle.own_core.proofs.parts.claims_where.Given as goal
 

@@ -1,7 +1,7 @@
 use Rattle.std.proofs.Common.{◌∙◌, sym}
-use Rattle.adb_fields.specs.JoinedPath.{joined_path}
+use Rattle.path_claim_lists.specs.adb_fields.JoinedPath.{joined_path}
 use Rattle.change_files.specs.FileChange.{is_claimed}
-use Rattle.path_claims.specs.Seen.{claim_seen}
+use Rattle.path_claim_lists.specs.path_claims.Seen.{claim_seen}
 use Rattle.std.proofs.Common.{map}
 use Rattle.own_core.specs.Going.{is_beside}
 use Rattle.own_core.specs.Sides.{file_change_of}

@@ -1,5 +1,5 @@
 use Rattle.std.proofs.Common.{ap, ◌∙◌, arith, map}
-use Rattle.path_claims.specs.Seen.{claim_seen}
+use Rattle.path_claim_lists.specs.path_claims.Seen.{claim_seen}
 use Rattle.own_core.specs.Going.{is_path_left_over}
 use Rattle.own_core.specs.Sides.{file_change_of}
 use Rattle.own_core.proofs.Kept.{kept_one, kept_whole, left_one}

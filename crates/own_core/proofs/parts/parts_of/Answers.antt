@@ -2,19 +2,19 @@ use Rattle.std.proofs.Common.{◌≡◌, ◌∙◌, List, true, false, ap, sym, 
 use Rattle.std.specs.List.{filter}
 use Rattle.base_core.specs.Tree.{TreeState}
 use Rattle.base_core.proofs.Rising.{rises_from_pairs}
-use Rattle.db_core.specs.Members.{members_of_kept}
-use Rattle.db_core.specs.Seen.{packages_of}
+use Rattle.change_files.specs.db_core.Members.{members_of_kept}
+use Rattle.change_files.specs.db_core.Seen.{packages_of}
 use Rattle.change_files.specs.Fate.{goes_aside, goes_in}
-use Rattle.claim_lists.proofs.Firsts.{paths}
-use Rattle.path_claims.specs.Claims.{PathClaim}
-use Rattle.path_claims.specs.Seen.{claim_seen}
+use Rattle.path_claim_lists.proofs.Firsts.{paths}
+use Rattle.path_claim_lists.specs.path_claims.Claims.{PathClaim}
+use Rattle.path_claim_lists.specs.path_claims.Seen.{claim_seen}
 use Rattle.own_core.specs.Fates.{claim_fate, fate_seen, is_fate, is_flag, marked_claims}
 use Rattle.own_core.specs.Found.{AreAnswersByFiles}
 use Rattle.own_core.specs.Going.{is_file_kept, is_path_left_over}
 use Rattle.own_core.specs.Parts.{left_over_claims_by}
 use Rattle.own_core.specs.Sides.{claims_before, file_change_of}
 use Rattle.own_core.specs.declared.fate.Fate.{Fate}
-use Rattle.path_claims.specs.declared.claim.Claim.{Claim}
+use Rattle.path_claim_lists.specs.path_claims.declared.claim.Claim.{Claim}
 use Rattle.own_core.proofs.MarkedClaims.{files_kept, flags_len, marked_sorted, marks_len}
 use Rattle.own_core.proofs.parts.parts_of.Goals as goal
 

@@ -1,7 +1,7 @@
 use Rattle.std.proofs.Common.{Bool, arith}
 use Rattle.base_core.specs.declared.tree.TreeFault.TheVariants.{Disk}
-use Rattle.path_claims.specs.Seen.{claim_seen}
-use Rattle.path_claims.proofs.Places.{seen_at}
+use Rattle.path_claim_lists.specs.path_claims.Seen.{claim_seen}
+use Rattle.path_claim_lists.proofs.path_claims.Places.{seen_at}
 use Rattle.own_core.specs.Going.{is_file_kept}
 use Rattle.own_core.specs.Sides.{file_change_of}
 use Rattle.own_core.proofs.TreeLoops.{found_more, found_plain, reads_on}

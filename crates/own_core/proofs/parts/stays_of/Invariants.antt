@@ -3,7 +3,7 @@ use Rattle.std.proofs.Common.{ℕ, Bool, map, take, Ok}
 use Rattle.base_core.specs.Read.{OnlyReads}
 use Rattle.base_core.specs.declared.tree.TreeFault.{TreeFault}
 use Rattle.base_core.specs.declared.tree.TreeFault.TheVariants.{Disk}
-use Rattle.path_claims.specs.Seen.{claim_seen}
+use Rattle.path_claim_lists.specs.path_claims.Seen.{claim_seen}
 use Rattle.own_core.specs.Found.{AreAnswersByFiles}
 use Rattle.own_core.specs.Going.{is_file_kept}
 use Rattle.own_core.specs.Sides.{file_change_of}

@@ -2,13 +2,13 @@ use Rattle.std.proofs.Common.{◌∙◌, List, ap, sym, subst, map}
 use Rattle.std.specs.Prelude.{◌&&◌, ◌||◌, not, is_some, bytes_eq}
 use Rattle.std.specs.List.{find, list_any}
 use Rattle.std.specs.List.Sorted.{IsSorted}
-use Rattle.adb_fields.specs.JoinedPath.{joined_path}
+use Rattle.path_claim_lists.specs.adb_fields.JoinedPath.{joined_path}
 use Rattle.change_files.specs.Fate.{aside_name}
 use Rattle.base_core.specs.ByteOrder.{bytes_cmp}
 use Rattle.base_core.specs.Sorted.{sorted_by}
-use Rattle.path_claims.specs.Claims.{claim_cmp, is_of_path}
-use Rattle.path_claims.specs.Seen.{claim_seen}
-use Rattle.path_claims.specs.declared.claim.Claim.{Claim}
+use Rattle.path_claim_lists.specs.path_claims.Claims.{claim_cmp, is_of_path}
+use Rattle.path_claim_lists.specs.path_claims.Seen.{claim_seen}
+use Rattle.path_claim_lists.specs.path_claims.declared.claim.Claim.{Claim}
 use Rattle.own_core.specs.Parts.{asides_of}
 use Rattle.own_core.specs.Sides.{claims_after, claims_before}
 use Rattle.own_core.specs.WritesSeen.{HaveNamesBeside}

@@ -1,5 +1,5 @@
-use Rattle.db_core.specs.Seen.{members_of}
-use Rattle.path_claims.specs.ContestedSeen.{contested_seen}
+use Rattle.change_files.specs.db_core.Seen.{members_of}
+use Rattle.path_claim_lists.specs.path_claims.ContestedSeen.{contested_seen}
 use Rattle.own_core.proofs.Refusals.{contestable}
 use Rattle.own_core.proofs.planning.contest.Goals as goal
 

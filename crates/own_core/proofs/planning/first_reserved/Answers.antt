@@ -1,7 +1,7 @@
 use Rattle.std.proofs.Common.{arith}
-use Rattle.db_core.specs.Seen.{members_of}
-use Rattle.path_claims.specs.Seen.{claim_seen}
-use Rattle.path_claims.proofs.Places.{seen_at}
+use Rattle.change_files.specs.db_core.Seen.{members_of}
+use Rattle.path_claim_lists.specs.path_claims.Seen.{claim_seen}
+use Rattle.path_claim_lists.proofs.path_claims.Places.{seen_at}
 use Rattle.own_core.proofs.Refusals.{none_reserved, not_reserved_here, reserved_here}
 use Rattle.own_core.proofs.planning.first_reserved.Goals as goal
 

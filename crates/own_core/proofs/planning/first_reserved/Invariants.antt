@@ -1,8 +1,8 @@
 -- None of the claims so far is reserved and comes.
 use Rattle.std.proofs.Common.{◌≡◌, None, map, take}
 use Rattle.std.specs.List.{find}
-use Rattle.db_core.specs.Seen.{members_of}
-use Rattle.path_claims.specs.Seen.{claim_seen}
+use Rattle.change_files.specs.db_core.Seen.{members_of}
+use Rattle.path_claim_lists.specs.path_claims.Seen.{claim_seen}
 use Rattle.own_core.specs.ClaimEntries.{is_added_and_reserved}
 use Rattle.own_core.proofs.planning.first_reserved.Given as goal
 

@@ -1,12 +1,12 @@
 use Rattle.std.proofs.Common.{◌∙◌, List, ap, sym, subst, map}
 use Rattle.std.specs.List.{filter}
-use Rattle.claim_lists.specs.Once.{HasFirsts}
-use Rattle.db_core.specs.Members.{members_of_kept}
-use Rattle.db_core.specs.Seen.{members_of, packages_of}
-use Rattle.file_owners.specs.Owners.{claims_in}
-use Rattle.path_claims.specs.Seen.{claim_seen}
-use Rattle.path_claims.specs.declared.claim.Claim.{Claim}
-use Rattle.path_claims.proofs.Whole.{is_sorted}
+use Rattle.path_claim_lists.specs.Once.{HasFirsts}
+use Rattle.change_files.specs.db_core.Members.{members_of_kept}
+use Rattle.change_files.specs.db_core.Seen.{members_of, packages_of}
+use Rattle.change_files.specs.file_owners.Owners.{claims_in}
+use Rattle.path_claim_lists.specs.path_claims.Seen.{claim_seen}
+use Rattle.path_claim_lists.specs.path_claims.declared.claim.Claim.{Claim}
+use Rattle.path_claim_lists.proofs.path_claims.Whole.{is_sorted}
 use Rattle.own_core.specs.ClaimEntries.{is_of_added_owner}
 use Rattle.own_core.specs.Sides.{HasClaims}
 use Rattle.own_core.specs.declared.change.Change.{Change}

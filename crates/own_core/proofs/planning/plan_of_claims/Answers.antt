@@ -1,6 +1,6 @@
 use Rattle.std.proofs.Common.{map}
 use Rattle.base_core.specs.declared.tree.TreeFault.TheVariants as TreeFaults
-use Rattle.path_claims.specs.Seen.{claim_seen}
+use Rattle.path_claim_lists.specs.path_claims.Seen.{claim_seen}
 use Rattle.own_core.specs.declared.fault.PlanFault.TheVariants.{Disk}
 use Rattle.own_core.proofs.PartsMeaning.{asides_named, coming_claims_of, ins_named, kept_named, removed_named}
 use Rattle.own_core.proofs.WholePlan.{both_read, clash_may_be, contest_may_be, plan_is}

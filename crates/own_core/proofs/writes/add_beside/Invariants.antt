@@ -1,6 +1,6 @@
 -- The writes of the claims so far stand behind the others.
 use Rattle.std.proofs.Common.{◌≡◌, ◌++◌, map, take}
-use Rattle.path_claims.specs.Seen.{claim_seen}
+use Rattle.path_claim_lists.specs.path_claims.Seen.{claim_seen}
 use Rattle.own_core.specs.WritesSeen.{aside_write, write_seen}
 use Rattle.own_core.proofs.writes.add_beside.Given as goal
 

@@ -1,6 +1,6 @@
 use Rattle.std.proofs.Common.{arith, map}
-use Rattle.path_claims.specs.Seen.{claim_seen}
-use Rattle.path_claims.proofs.Places.{seen_at}
+use Rattle.path_claim_lists.specs.path_claims.Seen.{claim_seen}
+use Rattle.path_claim_lists.proofs.path_claims.Places.{seen_at}
 use Rattle.own_core.specs.WritesSeen.{claim_write, write_seen}
 use Rattle.own_core.proofs.Written.{after_all, written_more}
 use Rattle.own_core.proofs.writes.add_in.Goals as goal

@@ -1,7 +1,7 @@
 use Rattle.std.proofs.Common.{◌∙◌, ◌+◌, arith, drop, map, ap}
 use Rattle.std.proofs.lemmas.List.{drop_all}
-use Rattle.candidate_core.specs.Candidates.{Candidate}
-use Rattle.candidate_core.specs.Rank.{candidate_at}
+use Rattle.solve_core.specs.candidate_core.Candidates.{Candidate}
+use Rattle.solve_core.specs.candidate_core.Rank.{candidate_at}
 use Rattle.package_changes.specs.Placed.{candidates_at}
 use Rattle.package_changes.proofs.Lists.{all_told, left_at, option_mapped, told}
 use Rattle.package_changes.proofs.placed.push_selected_names.Goals as goal

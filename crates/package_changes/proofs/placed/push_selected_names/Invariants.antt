@@ -1,6 +1,6 @@
 -- The names of the candidates that are left are still to come.
 use Rattle.std.proofs.Common.{◌≡◌, ◌++◌, map, drop}
-use Rattle.candidate_core.specs.Candidates.{Candidate}
+use Rattle.solve_core.specs.candidate_core.Candidates.{Candidate}
 use Rattle.package_changes.specs.Placed.{candidates_at}
 use Rattle.package_changes.proofs.placed.push_selected_names.Given as goal
 

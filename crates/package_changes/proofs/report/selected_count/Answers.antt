@@ -1,6 +1,6 @@
 use Rattle.std.proofs.Common.{◌∙◌, ◌+◌, length, arith, drop, ap}
 use Rattle.std.proofs.lemmas.List.{drop_all}
-use Rattle.candidate_core.specs.Rank.{candidate_at}
+use Rattle.solve_core.specs.candidate_core.Rank.{candidate_at}
 use Rattle.package_changes.specs.Placed.{candidates_at}
 use Rattle.package_changes.proofs.Lists.{left_at}
 use Rattle.package_changes.proofs.ReportLines.{counted}

@@ -1,6 +1,6 @@
 -- The candidates that are left are still to be counted.
 use Rattle.std.proofs.Common.{◌≡◌, ◌≤◌, ◌+◌, ℕ, List, length, drop}
-use Rattle.candidate_core.specs.Rank.{SealedPool}
+use Rattle.solve_core.specs.candidate_core.Rank.{SealedPool}
 use Rattle.package_changes.specs.Placed.{candidates_at}
 use Rattle.package_changes.proofs.report.selected_count.Given as goal
 

@@ -1,7 +1,7 @@
 use Rattle.std.proofs.Common.{◌∙◌, ◌+◌, arith, drop, ap, refl, sym}
 use Rattle.std.specs.Prelude.{fold}
 use Rattle.std.proofs.lemmas.List.{drop_all}
-use Rattle.candidate_core.specs.Rank.{candidate_at}
+use Rattle.solve_core.specs.candidate_core.Rank.{candidate_at}
 use Rattle.package_changes.specs.Placed.{candidates_at}
 use Rattle.package_changes.specs.Report.{candidate_size}
 use Rattle.package_changes.proofs.Lists.{left_at}

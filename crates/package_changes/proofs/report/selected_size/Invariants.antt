@@ -1,7 +1,7 @@
 -- The candidates that are left are still to be summed.
 use Rattle.std.proofs.Common.{◌≡◌, ◌≤◌, ◌+◌, ◌*◌, ℕ, List, drop}
 use Rattle.std.specs.Prelude.{fold, sum_by}
-use Rattle.candidate_core.specs.Rank.{SealedPool}
+use Rattle.solve_core.specs.candidate_core.Rank.{SealedPool}
 use Rattle.package_changes.specs.Placed.{candidates_at}
 use Rattle.package_changes.specs.Report.{candidate_size}
 use Rattle.package_changes.proofs.report.selected_size.Given as goal

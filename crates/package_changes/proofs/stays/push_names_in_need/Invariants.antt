@@ -1,7 +1,7 @@
 -- The names of the candidates that are left are still to come.
 use Rattle.std.proofs.Common.{◌≡◌, ◌++◌, map, drop}
 use Rattle.std.specs.List.{filter}
-use Rattle.candidate_core.specs.Candidates.{Candidate}
+use Rattle.solve_core.specs.candidate_core.Candidates.{Candidate}
 use Rattle.package_changes.specs.Placed.{candidates_at}
 use Rattle.package_changes.specs.Report.{is_in_need}
 use Rattle.package_changes.proofs.stays.push_names_in_need.Given as goal

@@ -1,8 +1,8 @@
 use Rattle.std.proofs.Common.{◌∙◌, ◌+◌, List, ℕ, arith, drop, ap}
 use Rattle.std.specs.List.{filter, flat_map}
 use Rattle.std.proofs.lemmas.List.{drop_all}
-use Rattle.candidate_core.specs.Candidates.{Candidate}
-use Rattle.candidate_core.specs.Rank.{candidate_at}
+use Rattle.solve_core.specs.candidate_core.Candidates.{Candidate}
+use Rattle.solve_core.specs.candidate_core.Rank.{candidate_at}
 use Rattle.report_core.specs.Reports.{report_line, stays_text}
 use Rattle.package_changes.specs.Changes.{is_selected_named}
 use Rattle.package_changes.specs.Placed.{candidates_at}

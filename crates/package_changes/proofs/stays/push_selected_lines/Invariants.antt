@@ -1,7 +1,7 @@
 -- The lines of the candidates that are left are still to come.
 use Rattle.std.proofs.Common.{◌≡◌, ◌++◌, drop}
 use Rattle.std.specs.List.{filter, flat_map}
-use Rattle.candidate_core.specs.Candidates.{Candidate}
+use Rattle.solve_core.specs.candidate_core.Candidates.{Candidate}
 use Rattle.report_core.specs.Reports.{report_line, stays_text}
 use Rattle.package_changes.specs.Changes.{is_selected_named}
 use Rattle.package_changes.specs.Placed.{candidates_at}

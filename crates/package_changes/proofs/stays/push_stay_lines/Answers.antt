@@ -2,7 +2,7 @@ use Rattle.std.proofs.Common.{◌∙◌, ◌++◌, List, ℕ, Bor, ap, map}
 use Rattle.std.specs.Prelude.{is_some}
 use Rattle.std.specs.List.{filter, flat_map}
 use Rattle.change_files.specs.PlanLists.{names_in_order}
-use Rattle.db_core.specs.Seen.{packages_of}
+use Rattle.change_files.specs.db_core.Seen.{packages_of}
 use Rattle.package_changes.specs.Placed.{candidates_at}
 use Rattle.package_changes.specs.Report.{selected_stay_lines, was_installed}
 use Rattle.package_changes.specs.SelectedNames.{place_beside}

@@ -1,6 +1,6 @@
 -- Among the folders of the package's value.
 use Rattle.std.proofs.Common.{◌∙◌, ap}
-use Rattle.adb_fields.specs.Repeated.{list_of}
+use Rattle.adb_schema.specs.adb_fields.Repeated.{list_of}
 use Rattle.adb_view.specs.Values.{entries_in}
 use Rattle.adb_view.specs.Plain.{Plain}
 use Rattle.pkg_core.specs.Contents.{expected_folders}

@@ -1,7 +1,7 @@
 -- The file at its position in the folder.
 use Rattle.std.proofs.Common.{◌≡◌, ℕ, ◌+◌, ◌-◌, ap, sym, subst, ◌∙◌, arith}
 use Rattle.adb_schema.specs.Views.{file_value}
-use Rattle.adb_fields.specs.ListValue.{list_value}
+use Rattle.adb_schema.specs.adb_fields.ListValue.{list_value}
 use Rattle.adb_view.specs.Values.{entries_in}
 use Rattle.pkg_core.proofs.OneFile.{file_before, file_past, file_there, no_file_there}
 use Rattle.pkg_core.proofs.walk.wanted_in.Goals as goal

@@ -1,8 +1,8 @@
 -- The file in the folder at its position.
 use Rattle.std.proofs.Common.{◌≡◌, ℕ, ◌+◌, ◌-◌, ap, sym, subst, ◌∙◌, arith}
 use Rattle.adb_schema.specs.Views.{dir_value}
-use Rattle.adb_fields.specs.ListValue.{list_value}
-use Rattle.adb_fields.specs.Repeated.{list_of}
+use Rattle.adb_schema.specs.adb_fields.ListValue.{list_value}
+use Rattle.adb_schema.specs.adb_fields.Repeated.{list_of}
 use Rattle.adb_view.specs.Values.{entries_in}
 use Rattle.pkg_core.proofs.OneFile.{folder_before, folder_past, folder_there}
 use Rattle.pkg_core.proofs.walk.wanted_in_folder.Goals as goal

@@ -1,8 +1,8 @@
 use Rattle.std.proofs.Common.{◌∙◌, ◌++◌, ◌∷◌, [], Bool, ap}
 use Rattle.std.specs.Prelude.{not, ◌&&◌}
-use Rattle.candidate_core.specs.Candidates.{Candidate}
-use Rattle.candidate_core.specs.Packages.{candidates_of_packages}
-use Rattle.candidate_core.proofs.LoopTests.{map_next}
+use Rattle.option_ranks.specs.candidate_core.Candidates.{Candidate}
+use Rattle.option_ranks.specs.candidate_core.Packages.{candidates_of_packages}
+use Rattle.option_ranks.proofs.candidate_core.LoopTests.{map_next}
 use Rattle.pool_core.proofs.keeping.marks_with_all.Goals as goal
 
 pub loop-place-preserved : goal.loop-place-preserved

@@ -1,7 +1,7 @@
 use Rattle.std.proofs.Common.{◌≡◌, take, map}
 use Rattle.std.specs.Prelude.{not, ◌&&◌}
-use Rattle.candidate_core.specs.Packages.{candidates_of_packages}
-use Rattle.candidate_core.specs.Candidates.{Candidate}
+use Rattle.option_ranks.specs.candidate_core.Packages.{candidates_of_packages}
+use Rattle.option_ranks.specs.candidate_core.Candidates.{Candidate}
 use Rattle.pool_core.proofs.keeping.marks_with_all.Given as goal
 
 abbrev pub invariant-loop-place : goal.invariant-loop-place

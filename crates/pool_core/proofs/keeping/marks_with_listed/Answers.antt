@@ -1,5 +1,5 @@
 use Rattle.std.proofs.Common.{◌∙◌}
-use Rattle.candidate_core.specs.Packages.{candidates_of_packages}
+use Rattle.option_ranks.specs.candidate_core.Packages.{candidates_of_packages}
 use Rattle.pool_core.proofs.SearchedWords.{kept_by_sorted}
 use Rattle.pool_core.proofs.keeping.marks_with_listed.Goals as goal
 

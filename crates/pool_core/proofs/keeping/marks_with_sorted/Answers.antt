@@ -1,7 +1,7 @@
 use Rattle.std.proofs.Common.{◌∙◌, ◌++◌, ◌∷◌, [], Bool, ap}
-use Rattle.candidate_core.specs.Packages.{candidates_of_packages}
-use Rattle.candidate_core.specs.Rank.{is_kept_installed, listed_names}
-use Rattle.candidate_core.proofs.LoopTests.{map_next}
+use Rattle.option_ranks.specs.candidate_core.Packages.{candidates_of_packages}
+use Rattle.option_ranks.specs.candidate_core.Rank.{is_kept_installed, listed_names}
+use Rattle.option_ranks.proofs.candidate_core.LoopTests.{map_next}
 use Rattle.pool_core.proofs.keeping.marks_with_sorted.Goals as goal
 
 pub loop-place-preserved : goal.loop-place-preserved

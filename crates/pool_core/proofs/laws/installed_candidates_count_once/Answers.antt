@@ -1,4 +1,4 @@
-use Rattle.candidate_core.proofs.Installed.{counted_once, stands_last}
+use Rattle.option_ranks.proofs.candidate_core.Installed.{counted_once, stands_last}
 use Rattle.pool_core.proofs.SamePackage.{kept}
 use Rattle.pool_core.proofs.laws.installed_candidates_count_once.Goals as goal
 

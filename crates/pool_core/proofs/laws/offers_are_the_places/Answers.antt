@@ -1,5 +1,5 @@
-use Rattle.candidate_core.proofs.OfferLists.{offers_those, offers_each, places_rising}
-use Rattle.candidate_core.specs.Candidates.{offers_name}
+use Rattle.option_ranks.proofs.candidate_core.OfferLists.{offers_those, offers_each, places_rising}
+use Rattle.option_ranks.specs.candidate_core.Candidates.{offers_name}
 use Rattle.pool_core.proofs.laws.offers_are_the_places.Goals as goal
 
 pub returns-clause-those : goal.returns-clause-those

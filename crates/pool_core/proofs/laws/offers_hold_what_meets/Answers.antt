@@ -1,6 +1,6 @@
 use Rattle.pool_core.proofs.Filtered.{meeting_is_offered}
-use Rattle.candidate_core.proofs.OfferLists.{offers_each}
-use Rattle.candidate_core.specs.Candidates.{need_name}
+use Rattle.option_ranks.proofs.candidate_core.OfferLists.{offers_each}
+use Rattle.option_ranks.specs.candidate_core.Candidates.{need_name}
 use Rattle.pool_core.proofs.laws.offers_hold_what_meets.Goals as goal
 
 pub returns : goal.returns

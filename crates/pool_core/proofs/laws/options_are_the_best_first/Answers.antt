@@ -1,4 +1,4 @@
-use Rattle.candidate_core.proofs.OptionLists.{options_those, options_each, options_ranked}
+use Rattle.option_ranks.proofs.candidate_core.OptionLists.{options_those, options_each, options_ranked}
 use Rattle.pool_core.proofs.laws.options_are_the_best_first.Goals as goal
 
 pub returns-clause-those : goal.returns-clause-those

@@ -1,4 +1,4 @@
-use Rattle.candidate_core.proofs.OptionLists.{same_place}
+use Rattle.option_ranks.proofs.candidate_core.OptionLists.{same_place}
 use Rattle.option_ranks.proofs.RankOrder.{rank_total}
 use Rattle.pool_core.proofs.laws.rank_is_total.Goals as goal
 

@@ -1,8 +1,8 @@
 use Rattle.std.proofs.Common.{◌∙◌, ap, sym}
 use Rattle.std.specs.Prelude.{◌&&◌}
 use Rattle.dep_core.specs.Meets.{dependency}
-use Rattle.candidate_core.specs.Candidates.{meets_dependency}
-use Rattle.candidate_core.proofs.WantedVersions.{if_ok_map}
+use Rattle.option_ranks.specs.candidate_core.Candidates.{meets_dependency}
+use Rattle.option_ranks.proofs.candidate_core.WantedVersions.{if_ok_map}
 use Rattle.pool_core.proofs.marks.bars.Goals as goal
 
 pub returns-then-not-entry-clause-bars : goal.returns-then-not-entry-clause-bars

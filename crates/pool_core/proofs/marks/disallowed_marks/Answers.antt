@@ -1,9 +1,9 @@
 use Rattle.std.proofs.Common.{◌∙◌, ◌++◌, ◌∷◌, [], Bool, map, ap}
 use Rattle.std.specs.Prelude.{not}
 use Rattle.dep_core.specs.Meets.{dependency}
-use Rattle.candidate_core.specs.Candidates.{Candidate, is_allowed}
-use Rattle.candidate_core.specs.Packages.{candidates_of_packages}
-use Rattle.candidate_core.proofs.LoopTests.{map_next}
+use Rattle.option_ranks.specs.candidate_core.Candidates.{Candidate, is_allowed}
+use Rattle.option_ranks.specs.candidate_core.Packages.{candidates_of_packages}
+use Rattle.option_ranks.proofs.candidate_core.LoopTests.{map_next}
 use Rattle.pool_core.proofs.marks.disallowed_marks.Goals as goal
 
 pub loop-place-preserved : goal.loop-place-preserved

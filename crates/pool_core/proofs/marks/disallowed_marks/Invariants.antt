@@ -1,8 +1,8 @@
 use Rattle.std.proofs.Common.{◌≡◌, take, map}
 use Rattle.std.specs.Prelude.{not}
 use Rattle.dep_core.specs.Meets.{dependency}
-use Rattle.candidate_core.specs.Packages.{candidates_of_packages}
-use Rattle.candidate_core.specs.Candidates.{Candidate, is_allowed}
+use Rattle.option_ranks.specs.candidate_core.Packages.{candidates_of_packages}
+use Rattle.option_ranks.specs.candidate_core.Candidates.{Candidate, is_allowed}
 use Rattle.pool_core.proofs.marks.disallowed_marks.Given as goal
 
 abbrev pub invariant-loop-place : goal.invariant-loop-place

@@ -3,10 +3,10 @@ use Rattle.std.specs.Prelude.{◌&&◌, not, Vec}
 use Rattle.std.specs.Global.{Global}
 use Rattle.dep_core.specs.Dependency.{Dependency}
 use Rattle.dep_core.specs.Meets.{dependency}
-use Rattle.candidate_core.specs.Candidates.{Candidate, is_allowed, is_barred_by}
-use Rattle.candidate_core.specs.Packages.{candidates_of_packages}
+use Rattle.option_ranks.specs.candidate_core.Candidates.{Candidate, is_allowed, is_barred_by}
+use Rattle.option_ranks.specs.candidate_core.Packages.{candidates_of_packages}
 use Rattle.pool_core.proofs.MarksThroughTable.{eligible_by_marks}
-use Rattle.candidate_core.proofs.Steps.{if_ok}
+use Rattle.option_ranks.proofs.candidate_core.Steps.{if_ok}
 use Rattle.pool_core.proofs.marks.eligible_marks.Goals as goal
 
 pub returns : goal.returns

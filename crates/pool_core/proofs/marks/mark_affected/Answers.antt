@@ -2,9 +2,9 @@ use Rattle.std.proofs.Common.{◌≡◌, ◌∙◌, ◌+◌, ◌++◌, ◌∷◌
 use Rattle.std.proofs.lemmas.List.{take_more}
 use Rattle.dep_core.specs.Dependency.{Dependency}
 use Rattle.dep_core.specs.Meets.{dependency}
-use Rattle.candidate_core.specs.Candidates.{Candidate}
+use Rattle.option_ranks.specs.candidate_core.Candidates.{Candidate}
 use Rattle.pool_core.specs.Marks.{affects, is_affected, marks_with}
-use Rattle.candidate_core.specs.Packages.{candidates_of_packages}
+use Rattle.option_ranks.specs.candidate_core.Packages.{candidates_of_packages}
 use Rattle.pool_core.proofs.MarksThroughTable.{length-marks_with, map-snoc, no_entry, one_entry_more}
 use Rattle.pool_core.proofs.marks.mark_affected.Goals as goal
 

@@ -1,7 +1,7 @@
 use Rattle.std.proofs.Common.{◌≡◌, map, take}
 use Rattle.dep_core.specs.Meets.{dependency}
 use Rattle.pool_core.specs.Marks.{is_affected, marks_with}
-use Rattle.candidate_core.specs.Packages.{candidates_of_packages}
+use Rattle.option_ranks.specs.candidate_core.Packages.{candidates_of_packages}
 use Rattle.pool_core.proofs.marks.mark_affected.Given as goal
 
 abbrev pub invariant-loop-entry : goal.invariant-loop-entry

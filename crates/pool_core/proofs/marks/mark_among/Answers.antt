@@ -2,14 +2,14 @@ use Rattle.std.proofs.Common.{◌≡◌, ◌∙◌, ◌≤◌, ◌+◌, ◌++◌
 use Rattle.std.proofs.lemmas.List.{take_all, take_more}
 use Rattle.dep_core.specs.Dependency.{Dependency}
 use Rattle.dep_core.specs.Meets.{dependency}
-use Rattle.candidate_core.specs.Candidates.{Candidate, offers_name}
+use Rattle.option_ranks.specs.candidate_core.Candidates.{Candidate, offers_name}
 use Rattle.pool_core.specs.Marks.{affects, mark_at}
-use Rattle.candidate_core.specs.Options.{IsIn}
-use Rattle.candidate_core.specs.Packages.{candidates_of_packages}
-use Rattle.candidate_core.specs.VersionTexts.{source_text}
+use Rattle.option_ranks.specs.candidate_core.Options.{IsIn}
+use Rattle.option_ranks.specs.candidate_core.Packages.{candidates_of_packages}
+use Rattle.option_ranks.specs.candidate_core.VersionTexts.{source_text}
 use Rattle.pool_core.proofs.MarksThroughTable.{length-marks_among, marks_among, marks_among-snoc, marks_at_offers}
-use Rattle.candidate_core.proofs.OfferLists.{places_below}
-use Rattle.candidate_core.proofs.Steps.{member_at}
+use Rattle.option_ranks.proofs.candidate_core.OfferLists.{places_below}
+use Rattle.option_ranks.proofs.candidate_core.Steps.{member_at}
 use Rattle.pool_core.proofs.marks.mark_among.Goals as goal
 
 pub loop-id-init : goal.loop-id-init

@@ -2,9 +2,9 @@
 use Rattle.std.proofs.Common.{◌≡◌, take}
 use Rattle.dep_core.specs.Meets.{dependency}
 use Rattle.pool_core.specs.Marks.{affects}
-use Rattle.candidate_core.specs.Matches.{AreMatchesOf}
-use Rattle.candidate_core.specs.Packages.{candidates_of_packages}
-use Rattle.candidate_core.specs.VersionTexts.{source_text}
+use Rattle.option_ranks.specs.candidate_core.Matches.{AreMatchesOf}
+use Rattle.option_ranks.specs.candidate_core.Packages.{candidates_of_packages}
+use Rattle.option_ranks.specs.candidate_core.VersionTexts.{source_text}
 use Rattle.pool_core.proofs.MarksThroughTable.{marks_among}
 use Rattle.pool_core.proofs.marks.mark_among.Given as goal
 

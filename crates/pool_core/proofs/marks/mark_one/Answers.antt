@@ -2,9 +2,9 @@ use Rattle.std.proofs.Common.{◌≡◌, ◌∙◌, true, List, ℕ, Bool, sym, 
 use Rattle.std.specs.Prelude.{Some, slice_get}
 use Rattle.std.proofs.Math.ListN.{set}
 use Rattle.dep_core.specs.Meets.{dependency}
-use Rattle.candidate_core.specs.Candidates.{Candidate}
+use Rattle.option_ranks.specs.candidate_core.Candidates.{Candidate}
 use Rattle.pool_core.specs.Marks.{affects}
-use Rattle.candidate_core.specs.Packages.{candidates_of_packages}
+use Rattle.option_ranks.specs.candidate_core.Packages.{candidates_of_packages}
 use Rattle.pool_core.proofs.MarksThroughTable.{mark_at-failed, mark_at-passed}
 use Rattle.pool_core.proofs.marks.mark_one.Goals as goal
 

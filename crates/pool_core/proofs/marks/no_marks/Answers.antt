@@ -1,6 +1,6 @@
 use Rattle.std.proofs.Common.{arith}
-use Rattle.candidate_core.specs.Packages.{candidates_of_packages}
-use Rattle.candidate_core.proofs.LoopTests.{unmarked_next}
+use Rattle.option_ranks.specs.candidate_core.Packages.{candidates_of_packages}
+use Rattle.option_ranks.proofs.candidate_core.LoopTests.{unmarked_next}
 use Rattle.pool_core.proofs.marks.no_marks.Goals as goal
 
 pub loop-place-preserved : goal.loop-place-preserved

@@ -1,6 +1,6 @@
 use Rattle.std.proofs.Common.{◌≡◌, false, take, map}
-use Rattle.candidate_core.specs.Packages.{candidates_of_packages}
-use Rattle.candidate_core.specs.Candidates.{Candidate}
+use Rattle.option_ranks.specs.candidate_core.Packages.{candidates_of_packages}
+use Rattle.option_ranks.specs.candidate_core.Candidates.{Candidate}
 use Rattle.pool_core.proofs.marks.no_marks.Given as goal
 
 abbrev pub invariant-loop-place : goal.invariant-loop-place

@@ -1,6 +1,6 @@
 use Rattle.std.proofs.Common.{map}
 use Rattle.dep_core.specs.Meets.{dependency}
-use Rattle.candidate_core.specs.Packages.{candidates_of_packages}
+use Rattle.option_ranks.specs.candidate_core.Packages.{candidates_of_packages}
 use Rattle.pool_core.proofs.MarksThroughTable.{pinned_by_marks}
 use Rattle.pool_core.proofs.marks.pinned_marks.Goals as goal
 

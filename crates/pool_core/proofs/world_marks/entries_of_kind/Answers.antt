@@ -2,7 +2,7 @@ use Rattle.std.proofs.Common.{◌≤◌, ◌∙◌, length, map, ap, arith}
 use Rattle.std.proofs.lemmas.List.{take_all}
 use Rattle.dep_core.specs.Meets.{dependency}
 use Rattle.pool_core.specs.World.{entries_of_kind, is_entry_of_kind}
-use Rattle.candidate_core.proofs.Steps.{filter_step}
+use Rattle.option_ranks.proofs.candidate_core.Steps.{filter_step}
 use Rattle.pool_core.proofs.world_marks.entries_of_kind.Goals as goal
 
 pub loop-i-preserved : goal.loop-i-preserved

@@ -1,9 +1,9 @@
 use Rattle.std.proofs.Common.{◌≤◌, ◌<◌, ◌∙◌, List, ℕ, Bool, false, length, take, get_or, ap, arith}
 use Rattle.std.proofs.lemmas.List.{take_all}
-use Rattle.candidate_core.specs.Candidates.{Candidate}
-use Rattle.candidate_core.specs.PositiveInstallIfs.{places_marked}
-use Rattle.candidate_core.specs.Packages.{candidates_of_packages}
-use Rattle.candidate_core.proofs.Steps.{marked_step, get_at}
+use Rattle.option_ranks.specs.candidate_core.Candidates.{Candidate}
+use Rattle.option_ranks.specs.candidate_core.PositiveInstallIfs.{places_marked}
+use Rattle.option_ranks.specs.candidate_core.Packages.{candidates_of_packages}
+use Rattle.option_ranks.proofs.candidate_core.Steps.{marked_step, get_at}
 use Rattle.pool_core.proofs.world_marks.install_ifs_among.Goals as goal
 
 pub loop-place-preserved : goal.loop-place-preserved

@@ -1,6 +1,6 @@
 use Rattle.std.proofs.Common.{◌≡◌, take}
-use Rattle.candidate_core.specs.PositiveInstallIfs.{places_marked}
-use Rattle.candidate_core.specs.Packages.{candidates_of_packages}
+use Rattle.option_ranks.specs.candidate_core.PositiveInstallIfs.{places_marked}
+use Rattle.option_ranks.specs.candidate_core.Packages.{candidates_of_packages}
 use Rattle.pool_core.proofs.world_marks.install_ifs_among.Given as goal
 
 abbrev pub invariant-loop-place : goal.invariant-loop-place

@@ -1,9 +1,9 @@
 use Rattle.std.proofs.Common.{◌≡◌, ◌∙◌, List, Bool, map, ap}
 use Rattle.dep_core.specs.Dependency.{Dependency}
 use Rattle.dep_core.specs.Meets.{dependency}
-use Rattle.candidate_core.specs.Candidates.{Candidate}
-use Rattle.candidate_core.specs.PositiveInstallIfs.{places_marked}
-use Rattle.candidate_core.specs.Packages.{candidates_of_packages}
+use Rattle.option_ranks.specs.candidate_core.Candidates.{Candidate}
+use Rattle.option_ranks.specs.candidate_core.PositiveInstallIfs.{places_marked}
+use Rattle.option_ranks.specs.candidate_core.Packages.{candidates_of_packages}
 use Rattle.pool_core.proofs.Sealing.{eligible_marked, pinned_marked, install_ifs_marked}
 use Rattle.pool_core.proofs.world_marks.marks_by_world.Goals as goal
 

@@ -2,8 +2,8 @@ use Rattle.std.proofs.Common.{◌≡◌, ◌∙◌, ◌++◌, [], List, ℕ, ap}
 use Rattle.std.specs.Prelude.{codes}
 use Rattle.adb_view.specs.FieldIndexes.{INFO_ARCH, INFO_LICENSE, INFO_ORIGIN}
 use Rattle.adb_view.specs.Values.{entry_in, text_in}
-use Rattle.candidate_core.specs.Candidates.{Candidate}
-use Rattle.candidate_core.specs.Values.{candidate_value}
+use Rattle.pool_core.specs.candidate_core.Candidates.{Candidate}
+use Rattle.pool_core.specs.candidate_core.Values.{candidate_value}
 use Rattle.report_core.specs.QueryReports.{installed_mark, text_between}
 use Rattle.query_core.specs.Lines.{description_part}
 use Rattle.query_core.proofs.Appended.{appends_both, ends_with}

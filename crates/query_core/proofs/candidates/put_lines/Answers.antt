@@ -1,7 +1,7 @@
 use Rattle.std.proofs.Common.{◌≡◌, ◌∙◌, ap, sym, arith}
 use Rattle.std.specs.Prelude.{Some, slice_get}
-use Rattle.candidate_core.proofs.Steps.{get_at}
-use Rattle.option_ranks.specs.Ranking.{Ranking}
+use Rattle.pool_core.proofs.candidate_core.Steps.{get_at}
+use Rattle.pool_core.specs.option_ranks.Ranking.{Ranking}
 use Rattle.query_core.proofs.Appended.{so_far_all, so_far_more, so_far_nothing}
 use Rattle.query_core.proofs.LineParts.{lines_left, lines_of, nothing_left}
 use Rattle.query_core.proofs.candidates.put_lines.Goals as goal

@@ -1,5 +1,5 @@
 use Rattle.std.proofs.Common.{All, List, sym, subst}
-use Rattle.option_ranks.specs.Ranking.{Ranking}
+use Rattle.pool_core.specs.option_ranks.Ranking.{Ranking}
 use Rattle.query_core.specs.QueryRanking.{IsQueryRanking}
 use Rattle.query_core.proofs.LineParts.{read_within}
 use Rattle.query_core.proofs.candidates.report.Goals as goal

@@ -1,6 +1,6 @@
 use Rattle.std.proofs.Common.{◌≡◌, ◌∙◌, ◌++◌, ◌∷◌, [], Bool, List, ℕ, ap, sym}
 use Rattle.std.specs.Prelude.{Some, if◌then◌else◌, slice_get}
-use Rattle.candidate_core.specs.Candidates.{Candidate}
+use Rattle.pool_core.specs.candidate_core.Candidates.{Candidate}
 use Rattle.query_core.specs.List.{is_list_candidate}
 use Rattle.query_core.proofs.SelectedPlaces.{places_next}
 use Rattle.query_core.proofs.list_query.listed_places.Goals as goal

@@ -1,5 +1,5 @@
 use Rattle.std.proofs.Common.{◌≡◌, take}
-use Rattle.candidate_core.specs.Options.{places_from}
+use Rattle.pool_core.specs.candidate_core.Options.{places_from}
 use Rattle.query_core.specs.List.{is_list_candidate}
 use Rattle.query_core.proofs.list_query.listed_places.Given as goal
 

@@ -2,12 +2,12 @@ use Rattle.std.proofs.Common.{List, ℕ, map, subst, rules}
 use Rattle.std.specs.List.Sorted.{IsPermutation, IsSortedBy}
 use Rattle.std.specs.Ordering.{is_lt}
 use Rattle.std.proofs.lemmas.List.Sorted.{IsPermutation-map, IsPermutation-trans, ranks_by}
-use Rattle.candidate_core.specs.Candidates.{Candidate}
-use Rattle.candidate_core.proofs.Answering.{compares_by}
-use Rattle.option_ranks.specs.Ranking.{Ranking, ranking_cmp}
-use Rattle.option_ranks.specs.declared.rank.VersionKey.{VersionKey}
-use Rattle.option_ranks.proofs.RankOrder.{ranking_total}
-use Rattle.option_ranks.proofs.RankedOptions.{comes_before, place_of}
+use Rattle.pool_core.specs.candidate_core.Candidates.{Candidate}
+use Rattle.pool_core.proofs.candidate_core.Answering.{compares_by}
+use Rattle.pool_core.specs.option_ranks.Ranking.{Ranking, ranking_cmp}
+use Rattle.pool_core.specs.option_ranks.declared.rank.VersionKey.{VersionKey}
+use Rattle.pool_core.proofs.option_ranks.RankOrder.{ranking_total}
+use Rattle.pool_core.proofs.option_ranks.RankedOptions.{comes_before, place_of}
 use Rattle.query_core.specs.Order.{query_cmp}
 use Rattle.query_core.proofs.QueryOrder.{in_query_order, one_place, places_ready, query_total, sorted_by_key}
 use Rattle.query_core.proofs.SortedLists.{sorted_moved}

@@ -2,10 +2,10 @@ use Rattle.std.proofs.Common.{◌≡◌, ◌∙◌, ◌+◌, ◌++◌, ◌∷◌
 use Rattle.std.specs.Prelude.{All}
 use Rattle.std.proofs.lemmas.List.{map-append, take_more}
 use Rattle.std.proofs.lemmas.List.Elements.{All-push}
-use Rattle.candidate_core.specs.VersionTexts.{source_text}
-use Rattle.option_ranks.specs.Ranking.{Ranking}
-use Rattle.option_ranks.specs.VersionRanks.{IsReadFrom}
-use Rattle.option_ranks.proofs.RankedOptions.{place_of}
+use Rattle.pool_core.specs.candidate_core.VersionTexts.{source_text}
+use Rattle.pool_core.specs.option_ranks.Ranking.{Ranking}
+use Rattle.pool_core.specs.option_ranks.VersionRanks.{IsReadFrom}
+use Rattle.pool_core.proofs.option_ranks.RankedOptions.{place_of}
 use Rattle.query_core.specs.QueryRanking.{IsQueryRanking}
 use Rattle.query_core.proofs.order.rankings.Goals as goal
 

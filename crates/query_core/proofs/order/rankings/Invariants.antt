@@ -1,6 +1,6 @@
 use Rattle.std.proofs.Common.{◌≡◌, All, map, take}
-use Rattle.option_ranks.specs.VersionRanks.{IsReadFrom}
-use Rattle.option_ranks.proofs.RankedOptions.{place_of}
+use Rattle.pool_core.specs.option_ranks.VersionRanks.{IsReadFrom}
+use Rattle.pool_core.proofs.option_ranks.RankedOptions.{place_of}
 use Rattle.query_core.specs.QueryRanking.{IsQueryRanking}
 use Rattle.query_core.proofs.order.rankings.Given as goal
 

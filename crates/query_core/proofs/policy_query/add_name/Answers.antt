@@ -1,7 +1,7 @@
 use Rattle.std.proofs.Common.{◌∙◌, ◌++◌, All, List, ℕ, ap}
 use Rattle.std.specs.List.{flat_map}
 use Rattle.report_core.specs.QueryReports.{policy_heading}
-use Rattle.candidate_core.proofs.Steps.{on_ok}
+use Rattle.pool_core.proofs.candidate_core.Steps.{on_ok}
 use Rattle.query_core.specs.Policy.{version_policy}
 use Rattle.query_core.specs.VersionPlaces.{IsVersionOf, VersionPlaces, version_lines}
 use Rattle.query_core.proofs.LineParts.{printed_versions}

@@ -1,7 +1,7 @@
 use Rattle.std.proofs.Common.{◌∙◌, ◌≤◌, ◌++◌, ◌∷◌, [], List, ℕ, length, take, ap, sym, arith, append-nil}
 use Rattle.std.proofs.lemmas.List.{take_all}
 use Rattle.std.proofs.lemmas.Grind.{flat_map-append}
-use Rattle.candidate_core.proofs.Steps.{take_one_more}
+use Rattle.pool_core.proofs.candidate_core.Steps.{take_one_more}
 use Rattle.command_core.specs.declared.operands.Operand.{Operand}
 use Rattle.query_core.specs.Policy.{name_policy, policy_report}
 use Rattle.query_core.proofs.policy_query.policy.Goals as goal

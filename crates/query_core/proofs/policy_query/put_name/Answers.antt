@@ -1,7 +1,7 @@
 use Rattle.std.proofs.Common.{◌≡◌, ◌∙◌, ap, sym, arith}
 use Rattle.std.specs.Prelude.{Some, slice_get}
 use Rattle.std.specs.List.{flat_map}
-use Rattle.candidate_core.proofs.Steps.{get_at}
+use Rattle.pool_core.proofs.candidate_core.Steps.{get_at}
 use Rattle.query_core.specs.VersionPlaces.{VersionPlaces, version_lines}
 use Rattle.query_core.proofs.Appended.{so_far_all, so_far_more}
 use Rattle.query_core.proofs.LineParts.{nothing_left, versions_left}

@@ -1,6 +1,6 @@
 use Rattle.std.proofs.Common.{◌+◌, ◌∙◌, ◌++◌, [], List, ℕ, drop, get_or, ap, sym, arith}
 use Rattle.std.specs.Prelude.{if◌then◌else◌, nat_lt}
-use Rattle.candidate_core.proofs.Steps.{get_at}
+use Rattle.pool_core.proofs.candidate_core.Steps.{get_at}
 use Rattle.query_core.specs.VersionPlaces.{numbered_line, rising_lines}
 use Rattle.query_core.proofs.Appended.{so_far_all, so_far_more, so_far_nothing}
 use Rattle.query_core.proofs.LineParts.{nothing_left, numbers_left}

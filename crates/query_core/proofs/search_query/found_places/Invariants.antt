@@ -1,5 +1,5 @@
 use Rattle.std.proofs.Common.{◌≡◌, take}
-use Rattle.candidate_core.specs.Options.{places_from}
+use Rattle.pool_core.specs.candidate_core.Options.{places_from}
 use Rattle.query_core.specs.Search.{is_search_candidate}
 use Rattle.query_core.proofs.search_query.found_places.Given as goal
 

@@ -1,5 +1,5 @@
 use Rattle.std.proofs.Common.{◌≡◌, ◌∙◌, Bool, List, ℕ, ap, sym}
-use Rattle.candidate_core.proofs.LoopTests.{any_at, none_next}
+use Rattle.pool_core.proofs.candidate_core.LoopTests.{any_at, none_next}
 use Rattle.command_core.specs.declared.operands.Operand.{Operand}
 use Rattle.star_patterns.specs.Patterns.{is_matched_within}
 use Rattle.query_core.proofs.search_query.is_name_found.Goals as goal

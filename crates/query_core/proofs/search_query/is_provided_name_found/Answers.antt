@@ -1,7 +1,7 @@
 use Rattle.std.proofs.Common.{◌≤◌, ◌∙◌, ap, sym, arith, length}
 use Rattle.std.specs.List.{list_any}
 use Rattle.std.proofs.lemmas.List.{take_all}
-use Rattle.candidate_core.proofs.LoopTests.{any_at, none_next}
+use Rattle.pool_core.proofs.candidate_core.LoopTests.{any_at, none_next}
 use Rattle.dep_core.specs.Meets.{dependency}
 use Rattle.query_core.specs.EntryFound.{is_entry_found}
 use Rattle.query_core.proofs.ProvidedNames.{provided_found}

@@ -2,7 +2,7 @@ use Rattle.std.proofs.Common.{◌∙◌, ap, List, ℕ}
 use Rattle.std.specs.Prelude.{slice_get}
 use Rattle.std.specs.List.{filter_map, flat_map}
 use Rattle.base_core.specs.Sorted.{sorted_by}
-use Rattle.candidate_core.proofs.Steps.{if_ok}
+use Rattle.pool_core.proofs.candidate_core.Steps.{if_ok}
 use Rattle.query_core.specs.Lines.{line_in_form}
 use Rattle.query_core.specs.Order.{query_cmp}
 use Rattle.query_core.specs.Search.{is_search_candidate}

@@ -1,6 +1,6 @@
 use Rattle.std.proofs.Common.{◌≡◌, ◌<◌, ◌≤◌, ℕ, true}
 use Rattle.std.specs.Prelude.{Some, slice_get}
-use Rattle.option_ranks.specs.Ranking.{Ranking}
+use Rattle.pool_core.specs.option_ranks.Ranking.{Ranking}
 use Rattle.query_core.specs.QueryRanking.{have_one_version}
 use Rattle.query_core.proofs.version_places.end_of_version.Given as goal
 

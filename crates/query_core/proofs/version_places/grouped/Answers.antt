@@ -3,10 +3,10 @@ use Rattle.std.specs.Prelude.{Option, Some, slice_get}
 use Rattle.std.specs.List.{filter, list_any}
 use Rattle.std.proofs.lemmas.List.{map-append}
 use Rattle.std.proofs.lemmas.List.Elements.{All-push}
-use Rattle.candidate_core.specs.Candidates.{Candidate}
-use Rattle.candidate_core.proofs.Steps.{get_at}
-use Rattle.option_ranks.specs.Ranking.{Ranking}
-use Rattle.option_ranks.proofs.RankedOptions.{place_of}
+use Rattle.pool_core.specs.candidate_core.Candidates.{Candidate}
+use Rattle.pool_core.proofs.candidate_core.Steps.{get_at}
+use Rattle.pool_core.specs.option_ranks.Ranking.{Ranking}
+use Rattle.pool_core.proofs.option_ranks.RankedOptions.{place_of}
 use Rattle.query_core.specs.Order.{selected_places}
 use Rattle.query_core.specs.Policy.{has_name_and_version, has_own_name, versions_once}
 use Rattle.query_core.specs.QueryRanking.{AreInQueryOrder}

@@ -1,6 +1,6 @@
 use Rattle.std.proofs.Common.{◌≡◌, ◌++◌, ◌-◌, ◌<◌, ◌≤◌, All, ℕ, drop, length, map}
 use Rattle.std.specs.Prelude.{Some, slice_get}
-use Rattle.option_ranks.specs.Ranking.{Ranking}
+use Rattle.pool_core.specs.option_ranks.Ranking.{Ranking}
 use Rattle.query_core.specs.Policy.{versions_once}
 use Rattle.query_core.specs.VersionPlaces.{IsVersionOf, VersionPlaces}
 use Rattle.query_core.proofs.Grouping.{version_of}

@@ -2,8 +2,8 @@ use Rattle.std.proofs.Common.{◌≡◌, ◌∙◌, ◌≤◌, ◌++◌, ◌∷�
 use Rattle.std.specs.Prelude.{Some, if◌then◌else◌, slice_get}
 use Rattle.std.specs.List.{filter}
 use Rattle.std.proofs.lemmas.List.{take_all}
-use Rattle.candidate_core.specs.Rank.{is_at}
-use Rattle.candidate_core.proofs.Steps.{filter_step, get_at}
+use Rattle.pool_core.specs.candidate_core.Rank.{is_at}
+use Rattle.pool_core.proofs.candidate_core.Steps.{filter_step, get_at}
 use Rattle.query_core.specs.Policy.{has_own_name}
 use Rattle.query_core.proofs.version_places.named_among.Goals as goal
 

@@ -1,6 +1,6 @@
 use Rattle.std.proofs.Common.{◌≡◌, ℕ, take}
 use Rattle.std.specs.List.{filter}
-use Rattle.candidate_core.specs.Rank.{is_at}
+use Rattle.pool_core.specs.candidate_core.Rank.{is_at}
 use Rattle.query_core.specs.Policy.{has_own_name}
 use Rattle.query_core.proofs.version_places.named_among.Given as goal
 

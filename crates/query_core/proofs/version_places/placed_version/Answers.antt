@@ -2,9 +2,9 @@ use Rattle.std.proofs.Common.{◌≡◌, ◌∙◌, ◌++◌, ◌≤◌, List, �
 use Rattle.std.specs.Prelude.{Some, option_to_list, slice_get, ◌||◌}
 use Rattle.std.specs.List.{list_any}
 use Rattle.std.proofs.lemmas.List.{take_all}
-use Rattle.candidate_core.specs.Candidates.{Candidate}
-use Rattle.candidate_core.proofs.Steps.{get_at}
-use Rattle.option_ranks.specs.Ranking.{Ranking}
+use Rattle.pool_core.specs.candidate_core.Candidates.{Candidate}
+use Rattle.pool_core.proofs.candidate_core.Steps.{get_at}
+use Rattle.pool_core.specs.option_ranks.Ranking.{Ranking}
 use Rattle.query_core.proofs.Gathered.{candidates_of, gathered, installed_more, numbers_more}
 use Rattle.query_core.proofs.RisingLines.{numbers_of}
 use Rattle.query_core.proofs.version_places.placed_version.Goals as goal

@@ -1,8 +1,8 @@
 use Rattle.std.proofs.Common.{◌≡◌, take}
 use Rattle.std.specs.Prelude.{slice_get}
 use Rattle.std.specs.List.{filter_map, list_any}
-use Rattle.candidate_core.specs.Candidates.{Candidate}
-use Rattle.option_ranks.specs.Ranking.{Ranking}
+use Rattle.pool_core.specs.candidate_core.Candidates.{Candidate}
+use Rattle.pool_core.specs.option_ranks.Ranking.{Ranking}
 use Rattle.query_core.proofs.RisingLines.{numbers_of}
 use Rattle.query_core.proofs.version_places.placed_version.Given as goal
 

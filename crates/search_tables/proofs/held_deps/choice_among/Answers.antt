@@ -1,9 +1,9 @@
 use Rattle.std.proofs.Common.{◌≡◌, ◌∙◌, ◌≤◌, ◌++◌, ◌∷◌, [], ℕ, List, false, take, length, sym, subst, ap, arith}
 use Rattle.std.proofs.lemmas.List.{take_more, take_all}
 use Rattle.dep_core.specs.Meets.{dependency}
-use Rattle.candidate_core.specs.Candidates.{entry}
-use Rattle.candidate_core.specs.Options.{IsIn}
-use Rattle.candidate_core.specs.Rank.{meets_at}
+use Rattle.pool_core.specs.candidate_core.Candidates.{entry}
+use Rattle.pool_core.specs.candidate_core.Options.{IsIn}
+use Rattle.pool_core.specs.candidate_core.Rank.{meets_at}
 use Rattle.search_tables.proofs.Offered.{in_more}
 use Rattle.search_tables.proofs.held_deps.choice_among.Goals as goal
 

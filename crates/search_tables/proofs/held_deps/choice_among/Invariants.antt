@@ -1,10 +1,10 @@
 -- None so far is a choice that meets the dependency, and what is kept of versions is right.
 use Rattle.std.proofs.Common.{◌≡◌, ℕ, take, false}
 use Rattle.dep_core.specs.Meets.{dependency}
-use Rattle.candidate_core.specs.Candidates.{entry}
-use Rattle.candidate_core.specs.Options.{IsIn}
-use Rattle.candidate_core.specs.PackageMatches.{AreMatchesAmong}
-use Rattle.candidate_core.specs.Rank.{meets_at}
+use Rattle.pool_core.specs.candidate_core.Candidates.{entry}
+use Rattle.pool_core.specs.candidate_core.Options.{IsIn}
+use Rattle.pool_core.specs.candidate_core.PackageMatches.{AreMatchesAmong}
+use Rattle.pool_core.specs.candidate_core.Rank.{meets_at}
 use Rattle.search_tables.proofs.held_deps.choice_among.Given as goal
 
 abbrev pub invariant-loop-id : goal.invariant-loop-id

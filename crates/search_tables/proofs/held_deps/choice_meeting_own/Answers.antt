@@ -1,8 +1,8 @@
 use Rattle.std.proofs.Common.{ℕ, List, sym, subst}
 use Rattle.dep_core.specs.Meets.{dependency}
-use Rattle.candidate_core.specs.Candidates.{entry}
-use Rattle.candidate_core.specs.Options.{IsIn}
-use Rattle.candidate_core.proofs.WantedVersions.{if_ok_map}
+use Rattle.pool_core.specs.candidate_core.Candidates.{entry}
+use Rattle.pool_core.specs.candidate_core.Options.{IsIn}
+use Rattle.pool_core.proofs.candidate_core.WantedVersions.{if_ok_map}
 use Rattle.search_tables.proofs.Excluders.{match_none}
 use Rattle.search_tables.proofs.Offered.{unmet_among_all, unmet_among_offers}
 use Rattle.search_tables.proofs.held_deps.choice_meeting_own.Goals as goal

@@ -1,6 +1,6 @@
 use Rattle.std.proofs.Common.{◌∙◌}
 use Rattle.dep_core.specs.Meets.{dependency}
-use Rattle.candidate_core.specs.Candidates.{entry}
+use Rattle.pool_core.specs.candidate_core.Candidates.{entry}
 use Rattle.search_tables.proofs.RaiserLists.{is_met_by}
 use Rattle.search_tables.proofs.held_deps.is_held_met.Goals as goal
 

@@ -1,12 +1,12 @@
 use Rattle.std.proofs.Common.{◌≡◌, ◌<◌, List, ℕ, length, ap, sym, subst, arith}
 use Rattle.std.specs.Prelude.{Some, slice_get}
 use Rattle.dep_core.specs.Meets.{dependency}
-use Rattle.candidate_core.specs.Candidates.{Candidate, meets_dependency}
-use Rattle.candidate_core.specs.PackageMatches.{AreMatchesAmong, IsDepOf}
-use Rattle.candidate_core.specs.Packages.{candidates_of_packages}
-use Rattle.candidate_core.proofs.NamedVersions.{matches_among, own_matches, told_at}
-use Rattle.candidate_core.proofs.Steps.{on_ok}
-use Rattle.candidate_core.proofs.WantedVersions.{if_ok_map}
+use Rattle.pool_core.specs.candidate_core.Candidates.{Candidate, meets_dependency}
+use Rattle.pool_core.specs.candidate_core.PackageMatches.{AreMatchesAmong, IsDepOf}
+use Rattle.pool_core.specs.candidate_core.Packages.{candidates_of_packages}
+use Rattle.pool_core.proofs.candidate_core.NamedVersions.{matches_among, own_matches, told_at}
+use Rattle.pool_core.proofs.candidate_core.Steps.{on_ok}
+use Rattle.pool_core.proofs.candidate_core.WantedVersions.{if_ok_map}
 use Rattle.search_tables.proofs.held_deps.is_met_by.Goals as goal
 
 pub meets-requires-clause-within : goal.meets-requires-clause-within

@@ -1,10 +1,10 @@
 use Rattle.std.proofs.Common.{◌≡◌, Bool, true, false, sym}
 use Rattle.std.specs.Bool.{MatchBool}
 use Rattle.dep_core.specs.Meets.{dependency}
-use Rattle.candidate_core.specs.Candidates.{entry}
-use Rattle.candidate_core.specs.Options.{IsIn}
-use Rattle.candidate_core.specs.Rank.{meets_at}
-use Rattle.candidate_core.proofs.WantedVersions.{if_ok_map}
+use Rattle.pool_core.specs.candidate_core.Candidates.{entry}
+use Rattle.pool_core.specs.candidate_core.Options.{IsIn}
+use Rattle.pool_core.specs.candidate_core.Rank.{meets_at}
+use Rattle.pool_core.proofs.candidate_core.WantedVersions.{if_ok_map}
 use Rattle.search_tables.proofs.held_deps.is_met_by_choice.Goals as goal
 
 told : (P : Type 0) (b m : Bool) → P → b ≡ m → MatchBool b (P × (m ≡ true)) (P → m ≡ false)

@@ -1,7 +1,7 @@
 use Rattle.std.proofs.Common.{◌≤◌, ℕ, List, length, arith}
 use Rattle.dep_core.specs.Dependency.{Dependency}
 use Rattle.dep_core.specs.Meets.{dependency}
-use Rattle.candidate_core.specs.Options.{AreMembers, IsIn}
+use Rattle.pool_core.specs.candidate_core.Options.{AreMembers, IsIn}
 use Rattle.search_tables.specs.NameTable.{items_of}
 use Rattle.search_tables.proofs.NameTables.{item_there, items_kept, members_on}
 use Rattle.search_tables.proofs.Offered.{each_all, each_on}

@@ -1,6 +1,6 @@
 use Rattle.std.proofs.Common.{ℕ, List, take}
 use Rattle.dep_core.specs.Dependency.{Dependency}
-use Rattle.candidate_core.specs.Options.{AreMembers, IsIn}
+use Rattle.pool_core.specs.candidate_core.Options.{AreMembers, IsIn}
 use Rattle.search_tables.specs.NameTable.{items_of}
 use Rattle.search_tables.proofs.install_ifs.add_entries.Given as goal
 

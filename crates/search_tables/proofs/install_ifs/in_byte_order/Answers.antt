@@ -1,9 +1,9 @@
 use Rattle.std.proofs.Common.{◌≡◌, ℕ, List, ap, refl, rules, subst, sym, ◌∙◌}
 use Rattle.std.specs.Ordering.{is_lt}
 use Rattle.std.specs.List.Sorted.{IsSortedBy}
-use Rattle.candidate_core.specs.Options.{IsIn}
-use Rattle.candidate_core.specs.Rank.{SealedPool, bytes_cmp}
-use Rattle.candidate_core.proofs.Answering.{answers_while}
+use Rattle.pool_core.specs.candidate_core.Options.{IsIn}
+use Rattle.pool_core.specs.candidate_core.Rank.{SealedPool, bytes_cmp}
+use Rattle.pool_core.proofs.candidate_core.Answering.{answers_while}
 use Rattle.search_tables.specs.InstallIf.{has_lesser_name, name_at}
 use Rattle.search_tables.proofs.ByteOrder.{in_sorted, names_rise, names_weak, sorted_in, there_usable, usable_there}
 use Rattle.search_tables.proofs.install_ifs.in_byte_order.Goals as goal

@@ -1,8 +1,8 @@
 use Rattle.std.proofs.Common.{◌≡◌, ◌∙◌, ◌≤◌, ◌++◌, ◌∷◌, [], ℕ, List, false, take, length, sym, subst, ap, arith}
 use Rattle.std.proofs.lemmas.List.{take_more, take_all}
-use Rattle.candidate_core.specs.Options.{IsIn}
-use Rattle.candidate_core.specs.Rank.{meets_at}
-use Rattle.candidate_core.specs.Values.{need_by}
+use Rattle.pool_core.specs.candidate_core.Options.{IsIn}
+use Rattle.pool_core.specs.candidate_core.Rank.{meets_at}
+use Rattle.pool_core.specs.candidate_core.Values.{need_by}
 use Rattle.search_tables.proofs.Offered.{in_more}
 use Rattle.search_tables.proofs.needs.choice_among.Goals as goal
 

@@ -1,7 +1,7 @@
 use Rattle.std.proofs.Common.{◌≡◌, ℕ, take, false}
-use Rattle.candidate_core.specs.Options.{IsIn}
-use Rattle.candidate_core.specs.Rank.{meets_at}
-use Rattle.candidate_core.specs.Values.{need_by}
+use Rattle.pool_core.specs.candidate_core.Options.{IsIn}
+use Rattle.pool_core.specs.candidate_core.Rank.{meets_at}
+use Rattle.pool_core.specs.candidate_core.Values.{need_by}
 use Rattle.search_tables.proofs.needs.choice_among.Given as goal
 
 abbrev pub invariant-loop-id : goal.invariant-loop-id

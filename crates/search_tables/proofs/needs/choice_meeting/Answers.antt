@@ -1,6 +1,6 @@
 use Rattle.std.proofs.Common.{ℕ, List, sym, subst}
-use Rattle.candidate_core.specs.Options.{IsIn}
-use Rattle.candidate_core.specs.Values.{need_by}
+use Rattle.pool_core.specs.candidate_core.Options.{IsIn}
+use Rattle.pool_core.specs.candidate_core.Values.{need_by}
 use Rattle.search_tables.proofs.Excluders.{match_none}
 use Rattle.search_tables.proofs.Offered.{unmet_among_all, unmet_among_offers}
 use Rattle.search_tables.proofs.needs.choice_meeting.Goals as goal

@@ -1,5 +1,5 @@
 use Rattle.std.proofs.Common.{◌∙◌}
-use Rattle.candidate_core.specs.Values.{need_by}
+use Rattle.pool_core.specs.candidate_core.Values.{need_by}
 use Rattle.search_tables.proofs.RaiserLists.{is_met_by}
 use Rattle.search_tables.proofs.needs.is_met.Goals as goal
 

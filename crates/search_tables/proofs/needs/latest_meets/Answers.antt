@@ -1,6 +1,6 @@
 use Rattle.std.proofs.Common.{◌∙◌, sym}
-use Rattle.candidate_core.specs.Rank.{meets_at}
-use Rattle.candidate_core.specs.Values.{need_by}
+use Rattle.pool_core.specs.candidate_core.Rank.{meets_at}
+use Rattle.pool_core.specs.candidate_core.Values.{need_by}
 use Rattle.search_tables.proofs.Places.{there_is}
 use Rattle.search_tables.proofs.Satisfying.{one_any}
 use Rattle.search_tables.proofs.needs.latest_meets.Goals as goal

@@ -1,5 +1,5 @@
 use Rattle.std.proofs.Common.{ℕ, List, sym, subst}
-use Rattle.candidate_core.specs.Options.{IsIn}
+use Rattle.pool_core.specs.candidate_core.Options.{IsIn}
 use Rattle.search_tables.proofs.Excluders.{match_none}
 use Rattle.search_tables.proofs.Offered.{occupied_among_offers}
 use Rattle.search_tables.proofs.needs.occupant.Goals as goal

@@ -1,8 +1,8 @@
 use Rattle.std.proofs.Common.{◌≡◌, ◌∙◌, ◌≤◌, ◌++◌, ◌∷◌, [], ℕ, List, false, take, length, sym, subst, ap, arith}
 use Rattle.std.proofs.lemmas.List.{take_more, take_all}
-use Rattle.candidate_core.specs.Options.{IsIn}
-use Rattle.candidate_core.specs.Candidates.{occupies_name}
-use Rattle.candidate_core.specs.Rank.{is_at}
+use Rattle.pool_core.specs.candidate_core.Options.{IsIn}
+use Rattle.pool_core.specs.candidate_core.Candidates.{occupies_name}
+use Rattle.pool_core.specs.candidate_core.Rank.{is_at}
 use Rattle.search_tables.proofs.Offered.{in_more}
 use Rattle.search_tables.proofs.needs.occupant_among.Goals as goal
 

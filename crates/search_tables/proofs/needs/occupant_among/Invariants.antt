@@ -1,7 +1,7 @@
 use Rattle.std.proofs.Common.{◌≡◌, ℕ, take, false}
-use Rattle.candidate_core.specs.Options.{IsIn}
-use Rattle.candidate_core.specs.Candidates.{occupies_name}
-use Rattle.candidate_core.specs.Rank.{is_at}
+use Rattle.pool_core.specs.candidate_core.Options.{IsIn}
+use Rattle.pool_core.specs.candidate_core.Candidates.{occupies_name}
+use Rattle.pool_core.specs.candidate_core.Rank.{is_at}
 use Rattle.search_tables.proofs.needs.occupant_among.Given as goal
 
 abbrev pub invariant-loop-id : goal.invariant-loop-id

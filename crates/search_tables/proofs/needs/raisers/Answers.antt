@@ -2,7 +2,7 @@ use Rattle.std.proofs.Common.{◌≡◌, ◌≤◌, ℕ, List, true, subst, leng
 use Rattle.std.proofs.lemmas.List.{take_all}
 use Rattle.dep_core.specs.Dependency.{Dependency}
 use Rattle.dep_core.specs.Meets.{dependency}
-use Rattle.candidate_core.specs.Options.{IsIn}
+use Rattle.pool_core.specs.candidate_core.Options.{IsIn}
 use Rattle.search_tables.specs.InstallIf.{all_met}
 use Rattle.search_tables.proofs.RaiserLists.{raisers_more}
 use Rattle.search_tables.proofs.needs.raisers.Goals as goal

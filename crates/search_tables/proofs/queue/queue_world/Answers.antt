@@ -3,7 +3,7 @@ use Rattle.std.specs.Prelude.{None}
 use Rattle.std.proofs.lemmas.List.{take_all}
 use Rattle.dep_core.specs.Dependency.{Dependency}
 use Rattle.dep_core.specs.Meets.{dependency}
-use Rattle.candidate_core.proofs.Steps.{take_one_more}
+use Rattle.pool_core.proofs.candidate_core.Steps.{take_one_more}
 use Rattle.search_tables.specs.Queue.{raised_deps}
 use Rattle.search_tables.proofs.Queued.{front_length, queued_more}
 use Rattle.search_tables.proofs.queue.queue_world.Goals as goal

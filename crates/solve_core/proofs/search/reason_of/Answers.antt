@@ -1,7 +1,7 @@
 use Rattle.std.proofs.Common.{◌≤◌, ◌+◌, ◌∙◌, ◌++◌, ◌∷◌, [], ℕ, List, take, subst, sym, ap, length, arith, append-nil}
 use Rattle.std.proofs.lemmas.List.{take_more, take_all}
-use Rattle.search_tables.specs.Reasons.{HasSameMembers, others_in}
-use Rattle.search_tables.proofs.Members.{same_more_all, others-append}
+use Rattle.search_choices.specs.search_tables.Reasons.{HasSameMembers, others_in}
+use Rattle.search_choices.proofs.search_tables.Members.{same_more_all, others-append}
 use Rattle.solve_core.proofs.search.reason_of.Goals as goal
 
 pub loop-ruled_out-init : goal.loop-ruled_out-init

@@ -1,5 +1,5 @@
 use Rattle.std.proofs.Common.{◌++◌, take}
-use Rattle.search_tables.specs.Reasons.{HasSameMembers, others_in}
+use Rattle.search_choices.specs.search_tables.Reasons.{HasSameMembers, others_in}
 use Rattle.solve_core.proofs.search.reason_of.Given as goal
 
 abbrev pub invariant-loop-ruled_out : goal.invariant-loop-ruled_out

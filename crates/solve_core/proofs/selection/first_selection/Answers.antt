@@ -1,13 +1,13 @@
 use Rattle.std.proofs.Common.{◌≡◌, ◌<◌, ◌≤◌, ◌^◌, ◌∙◌, ◌∷◌, ◌++◌, [], ℕ, List, length, refl, subst, sym, ap, arith}
-use Rattle.candidate_core.specs.PackageMatches.{AreMatchesAmong}
-use Rattle.candidate_core.specs.Rank.{SealedPool}
-use Rattle.candidate_core.specs.declared.package_matches.PackageMatches.{PackageMatches}
-use Rattle.search_tables.specs.Selection.{IsFirstSelection}
+use Rattle.search_choices.specs.candidate_core.PackageMatches.{AreMatchesAmong}
+use Rattle.search_choices.specs.candidate_core.Rank.{SealedPool}
+use Rattle.search_choices.specs.candidate_core.declared.package_matches.PackageMatches.{PackageMatches}
+use Rattle.search_choices.specs.search_tables.Selection.{IsFirstSelection}
 use Rattle.search_choices.specs.Choices.{choices_of, pool_of}
 use Rattle.search_choices.specs.declared.choices.Choices.{Choices}
 use Rattle.solve_core.specs.Measure.{weight_of}
-use Rattle.search_tables.specs.Reasons.{FrameValue, IsReason, IsExhaustedFrame, IsFrameTaking}
-use Rattle.search_tables.proofs.Places.{none_of}
+use Rattle.search_choices.specs.search_tables.Reasons.{FrameValue, IsReason, IsExhaustedFrame, IsFrameTaking}
+use Rattle.search_choices.proofs.search_tables.Places.{none_of}
 use Rattle.solve_core.proofs.FirstFound.{first_found, none_satisfies}
 use Rattle.solve_core.proofs.Weights.{opened_lighter, not_heavier, few_turns, few_options}
 use Rattle.solve_core.proofs.selection.first_selection.Goals as goal

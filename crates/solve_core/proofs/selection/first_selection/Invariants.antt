@@ -1,7 +1,7 @@
 use Rattle.std.proofs.Common.{◌≡◌}
-use Rattle.candidate_core.specs.PackageMatches.{AreMatchesAmong}
+use Rattle.search_choices.specs.candidate_core.PackageMatches.{AreMatchesAmong}
 use Rattle.search_choices.specs.Choices.{IsSearch, choices_of, pool_of}
-use Rattle.search_tables.specs.Reasons.{IsFrameOf}
+use Rattle.search_choices.specs.search_tables.Reasons.{IsFrameOf}
 use Rattle.solve_core.specs.Measure.{weight_of}
 use Rattle.solve_core.proofs.selection.first_selection.Given as goal
 

@@ -1,7 +1,7 @@
 use Rattle.std.proofs.Common.{List, ℕ, subst}
 use Rattle.std.specs.Prelude.{IfOk, MatchOption}
-use Rattle.candidate_core.specs.Rank.{SealedPool}
-use Rattle.search_tables.specs.Selection.{IsFirstSelection, IsSatisfying}
+use Rattle.search_choices.specs.candidate_core.Rank.{SealedPool}
+use Rattle.search_choices.specs.search_tables.Selection.{IsFirstSelection, IsSatisfying}
 use Rattle.solve_core.proofs.selection.solve.Goals as goal
 
 pub returns : goal.returns

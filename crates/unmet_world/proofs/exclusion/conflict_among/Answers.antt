@@ -1,6 +1,6 @@
 use Rattle.std.proofs.Common.{◌∙◌, sym}
 use Rattle.dep_core.specs.Meets.{dependency}
-use Rattle.candidate_core.proofs.LoopTests.{found_first, not_found_next}
+use Rattle.search_tables.proofs.candidate_core.LoopTests.{found_first, not_found_next}
 use Rattle.unmet_world.specs.Exclusion.{is_conflict_met_by}
 use Rattle.unmet_world.proofs.exclusion.conflict_among.Goals as goal
 

@@ -2,7 +2,7 @@ use Rattle.std.proofs.Common.{◌∙◌, ap, sym}
 use Rattle.std.specs.Option.{option_map}
 use Rattle.dep_core.specs.Dependency.{Dependency}
 use Rattle.dep_core.specs.Meets.{dependency}
-use Rattle.candidate_core.proofs.LoopTests.{found_first, not_found_next}
+use Rattle.search_tables.proofs.candidate_core.LoopTests.{found_first, not_found_next}
 use Rattle.unmet_world.specs.Exclusion.{both_occupy}
 use Rattle.unmet_world.proofs.exclusion.occupied_among.Goals as goal
 

@@ -1,8 +1,8 @@
 use Rattle.std.proofs.Common.{◌++◌, List, ℕ, take, sym, subst, arith}
 use Rattle.std.specs.Prelude.{option_to_list}
 use Rattle.std.proofs.lemmas.List.{take_all}
-use Rattle.candidate_core.specs.Options.{IsIn}
-use Rattle.candidate_core.proofs.Steps.{take_one_more}
+use Rattle.search_tables.specs.candidate_core.Options.{IsIn}
+use Rattle.search_tables.proofs.candidate_core.Steps.{take_one_more}
 use Rattle.search_tables.proofs.Offered.{in_more}
 use Rattle.unmet_world.proofs.refutation.are_left.Goals as goal
 

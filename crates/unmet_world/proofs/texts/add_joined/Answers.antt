@@ -1,6 +1,6 @@
 use Rattle.std.proofs.Common.{◌≡◌, ◌∙◌, ◌++◌, List, ℕ, Some, ap, sym, arith}
 use Rattle.std.specs.Prelude.{slice_get}
-use Rattle.candidate_core.proofs.Steps.{get_at}
+use Rattle.search_tables.proofs.candidate_core.Steps.{get_at}
 use Rattle.unmet_world.proofs.AddedTexts.{joined_first, joined_next}
 use Rattle.unmet_world.proofs.texts.add_joined.Goals as goal
 use Rattle.unmet_world.proofs.texts.add_joined.Goals.{then-i-gt0+in_ok-extend_from_slice, else-i-gt0}

@@ -1,7 +1,7 @@
 use Rattle.std.proofs.Common.{◌≡◌, ◌∙◌, ◌≤◌, [], List, ℕ, length, map, ap, sym, arith}
 use Rattle.std.specs.Prelude.{Some, slice_get}
 use Rattle.std.proofs.lemmas.List.{take_all}
-use Rattle.candidate_core.proofs.Steps.{get_at}
+use Rattle.search_tables.proofs.candidate_core.Steps.{get_at}
 use Rattle.unmet_world.specs.Lines.{offer_text_at, with_text, with_texts}
 use Rattle.unmet_world.proofs.AddedTexts.{mapped_next}
 use Rattle.unmet_world.proofs.texts.offers.Goals as goal

@@ -3,7 +3,7 @@ use Rattle.std.specs.Option.{option_map_or}
 use Rattle.std.specs.Str.{bytes_eq}
 use Rattle.dep_core.specs.Dependency.{Dependency}
 use Rattle.dep_core.specs.Meets.{dependency}
-use Rattle.candidate_core.proofs.LoopTests.{any_at, none_next}
+use Rattle.search_tables.proofs.candidate_core.LoopTests.{any_at, none_next}
 use Rattle.unmet_world.proofs.texts.uses_tag.Goals as goal
 
 pub returns-then-has_tag : goal.returns-then-has_tag

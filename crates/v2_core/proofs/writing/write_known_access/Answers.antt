@@ -1,6 +1,6 @@
 use Rattle.std.proofs.Common.{refl}
 use Rattle.adb_view.specs.Plain.{none, more, int, blob_or_null, obj_value}
-use Rattle.adb_values.proofs.Lists.{closed}
+use Rattle.v2_lines.proofs.adb_values.Lists.{closed}
 use Rattle.v2_lines.specs.Accesses.{access_view}
 use Rattle.v2_core.proofs.writing.write_known_access.Goals as goal
 

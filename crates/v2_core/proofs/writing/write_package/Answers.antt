@@ -1,7 +1,7 @@
 use Rattle.std.proofs.Common.{OnOk, ◌≡◌, ap, map, refl, subst, ◌∙◌}
 use Rattle.adb_view.specs.Plain.{null, none, more, obj_value}
-use Rattle.adb_values.specs.Drafts.{draft_with}
-use Rattle.adb_values.proofs.Lists.{closed}
+use Rattle.v2_lines.specs.adb_values.Drafts.{draft_with}
+use Rattle.v2_lines.proofs.adb_values.Lists.{closed}
 use Rattle.v2_lines.specs.declared.field.InfoField.TheVariants as Fields
 use Rattle.v2_core.specs.Database.{array_of, listed_folder_value, record_info_value, record_value, single_value}
 use Rattle.v2_core.proofs.writing.write_package.Goals as goal

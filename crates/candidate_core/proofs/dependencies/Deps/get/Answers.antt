@@ -4,7 +4,7 @@ use Rattle.dep_core.specs.Dependency.{Dependency}
 use Rattle.adb_schema.specs.SoundValues.{IsSoundDependency}
 use Rattle.candidate_core.specs.Candidates.{dependency_in}
 use Rattle.adb_view.specs.Plain.{Plains}
-use Rattle.adb_fields.specs.ListValue.{list_value}
+use Rattle.adb_schema.specs.adb_fields.ListValue.{list_value}
 use Rattle.adb_view.specs.Values.{count_of, entries_in, nth}
 use Rattle.candidate_core.proofs.JudgedLists.{sound_at, sound_count}
 use Rattle.candidate_core.proofs.dependencies.Deps.get.Goals as goal

@@ -1,6 +1,6 @@
 use Rattle.std.proofs.Common.{◌∙◌, ap, sym, length}
 use Rattle.adb_view.specs.Plain.{Plains}
-use Rattle.adb_fields.specs.ListValue.{list_value}
+use Rattle.adb_schema.specs.adb_fields.ListValue.{list_value}
 use Rattle.adb_view.specs.Values.{entries_in}
 use Rattle.candidate_core.proofs.JudgedLists.{sound_count}
 use Rattle.candidate_core.proofs.dependencies.Deps.len.Goals as goal

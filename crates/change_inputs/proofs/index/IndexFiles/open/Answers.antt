@@ -1,13 +1,13 @@
 use Rattle.std.proofs.Common.{◌≡◌, ap, sym, ◌∙◌, Some, None}
 use Rattle.std.specs.Prelude.{is_none}
-use Rattle.adb_schema.specs.Texts.{text_fault}
-use Rattle.adb_schema.specs.Soundness.{first_fault, root_value}
+use Rattle.db_core.specs.adb_schema.Texts.{text_fault}
+use Rattle.db_core.specs.adb_schema.Soundness.{first_fault, root_value}
 use Rattle.adb_view.specs.Values.{is_sound}
 use Rattle.adb_view.specs.declared.tables.Kind.TheVariants as Kinds
 use Rattle.adb_view.specs.declared.tables.Which.TheVariants.{Index}
 use Rattle.adb_view.specs.Head.{head_fault, root_of}
 use Rattle.change_inputs.proofs.IndexSteps.{few_seen, in_list, passes_at, seen_at}
-use Rattle.adb_schema.proofs.SoundPayload.{file_head, file_sound, file_texts}
+use Rattle.db_core.proofs.adb_schema.SoundPayload.{file_head, file_sound, file_texts}
 use Rattle.change_inputs.specs.IndexFiles.{bytes_of_each}
 use Rattle.change_inputs.proofs.index.IndexFiles.open.Goals as goal
 

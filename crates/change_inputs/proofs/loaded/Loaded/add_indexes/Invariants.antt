@@ -1,5 +1,5 @@
 use Rattle.std.proofs.Common.{◌≤◌, length}
-use Rattle.candidate_core.specs.declared.candidate_list.TheConstants.{MOST_CANDIDATES}
+use Rattle.pool_core.specs.candidate_core.declared.candidate_list.TheConstants.{MOST_CANDIDATES}
 use Rattle.change_inputs.specs.Seen.{indexes_seen}
 use Rattle.change_inputs.proofs.PoolSteps.{IsIndexedTo}
 use Rattle.change_inputs.proofs.loaded.Loaded.add_indexes.Given as goal

@@ -1,4 +1,4 @@
-use Rattle.candidate_core.proofs.Steps.{fault_more}
+use Rattle.pool_core.proofs.candidate_core.Steps.{fault_more}
 use Rattle.change_inputs.proofs.PoolSteps.{all_longer, fault_handed}
 use Rattle.change_inputs.specs.Candidates.{candidates_from}
 use Rattle.change_inputs.specs.Seen.{database_seen, indexes_seen}

@@ -1,4 +1,4 @@
-use Rattle.candidate_core.specs.Values.{names_upgraded_by}
+use Rattle.pool_core.specs.candidate_core.Values.{names_upgraded_by}
 use Rattle.change_inputs.proofs.PoolSteps.{pool_is_none, pool_made}
 use Rattle.change_inputs.specs.Seen.{inputs_seen}
 use Rattle.change_inputs.proofs.loaded.Loaded.pool.Goals as goal

@@ -1,7 +1,7 @@
 use Rattle.std.proofs.Common.{◌∙◌, ap, length, sym}
 use Rattle.std.specs.Prelude.{option_map}
-use Rattle.adb_fields.proofs.NameLists.{count-listed}
-use Rattle.adb_schema.specs.Views.{idb_value}
+use Rattle.pkg_core.proofs.adb_fields.NameLists.{count-listed}
+use Rattle.pkg_core.specs.adb_schema.Views.{idb_value}
 use Rattle.adb_view.specs.Values.{entries_in, count_of}
 use Rattle.db_core.specs.Packages.{packages_by}
 use Rattle.db_core.proofs.db.Db.len.Goals as goal

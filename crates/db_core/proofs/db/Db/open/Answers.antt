@@ -1,13 +1,13 @@
 use Rattle.std.proofs.Common.{◌∙◌, Some, ap, subst, sym}
 use Rattle.std.specs.List.{list_all}
-use Rattle.adb_fields.specs.Repeated.{entries_at}
-use Rattle.adb_schema.specs.Soundness.{root_value}
+use Rattle.pkg_core.specs.adb_fields.Repeated.{entries_at}
+use Rattle.pkg_core.specs.adb_schema.Soundness.{root_value}
 use Rattle.adb_view.specs.Values.{entries_in, entry_in}
 use Rattle.adb_view.specs.declared.tables.Which.TheVariants.{Idb}
 use Rattle.db_core.specs.Packages.{lists_names, lists_no_reserved}
 use Rattle.db_core.specs.SoundMembers.{IsSoundDatabaseIfAny}
 use Rattle.db_core.proofs.ListedNames.{packages_list_names, packages_list_no_reserved}
-use Rattle.adb_schema.proofs.SoundPayload.{payload_rules}
+use Rattle.pkg_core.proofs.adb_schema.SoundPayload.{payload_rules}
 use Rattle.db_core.proofs.db.Db.open.Goals as goal
 
 pub invariant_of-result-clause-named : goal.invariant_of-result-clause-named

@@ -1,9 +1,9 @@
 use Rattle.std.proofs.Common.{◌≡◌, ◌∙◌, ap, sym}
 use Rattle.std.specs.List.{position_from}
 use Rattle.std.specs.Prelude.{option_map}
-use Rattle.adb_fields.specs.ListValue.{list_value}
-use Rattle.adb_fields.specs.Repeated.{list_of}
-use Rattle.adb_schema.specs.Views.{idb_value}
+use Rattle.pkg_core.specs.adb_fields.ListValue.{list_value}
+use Rattle.pkg_core.specs.adb_fields.Repeated.{list_of}
+use Rattle.pkg_core.specs.adb_schema.Views.{idb_value}
 use Rattle.adb_view.specs.Values.{entries_in}
 use Rattle.db_core.specs.Packages.{packages_by, lists_path}
 use Rattle.db_core.specs.Seen.{packages_of}

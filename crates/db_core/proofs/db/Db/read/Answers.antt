@@ -1,7 +1,7 @@
 use Rattle.std.proofs.Common.{◌≡◌, None, subst, sym}
-use Rattle.adb_schema.specs.Soundness.{payload_fault}
+use Rattle.pkg_core.specs.adb_schema.Soundness.{payload_fault}
 use Rattle.adb_view.specs.declared.tables.Which.TheVariants.{Idb}
-use Rattle.adb_schema.proofs.Sound.{sound_payload}
+use Rattle.pkg_core.proofs.adb_schema.Sound.{sound_payload}
 use Rattle.db_core.proofs.db.Db.read.Goals as goal
 
 pub open-requires : goal.open-requires

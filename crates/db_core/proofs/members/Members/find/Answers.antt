@@ -1,7 +1,7 @@
 use Rattle.std.proofs.Common.{◌∙◌, ap, sym}
 use Rattle.std.specs.Prelude.{bytes_eq}
 use Rattle.std.proofs.lemmas.List.{length-map}
-use Rattle.adb_fields.specs.Repeated.{name_of}
+use Rattle.pkg_core.specs.adb_fields.Repeated.{name_of}
 use Rattle.db_core.specs.EntrySeen.{member_by}
 use Rattle.db_core.specs.Members.{member_name}
 use Rattle.db_core.proofs.MemberPlaces.{kept_name, none_at_end, none_is_there, one_is_there}

@@ -1,6 +1,6 @@
 use Rattle.std.proofs.Common.{◌≡◌, suc, ◌-◌, ◌∙◌, ap, arith, length}
 use Rattle.std.specs.Ordering.{is_lt}
-use Rattle.adb_fields.specs.Repeated.{name_of}
+use Rattle.pkg_core.specs.adb_fields.Repeated.{name_of}
 use Rattle.base_core.specs.ByteOrder.{bytes_cmp}
 use Rattle.db_core.specs.EntrySeen.{member_by}
 use Rattle.db_core.specs.Members.{member_name}

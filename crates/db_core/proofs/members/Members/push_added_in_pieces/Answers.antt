@@ -1,5 +1,5 @@
 use Rattle.std.proofs.Common.{◌∙◌, ap, refl}
-use Rattle.adb_fields.specs.Repeated.{package_name}
+use Rattle.pkg_core.specs.adb_fields.Repeated.{package_name}
 use Rattle.adb_view.specs.declared.tables.Which.TheVariants.{Package}
 use Rattle.db_core.specs.EntrySeen.{is_added_or_has_payload, member_by, payload_of_database}
 use Rattle.db_core.specs.Members.{is_after_members}

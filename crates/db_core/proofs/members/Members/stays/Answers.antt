@@ -1,7 +1,7 @@
 use Rattle.std.specs.Prelude.{option_map}
 use Rattle.std.proofs.lemmas.Slice.Eq.{bytes_eq-Decides}
 use Rattle.adb_view.specs.Adb.{payload_of}
-use Rattle.adb_schema.specs.Views.{idb_value, package_value}
+use Rattle.pkg_core.specs.adb_schema.Views.{idb_value, package_value}
 use Rattle.db_core.specs.EntrySeen.{is_added_or_has_payload, member_by, payload_of_database}
 use Rattle.db_core.specs.Packages.{is_added_or_lists_no_reserved, lists_names, lists_no_reserved}
 use Rattle.db_core.specs.Seen.{packages_before}

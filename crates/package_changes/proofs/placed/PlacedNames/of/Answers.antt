@@ -1,5 +1,5 @@
 use Rattle.std.proofs.Common.{◌∙◌, List, ℕ, Bor, ap, map}
-use Rattle.db_core.specs.Seen.{packages_of}
+use Rattle.change_files.specs.db_core.Seen.{packages_of}
 use Rattle.package_changes.specs.Placed.{placed_names_of}
 use Rattle.package_changes.specs.Seen.{replacement_by}
 use Rattle.package_changes.specs.SelectedNames.{placed_name_at}

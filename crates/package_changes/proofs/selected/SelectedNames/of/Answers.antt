@@ -1,6 +1,6 @@
 use Rattle.std.proofs.Common.{ap, arith}
 use Rattle.std.specs.List.{find}
-use Rattle.candidate_core.specs.Rank.{is_at}
+use Rattle.solve_core.specs.candidate_core.Rank.{is_at}
 use Rattle.package_changes.specs.Changes.{is_selected_named}
 use Rattle.package_changes.specs.SelectedNames.{place_beside}
 use Rattle.std.specs.Option.{option_or}

@@ -1,7 +1,7 @@
 -- The first of those that are left is found where no earlier one has the name.
 use Rattle.std.proofs.Common.{◌≡◌, List, ℕ, drop}
 use Rattle.std.specs.List.{find}
-use Rattle.candidate_core.specs.Rank.{is_at}
+use Rattle.solve_core.specs.candidate_core.Rank.{is_at}
 use Rattle.package_changes.specs.Changes.{is_selected_named}
 use Rattle.package_changes.specs.SelectedNames.{place_beside}
 use Rattle.std.specs.Option.{option_or}

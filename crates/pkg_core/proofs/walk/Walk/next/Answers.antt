@@ -1,9 +1,9 @@
 -- The next file of a folder is the next one of all, and a folder without one is passed.
 use Rattle.std.proofs.Common.{◌+◌, ◌∷◌, drop, sym, ◌∙◌, arith}
 use Rattle.adb_view.specs.Values.{entries_in}
-use Rattle.adb_fields.specs.Repeated.{list_of}
+use Rattle.adb_schema.specs.adb_fields.Repeated.{list_of}
 use Rattle.adb_schema.specs.Views.{dir_value}
-use Rattle.adb_fields.specs.ListValue.{list_value}
+use Rattle.adb_schema.specs.adb_fields.ListValue.{list_value}
 use Rattle.pkg_core.specs.Opened.{left_from, expected_of}
 use Rattle.pkg_core.proofs.Listed.{some_left, folder_left, none_left}
 use Rattle.pkg_core.proofs.walk.Walk.next.Goals as goal

@@ -1,7 +1,7 @@
 -- The files that are left are the same.
 use Rattle.std.proofs.Common.{◌≡◌, ◌-◌}
 use Rattle.adb_view.specs.Values.{entries_in, count_of}
-use Rattle.adb_fields.specs.ListValue.{list_value}
+use Rattle.adb_schema.specs.adb_fields.ListValue.{list_value}
 use Rattle.pkg_core.specs.Opened.{left_in}
 use Rattle.pkg_core.proofs.walk.Walk.next.Given as goal
 

@@ -1,7 +1,7 @@
 -- A file with contents is the next one, and one without is passed.
 use Rattle.std.proofs.Common.{◌+◌, sym, ◌∙◌, ap, arith}
 use Rattle.adb_schema.specs.Views.{file_value}
-use Rattle.adb_fields.specs.ListValue.{list_value}
+use Rattle.adb_schema.specs.adb_fields.ListValue.{list_value}
 use Rattle.pkg_core.proofs.Listed.{some_file, other_file, no_file}
 use Rattle.pkg_core.proofs.walk.Walk.next_in.Goals as goal
 

@@ -1,8 +1,8 @@
 -- Of the folder's files that are left, those that have contents are the same.
 use Rattle.std.proofs.Common.{◌≡◌, ◌+◌, ◌-◌, drop}
 use Rattle.adb_view.specs.Values.{entries_in, count_of}
-use Rattle.adb_fields.specs.ListValue.{list_value}
-use Rattle.adb_fields.specs.Repeated.{list_of}
+use Rattle.adb_schema.specs.adb_fields.ListValue.{list_value}
+use Rattle.adb_schema.specs.adb_fields.Repeated.{list_of}
 use Rattle.pkg_core.specs.Contents.{expected_files}
 use Rattle.pkg_core.proofs.walk.Walk.next_in.Given as goal
 

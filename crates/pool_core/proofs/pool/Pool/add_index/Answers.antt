@@ -4,9 +4,9 @@ use Rattle.adb_view.specs.Entries.{array_entries}
 use Rattle.adb_view.specs.Plain.{Plain}
 use Rattle.adb_view.specs.Shaped.{Each}
 use Rattle.adb_view.specs.declared.adb.Adb.{Adb}
-use Rattle.adb_fields.specs.Fields.{array_at}
-use Rattle.adb_schema.specs.SoundValues.{IsInformation}
-use Rattle.adb_schema.specs.Views.{index_value}
+use Rattle.option_ranks.specs.adb_fields.Fields.{array_at}
+use Rattle.option_ranks.specs.adb_schema.SoundValues.{IsInformation}
+use Rattle.option_ranks.specs.adb_schema.Views.{index_value}
 use Rattle.adb_view.specs.Values.{entries_in, entry_in, value_at}
 use Rattle.adb_view.specs.declared.tables.Kind.TheVariants as Kinds
 use Rattle.adb_view.specs.declared.tables.Which.TheVariants as Tables

@@ -1,8 +1,8 @@
 use Rattle.std.proofs.Common.{◌∙◌, List, ℕ, ap}
 use Rattle.std.specs.List.{filter}
-use Rattle.candidate_core.specs.Options.{may_meet, places_offering}
-use Rattle.candidate_core.specs.Rank.{is_at}
-use Rattle.candidate_core.specs.Values.{need_by}
+use Rattle.option_ranks.specs.candidate_core.Options.{may_meet, places_offering}
+use Rattle.option_ranks.specs.candidate_core.Rank.{is_at}
+use Rattle.option_ranks.specs.candidate_core.Values.{need_by}
 use Rattle.pool_core.proofs.Filtered.{fitting_places}
 use Rattle.pool_core.proofs.sealed.Sealed.fitting.Goals as goal
 

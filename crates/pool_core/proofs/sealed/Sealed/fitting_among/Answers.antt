@@ -2,10 +2,10 @@ use Rattle.std.proofs.Common.{◌≡◌, ◌∙◌, ◌≤◌, ◌++◌, ◌∷�
 use Rattle.std.specs.Prelude.{Some, if◌then◌else◌, slice_get}
 use Rattle.std.specs.List.{filter}
 use Rattle.std.proofs.lemmas.List.{take_all}
-use Rattle.candidate_core.specs.Options.{may_meet}
-use Rattle.candidate_core.specs.Rank.{is_at}
-use Rattle.candidate_core.specs.Values.{need_by}
-use Rattle.candidate_core.proofs.Steps.{filter_step, get_at}
+use Rattle.option_ranks.specs.candidate_core.Options.{may_meet}
+use Rattle.option_ranks.specs.candidate_core.Rank.{is_at}
+use Rattle.option_ranks.specs.candidate_core.Values.{need_by}
+use Rattle.option_ranks.proofs.candidate_core.Steps.{filter_step, get_at}
 use Rattle.pool_core.proofs.sealed.Sealed.fitting_among.Goals as goal
 
 pub loop-id-init : goal.loop-id-init

@@ -1,11 +1,11 @@
 -- The places so far that fit, and what is kept of versions is right.
 use Rattle.std.proofs.Common.{◌≡◌, ℕ, take}
 use Rattle.std.specs.List.{filter}
-use Rattle.candidate_core.specs.Matches.{AreMatchesFor}
-use Rattle.candidate_core.specs.Options.{may_meet}
-use Rattle.candidate_core.specs.Rank.{is_at}
-use Rattle.candidate_core.specs.Values.{need_by}
-use Rattle.candidate_core.specs.VersionTexts.{source_text}
+use Rattle.option_ranks.specs.candidate_core.Matches.{AreMatchesFor}
+use Rattle.option_ranks.specs.candidate_core.Options.{may_meet}
+use Rattle.option_ranks.specs.candidate_core.Rank.{is_at}
+use Rattle.option_ranks.specs.candidate_core.Values.{need_by}
+use Rattle.option_ranks.specs.candidate_core.VersionTexts.{source_text}
 use Rattle.pool_core.proofs.sealed.Sealed.fitting_among.Given as goal
 
 abbrev pub invariant-loop-id : goal.invariant-loop-id

@@ -1,9 +1,9 @@
 use Rattle.std.proofs.Common.{◌≡◌, ◌∙◌, List, ℕ, Bool, ap, sym, arith}
-use Rattle.candidate_core.specs.Options.{options_for, rank_order_of}
-use Rattle.candidate_core.specs.Rank.{is_better}
-use Rattle.candidate_core.specs.Values.{need_by}
-use Rattle.candidate_core.specs.VersionTexts.{source_text}
-use Rattle.candidate_core.proofs.WantedVersions.{known_of_nothing}
+use Rattle.option_ranks.specs.candidate_core.Options.{options_for, rank_order_of}
+use Rattle.option_ranks.specs.candidate_core.Rank.{is_better}
+use Rattle.option_ranks.specs.candidate_core.Values.{need_by}
+use Rattle.option_ranks.specs.candidate_core.VersionTexts.{source_text}
+use Rattle.option_ranks.proofs.candidate_core.WantedVersions.{known_of_nothing}
 use Rattle.option_ranks.proofs.RankedOptions.{few_ranked}
 use Rattle.pool_core.proofs.sealed.Sealed.options_among.Goals as goal
 

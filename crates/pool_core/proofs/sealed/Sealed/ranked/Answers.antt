@@ -1,14 +1,14 @@
 use Rattle.std.proofs.Common.{◌≡◌, ◌∙◌, List, ℕ, Bool, ap, map, subst, rules}
 use Rattle.std.specs.List.Sorted.{IsPermutation, IsSortedBy}
 use Rattle.std.proofs.lemmas.List.Sorted.{IsPermutation-map, IsPermutation-trans, ranks_by}
-use Rattle.candidate_core.specs.Candidates.{Need}
-use Rattle.candidate_core.specs.Values.{need_by}
-use Rattle.candidate_core.specs.Rank.{SealedPool, is_better}
+use Rattle.option_ranks.specs.candidate_core.Candidates.{Need}
+use Rattle.option_ranks.specs.candidate_core.Values.{need_by}
+use Rattle.option_ranks.specs.candidate_core.Rank.{SealedPool, is_better}
 use Rattle.option_ranks.specs.Ranking.{Ranking, ranking_cmp}
-use Rattle.candidate_core.specs.Options.{may_meet, options_for, places_from}
+use Rattle.option_ranks.specs.candidate_core.Options.{may_meet, options_for, places_from}
 use Rattle.option_ranks.specs.declared.rank.VersionKey.{VersionKey}
-use Rattle.candidate_core.proofs.OptionLists.{chain, one_of, places_apart, options_ranked}
-use Rattle.candidate_core.proofs.Answering.{compares_by}
+use Rattle.option_ranks.proofs.candidate_core.OptionLists.{chain, one_of, places_apart, options_ranked}
+use Rattle.option_ranks.proofs.candidate_core.Answering.{compares_by}
 use Rattle.option_ranks.proofs.RankOrder.{ranking_total}
 use Rattle.option_ranks.proofs.RankedOptions.{comes_before, place_of, places_ready, sorted_by_key}
 use Rattle.pool_core.proofs.SortedOptions.{sorted_is_ranked}

@@ -2,14 +2,14 @@ use Rattle.std.proofs.Common.{◌≡◌, ◌∙◌, ◌+◌, ◌++◌, ◌∷◌
 use Rattle.std.specs.Prelude.{All}
 use Rattle.std.proofs.lemmas.List.{map-append, take_more}
 use Rattle.std.proofs.lemmas.List.Elements.{All-push}
-use Rattle.candidate_core.specs.Options.{IsIn, may_meet}
+use Rattle.option_ranks.specs.candidate_core.Options.{IsIn, may_meet}
 use Rattle.option_ranks.specs.Ranking.{IsRankingIn, Ranking}
-use Rattle.candidate_core.specs.Values.{need_by}
-use Rattle.candidate_core.specs.VersionTexts.{source_text}
+use Rattle.option_ranks.specs.candidate_core.Values.{need_by}
+use Rattle.option_ranks.specs.candidate_core.VersionTexts.{source_text}
 use Rattle.option_ranks.specs.VersionRanks.{IsReadFrom}
-use Rattle.candidate_core.proofs.OfferLists.{places_below}
+use Rattle.option_ranks.proofs.candidate_core.OfferLists.{places_below}
 use Rattle.option_ranks.proofs.RankedOptions.{place_of}
-use Rattle.candidate_core.proofs.Steps.{member_at}
+use Rattle.option_ranks.proofs.candidate_core.Steps.{member_at}
 use Rattle.pool_core.proofs.sealed.Sealed.rankings.Goals as goal
 
 pub ranking-requires-clause-within : goal.ranking-requires-clause-within

@@ -1,6 +1,6 @@
 use Rattle.std.proofs.Common.{◌≡◌, All, map, take}
 use Rattle.option_ranks.specs.Ranking.{IsRankingIn}
-use Rattle.candidate_core.specs.Values.{need_by}
+use Rattle.option_ranks.specs.candidate_core.Values.{need_by}
 use Rattle.option_ranks.specs.VersionRanks.{IsReadFrom}
 use Rattle.option_ranks.proofs.RankedOptions.{place_of}
 use Rattle.pool_core.proofs.sealed.Sealed.rankings.Given as goal

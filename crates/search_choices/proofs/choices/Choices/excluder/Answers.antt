@@ -1,6 +1,6 @@
 use Rattle.std.proofs.Common.{ℕ, List, true, subst}
-use Rattle.candidate_core.specs.Candidates.{Candidate}
-use Rattle.candidate_core.proofs.WantedVersions.{if_ok_map}
+use Rattle.search_tables.specs.candidate_core.Candidates.{Candidate}
+use Rattle.search_tables.proofs.candidate_core.WantedVersions.{if_ok_map}
 use Rattle.search_choices.specs.Choices.{choices_of, pool_of}
 use Rattle.search_tables.specs.Excluders.{IsFreeAt}
 use Rattle.search_tables.proofs.Excluders.{match_none, no_excluder}

@@ -1,8 +1,8 @@
 use Rattle.std.proofs.Common.{◌≡◌, ◌<◌, ◌∙◌, ℕ, List, length, sym, subst}
 use Rattle.std.specs.Prelude.{None, Option, Some, slice_get}
-use Rattle.candidate_core.specs.Candidates.{Candidate}
-use Rattle.candidate_core.specs.Packages.{candidates_of_packages}
-use Rattle.candidate_core.proofs.NamedVersions.{matches_among, own_matches}
+use Rattle.search_tables.specs.candidate_core.Candidates.{Candidate}
+use Rattle.search_tables.specs.candidate_core.Packages.{candidates_of_packages}
+use Rattle.search_tables.proofs.candidate_core.NamedVersions.{matches_among, own_matches}
 use Rattle.search_choices.specs.Choices.{choices_of, pool_of}
 use Rattle.search_tables.specs.Conflicts.{AreConflictsOf}
 use Rattle.search_tables.proofs.Excluders.{found_against, found_occupant, match_both, none_against}

@@ -2,8 +2,8 @@ use Rattle.std.proofs.Common.{◌≡◌, ◌≤◌, List, true, false, length, s
 use Rattle.std.specs.Prelude.{Some, slice_get}
 use Rattle.dep_core.specs.Dependency.{Dependency}
 use Rattle.dep_core.specs.Meets.{dependency}
-use Rattle.candidate_core.specs.Candidates.{entry}
-use Rattle.candidate_core.specs.Options.{IsIn}
+use Rattle.search_tables.specs.candidate_core.Candidates.{entry}
+use Rattle.search_tables.specs.candidate_core.Options.{IsIn}
 use Rattle.search_choices.specs.Choices.{choices_of, pool_of}
 use Rattle.search_tables.specs.Selection.{is_met}
 use Rattle.search_tables.proofs.Offered.{each_all, each_on}

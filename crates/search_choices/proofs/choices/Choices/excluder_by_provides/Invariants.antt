@@ -2,8 +2,8 @@
 use Rattle.std.proofs.Common.{◌≡◌, false, take}
 use Rattle.std.specs.Prelude.{is_some}
 use Rattle.dep_core.specs.Dependency.{Dependency}
-use Rattle.candidate_core.specs.Options.{IsIn}
-use Rattle.candidate_core.specs.PackageMatches.{AreMatchesAmong}
+use Rattle.search_tables.specs.candidate_core.Options.{IsIn}
+use Rattle.search_tables.specs.candidate_core.PackageMatches.{AreMatchesAmong}
 use Rattle.search_choices.specs.Choices.{choices_of, pool_of}
 use Rattle.search_tables.specs.Excluders.{IsFreeAt}
 use Rattle.search_choices.proofs.choices.Choices.excluder_by_provides.Given as goal

@@ -2,8 +2,8 @@ use Rattle.std.proofs.Common.{◌≡◌, ◌∙◌, ℕ, sym, subst}
 use Rattle.std.specs.Prelude.{Some, slice_get}
 use Rattle.dep_core.specs.Dependency.{Dependency}
 use Rattle.dep_core.specs.Meets.{dependency}
-use Rattle.candidate_core.specs.Candidates.{Candidate}
-use Rattle.candidate_core.proofs.WantedVersions.{if_ok_map}
+use Rattle.search_tables.specs.candidate_core.Candidates.{Candidate}
+use Rattle.search_tables.proofs.candidate_core.WantedVersions.{if_ok_map}
 use Rattle.search_choices.specs.Choices.{choices_of, pool_of}
 use Rattle.search_tables.proofs.Excluders.{found_meeting, match_both}
 use Rattle.search_tables.proofs.Places.{there_is}

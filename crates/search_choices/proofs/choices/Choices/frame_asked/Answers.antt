@@ -1,5 +1,5 @@
 use Rattle.std.proofs.Common.{ℕ, List, sym, subst}
-use Rattle.candidate_core.specs.Rank.{SealedPool}
+use Rattle.search_tables.specs.candidate_core.Rank.{SealedPool}
 use Rattle.search_choices.specs.Choices.{choices_of, pool_of}
 use Rattle.search_tables.specs.Reasons.{IsFrameOf}
 use Rattle.search_choices.proofs.Asking.{none_asked}

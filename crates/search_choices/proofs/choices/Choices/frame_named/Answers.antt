@@ -1,6 +1,6 @@
 use Rattle.std.proofs.Common.{◌≡◌, ◌∙◌, ℕ, List, [], true, sym, ap}
-use Rattle.candidate_core.specs.Candidates.{named}
-use Rattle.candidate_core.specs.Options.{options_for}
+use Rattle.search_tables.specs.candidate_core.Candidates.{named}
+use Rattle.search_tables.specs.candidate_core.Options.{options_for}
 use Rattle.search_tables.specs.InstallIf.{all_met}
 use Rattle.search_choices.specs.Choices.{choices_of, pool_of}
 use Rattle.search_choices.proofs.Asking.{asks_all, least_within, open_asked}

@@ -1,7 +1,7 @@
 use Rattle.std.proofs.Common.{◌≡◌, ℕ, List, sym, subst}
 use Rattle.std.specs.Prelude.{Some, slice_get}
-use Rattle.candidate_core.specs.Options.{IsIn}
-use Rattle.candidate_core.proofs.WantedVersions.{if_ok_map}
+use Rattle.search_tables.specs.candidate_core.Options.{IsIn}
+use Rattle.search_tables.proofs.candidate_core.WantedVersions.{if_ok_map}
 use Rattle.search_choices.specs.Choices.{choices_of, pool_of}
 use Rattle.search_tables.specs.Queue.{RaisedDepValue}
 use Rattle.search_tables.proofs.Places.{there_is}

@@ -1,6 +1,6 @@
 use Rattle.std.proofs.Common.{◌≡◌, ◌∙◌, inl, inr, ℕ, List, sym, subst, arith}
 use Rattle.dep_core.specs.Dependency.{Dependency}
-use Rattle.candidate_core.specs.Options.{IsIn}
+use Rattle.search_tables.specs.candidate_core.Options.{IsIn}
 use Rattle.search_tables.specs.NameTable.{items_of}
 use Rattle.search_choices.proofs.Asking.{offered_names}
 use Rattle.search_choices.proofs.choices.Choices.least_rank_asking.Goals as goal

@@ -1,7 +1,7 @@
 use Rattle.std.proofs.Common.{◌≡◌, ◌≤◌, ◌<◌, ℕ, List, false, length, arith}
 use Rattle.dep_core.specs.Dependency.{Dependency}
 use Rattle.dep_core.specs.Meets.{dependency}
-use Rattle.candidate_core.specs.Options.{IsIn}
+use Rattle.search_tables.specs.candidate_core.Options.{IsIn}
 use Rattle.search_choices.specs.Choices.{choices_of, install_ifs_of, pool_of}
 use Rattle.search_tables.specs.InstallIf.{rank_asks}
 use Rattle.search_tables.specs.NameTable.{items_of}

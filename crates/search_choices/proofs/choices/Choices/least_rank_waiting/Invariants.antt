@@ -1,5 +1,5 @@
 use Rattle.std.proofs.Common.{◌≡◌, ◌≤◌, ◌<◌, ℕ, false, take}
-use Rattle.candidate_core.specs.Options.{IsIn}
+use Rattle.search_tables.specs.candidate_core.Options.{IsIn}
 use Rattle.search_choices.specs.Choices.{choices_of, install_ifs_of, pool_of}
 use Rattle.search_tables.specs.InstallIf.{rank_asks}
 use Rattle.search_choices.proofs.choices.Choices.least_rank_waiting.Given as goal

@@ -1,8 +1,8 @@
 use Rattle.std.proofs.Common.{◌∙◌, [], sym, ap}
 use Rattle.std.specs.Prelude.{option_to_list}
-use Rattle.candidate_core.specs.Candidates.{entry}
-use Rattle.candidate_core.specs.Options.{options_for}
-use Rattle.candidate_core.specs.Rank.{SealedPool}
+use Rattle.search_tables.specs.candidate_core.Candidates.{entry}
+use Rattle.search_tables.specs.candidate_core.Options.{options_for}
+use Rattle.search_tables.specs.candidate_core.Rank.{SealedPool}
 use Rattle.search_choices.specs.Choices.{choices_of, pool_of}
 use Rattle.search_tables.specs.Queue.{RaisedDepValue}
 use Rattle.search_choices.proofs.Consistency.{open_raised}

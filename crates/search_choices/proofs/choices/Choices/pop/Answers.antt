@@ -7,7 +7,7 @@ use Rattle.search_tables.proofs.Theory.{in_left}
 use Rattle.search_tables.proofs.Places.{empty_list}
 use Rattle.search_tables.proofs.Queued.{queue_more, take_front}
 use Rattle.search_choices.proofs.Consistency.{never_empty, checkpoints_less, checkpoints_none, consistent_by}
-use Rattle.candidate_core.specs.Options.{IsIn}
+use Rattle.search_tables.specs.candidate_core.Options.{IsIn}
 use Rattle.search_choices.proofs.choices.Choices.pop.Goals as goal
 
 pub returns-in-Some-clause-consistent : goal.returns-in-Some-clause-consistent

@@ -2,7 +2,7 @@ use Rattle.std.proofs.Common.{◌≡◌, ◌∙◌, List, ℕ, [], false, sym, s
 use Rattle.std.specs.Prelude.{Option}
 use Rattle.std.specs.Option.{option_map_or}
 use Rattle.dep_core.specs.Dependency.{Dependency}
-use Rattle.candidate_core.specs.Candidates.{Candidate}
+use Rattle.search_tables.specs.candidate_core.Candidates.{Candidate}
 use Rattle.search_tables.specs.InstallIf.{rank_asks}
 use Rattle.search_tables.specs.Selection.{depends_at}
 use Rattle.search_choices.specs.Choices.{choices_of, install_ifs_of, pool_of}

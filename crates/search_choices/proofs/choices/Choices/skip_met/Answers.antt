@@ -1,8 +1,8 @@
 use Rattle.std.proofs.Common.{◌≡◌, ℕ, List, length, refl, sym, subst, ap, arith}
 use Rattle.std.specs.Prelude.{slice_get}
 use Rattle.std.specs.List.{find}
-use Rattle.candidate_core.specs.PackageMatches.{AreMatchesAmong}
-use Rattle.candidate_core.specs.Rank.{SealedPool}
+use Rattle.search_tables.specs.candidate_core.PackageMatches.{AreMatchesAmong}
+use Rattle.search_tables.specs.candidate_core.Rank.{SealedPool}
 use Rattle.search_choices.specs.Choices.{choices_of, pool_of}
 use Rattle.search_tables.specs.Queue.{is_unmet_dep, queue_of}
 use Rattle.search_choices.proofs.Consistency.{consistent_on}

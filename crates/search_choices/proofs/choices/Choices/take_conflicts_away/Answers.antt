@@ -2,8 +2,8 @@ use Rattle.std.proofs.Common.{◌≡◌, ◌∙◌, ◌++◌, [], ℕ, List, sym
 use Rattle.std.specs.Prelude.{Option, Some}
 use Rattle.std.specs.Option.{option_map_or}
 use Rattle.dep_core.specs.Dependency.{Dependency}
-use Rattle.candidate_core.specs.Candidates.{Candidate}
-use Rattle.candidate_core.specs.Rank.{candidate_at}
+use Rattle.search_tables.specs.candidate_core.Candidates.{Candidate}
+use Rattle.search_tables.specs.candidate_core.Rank.{candidate_at}
 use Rattle.search_choices.specs.Choices.{pool_of}
 use Rattle.search_tables.specs.Conflicts.{conflicts_among, conflicts_named}
 use Rattle.search_tables.specs.Selection.{depends_at}

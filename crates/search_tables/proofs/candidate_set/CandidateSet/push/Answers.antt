@@ -1,6 +1,6 @@
 use Rattle.std.proofs.Common.{◌≡◌, ◌∙◌, ◌++◌, ◌∷◌, [], ◌<◌, ℕ, List, true, ap, sym, subst, length, arith}
 use Rattle.std.specs.Prelude.{slice_set}
-use Rattle.candidate_core.specs.Options.{IsIn}
+use Rattle.pool_core.specs.candidate_core.Options.{IsIn}
 use Rattle.search_tables.specs.CandidateSet.{AreMarks}
 use Rattle.search_tables.proofs.Marks.{marked_more}
 use Rattle.search_tables.proofs.candidate_set.CandidateSet.push.Goals as goal

@@ -1,5 +1,5 @@
 use Rattle.std.proofs.Common.{◌≡◌, ◌++◌, ℕ, List, take}
-use Rattle.candidate_core.specs.Candidates.{Candidate}
+use Rattle.pool_core.specs.candidate_core.Candidates.{Candidate}
 use Rattle.search_tables.specs.Conflicts.{AreConflictsOf, HasDepends, conflicts_in, conflicts_named}
 use Rattle.search_tables.proofs.conflicts.Conflicts.add.Given as goal
 

@@ -2,11 +2,11 @@ use Rattle.std.proofs.Common.{◌≡◌, ◌≤◌, ◌<◌, ◌∙◌, ℕ, Boo
 use Rattle.std.specs.Prelude.{Some, find, slice_get}
 use Rattle.std.specs.Option.{option_map}
 use Rattle.dep_core.specs.Dependency.{Dependency}
-use Rattle.candidate_core.specs.Candidates.{Candidate, meets_dependency}
-use Rattle.candidate_core.specs.Options.{IsIn}
-use Rattle.candidate_core.specs.Packages.{candidates_of_packages}
-use Rattle.candidate_core.proofs.NamedVersions.{matches_among, own_matches}
-use Rattle.candidate_core.proofs.Steps.{get_at}
+use Rattle.pool_core.specs.candidate_core.Candidates.{Candidate, meets_dependency}
+use Rattle.pool_core.specs.candidate_core.Options.{IsIn}
+use Rattle.pool_core.specs.candidate_core.Packages.{candidates_of_packages}
+use Rattle.pool_core.proofs.candidate_core.NamedVersions.{matches_among, own_matches}
+use Rattle.pool_core.proofs.candidate_core.Steps.{get_at}
 use Rattle.search_tables.specs.Conflicts.{IsConflictOf, ListedValue, without_index}
 use Rattle.search_tables.proofs.ConflictTables.{first_at, none_more, none_of_all, none_yet}
 use Rattle.search_tables.proofs.Places.{there_is}

@@ -2,9 +2,9 @@
 use Rattle.std.proofs.Common.{◌≡◌, ℕ, map, take}
 use Rattle.std.specs.Prelude.{None, Some, find, slice_get}
 use Rattle.dep_core.specs.Dependency.{Dependency}
-use Rattle.candidate_core.specs.Candidates.{Candidate, meets_dependency}
-use Rattle.candidate_core.specs.PackageMatches.{AreMatchesAmong}
-use Rattle.candidate_core.specs.Packages.{candidates_of_packages}
+use Rattle.pool_core.specs.candidate_core.Candidates.{Candidate, meets_dependency}
+use Rattle.pool_core.specs.candidate_core.PackageMatches.{AreMatchesAmong}
+use Rattle.pool_core.specs.candidate_core.Packages.{candidates_of_packages}
 use Rattle.search_tables.specs.Conflicts.{without_index}
 use Rattle.search_tables.proofs.conflicts.Conflicts.choice_against.Given as goal
 

@@ -1,6 +1,6 @@
 use Rattle.std.proofs.Common.{◌≡◌, ◌≤◌, ◌++◌, ℕ, List, length, take}
 use Rattle.dep_core.specs.Dependency.{Dependency}
-use Rattle.candidate_core.specs.Candidates.{Candidate}
+use Rattle.pool_core.specs.candidate_core.Candidates.{Candidate}
 use Rattle.search_tables.specs.Conflicts.{AreConflictsOf, conflicts_in, conflicts_named}
 use Rattle.search_tables.proofs.conflicts.Conflicts.pop_all.Given as goal
 

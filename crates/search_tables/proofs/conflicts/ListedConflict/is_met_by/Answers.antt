@@ -1,9 +1,9 @@
 use Rattle.std.proofs.Common.{◌≡◌, ◌∙◌, ℕ, ap, sym, subst}
 use Rattle.std.specs.Prelude.{Some, slice_get}
 use Rattle.dep_core.specs.Meets.{dependency}
-use Rattle.candidate_core.specs.Candidates.{meets_dependency}
-use Rattle.candidate_core.specs.Packages.{candidates_of_packages}
-use Rattle.candidate_core.proofs.WantedVersions.{if_ok_map}
+use Rattle.pool_core.specs.candidate_core.Candidates.{meets_dependency}
+use Rattle.pool_core.specs.candidate_core.Packages.{candidates_of_packages}
+use Rattle.pool_core.proofs.candidate_core.WantedVersions.{if_ok_map}
 use Rattle.search_tables.specs.Conflicts.{IsConflictOf, ListedValue}
 use Rattle.search_tables.specs.declared.conflicts.ListedConflict.TheInside.{Inside}
 use Rattle.search_tables.proofs.conflicts.ListedConflict.is_met_by.Goals as goal

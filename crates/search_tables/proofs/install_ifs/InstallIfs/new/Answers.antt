@@ -1,6 +1,6 @@
 use Rattle.std.proofs.Common.{◌≡◌, ◌<◌, ◌∙◌, ℕ, List, ap, sym, arith, length}
 use Rattle.std.specs.Prelude.{Some, slice_get}
-use Rattle.candidate_core.proofs.Steps.{get_at}
+use Rattle.pool_core.proofs.candidate_core.Steps.{get_at}
 use Rattle.search_tables.proofs.Places.{there_is}
 use Rattle.search_tables.proofs.ByteOrder.{entries_more}
 use Rattle.search_tables.proofs.install_ifs.InstallIfs.new.Goals as goal

@@ -1,12 +1,12 @@
 use Rattle.std.proofs.Common.{subst, sym, List, ℕ, [], ◌∷◌, inl, refl}
-use Rattle.candidate_core.specs.Candidates.{is_eligible}
+use Rattle.search_choices.specs.candidate_core.Candidates.{is_eligible}
 use Rattle.search_choices.specs.Choices.{choices_of, pool_of}
-use Rattle.search_tables.proofs.Theory.{in_right}
-use Rattle.search_tables.proofs.Marks.{distinct_front}
+use Rattle.search_choices.proofs.search_tables.Theory.{in_right}
+use Rattle.search_choices.proofs.search_tables.Marks.{distinct_front}
 use Rattle.search_choices.proofs.Consistency.{passing_is_within}
 use Rattle.solve_core.proofs.Steps.{searching_more}
 use Rattle.search_choices.specs.Choices.{IsSearch}
-use Rattle.search_tables.specs.Reasons.{FrameValue}
+use Rattle.search_choices.specs.search_tables.Reasons.{FrameValue}
 use Rattle.solve_core.proofs.search.Search.choose.Goals as goal
 
 pub returns-clause-search : goal.returns-clause-search

@@ -1,7 +1,7 @@
 use Rattle.std.proofs.Common.{◌∙◌, List, ap, sym, subst}
-use Rattle.candidate_core.specs.Candidates.{Candidate}
-use Rattle.candidate_core.specs.PackageMatches.{AreMatchesAmong}
-use Rattle.candidate_core.specs.Rank.{SealedPool}
+use Rattle.search_choices.specs.candidate_core.Candidates.{Candidate}
+use Rattle.search_choices.specs.candidate_core.PackageMatches.{AreMatchesAmong}
+use Rattle.search_choices.specs.candidate_core.Rank.{SealedPool}
 use Rattle.solve_core.proofs.search.Search.new.Goals as goal
 
 pub returns-clause-matches : goal.returns-clause-matches

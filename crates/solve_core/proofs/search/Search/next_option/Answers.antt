@@ -1,10 +1,10 @@
 use Rattle.std.proofs.Common.{◌∙◌, ◌∷◌, ◌++◌, [], ℕ, List, length, subst, sym, ap, arith}
-use Rattle.candidate_core.specs.PackageMatches.{AreMatchesAmong}
+use Rattle.search_choices.specs.candidate_core.PackageMatches.{AreMatchesAmong}
 use Rattle.search_choices.specs.Choices.{IsSearch, choices_of, pool_of}
 use Rattle.search_choices.specs.declared.choices.Choices.{Choices}
-use Rattle.search_tables.specs.Reasons.{FrameValue, AreCompatible, IsFrameOf, IsExhaustedFrame, IsFrameTaking}
+use Rattle.search_choices.specs.search_tables.Reasons.{FrameValue, AreCompatible, IsFrameOf, IsExhaustedFrame, IsFrameTaking}
 use Rattle.solve_core.proofs.Steps.{taken_of_open, spent_of_open, fits_in}
-use Rattle.search_tables.proofs.Turns.{passed_over}
+use Rattle.search_choices.proofs.search_tables.Turns.{passed_over}
 use Rattle.search_choices.proofs.Consistency.{taken_once, taken_within}
 use Rattle.solve_core.proofs.search.Search.next_option.Goals as goal
 

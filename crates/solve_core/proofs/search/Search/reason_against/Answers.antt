@@ -1,5 +1,5 @@
 use Rattle.std.proofs.Common.{subst, sym, List, ℕ}
-use Rattle.search_tables.specs.Reasons.{RulesOut}
+use Rattle.search_choices.specs.search_tables.Reasons.{RulesOut}
 use Rattle.search_choices.specs.Choices.{pool_of, choices_of}
 use Rattle.solve_core.proofs.search.Search.reason_against.Goals as goal
 

@@ -1,8 +1,8 @@
 use Rattle.std.proofs.Common.{◌≡◌, sym, ◌∙◌, arith, []}
 use Rattle.std.proofs.lemmas.Bool.Decides.{nat_tests}
 use Rattle.search_choices.specs.Choices.{pool_of, choices_of}
-use Rattle.search_tables.specs.Reasons.{choices_in}
-use Rattle.search_tables.proofs.Turns.{passed_before, reason_as}
+use Rattle.search_choices.specs.search_tables.Reasons.{choices_in}
+use Rattle.search_choices.proofs.search_tables.Turns.{passed_before, reason_as}
 use Rattle.solve_core.proofs.search.Search.ruled_out_with.Goals as goal
 
 pub returns : goal.returns

@@ -1,5 +1,5 @@
 use Rattle.search_choices.specs.Choices.{choices_of, pool_of}
-use Rattle.search_tables.specs.Reasons.{dead_end_reason}
+use Rattle.search_choices.specs.search_tables.Reasons.{dead_end_reason}
 use Rattle.solve_core.proofs.Steps.{dead_end, dead_same}
 use Rattle.solve_core.proofs.search.Search.step_back.Goals as goal
 

@@ -1,11 +1,11 @@
 use Rattle.std.proofs.Common.{◌≡◌, ◌<◌, ◌^◌, ◌∙◌, ◌∷◌, ◌++◌, [], ℕ, List, length, subst, sym, ap, refl, arith, append_assoc, append-nil}
-use Rattle.candidate_core.specs.Options.{IsIn}
-use Rattle.candidate_core.specs.Rank.{SealedPool}
+use Rattle.search_choices.specs.candidate_core.Options.{IsIn}
+use Rattle.search_choices.specs.candidate_core.Rank.{SealedPool}
 use Rattle.search_choices.specs.Choices.{IsSearch, choices_of, pool_of}
-use Rattle.search_tables.specs.Reasons.{FrameValue, IsReason, IsFrameOf, IsFrameTaking}
-use Rattle.search_tables.proofs.Places.{empty_list}
+use Rattle.search_choices.specs.search_tables.Reasons.{FrameValue, IsReason, IsFrameOf, IsFrameTaking}
+use Rattle.search_choices.proofs.search_tables.Places.{empty_list}
 use Rattle.solve_core.proofs.Steps.{searching_less, jumped, hit_reason, dead_empty, no_choices}
-use Rattle.search_tables.proofs.Turns.{passed_over}
+use Rattle.search_choices.proofs.search_tables.Turns.{passed_over}
 use Rattle.solve_core.specs.Measure.{weight_of}
 use Rattle.solve_core.proofs.Weights.{back_lighter, few_turns}
 use Rattle.solve_core.proofs.search.Search.step_back_for_reason.Goals as goal

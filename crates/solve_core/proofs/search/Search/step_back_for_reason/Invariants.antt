@@ -1,7 +1,7 @@
 use Rattle.std.proofs.Common.{◌≡◌, ◌++◌, ℕ, List, length}
 use Rattle.search_choices.specs.Choices.{IsSearch, choices_of, pool_of}
-use Rattle.search_tables.specs.Reasons.{FrameValue, IsReason}
-use Rattle.search_tables.specs.Selection.{AreMembers}
+use Rattle.search_choices.specs.search_tables.Reasons.{FrameValue, IsReason}
+use Rattle.search_choices.specs.search_tables.Selection.{AreMembers}
 use Rattle.solve_core.proofs.search.Search.step_back_for_reason.Given as goal
 
 abbrev pub invariant-loop-turn : goal.invariant-loop-turn

@@ -1,0 +1,55 @@
+use Rattle.std.proofs.Common.{◌≡◌, ◌<◌, ◌≤◌, ◌∙◌, ◌++◌, length, take, ap, sym, subst, arith, List}
+use Rattle.std.specs.Prelude.{option_to_list}
+use Rattle.change_outcome.specs.db_core.Members.{is_after_members, member_name}
+use Rattle.adb_view.specs.Plain.{Plain}
+use Rattle.change_outcome.specs.db_core.Seen.{members_of, packages_before, packages_of}
+use Rattle.change_outcome.specs.db_core.declared.members.TheConstants.{MOST_MEMBERS}
+use Rattle.added_packages.specs.Arrivals.{ArePlaced, CanBeMembers, IsPlaced, member_read, members_read}
+use Rattle.added_packages.specs.declared.arrivals.MemberRead.{MemberRead}
+use Rattle.added_packages.proofs.Behind.{all_taken, next_behind, next_few, next_placed, one_more}
+use Rattle.added_packages.proofs.added_packages.members_of_change.Goals as goal
+
+pub loop-read-init : goal.loop-read-init
+loop-read-init c = record {
+  read = c.new-members.ensures.none;
+  before = c.new-members.ensures.before;
+}
+
+pub push_read-requires : goal.push_read-requires
+push_read-requires c =
+    let before = packages_of c.args.db.now in
+    let reads = c.deref-read-items.result.now in
+    let i = c.loop-read.read-index in
+    let read = c.read-item.result in
+    let same : packages_before c.loop-read.members ≡ before = c.loop-read.invariant.before in
+    let can : CanBeMembers before reads = subst (CanBeMembers before) (sym c.deref-read-items.ensures.value) c.requires in
+    record {
+      behind = λ m is. ap (is_after_members (member_name m)) c.loop-read.invariant.read
+          ∙ next_behind before reads i read c.loop-read-test.true can m
+          (ap (member_read before) (sym c.read-item.is) ∙ (sym (ap (λ (b : List Plain). member_read b read) same) ∙ is));
+      placed = subst (λ (b : List Plain). IsPlaced b read) (sym same) (subst (IsPlaced before) (sym c.read-item.is) (next_placed before reads i read c.loop-read-test.true can.placed));
+      few =
+          (let few = next_few before reads i c.loop-read-test.true can.few in
+          let count = ap (λ z. length z) c.loop-read.invariant.read in
+          omega (arith, few, count));
+    }
+
+pub loop-read-preserved : goal.loop-read-preserved
+loop-read-preserved c =
+    let before = packages_of c.args.db.now in
+    let same : packages_before c.loop-read.members ≡ before = c.loop-read.invariant.before in
+    record {
+      read =
+          c.in_ok-push_read.ensures.added
+          ∙ (ap (λ (b : List Plain). members_of c.loop-read.members ++ option_to_list (member_read b c.read-item.result)) same
+          ∙ (ap (λ z. z ++ option_to_list (member_read before c.read-item.result)) c.loop-read.invariant.read
+          ∙ (ap (λ r. members_read before (take c.loop-read.read-index c.deref-read-items.result.now) ++ option_to_list (member_read before r)) c.read-item.is
+          ∙ sym (one_more before c.deref-read-items.result.now c.loop-read.read-index c.read-item.result c.loop-read-test.true))));
+      before = c.in_ok-push_read.ensures.before ∙ same;
+    }
+
+pub returns : goal.returns
+returns c =
+    c.loop-read.invariant.read
+    ∙ (all_taken (packages_of c.args.db.now) c.deref-read-items.result.now c.loop-read.read-index c.loop-read-test.false
+    ∙ ap (members_read (packages_of c.args.db.now)) c.deref-read-items.ensures.value)

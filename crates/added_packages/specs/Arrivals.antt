@@ -1,0 +1,95 @@
+-- The packages after a change as they were read, each the one that the definition finds.
+-- The rules are in `docs/commands.md`, "`add` and `del`", **What is read**, and are said by
+-- *members_after* of `change_outcome`; the term *arrival* in `docs/names.md`, "A change of what
+-- is installed".
+use Rattle.std.specs.Prelude.{◌≡◌, ◌<◌, ◌≤◌, ℕ, List, [], ◌∷◌, length, Option, Some, None, option_map, slice_get}
+use Rattle.std.specs.List.{filter_map}
+use Rattle.adb_view.specs.Plain.{Plain}
+use Rattle.base_core.specs.Tree.{TreeState}
+use Rattle.change_outcome.specs.change_inputs.Answers.{IsInTreeAt}
+use Rattle.change_outcome.specs.MembersAfter.{MemberFound, added_member_found, found_package_contents, kept_member_found}
+use Rattle.change_outcome.specs.PackageFiles.{AddedPackage, package_in_file}
+use Rattle.change_outcome.specs.db_core.Members.{AreInOrder, Member, member_of_added, member_of_kept}
+use Rattle.change_outcome.specs.db_core.declared.members.TheConstants.{MOST_MEMBERS}
+use Rattle.package_verifier.specs.pkg_core.Contents.{contents_in}
+use Rattle.package_verifier.specs.pkg_core.Whole.{files_in_file}
+use Rattle.package_verifier.specs.Tested.{IsTestedOf, tested_id, tested_name, tested_value}
+use Rattle.package_verifier.specs.declared.package.TestedPackage.{TestedPackage}
+use Rattle.added_packages.specs.declared.arrivals.Arrivals.{Arrivals}
+use Rattle.added_packages.specs.declared.arrivals.MemberRead.{MemberRead}
+use Rattle.added_packages.specs.declared.arrivals.MemberRead.TheVariants.{Comes, Stays}
+
+-- a package that was read is that of an added file: the file was tested, and if the tree's files are
+-- observable it is the one under the package's name
+pub record IsPackageRead (history : List TreeState) (pkg : TestedPackage)
+    (coming : AddedPackage) : Type 0 where
+  pub file : List ℕ
+  pub located : IsInTreeAt history (tested_name pkg) (Some file)
+  pub tested : IsTestedOf (tested_name pkg) file pkg
+  pub is : coming ≡ package_in_file file
+
+-- a package after the change as it was read is the one that is found: that of the database at its
+-- place, or one whose file was read
+abbrev pub IsMemberRead : List TreeState → List Plain → MemberRead → MemberFound → Type 0
+IsMemberRead history before (Stays place) m =
+    Some m ≡ option_map kept_member_found (slice_get before place)
+IsMemberRead history before (Comes pkg) m =
+    (coming : AddedPackage) × IsPackageRead history pkg coming × (m ≡ added_member_found coming)
+
+-- the packages as they were read are those that are found, one by one
+abbrev pub AreMembersRead :
+    List TreeState → List Plain → List MemberRead → List MemberFound → Type 0
+AreMembersRead history before [] [] = Unit {0}
+AreMembersRead history before [] (m ∷ found) = ⊥
+AreMembersRead history before (r ∷ reads) [] = ⊥
+AreMembersRead history before (r ∷ reads) (m ∷ found) =
+    IsMemberRead history before r m × AreMembersRead history before reads found
+
+-- the packages after the change as contracts see them: for each that it is kept, at a place of the
+-- database, or what was read of it
+abbrev pub arrivals_seen : Arrivals → List MemberRead
+arrivals_seen arrivals = arrivals.members.items
+
+-- ---- without their files
+
+-- a package that was read, as a member; none if its place leads to no package of the database
+abbrev pub member_read : List Plain → MemberRead → Option Member
+member_read before (Stays place) = option_map member_of_kept (slice_get before place)
+member_read before (Comes pkg) = Some (member_of_added (tested_value pkg) (tested_id pkg))
+
+-- the packages that were read, as members, in their order
+abbrev pub members_read : List Plain → List MemberRead → List Member
+members_read before reads = filter_map (member_read before) reads
+
+-- ---- as members
+
+-- a package that was read is placed: if it is kept, its place is one of the database
+abbrev pub IsPlaced : List Plain → MemberRead → Type 0
+IsPlaced before (Stays place) = place < length before
+IsPlaced before (Comes pkg) = Unit {0}
+
+-- each of some packages that were read is placed
+abbrev pub ArePlaced : List Plain → List MemberRead → Type 0
+ArePlaced before [] = Unit {0}
+ArePlaced before (r ∷ reads) = IsPlaced before r × ArePlaced before reads
+
+-- packages that were read can be members: each kept one has a place in the database, they are in byte
+-- order of names, and are few enough
+pub record CanBeMembers (before : List Plain) (reads : List MemberRead) : Type 0 where
+  pub placed : ArePlaced before reads
+  pub in_order : AreInOrder (members_read before reads)
+  pub few : length reads ≤ MOST_MEMBERS
+
+-- what was read of an added package; none for a kept one
+abbrev pub package_in : MemberRead → Option TestedPackage
+package_in (Stays place) = None
+package_in (Comes pkg) = Some pkg
+
+-- an added package is that of a file that was tested, and its contents are those that were found for
+-- the member at a place
+pub record IsFileOfMember (history : List TreeState) (found : List MemberFound) (place : ℕ)
+    (pkg : TestedPackage) : Type 0 where
+  pub file : List ℕ
+  pub located : IsInTreeAt history (tested_name pkg) (Some file)
+  pub tested : IsTestedOf (tested_name pkg) file pkg
+  pub contents : found_package_contents found place ≡ contents_in (files_in_file file)

@@ -1,0 +1,86 @@
+-- The result of a call for one name, given the file that a read finds.
+-- The rules are in `docs/commands.md`, "`add` and `del`", **What is read** and **What is
+-- refused**, and are said by *name_by_change* of `change_outcome`. Serves the contracts of
+-- `src/package.rt` and `src/arrivals.rt`.
+use Rattle.std.specs.Prelude.{◌≡◌, ℕ, Bool, List, [], ◌∷◌, Option, Some, None, Result, Ok, Err, option_map}
+use Rattle.adb_view.specs.Plain.{Plain}
+use Rattle.base_core.specs.Tree.{TreeState, files_of}
+use Rattle.change_outcome.specs.change_inputs.Chains.{and_then}
+use Rattle.change_outcome.specs.change_inputs.declared.root.Refused.{Refused}
+use Rattle.change_outcome.specs.change_inputs.declared.root.Refused.TheVariants.{Disk, Memory, Refusal}
+use Rattle.change_outcome.specs.MembersAfter.{MemberFound, added_package_by_path, name_by_change, kept_member_found}
+use Rattle.change_outcome.specs.PackageFiles.{AddedPackage, package_file_of, package_found, scripts_of_change, unless_script}
+use Rattle.dep_core.specs.Repositories.{Repository}
+use Rattle.change_outcome.specs.make_info.Reads.{Reads}
+use Rattle.change_outcome.specs.package_changes.Placed.{PlacedName, new_candidate, old_package}
+use Rattle.change_outcome.specs.candidate_core.Candidates.{Candidate}
+use Rattle.change_outcome.specs.candidate_core.Rank.{SealedPool}
+use Rattle.report_core.specs.Reports.{Change}
+use Rattle.report_core.specs.declared.refusal.Refusal as Refusals
+use Rattle.added_packages.specs.Arrivals.{IsMemberRead}
+use Rattle.added_packages.specs.declared.arrivals.MemberRead.{MemberRead}
+
+-- the read with this number finds under each name the tree's file, if the tree's files are observable,
+-- and otherwise `found`
+abbrev pub FindsAt : List TreeState → Reads → ℕ → Option (List ℕ) → Type 0
+FindsAt [] read n found = (name : List ℕ) → read n name ≡ found
+FindsAt (v ∷ earlier) read n found = (name : List ℕ) → read n name ≡ files_of v name
+
+-- the value of a definition is `wanted`, by a read that finds some contents: the tree's, if its files
+-- are observable
+pub record IsByRead {B : Type 0} (history : List TreeState) (by : Reads → ℕ → B) (wanted : B) :
+    Type 0 where
+  pub found : Option (List ℕ)
+  pub is : (read : Reads) (n : ℕ) → FindsAt history read n found → by read n ≡ wanted
+
+-- a result denotes the value of a definition by a read, or is its refusal; an I/O error of the tree and
+-- out of memory say nothing
+abbrev pub IsAnswerByRead :
+    {A B : Type 0} → (A → B → Type 0) → List TreeState
+    → (Reads → ℕ → Result B Refusals.Refusal) → Result A Refused → Type 0
+IsAnswerByRead {A} {B} Denotes history by (Ok a) =
+    (b : B) × IsByRead history by (Ok b) × Denotes a b
+IsAnswerByRead Denotes history by (Err (Refusal refusal)) = IsByRead history by (Err refusal)
+IsAnswerByRead Denotes history by (Err Disk) = Unit {0}
+IsAnswerByRead Denotes history by (Err Memory) = Unit {0}
+
+-- the package of a candidate, by the read of its file under this name, or the refusal
+abbrev pub file_read :
+    Candidate → List ℕ → Reads → ℕ → Result AddedPackage Refusals.Refusal
+file_read c path read n = package_found c (read n path)
+
+-- the package of a candidate, by the read of its file beside the index, or the refusal
+abbrev pub candidate_read :
+    List Repository → Candidate → Reads → ℕ → Result AddedPackage Refusals.Refusal
+candidate_read repositories c read n = added_package_by_path read n c (package_file_of repositories c)
+
+-- the package of a candidate, by the read of its file, or the refusal, also for a script that its
+-- change would have to run
+abbrev pub added_package_read :
+    List Repository → Bool → List ℕ → Change → Candidate → Reads → ℕ
+    → Result AddedPackage Refusals.Refusal
+added_package_read repositories no_scripts name change c read n =
+    and_then (candidate_read repositories c read n) (λ pkg.
+    unless_script no_scripts name pkg.value (scripts_of_change change) pkg)
+
+-- the result for a name, by the read of its package's file: a package after the change, none, or the
+-- refusal
+abbrev pub name_read :
+    List Plain → SealedPool → List Repository → Bool → PlacedName → Reads → ℕ
+    → Result (Option MemberFound) Refusals.Refusal
+name_read before pool repositories no_scripts name read n =
+    name_by_change read repositories no_scripts n name.name name.change
+    (old_package before name) (new_candidate pool name)
+
+-- a package after the change as it was read, or none, is the result for the name
+abbrev pub IsNameRead :
+    List TreeState → List Plain → Option MemberRead → Option MemberFound → Type 0
+IsNameRead history before None None = Unit {0}
+IsNameRead history before None (Some m) = ⊥
+IsNameRead history before (Some r) None = ⊥
+IsNameRead history before (Some r) (Some m) = IsMemberRead history before r m
+
+-- a kept package as it is read, or none if there is none before (`old`)
+abbrev pub IsKeptAsRead : List Plain → Option Plain → Option MemberRead → Type 0
+IsKeptAsRead before old r =
+    (history : List TreeState) → IsNameRead history before r (option_map kept_member_found old)

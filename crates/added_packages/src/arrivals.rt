@@ -1,0 +1,290 @@
+//! The packages after a change, as they are read, and as members.
+//! The rules are in `docs/commands.md`, "`add` and `del`": **What is read** ("of each package
+//! that comes `NAME-VERSION.apk` beside the index that has it"), and **What is refused**, in byte
+//! order of the names.
+
+ghost use Rattle.added_packages.specs.Answered.{DenotesUnlessDisk};
+ghost use Rattle.added_packages.specs.Arrivals.{AreMembersRead, CanBeMembers, arrivals_seen, IsPlaced, member_read, members_read, IsFileOfMember, package_in};
+ghost use Rattle.added_packages.specs.NameReads.{IsAnswerByRead, IsNameRead, IsKeptAsRead, name_read};
+ghost use Rattle.base_core.specs.Read.{OnlyReads};
+ghost use Rattle.change_outcome.specs.change_inputs.Answers.{Agrees};
+ghost use Rattle.change_outcome.specs.MembersAfter.{members_after, member_of_removed_name, MemberFound, found_members};
+ghost use Rattle.change_outcome.specs.db_core.Seen.{packages_before, packages_of, members_of};
+ghost use Rattle.change_outcome.specs.db_core.declared.members.TheConstants.{MOST_MEMBERS};
+ghost use Rattle.change_outcome.specs.package_files.Runs.{Explains};
+ghost use Rattle.change_outcome.specs.package_changes.Placed.{old_package, placed_names_of, replacement_of};
+ghost use Rattle.change_outcome.specs.package_changes.Seen.{change_seen, placed_name_seen, placed_names_seen, replacement_by};
+ghost use Rattle.std.specs.Prelude.{◌≡◌, ◌≤◌, ◌==◌, ◌++◌, ℕ, List, None, length, IfOk, OnOk, option_copied, option_and_then, option_to_list, slice_get, ◌<◌, true, Some, ◌+◌, Bool, is_some};
+ghost use Rattle.change_outcome.specs.db_core.Members.{Member, is_after_members, member_name, is_added};
+ghost use Rattle.adb_view.specs.Plain.{Plain};
+ghost use Rattle.added_packages.specs.declared.arrivals.MemberRead.{MemberRead};
+ghost use Rattle.package_verifier.specs.declared.package.TestedPackage.{TestedPackage};
+ghost use Rattle.base_core.specs.Tree.{TreeState};
+ghost use Rattle.change_outcome.specs.change_inputs.Inputs.{first_index_read};
+ghost use Rattle.dep_core.specs.Repositories.{Repository};
+ghost use Rattle.change_outcome.specs.make_info.Reads.{Reads};
+ghost use Rattle.change_outcome.specs.package_changes.Changes.{Replacement};
+
+use crate::package::read_added;
+use crate::scripts::test_scripts;
+use base_core::{Tree, consecutive_reads_compose};
+use change_outcome::{
+    Change, Db, Members, PlacedName, PlacedNames, Refused, Sealed,
+    places_lead_to_packages_and_candidates,
+};
+use dep_core::Repos;
+use package_verifier::TestedPackage;
+use std::alloc::{AllocError, Global};
+use std::marker::PhantomData;
+
+/// A package after the change.
+#[derive(Drop)]
+pub(crate) enum MemberRead {
+    /// The package is kept; this is its place in the database, counted from 0.
+    Stays(usize),
+    /// The package is added; this is what was read of its file.
+    Comes(TestedPackage),
+}
+
+/// The packages after a change as they were read, in byte order of names. Contracts see, by
+/// `Arrivals` of `specs/`, the place in the database of each kept one, and each added one.
+#[derive(Drop)]
+pub struct Arrivals {
+    /// The packages, in byte order of their names.
+    pub(crate) members: Vec<MemberRead>,
+}
+
+impl Arrivals {
+    ghost use Rattle.added_packages.specs.Arrivals.{package_in};
+
+    /// How many packages there are after the change.
+    pub fn len(&self) -> usize
+        ensures { result ≡ length (arrivals_seen self.now) }
+    {
+        self.members.len()
+    }
+
+    /// Whether there is no package after the change.
+    pub fn is_empty(&self) -> bool
+        ensures { result ≡ (length (arrivals_seen self.now) == 0) }
+    {
+        self.members.is_empty()
+    }
+
+    /// The package of the member at a place, counted from 0, if it is added.
+    pub fn package(&self, place: usize) -> Option<&TestedPackage>
+        ensures { option_copied result
+            ≡ option_and_then package_in (slice_get (arrivals_seen self.now) place) }
+    {
+        if place >= self.members.len() {
+            return None;
+        }
+        match &self.members[place] {
+            MemberRead::Stays(_) => None,
+            MemberRead::Comes(pkg) => Some(pkg),
+        }
+    }
+}
+
+/// Reads the added packages if the candidates of a selection replace the packages of a database, as
+/// `names` says. Each file is read and tested once, in byte order of names. The tree is unchanged,
+/// whatever is returned.
+///
+/// # Errors
+///
+/// For the first package that is refused: `PackageMissing`, `PackageBad`, `PackageDiffers` or
+/// `ScriptNeeded`. `Disk` if the tree failed, or `Memory`.
+pub fn read_arrivals<T: Tree>(
+    alloc: Global,
+    tree: &mut T,
+    db: &Db<'_>,
+    pool: &Sealed<'_>,
+    names: &PlacedNames<'_>,
+    repositories: &Repos,
+    no_scripts: bool,
+) -> Result<Arrivals, Refused>
+    // For each selection, and names to be installed again, that these names are of.
+    ensures found { (trace : List ℕ) (again : List (List ℕ))
+        → placed_names_seen names.now
+        ≡ placed_names_of (replacement_by db.now pool.now trace again)
+        → Explains (T.history tree.old) (λ read. DenotesUnlessDisk (λ arrivals found.
+        AreMembersRead (T.history tree.old) (packages_of db.now) (arrivals_seen arrivals) found)
+        result
+        (members_after (replacement_of (replacement_by db.now pool.now trace again)) read
+        repositories.now no_scripts)) }
+    // The packages can be made members: they are in byte order of names, and no more than the
+    // candidates.
+    ensures members { (trace : List ℕ) (again : List (List ℕ))
+        → placed_names_seen names.now
+        ≡ placed_names_of (replacement_by db.now pool.now trace again)
+        → length pool.now.candidates ≤ MOST_MEMBERS
+        → IfOk result (λ arrivals. CanBeMembers (packages_of db.now) (arrivals_seen arrivals)) }
+    // The tree is only read, and `Disk` has a fault of the tree as its cause.
+    ensures tree { OnlyReads Refused.Disk (T.history tree.old) (T.history tree.new)
+        (T.counts tree.old) (T.counts tree.new) result }
+{
+    // Laws that the proof needs; they compute nothing.
+    places_lead_to_packages_and_candidates();
+    consecutive_reads_compose::<u8, Option<MemberRead>, Refused>();
+    consecutive_reads_compose::<u8, Arrivals, Refused>();
+    let mut members = Vec::new(alloc);
+    for i in 0..names.len() {
+        let name = names.get(i);
+        let member = read_name(alloc, tree, db, pool, name, repositories, no_scripts)?;
+        push_member(&mut members, member)?;
+    }
+    Ok(Arrivals { members })
+}
+
+/// Adds a package to the others, if there is one.
+fn push_member(members: &mut Vec<MemberRead>, member: Option<MemberRead>) -> Result<(), AllocError>
+    ensures { OnOk result (members.new.items ≡ members.old.items ++ option_to_list member) }
+{
+    match member {
+        None => Ok(()),
+        Some(member) => {
+            members.push(member)?;
+            Ok(())
+        }
+    }
+}
+
+/// Reads the package of a name after the change; none if the package is removed.
+fn read_name<T: Tree>(
+    alloc: Global,
+    tree: &mut T,
+    db: &Db<'_>,
+    pool: &Sealed<'_>,
+    name: &PlacedName<'_>,
+    repositories: &Repos,
+    no_scripts: bool,
+) -> Result<Option<MemberRead>, Refused>
+    ensures found { IsAnswerByRead (IsNameRead (T.history tree.old) (packages_of db.now))
+        (T.history tree.old) (name_read (packages_of db.now) pool.now repositories.now no_scripts
+        (placed_name_seen name.now)) result }
+    ensures tree { OnlyReads Refused.Disk (T.history tree.old) (T.history tree.new)
+        (T.counts tree.old) (T.counts tree.new) result }
+{
+    // A law that the proof needs; it computes nothing.
+    consecutive_reads_compose::<TestedPackage, Option<MemberRead>, Refused>();
+    let Some(change) = name.change else {
+        // The package does not change: it is kept, and no file is read.
+        return Ok(staying(db, name.old));
+    };
+    match name.candidate(pool) {
+        None => {
+            test_removed(alloc, no_scripts, db, name, &change)?;
+            Ok(None)
+        }
+        Some(c) => {
+            let pkg = read_added(
+                alloc,
+                tree,
+                repositories,
+                no_scripts,
+                name.name,
+                &change,
+                &c,
+            )?;
+            Ok(Some(MemberRead::Comes(pkg)))
+        }
+    }
+}
+
+/// The kept package at a place of the database, counted from 0, if there is one.
+fn staying(db: &Db<'_>, place: Option<usize>) -> Option<MemberRead>
+    ensures { IsKeptAsRead (packages_of db.now)
+        (option_and_then (slice_get (packages_of db.now)) place) result }
+{
+    match place {
+        Some(i) if i < db.len() => Some(MemberRead::Stays(i)),
+        _ => None,
+    }
+}
+
+/// Refuses a removed package of the database, if it has a script that would have to run.
+fn test_removed(
+    alloc: Global,
+    no_scripts: bool,
+    db: &Db<'_>,
+    name: &PlacedName<'_>,
+    change: &Change<'_>,
+) -> Result<(), Refused>
+    ensures { Agrees (λ _. None) result (member_of_removed_name no_scripts (placed_name_seen
+        name.now).name
+        (change_seen change.now) (old_package (packages_of db.now) (placed_name_seen name.now))) }
+{
+    match name.old {
+        Some(i) if i < db.len() => {
+            let pkg = db.package(i);
+            test_scripts(alloc, no_scripts, name.name, change, &pkg, PhantomData)
+        }
+        _ => Ok(()),
+    }
+}
+
+/// The packages after a change as members, in byte order of names: each kept one is lent from the
+/// database, and each added one from what was read of its file.
+pub fn members_of_change<'a>(
+    alloc: Global,
+    db: &'a Db<'a>,
+    arrivals: &'a Arrivals,
+) -> Result<Members<'a>, AllocError>
+    requires { CanBeMembers (packages_of db.now) (arrivals_seen arrivals.now) }
+    ensures { IfOk result (λ members. members_of members
+        ≡ members_read (packages_of db.entry.now) (arrivals_seen arrivals.entry.now)) }
+{
+    let mut members = Members::new(alloc, db);
+    for read in &arrivals.members {
+        push_read(&mut members, read)?;
+    }
+    Ok(members)
+}
+
+/// Adds a package that was read to the members, at the end.
+fn push_read<'a>(members: &mut Members<'a>, read: &'a MemberRead) -> Result<(), AllocError>
+    requires behind { (m : Member) → member_read (packages_before members.old) read.now ≡ Some m
+        → is_after_members (member_name m) (members_of members.old) ≡ true }
+    requires placed { IsPlaced (packages_before members.old) read.now }
+    requires few { length (members_of members.old) < MOST_MEMBERS }
+    ensures added { OnOk result (members_of members.new ≡ members_of members.old
+        ++ option_to_list (member_read (packages_before members.old) read.entry.now)) }
+    ensures before { packages_before members.new ≡ packages_before members.old }
+{
+    match read {
+        MemberRead::Stays(place) => members.stays(*place),
+        MemberRead::Comes(pkg) => members.push_added_in_pieces(&pkg.contents()),
+    }
+}
+
+/// Packages that were read are, as members, those that the definition finds.
+pub fn packages_that_were_read_are_those_found()
+    ensures { (history : List TreeState) (before : List Plain) (reads : List MemberRead)
+        (found : List MemberFound) → AreMembersRead history before reads found
+        → members_read before reads ≡ found_members found }
+{}
+
+/// The package that was read for the member at a place is that of the file whose contents the
+/// definition finds for it, and each added member has one.
+pub fn a_package_that_was_read_is_that_of_its_file()
+    ensures file { (history : List TreeState) (before : List Plain) (reads : List MemberRead)
+        (found : List MemberFound) → AreMembersRead history before reads found
+        → (place : ℕ) (pkg : TestedPackage)
+        → option_and_then package_in (slice_get reads place) ≡ Some pkg
+        → IsFileOfMember history found place pkg }
+    ensures comes { (history : List TreeState) (before : List Plain) (reads : List MemberRead)
+        (found : List MemberFound) → AreMembersRead history before reads found
+        → (place : ℕ) (m : Member) → slice_get (found_members found) place ≡ Some m
+        → is_added m ≡ true
+        → is_some (option_and_then package_in (slice_get reads place)) ≡ true }
+{}
+
+/// The packages after a change depend only on the reads after those of the indexes: earlier reads
+/// of a command do not matter.
+pub fn packages_after_a_change_depend_on_their_reads()
+    ensures { (r : Replacement) (read other : Reads) (repositories : List Repository)
+        (no_scripts : Bool) → ((n : ℕ) (name : List ℕ)
+        → first_index_read + length repositories ≤ n → read n name ≡ other n name)
+        → members_after r read repositories no_scripts
+        ≡ members_after r other repositories no_scripts }
+{}

@@ -1,0 +1,239 @@
+//! The package of a candidate: its file is read and tested once, and compared with its index's
+//! entry.
+//! The rules are in `docs/commands.md`, "`add` and `del`", **What is refused**: the file of an
+//! added package is absent, fails a test, or has another id, name or version than its index says;
+//! the tests in `docs/formats.md`, "Tests of a container".
+
+ghost use Rattle.added_packages.specs.Arrivals.{IsPackageRead};
+ghost use Rattle.added_packages.specs.NameReads.{IsAnswerByRead, candidate_read, added_package_read, file_read};
+ghost use Rattle.package_verifier.specs.Tested.{tested_id, tested_value};
+ghost use Rattle.added_packages.specs.Told.{IsRefusalReported};
+ghost use Rattle.base_core.specs.Read.{OnlyReads};
+ghost use Rattle.change_outcome.specs.change_inputs.Answers.{Agrees};
+ghost use Rattle.change_outcome.specs.PackageFiles.{AddedPackage, scripts_of_change, unless_different, unless_script};
+ghost use Rattle.change_outcome.specs.package_changes.Changes.{selected_version};
+ghost use Rattle.change_outcome.specs.package_changes.Seen.{change_seen};
+ghost use Rattle.change_outcome.specs.candidate_core.Values.{candidate_value};
+ghost use Rattle.report_core.specs.declared.refusal.Refusal.TheVariants.{PackageBad, PackageMissing, PackageDiffers};
+ghost use Rattle.std.specs.Prelude.{◌≡◌, true, IfOk};
+ghost use Rattle.package_verifier.specs.adb_schema.Views.{package_value};
+ghost use Rattle.report_core.specs.declared.refusal.Refusal.{Refusal as RefusalValue};
+
+use crate::path::package_file_of;
+use crate::scripts::test_scripts;
+use base_core::{Cause, Name, Text, Tree};
+use change_outcome::{Candidate, Change, Refused, is_same_id};
+use dep_core::Repos;
+use package_verifier::{PackageRead, PackageView, TestedPackage, read_package};
+use report_core::Refusal;
+use report_core::numbers::{HASHES_FIELD, NAME_FIELD, VERSION_FIELD};
+use std::alloc::{AllocError, Global};
+use std::marker::PhantomData;
+
+/// Reads the package of a candidate whose name this is, and tests it: its file, whether it is as
+/// its index says, and that it has no script that would run, unless scripts are left out.
+///
+/// # Errors
+///
+/// `PackageMissing`, `PackageBad`, `PackageDiffers` or `ScriptNeeded`, in this order; `Disk` if
+/// the tree failed, or `Memory`.
+pub(crate) fn read_added<T: Tree>(
+    alloc: Global,
+    tree: &mut T,
+    repositories: &Repos,
+    no_scripts: bool,
+    name: &[u8],
+    change: &Change<'_>,
+    c: &Candidate<'_>,
+) -> Result<TestedPackage, Refused>
+    ensures found { IsAnswerByRead (IsPackageRead (T.history tree.old))
+        (T.history tree.old) (added_package_read repositories.now no_scripts name.now
+        (change_seen change.now) (candidate_value c.now)) result }
+    ensures tree { OnlyReads Refused.Disk (T.history tree.old) (T.history tree.new)
+        (T.counts tree.old) (T.counts tree.new) result }
+{
+    let pkg = read_candidate(alloc, tree, repositories, c)?;
+    test_own_scripts(alloc, no_scripts, name, change, &pkg)?;
+    Ok(pkg)
+}
+
+/// Refuses a tested package that has a script which its change would have to run.
+fn test_own_scripts(
+    alloc: Global,
+    no_scripts: bool,
+    name: &[u8],
+    change: &Change<'_>,
+    pkg: &TestedPackage,
+) -> Result<(), Refused>
+    ensures { Agrees (λ _. true) result (unless_script no_scripts name.now (tested_value pkg.now)
+        (scripts_of_change (change_seen change.now)) true) }
+{
+    let contents = pkg.contents();
+    let view = contents.view();
+    test_scripts(alloc, no_scripts, name, change, &view, PhantomData)
+}
+
+/// Reads the package of a candidate, and tests its file and whether it is as its index says.
+fn read_candidate<T: Tree>(
+    alloc: Global,
+    tree: &mut T,
+    repositories: &Repos,
+    c: &Candidate<'_>,
+) -> Result<TestedPackage, Refused>
+    ensures found { IsAnswerByRead (IsPackageRead (T.history tree.old))
+        (T.history tree.old) (candidate_read repositories.now (candidate_value c.now)) result }
+    ensures tree { OnlyReads Refused.Disk (T.history tree.old) (T.history tree.new)
+        (T.counts tree.old) (T.counts tree.new) result }
+{
+    match package_file_of(alloc, repositories, c)? {
+        None => Err(missing(alloc, c)),
+        Some(path) => read_beside(alloc, tree, c, &path),
+    }
+}
+
+/// Reads the package of a candidate from the file of this name, and tests the file and whether it
+/// is as its index says.
+fn read_beside<T: Tree>(
+    alloc: Global,
+    tree: &mut T,
+    c: &Candidate<'_>,
+    path: &Name,
+) -> Result<TestedPackage, Refused>
+    ensures found { IsAnswerByRead (IsPackageRead (T.history tree.old))
+        (T.history tree.old) (file_read (candidate_value c.now) path.now) result }
+    ensures tree { OnlyReads Refused.Disk (T.history tree.old) (T.history tree.new)
+        (T.counts tree.old) (T.counts tree.new) result }
+{
+    match read_package(alloc, tree, path)? {
+        PackageRead::Absent => Err(missing(alloc, c)),
+        PackageRead::Bad(cause) => Err(bad(alloc, c, cause)),
+        PackageRead::Sound(pkg) => {
+            test_as_indexed(alloc, c, &pkg, PhantomData)?;
+            Ok(pkg)
+        }
+    }
+}
+
+/// Tests that a tested package is as its index says. The mark serves only the borrow checker: it
+/// does not know the parts of a view that is made and lent here unless the signature names the
+/// view.
+fn test_as_indexed<'a>(
+    alloc: Global,
+    c: &Candidate<'_>,
+    pkg: &'a TestedPackage,
+    _mark: PhantomData<PackageView<'a>>,
+) -> Result<(), Refused>
+    ensures { (coming : AddedPackage) → coming.value ≡ tested_value pkg.now
+        → coming.id ≡ tested_id pkg.now
+        → Agrees (λ _. coming) result (unless_different (candidate_value c.now) coming) }
+{
+    let contents = pkg.contents();
+    let view = contents.view();
+    test_same(alloc, c, &view, &contents.id())
+}
+
+/// The refusal of a candidate whose package file is absent, or has a path that is no name.
+fn missing(alloc: Global, c: &Candidate<'_>) -> Refused
+    ensures { IsRefusalReported (PackageMissing (candidate_value c.now).name
+        (selected_version (candidate_value c.now))) result }
+{
+    told(package_missing(alloc, c))
+}
+
+/// That refusal with its texts: the name and the version of the candidate.
+fn package_missing(alloc: Global, c: &Candidate<'_>) -> Result<Refusal, AllocError>
+    ensures { IfOk result (λ refusal. refusal ≡ PackageMissing (candidate_value c.now).name
+        (selected_version (candidate_value c.now))) }
+{
+    Ok(Refusal::PackageMissing {
+        name: Text::of(alloc, c.info.name())?,
+        version: Text::of(alloc, c.info.version())?,
+    })
+}
+
+/// The refusal of a candidate whose package file fails a test.
+fn bad(alloc: Global, c: &Candidate<'_>, cause: Cause) -> Refused
+    ensures { IsRefusalReported (PackageBad (candidate_value c.now).name
+        (selected_version (candidate_value c.now)) cause) result }
+{
+    told(package_bad(alloc, c, cause))
+}
+
+/// That refusal with its texts: the name and the version of the candidate, and the test that
+/// failed.
+fn package_bad(alloc: Global, c: &Candidate<'_>, cause: Cause) -> Result<Refusal, AllocError>
+    ensures { IfOk result (λ refusal. refusal ≡ PackageBad (candidate_value c.now).name
+        (selected_version (candidate_value c.now)) cause) }
+{
+    Ok(Refusal::PackageBad {
+        name: Text::of(alloc, c.info.name())?,
+        version: Text::of(alloc, c.info.version())?,
+        cause,
+    })
+}
+
+/// Tests that a package has the id, the name and the version of its candidate.
+///
+/// # Errors
+///
+/// `PackageDiffers` with the first of these that differs, or `Memory`.
+pub(crate) fn test_same(
+    alloc: Global,
+    c: &Candidate<'_>,
+    pkg: &PackageView<'_>,
+    id: &[u8],
+) -> Result<(), Refused>
+    ensures { (coming : AddedPackage) → coming.value ≡ package_value pkg.now → coming.id ≡ id.now
+        → Agrees (λ _. coming) result (unless_different (candidate_value c.now) coming) }
+{
+    let info = pkg.info();
+    if !is_same_id(c.info.hashes(), id) {
+        return Err(differs(alloc, c, HASHES_FIELD, c.info.hashes(), id));
+    }
+    if c.info.name() != info.name() {
+        return Err(differs(alloc, c, NAME_FIELD, c.info.name(), info.name()));
+    }
+    if c.info.version() != info.version() {
+        return Err(differs(alloc, c, VERSION_FIELD, c.info.version(), info.version()));
+    }
+    Ok(())
+}
+
+/// The refusal of a candidate whose package differs in a field from its index's entry.
+fn differs(alloc: Global, c: &Candidate<'_>, field: u16, wanted: &[u8], found: &[u8]) -> Refused
+    ensures { IsRefusalReported (PackageDiffers (candidate_value c.now).name
+        (selected_version (candidate_value c.now)) field wanted.now found.now) result }
+{
+    told(package_differs(alloc, c, field, wanted, found))
+}
+
+/// That refusal with its texts: what the index says of the field, and what the package has.
+fn package_differs(
+    alloc: Global,
+    c: &Candidate<'_>,
+    field: u16,
+    wanted: &[u8],
+    found: &[u8],
+) -> Result<Refusal, AllocError>
+    ensures { IfOk result (λ refusal. refusal ≡ PackageDiffers (candidate_value c.now).name
+        (selected_version (candidate_value c.now)) field wanted.now found.now) }
+{
+    Ok(Refusal::PackageDiffers {
+        name: Text::of(alloc, c.info.name())?,
+        version: Text::of(alloc, c.info.version())?,
+        field,
+        wanted: Text::of(alloc, wanted)?,
+        found: Text::of(alloc, found)?,
+    })
+}
+
+/// A refusal, or out of memory for its texts.
+pub(crate) fn told(made: Result<Refusal, AllocError>) -> Refused
+    ensures { (wanted : RefusalValue) → IfOk made (λ refusal. refusal ≡ wanted)
+        → IsRefusalReported wanted result }
+{
+    match made {
+        Ok(refusal) => Refused::Refusal(refusal),
+        Err(_) => Refused::Memory,
+    }
+}

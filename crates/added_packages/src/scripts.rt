@@ -1,0 +1,109 @@
+//! The scripts that a change would run.
+//! The rule is in `docs/commands.md`, "`add` and `del`", the paragraph after **What is refused**:
+//! which scripts a package has to run that is installed, removed, or gets another version.
+ghost use Rattle.package_verifier.specs.adb_schema.Views.{package_value, scripts_value};
+ghost use Rattle.adb_view.specs.FieldIndexes.{PACKAGE_SCRIPTS};
+ghost use Rattle.adb_view.specs.Values.{entry_in};
+ghost use Rattle.adb_view.specs.Plain.{Plain};
+ghost use Rattle.added_packages.specs.Told.{IsRefusalReported};
+ghost use Rattle.change_outcome.specs.change_inputs.Answers.{Agrees};
+ghost use Rattle.change_outcome.specs.PackageFiles.{first_script_of, scripts_of_change, unless_script};
+ghost use Rattle.change_outcome.specs.package_changes.Seen.{change_seen};
+ghost use Rattle.report_core.specs.declared.refusal.Refusal.TheVariants.{ScriptNeeded};
+ghost use Rattle.std.specs.Prelude.{◌≡◌, ◌<◌, ◌+◌, ◌^◌, ◌==◌, ℕ, true, not, if◌then◌else◌, Some, None, length, IfOk};
+
+use crate::package::told;
+use base_core::Text;
+use change_outcome::{Change, Refused};
+use package_verifier::{PackageView, ScriptsView};
+use report_core::Refusal;
+use report_core::numbers::{PRE_DEINSTALL_SCRIPT, PRE_INSTALL_SCRIPT, PRE_UPGRADE_SCRIPT};
+use std::alloc::{AllocError, Global};
+use std::marker::PhantomData;
+
+/// Refuses a package that has a script which its change would run, unless scripts are left out. The
+/// mark serves only the borrow checker: it does not know the parts of a view that is made and lent
+/// here unless the signature names the view.
+///
+/// # Errors
+///
+/// `ScriptNeeded` with the first of them, or `Memory`.
+pub(crate) fn test_scripts<'a>(
+    alloc: Global,
+    no_scripts: bool,
+    name: &[u8],
+    change: &Change<'_>,
+    pkg: &PackageView<'a>,
+    _mark: PhantomData<PackageView<'a>>,
+) -> Result<(), Refused>
+    ensures { Agrees (λ _. true) result (unless_script no_scripts name.now (package_value pkg.now)
+        (scripts_of_change (change_seen change.now)) true) }
+{
+    if no_scripts {
+        return Ok(());
+    }
+    match first_script(change, &pkg.scripts()) {
+        None => Ok(()),
+        Some(number) => Err(told(script_needed(alloc, name, number))),
+    }
+}
+
+/// The refusal of a package that has a script which would have to run; the refusal has the script's
+/// number.
+fn script_needed(alloc: Global, name: &[u8], number: u16) -> Result<Refusal, AllocError>
+    ensures { IfOk result (λ refusal. refusal ≡ ScriptNeeded name.now number) }
+{
+    Ok(Refusal::ScriptNeeded {
+        name: Text::of(alloc, name)?,
+        script: number,
+    })
+}
+
+/// The number of the first script that a change would have to run, if there is one.
+fn first_script(change: &Change<'_>, scripts: &ScriptsView<'_>) -> Option<u16>
+    ensures { (pkg : Plain) → scripts_value scripts.now ≡ entry_in pkg PACKAGE_SCRIPTS
+        → result ≡ first_script_of pkg (scripts_of_change (change_seen change.now)) }
+{
+    match change {
+        Change::Install(_, _) => {
+            first_of_two(
+                PRE_INSTALL_SCRIPT,
+                scripts.pre_install(),
+                scripts.post_install(),
+            )
+        }
+        Change::Purge(_, _) => {
+            first_of_two(
+                PRE_DEINSTALL_SCRIPT,
+                scripts.pre_deinstall(),
+                scripts.post_deinstall(),
+            )
+        }
+        Change::Reinstall(_, _)
+        | Change::Upgrade(_, _, _)
+        | Change::Downgrade(_, _, _)
+        | Change::Replace(_, _, _) => {
+            first_of_two(
+                PRE_UPGRADE_SCRIPT,
+                scripts.pre_upgrade(),
+                scripts.post_upgrade(),
+            )
+        }
+    }
+}
+
+/// The number of the first of two scripts that is not empty, if one is; `number` is that of the
+/// first, and the second's is one more.
+fn first_of_two(number: u16, first: &[u8], second: &[u8]) -> Option<u16>
+    requires { number + 1 < 2 ^ 16 }
+    ensures { result ≡ (if not (length first.now == 0) then Some number
+        else if not (length second.now == 0) then Some (number + 1) else None) }
+{
+    if !first.is_empty() {
+        return Some(number);
+    }
+    if !second.is_empty() {
+        return Some(number + 1);
+    }
+    None
+}

@@ -1,0 +1,186 @@
+//! Files are staged, one after another. Laws say where the run of a change begins, and what it
+//! leaves. The rules are in `docs/crash-safety.md`, "A change of several files": step 1 of its
+//! table.
+
+ghost use Rattle.std.specs.Prelude.{◌≡◌, ◌<◌, ◌+◌, ◌++◌, ◌∷◌, [], ℕ, true, false, List, Some, None, length, OnOk, OnErr};
+ghost use Rattle.base_core.specs.Faults.{CountsOnlyRise, HasCause, IsNoFault};
+ghost use Rattle.base_core.specs.Tree.{TreeState, files_of};
+ghost use Rattle.journal_core.specs.Staged.{AreJournalPathsFree, IsEmptyStage, new_stage, with_staged};
+ghost use Rattle.journal_commit.specs.Asked.{TargetsAreAccepted};
+ghost use Rattle.journal_commit.specs.StageRun.{IsStaging, IsStagingRun, IsStageRun};
+ghost use Rattle.base_core.specs.Calls.{IfObservable};
+ghost use Rattle.base_core.specs.Files.{Files};
+ghost use Rattle.journal_core.specs.Recovery.{Intent, after_actions, intent_name};
+ghost use Rattle.journal_core.specs.journal_intent.FreeNames.{HasFreeNames};
+
+use base_core::{Disk, Tree};
+use journal_core::Stage;
+
+/// Makes an empty file for the next write.
+pub fn begin_file<T: Tree>(stage: &mut Stage, tree: &mut T) -> Result<(), Disk>
+    requires closed { stage.old.is_open ≡ false }
+    requires more { stage.old.staged < length stage.old.intent.writes }
+
+    // Whatever it returns, only staged files have changed at each moment.
+    ensures run { (contents : List (List ℕ)) (v : TreeState) (first : List TreeState)
+        → IsStaging stage.old contents None v first (T.history tree.old)
+        → IsStagingRun v first (T.history tree.new) }
+    // Once it has returned Ok, an empty file is staged, which is begun.
+    ensures staging { (contents : List (List ℕ)) (v : TreeState) (first : List TreeState)
+        → IsStaging stage.old contents None v first (T.history tree.old)
+        → OnOk result (IsStaging stage.new contents (Some []) v first (T.history tree.new)) }
+    // The stage then has an open file; after an error it is as before.
+    ensures view { OnOk result (stage.new ≡ record stage.old { is_open = true }) }
+    ensures err { OnErr result (stage.new ≡ stage.old) }
+    // How the tree's counts explain the result: no count falls, and a fault is returned exactly if
+    // a count of faults rose.
+    ensures goes_on { CountsOnlyRise (T.counts tree.old) (T.counts tree.new) }
+    ensures cause { OnErr result (HasCause (T.counts tree.old) (T.counts tree.new)) }
+    ensures kept { OnOk result (IsNoFault (T.counts tree.old) (T.counts tree.new)) }
+    // No call is a misuse if the paths of the stage are free.
+    ensures proper { (contents : List (List ℕ)) (v : TreeState) (first : List TreeState)
+        → IsStaging stage.old contents None v first (T.history tree.old)
+        → AreJournalPathsFree (files_of v)
+        → (T.counts tree.new).misuses ≡ (T.counts tree.old).misuses }
+{
+    stage.file_begin(tree)
+}
+
+/// Adds bytes to the file that is begun. The clauses are those of `begin_file`; it needs no free
+/// path.
+pub fn append_piece<T: Tree>(stage: &mut Stage, tree: &mut T, piece: &[u8]) -> Result<(), Disk>
+    requires { stage.old.is_open ≡ true }
+    ensures run { (contents : List (List ℕ)) (so_far : List ℕ) (v : TreeState)
+        (first : List TreeState)
+        → IsStaging stage.old contents (Some so_far) v first (T.history tree.old)
+        → IsStagingRun v first (T.history tree.new) }
+    ensures staging { (contents : List (List ℕ)) (so_far : List ℕ) (v : TreeState)
+        (first : List TreeState)
+        → IsStaging stage.old contents (Some so_far) v first (T.history tree.old)
+        → OnOk result (IsStaging stage.new contents (Some (so_far ++ piece.now)) v first
+        (T.history tree.new)) }
+    ensures view { stage.new ≡ stage.old }
+    ensures goes_on { CountsOnlyRise (T.counts tree.old) (T.counts tree.new) }
+    ensures cause { OnErr result (HasCause (T.counts tree.old) (T.counts tree.new)) }
+    ensures kept { OnOk result (IsNoFault (T.counts tree.old) (T.counts tree.new)) }
+    ensures proper { (contents : List (List ℕ)) (so_far : List ℕ) (v : TreeState)
+        (first : List TreeState)
+        → IsStaging stage.old contents (Some so_far) v first (T.history tree.old)
+        → (T.counts tree.new).misuses ≡ (T.counts tree.old).misuses }
+{
+    stage.file_append(tree, piece)
+}
+
+/// Ends the file that is begun: its bytes are made durable. The clauses are those of `begin_file`;
+/// it needs no free path.
+pub fn end_file<T: Tree>(stage: &mut Stage, tree: &mut T) -> Result<(), Disk>
+    requires { stage.old.is_open ≡ true }
+    ensures run { (contents : List (List ℕ)) (so_far : List ℕ) (v : TreeState)
+        (first : List TreeState)
+        → IsStaging stage.old contents (Some so_far) v first (T.history tree.old)
+        → IsStagingRun v first (T.history tree.new) }
+    ensures staging { (contents : List (List ℕ)) (so_far : List ℕ) (v : TreeState)
+        (first : List TreeState)
+        → IsStaging stage.old contents (Some so_far) v first (T.history tree.old)
+        → OnOk result (IsStaging stage.new (contents ++ so_far ∷ []) None v first
+        (T.history tree.new)) }
+    ensures view { OnOk result
+        (stage.new ≡ record stage.old { staged = stage.old.staged + 1; is_open = false }) }
+    ensures err { OnErr result (stage.new ≡ stage.old) }
+    ensures goes_on { CountsOnlyRise (T.counts tree.old) (T.counts tree.new) }
+    ensures cause { OnErr result (HasCause (T.counts tree.old) (T.counts tree.new)) }
+    ensures kept { OnOk result (IsNoFault (T.counts tree.old) (T.counts tree.new)) }
+    ensures proper { (contents : List (List ℕ)) (so_far : List ℕ) (v : TreeState)
+        (first : List TreeState)
+        → IsStaging stage.old contents (Some so_far) v first (T.history tree.old)
+        → (T.counts tree.new).misuses ≡ (T.counts tree.old).misuses }
+{
+    stage.file_end(tree)
+}
+
+/// Stages one whole file with these bytes. The clauses are those of `begin_file`, for the three
+/// calls.
+pub fn stage_bytes<T: Tree>(stage: &mut Stage, tree: &mut T, bytes: &[u8]) -> Result<(), Disk>
+    requires closed { stage.old.is_open ≡ false }
+    requires more { stage.old.staged < length stage.old.intent.writes }
+    ensures run { (contents : List (List ℕ)) (v : TreeState) (first : List TreeState)
+        → IsStaging stage.old contents None v first (T.history tree.old)
+        → IsStagingRun v first (T.history tree.new) }
+    ensures staging { (contents : List (List ℕ)) (v : TreeState) (first : List TreeState)
+        → IsStaging stage.old contents None v first (T.history tree.old)
+        → OnOk result (IsStaging stage.new (contents ++ bytes.now ∷ []) None v first
+        (T.history tree.new)) }
+    ensures view { OnOk result (stage.new ≡ record stage.old { staged = stage.old.staged + 1 }) }
+    ensures goes_on { CountsOnlyRise (T.counts tree.old) (T.counts tree.new) }
+    ensures cause { OnErr result (HasCause (T.counts tree.old) (T.counts tree.new)) }
+    ensures kept { OnOk result (IsNoFault (T.counts tree.old) (T.counts tree.new)) }
+    ensures proper { (contents : List (List ℕ)) (v : TreeState) (first : List TreeState)
+        → IsStaging stage.old contents None v first (T.history tree.old)
+        → AreJournalPathsFree (files_of v)
+        → (T.counts tree.new).misuses ≡ (T.counts tree.old).misuses }
+{
+    begin_file(stage, tree)?;
+    append_piece(stage, tree, bytes)?;
+    end_file(stage, tree)
+}
+
+/// Stages one whole file of two pieces, one after the other. The clauses are those of `begin_file`,
+/// for the four calls.
+pub fn stage_pieces<T: Tree>(
+    stage: &mut Stage,
+    tree: &mut T,
+    first_piece: &[u8],
+    last_piece: &[u8],
+) -> Result<(), Disk>
+    requires closed { stage.old.is_open ≡ false }
+    requires more { stage.old.staged < length stage.old.intent.writes }
+    ensures run { (contents : List (List ℕ)) (v : TreeState) (first : List TreeState)
+        → IsStaging stage.old contents None v first (T.history tree.old)
+        → IsStagingRun v first (T.history tree.new) }
+    ensures staging { (contents : List (List ℕ)) (v : TreeState) (first : List TreeState)
+        → IsStaging stage.old contents None v first (T.history tree.old)
+        → OnOk result (IsStaging stage.new (contents ++ (first_piece.now ++ last_piece.now) ∷ [])
+        None v first (T.history tree.new)) }
+    ensures view { OnOk result (stage.new ≡ record stage.old { staged = stage.old.staged + 1 }) }
+    ensures goes_on { CountsOnlyRise (T.counts tree.old) (T.counts tree.new) }
+    ensures cause { OnErr result (HasCause (T.counts tree.old) (T.counts tree.new)) }
+    ensures kept { OnOk result (IsNoFault (T.counts tree.old) (T.counts tree.new)) }
+    ensures proper { (contents : List (List ℕ)) (v : TreeState) (first : List TreeState)
+        → IsStaging stage.old contents None v first (T.history tree.old)
+        → AreJournalPathsFree (files_of v)
+        → (T.counts tree.new).misuses ≡ (T.counts tree.old).misuses }
+{
+    begin_file(stage, tree)?;
+    append_piece(stage, tree, first_piece)?;
+    append_piece(stage, tree, last_piece)?;
+    end_file(stage, tree)
+}
+
+/// A run that has done nothing to the tree promises nothing. A run that begins with reads alone is
+/// as the run after them.
+pub fn runs_with_accepted_targets_begin_with_reads<T: Tree>()
+    ensures same { (old now : List TreeState) → now ≡ old → TargetsAreAccepted T.accepts old now }
+    ensures later { (old mid now : List TreeState) → mid ≡ old
+        → TargetsAreAccepted T.accepts mid now
+        → TargetsAreAccepted T.accepts old now }
+{}
+
+/// A new stage begins a staging run, if no intent is read and nothing is staged.
+pub fn a_new_stage_is_staging()
+    ensures { (removals writes : List (List ℕ)) (now : List TreeState) → IfObservable now (λ v.
+        v.names intent_name ≡ None → IsEmptyStage (files_of v)
+        → IsStaging (new_stage removals writes) [] None v now now) }
+{}
+
+/// While files are only staged, this is a change, whatever files it is to lead to.
+pub fn a_staging_run_is_a_stage_run()
+    ensures { (files : Files) (v : TreeState) (first now : List TreeState)
+        → IsStagingRun v first now → IsStageRun files v first now }
+{}
+
+/// Once all actions are done nothing is staged, if only the files of the writes were.
+pub fn a_change_leaves_nothing_staged()
+    ensures { (intent : Intent) (contents : List (List ℕ)) (files : Files)
+        → HasFreeNames intent → length contents ≡ length intent.writes → IsEmptyStage files
+        → IsEmptyStage (after_actions intent (with_staged 1 contents files)) }
+{}

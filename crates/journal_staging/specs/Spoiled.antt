@@ -1,0 +1,42 @@
+-- A package that is no longer what was tested when its files are read once more. The README of this
+-- crate says when this is reported (clause `bad`); the cause is in `docs/commands.md`, "Error lines":
+-- contents of another digest.
+use Rattle.std.specs.Prelude.{◌≡◌, ℕ, List, length, Some, slice_get}
+use Rattle.file_guard.specs.adb_schema.Soundness.{payload_in}
+use Rattle.base_core.specs.declared.cause.Cause.{Cause}
+use Rattle.base_core.specs.declared.cause.Cause.TheVariants.{HashDiffers}
+use Rattle.base_core.specs.declared.cause.Digest.{Digest}
+use Rattle.package_verifier.specs.Tested.{IsTestedOf}
+use Rattle.file_guard.specs.pkg_core.Whole.{package_fault}
+use Rattle.journal_staging.specs.declared.writes.PackagedFile.{PackagedFile}
+use Rattle.journal_staging.specs.declared.writes.Source.{Source}
+use Rattle.journal_staging.specs.declared.writes.Source.TheVariants.{Bytes, File, Link}
+use Rattle.journal_staging.specs.declared.writes.StagedWrite.{StagedWrite}
+
+-- The file of a package is spoiled: it has the length and the values of the tested one; but as a
+-- package it is refused with this cause: a digest of contents differs.
+pub record IsSpoiledFile (tested file : List ℕ) (cause : Cause) : Type 0 where
+  pub long : length file ≡ length tested
+  pub values : payload_in file ≡ payload_in tested
+  pub wanted : Digest
+  pub found : Digest
+  pub digest : cause ≡ HashDiffers wanted found
+  pub fault : package_fault file ≡ Some cause
+
+-- whatever a file's package was when it was tested, there is a spoiled file for it with this cause
+abbrev pub IsSpoiledForEachTested : PackagedFile → Cause → Type 0
+IsSpoiledForEachTested f cause = (name tested : List ℕ) → IsTestedOf name tested f.package.now
+    → (file : List ℕ) × IsSpoiledFile tested file cause
+
+-- a source is a file of the package at this place, which is spoiled with this cause
+abbrev pub IsSpoiledAt : ℕ → Cause → Source → Type 0
+IsSpoiledAt member cause (Bytes own) = ⊥
+IsSpoiledAt member cause (Link target) = ⊥
+IsSpoiledAt member cause (File f) = (f.member ≡ member) × IsSpoiledForEachTested f cause
+
+-- one of the writes is a file of the package at this place, which is spoiled with this cause
+pub record HasSpoiledFile (member : ℕ) (cause : Cause) (writes : List StagedWrite) : Type 0 where
+  pub number : ℕ
+  pub write : StagedWrite
+  pub at : slice_get writes number ≡ Some write
+  pub is : IsSpoiledAt member cause write.source

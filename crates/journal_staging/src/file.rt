@@ -1,0 +1,77 @@
+//! A file of a package is staged, piece by piece. The rules are in `docs/crash-safety.md`,
+//! "A change of several files", and of the pieces in `docs/formats.md`, "The other blocks".
+ghost use Rattle.std.specs.Prelude.{◌≡◌, ◌<◌, ◌+◌, ◌++◌, ◌∷◌, [], ℕ, false, List, None, length, IfErr, IsErrOf, OnOk};
+ghost use Rattle.base_core.specs.Faults.{CountsOnlyRise, HasCause, IsNoFault};
+ghost use Rattle.base_core.specs.Tree.{TreeState, files_of};
+ghost use Rattle.journal_commit.specs.journal_core.Staged.{AreJournalPathsFree};
+ghost use Rattle.base_core.specs.declared.cause.Cause.{Cause};
+ghost use Rattle.package_verifier.specs.package_reader.FileReading.{AreAsExpected, HaveBeenReturned, HaveOtherDigest, expected_file_of, kept_fault};
+ghost use Rattle.package_verifier.specs.package_reader.declared.piece.PieceFault.TheVariants.{Bad, Disk as DiskFault};
+ghost use Rattle.journal_staging.specs.Reading.{IsReadingIn};
+ghost use Rattle.journal_commit.specs.StageRun.{IsStaging, IsStagingRun};
+
+use base_core::Tree;
+use journal_commit::{Stage, append_piece, begin_file, end_file};
+use package_verifier::{FilePieces, Piece, PieceFault};
+
+/// Stages a file of a package, which is read piece by piece into a buffer.
+///
+/// # Errors
+///
+/// `Bad` if the file does not have its digest any more, or `Disk` if the tree failed.
+pub(crate) fn stage_file<T: Tree>(
+    stage: &mut Stage,
+    tree: &mut T,
+    mut file: FilePieces<'_>,
+    piece: &mut Piece,
+) -> Result<(), PieceFault>
+    requires closed { stage.old.is_open ≡ false }
+    requires more { stage.old.staged < length stage.old.intent.writes }
+
+    // Whatever the tree returns for the package, and whatever this call returns, only staged files
+    // have changed at each moment.
+    ensures run { (contents : List (List ℕ)) (v : TreeState) (first : List TreeState)
+        → IsStaging stage.old contents None v first (T.history tree.old)
+        → IsStagingRun v first (T.history tree.new) }
+    // If the tree has the package, the file's bytes are staged then, and only the tree may fail.
+    ensures staging { (contents : List (List ℕ)) (v : TreeState) (first : List TreeState)
+        (bytes : List ℕ) → IsStaging stage.old contents None v first (T.history tree.old)
+        → IsReadingIn (files_of v) file.entry bytes
+        → OnOk result (IsStaging stage.new (contents ++ bytes ∷ []) None v first
+        (T.history tree.new)) }
+    ensures good { (contents : List (List ℕ)) (v : TreeState) (first : List TreeState)
+        (bytes : List ℕ) → IsStaging stage.old contents None v first (T.history tree.old)
+        → IsReadingIn (files_of v) file.entry bytes
+        → IfErr result (λ fault. fault ≡ DiskFault) }
+    // Whatever the tree returns for the package: bytes with the expected size and digest are
+    // staged.
+    ensures listed { HaveBeenReturned file.entry [] → (contents : List (List ℕ)) (v : TreeState)
+        (first : List TreeState) → IsStaging stage.old contents None v first (T.history tree.old)
+        → OnOk result ((bytes : List ℕ) × AreAsExpected (expected_file_of file.entry) bytes
+        × IsStaging stage.new (contents ++ bytes ∷ []) None v first (T.history tree.new)) }
+    // If it was not refused from the start: a test fails only for bytes that have the expected
+    // size, and another digest.
+    ensures bad { HaveBeenReturned file.entry [] → kept_fault file.entry ≡ None → (cause : Cause)
+        → IsErrOf result (Bad cause)
+        → (bytes : List ℕ) × HaveOtherDigest (expected_file_of file.entry) bytes cause }
+    // The next write of the stage has its file then.
+    ensures view { OnOk result (stage.new ≡ record stage.old { staged = stage.old.staged + 1 }) }
+    // How the tree's counts explain the result: no count falls, a fault has its cause, and any
+    // other result hides none.
+    ensures goes_on { CountsOnlyRise (T.counts tree.old) (T.counts tree.new) }
+    ensures disk { IsErrOf result DiskFault → HasCause (T.counts tree.old) (T.counts tree.new) }
+    ensures kept { OnOk result (IsNoFault (T.counts tree.old) (T.counts tree.new)) }
+    ensures others { IfErr result (λ fault. (fault ≡ DiskFault → ⊥)
+        → IsNoFault (T.counts tree.old) (T.counts tree.new)) }
+    ensures proper { (contents : List (List ℕ)) (v : TreeState) (first : List TreeState)
+        (bytes : List ℕ) → IsStaging stage.old contents None v first (T.history tree.old)
+        → IsReadingIn (files_of v) file.entry bytes → AreJournalPathsFree (files_of v)
+        → (T.counts tree.new).misuses ≡ (T.counts tree.old).misuses }
+{
+    begin_file(stage, tree)?;
+    'pieces: while file.next_piece(tree, piece)? {
+        append_piece(stage, tree, piece.bytes())?;
+    }
+    end_file(stage, tree)?;
+    Ok(())
+}

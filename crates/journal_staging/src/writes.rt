@@ -1,0 +1,188 @@
+//! The writes of a change are staged, one after another: the sources of their bytes, and why a
+//! change is not carried through. The rules are in `docs/commands.md`, "What a change does with
+//! files", and in `docs/crash-safety.md`, "A change of several files".
+
+ghost use Rattle.std.specs.Prelude.{◌≡◌, ◌<◌, ◌+◌, ◌++◌, ◌∷◌, [], ℕ, false, List, None, length, IfErr, IsErrOf, OnOk, OnErr};
+ghost use Rattle.base_core.specs.Faults.{CountsOnlyRise, HasCause, IsNoFault};
+ghost use Rattle.base_core.specs.Files.{Files};
+ghost use Rattle.base_core.specs.Tree.{TreeState, files_of};
+ghost use Rattle.base_core.specs.declared.cause.Cause.{Cause};
+ghost use Rattle.journal_commit.specs.journal_core.Staged.{AreJournalPathsFree};
+ghost use Rattle.journal_staging.specs.Sources.{AreListedFor, IsFileSource, MayDenote, DenotesBytes};
+ghost use Rattle.journal_staging.specs.Spoiled.{IsSpoiledAt, IsSpoiledForEachTested};
+ghost use Rattle.journal_staging.specs.declared.writes.StageFault.TheVariants.{Bad, Disk as DiskFault};
+ghost use Rattle.journal_commit.specs.StageRun.{IsStaging, IsStagingRun};
+
+use crate::file::stage_file;
+use base_core::{Cause, Disk, Name, Tree};
+use file_guard::{LINK_MARK, target_text};
+use journal_commit::{Stage, stage_bytes, stage_pieces};
+use package_verifier::{Piece, PieceFault, TestedPackage};
+
+/// Stages a file of a package, whose bytes are read once more. The clauses are those of
+/// `stage_write`.
+///
+/// # Errors
+///
+/// `Bad` if the file does not have its digest any more, or `Disk` if the tree failed.
+fn stage_packaged<T: Tree>(
+    stage: &mut Stage,
+    tree: &mut T,
+    f: &PackagedFile<'_>,
+    piece: &mut Piece,
+) -> Result<(), StageFault>
+    requires closed { stage.old.is_open ≡ false }
+    requires more { stage.old.staged < length stage.old.intent.writes }
+    ensures run { (contents : List (List ℕ)) (v : TreeState) (first : List TreeState)
+        → IsStaging stage.old contents None v first (T.history tree.old)
+        → IsStagingRun v first (T.history tree.new) }
+    ensures staging { (contents : List (List ℕ)) (v : TreeState) (first : List TreeState)
+        (bytes : List ℕ) → IsStaging stage.old contents None v first (T.history tree.old)
+        → IsFileSource (files_of v) f.now bytes
+        → OnOk result (IsStaging stage.new (contents ++ bytes ∷ []) None v first
+        (T.history tree.new)) }
+    ensures good { (contents : List (List ℕ)) (v : TreeState) (first : List TreeState)
+        (bytes : List ℕ) → IsStaging stage.old contents None v first (T.history tree.old)
+        → IsFileSource (files_of v) f.now bytes → IfErr result (λ fault. fault ≡ DiskFault) }
+    ensures listed { (contents : List (List ℕ)) (v : TreeState) (first : List TreeState)
+        → IsStaging stage.old contents None v first (T.history tree.old)
+        → OnOk result ((bytes : List ℕ) × AreListedFor f.now bytes
+        × IsStaging stage.new (contents ++ bytes ∷ []) None v first (T.history tree.new)) }
+    // The cause is that of a file with the values of the tested one.
+    ensures bad { (member : ℕ) (cause : Cause) → IsErrOf result (Bad member cause)
+        → (f.now.member ≡ member) × IsSpoiledForEachTested f.now cause }
+    ensures view { OnOk result (stage.new ≡ record stage.old { staged = stage.old.staged + 1 }) }
+    ensures goes_on { CountsOnlyRise (T.counts tree.old) (T.counts tree.new) }
+    ensures disk { IsErrOf result DiskFault → HasCause (T.counts tree.old) (T.counts tree.new) }
+    ensures kept { OnOk result (IsNoFault (T.counts tree.old) (T.counts tree.new)) }
+    ensures others { IfErr result (λ fault. (fault ≡ DiskFault → ⊥)
+        → IsNoFault (T.counts tree.old) (T.counts tree.new)) }
+    ensures proper { (contents : List (List ℕ)) (v : TreeState) (first : List TreeState)
+        (bytes : List ℕ) → IsStaging stage.old contents None v first (T.history tree.old)
+        → IsFileSource (files_of v) f.now bytes → AreJournalPathsFree (files_of v)
+        → (T.counts tree.new).misuses ≡ (T.counts tree.old).misuses }
+{
+    let file = f.package.file(f.folder, f.file);
+    match stage_file(stage, tree, file, piece) {
+        Ok(()) => Ok(()),
+        Err(PieceFault::Bad(cause)) => Err(StageFault::Bad {
+            member: f.member,
+            cause,
+        }),
+        Err(PieceFault::Disk) => Err(StageFault::Disk),
+    }
+}
+
+/// Stages the file of one write, whatever its source.
+///
+/// # Errors
+///
+/// `Bad` if a file of a package does not have its digest any more, or `Disk` if the tree failed.
+pub(crate) fn stage_write<T: Tree>(
+    stage: &mut Stage,
+    tree: &mut T,
+    source: &Source<'_>,
+    piece: &mut Piece,
+) -> Result<(), StageFault>
+    requires closed { stage.old.is_open ≡ false }
+    requires more { stage.old.staged < length stage.old.intent.writes }
+    // Whatever is returned, only staged files have changed at each moment. `first` is the tree's
+    // history when the staging began, `v` its newest state then, and `contents` the files staged
+    // before.
+    ensures run { (contents : List (List ℕ)) (v : TreeState) (first : List TreeState)
+        → IsStaging stage.old contents None v first (T.history tree.old)
+        → IsStagingRun v first (T.history tree.new) }
+    // If the source denotes bytes, these are staged then, after those that were staged before.
+    ensures staging { (contents : List (List ℕ)) (v : TreeState) (first : List TreeState)
+        (bytes : List ℕ) → IsStaging stage.old contents None v first (T.history tree.old)
+        → DenotesBytes (files_of v) source.now bytes
+        → OnOk result (IsStaging stage.new (contents ++ bytes ∷ []) None v first
+        (T.history tree.new)) }
+    // And only the tree may fail.
+    ensures good { (contents : List (List ℕ)) (v : TreeState) (first : List TreeState)
+        (bytes : List ℕ) → IsStaging stage.old contents None v first (T.history tree.old)
+        → DenotesBytes (files_of v) source.now bytes → IfErr result (λ fault. fault ≡ DiskFault) }
+    // Whatever the tree returns: bytes that the source may denote are staged.
+    ensures listed { (contents : List (List ℕ)) (v : TreeState) (first : List TreeState)
+        → IsStaging stage.old contents None v first (T.history tree.old)
+        → OnOk result ((bytes : List ℕ) × MayDenote source.now bytes
+        × IsStaging stage.new (contents ++ bytes ∷ []) None v first (T.history tree.new)) }
+    // A package is reported bad only if the source is a file of it that is spoiled with this cause.
+    ensures bad { (member : ℕ) (cause : Cause) → IsErrOf result (Bad member cause)
+        → IsSpoiledAt member cause source.now }
+    // The next write of the stage has its file then.
+    ensures view { OnOk result (stage.new ≡ record stage.old { staged = stage.old.staged + 1 }) }
+    // How the tree's counts explain the result: no count falls, a fault has its cause, and any
+    // other result hides none.
+    ensures goes_on { CountsOnlyRise (T.counts tree.old) (T.counts tree.new) }
+    ensures disk { IsErrOf result DiskFault → HasCause (T.counts tree.old) (T.counts tree.new) }
+    ensures kept { OnOk result (IsNoFault (T.counts tree.old) (T.counts tree.new)) }
+    ensures others { IfErr result (λ fault. (fault ≡ DiskFault → ⊥)
+        → IsNoFault (T.counts tree.old) (T.counts tree.new)) }
+    ensures proper { (contents : List (List ℕ)) (v : TreeState) (first : List TreeState)
+        (bytes : List ℕ) → IsStaging stage.old contents None v first (T.history tree.old)
+        → DenotesBytes (files_of v) source.now bytes → AreJournalPathsFree (files_of v)
+        → (T.counts tree.new).misuses ≡ (T.counts tree.old).misuses }
+{
+    match source {
+        Source::Bytes(bytes) => Ok(stage_bytes(stage, tree, bytes)?),
+        Source::Link(target) => Ok(stage_pieces(stage, tree, LINK_MARK, target_text(target))?),
+        Source::File(f) => stage_packaged(stage, tree, f, piece),
+    }
+}
+
+/// A file of a package that was tested.
+#[derive(Clone, Copy)]
+pub struct PackagedFile<'a> {
+    /// The package, as it was tested.
+    pub package: &'a TestedPackage,
+    /// The place of its member among those after the change, counted from 0.
+    pub member: u32,
+    /// The position of the folder in the package, counted from 1.
+    pub folder: u32,
+    /// The position of the file in the folder, counted from 1.
+    pub file: u32,
+}
+
+/// The source of a write's bytes.
+#[derive(Clone, Copy)]
+pub enum Source<'a> {
+    /// The bytes are given: those of the database or of world.
+    Bytes(&'a [u8]),
+    /// The bytes represent a link to this target, whose text is after two bytes.
+    Link(&'a [u8]),
+    /// The bytes are read from a package.
+    File(PackagedFile<'a>),
+}
+
+/// A write of a change: a name, and the source of its bytes.
+#[derive(Clone, Copy)]
+pub struct StagedWrite<'a> {
+    /// The name of the file after the change.
+    pub name: &'a Name,
+    /// The source of its bytes.
+    pub source: Source<'a>,
+}
+
+/// Why a change is not carried through.
+#[derive(Clone, Copy, Debug, PartialEq, Eq, Drop)]
+pub enum StageFault {
+    /// A file of the package at this place does not have its digest any more. Nothing is published
+    /// yet.
+    Bad { member: u32, cause: Cause },
+    /// An I/O error of the tree.
+    Disk,
+}
+
+impl From<Disk> for StageFault {
+    ghost use Rattle.std.specs.Prelude.{◌≡◌};
+    ghost use Rattle.journal_staging.specs.declared.writes.StageFault.TheVariants.{Disk as DiskFault};
+
+    // The fault that a caller gets by `?`.
+    ghost from_gives = { λ _ fault. fault ≡ DiskFault };
+
+    // A fault of the tree as a fault of a change.
+    fn from(_: Disk) -> StageFault {
+        StageFault::Disk
+    }
+}

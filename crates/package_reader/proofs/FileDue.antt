@@ -1,0 +1,78 @@
+-- What the bytes of a file are compared with.
+use Rattle.std.proofs.Common.{◌≡◌, ℕ, zero, suc, ◌+◌, ◌-◌, ◌<◌, ◌==◌, nat_lt, Bool, true, false, cond, List, [], ◌∷◌, ◌++◌, length, Option, Some, None, Result, Ok, Err, refl, ap, sym, subst, ◌∙◌, append-nil, arith}
+use Rattle.std.specs.Prelude.{option_map, replicate}
+use Rattle.std.specs.List.{find}
+use Rattle.std.proofs.lemmas.Bool.{ltb-true}
+use Rattle.std.proofs.lemmas.List.{length-append, length-replicate}
+use Rattle.base_core.specs.declared.cause.Cause.{Cause}
+use Rattle.base_core.proofs.Booleans.{both_second}
+use Rattle.adb_view.specs.Plain.{Plain}
+use Rattle.pkg_core.specs.adb_fields.Repeated.{files_in, folders_in}
+use Rattle.pkg_core.specs.adb_schema.Texts.{is_with_contents}
+use Rattle.adb_view.specs.Values.{entry_in, int_in, text_in}
+use Rattle.pkg_core.specs.Contents.{Expected, expected_at, expected_contents, expected_files, expected_folders, hash_fault}
+use Rattle.pkg_core.specs.Opened.{expected_file_at, expected_of, has_positions}
+use Rattle.pkg_core.specs.declared.walk.Wanted.{Wanted}
+use Rattle.pkg_core.specs.Pieces.{PiecesRead, no_piece, pieces_from, refusal, whole_pieces}
+use Rattle.pkg_core.specs.Taking.{HasTaken, IsTaken, file_bytes_left, next_len}
+use Rattle.pkg_core.specs.declared.file.FileCheck.{FileCheck}
+
+-- ---- a file with contents has a size above 0
+
+abbrev HaveSizes : List Expected → Type 0
+HaveSizes [] = Unit {0}
+HaveSizes (e ∷ es) = (0 < e.size) × HaveSizes es
+
+more_sizes : (es others : List Expected) → HaveSizes es → HaveSizes others → HaveSizes (es ++ others)
+more_sizes [] others a b = b
+more_sizes (e ∷ es) others a b = (a.0, more_sizes es others a.1 b)
+
+file_sizes : (folder i : ℕ) (file : Plain) → HaveSizes (expected_at folder i file)
+file_sizes folder i file = by (is_with_contents file) refl
+  where
+    by : (b : Bool) → is_with_contents file ≡ b → HaveSizes (cond b (record { folder = folder; file = i; size = int_in (entry_in file 2); hash = text_in (entry_in file 4) } ∷ []) [])
+    by true is = (ltb-true 0 (int_in (entry_in file 2)) (both_second (length (text_in (entry_in file 5)) == 0) (nat_lt 0 (int_in (entry_in file 2))) is), tt)
+    by false is = tt
+
+files_sizes : (folder i : ℕ) (files : List Plain) → HaveSizes (expected_files folder i files)
+files_sizes folder i [] = tt
+files_sizes folder i (file ∷ files) = more_sizes (expected_at folder i file) (expected_files folder (i + 1) files) (file_sizes folder i file) (files_sizes folder (i + 1) files)
+
+folders_sizes : (i : ℕ) (folders : List Plain) → HaveSizes (expected_folders i folders)
+folders_sizes i [] = tt
+folders_sizes i (folder ∷ folders) = more_sizes (expected_files i 1 (files_in folder)) (expected_folders (i + 1) folders) (files_sizes i 1 (files_in folder)) (folders_sizes (i + 1) folders)
+
+found_size : (folder file : ℕ) (es : List Expected) (e : Expected) → HaveSizes es → expected_file_at folder file es ≡ Some e → 0 < e.size
+found_size folder file [] e sizes is = (cc)
+found_size folder file (d ∷ es) e sizes is = by (has_positions folder file d) is (found_size folder file es e sizes.1)
+  where
+    by : (b : Bool) → cond b (Some d) (find (has_positions folder file) es) ≡ Some e → (expected_file_at folder file es ≡ Some e → 0 < e.size) → 0 < e.size
+    by true h others = subst (λ (x : Expected). 0 < x.size) (let s : Some d ≡ Some e = h in let t : d ≡ e = (cc) in t) sizes.0
+    by false h others = others h
+
+pub wanted_size : (value : Plain) (folder file : ℕ) (found : Option Wanted) (w : Wanted) → option_map expected_of found ≡ expected_file_at folder file (expected_contents value) → found ≡ Some w → 0 < w.size
+wanted_size value folder file found w is some =
+    found_size folder file (expected_contents value) (expected_of w) (folders_sizes 1 (folders_in value)) (sym is ∙ ap (option_map expected_of) some)
+
+-- ---- a piece that is refused is the last
+
+refused_none_left : (n : ℕ) (e : Expected) (digest : Option Cause) (bytes : List ℕ) (further : PiecesRead) (c : Cause) → pieces_from n e digest bytes further ≡ refusal c → (n ≡ 0) × (digest ≡ Some c)
+refused_none_left zero e None bytes further c is = absurd (cc)
+refused_none_left zero e (Some d) bytes further c is = (refl, (let s : refusal d ≡ refusal c = is in cc))
+refused_none_left (suc n) e digest bytes further c is = absurd (cc)
+
+pub refused_whole : (f : FileCheck) (so_far bytes : List ℕ) (c : Cause) → HasTaken f so_far → 0 < file_bytes_left f → length bytes ≡ next_len f → ((so_far left : List ℕ) (further : PiecesRead) → HasTaken f so_far → length (so_far ++ (bytes ++ left)) ≡ f.wanted.size → IsTaken f so_far bytes left further (Err c))
+    → (length (so_far ++ bytes) ≡ f.wanted.size) × (hash_fault f.wanted.hash.now (so_far ++ bytes) ≡ Some c)
+refused_whole f so_far bytes c has some len taken =
+    let many = has.long in
+    let left : List ℕ = replicate (file_bytes_left f - length bytes) 0 in
+    let a = length-append so_far (bytes ++ left) in
+    let b = length-append bytes left in
+    let d = length-replicate {A = ℕ} (file_bytes_left f - length bytes) 0 in
+    let whole : length (so_far ++ (bytes ++ left)) ≡ f.wanted.size = omega (arith, a, b, d, many, some, len) in
+    let is = refused_none_left (whole_pieces (length (bytes ++ left))) (expected_of f.wanted) (hash_fault f.wanted.hash.now (so_far ++ (bytes ++ left))) (bytes ++ left) no_piece c (taken so_far left no_piece has whole) in
+    let zero_pieces = is.0 in
+    let all : file_bytes_left f ≡ length bytes = omega (arith, b, d, len, zero_pieces, some) in
+    let no_more : left ≡ [] = ap (λ (n : ℕ). replicate {A = ℕ} n 0) (let e : file_bytes_left f - length bytes ≡ 0 = omega (arith, all) in e) in
+    let same : so_far ++ (bytes ++ left) ≡ so_far ++ bytes = ap (λ (xs : List ℕ). so_far ++ (bytes ++ xs)) no_more ∙ ap (λ (xs : List ℕ). so_far ++ xs) (append-nil bytes) in
+    (ap length (sym same) ∙ whole, ap (hash_fault f.wanted.hash.now) (sym same) ∙ is.1)

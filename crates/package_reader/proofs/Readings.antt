@@ -1,0 +1,91 @@
+-- Where a reader of pieces stands.
+use Rattle.std.proofs.Common.{◌≡◌, ℕ, ◌+◌, ◌≤◌, min, false, List, [], ◌++◌, length, Option, Some, None, Result, Ok, Err, drop, refl, ap, sym, subst, ◌∙◌, arith}
+use Rattle.std.specs.Prelude.{IsErrAnd}
+use Rattle.std.proofs.lemmas.Bool.{false≢true}
+use Rattle.base_core.specs.declared.cause.Cause.{Cause}
+use Rattle.base_core.specs.Faults.{Counts}
+use Rattle.base_core.specs.Tree.{TreeState}
+use Rattle.pkg_core.specs.Seen.{HasAt, IsSeen, IsSeenIn, ReadsFile}
+use Rattle.adb_block.specs.Reading.{reading_of}
+use Rattle.adb_block.specs.declared.block.BlockKind.{BlockKind}
+use Rattle.pkg_core.specs.Contents.{Expected}
+use Rattle.pkg_core.specs.Pieces.{PiecesRead, piece, pieces_by_blocks, refusal}
+use Rattle.pkg_core.specs.Taking.{file_bytes_left, next_len}
+use Rattle.pkg_core.specs.declared.file.Part.{Part}
+use Rattle.pkg_core.specs.Places.{pieces_at}
+use Rattle.pkg_core.specs.declared.place.BlockPlace.{BlockPlace}
+use Rattle.package_reader.specs.Opened.{IsNextPiece, IsOpenFile, IsPieceOf, NotDisk}
+use Rattle.package_reader.specs.Readers.{AreLeft, ArePiecesFrom, IsFileOpened, IsPieceRead, IsReading, offset_in}
+use Rattle.package_reader.specs.declared.piece.PieceFault.{PieceFault}
+use Rattle.package_reader.specs.declared.piece.PieceFault.TheVariants.{Bad, Disk}
+use Rattle.package_reader.specs.declared.open.OpenFile.{OpenFile}
+use Rattle.package_reader.specs.declared.reader.Due.{Due}
+use Rattle.package_reader.specs.declared.reader.Due.TheVariants.{Files}
+use Rattle.package_reader.specs.declared.reader.PieceReader.{PieceReader}
+use Rattle.package_reader.proofs.FilesFound.{seen_up_to}
+
+-- the schema of a file plays no part after its first block
+pub any_schema : (es : List Expected) (schema at : ℕ) (last : Option BlockKind) (pkg : List ℕ) → pieces_by_blocks es (reading_of (record { schema = schema; last = last; at = at; left = drop at pkg })) ≡ pieces_by_blocks es (reading_of (record { schema = 0; last = last; at = at; left = drop at pkg }))
+unfolding reading_of
+any_schema es schema at last pkg = refl
+
+pub in_front : (reader : PieceReader) (place : BlockPlace) (pkg : List ℕ) (pieces : PiecesRead) → reader.place ≡ place → reader.opened ≡ None → reader.due ≡ Files → pieces ≡ pieces_at place pkg → IsReading reader pkg pieces
+in_front reader place pkg pieces same opened due is =
+    subst (λ (d : Due). AreLeft d reader.place reader.opened pkg pieces) (sym due)
+    (subst (λ (o : Option OpenFile). ArePiecesFrom reader.place o pkg pieces) (sym opened)
+    (is ∙ ap (λ (p : BlockPlace). pieces_at p pkg) (sym same)))
+
+pub renamed : {A E : Type 0} (n m : List ℕ) (len : ℕ) (e : E) (h0 h1 : List TreeState) (a b : Counts) (r : Result A E) → n ≡ m → ReadsFile n len e h0 h1 a b r → ReadsFile m len e h0 h1 a b r
+renamed n m len e h0 h1 a b r same reads = subst (λ (k : List ℕ). ReadsFile k len e h0 h1 a b r) same reads
+
+-- ---- the bytes
+
+-- those of a piece too, unless the tree failed
+pub record IsSeenUnlessDisk (h : List TreeState) (name : List ℕ) (len at file_at : ℕ) (first bytes : List ℕ) (fault : PieceFault) : Type 0 where
+  pub all : List ℕ
+  pub is_seen : IsSeenIn h name len at all
+  pub has_first : (pkg : List ℕ) → HasAt pkg at all → HasAt pkg at first
+  pub has_bytes : (c : Cause) → fault ≡ Bad c → (pkg : List ℕ) → HasAt pkg at all → HasAt pkg file_at bytes
+
+pub seen_unless_disk : (h later : List TreeState) (name : List ℕ) (len at file_at left : ℕ) (first bytes : List ℕ) (fault : PieceFault) → later ≡ h → at + length first ≡ file_at → file_at + left ≤ len → IsSeenIn h name len at first → (NotDisk {A = Part × Option OpenFile} (Err fault) → length bytes ≤ left) → (NotDisk {A = Part × Option OpenFile} (Err fault) → IsSeen later name len file_at bytes)
+    → IsSeenUnlessDisk h name len at file_at first bytes fault
+seen_unless_disk h later name len at file_at left first bytes (Bad d) same located room seen few then =
+    let few_bytes = few tt in
+    let to = seen_up_to h later name len at (file_at + length bytes) file_at first bytes same located (omega arith) (omega (arith, few_bytes, room)) seen (record { seen = then tt; within = omega (arith, few_bytes, room) }) in
+    record { all = to.all; is_seen = to.is_seen; has_first = to.has_first; has_bytes = λ c is pkg has. to.has_second pkg has }
+seen_unless_disk h later name len at file_at left first bytes Disk same located room seen few then =
+    record { all = first; is_seen = seen; has_first = λ pkg has. has; has_bytes = λ c is pkg has. absurd (let e : Disk ≡ Bad c = is in (cc)) }
+
+-- where a reader follows a piece
+pub behind : (place : BlockPlace) (o : OpenFile) (rest : Option OpenFile) (part : Part) (n : ℕ) → o.at + file_bytes_left o.file ≤ place.at → n ≤ file_bytes_left o.file → IsPieceOf o n (part, rest) → o.at + n ≤ offset_in place rest
+behind place o None part n room few is = omega (arith, room, few)
+behind place o (Some further) part n room few is = omega (arith, is.2)
+
+pub after_within : (place : BlockPlace) (o : OpenFile) (rest : Option OpenFile) (part : Part) (n : ℕ) → o.at + file_bytes_left o.file ≤ place.at → place.at ≤ place.len → n ≤ file_bytes_left o.file → IsPieceOf o n (part, rest) → offset_in place rest ≤ place.len
+after_within place o None part n room within few is = within
+after_within place o (Some further) part n room within few is = omega (arith, is.2, room, within, few)
+
+-- after a piece that is not the last one of its file
+pub behind_part : (place : BlockPlace) (o : OpenFile) (rest : Option OpenFile) (part : Part) (n at : ℕ) → at ≤ o.at → IsPieceOf o n (part, rest) → part.last ≡ false → at + n ≤ offset_in place rest
+behind_part place o None part n at before is more = absurd (false≢true (sym more ∙ ap (λ (p : Part). p.last) is))
+behind_part place o (Some further) part n at before is more = omega (arith, before, is.2)
+
+-- ---- a piece
+
+pub read_err : (old mid new : PieceReader) (o : OpenFile) (pkg bytes : List ℕ) (before : PiecesRead) (fault : PieceFault) (r : Result (Option Part) PieceFault) → IsErrAnd r (λ other. other ≡ fault) → IsFileOpened old pkg before (Ok (Some o)) mid → ((c : Cause) → fault ≡ Bad c → (so_far : List ℕ) (further before : PiecesRead) → IsOpenFile o so_far pkg further before → IsNextPiece so_far pkg bytes further before (Err fault))
+    → IsPieceRead new pkg before bytes r
+read_err old mid new o pkg bytes before fault (Ok found) is opened next = absurd is
+read_err old mid new o pkg bytes before (Bad d) (Err (Bad c)) is opened next =
+    let e : Bad c ≡ Bad d = is in
+    let cause : c ≡ d = (cc) in
+    next d refl opened.0 _ before opened.1 ∙ ap refusal (sym cause)
+read_err old mid new o pkg bytes before Disk (Err (Bad c)) is opened next = absurd (let e : Bad c ≡ Disk = is in (cc))
+read_err old mid new o pkg bytes before fault (Err Disk) is opened next = tt
+
+pub read_some : (old mid : PieceReader) (o : OpenFile) (rest : Option OpenFile) (pkg bytes : List ℕ) (before : PiecesRead) (part : Part) → IsFileOpened old pkg before (Ok (Some o)) mid → ((so_far : List ℕ) (further before : PiecesRead) → IsOpenFile o so_far pkg further before → IsNextPiece so_far pkg bytes further before (Ok (part, rest)))
+    → (after : PiecesRead) × (before ≡ piece part bytes after) × ArePiecesFrom mid.place rest pkg after
+read_some old mid o None pkg bytes before part opened next =
+    (pieces_at mid.place pkg, next opened.0 (pieces_at mid.place pkg) before opened.1, refl)
+read_some old mid o (Some further) pkg bytes before part opened next =
+    let p = next opened.0 (pieces_at mid.place pkg) before opened.1 in
+    (p.0, p.1, (opened.0 ++ bytes, p.2))

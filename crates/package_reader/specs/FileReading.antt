@@ -1,0 +1,106 @@
+-- A single file of a package that is read in pieces. The rules are in `docs/formats.md`, "The other
+-- blocks", the paragraph of pieces. Serves the contracts of `FilePieces`.
+use Rattle.std.specs.Prelude.{◌≡◌, ◌<◌, ℕ, ◌+◌, ◌⊎◌, Bool, true, false, List, [], ◌++◌, length, Option, Some, None, option_map, Result, Ok, Err}
+use Rattle.base_core.specs.declared.cause.Cause.{Cause}
+use Rattle.pkg_core.specs.Contents.{Expected, hash_fault}
+use Rattle.pkg_core.specs.Opened.{expected_of}
+use Rattle.pkg_core.specs.Taking.{HasTaken, file_bytes_left}
+use Rattle.package_reader.specs.Opened.{AreUnreadBytes}
+use Rattle.package_reader.specs.declared.piece.PieceFault.{PieceFault}
+use Rattle.package_reader.specs.declared.piece.PieceFault.TheVariants.{Bad, Disk}
+use Rattle.package_reader.specs.declared.one_file.FilePieces.{FilePieces}
+use Rattle.package_reader.specs.declared.open.OpenFile.{OpenFile}
+
+-- ---- the fields of a reader of one file
+
+-- the name of the package that a file is read from
+abbrev pub package_name_of_file : FilePieces → List ℕ
+package_name_of_file file = file.name.now
+
+-- how many bytes the package has that a file is read from
+abbrev pub len_around_file : FilePieces → ℕ
+len_around_file file = file.len
+
+-- how many bytes of a file are still to be read; none if no file is open
+abbrev pub bytes_left_in : Option OpenFile → ℕ
+bytes_left_in None = 0
+bytes_left_in (Some o) = file_bytes_left o.file
+
+-- how many bytes of a single file are still to be read
+abbrev pub bytes_left_of : FilePieces → ℕ
+bytes_left_of file = bytes_left_in file.opened
+
+-- the positions, the size and the digest that the package lists for the file; None if it has no
+-- contents
+abbrev pub expected_file_of : FilePieces → Option Expected
+expected_file_of file = option_map expected_of file.due
+
+-- the fault of the test that failed in the reading of a file, if one did
+abbrev pub kept_fault : FilePieces → Option Cause
+kept_fault file = file.refused
+
+-- ---- which bytes of the package are still to be read
+
+-- no test of a file failed, and from a package of these bytes the bytes `left` of the file are still to
+-- be read
+abbrev pub HasUnreadBytes : FilePieces → List ℕ → List ℕ → Type 0
+HasUnreadBytes file pkg left = (file.refused ≡ None) × AreUnreadBytes file.opened pkg left
+
+-- ---- the results
+
+-- the result of a call for the next piece if the tree has the package: these bytes are the next of
+-- those that are left, and the rest is still to be read; or none is left
+abbrev pub GivesBytes : (List ℕ → Type 0) → List ℕ → List ℕ → Result Bool PieceFault → Type 0
+GivesBytes AreUnreadBytesThen left bytes (Ok true) =
+    (rest : List ℕ) × (left ≡ bytes ++ rest) × AreUnreadBytesThen rest
+GivesBytes AreUnreadBytesThen left bytes (Ok false) = (left ≡ []) × AreUnreadBytesThen []
+GivesBytes AreUnreadBytesThen left bytes (Err (Bad c)) = ⊥
+GivesBytes AreUnreadBytesThen left bytes (Err Disk) = Unit {0}
+
+-- ---- the tests of the bytes, whatever the tree has
+
+-- of a file without contents there are no bytes; of any other, the bytes have the expected size and digest
+abbrev pub AreAsExpected : Option Expected → List ℕ → Type 0
+AreAsExpected None bytes = bytes ≡ []
+AreAsExpected (Some e) bytes = (length bytes ≡ e.size) × (hash_fault e.hash bytes ≡ None)
+
+-- the bytes have the expected size, and another digest
+abbrev pub HaveOtherDigest : Option Expected → List ℕ → Cause → Type 0
+HaveOtherDigest None bytes c = ⊥
+HaveOtherDigest (Some e) bytes c = (length bytes ≡ e.size) × (hash_fault e.hash bytes ≡ Some c)
+
+-- exactly these bytes were returned, by the state of a reader: more are to be read, or the bytes are as
+-- expected; after a failed test nothing is promised
+abbrev pub HaveBeenReturnedBy : Option Cause → Option OpenFile → Option Expected → List ℕ → Type 0
+HaveBeenReturnedBy (Some c) opened due bytes = Unit {0}
+HaveBeenReturnedBy None None due bytes = AreAsExpected due bytes
+HaveBeenReturnedBy None (Some o) due bytes = HasTaken o.file bytes
+
+-- exactly these bytes of the file were returned so far
+abbrev pub HaveBeenReturned : FilePieces → List ℕ → Type 0
+HaveBeenReturned file bytes = HaveBeenReturnedBy (kept_fault file) file.opened (expected_file_of file)
+    bytes
+
+-- The result of a call after these bytes (`so_far`) were returned. Without an error, no test has
+-- failed: the piece follows the bytes; or they are complete, and as expected. With an error, the bytes
+-- and the piece are complete and have another digest; or a test had failed before.
+abbrev pub IsTestedReturn : FilePieces → List ℕ → List ℕ → Result Bool PieceFault → FilePieces → Type 0
+IsTestedReturn old so_far bytes (Ok true) new =
+    (kept_fault new ≡ None) × HaveBeenReturned new (so_far ++ bytes)
+IsTestedReturn old so_far bytes (Ok false) new =
+    (kept_fault new ≡ None) × AreAsExpected (expected_file_of old) so_far × HaveBeenReturned new so_far
+IsTestedReturn old so_far bytes (Err (Bad c)) new =
+    (kept_fault old ≡ Some c) ⊎ HaveOtherDigest (expected_file_of old) (so_far ++ bytes) c
+IsTestedReturn old so_far bytes (Err Disk) new = Unit {0}
+
+-- if a piece was returned, it has `len` bytes, at least one, and that many fewer are left to be read; if
+-- none was, no byte was left
+abbrev pub HasFewerLeft : FilePieces → ℕ → FilePieces → Bool → Type 0
+HasFewerLeft old len new true =
+    (0 < len) × (bytes_left_of old ≡ len + bytes_left_of new)
+HasFewerLeft old len new false = bytes_left_of old ≡ 0
+
+-- a failed test is remembered by the reader of a file
+abbrev pub RemembersFileFault : PieceFault → FilePieces → Type 0
+RemembersFileFault (Bad c) file = file.refused ≡ Some c
+RemembersFileFault Disk file = Unit {0}

@@ -1,0 +1,89 @@
+-- A file of a package that is read in pieces, in terms of the package's bytes. The rules are in
+-- `docs/formats.md`, "The other blocks", the paragraph of pieces. Serves the contracts of `OpenFile`
+-- and `open_at`.
+use Rattle.std.specs.Prelude.{◌≡◌, ℕ, ◌+◌, ◌-◌, nat_lt, if◌then◌else◌, true, false, List, [], ◌++◌, length, take, drop, Option, Some, None, Result, Ok, Err}
+use Rattle.base_core.specs.declared.cause.Cause.{Cause}
+use Rattle.base_core.specs.declared.cause.Cause.TheVariants.{DataOrder, DataSize}
+use Rattle.pkg_core.specs.Contents.{Expected, hash_fault}
+use Rattle.pkg_core.specs.Opened.{expected_of}
+use Rattle.pkg_core.specs.Pieces.{PiecesRead, part_of, piece, refusal}
+use Rattle.pkg_core.specs.Taking.{HasTaken, file_bytes_left, pieces_in}
+use Rattle.pkg_core.specs.declared.file.Part.{Part}
+use Rattle.package_reader.specs.declared.piece.PieceFault.{PieceFault}
+use Rattle.package_reader.specs.declared.piece.PieceFault.TheVariants.{Bad, Disk}
+use Rattle.package_reader.specs.declared.open.OpenFile.{OpenFile}
+
+-- the bytes of an open file that are still to be read, in a package of these bytes
+abbrev pub unread_bytes : OpenFile → List ℕ → List ℕ
+unread_bytes o pkg = take (file_bytes_left o.file) (drop o.at pkg)
+
+-- the state of an open file in a package of these bytes: `so_far` were taken, and the pieces to be read
+-- are those of its unread bytes, and then further ones
+pub record IsOpenFile (o : OpenFile) (so_far pkg : List ℕ)
+    (further pieces : PiecesRead) : Type 0 where
+  pub taken : HasTaken o.file so_far
+  pub long : length (so_far ++ unread_bytes o pkg) ≡ o.file.wanted.size
+  pub come : pieces ≡ pieces_in o.file so_far (unread_bytes o pkg) further
+
+-- the bytes `left` are the unread ones of an open file, and with those returned before they have its
+-- size and its digest
+pub record AreLeftOf (o : OpenFile) (pkg left : List ℕ) : Type 0 where
+  pub so_far : List ℕ
+  pub taken : HasTaken o.file so_far
+  pub long : length (so_far ++ left) ≡ o.file.wanted.size
+  pub come : left ≡ unread_bytes o pkg
+  pub good : hash_fault o.file.wanted.hash.now (so_far ++ left) ≡ None
+
+-- the bytes `left` are the unread ones of the open file; if none is open there are none
+abbrev pub AreUnreadBytes : Option OpenFile → List ℕ → List ℕ → Type 0
+AreUnreadBytes None pkg left = left ≡ []
+AreUnreadBytes (Some o) pkg left = AreLeftOf o pkg left
+
+-- the bytes of a file up to this piece: unless more are to be read, they have its size and its digest;
+-- or its size, and another digest
+abbrev pub AreTestedSoFar : OpenFile → List ℕ → Result (Part × Option OpenFile) PieceFault → Type 0
+AreTestedSoFar o bytes (Ok (part, None)) =
+    (length bytes ≡ o.file.wanted.size) × (hash_fault o.file.wanted.hash.now bytes ≡ None)
+AreTestedSoFar o bytes (Ok (part, Some further)) =
+    HasTaken further.file bytes × (further.file.wanted ≡ o.file.wanted)
+AreTestedSoFar o bytes (Err (Bad c)) =
+    (length bytes ≡ o.file.wanted.size) × (hash_fault o.file.wanted.hash.now bytes ≡ Some c)
+AreTestedSoFar o bytes (Err Disk) = Unit {0}
+
+-- the result is not that the tree failed
+abbrev pub NotDisk : {A : Type 0} → Result A PieceFault → Type 0
+NotDisk (Ok value) = Unit {0}
+NotDisk (Err (Bad c)) = Unit {0}
+NotDisk (Err Disk) = ⊥
+
+-- the result of a call for the next piece of an open file: these bytes are the next piece, followed by
+-- the rest of the file or, after its last piece, by the further ones; or the digest differs
+abbrev pub IsNextPiece : List ℕ → List ℕ → List ℕ → PiecesRead → PiecesRead
+    → Result (Part × Option OpenFile) PieceFault → Type 0
+IsNextPiece so_far pkg bytes further before (Ok (part, Some o)) = (after : PiecesRead)
+    × (before ≡ piece part bytes after) × IsOpenFile o (so_far ++ bytes) pkg further after
+IsNextPiece so_far pkg bytes further before (Ok (part, None)) =
+    before ≡ piece part bytes further
+IsNextPiece so_far pkg bytes further before (Err (Bad c)) = before ≡ refusal c
+IsNextPiece so_far pkg bytes further before (Err Disk) = Unit {0}
+
+-- the result is a piece of this length of this file, and, unless it is the last, the rest of the file,
+-- which begins that many bytes later
+abbrev pub IsPieceOf : OpenFile → ℕ → Part × Option OpenFile → Type 0
+IsPieceOf o len (part, Some further) =
+    (part ≡ part_of (expected_of o.file.wanted) false)
+    × (further.file.wanted ≡ o.file.wanted) × (further.at ≡ o.at + len)
+IsPieceOf o len (part, None) = part ≡ part_of (expected_of o.file.wanted) true
+
+-- the offset after the open file, or 0 if none is open
+abbrev pub open_end : Option OpenFile → ℕ
+open_end None = 0
+open_end (Some o) = o.at + file_bytes_left o.file
+
+-- why an expected file cannot be at an offset of a package of this length: no offset is given, which is
+-- reported with (0, 0), or fewer bytes are left than its size; None if it can
+abbrev pub place_fault : Option Expected → Option ℕ → ℕ → Option Cause
+place_fault None at len = None
+place_fault (Some e) None len = Some (DataOrder (e.folder, e.file) (0, 0))
+place_fault (Some e) (Some at) len =
+    if nat_lt (len - at) e.size then Some (DataSize e.size (len - at)) else None

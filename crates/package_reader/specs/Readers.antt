@@ -1,0 +1,196 @@
+-- The position of a reader of the pieces of a package, and the result of a call. The rules are in
+-- `docs/formats.md`, "The other blocks", the paragraph of pieces; the order of the files in the
+-- paragraph above it. Serves the contracts of `PieceReader`.
+use Rattle.std.specs.Prelude.{◌≡◌, ℕ, ◌+◌, ◌-◌, if◌then◌else◌, List, [], ◌∷◌, is_none, Option, Some, None, IfSome, Result, Ok, Err}
+use Rattle.base_core.specs.declared.cause.Cause.{Cause}
+use Rattle.pkg_core.specs.Contents.{Expected}
+use Rattle.pkg_core.specs.Opened.{expected_of, left_in}
+use Rattle.pkg_core.specs.declared.walk.Walk.{Walk}
+use Rattle.pkg_core.specs.Pieces.{PiecesRead, no_piece, part_of, piece, refusal}
+use Rattle.pkg_core.specs.Places.{pieces_at}
+use Rattle.pkg_core.specs.declared.file.Part.{Part}
+use Rattle.pkg_core.specs.declared.place.BlockPlace.{BlockPlace}
+use Rattle.pkg_core.specs.Seen.{HasAt}
+use Rattle.package_reader.specs.Opened.{IsOpenFile}
+use Rattle.package_reader.specs.declared.piece.PieceFault.{PieceFault}
+use Rattle.package_reader.specs.declared.piece.PieceFault.TheVariants.{Bad, Disk}
+use Rattle.package_reader.specs.declared.open.OpenFile.{OpenFile}
+use Rattle.package_reader.specs.declared.reader.Due.{Due}
+use Rattle.package_reader.specs.declared.reader.Due.TheVariants.{Files, Nothing, Refused}
+use Rattle.package_reader.specs.declared.reader.PieceReader.{PieceReader}
+
+-- ---- the fields of a reader
+
+-- the name of the package that a reader reads
+abbrev pub name_in_tree : PieceReader → List ℕ
+name_in_tree reader = reader.name.now
+
+-- how many bytes the package of a reader has
+abbrev pub package_len : PieceReader → ℕ
+package_len reader = reader.place.len
+
+-- the offset of the byte that is read next: in the file that is open, or else at the next block
+abbrev pub offset_in : BlockPlace → Option OpenFile → ℕ
+offset_in place None = place.at
+offset_in place (Some o) = o.at
+
+-- the offset of the byte that a reader reads next
+abbrev pub offset_of : PieceReader → ℕ
+offset_of reader = offset_in reader.place reader.opened
+
+-- the expected files: those whose last piece is still to be read
+abbrev pub files_to_read_in : BlockPlace → Option OpenFile → List Expected
+files_to_read_in place None = left_in place.walk
+files_to_read_in place (Some o) = expected_of o.file.wanted ∷ left_in place.walk
+
+-- the expected files, by what is left of a reader: none after the last block, or after a failed test
+abbrev pub files_to_read_by : Due → BlockPlace → Option OpenFile → List Expected
+files_to_read_by Files place opened = files_to_read_in place opened
+files_to_read_by Nothing place opened = []
+files_to_read_by (Refused c) place opened = []
+
+-- the files of a reader whose last piece is still to be read
+abbrev pub files_to_read : PieceReader → List Expected
+files_to_read reader = files_to_read_by reader.due reader.place reader.opened
+
+-- a reader can continue: no test failed, and the last block was not passed
+abbrev pub CanContinue : PieceReader → Type 0
+CanContinue reader = reader.due ≡ Files
+
+-- a reader can continue, and is between two files: none is open
+abbrev pub IsBetweenFiles : PieceReader → Type 0
+IsBetweenFiles reader = CanContinue reader × (reader.opened ≡ None)
+
+-- ---- the pieces to be read, of a package of these bytes
+
+-- these pieces are those of the rest of the open file, followed by those of the blocks from a place on
+abbrev pub ArePiecesFrom : BlockPlace → Option OpenFile → List ℕ → PiecesRead → Type 0
+ArePiecesFrom place None pkg pieces = pieces ≡ pieces_at place pkg
+ArePiecesFrom place (Some o) pkg pieces =
+    (so_far : List ℕ) × IsOpenFile o so_far pkg (pieces_at place pkg) pieces
+
+-- these pieces are left, by what is left of a reader: none after the last block, only the fault after a
+-- failed test
+abbrev pub AreLeft : Due → BlockPlace → Option OpenFile → List ℕ → PiecesRead → Type 0
+AreLeft Files place opened pkg pieces = ArePiecesFrom place opened pkg pieces
+AreLeft Nothing place opened pkg pieces = pieces ≡ no_piece
+AreLeft (Refused c) place opened pkg pieces = pieces ≡ refusal c
+
+-- these pieces of a reader are still to be read, from a package of these bytes
+abbrev pub IsReading : PieceReader → List ℕ → PiecesRead → Type 0
+IsReading reader pkg pieces = AreLeft reader.due reader.place reader.opened pkg pieces
+
+-- ---- the results
+
+-- the result of a call for the next piece: it has these bytes, and the rest is still to be read; no
+-- piece is left; or the first failed test, which each later call returns again
+abbrev pub AnswersNext : (PiecesRead → Type 0) → PiecesRead → List ℕ
+    → Result (Option Part) PieceFault → Type 0
+AnswersNext AreUnreadBytes before bytes (Ok (Some part)) =
+    (after : PiecesRead) × (before ≡ piece part bytes after) × AreUnreadBytes after
+AnswersNext AreUnreadBytes before bytes (Ok None) = (before ≡ no_piece) × AreUnreadBytes no_piece
+AnswersNext AreUnreadBytes before bytes (Err (Bad c)) = (before ≡ refusal c)
+    × AreUnreadBytes (refusal c)
+AnswersNext AreUnreadBytes before bytes (Err Disk) = Unit {0}
+
+-- the piece is one of the first expected file, which is expected until its last piece was read
+pub record IsOfFirstExpected (before : List Expected) (part : Part)
+    (after : List Expected) : Type 0 where
+  pub first : Expected
+  pub others : List Expected
+  pub due : before ≡ first ∷ others
+  pub of_first : part ≡ part_of first part.last
+  pub left : after ≡ (if part.last then others else first ∷ others)
+
+-- the expected files before and after a call: the pieces are in the order of the files, and at the end
+-- no file is expected
+abbrev pub IsReturnedInOrder : List Expected → Option Part → List Expected → Type 0
+IsReturnedInOrder before None after = before ≡ []
+IsReturnedInOrder before (Some part) after = IsOfFirstExpected before part after
+
+-- after a piece a reader can continue, and the file is open unless the piece is its last one
+pub record CanContinueAfter (part : Part) (old new : PieceReader) : Type 0 where
+  pub before : CanContinue old
+  pub after : CanContinue new
+  pub open_file : is_none new.opened ≡ part.last
+
+-- a failed test is remembered by the reader of a package
+abbrev pub RemembersFault : PieceFault → PieceReader → Type 0
+RemembersFault (Bad c) reader = reader.due ≡ Refused c
+RemembersFault Disk reader = Unit {0}
+
+-- ---- the place of a file
+
+-- the offset at which the file of the last piece begins
+abbrev pub start_of_file : PieceReader → ℕ
+start_of_file reader = reader.start
+
+-- how many bytes were returned of the open file, which begins at `start`; 0 if none is open
+abbrev pub returned_len_from : ℕ → Option OpenFile → ℕ
+returned_len_from start None = 0
+returned_len_from start (Some o) = o.at - start
+
+-- how many bytes of the open file a reader has returned
+abbrev pub returned_len : PieceReader → ℕ
+returned_len reader = returned_len_from reader.start reader.opened
+
+-- the bytes of a piece are in the package, after those of its file that were returned before
+abbrev pub HasPieceAt : PieceReader → List ℕ → List ℕ → Option Part → PieceReader → Type 0
+HasPieceAt old pkg bytes None new = Unit {0}
+HasPieceAt old pkg bytes (Some part) new = HasAt pkg (start_of_file new + returned_len old) bytes
+
+-- a piece of this length was returned of the open file, whose offset is unchanged; after the last piece
+-- none is open, and 0 bytes of it count as returned
+pub record KeepsStart (part : Part) (len : ℕ) (old new : PieceReader) : Type 0 where
+  pub same : IfSome old.opened (λ o. start_of_file new ≡ start_of_file old)
+  pub handed : returned_len new ≡ (if part.last then 0 else returned_len old + len)
+
+-- ---- inside
+
+-- the walk before and after the search for the next file: it advances over the file that was found;
+-- None if none is expected
+abbrev pub FindsFile : Walk → Option OpenFile → Walk → Type 0
+FindsFile before None after = left_in before ≡ []
+FindsFile before (Some found) after =
+    left_in before ≡ expected_of found.file.wanted ∷ left_in after
+
+-- the result of the search for the next file in this package: its contents begin, and the pieces after
+-- them are those from the new position; no piece is left; or the first failed test
+abbrev pub IsFileFound : BlockPlace → List ℕ → Result (Option OpenFile) PieceFault → BlockPlace
+    → Type 0
+IsFileFound before pkg (Ok None) after = pieces_at before pkg ≡ no_piece
+IsFileFound before pkg (Ok (Some o)) after =
+    IsOpenFile o [] pkg (pieces_at after pkg) (pieces_at before pkg)
+IsFileFound before pkg (Err (Bad c)) after = pieces_at before pkg ≡ refusal c
+IsFileFound before pkg (Err Disk) after = Unit {0}
+
+-- the result for the file of the next piece, the one that is already open or the next one
+abbrev pub IsFileOpened : PieceReader → List ℕ → PiecesRead
+    → Result (Option OpenFile) PieceFault → PieceReader → Type 0
+IsFileOpened old pkg before (Ok None) new = before ≡ no_piece
+IsFileOpened old pkg before (Ok (Some o)) new =
+    (so_far : List ℕ) × IsOpenFile o so_far pkg (pieces_at new.place pkg) before
+IsFileOpened old pkg before (Err (Bad c)) new = before ≡ refusal c
+IsFileOpened old pkg before (Err Disk) new = Unit {0}
+
+-- an open file begins at `start`: its unread bytes follow those that were returned, and if it was open
+-- before, it began there too
+pub record IsStartOf (old : PieceReader) (o : OpenFile) (start : ℕ) : Type 0 where
+  pub located : o.at ≡ start + returned_len old
+  pub same : IfSome old.opened (λ o. start ≡ start_of_file old)
+
+-- the result of reading the next piece, as *AnswersNext*, without a promise after a failed test
+abbrev pub IsPieceRead : PieceReader → List ℕ → PiecesRead → List ℕ
+    → Result (Option Part) PieceFault → Type 0
+IsPieceRead new pkg before bytes (Ok (Some part)) = (after : PiecesRead)
+    × (before ≡ piece part bytes after) × ArePiecesFrom new.place new.opened pkg after
+IsPieceRead new pkg before bytes (Ok None) = before ≡ no_piece
+IsPieceRead new pkg before bytes (Err (Bad c)) = before ≡ refusal c
+IsPieceRead new pkg before bytes (Err Disk) = Unit {0}
+
+-- the expected files before a file was opened: this file, and those that the walk has left; none if
+-- none was opened
+abbrev pub OpensExpected : List Expected → Option OpenFile → BlockPlace → Type 0
+OpensExpected before None place = before ≡ []
+OpensExpected before (Some o) place =
+    before ≡ expected_of o.file.wanted ∷ left_in place.walk

@@ -1,0 +1,210 @@
+//! The pieces of a single file of a package. The rules are in `docs/formats.md`, "The other
+//! blocks", the paragraph of pieces.
+
+ghost use Rattle.std.specs.Option.{ForSome};
+ghost use Rattle.std.specs.Prelude.{◌≡◌, ◌<◌, ◌≤◌, Some};
+ghost use Rattle.package_reader.specs.Opened.{open_end};
+ghost use Rattle.pkg_core.specs.Taking.{file_bytes_left};
+
+use crate::open::{OpenFile, open_at};
+use crate::piece::{Piece, PieceFault};
+use base_core::{Cause, Name, Tree};
+use pkg_core::{Contents, Wanted, wanted_file};
+
+/// The bytes of a single file of a package in pieces, read from the package at the offset at which
+/// the file begins. All of them are tested again. It allocates no memory. Contracts see, by
+/// `FileReading` of `specs/`, which bytes of a package are still to be read.
+#[derive(Drop)]
+pub struct FilePieces<'a> {
+    // The name of the package.
+    pub(crate) name: &'a Name,
+    // How many bytes the package has.
+    pub(crate) len: u64,
+    // The values of the package, which name the expected contents.
+    pub(crate) contents: Contents<'a>,
+    // The size and the digest that the bytes must have; None if the file has no contents.
+    pub(crate) due: Option<Wanted<'a>>,
+    // The rest of the file; None after its last piece.
+    pub(crate) opened: Option<OpenFile<'a>>,
+    // The test that failed, if one did.
+    pub(crate) refused: Option<Cause>,
+    ghost within: { open_end opened ≤ len },
+    ghost more: { ForSome opened (λ o. 0 < file_bytes_left o.file) },
+    ghost same: { ForSome opened (λ o. due ≡ Some o.file.wanted) },
+}
+
+impl<'a> FilePieces<'a> {
+    ghost use Rattle.std.specs.Prelude.{◌≡◌, ◌<◌, [], ℕ, List, None, Some, length, IfErr, IfOk, IfSome, Err};
+    ghost use Rattle.base_core.specs.Calls.{IfObservable};
+    ghost use Rattle.base_core.specs.Tree.{files_of};
+    ghost use Rattle.pkg_core.specs.Contents.{Expected, expected_contents, hash_fault};
+    ghost use Rattle.pkg_core.specs.Opened.{expected_file_at, expected_of};
+    ghost use Rattle.pkg_core.specs.Seen.{HasAt, ReadsFile};
+    ghost use Rattle.pkg_core.specs.Values.{value_of_contents};
+    ghost use Rattle.package_reader.specs.FileReading.{IsTestedReturn, GivesBytes, HasFewerLeft, RemembersFileFault, HaveBeenReturned, HasUnreadBytes, bytes_left_of, expected_file_of, kept_fault, len_around_file, package_name_of_file};
+    ghost use Rattle.package_reader.specs.Opened.{place_fault};
+    ghost use Rattle.package_reader.specs.declared.piece.PieceFault.TheVariants.{Bad, Disk as DiskFault};
+
+    /// The file with these positions. It begins at this offset in the package, which has this name,
+    /// this length and these values. A file without contents has no pieces. Each call fails if the
+    /// file has contents, but no offset is given or the package is too short for them.
+    pub fn new(
+        name: &'a Name,
+        len: u64,
+        contents: Contents<'a>,
+        folder: u32,
+        file: u32,
+        at: Option<u64>,
+    ) -> FilePieces<'a>
+        ensures name { package_name_of_file result ≡ name.entry.now }
+        ensures len { len_around_file result ≡ len }
+        // The size and the digest that are compared are those that the values list for the file.
+        ensures due { expected_file_of result ≡ expected_file_at folder file
+            (expected_contents (value_of_contents contents.entry)) }
+        ensures begun { HaveBeenReturned result [] }
+        ensures fault { kept_fault result ≡ place_fault (expected_file_of result) at len }
+        ensures reading { (pkg bytes : List ℕ) (e : Expected) (start : ℕ) → length pkg ≡ len
+            → at ≡ Some start → expected_file_at folder file
+            (expected_contents (value_of_contents contents.entry)) ≡ Some e
+            → HasAt pkg start bytes → length bytes ≡ e.size → hash_fault e.hash bytes ≡ None
+            → HasUnreadBytes result pkg bytes }
+        ensures empty { (pkg : List ℕ) → expected_file_of result ≡ None
+            → HasUnreadBytes result pkg [] }
+    {
+        let view = contents.view();
+        match wanted_file(&view, folder, file) {
+            Some(wanted) => FilePieces::of(name, len, contents, wanted, at),
+            None => FilePieces {
+                name,
+                len,
+                contents,
+                due: None,
+                opened: None,
+                refused: None,
+            },
+        }
+    }
+
+    /// The pieces of a file with contents, which begins at this offset; each call fails if it has
+    /// no place there.
+    fn of(
+        name: &'a Name,
+        len: u64,
+        contents: Contents<'a>,
+        wanted: Wanted<'a>,
+        at: Option<u64>,
+    ) -> FilePieces<'a>
+        requires { 0 < wanted.size }
+        ensures name { package_name_of_file result ≡ name.entry.now }
+        ensures len { len_around_file result ≡ len }
+        ensures due { expected_file_of result ≡ Some (expected_of wanted.entry) }
+        ensures begun { HaveBeenReturned result [] }
+        ensures fault { kept_fault result ≡ place_fault (expected_file_of result) at len }
+        ensures reading { (pkg bytes : List ℕ) (start : ℕ) → length pkg ≡ len → at ≡ Some start
+            → HasAt pkg start bytes → length bytes ≡ wanted.entry.size
+            → hash_fault wanted.entry.hash.now bytes ≡ None → HasUnreadBytes result pkg bytes }
+    {
+        let due = Some(wanted);
+        match open_at(wanted, at, len) {
+            Ok(file) => FilePieces {
+                name,
+                len,
+                contents,
+                due,
+                opened: Some(file),
+                refused: None,
+            },
+            Err(cause) => FilePieces {
+                name,
+                len,
+                contents,
+                due,
+                opened: None,
+                refused: Some(cause),
+            },
+        }
+    }
+
+    /// Reads the next piece, and returns whether there was one; else the file has ended. The pieces
+    /// have 65,536 bytes each, and the last one 1 to 65,536. The tree is unchanged, whatever the
+    /// result.
+    ///
+    /// # Errors
+    ///
+    /// `Bad` with `HashDiffers` in place of the last piece, if all bytes together do not have the
+    /// file's digest. `Bad` at once if the file has no place in the package (`new`). Each later
+    /// call returns the same. `Disk` if the tree failed: then the reader may only be dropped.
+    pub fn next_piece<T: Tree>(
+        &mut self,
+        tree: &mut T,
+        piece: &mut Piece,
+    ) -> Result<bool, PieceFault>
+        // If the tree has the package: the piece is the next of the bytes that are left; or none
+        // are left.
+        ensures piece { IfObservable (T.history tree.old) (λ v. (pkg left : List ℕ)
+            → files_of v (package_name_of_file self.old) ≡ Some pkg
+            → HasUnreadBytes self.old pkg left
+            → GivesBytes (HasUnreadBytes self.new pkg) left piece.new result) }
+        // For each package, also one that was changed since: the last piece and the end are
+        // returned only if all bytes together have the expected size and digest.
+        ensures tested { (so_far : List ℕ) → HaveBeenReturned self.old so_far
+            → IsTestedReturn self.old so_far piece.new result self.new }
+        ensures due { expected_file_of self.new ≡ expected_file_of self.old }
+        ensures left { IfOk result (HasFewerLeft self.old (length piece.new) self.new) }
+        ensures refused { IfErr result (λ fault. RemembersFileFault fault self.new) }
+        // Each later call returns a test that failed.
+        ensures again { IfSome (kept_fault self.old) (λ cause. result ≡ Err (Bad cause)) }
+        ensures name { package_name_of_file self.new ≡ package_name_of_file self.old }
+        ensures len { len_around_file self.new ≡ len_around_file self.old }
+        // The tree is unchanged. `Disk` is returned only if the tree failed, and no call is a
+        // misuse if the file still has its length.
+        ensures tree { ReadsFile (package_name_of_file self.old) (len_around_file self.old)
+            DiskFault
+            (T.history tree.old) (T.history tree.new) (T.counts tree.old) (T.counts tree.new)
+            result }
+    {
+        if let Some(cause) = self.refused {
+            return Err(PieceFault::Bad(cause));
+        }
+        match self.read_next(tree, piece) {
+            Err(PieceFault::Bad(cause)) => {
+                self.refused = Some(cause);
+                Err(PieceFault::Bad(cause))
+            }
+            other => other,
+        }
+    }
+
+    /// Reads the next piece, if no test failed. The clauses are those of `next_piece`, except that
+    /// a failed test is not remembered yet.
+    fn read_next<T: Tree>(&mut self, tree: &mut T, piece: &mut Piece) -> Result<bool, PieceFault>
+        requires { kept_fault self.old ≡ None }
+        // If the tree has the package: the piece is the next of the bytes that are left; or none
+        // are left.
+        ensures piece { IfObservable (T.history tree.old) (λ v. (pkg left : List ℕ)
+            → files_of v (package_name_of_file self.old) ≡ Some pkg
+            → HasUnreadBytes self.old pkg left
+            → GivesBytes (HasUnreadBytes self.new pkg) left piece.new result) }
+        ensures tested { (so_far : List ℕ) → HaveBeenReturned self.old so_far
+            → IsTestedReturn self.old so_far piece.new result self.new }
+        ensures due { expected_file_of self.new ≡ expected_file_of self.old }
+        ensures left { IfOk result (HasFewerLeft self.old (length piece.new) self.new) }
+        ensures name { package_name_of_file self.new ≡ package_name_of_file self.old }
+        ensures len { len_around_file self.new ≡ len_around_file self.old }
+        // The tree is unchanged. `Disk` is returned only if the tree failed, and no call is a
+        // misuse if the file still has its length.
+        ensures tree { ReadsFile (package_name_of_file self.old) (len_around_file self.old)
+            DiskFault
+            (T.history tree.old) (T.history tree.new) (T.counts tree.old) (T.counts tree.new)
+            result }
+    {
+        // The proof needs that the file ends within the package.
+        let _len = self.len;
+        let Some(file) = self.opened.take() else {
+            return Ok(false);
+        };
+        let (_part, rest) = file.next_piece(tree, self.name, piece)?;
+        self.opened = rest;
+        Ok(true)
+    }
+}

@@ -1,0 +1,304 @@
+//! A reader of the pieces of a package's files in order. The rules are in `docs/formats.md`, "The
+//! other blocks", the paragraph of pieces; the order of the files in the paragraph above it.
+
+ghost use Rattle.std.specs.Option.{ForSome};
+ghost use Rattle.std.specs.Prelude.{◌≤◌, ◌≡◌, List};
+ghost use Rattle.package_reader.specs.Opened.{open_end};
+ghost use Rattle.adb_block.specs.Reading.{Reading};
+ghost use Rattle.pkg_core.specs.Contents.{Expected, contents_fault};
+ghost use Rattle.pkg_core.specs.Pieces.{pieces_by_blocks, refusal_in};
+
+use crate::block::next_file;
+use crate::open::OpenFile;
+use crate::piece::{Piece, PieceFault};
+use adb_block::BlockKind;
+use base_core::{Cause, Name, Tree};
+use pkg_core::{BlockPlace, Contents, Front, Part, Walk};
+
+/// What is left of a reader.
+#[derive(Clone, Copy)]
+pub(crate) enum Due {
+    /// The pieces of the files that are left.
+    Files,
+    /// Nothing: the last block was passed.
+    Nothing,
+    /// A test failed.
+    Refused(Cause),
+}
+
+/// A reader of the contents of a package's files in pieces, block by block in the order of the
+/// package. It allocates no memory. Contracts see, by `Readers` of `specs/`, the pieces of a
+/// package that are still to be read, the offset of the next read, and the offset at which the file
+/// of the last piece begins.
+#[derive(Drop)]
+pub struct PieceReader<'a> {
+    /// The name of the package.
+    pub(crate) name: &'a Name,
+    /// The position of the reader in the blocks: after the one of the open file.
+    pub(crate) place: BlockPlace<'a>,
+    /// The file of which some pieces, but not all, were read.
+    pub(crate) opened: Option<OpenFile<'a>>,
+    /// The offset at which the file of the last piece begins.
+    pub(crate) start: u64,
+    /// Whether files are left, the last block was passed, or a test failed.
+    pub(crate) due: Due,
+    ghost within: { place.at ≤ place.len },
+    ghost behind: { open_end opened ≤ place.at },
+    ghost begun: { ForSome opened (λ file. start ≤ file.at) },
+}
+
+impl<'a> PieceReader<'a> {
+    ghost use Rattle.std.specs.Prelude.{◌≡◌, ◌≤◌, ◌+◌, ℕ, List, None, false, is_none, length, IfErr, IfOk, IfSome};
+    ghost use Rattle.adb_block.specs.Reading.{reading_of};
+    ghost use Rattle.pkg_core.specs.Contents.{expected_contents};
+    ghost use Rattle.pkg_core.specs.Opened.{left_in};
+    ghost use Rattle.pkg_core.specs.Pieces.{PiecesRead, pieces_by_blocks};
+    ghost use Rattle.pkg_core.specs.Taking.{file_bytes_left};
+    ghost use Rattle.pkg_core.specs.Front.{behind_front, front_end, front_file_len};
+    ghost use Rattle.pkg_core.specs.Seen.{HasAt, IsSeenIn, ReadsFile};
+    ghost use Rattle.pkg_core.specs.Values.{value_of_contents};
+    ghost use Rattle.package_reader.specs.Readers.{AnswersNext, ArePiecesFrom, IsReturnedInOrder, CanContinueAfter, RemembersFault, IsFileOpened, CanContinue, IsPieceRead, IsReading, IsStartOf, KeepsStart, OpensExpected, HasPieceAt, IsBetweenFiles, files_to_read, files_to_read_in, name_in_tree, offset_of, package_len, start_of_file};
+    ghost use Rattle.package_reader.specs.declared.reader.Due.TheVariants.{Files};
+    ghost use Rattle.package_reader.specs.declared.piece.PieceFault.TheVariants.{Disk as DiskFault};
+
+    /// A reader before the first piece of the package of this name, whose front and values were
+    /// read.
+    pub fn new(front: &Front, contents: &Contents<'a>, name: &'a Name) -> PieceReader<'a>
+        ensures name { name_in_tree result ≡ name.entry.now }
+        ensures len { package_len result ≡ front_file_len front.now }
+        ensures offset { offset_of result ≡ front_end front.now }
+        ensures files { files_to_read result
+            ≡ expected_contents (value_of_contents contents.entry.now) }
+        ensures start { IsBetweenFiles result }
+        // The pieces to read are those of the blocks after the front.
+        ensures pieces { (pkg : List ℕ) → IsReading result pkg
+            (pieces_by_blocks (expected_contents (value_of_contents contents.entry.now))
+            (reading_of (behind_front front.now pkg))) }
+    {
+        let place = BlockPlace {
+            len: front.file_len(),
+            walk: Walk::new(contents.view().paths()),
+            last: BlockKind::Adb,
+            at: front.end(),
+        };
+        PieceReader::in_front_of(name, place)
+    }
+
+    /// A reader in front of the block at a place.
+    pub(crate) fn in_front_of(name: &'a Name, place: BlockPlace<'a>) -> PieceReader<'a>
+        requires { place.at ≤ place.len }
+        ensures name { name_in_tree result ≡ name.entry.now }
+        ensures place { result.place ≡ place.entry }
+        ensures opened { result.opened ≡ None }
+        ensures due { result.due ≡ Files }
+    {
+        PieceReader {
+            name,
+            place,
+            opened: None,
+            start: 0,
+            due: Due::Files,
+        }
+    }
+
+    /// The offset at which the file of the last piece begins.
+    pub fn file_start(&self) -> u64
+        ensures { result ≡ start_of_file self.now }
+    {
+        self.start
+    }
+
+    /// Reads the next piece, and returns which part of which file it is; None exactly after the
+    /// last block. The pieces of a file have 65,536 bytes each, and the last one 1 to 65,536. The
+    /// tree is unchanged, whatever the result.
+    ///
+    /// # Errors
+    ///
+    /// `Bad` with the first failed test, and each later call returns the same. The order and the
+    /// size of a file are tested before its first piece, its digest before its last one is
+    /// returned. `Disk` if the tree failed; then the reader may only be dropped.
+    pub fn next_piece<T: Tree>(
+        &mut self,
+        tree: &mut T,
+        piece: &mut Piece,
+    ) -> Result<Option<Part>, PieceFault>
+        // For each package of this length that has the bytes read between the old position and the
+        // new one.
+        ensures piece { (seen : List ℕ)
+            × IsSeenIn (T.history tree.old) (name_in_tree self.old) (package_len self.old)
+            (offset_of self.old) seen
+            × IfOk result (λ found. IfSome found (λ _.
+            offset_of self.old + length seen ≡ offset_of self.new))
+            × ((pkg : List ℕ) → length pkg ≡ package_len self.old
+            → HasAt pkg (offset_of self.old) seen
+            → (before : PiecesRead) → IsReading self.old pkg before
+            → AnswersNext (IsReading self.new pkg) before piece.new result
+            × IfOk result (λ found. HasPieceAt self.old pkg piece.new found self.new)) }
+        // The pieces are in the order of the files in the package; after a piece the reader can
+        // continue.
+        ensures order { IfOk result (λ found.
+            IsReturnedInOrder (files_to_read self.old) found (files_to_read self.new)) }
+        ensures goes_on { IfOk result (λ found. IfSome found (λ part.
+            CanContinueAfter part self.old self.new)) }
+        // A piece that is not the last one is completely before the next read.
+        ensures bytes { IfOk result (λ found. IfSome found (λ part. part.last ≡ false
+            → offset_of self.old + length piece.new ≤ offset_of self.new)) }
+        // The offset at which its file begins is unchanged, and the bytes returned so far grow by
+        // the piece.
+        ensures start { IfOk result (λ found. IfSome found (λ part.
+            KeepsStart part (length piece.new) self.old self.new)) }
+        // A failed test is remembered, and each later call returns it.
+        ensures refused { IfErr result (λ fault. RemembersFault fault self.new) }
+        ensures name { name_in_tree self.new ≡ name_in_tree self.old }
+        ensures len { package_len self.new ≡ package_len self.old }
+        // The tree is unchanged. `Disk` is returned only if the tree failed, and no call is a
+        // misuse if the file still has its length.
+        ensures tree { ReadsFile (name_in_tree self.old) (package_len self.old) DiskFault
+            (T.history tree.old) (T.history tree.new) (T.counts tree.old) (T.counts tree.new)
+            result }
+    {
+        match self.due {
+            Due::Files => self.read_due(tree, piece),
+            Due::Nothing => Ok(None),
+            Due::Refused(cause) => Err(PieceFault::Bad(cause)),
+        }
+    }
+
+    /// Reads the next piece, if files are left, and remembers the end or a failed test for the next
+    /// calls. The clauses are those of `next_piece`.
+    fn read_due<T: Tree>(
+        &mut self,
+        tree: &mut T,
+        piece: &mut Piece,
+    ) -> Result<Option<Part>, PieceFault>
+        requires { CanContinue self.old }
+        ensures piece { (seen : List ℕ)
+            × IsSeenIn (T.history tree.old) (name_in_tree self.old) (package_len self.old)
+            (offset_of self.old) seen
+            × IfOk result (λ found. IfSome found (λ _.
+            offset_of self.old + length seen ≡ offset_of self.new))
+            × ((pkg : List ℕ) → length pkg ≡ package_len self.old
+            → HasAt pkg (offset_of self.old) seen
+            → (before : PiecesRead) → IsReading self.old pkg before
+            → AnswersNext (IsReading self.new pkg) before piece.new result
+            × IfOk result (λ found. HasPieceAt self.old pkg piece.new found self.new)) }
+        ensures order { IfOk result (λ found.
+            IsReturnedInOrder (files_to_read self.old) found (files_to_read self.new)) }
+        ensures goes_on { IfOk result (λ found. IfSome found (λ part.
+            CanContinueAfter part self.old self.new)) }
+        ensures bytes { IfOk result (λ found. IfSome found (λ part. part.last ≡ false
+            → offset_of self.old + length piece.new ≤ offset_of self.new)) }
+        ensures start { IfOk result (λ found. IfSome found (λ part.
+            KeepsStart part (length piece.new) self.old self.new)) }
+        ensures refused { IfErr result (λ fault. RemembersFault fault self.new) }
+        ensures name { name_in_tree self.new ≡ name_in_tree self.old }
+        ensures len { package_len self.new ≡ package_len self.old }
+        // The tree is unchanged. `Disk` is returned only if the tree failed, and no call is a
+        // misuse if the file still has its length.
+        ensures tree { ReadsFile (name_in_tree self.old) (package_len self.old) DiskFault
+            (T.history tree.old) (T.history tree.new) (T.counts tree.old) (T.counts tree.new)
+            result }
+    {
+        match self.read_next(tree, piece) {
+            Ok(Some(part)) => Ok(Some(part)),
+            Ok(None) => {
+                self.due = Due::Nothing;
+                Ok(None)
+            }
+            Err(PieceFault::Bad(cause)) => {
+                self.due = Due::Refused(cause);
+                Err(PieceFault::Bad(cause))
+            }
+            Err(PieceFault::Disk) => Err(PieceFault::Disk),
+        }
+    }
+
+    /// Reads the next piece of the open file, or of the next one. The clauses are those of
+    /// `next_piece`, except that a failed test is not remembered yet.
+    fn read_next<T: Tree>(
+        &mut self,
+        tree: &mut T,
+        piece: &mut Piece,
+    ) -> Result<Option<Part>, PieceFault>
+        ensures piece { (seen : List ℕ)
+            × IsSeenIn (T.history tree.old) (name_in_tree self.old) (package_len self.old)
+            (offset_of self.old) seen
+            × IfOk result (λ found. IfSome found (λ _.
+            offset_of self.old + length seen ≡ offset_of self.new))
+            × ((pkg : List ℕ) → length pkg ≡ package_len self.old
+            → HasAt pkg (offset_of self.old) seen
+            → (before : PiecesRead) → ArePiecesFrom self.old.place self.old.opened pkg before
+            → IsPieceRead self.new pkg before piece.new result
+            × IfOk result (λ found. HasPieceAt self.old pkg piece.new found self.new)) }
+        ensures order { IfOk result (λ found. IsReturnedInOrder
+            (files_to_read_in self.old.place self.old.opened) found (files_to_read_in
+            self.new.place self.new.opened)) }
+        ensures bytes { IfOk result (λ found. IfSome found (λ part. part.last ≡ false
+            → offset_of self.old + length piece.new ≤ offset_of self.new)) }
+        ensures start { IfOk result (λ found. IfSome found (λ part.
+            KeepsStart part (length piece.new) self.old self.new)) }
+        ensures due { self.new.due ≡ self.old.due }
+        ensures open { IfOk result (λ found. IfSome found (λ part.
+            is_none self.new.opened ≡ part.last)) }
+        ensures name { name_in_tree self.new ≡ name_in_tree self.old }
+        ensures len { package_len self.new ≡ package_len self.old }
+        // The tree is unchanged. `Disk` is returned only if the tree failed, and no call is a
+        // misuse if the file still has its length.
+        ensures tree { ReadsFile (name_in_tree self.old) (package_len self.old) DiskFault
+            (T.history tree.old) (T.history tree.new) (T.counts tree.old) (T.counts tree.new)
+            result }
+    {
+        let Some(file) = self.open_next(tree)? else {
+            return Ok(None);
+        };
+        // The proof needs that the file ends in front of the next block.
+        let _end = self.place.at;
+        let (part, rest) = file.next_piece(tree, self.name, piece)?;
+        self.opened = rest;
+        Ok(Some(part))
+    }
+
+    /// The file that is open, or the next one; None after the last block.
+    fn open_next<T: Tree>(&mut self, tree: &mut T) -> Result<Option<OpenFile<'a>>, PieceFault>
+        ensures file { (seen : List ℕ)
+            × IsSeenIn (T.history tree.old) (name_in_tree self.old) (package_len self.old)
+            (offset_of self.old) seen
+            × IfOk result (λ found. IfSome found (λ file.
+            offset_of self.old + length seen ≡ file.at))
+            × ((pkg : List ℕ) → length pkg ≡ package_len self.old
+            → HasAt pkg (offset_of self.old) seen
+            → (before : PiecesRead) → ArePiecesFrom self.old.place self.old.opened pkg before
+            → IsFileOpened self.old pkg before result self.new) }
+        ensures opens { IfOk result (λ found.
+            OpensExpected (files_to_read_in self.old.place self.old.opened) found self.new.place) }
+        ensures room { IfOk result (λ found. IfSome found (λ file.
+            file.at + file_bytes_left file.file ≤ self.new.place.at)) }
+        ensures start { IfOk result (λ found. IfSome found (λ file.
+            IsStartOf self.old file self.new.start)) }
+        ensures opened { self.new.opened ≡ None }
+        ensures due { self.new.due ≡ self.old.due }
+        ensures name { name_in_tree self.new ≡ name_in_tree self.old }
+        ensures len { package_len self.new ≡ package_len self.old }
+        // The tree is unchanged. `Disk` is returned only if the tree failed, and no call is a
+        // misuse if the file still has its length.
+        ensures tree { ReadsFile (name_in_tree self.old) (package_len self.old) DiskFault
+            (T.history tree.old) (T.history tree.new) (T.counts tree.old) (T.counts tree.new)
+            result }
+    {
+        if let Some(file) = self.opened.take() {
+            return Ok(Some(file));
+        }
+        let Some(found) = next_file(tree, self.name, &mut self.place)? else {
+            return Ok(None);
+        };
+        self.start = found.at;
+        Ok(Some(found))
+    }
+}
+
+/// The first failed test of the pieces is that of the blocks: the one for which `verify` of
+/// `pkg_core` refuses the package in memory.
+pub fn the_pieces_are_refused_for_the_first_fault_of_the_blocks()
+    ensures { (expected : List Expected) (r : Reading)
+        → refusal_in (pieces_by_blocks expected r) ≡ contents_fault expected r }
+{}

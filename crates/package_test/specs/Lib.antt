@@ -1,6 +1,0 @@
--- The definitions of this crate. The head of each file names the section with its rule.
--- cited by the contract of `apk`: nothing
--- used by inner contracts and proofs only
-pub mod Tested
-pub mod Tests
-pub mod Places

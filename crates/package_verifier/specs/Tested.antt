@@ -1,0 +1,58 @@
+-- A package in a tree that was read and tested once. The rules are in `docs/formats.md`, "Tests of a
+-- container" and "The other blocks". Serves the contracts of `read_package` and `TestedPackage`.
+use Rattle.std.specs.Prelude.{◌≡◌, ℕ, List, length, Option, Some, None}
+use Rattle.sha2.specs.Sha256.{sha256}
+use Rattle.adb_view.specs.Plain.{Plain}
+use Rattle.package_reader.specs.adb_schema.Soundness.{payload_in, root_value}
+use Rattle.adb_view.specs.declared.tables.Which.TheVariants.{Package}
+use Rattle.package_reader.specs.pkg_core.Contents.{contents_in}
+use Rattle.package_reader.specs.pkg_core.Whole.{files_in_file, package_fault, package_id}
+use Rattle.package_reader.specs.pkg_core.Front.{front_file_len, front_payload}
+use Rattle.package_verifier.specs.Places.{AreAtPlaces}
+use Rattle.package_verifier.specs.declared.package.TestedPackage.{TestedPackage}
+use Rattle.package_verifier.specs.declared.read.PackageRead.{PackageRead}
+use Rattle.package_verifier.specs.declared.read.PackageRead.TheVariants.{Absent, Bad, Sound}
+
+-- ---- the fields of a tested package
+
+-- the name under which the file of a tested package was read
+abbrev pub tested_name : TestedPackage → List ℕ
+tested_name pkg = pkg.name
+
+-- how many bytes the file of a tested package has
+abbrev pub tested_len : TestedPackage → ℕ
+tested_len pkg = front_file_len pkg.front
+
+-- the bytes of the value of a tested package
+abbrev pub tested_payload : TestedPackage → List ℕ
+tested_payload pkg = front_payload pkg.front
+
+-- the plain value of a tested package
+abbrev pub tested_value : TestedPackage → Plain
+tested_value pkg = root_value Package (tested_payload pkg)
+
+-- the id of a tested package: the SHA-256 of the bytes of its value
+abbrev pub tested_id : TestedPackage → List ℕ
+tested_id pkg = sha256 (tested_payload pkg)
+
+-- ---- of which files it is
+
+-- a tested package is that of this file, read under this name: no test of the file as a package fails
+pub record IsTestedOf (name file : List ℕ) (pkg : TestedPackage) : Type 0 where
+  pub named : tested_name pkg ≡ name
+  pub sound : package_fault file ≡ None
+  pub value : tested_value pkg ≡ root_value Package (payload_in file)
+  pub id : tested_id pkg ≡ package_id file
+  -- needed to read its files again
+  pub long : tested_len pkg ≡ length file
+  pub payload : tested_payload pkg ≡ payload_in file
+  pub places : AreAtPlaces file pkg.places.items (contents_in (files_in_file file))
+
+-- the result of `read_package` for a file under this name, or for none
+abbrev pub IsReadOf : List ℕ → Option (List ℕ) → PackageRead → Type 0
+IsReadOf name None Absent = Unit {0}
+IsReadOf name None (Bad c) = ⊥
+IsReadOf name None (Sound pkg) = ⊥
+IsReadOf name (Some file) Absent = ⊥
+IsReadOf name (Some file) (Bad c) = package_fault file ≡ Some c
+IsReadOf name (Some file) (Sound pkg) = IsTestedOf name file pkg

@@ -1,0 +1,67 @@
+//! The contents of a package's files are read once and tested, piece by piece. The rules are in
+//! `docs/formats.md`, "The other blocks", the paragraph of pieces.
+
+ghost use Rattle.std.specs.Prelude.{◌≡◌, ℕ, List, Some, length, IfOk};
+ghost use Rattle.adb_block.specs.Reading.{reading_of};
+ghost use Rattle.base_core.specs.declared.tree.TreeFault.TheVariants.{Disk as DiskFault};
+ghost use Rattle.package_verifier.specs.Places.{AreFilesTested};
+ghost use Rattle.package_reader.specs.pkg_core.Contents.{expected_contents, files_by_blocks};
+ghost use Rattle.package_reader.specs.pkg_core.Front.{behind_front, front_end, front_file_len};
+ghost use Rattle.package_reader.specs.pkg_core.Seen.{HasAt, IsSeenIn, ReadsFile};
+ghost use Rattle.package_reader.specs.pkg_core.Values.{value_of_contents};
+
+use crate::places::{FilePlace, keep_place};
+use base_core::{Cause, Name, Tree, TreeFault};
+use package_reader::{
+    Contents, Front, Piece, PieceFault, PieceReader,
+    the_pieces_are_refused_for_the_first_fault_of_the_blocks,
+    the_pieces_of_each_file_joined_are_its_contents,
+};
+use std::alloc::Global;
+
+/// The result of the tests of a package's files.
+#[derive(Drop)]
+pub(crate) enum FilesTest {
+    /// No test failed: the places at which the contents of each file begin, in the order of the
+    /// files.
+    Sound(Vec<FilePlace>),
+    /// The first test that failed.
+    Bad(Cause),
+}
+
+/// Reads and tests the blocks after the values of a package.
+pub(crate) fn read_files<T: Tree>(
+    alloc: Global,
+    tree: &mut T,
+    name: &Name,
+    front: &Front,
+    contents: &Contents<'_>,
+) -> Result<FilesTest, TreeFault>
+    // For each package of this length that has the bytes that were read.
+    ensures files { IfOk result (λ test. (seen : List ℕ)
+        × IsSeenIn (T.history tree.old) name.now (front_file_len front.now) (front_end front.now)
+        seen
+        × ((pkg : List ℕ) → length pkg ≡ front_file_len front.now
+        → HasAt pkg (front_end front.now) seen → AreFilesTested (files_by_blocks
+        (expected_contents (value_of_contents contents.now))
+        (reading_of (behind_front front.now pkg))) pkg test)) }
+    // The tree is unchanged. `Disk` is returned only if the tree failed, and no call is a misuse if
+    // the file still has its length.
+    ensures tree { ReadsFile name.now (front_file_len front.now) DiskFault (T.history tree.old)
+        (T.history tree.new) (T.counts tree.old) (T.counts tree.new) result }
+{
+    // Laws that the proof needs; they have no effect at run time.
+    the_pieces_are_refused_for_the_first_fault_of_the_blocks();
+    the_pieces_of_each_file_joined_are_its_contents();
+    let mut reader = PieceReader::new(front, contents, name);
+    let mut piece = Piece::new();
+    let mut places = Vec::new(alloc);
+    'pieces: loop {
+        match reader.next_piece(tree, &mut piece) {
+            Ok(Some(part)) => keep_place(&mut places, part, reader.file_start())?,
+            Ok(None) => return Ok(FilesTest::Sound(places)),
+            Err(PieceFault::Bad(cause)) => return Ok(FilesTest::Bad(cause)),
+            Err(PieceFault::Disk) => return Err(TreeFault::Disk),
+        }
+    }
+}

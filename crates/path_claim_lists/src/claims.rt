@@ -1,0 +1,153 @@
+//! Claims in the order of their paths: the claim of a path, one claim of each path, and the names
+//! of paths.
+//! `docs/commands.md`, "Files that several packages list", says what a claim is; "Words" there,
+//! which bytes are a name. These calls are general operations on sorted claims: their contracts are
+//! their whole specification.
+
+ghost use Rattle.std.specs.Prelude.{◌≡◌, ◌<◌, ◌≤◌, true, false, length, map, option_and_then, slice_get, IfSome, IfOk};
+ghost use Rattle.std.specs.List.{find};
+ghost use Rattle.std.specs.List.Sorted.{IsPartitionPoint, IsSorted};
+ghost use Rattle.base_core.specs.ByteOrder.{precedes};
+ghost use Rattle.path_claims.specs.adb_fields.JoinedPath.{joined_path};
+ghost use Rattle.path_claims.specs.Claims.{claim_cmp, is_of_path};
+ghost use Rattle.path_claims.specs.Seen.{claim_seen};
+ghost use Rattle.path_claim_lists.specs.Once.{HasFirsts};
+ghost use Rattle.base_core.specs.Name.{IsName};
+ghost use Rattle.path_claim_lists.specs.Named.{HaveNames};
+
+use base_core::{Name, Names};
+use path_claims::{Claim, FilePath, begins_path};
+use path_clashes::path_bytes;
+use std::alloc::{AllocError, Global};
+
+/// The place of the first claim of a path, counted from 0, by a binary search among claims in the
+/// order of their paths. None is returned exactly if no claim has the path.
+pub fn find_claim(claims: &[Claim<'_>], path: &FilePath<'_>) -> Option<usize>
+    requires { IsSorted claim_cmp (map claim_seen claims.now) }
+    ensures within { IfSome result (λ i. i < length claims.now) }
+    ensures found { option_and_then (slice_get (map claim_seen claims.now)) result
+        ≡ find (is_of_path (joined_path path.now)) (map claim_seen claims.now) }
+{
+    let at = place_of(claims, path);
+    claim_at(claims, path, at)
+}
+
+/// The place of the first claim of a path, as `find_claim` returns it, for paths that are searched
+/// in their order. The search starts at the place `next`, and sets it to the place after the found
+/// claim, or to the place where the path would be. If the first place is right, it makes three
+/// comparisons.
+pub fn find_next_claim(claims: &[Claim<'_>], path: &FilePath<'_>, next: &mut usize) -> Option<usize>
+    requires { IsSorted claim_cmp (map claim_seen claims.now) }
+    ensures within { IfSome result (λ i. i < length claims.now) }
+    ensures found { option_and_then (slice_get (map claim_seen claims.now)) result
+        ≡ find (is_of_path (joined_path path.now)) (map claim_seen claims.now) }
+{
+    let at = place_near(claims, path, *next);
+    let found = claim_at(claims, path, at);
+    *next = match found {
+        Some(place) => place + 1,
+        None => at,
+    };
+    found
+}
+
+/// The place of a path among claims, if the claim there has the path: `at` is how many claims have
+/// paths before it.
+fn claim_at(claims: &[Claim<'_>], path: &FilePath<'_>, at: usize) -> Option<usize>
+    requires sorted { IsSorted claim_cmp (map claim_seen claims.now) }
+    requires bound { at ≤ length claims.now }
+    requires place { IsPartitionPoint (λ c. precedes c.path (joined_path path.now) ≡ true)
+        (λ c. precedes c.path (joined_path path.now) ≡ false) (map claim_seen claims.now) at }
+    ensures within { IfSome result (λ i. i < length claims.now) }
+    ensures found { option_and_then (slice_get (map claim_seen claims.now)) result
+        ≡ find (is_of_path (joined_path path.now)) (map claim_seen claims.now) }
+{
+    if at == claims.len() {
+        return None;
+    }
+    if claims[at].path.compare(path).is_eq() {
+        Some(at)
+    } else {
+        None
+    }
+}
+
+/// How many claims have paths before this one; the search starts at `guess`.
+fn place_near(claims: &[Claim<'_>], path: &FilePath<'_>, guess: usize) -> usize
+    requires { IsSorted claim_cmp (map claim_seen claims.now) }
+    ensures bound { result ≤ length claims.now }
+    ensures place { IsPartitionPoint (λ c. precedes c.path (joined_path path.now) ≡ true)
+        (λ c. precedes c.path (joined_path path.now) ≡ false) (map claim_seen claims.now) result }
+{
+    if guess > claims.len() {
+        return place_of(claims, path);
+    }
+    if guess > 0 && !claims[guess - 1].path.compare(path).is_lt() {
+        return place_of(claims, path);
+    }
+    if guess < claims.len() && claims[guess].path.compare(path).is_lt() {
+        return place_of(claims, path);
+    }
+    guess
+}
+
+/// How many claims have paths before this one, by binary search.
+fn place_of(claims: &[Claim<'_>], path: &FilePath<'_>) -> usize
+    requires { IsSorted claim_cmp (map claim_seen claims.now) }
+    ensures bound { result ≤ length claims.now }
+    ensures place { IsPartitionPoint (λ c. precedes c.path (joined_path path.now) ≡ true)
+        (λ c. precedes c.path (joined_path path.now) ≡ false) (map claim_seen claims.now) result }
+{
+    claims.partition_point(|claim| claim.path.compare(path).is_lt())
+}
+
+/// The first claim of each path, among claims in the order of their paths.
+///
+/// # Errors
+///
+/// Out of memory.
+pub fn one_of_each_path<'a>(
+    alloc: Global,
+    claims: &[Claim<'a>],
+) -> Result<Vec<Claim<'a>>, AllocError>
+    requires { IsSorted claim_cmp (map claim_seen claims.now) }
+    ensures { IfOk result
+        (λ firsts. HasFirsts (map claim_seen claims.now) (map claim_seen firsts.items)) }
+{
+    let mut firsts = Vec::new(alloc);
+    for i in 0..claims.len() {
+        if begins_path(claims, i) {
+            firsts.push(claims[i])?;
+        }
+    }
+    Ok(firsts)
+}
+
+/// The path as a name.
+///
+/// # Errors
+///
+/// Out of memory.
+pub fn name_of_path(alloc: Global, path: &FilePath<'_>) -> Result<Name, AllocError>
+    requires { IsName (joined_path path.now) }
+    ensures { IfOk result (λ name. name ≡ joined_path path.now) }
+{
+    let bytes = path_bytes(alloc, path)?;
+    Name::of(alloc, &bytes)
+}
+
+/// The paths of claims as names, in their order.
+///
+/// # Errors
+///
+/// Out of memory.
+pub fn names_of_claims(alloc: Global, claims: &[Claim<'_>]) -> Result<Names, AllocError>
+    requires { HaveNames (map claim_seen claims.now) }
+    ensures { IfOk result (λ names. names ≡ map (λ c. c.path) (map claim_seen claims.now)) }
+{
+    let mut names = Names::new(alloc);
+    for claim in claims {
+        names.push(name_of_path(alloc, &claim.path)?)?;
+    }
+    Ok(names)
+}

@@ -1,5 +1,0 @@
-use Rattle.stage_run.proofs.Ways.{staging_leads}
-use Rattle.stage_run.proofs.staging.a_staging_run_is_a_stage_run.Goals as goal
-
-pub returns : goal.returns
-returns c = staging_leads

@@ -1,8 +1,0 @@
-use Rattle.stage_run.proofs.Asked.{asked_later, asked_same}
-use Rattle.stage_run.proofs.staging.runs_with_accepted_targets_begin_with_reads.Goals as goal
-
-pub returns-clause-same : goal.returns-clause-same
-returns-clause-same g c = asked_same g.T.Tree.accepts
-
-pub returns-clause-later : goal.returns-clause-later
-returns-clause-later g c = asked_later g.T.Tree.accepts

@@ -1,3 +1,0 @@
--- what the contract of `apk` says
-pub mod StageRun
-pub mod Asked
