@@ -16,7 +16,7 @@ use adb_schema::{Field, Kind, Which, fields_of, hash_word, objects_word, text_wo
 use adb_view::{Adb, Arr, Val, entry_word};
 
 /// The words of an object's entries, those past its fields too; NULL has none.
-#[tactic(auto, using(crate::proofs::WordReads::object_value_is, crate::proofs::WordReads::object_sound, adb_schema::proofs::adb_fields::FieldReads::object_runs, adb_schema::proofs::adb_fields::FieldReads::read_ok))]
+#[tactic(auto, using(crate::proofs::WordReads::object_value_is, crate::proofs::WordReads::object_sound, adb_fields::proofs::FieldReads::object_runs, adb_fields::proofs::FieldReads::read_ok))]
 pub(crate) fn field_words<'a>(adb: Adb<'a>, which: Which, word: Val) -> Arr<'a>
     requires { is_sound (payload_of adb) (Kinds.Obj which) word ≡ true }
     ensures sound { fields_sound (payload_of adb.entry) (table which) (array_entries result)

@@ -28,7 +28,7 @@ mod rules;
 mod text_walk;
 
 pub use adb_fields::{
-    FieldReads, FilePath, Kinded, List, View, field_word, hash_word, int_field, int_word,
+    FilePath, Kinded, List, View, field_word, hash_word, int_field, int_word,
     no_repeated_name_is_reported_if_there_is_none, objects_field, objects_word, text_word,
     texts_word,
 };

@@ -1,9 +1,10 @@
 -- The keys by which the writer keeps its locators in order: a fingerprint of an item, its kind, and its
 -- content. Serves the contracts of `src/item.rt`, `src/locator.rt` and `src/word_pages.rt`. How
 -- locators are stored is described in the README of this crate.
-use Rattle.std.specs.Prelude.{ℕ, ◌+◌, ◌-◌, ◌*◌, ◌/◌, ◌%◌, ◌^◌, List, [], ◌∷◌, length, get_or, map, reverse, Result, Ok, Err, nat_lt, if◌then◌else◌}
+use Rattle.std.specs.Prelude.{ℕ, ◌+◌, ◌-◌, ◌*◌, ◌/◌, ◌%◌, ◌^◌, List, [], ◌∷◌, length, get_or, map, reverse, take, drop, Result, Ok, Err, nat_le, nat_lt, if◌then◌else◌}
 use Rattle.std.specs.Ordering.{nat_cmp}
 use Rattle.std.specs.Cmp.Lexicographic.{slice_cmp}
+use Rattle.std.specs.Hash.FoldHasher.{initial, write, finish}
 use Rattle.std.specs.List.Sorted.{IsStrictlySortedBy}
 use Rattle.base_core.specs.declared.cause.Cause.{Cause}
 use Rattle.adb_view.specs.Readers.{kind_of, int_of, blob_of, run_of}
@@ -46,16 +47,19 @@ content_key_at payload word = kind_of word ∷ content_at (kind_of word) payload
 
 -- ---- the fingerprint of an item: it distinguishes most items, so that the payload is not read
 
--- the number in four bytes from index i on, the least significant first; bytes after the end count as 0
-abbrev pub four_bytes : List ℕ → ℕ → ℕ
-four_bytes bytes i =
-    get_or bytes i 0 + get_or bytes (i + 1) 0 * 2 ^ 8
-    + get_or bytes (i + 2) 0 * 2 ^ 16 + get_or bytes (i + 3) 0 * 2 ^ 24
+-- how many bytes of each end of a long blob are hashed; another number would serve as well
+abbrev pub END : ℕ
+END = 2048
 
--- the fingerprint of a blob: of its first four bytes, its last four, and its length; 31 only mixes the
--- two, and another factor would serve as well
+-- the hash of a blob, by std's hasher: of all of its bytes, or of the two ends of a long one
+unfoldable pub blob_hash : List ℕ → ℕ
+blob_hash b =
+    if nat_le (length b) (2 * END) then finish (write initial b)
+    else finish (write (write initial (take END b)) (drop (length b - END) b))
+
+-- the fingerprint of a blob: its hash plus its length; another function of its bytes would serve as well
 unfoldable pub blob_fingerprint : List ℕ → ℕ
-blob_fingerprint b = (four_bytes b 0 + 31 * four_bytes b (length b - 4) + length b) % 2 ^ 32
+blob_fingerprint b = (blob_hash b + length b) % 2 ^ 32
 
 -- the fingerprint of a list: its last word. Entries are written before their list, so a new list is
 -- near the last one

@@ -2,7 +2,7 @@
 //! layout of an item is in `docs/formats.md`, "Canonical layout" ("Values are written depth
 //! first"); that equal ones are stored once is stated below it. In the clauses `some`, `few` and
 //! `small` bound the returned number, and `kept` says that the bytes before the item are unchanged.
-ghost use Rattle.std.specs.Prelude.{◌≡◌, ◌≤◌, ◌<◌, ◌+◌, ◌-◌, ◌^◌, ◌++◌, get_or, length, replicate, reverse, take, OnOk, OnErr};
+ghost use Rattle.std.specs.Prelude.{◌≡◌, ◌≤◌, ◌<◌, ◌+◌, ◌-◌, ◌^◌, ◌++◌, length, replicate, reverse, take, OnOk, OnErr};
 ghost use Rattle.std.specs.List.{flat_map};
 ghost use Rattle.std.specs.Int.{w32, w64, to_le_bytes};
 ghost use Rattle.std.specs.Ordering.{nat_cmp};
@@ -13,13 +13,18 @@ ghost use Rattle.adb_view.specs.Gives.{Gives};
 ghost use Rattle.adb_view.specs.Readers.{run_of};
 ghost use Rattle.adb_view.specs.Visits.{or_empty};
 ghost use Rattle.adb_write.specs.Items.{width_len, list_kind, content_bytes, item_of};
-ghost use Rattle.adb_write.specs.Keys.{low_words, content_key_of, content_key_at, blob_fingerprint, fingerprint_of, four_bytes, key_at, key_with, list_fingerprint};
+ghost use Rattle.adb_write.specs.Keys.{low_words, content_key_of, content_key_at, blob_fingerprint, blob_hash, fingerprint_of, key_at, key_with, list_fingerprint};
 
 use crate::locator::{fingerprint_of_locator, word_of_locator};
 use adb_view::{Adb, Arr, Val};
 use base_core::Cause;
 use std::alloc::AllocError;
 use std::cmp::Ordering;
+use std::hash::{FoldHasher, Hasher};
+
+/// How many bytes of each end of a long blob are hashed; most texts of a package are shorter. The
+/// number does not change which items are found.
+const END: usize = 2048;
 
 /// The kinds of words that point to an item, by their top 4 bits, as in the table of
 /// `docs/formats.md`, "Values". The number in a name is how many bits the value or its length has.
@@ -250,39 +255,30 @@ impl Parts<'_> {
     }
 }
 
-/// The byte at an index, or 0 past the end.
-fn byte_at(bytes: &[u8], i: usize) -> u64
-    ensures value { result ≡ get_or bytes.now i 0 }
-    ensures small { result < 2 ^ 8 }
-{
-    match bytes.get(i) {
-        Some(byte) => *byte as u64,
-        None => 0,
-    }
-}
-
-/// The four bytes from an index on, the least first, with 0 for those past the end.
-fn four_bytes(bytes: &[u8], i: usize) -> u64
-    requires { i ≤ length bytes.now }
-    ensures value { result ≡ four_bytes bytes.now i }
-    ensures small { result < 2 ^ 32 }
-{
-    byte_at(bytes, i)
-        + byte_at(bytes, i + 1) * (1 << 8)
-        + byte_at(bytes, i + 2) * (1 << 16)
-        + byte_at(bytes, i + 3) * (1 << 24)
-}
-
-/// The fingerprint of a blob: of its first four bytes, its last four, and its length. The factor 31
-/// only mixes them; with any fingerprint equal items are found.
+/// The fingerprint of a blob: its hash plus its length. The length distinguishes long blobs with
+/// equal ends. With any fingerprint equal items are found.
 #[tactic(auto, unfolding(crate::specs::Keys::blob_fingerprint))]
 fn blob_fingerprint(bytes: &[u8]) -> u64
     ensures value { result ≡ blob_fingerprint bytes.now }
     ensures small { result < 2 ^ 32 }
 {
-    let front = four_bytes(bytes, 0);
-    let back = four_bytes(bytes, bytes.len().saturating_sub(4));
-    (front + 31 * back + bytes.len() as u64) % (1 << 32)
+    blob_hash(bytes).wrapping_add(bytes.len() as u64) % (1 << 32)
+}
+
+/// The hash of a blob. All bytes count, since names, versions and paths often differ only in the
+/// middle. Of a blob of more than 4,096 bytes only the ends count, so that the time is bounded.
+#[tactic(auto, unfolding(crate::specs::Keys::blob_hash))]
+fn blob_hash(bytes: &[u8]) -> u64
+    ensures { result ≡ blob_hash bytes.now }
+{
+    let mut hasher = FoldHasher::default();
+    if bytes.len() <= 2 * END {
+        hasher.write(bytes);
+        return hasher.finish();
+    }
+    hasher.write(&bytes[..END]);
+    hasher.write(&bytes[bytes.len() - END..]);
+    hasher.finish()
 }
 
 /// The fingerprint of a list: its last word.

@@ -16,7 +16,7 @@ mod package;
 mod path;
 mod scripts;
 
-pub use added_packages::{
+pub use arrivals::{
     Arrivals, a_package_that_was_read_is_that_of_its_file, members_of_change,
     packages_after_a_change_depend_on_their_reads, packages_that_were_read_are_those_found,
     read_arrivals,

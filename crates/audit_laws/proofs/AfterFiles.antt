@@ -11,7 +11,7 @@ use Rattle.root_laws.specs.change_files.FileChange.{FileChange, added_owner_list
 use Rattle.root_laws.specs.change_files.FilesAfter.{Records, changed_files, aside_claim_at, path_beside}
 use Rattle.root_laws.specs.change_files.Touched.{IsUsersFile, is_aside_name, is_record_name}
 use Rattle.root_laws.proofs.change_files.Coming.{takes_path}
-use Rattle.root_laws.proofs.change_files.Owned.{beside_is, claimed_by_owner, coming_is, nobody_beside}
+use Rattle.root_laws.proofs.change_files.OwnedFiles.{beside_is, claimed_by_owner, coming_is, nobody_beside}
 use Rattle.root_laws.proofs.change_files.Untouched.{stays_as_it_is, takes_its_path, users_file_is_spared}
 use Rattle.audit_core.specs.db_core.Members.{Listing, is_added}
 use Rattle.audit_core.specs.file_guard.AsListed.{is_as_listed}

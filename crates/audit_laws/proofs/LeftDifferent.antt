@@ -20,7 +20,7 @@ use Rattle.root_laws.specs.change_files.FileChange.{FileChange, added_owner_list
 use Rattle.root_laws.specs.change_files.FilesAfter.{Records, changed_files, listing_bytes}
 use Rattle.root_laws.specs.change_files.Touched.{is_record_name}
 use Rattle.root_laws.proofs.change_files.Lists.{IsOneOf, contains_from_one}
-use Rattle.root_laws.proofs.change_files.Owned.{coming_is}
+use Rattle.root_laws.proofs.change_files.OwnedFiles.{coming_is}
 use Rattle.root_laws.proofs.change_files.RecordNames.{database_after}
 use Rattle.root_laws.specs.change_inputs.Chains.{and_then, unless_cause}
 use Rattle.root_laws.specs.change_inputs.Database.{Database, container_database, database_by, root_database}

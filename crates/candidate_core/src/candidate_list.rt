@@ -109,7 +109,7 @@ impl<'a> CandidateList<'a> {
     }
 
     /// Appends the packages of an index; these are their words.
-    #[tactic(auto, using(adb_schema::proofs::adb_fields::FieldReads::entry_sound))]
+    #[tactic(auto, using(adb_fields::proofs::FieldReads::entry_sound))]
     pub fn push_all(&mut self, source: Source<'a>, packages: Arr<'a>) -> Result<(), PoolFault>
         requires list { IsCandidateList self.old }
         requires sound { are_all_sound (payload_of source.adb) (Kinds.Obj Tables.PkgInfo)

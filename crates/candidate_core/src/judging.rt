@@ -81,7 +81,7 @@ fn has_sound_entries(judged: &mut Judged<'_>, word: Val, field: usize) -> Result
 }
 
 // Whether each of some words is that of a dependency.
-#[tactic(auto, using(adb_schema::proofs::adb_fields::FieldReads::entry_sound))]
+#[tactic(auto, using(adb_fields::proofs::FieldReads::entry_sound))]
 fn are_dependencies<'a>(judged: &mut Judged<'a>, words: Arr<'a>) -> Result<bool, AllocError>
     requires { are_all_sound (payload_of judged.old.adb) (Kinds.Obj Tables.Dep)
         (array_entries words) ≡ true }

@@ -14,7 +14,7 @@ use Rattle.change_files.specs.FilesAfter.{Records, bytes_after, changed_files, d
 use Rattle.change_files.specs.NamesAfter.{added_paths, is_released, counts_as_written, name_change}
 use Rattle.change_files.specs.Touched.{is_record_name}
 use Rattle.change_files.proofs.Lists.{any_name}
-use Rattle.change_files.proofs.Owned.{in_coming_paths, is_beside, written_is}
+use Rattle.change_files.proofs.OwnedFiles.{in_coming_paths, is_beside, written_is}
 use Rattle.change_files.proofs.Untouched.{changed_so, is_gone}
 
 -- ---- what counts as written

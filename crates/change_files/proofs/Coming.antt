@@ -14,7 +14,7 @@ use Rattle.change_files.specs.FileChange.{FileChange, added_owner_listing, is_cl
 use Rattle.change_files.specs.FilesAfter.{if_aside, if_in, aside_claim_at, path_beside, written_as}
 use Rattle.std.specs.Option.{option_or}
 use Rattle.change_files.specs.Touched.{IsNewEntry, IsUsersFile}
-use Rattle.change_files.proofs.Owned.{aside_found, claimed_by_owner, coming_is, is_beside, nobody_beside}
+use Rattle.change_files.proofs.OwnedFiles.{aside_found, claimed_by_owner, coming_is, is_beside, nobody_beside}
 use Rattle.change_files.proofs.Untouched.{users_fate}
 
 -- ---- it goes in

@@ -12,7 +12,7 @@ use Rattle.change_files.specs.Fate.{is_guarded}
 use Rattle.change_files.specs.FileChange.{FileChange, old_entry, old_listings}
 use Rattle.change_files.specs.FilesAfter.{is_changed, is_kept, is_no_longer_listed, is_removed, may_be_kept}
 use Rattle.change_files.specs.Touched.{IsUsersFile}
-use Rattle.change_files.proofs.Owned.{claimed_by_owner, coming_is, in_old_paths}
+use Rattle.change_files.proofs.OwnedFiles.{claimed_by_owner, coming_is, in_old_paths}
 use Rattle.change_files.proofs.Untouched.{IsLeftOver, kept_is, left_over_is, removed_is}
 
 -- what may stay is the user's file, and is not to be purged

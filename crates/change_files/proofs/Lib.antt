@@ -8,7 +8,7 @@ pub mod Coming
 pub mod InOrder
 pub mod LeftOver
 pub mod Lists
-pub mod Owned
+pub mod OwnedFiles
 pub mod PlanNames
 pub mod RecordNames
 pub mod Reserved

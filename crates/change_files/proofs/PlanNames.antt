@@ -15,7 +15,7 @@ use Rattle.change_files.specs.PlanLists.{FileWrite, aside_of, file_writes_of, ke
 use Rattle.change_files.specs.Touched.{IsWriteOf}
 use Rattle.change_files.proofs.InOrder.{filter_rises, from_filter, in_filter, in_left, in_map, in_order, in_right, order_rises}
 use Rattle.change_files.proofs.Lists.{IsOneOf, any_is, contains_from_one, one_from_contains}
-use Rattle.change_files.proofs.Owned.{aside_found, in_coming_paths, in_old_paths, written_is}
+use Rattle.change_files.proofs.OwnedFiles.{aside_found, in_coming_paths, in_old_paths, written_is}
 use Rattle.change_files.proofs.Untouched.{kept_is, removed_is}
 
 -- ---- what is written

@@ -17,7 +17,7 @@ use Rattle.change_files.specs.NamesAfter.{added_paths}
 use Rattle.change_files.specs.PlanLists.{first_reserved}
 use Rattle.change_files.specs.Touched.{is_record_name}
 use Rattle.change_files.proofs.InOrder.{in_filter}
-use Rattle.change_files.proofs.Owned.{in_coming_paths, written_is}
+use Rattle.change_files.proofs.OwnedFiles.{in_coming_paths, written_is}
 
 -- ---- paths
 

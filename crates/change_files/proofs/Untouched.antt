@@ -13,7 +13,7 @@ use Rattle.change_files.specs.FilesAfter.{Records, bytes_after, changed_files, d
 use Rattle.change_files.specs.NamesAfter.{added_paths}
 use Rattle.change_files.specs.Touched.{IsUsersFile, is_aside_name, is_added_path, is_record_name}
 use Rattle.change_files.proofs.Lists.{any_name}
-use Rattle.change_files.proofs.Owned.{beside_is, claimed_by_owner, coming_is, in_coming_paths, nobody_beside, not_written, owner_is, owner_stays}
+use Rattle.change_files.proofs.OwnedFiles.{beside_is, claimed_by_owner, coming_is, in_coming_paths, nobody_beside, not_written, owner_is, owner_stays}
 
 -- ---- the bytes under a name
 

@@ -166,7 +166,7 @@ pub(crate) fn test_file(alloc: Global, file: &[u8], which: Which) -> Result<(), 
 }
 
 /// The payload of a file that passed its tests.
-#[tactic(auto, unfolding(db_core::specs::adb_schema::Soundness::first_fault, db_core::specs::adb_schema::Soundness::payload_in))]
+#[tactic(auto, unfolding(adb_schema::specs::Soundness::first_fault, adb_schema::specs::Soundness::payload_in))]
 pub(crate) fn payload_in(file: &[u8]) -> &[u8]
     requires { (which : Which) × (first_fault which file.now ≡ None) }
     ensures { result.now ≡ payload_in file.now }

@@ -11,7 +11,7 @@ use Rattle.package_changes.specs.change_files.FileChange.{FileChange}
 use Rattle.package_changes.specs.change_files.FilesAfter.{database_name, aside_claim_at, path_beside, world_name}
 use Rattle.package_changes.specs.change_files.NamesAfter.{added_paths, counts_as_written, name_change}
 use Rattle.package_changes.proofs.change_files.InOrder.{in_left, in_map, in_right}
-use Rattle.package_changes.proofs.change_files.Owned.{aside_found, beside_is, in_coming_paths}
+use Rattle.package_changes.proofs.change_files.OwnedFiles.{aside_found, beside_is, in_coming_paths}
 use Rattle.db_write.specs.db_core.Members.{Listing}
 use Rattle.package_changes.specs.path_clashes.Clash.{IsClash, NameChange, NamePair, is_name_after, precedes_pair}
 use Rattle.package_changes.specs.path_clashes.FirstClash.{IsClashOf}

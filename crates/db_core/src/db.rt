@@ -184,7 +184,7 @@ pub(crate) fn package_of_database<'a>(idb: &Option<IdbView<'a>>, i: usize) -> Pa
 }
 
 /// The payload of the first block of a database file that passes all tests.
-#[tactic(auto, unfolding(pkg_core::specs::adb_schema::Soundness::first_fault, pkg_core::specs::adb_schema::Soundness::payload_in))]
+#[tactic(auto, unfolding(adb_schema::specs::Soundness::first_fault, adb_schema::specs::Soundness::payload_in))]
 fn first_payload(bytes: &[u8]) -> &[u8]
     requires { first_fault Tables.Idb bytes.now ≡ None }
     ensures { result.now ≡ payload_in bytes.entry.now }

@@ -19,6 +19,6 @@ pub use members::{MOST_MEMBERS, Members, listings_are_at_their_places};
 pub use owned::Owned;
 pub use pkg_core::{
     Contents, DepView, DirInfo, FileInfo, FilePath, Front, FrontFault, IdbView, IndexView, List,
-    PACKAGE_WORD, PIECE_LEN, PackageFault, PackageView, PkgInfo, ReadFault, Soundness, View, Which,
-    read_adb, read_front,
+    PACKAGE_WORD, PIECE_LEN, PackageFault, PackageView, PkgInfo, ReadFault, View, Which, read_adb,
+    read_front,
 };

@@ -13,7 +13,7 @@ use Rattle.change_report.specs.change_files.FilesAfter.{Records, changed_files, 
 use Rattle.change_report.specs.change_files.PlanLists.{FileWrite, file_writes_of, write_to}
 use Rattle.change_report.specs.change_files.Touched.{is_record_name}
 use Rattle.change_report.proofs.change_files.Lists.{IsOneOf}
-use Rattle.change_report.proofs.change_files.Owned.{coming_is, written_is}
+use Rattle.change_report.proofs.change_files.OwnedFiles.{coming_is, written_is}
 use Rattle.change_report.proofs.change_files.PlanNames.{writes_are}
 use Rattle.change_report.proofs.change_files.RecordNames.{database_after}
 use Rattle.change_report.proofs.change_files.Reserved.{records_reserved}

@@ -11,9 +11,9 @@ mod rank;
 mod version_ranks;
 
 pub use candidate_core::{
-    Anyone, CandId, Candidate, CandidateList, Deps, Details, IndexView, KnownMatches,
-    MOST_CANDIDATES, Need, NeedRef, Options, PackageDep, PackageMatches, Packages, PkgInfo,
-    PoolFault, RankedVersion, Source, Table, Upgrade, entries_keep_the_rule_of_their_list, is_long,
+    CandId, Candidate, CandidateList, Deps, Details, IndexView, KnownMatches, MOST_CANDIDATES,
+    Need, NeedRef, Options, PackageDep, PackageMatches, Packages, PkgInfo, PoolFault,
+    RankedVersion, Source, Table, Upgrade, entries_keep_the_rule_of_their_list, is_long,
     objects_field,
 };
 pub use rank::{RankedOption, VersionKey};

@@ -18,7 +18,7 @@ use Rattle.change_files.specs.PlanLists.{FileWrite, file_writes_of, first_reserv
 use Rattle.change_files.specs.Touched.{IsWriteOf}
 use Rattle.change_files.proofs.LeftOver.{removed_unreserved}
 use Rattle.change_files.proofs.Lists.{IsOneOf, contains_from_one}
-use Rattle.change_files.proofs.Owned.{aside_found, coming_listed, in_old_paths, written_is}
+use Rattle.change_files.proofs.OwnedFiles.{aside_found, coming_listed, in_old_paths, written_is}
 use Rattle.change_files.proofs.PlanNames.{removals_hold, removals_rise, writes_are, writes_hold, writes_rise, written_or_removed}
 use Rattle.change_files.proofs.Reserved.{written_unreserved}
 use Rattle.change_files.proofs.Untouched.{removed_is}

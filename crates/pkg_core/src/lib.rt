@@ -43,7 +43,7 @@ mod walk;
 
 pub use adb_schema::{
     DepView, DirInfo, FileInfo, FilePath, IDB_WORD, INDEX_WORD, INTENT_WORD, IdbView, IndexView,
-    List, PACKAGE_WORD, PackageView, PkgInfo, ReadFault, ScriptsView, Soundness, View, Which,
+    List, PACKAGE_WORD, PackageView, PkgInfo, ReadFault, ScriptsView, View, Which,
     is_reserved_file, no_repeated_name_is_reported_if_there_is_none,
     no_text_is_bad_where_each_keeps_its_rule, read_adb, sound_containers_hold_sound_values,
     the_first_bad_text_is_reported,

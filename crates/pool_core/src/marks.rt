@@ -278,7 +278,7 @@ fn is_allowed(one: &Details<'_>, tagged: &[Dep<'_>]) -> bool
 }
 
 // Whether one of some entries of world has this tag.
-#[tactic(auto, using(option_ranks::proofs::candidate_core::Anyone::any_map))]
+#[tactic(auto, using(candidate_core::proofs::Anyone::any_map))]
 fn uses_tag(tagged: &[Dep<'_>], tag: &[u8]) -> bool
     ensures { result ≡ uses_tag (map dependency tagged.now) tag.now }
 {

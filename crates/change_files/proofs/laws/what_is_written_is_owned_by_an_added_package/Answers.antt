@@ -1,4 +1,4 @@
-use Rattle.change_files.proofs.Owned.{coming_listed, written_under}
+use Rattle.change_files.proofs.OwnedFiles.{coming_listed, written_under}
 use Rattle.change_files.proofs.laws.what_is_written_is_owned_by_an_added_package.Goals as goal
 
 pub returns-clause-owner : goal.returns-clause-owner
