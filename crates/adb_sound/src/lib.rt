@@ -85,12 +85,3 @@ pub fn what_a_container_is_made_of_is_read_back()
     a_canonical_payload_is_visited_once();
     values_of_few_visits_have_no_fault();
 }
-
-pub use adb_write::{
-    WriteFault, a_file_is_spelled, a_value_overflows_exactly_past_a_limit, file_of,
-};
-pub use pkg_core::{
-    IDB_WORD, INTENT_WORD, List, PACKAGE_WORD, PackageView, ReadFault, Which,
-    no_repeated_name_is_reported_if_there_is_none, no_text_is_bad_where_each_keeps_its_rule,
-    read_adb, sound_containers_hold_sound_values,
-};

@@ -30,7 +30,8 @@ use Rattle.change_outcome.specs.v2_core.Database.{listed_access_value, listed_fi
 use Rattle.change_outcome.specs.v2_core.Records.{ListedFile}
 use Rattle.adb_view.specs.Plain.{blob_or_null}
 use Rattle.answer_laws.specs.TextLetters.{IsOfOtherLetter, listed_letters}
-use Rattle.answer_laws.proofs.RecordFields.{as_list, in_info, of_info, package_parts}
+use Rattle.make_laws.proofs.make_core.PackageFiles.{list-plains}
+use Rattle.answer_laws.proofs.RecordFields.{in_info, of_info, package_parts}
 
 -- ---- a listed letter
 
@@ -194,4 +195,4 @@ pub packages_are : (records : List Record) → entries_named Idb (codes "package
 packages_are records =
     ap (λ (v : Plain). list_of (entries_in v)) (nth_obj (plains_of_list (array_of (map record_value records) ∷ [])) 0)
     ∙ ap list_of (entries_arr (plains_of_list (map record_value records)))
-    ∙ as_list (map record_value records)
+    ∙ list-plains (map record_value records)

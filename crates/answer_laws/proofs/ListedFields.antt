@@ -7,6 +7,7 @@ use Rattle.adb_view.specs.Plain.{Plain, Plains, blob_or_null, int}
 use Rattle.adb_view.specs.Values.{entries_in}
 use Rattle.adb_view.specs.declared.tables.Which.TheVariants.{Acl, Dir, File, Package}
 use Rattle.change_outcome.specs.make_info.Values.{plains_of_list}
+use Rattle.make_laws.proofs.make_core.PackageFiles.{list-plains}
 use Rattle.make_laws.specs.NamedFields.{entries_named, field_named}
 use Rattle.change_outcome.specs.v2_core.Database.{array_of, listed_access_value, listed_file_value, listed_folder_value, listed_hash_value, record_value}
 use Rattle.change_outcome.specs.v2_core.Records.{ListedFile, ListedFolder, Record}
@@ -15,7 +16,7 @@ use Rattle.change_outcome.specs.v2_lines.InfoValues.{sha1_of}
 use Rattle.change_outcome.specs.v2_lines.Lines.{file_access_line, file_hash_line, file_line_of, folder_access_line, folder_line_of, record_line_by, record_line_of}
 use Rattle.answer_laws.specs.TextLetters.{letter_line}
 use Rattle.answer_laws.proofs.DroppedLines.{file_parts}
-use Rattle.answer_laws.proofs.RecordFields.{as_list, package_parts}
+use Rattle.answer_laws.proofs.RecordFields.{package_parts}
 
 -- ---- letters
 
@@ -49,7 +50,7 @@ abbrev access_parts : Access → Plains
 access_parts a = plains_of_list (int a.mode ∷ blob_or_null a.user ∷ blob_or_null a.group ∷ [])
 
 entries_are : (v : Plain) (vs : List Plain) → v ≡ array_of vs → list_of (entries_in v) ≡ vs
-entries_are v vs e = ap (λ (u : Plain). list_of (entries_in u)) e ∙ ap list_of (entries_arr (plains_of_list vs)) ∙ as_list vs
+entries_are v vs e = ap (λ (u : Plain). list_of (entries_in u)) e ∙ ap list_of (entries_arr (plains_of_list vs)) ∙ list-plains vs
 
 pub folders_are : (r : Record) → entries_named Package (codes "paths") (record_value r) ≡ map listed_folder_value r.folders
 folders_are r = entries_are _ (map listed_folder_value r.folders) (nth_obj (package_parts r) 1)

@@ -14,6 +14,7 @@ use Rattle.dep_core.specs.Spelling.{SpellsDependency}
 use Rattle.change_outcome.specs.make_info.Fields.{FieldValue}
 use Rattle.change_outcome.specs.make_info.Information.{plain_value}
 use Rattle.change_outcome.specs.make_info.Values.{plains_of_list}
+use Rattle.make_laws.proofs.make_core.PackageFiles.{list-plains}
 use Rattle.make_laws.specs.SaidOfFields.{HasAllValues, HasValuesAsList, HasFirstValue}
 use Rattle.change_outcome.specs.v2_lines.InfoFields.{adds_to_list, field_of_letter, letter_of}
 use Rattle.change_outcome.specs.v2_lines.Lines.{RecordLine, info_line, folder_line, folder_access_line, file_line, file_access_line, file_hash_line, other_line, record_line_of}
@@ -249,15 +250,11 @@ tells_single : (f : InfoField) (info : List InfoLine) (v : Plain) → v ≡ sing
 unfolding Tells
 tells_single f info v e tells = subst (HasFirstValue (values_of f info)) (sym e) tells
 
-pub as_list : (vs : List Plain) → list_of (plains_of_list vs) ≡ vs
-as_list [] = refl
-as_list (v ∷ vs) = ap (λ (l : List Plain). v ∷ l) (as_list vs)
-
 tells_joined : (f : InfoField) (info : List InfoLine) (v : Plain) → v ≡ joined_value f info → HasAllValues (values_of f info) v
 tells_joined f info v e =
     ap (λ (u : Plain). list_of (entries_in u)) e
     ∙ ap list_of (entries_arr (plains_of_list (map plain_value (values_of f info))))
-    ∙ as_list (map plain_value (values_of f info))
+    ∙ list-plains (map plain_value (values_of f info))
 
 package_tells : (f : InfoField) (r : Record) → (adds_to_list f ≡ false → Tells f r.info) → HasValuesAsList (is_list_letter f) (values_of f r.info) (letter_value_in_package f (record_value r))
 package_tells Letters.Hashes r tells = tells_single Letters.Hashes r.info _ (of_info r (codes "hashes") _ (in_info r.info 2)) (tells refl)

@@ -6,7 +6,6 @@ use Rattle.std.proofs.lemmas.Bool.{false≢true}
 use Rattle.adb_dump.specs.adb_schema.Reserved.{is_reserved}
 use Rattle.base_core.specs.Calls.{IfObservable}
 use Rattle.base_core.specs.Files.{Files, no_names}
-use Rattle.base_core.specs.Listed.{IsNamesOf}
 use Rattle.base_core.specs.Tree.{TreeState, files_of}
 use Rattle.make_core.specs.make_info.Information.{information}
 use Rattle.make_core.specs.make_index.Index.{made_index}
@@ -21,13 +20,12 @@ use Rattle.make_core.specs.make_info.declared.fault.MakeFault.{MakeFault}
 use Rattle.command_core.specs.declared.values.TheConstants.{FILES}
 use Rattle.outcome.specs.Commands.{reads_in}
 use Rattle.outcome.specs.Effect.{Makes}
-use Rattle.outcome.specs.Make.{IsListing, files_below, index_line, make_outcome, mkndx, mkpkg, unless_reserved}
+use Rattle.outcome.specs.Make.{index_line, make_outcome, mkndx, mkpkg, unless_reserved}
+use Rattle.outcome.proofs.Existing.{HaveOneList, listing_one}
 use Rattle.outcome.specs.Outcome.{Outcome, just_refusal}
 use Rattle.report_core.specs.declared.refusal.Refusal.{Refusal}
 use Rattle.report_core.specs.declared.refusal.Refusal.TheVariants.{Reserved, ResultTooLarge}
 use Rattle.command_core.specs.Command.{CommandLine}
-use Rattle.command_core.specs.Files.{without_dot}
-use Rattle.command_core.specs.declared.values.OptionValue.{OptionValue}
 use Rattle.apk_front.specs.Moments.{CanAddOutputNamesIfAny}
 use Rattle.apk_front.specs.Runs.{IsRun}
 use Rattle.apk_front.specs.Containers.{IsIndexMade, IsIndexFound, IsIndexOutcome, IsPackageMade, IsPackageOutcome, OnMade, is_disk_or_memory, ended_by_disk_or_memory, made_in}
@@ -211,13 +209,6 @@ module _ (Means : TreeState → Result (List ℕ) MakeFault → Type 0) (IsOne :
 
 -- ---- of a package
 
-abbrev pub HaveOneList : Type 0
-HaveOneList = (files : Files) (a b : List (List ℕ)) → IsNamesOf files a → IsNamesOf files b → a ≡ b
-
-one_below : HaveOneList → (values : List OptionValue) (files : Files) (a b : List (List ℕ)) → IsListing values files a → IsListing values files b → a ≡ b
-one_below one [] files a b x y = x ∙ sym y
-one_below one (dir ∷ dirs) files a b x y = one (files_below (without_dot dir.text) files) a b x y
-
 pub package_outcomes : HaveOneList → (command : CommandLine) (report : List ℕ) → report ≡ [] → AreOutcomes (λ v. IsPackageMade command (files_of v)) (λ v. IsPackageOutcome command (files_of v)) (output_name command) report
 package_outcomes one command report none = record {
   one = λ v answer m. (
@@ -228,7 +219,7 @@ package_outcomes one command report none = record {
   only = λ v answer m o (names, listed, is).
       is
       ∙ ap (λ r. make_outcome (files_of v) (output_name command) r (made_package command names (reads_in (files_of v)))) (sym none)
-      ∙ ap (λ ns. make_outcome (files_of v) (output_name command) report (made_package command ns (reads_in (files_of v)))) (one_below one (values_with FILES command.values) (files_of v) names m.names listed m.listing)
+      ∙ ap (λ ns. make_outcome (files_of v) (output_name command) report (made_package command ns (reads_in (files_of v)))) (listing_one one (values_with FILES command.values) (files_of v) names m.names listed m.listing)
       ∙ ap (make_outcome (files_of v) (output_name command) report) m.is;
 }
 

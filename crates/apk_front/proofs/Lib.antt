@@ -1,4 +1,5 @@
 -- passed on: a crate above that names this one need not name these
+pub use Rattle.file_replacement.proofs as file_replacement
 pub use Rattle.journal_core.proofs as journal_core
 pub use Rattle.journal_core.proofs.journal_intent as journal_intent
 pub use Rattle.outcome.proofs as outcome

@@ -16,16 +16,14 @@ ghost use Rattle.command_core.specs.Named.{are_files};
 ghost use Rattle.make_core.specs.make_info.Reads.{Reads};
 ghost use Rattle.outcome.specs.Commands.{reads_in};
 ghost use Rattle.outcome.specs.Dump.{adbdump, dump_of, dump_of_blocks, dump_outcome, form_fault, framing_fault};
-ghost use Rattle.pkg_core.specs.Whole.{root_of_schema};
 
 use crate::answer::Verdict;
 use adb_block::Blocks;
-use adb_dump::{
-    IDB_WORD, INDEX_WORD, INTENT_WORD, PACKAGE_WORD, ReadFault, Shaped, Which, dump, shape,
-};
+use adb_dump::{ReadFault, Shaped, Which, dump, shape};
 use adb_view::Adb;
 use base_core::{Cause, Text, Tree, TreeFault, read_all};
 use command_core::Operands;
+use pkg_core::root_of_schema;
 use report_core::Refusal;
 use std::alloc::{AllocError, Global};
 
@@ -81,19 +79,6 @@ fn text_of(alloc: Global, bytes: &[u8]) -> Result<Text, ReadFault>
     match root_of_schema(found) {
         Some(which) => text_of_blocks(alloc, &mut blocks, which),
         None => Err(ReadFault::Bad(Cause::WrongSchema { found })),
-    }
-}
-
-// The table at the root of a container with this schema (`docs/formats.md`, "Schemas").
-fn root_of_schema(schema: u32) -> Option<Which>
-    ensures { result ≡ root_of_schema schema }
-{
-    match schema {
-        PACKAGE_WORD => Some(Which::Package),
-        INDEX_WORD => Some(Which::Index),
-        IDB_WORD => Some(Which::Idb),
-        INTENT_WORD => Some(Which::Intent),
-        _ => None,
     }
 }
 

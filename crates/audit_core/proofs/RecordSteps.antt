@@ -5,10 +5,9 @@ use Rattle.std.specs.List.{flat_map}
 use Rattle.std.proofs.lemmas.Grind.{flat_map-append}
 use Rattle.std.proofs.lemmas.List.{map-append, take_all}
 use Rattle.adb_view.specs.Plain.{Plains}
-use Rattle.adb_view.specs.Values.{count_of, nth}
+use Rattle.adb_view.specs.Values.{count_of}
 use Rattle.path_clashes.specs.adb_fields.Repeated.{list_of}
 use Rattle.path_clashes.proofs.adb_fields.NameLists.{count-listed}
-use Rattle.db_core.proofs.Places.{nth_listed}
 
 pub at_place : {X : Type 0} (xs : List X) (i : ℕ) → i < length xs → (x : X) × (slice_get xs i ≡ Some x)
 at_place [] i h = absurd (omega arith)
@@ -53,9 +52,6 @@ pub all_taken : {X : Type 0} (xs : List X) (i : ℕ) → length xs ≤ i → tak
 all_taken xs i l = take_all i xs l
 
 -- ---- the values of an array
-
-pub value_at : (vs : Plains) (i : ℕ) → i < count_of vs → slice_get (list_of vs) i ≡ Some (nth vs i)
-value_at = nth_listed
 
 pub all_values_taken : (vs : Plains) (i : ℕ) → count_of vs ≤ i → take i (list_of vs) ≡ list_of vs
 all_values_taken vs i l =

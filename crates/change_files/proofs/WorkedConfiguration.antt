@@ -4,7 +4,7 @@ use Rattle.adb_view.specs.Plain.{Plain}
 use Rattle.base_core.specs.Files.{Files, no_names}
 use Rattle.file_owners.specs.db_core.Members.{claims_of, member_of_added, member_listings}
 use Rattle.file_owners.specs.path_claims.Contest.{winner}
-use Rattle.file_owners.specs.Owners.{owner_of_path}
+use Rattle.file_owners.specs.Owners.{claims_in, owner_of_path}
 use Rattle.file_guard.specs.AsListed.{do_entries_agree, is_as_listed_by}
 use Rattle.change_files.specs.Fate.{fate_of, is_guarded}
 use Rattle.change_files.specs.FileChange.{FileChange, is_claimed, old_entry, old_listings, owner_listing}
@@ -35,34 +35,34 @@ upgrade = record { old = c (codes "1") ∷ []; members = member_of_added (c (cod
 
 -- the user's file stays, and the new one lies beside it
 aside : aside_of upgrade changed ≡ conf ∷ []
-unfolding member_listings claims_of owner_of_path winner old_listings old_entry is_claimed owner_listing is_as_listed_by do_entries_agree fate_of written_as names_in_order aside_of
+unfolding member_listings claims_of owner_of_path claims_in winner old_listings old_entry is_claimed owner_listing is_as_listed_by do_entries_agree fate_of written_as names_in_order aside_of
 aside = refl
 
 aside_write : file_writes_of upgrade changed ≡ record { name = codes "etc/c.conf.apk-new"; member = 0; folder = 1; file = 1 } ∷ []
-unfolding member_listings claims_of owner_of_path winner old_listings old_entry is_claimed owner_listing is_as_listed_by do_entries_agree fate_of written_as names_in_order file_writes_of
+unfolding member_listings claims_of owner_of_path claims_in winner old_listings old_entry is_claimed owner_listing is_as_listed_by do_entries_agree fate_of written_as names_in_order file_writes_of
 aside_write = refl
 
 own_file : changed_files upgrade new_bytes records changed conf ≡ Some (codes "x")
-unfolding member_listings claims_of owner_of_path winner old_listings old_entry is_claimed owner_listing is_as_listed_by do_entries_agree fate_of written_as is_removed changed_files
+unfolding member_listings claims_of owner_of_path claims_in winner old_listings old_entry is_claimed owner_listing is_as_listed_by do_entries_agree fate_of written_as is_removed changed_files
 own_file = refl
 
 file_beside : changed_files upgrade new_bytes records changed (codes "etc/c.conf.apk-new") ≡ Some (codes "new")
-unfolding member_listings claims_of owner_of_path winner old_listings old_entry is_claimed owner_listing is_as_listed_by do_entries_agree fate_of written_as is_removed changed_files
+unfolding member_listings claims_of owner_of_path claims_in winner old_listings old_entry is_claimed owner_listing is_as_listed_by do_entries_agree fate_of written_as is_removed changed_files
 file_beside = refl
 
 -- also where configuration is to be purged: a package lists it
 purged_upgrade : aside_of (record { old = c (codes "1") ∷ []; members = member_of_added (c (codes "2")) [] ∷ []; purge = true }) changed ≡ conf ∷ []
-unfolding member_listings claims_of owner_of_path winner old_listings old_entry is_claimed owner_listing is_as_listed_by do_entries_agree fate_of written_as names_in_order aside_of
+unfolding member_listings claims_of owner_of_path claims_in winner old_listings old_entry is_claimed owner_listing is_as_listed_by do_entries_agree fate_of written_as names_in_order aside_of
 purged_upgrade = refl
 
 -- unchanged: it is replaced
 replaced : file_writes_of upgrade unchanged ≡ record { name = conf; member = 0; folder = 1; file = 1 } ∷ []
-unfolding member_listings claims_of owner_of_path winner old_listings old_entry is_claimed owner_listing is_as_listed_by do_entries_agree fate_of written_as names_in_order file_writes_of
+unfolding member_listings claims_of owner_of_path claims_in winner old_listings old_entry is_claimed owner_listing is_as_listed_by do_entries_agree fate_of written_as names_in_order file_writes_of
 replaced = refl
 
 -- as the new entry lists it: it is replaced too, and nothing is laid beside it
 as_new : file_writes_of upgrade (with_file conf (codes "!<symlink>2")) ≡ record { name = conf; member = 0; folder = 1; file = 1 } ∷ []
-unfolding member_listings claims_of owner_of_path winner old_listings old_entry is_claimed owner_listing is_as_listed_by do_entries_agree fate_of written_as names_in_order file_writes_of
+unfolding member_listings claims_of owner_of_path claims_in winner old_listings old_entry is_claimed owner_listing is_as_listed_by do_entries_agree fate_of written_as names_in_order file_writes_of
 as_new = refl
 
 -- ---- nobody listed the path before
@@ -72,11 +72,11 @@ fresh = record { old = []; members = member_of_added (c (codes "2")) [] ∷ []; 
 
 -- what stands there is the user's
 fresh_aside : aside_of fresh changed ≡ conf ∷ []
-unfolding member_listings claims_of owner_of_path winner old_listings old_entry is_claimed owner_listing is_as_listed_by do_entries_agree fate_of written_as names_in_order aside_of
+unfolding member_listings claims_of owner_of_path claims_in winner old_listings old_entry is_claimed owner_listing is_as_listed_by do_entries_agree fate_of written_as names_in_order aside_of
 fresh_aside = refl
 
 fresh_write : file_writes_of fresh no_names ≡ record { name = conf; member = 0; folder = 1; file = 1 } ∷ []
-unfolding member_listings claims_of owner_of_path winner old_listings old_entry is_claimed owner_listing is_as_listed_by do_entries_agree fate_of written_as names_in_order file_writes_of
+unfolding member_listings claims_of owner_of_path claims_in winner old_listings old_entry is_claimed owner_listing is_as_listed_by do_entries_agree fate_of written_as names_in_order file_writes_of
 fresh_write = refl
 
 -- ---- what is configuration
@@ -96,24 +96,24 @@ abbrev removal : Bool → FileChange
 removal purge = record { old = c (codes "2") ∷ []; members = []; purge = purge }
 
 kept : kept_of (removal false) changed ≡ conf ∷ []
-unfolding member_listings claims_of owner_of_path winner old_listings old_entry is_claimed owner_listing is_as_listed_by fate_of written_as names_in_order is_kept kept_of
+unfolding member_listings claims_of owner_of_path claims_in winner old_listings old_entry is_claimed owner_listing is_as_listed_by fate_of written_as names_in_order is_kept kept_of
 kept = refl
 
 not_removed : removals_of (removal false) changed ≡ []
-unfolding member_listings claims_of owner_of_path winner old_listings old_entry is_claimed owner_listing is_as_listed_by fate_of written_as names_in_order is_removed removals_of
+unfolding member_listings claims_of owner_of_path claims_in winner old_listings old_entry is_claimed owner_listing is_as_listed_by fate_of written_as names_in_order is_removed removals_of
 not_removed = refl
 
 purged : removals_of (removal true) changed ≡ conf ∷ []
-unfolding member_listings claims_of owner_of_path winner old_listings old_entry is_claimed owner_listing is_as_listed_by fate_of written_as names_in_order is_removed removals_of
+unfolding member_listings claims_of owner_of_path claims_in winner old_listings old_entry is_claimed owner_listing is_as_listed_by fate_of written_as names_in_order is_removed removals_of
 purged = refl
 
 -- no file stands there: it is removed all the same, and nothing is kept
 absent_removed : removals_of (removal false) no_names ≡ conf ∷ []
-unfolding member_listings claims_of owner_of_path winner old_listings old_entry is_claimed owner_listing is_as_listed_by fate_of written_as names_in_order is_removed removals_of
+unfolding member_listings claims_of owner_of_path claims_in winner old_listings old_entry is_claimed owner_listing is_as_listed_by fate_of written_as names_in_order is_removed removals_of
 absent_removed = refl
 
 absent_kept : kept_of (removal false) no_names ≡ []
-unfolding member_listings claims_of owner_of_path winner old_listings old_entry is_claimed owner_listing is_as_listed_by fate_of written_as names_in_order is_kept kept_of
+unfolding member_listings claims_of owner_of_path claims_in winner old_listings old_entry is_claimed owner_listing is_as_listed_by fate_of written_as names_in_order is_kept kept_of
 absent_kept = refl
 
 -- ---- the same version comes once more: nothing is new
@@ -122,5 +122,5 @@ abbrev reinstall : FileChange
 reinstall = record { old = c (codes "2") ∷ []; members = member_of_added (c (codes "2")) [] ∷ []; purge = false }
 
 nothing_new : file_writes_of reinstall changed ≡ []
-unfolding member_listings claims_of owner_of_path winner old_listings old_entry is_claimed owner_listing is_as_listed_by do_entries_agree fate_of written_as names_in_order file_writes_of
+unfolding member_listings claims_of owner_of_path claims_in winner old_listings old_entry is_claimed owner_listing is_as_listed_by do_entries_agree fate_of written_as names_in_order file_writes_of
 nothing_new = refl

@@ -17,8 +17,9 @@ use Rattle.package_changes.proofs.change_files.Lists.{any_name}
 use Rattle.package_changes.proofs.change_files.PlanNames.{removals_hold, written_or_removed, writes_hold, some_listing}
 use Rattle.package_changes.proofs.change_files.Reserved.{written_unreserved}
 use Rattle.change_inputs.specs.Inputs.{Inputs}
-use Rattle.change_outcome.specs.ChangeOutcome.{Actions, actions_of, is_other_file, name_if_needed, written_records}
+use Rattle.change_outcome.specs.ChangeOutcome.{actions_of, is_other_file, name_if_needed, written_records}
 use Rattle.journal_core.specs.journal_intent.FreeNames.{HasFreeNames, IsNoneOf, IsOneOf}
+use Rattle.journal_core.specs.journal_intent.Intent.{Intent}
 use Rattle.journal_core.specs.journal_intent.IntentValue.{intent_of_lists}
 use Rattle.change_outcome.specs.Premises.{HasNoReservedPath}
 use Rattle.change_outcome.proofs.FreeNames.{free_outside, frees, name_of_any, none_of, once_rising, outside_unreserved}
@@ -36,7 +37,7 @@ not_in : (q : List ℕ) (names : List (List ℕ)) → IsNoneOf q names → IsIn 
 not_in q names none here = true≢false (sym (any_name q names here) ∙ none)
 
 module _ (inputs : Inputs) (change : FileChange) (files : Files) (records : Records) where
-  abbrev actions : Actions
+  abbrev actions : Intent
   actions = actions_of inputs change files records
 
   abbrev plan_writes : List (List ℕ)

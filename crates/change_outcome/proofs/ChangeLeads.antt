@@ -19,10 +19,11 @@ use Rattle.package_changes.proofs.change_files.Reserved.{records_reserved}
 use Rattle.package_changes.proofs.change_files.Untouched.{changed_so, is_gone, takes_its_path, not_some}
 use Rattle.change_inputs.specs.Inputs.{Inputs}
 use Rattle.change_inputs.specs.World.{text_found}
-use Rattle.change_outcome.specs.ChangeOutcome.{Actions, actions_of, does_something, is_other_file, name_if_needed, new_records, written_records}
+use Rattle.change_outcome.specs.ChangeOutcome.{actions_of, does_something, is_other_file, name_if_needed, new_records, written_records}
 use Rattle.db_write.specs.db_core.Members.{Listing}
 use Rattle.journal_core.specs.Staged.{IsEmptyStage}
 use Rattle.journal_core.specs.journal_intent.FreeNames.{IsNoneOf, IsOneOf}
+use Rattle.journal_core.specs.journal_intent.Intent.{Intent}
 use Rattle.change_outcome.specs.Leading.{LeadsTo}
 use Rattle.change_outcome.specs.Premises.{HasNoReservedPath, IsRootOfFiles}
 use Rattle.change_outcome.proofs.ActionNames.{free_names, from_removals, from_writes, if_needed, needed, none_removed, none_written, removed_free, written_free}
@@ -52,7 +53,7 @@ module _ (inputs : Inputs) (change : FileChange) (bytes_of : Listing → List �
   abbrev records : Records
   records = new_records inputs database
 
-  abbrev actions : Actions
+  abbrev actions : Intent
   actions = actions_of inputs change files records
 
   abbrev database_write : List (List ℕ)

@@ -14,8 +14,8 @@ use Rattle.package_changes.specs.change_files.FilesAfter.{Records}
 use Rattle.package_changes.proofs.change_files.InOrder.{order_rises}
 use Rattle.package_changes.proofs.change_files.Lists.{any_name}
 use Rattle.change_inputs.specs.Inputs.{Inputs}
-use Rattle.change_outcome.specs.ChangeOutcome.{Actions, actions_of}
-use Rattle.journal_core.specs.journal_intent.Intent.{AreChangeNames}
+use Rattle.change_outcome.specs.ChangeOutcome.{actions_of}
+use Rattle.journal_core.specs.journal_intent.Intent.{AreChangeNames, Intent}
 use Rattle.change_outcome.specs.Premises.{HasNoReservedPath}
 use Rattle.change_outcome.proofs.ActionNames.{never_both, removal_outside, write_outside}
 
@@ -67,7 +67,7 @@ both_true true false x y = refl
 both_true false b x y = absurd (true≢false (sym x))
 
 module _ (inputs : Inputs) (change : FileChange) (files : Files) (records : Records) (free : HasNoReservedPath change) where
-  abbrev actions : Actions
+  abbrev actions : Intent
   actions = actions_of inputs change files records
 
   module _ (removals_named : All IsName actions.removals) (writes_named : All IsName actions.writes) where

@@ -15,7 +15,7 @@ use Rattle.db_write.specs.NewDatabase.{database_of}
 use Rattle.package_changes.specs.file_owners.Owners.{contested_of, owned_of}
 use Rattle.journal_core.specs.Staged.{AreStagingPathsFree}
 use Rattle.journal_core.specs.journal_intent.Intent.{intent_name}
-use Rattle.journal_core.specs.journal_intent.IntentValue.{intent_of_lists, value_of_intent}
+use Rattle.journal_core.specs.journal_intent.IntentValue.{value_of_intent}
 use Rattle.change_inputs.specs.make_info.Reads.{Reads}
 use Rattle.package_changes.specs.Changes.{Replacement}
 use Rattle.package_changes.specs.path_claims.Claims.{ContestedPath}
@@ -67,9 +67,9 @@ module _ (inputs : Inputs) (r : Replacement) (wishes : ChangeWishes) (read : Rea
       (and_then (unless_trigger wishes.no_scripts (touched_paths change files) change.members) (λ is_allowed. unless_too_large inputs r wishes found files)) done clashes.1 in
       let triggers = and_then_ok (unless_trigger wishes.no_scripts (touched_paths change files) change.members) (λ is_allowed. unless_too_large inputs r wishes found files) done contested.1 in
       let large = and_then_ok (unless_large (database_of change.members (owned_of change.members))) (λ database.
-      unless_overflow (overflow_of (value_of_intent (intent_of_lists (actions_of inputs change files (new_records inputs database)).removals (actions_of inputs change files (new_records inputs database)).writes)))
+      unless_overflow (overflow_of (value_of_intent (actions_of inputs change files (new_records inputs database))))
       (change_done inputs r wishes found files (new_records inputs database))) done triggers.2 in
-      let over = overflow_ok (overflow_of (value_of_intent (intent_of_lists (actions_of inputs change files (new_records inputs large.0)).removals (actions_of inputs change files (new_records inputs large.0)).writes)))
+      let over = overflow_ok (overflow_of (value_of_intent (actions_of inputs change files (new_records inputs large.0))))
       (change_done inputs r wishes found files (new_records inputs large.0)) done large.2 in
       record {
         found = found;

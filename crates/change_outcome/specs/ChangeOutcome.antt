@@ -16,7 +16,8 @@ use Rattle.db_write.specs.db_core.Members.{Member, member_name}
 use Rattle.db_write.specs.NewDatabase.{database_of}
 use Rattle.dep_core.specs.World.{world_text}
 use Rattle.package_changes.specs.file_owners.Owners.{contested_of, owned_of}
-use Rattle.journal_core.specs.journal_intent.IntentValue.{intent_of_lists, value_of_intent}
+use Rattle.journal_core.specs.journal_intent.Intent.{Intent}
+use Rattle.journal_core.specs.journal_intent.IntentValue.{value_of_intent}
 use Rattle.change_inputs.specs.make_info.Reads.{Reads}
 use Rattle.package_changes.specs.Changes.{Replacement, changes_of}
 use Rattle.package_changes.specs.Report.{stay_lines}
@@ -109,14 +110,10 @@ written_records inputs records =
 
 -- ---- what is done, as two lists of names in byte order
 
--- the names that a change removes, and those that it writes, each in byte order
-pub record Actions : Type 0 where
-  pub removals : List (List ℕ)
-  pub writes : List (List ℕ)
-
--- The actions of the intent (journal entry). A converted text database is removed with the files; the
--- database and world are written with them, if they differ.
-abbrev pub actions_of : Inputs → FileChange → Files → Records → Actions
+-- The intent (journal entry) of a change: the names that it removes, and those that it writes, each in
+-- byte order. A converted text database is removed with the files; the database and world are written
+-- with them, if they differ.
+abbrev pub actions_of : Inputs → FileChange → Files → Records → Intent
 actions_of inputs change files records = record {
   removals = names_in_order (removals_of change files
       ++ name_if_needed records.takes_text_over text_database_name);
@@ -130,7 +127,7 @@ abbrev pub bytes_under : Files → List ℕ → List ℕ
 bytes_under files name = unwrap_or (files name) []
 
 -- whether a change has actions; one without them writes nothing, not even an intent
-abbrev pub does_something : Actions → Bool
+abbrev pub does_something : Intent → Bool
 does_something actions = not (length actions.removals == 0) || not (length actions.writes == 0)
 
 -- ---- the report
@@ -182,8 +179,7 @@ unless_too_large inputs r wishes found files =
     and_then (unless_large (database_of change.members (owned_of change.members))) (λ database.
     let records = new_records inputs database in
     let actions = actions_of inputs change files records in
-    unless_overflow
-    (overflow_of (value_of_intent (intent_of_lists actions.removals actions.writes)))
+    unless_overflow (overflow_of (value_of_intent actions))
     (change_done inputs r wishes found files records))
 
 -- a change, given the packages after it and the first clash of its names, if there is one: each test in

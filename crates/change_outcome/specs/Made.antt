@@ -9,7 +9,7 @@ use Rattle.change_outcome.specs.ChangeOutcome.{ChangeDone, ChangeWishes, actions
 use Rattle.change_outcome.specs.MembersAfter.{MemberFound, found_members}
 use Rattle.db_write.specs.NewDatabase.{database_of}
 use Rattle.package_changes.specs.file_owners.Owners.{contested_of, owned_of}
-use Rattle.journal_core.specs.journal_intent.IntentValue.{intent_of_lists, value_of_intent}
+use Rattle.journal_core.specs.journal_intent.IntentValue.{value_of_intent}
 use Rattle.change_inputs.specs.make_info.Reads.{Reads}
 use Rattle.package_changes.specs.Changes.{Replacement}
 use Rattle.package_changes.specs.path_clashes.Clash.{NamePair}
@@ -27,5 +27,5 @@ pub record IsChangeMade (inputs : Inputs) (r : Replacement) (wishes : ChangeWish
       ≡ Ok database
   pub fits : (let actions = actions_of inputs (file_change inputs wishes found) files
       (new_records inputs database) in
-      overflow_of (value_of_intent (intent_of_lists actions.removals actions.writes)) ≡ None)
+      overflow_of (value_of_intent actions) ≡ None)
   pub is : done ≡ change_done inputs r wishes found files (new_records inputs database)

@@ -52,7 +52,7 @@ pub fn the_actions_of_a_change_lead_to_its_files()
         let actions = actions_of inputs change files records in
         let after = changed_files change bytes_of records files in
         length actions.writes < write_limit
-        → after_actions (intent_of_lists actions.removals actions.writes)
+        → after_actions actions
         (with_staged 1 (map (bytes_under after) actions.writes) files) ≡ after }
 {}
 

@@ -2,13 +2,10 @@
 use Rattle.std.proofs.Common.{◌≡◌, inl, inr, ℕ, suc, Bool, true, false, List, [], ◌∷◌, ◌++◌, map, drop, AllPairs, Option, refl, ap, sym, subst, ◌∙◌, arith}
 use Rattle.std.specs.Prelude.{unwrap_or}
 use Rattle.std.specs.List.{flat_map}
-use Rattle.std.specs.Ordering.{nat_cmp, ordering_reverse}
-use Rattle.std.specs.Cmp.Lexicographic.{slice_cmp}
-use Rattle.std.specs.declared.cmp.Ordering.{Ordering}
 use Rattle.std.specs.declared.cmp.Ordering.TheVariants.{Less}
-use Rattle.std.proofs.lemmas.Cmp.{nat_list_cmp_total}
 use Rattle.base_core.proofs.Numbers.{not_first}
 use Rattle.base_core.proofs.Listed.{at_index}
+use Rattle.base_core.proofs.Rising.{not_itself, order}
 use Rattle.adb_view.specs.Plain.{Plain, Plains, int, blob}
 use Rattle.adb_view.specs.Values.{entries_in, entry_in, int_in, text_in}
 use Rattle.adb_view.specs.declared.tables.Which.TheVariants.{Idb}
@@ -118,16 +115,10 @@ package_names (m ∷ members) flags = λ j. package_named m flags j ∷ package_
 
 -- ---- names in order are distinct
 
-abbrev order : List ℕ → List ℕ → Ordering
-order = slice_cmp nat_cmp
-
-never_less : (x : List ℕ) → order x x ≡ Less → ⊥
-never_less x e = let back : order x x ≡ ordering_reverse Less = nat_list_cmp_total.antisymm x x ∙ ap ordering_reverse e in (cc (e, back))
-
 rising_distinct : (xs : List (List ℕ)) → AllPairs (λ a b. order a b ≡ Less) xs → AreDistinctNames xs
 rising_distinct [] pairs = tt
 rising_distinct (x ∷ xs) pairs = (
-  λ here. (let (i, lt, is) = at_index x xs here in never_less x (subst (λ (z : List ℕ). order x z ≡ Less) is (pairs 0 (suc i) x (omega arith) (omega arith)))),
+  λ here. (let (i, lt, is) = at_index x xs here in not_itself x (subst (λ (z : List ℕ). order x z ≡ Less) is (pairs 0 (suc i) x (omega arith) (omega arith)))),
   rising_distinct xs (λ i j d before below. pairs (suc i) (suc j) d (omega arith) (omega arith)),
 )
 

@@ -17,7 +17,8 @@ ghost use Rattle.std.specs.Prelude.{◌≡◌, ◌≤◌, IfOk, OnOk, length};
 use crate::laws::{a_database_of_sound_packages_may_be_the_root, a_written_database_is_read_back};
 use crate::packages::write_packages;
 use adb_copy::Draft;
-use adb_sound::{IDB_WORD, WriteFault, file_of};
+use adb_schema::IDB_WORD;
+use adb_write::{WriteFault, file_of};
 use db_core::{Members, Owned};
 use std::alloc::{AllocError, Global};
 

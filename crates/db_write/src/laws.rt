@@ -32,11 +32,9 @@ ghost use Rattle.std.specs.Prelude.{◌≡◌, ◌≢◌, ◌<◌, ℕ, All, Boo
 
 use adb_block::what_is_spelled_is_read;
 use adb_copy::no_repeated_name_is_reported_if_there_is_none;
-use adb_sound::{
-    a_container_of_a_good_value_is_sound, a_file_is_spelled,
-    a_value_overflows_exactly_past_a_limit, no_text_is_bad_where_each_keeps_its_rule,
-    sound_containers_hold_sound_values, what_a_container_is_made_of_is_read_back,
-};
+use adb_schema::{no_text_is_bad_where_each_keeps_its_rule, sound_containers_hold_sound_values};
+use adb_sound::{a_container_of_a_good_value_is_sound, what_a_container_is_made_of_is_read_back};
+use adb_write::{a_file_is_spelled, a_value_overflows_exactly_past_a_limit};
 
 /// If its value may be at the root of a container, a written database passes all tests, and its
 /// packages are read back: those of the members, each with the files that it owns.

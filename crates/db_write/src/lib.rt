@@ -13,7 +13,8 @@ mod folders;
 mod laws;
 mod packages;
 
-pub use adb_sound::{List, PackageView, WriteFault};
+pub use adb_schema::{List, PackageView};
+pub use adb_write::WriteFault;
 pub use database::write_db;
 pub use db_core::{Db, Members, Owned};
 pub use laws::{

@@ -19,13 +19,14 @@ use Rattle.adb_view.specs.Visits.{MOST_VALUES}
 use Rattle.adb_view.specs.declared.tables.Which.{Which}
 use Rattle.adb_view.specs.declared.tables.Kind.TheVariants.{Obj}
 use Rattle.outcome.specs.adb_schema.Soundness.{first_payload, root_value, schema_word}
-use Rattle.outcome.specs.adb_write.Canonical.{Layout, MOST_BYTES, PayloadCounts, canonical, empty_layout, or_overflow, overflow_of, passes, payload_with_root, write, written_of}
+use Rattle.outcome.specs.adb_write.Canonical.{Layout, MOST_BYTES, canonical, empty_layout, overflow_of, passes, payload_with_root, write, written_of}
 use Rattle.outcome.specs.adb_write.Size.{size_of, value_count}
 use Rattle.outcome.specs.adb_write.File.{adb_piece, file_of}
 use Rattle.outcome.specs.pkg_core.Whole.{root_of_schema}
 use Rattle.outcome.proofs.adb_sound.ContentsBlocks.{contents_stand, first_of, none_of_blocks}
 use Rattle.outcome.proofs.adb_sound.Lower.{Lower}
 use Rattle.outcome.proofs.adb_sound.Payloads.{payload_long}
+use Rattle.outcome.proofs.make_core.Roots.{written}
 use Rattle.outcome.proofs.adb_sound.SoundFiles.{IsWord, reading_is, word_is}
 use Rattle.outcome.specs.adb_dump.Dump.{dump_text}
 use Rattle.outcome.specs.Dump.{dump_fault, dump_of, dump_of_blocks, dump_with_root, dump_with_schema, form_fault, framing_fault, or_text}
@@ -43,19 +44,6 @@ pub record HasNamesAmong (which : Which) (v : Plain) : Type 0 where
 abbrev pub Overflows : Type 0
 Overflows = (v : Plain) → IsNormal v → is_some (overflow_of v) ≡ passes (size_of v, value_count v)
 
--- a value that was written
-record IsWritten (v : Plain) (payload : List ℕ) : Type 0 where
-  none : overflow_of v ≡ None
-  payload_is : canonical v ≡ payload
-
-written : (v : Plain) (payload : List ℕ) → written_of v ≡ Ok payload → IsWritten v payload
-unfolding written_of
-written v payload e = go (overflow_of v) refl e
-  where
-    go : (o : Option PayloadCounts) → overflow_of v ≡ o → or_overflow (canonical v) o ≡ Ok payload → IsWritten v payload
-    go None is e = record { none = is; payload_is = cc }
-    go (Some counts) is e = absurd cc
-
 neither : (a b : Bool) → false ≡ (a || b) → (a ≡ false) × (b ≡ false)
 neither true b e = absurd cc
 neither false b e = (refl, sym e)
@@ -65,7 +53,7 @@ within law which v payload n h e =
     let w = written v payload e in
     let passed = sym (ap is_some w.none) ∙ law v n in
     let t = neither (ltb MOST_BYTES (size_of v)) (ltb MOST_VALUES (value_count v)) passed in
-    (record { normal = n; shaped = h; fits = ltb-false _ _ t.0; few = ltb-false _ _ t.1 }, w.payload_is)
+    (record { normal = n; shaped = h; fits = ltb-false _ _ t.0; few = ltb-false _ _ t.1 }, w.is)
 
 -- ---- the payload
 

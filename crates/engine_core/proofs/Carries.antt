@@ -25,11 +25,11 @@ use Rattle.change_report.proofs.change_outcome.ChangeLeads.{leads}
 use Rattle.change_report.proofs.change_outcome.ChangeNames.{change_names}
 use Rattle.change_report.proofs.change_outcome.FreeNames.{name_of_any, none_of, once_rising}
 use Rattle.change_report.specs.journal_intent.FreeNames.{HaveNoRepeats}
-use Rattle.change_report.specs.journal_intent.Intent.{AreChangeNames}
+use Rattle.change_report.specs.journal_intent.Intent.{AreChangeNames, Intent}
 use Rattle.engine_core.proofs.Once.{once_both}
 use Rattle.change_report.proofs.change_outcome.Leading.{acted_is}
 use Rattle.change_report.proofs.change_outcome.Room.{room}
-use Rattle.change_report.specs.change_outcome.ChangeOutcome.{Actions, ChangeDone, ChangeWishes, actions_of, bytes_under, change_done, does_something, file_change, is_other_file, name_if_needed, new_records, unless_overflow, written_records}
+use Rattle.change_report.specs.change_outcome.ChangeOutcome.{ChangeDone, ChangeWishes, actions_of, bytes_under, change_done, does_something, file_change, is_other_file, name_if_needed, new_records, unless_overflow, written_records}
 use Rattle.change_report.specs.change_outcome.MembersAfter.{MemberFound, found_package_contents, found_members}
 use Rattle.change_report.specs.journal_core.Recovery.{after_actions, intent_name}
 use Rattle.change_report.specs.journal_core.Staged.{AreJournalPathsFree, AreStagingPathsFree, IsEmptyStage, Staging, action_count, new_stage, with_staged}
@@ -211,7 +211,7 @@ module _ (history : List TreeState) (wishes : ChangeWishes) (p : Planned) (found
   abbrev records : Records
   records = new_records inputs own.database.items
 
-  abbrev actions : Actions
+  abbrev actions : Intent
   actions = actions_of inputs change files records
 
   abbrev done : ChangeDone
@@ -237,14 +237,14 @@ module _ (history : List TreeState) (wishes : ChangeWishes) (p : Planned) (found
 
   -- ---- the intent
 
-  overflow_is : overflow_of (value_of_intent (intent_of_lists removals (map write_name writes))) ≡ overflow_of (value_of_intent (intent_of_lists actions.removals actions.writes))
+  overflow_is : overflow_of (value_of_intent (intent_of_lists removals (map write_name writes))) ≡ overflow_of (value_of_intent actions)
   overflow_is = λ i. overflow_of (value_of_intent (intent_of_lists (removed_is i) (written_is i)))
 
   pub ready_fits : unless_overflow (overflow_of (value_of_intent (intent_of_lists removals (map write_name writes)))) true ≡ Ok true → wanted ≡ Ok done
-  ready_fits is = fits (overflow_of (value_of_intent (intent_of_lists actions.removals actions.writes))) done (ap (λ (o : Option PayloadCounts). unless_overflow o true) (sym overflow_is) ∙ is)
+  ready_fits is = fits (overflow_of (value_of_intent actions)) done (ap (λ (o : Option PayloadCounts). unless_overflow o true) (sym overflow_is) ∙ is)
 
   pub ready_large : (refusal : Refusal) → unless_overflow (overflow_of (value_of_intent (intent_of_lists removals (map write_name writes)))) true ≡ Err refusal → wanted ≡ Err refusal
-  ready_large refusal is = too_large (overflow_of (value_of_intent (intent_of_lists actions.removals actions.writes))) done refusal (ap (λ (o : Option PayloadCounts). unless_overflow o true) (sym overflow_is) ∙ is)
+  ready_large refusal is = too_large (overflow_of (value_of_intent actions)) done refusal (ap (λ (o : Option PayloadCounts). unless_overflow o true) (sym overflow_is) ∙ is)
 
   pub commits_is : does_something (record { removals = removals; writes = map write_name writes }) ≡ done.commits
   commits_is = λ i. does_something (record { removals = removed_is i; writes = written_is i })
@@ -255,7 +255,7 @@ module _ (history : List TreeState) (wishes : ChangeWishes) (p : Planned) (found
     acted : (v : TreeState) → files ≡ files_of v → IsRootOfFiles (files_of v) inputs.root → IsEmptyStage (files_of v)
         → after_actions stage.intent (with_staged 1 (map (bytes_under done.files) (map write_name writes)) (files_of v)) ≡ done.files
     acted v told root empty =
-        let of_files : after_actions (intent_of_lists actions.removals actions.writes) (with_staged 1 (map (bytes_under done.files) actions.writes) files) ≡ done.files =
+        let of_files : after_actions actions (with_staged 1 (map (bytes_under done.files) actions.writes) files) ≡ done.files =
         acted_is actions.removals actions.writes files done.files
         (leads inputs change (listing_bytes (found_package_contents found)) own.database.items files (subst (λ (f : Files). IsRootOfFiles f inputs.root) (sym told) root) free
         (subst IsEmptyStage (sym told) empty) (subst (λ (names : List (List ℕ)). length names < 2 ^ 63) written_is few)) in

@@ -13,7 +13,7 @@ use Rattle.change_report.specs.change_outcome.ChangeOutcome.{ChangeDone, ChangeW
 use Rattle.change_report.specs.change_outcome.MembersAfter.{MemberFound}
 use Rattle.change_report.specs.db_core.Members.{Member, member_name}
 use Rattle.change_report.specs.file_owners.Replaces.{version_text}
-use Rattle.change_report.specs.journal_intent.IntentValue.{intent_of_lists, value_of_intent}
+use Rattle.change_report.specs.journal_intent.IntentValue.{value_of_intent}
 use Rattle.change_report.specs.package_changes.Changes.{Replacement}
 use Rattle.report_core.specs.declared.refusal.Refusal.{Refusal}
 use Rattle.report_core.specs.declared.refusal.Refusal.TheVariants.{PackageBad}
@@ -30,8 +30,7 @@ abbrev pub ready_change :
 ready_change inputs r wishes found files database =
     let records = new_records inputs database in
     let actions = actions_of inputs (file_change inputs wishes found) files records in
-    unless_overflow
-    (overflow_of (value_of_intent (intent_of_lists actions.removals actions.writes)))
+    unless_overflow (overflow_of (value_of_intent actions))
     (change_done inputs r wishes found files records)
 
 -- the files of a change are planned, by some packages that are found and over some files

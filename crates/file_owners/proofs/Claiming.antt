@@ -1,15 +1,13 @@
--- The claims of a path are those of the members that list it.
-use Rattle.std.proofs.Common.{◌≡◌, ℕ, suc, zero, ◌+◌, Bool, true, false, cond, List, [], ◌∷◌, ◌++◌, length, map, Option, Some, refl, ap, sym, ◌∙◌, subst, arith}
-use Rattle.std.specs.Prelude.{bytes_eq, option_map, slice_get, IfOk, Result, Ok, Err}
+-- The claims that were gathered, their numbers, and who owns their paths.
+use Rattle.std.proofs.Common.{◌≡◌, ℕ, suc, zero, ◌+◌, List, [], ◌∷◌, ◌++◌, length, map, Option, Some, refl, ap, sym, ◌∙◌, subst, arith}
+use Rattle.std.specs.Prelude.{option_map, slice_get, IfOk, Result, Ok, Err}
 use Rattle.std.specs.declared.alloc.AllocError.{AllocError}
 use Rattle.base_core.specs.Sorted.{sorted_by}
-use Rattle.std.specs.List.{filter}
-use Rattle.db_core.specs.Members.{Listing, Member, claims_of, member_listings}
-use Rattle.path_claims.specs.Claims.{AreNumbered, PathClaim, claim_cmp, claimants, contested_by, is_member, is_of_path, is_owner_by, owner_by}
+use Rattle.db_core.specs.Members.{Listing, Member, member_listings}
+use Rattle.path_claims.specs.Claims.{AreNumbered, PathClaim, claim_cmp, contested_by, is_member, is_owner_by, owner_by}
 use Rattle.path_claims.specs.ContestedSeen.{contested_seen}
 use Rattle.path_claims.specs.Seen.{claim_seen}
 use Rattle.path_claims.specs.declared.owner.Owners.{Owners}
-use Rattle.path_claims.specs.Contest.{winner}
 use Rattle.path_claims.proofs.Places.{no_some, value_or}
 use Rattle.file_owners.specs.Gathered.{with_listings}
 use Rattle.file_owners.specs.Owners.{claim_by, claims_from, claims_in, contested_of, member_beats, owned_of, owner_of_path}
@@ -48,43 +46,25 @@ pub claims_numbered : (members : List Member) → AreNumbered (claims_in members
 unfolding claims_in
 claims_numbered members i c g = let r = numbered_from 0 (member_listings members) i c g in omega arith
 
--- ---- who claims a path
-
-claimants_from : (path : List ℕ) (n : ℕ) (ls : List Listing) → claimants (claims_from n ls) path ≡ map (λ l. l.place) (filter (λ l. bytes_eq l.path path) ls)
-claimants_from path n [] = refl
-claimants_from path n (l ∷ ls) = go (bytes_eq l.path path) (claimants_from path (n + 1) ls)
-  where
-    go : (b : Bool) → claimants (claims_from (n + 1) ls) path ≡ map (λ l. l.place) (filter (λ l. bytes_eq l.path path) ls)
-        → map (λ c. c.member) (cond b (claim_by n l ∷ filter (is_of_path path) (claims_from (n + 1) ls)) (filter (is_of_path path) (claims_from (n + 1) ls)))
-        ≡ map (λ l. l.place) (cond b (l ∷ filter (λ l. bytes_eq l.path path) ls) (filter (λ l. bytes_eq l.path path) ls))
-    go true h = ap (λ r. l.place ∷ r) h
-    go false h = h
+-- ---- who owns a path
 
 pub owner_is : (members : List Member) (path : List ℕ) → owner_by (member_beats members) (claims_in members) path ≡ owner_of_path members path
-unfolding claims_in claims_of owner_of_path
-owner_is members path = ap (winner (member_beats members)) (claimants_from path 0 (member_listings members))
+unfolding owner_of_path
+owner_is members path = refl
 
-pub owners_are : (members : List Member) (cs : List PathClaim) → map (λ c. owner_by (member_beats members) (claims_in members) c.path) cs ≡ map (λ c. owner_of_path members c.path) cs
-owners_are members [] = refl
-owners_are members (c ∷ cs) = λ j. owner_is members c.path j ∷ owners_are members cs j
+owners_are : (members : List Member) (cs : List PathClaim) → map (λ c. owner_by (member_beats members) (claims_in members) c.path) cs ≡ map (λ c. owner_of_path members c.path) cs
+unfolding owner_of_path
+owners_are members cs = refl
 
 flags_from : (f : List ℕ → Option ℕ) (n : ℕ) (ls : List Listing) → map (λ c. is_member c.member (f c.path)) (claims_from n ls) ≡ map (λ l. is_member l.place (f l.path)) ls
 flags_from f n [] = refl
 flags_from f n (l ∷ ls) = ap (λ r. is_member l.place (f l.path) ∷ r) (flags_from f (n + 1) ls)
 
-flags_ext : (f g : List ℕ → Option ℕ) → ((p : List ℕ) → f p ≡ g p) → (ls : List Listing) → map (λ l. is_member l.place (f l.path)) ls ≡ map (λ l. is_member l.place (g l.path)) ls
-flags_ext f g h [] = refl
-flags_ext f g h (l ∷ ls) = λ j. is_member l.place (h l.path j) ∷ flags_ext f g h ls j
-
-pub owned_is : (members : List Member) → map (is_owner_by (member_beats members) (claims_in members)) (claims_in members) ≡ owned_of members
-unfolding owned_of
-owned_is members = by_claims (claims_in members) refl
-  where
-    by_claims : (cs : List PathClaim) → cs ≡ claims_in members → map (is_owner_by (member_beats members) (claims_in members)) cs ≡ map (λ l. is_member l.place (owner_of_path members l.path)) (member_listings members)
-    by_claims cs e =
-        ap (map (is_owner_by (member_beats members) (claims_in members))) (e ∙ sym (all_gathered members) ∙ gathered [] (member_listings members))
-        ∙ (flags_from (owner_by (member_beats members) (claims_in members)) 0 (member_listings members)
-        ∙ flags_ext (owner_by (member_beats members) (claims_in members)) (owner_of_path members) (owner_is members) (member_listings members))
+owned_is : (members : List Member) → map (is_owner_by (member_beats members) (claims_in members)) (claims_in members) ≡ owned_of members
+unfolding owned_of owner_of_path
+owned_is members =
+    ap (map (is_owner_by (member_beats members) (claims_in members))) (sym (all_gathered members) ∙ gathered [] (member_listings members))
+    ∙ flags_from (owner_by (member_beats members) (claims_in members)) 0 (member_listings members)
 
 -- ---- what was gathered
 

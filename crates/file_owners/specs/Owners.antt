@@ -2,10 +2,11 @@
 -- The rules are in `docs/commands.md`, "Files that several packages list"; the terms *claim*, *owner*,
 -- *contested* and *rivals* in `docs/names.md`, "The installed database and a change of it".
 use Rattle.std.specs.Prelude.{ℕ, ◌+◌, Bool, false, List, [], ◌∷◌, map, Option, Some, None, slice_get}
-use Rattle.db_core.specs.Members.{Listing, Member, claims_of, member_listings}
-use Rattle.path_claims.specs.Claims.{ContestedPath, PathClaim, contested_by, is_member}
-use Rattle.path_claims.specs.Contest.{winner}
+use Rattle.db_core.specs.Members.{Listing, Member, member_listings}
+use Rattle.path_claims.specs.Claims.{ContestedPath, PathClaim, contested_by, is_member, owner_by}
 use Rattle.file_owners.specs.Replaces.{takes_over}
+
+-- ---- which member beats which
 
 -- whether the first member takes over the files of the second, if both exist
 abbrev pub takes_over_if_any : Option Member → Option Member → Bool
@@ -17,17 +18,7 @@ takes_over_if_any (Some x) (Some y) = takes_over x.pkg y.pkg
 unfoldable pub member_beats : List Member → ℕ → ℕ → Bool
 member_beats members x y = takes_over_if_any (slice_get members x) (slice_get members y)
 
--- the place of the member that owns a path: it beats each other one that lists the path; none if no
--- member does
-unfoldable pub owner_of_path : List Member → List ℕ → Option ℕ
-owner_of_path members path =
-    winner (member_beats members) (map (λ l. l.place) (claims_of members path))
-
--- for each file that members list, in the order of members, folders and files, whether its member
--- owns it
-unfoldable pub owned_of : List Member → List Bool
-owned_of members =
-    map (λ l. is_member l.place (owner_of_path members l.path)) (member_listings members)
+-- ---- what members claim
 
 -- the claim of a listed file, with its number: how many claims are before it
 abbrev pub claim_by : ℕ → Listing → PathClaim
@@ -47,6 +38,18 @@ claims_from number (l ∷ listings) = claim_by number l ∷ claims_from (number 
 -- the claims of members: each file that they list, with the number of claims before it
 unfoldable pub claims_in : List Member → List PathClaim
 claims_in members = claims_from 0 (member_listings members)
+
+-- ---- who owns a path
+
+-- the place of the member that owns a path: *owner_by* of the members' claims, by *member_beats*
+unfoldable pub owner_of_path : List Member → List ℕ → Option ℕ
+owner_of_path members path = owner_by (member_beats members) (claims_in members) path
+
+-- for each file that members list, in the order of members, folders and files, whether its member
+-- owns it
+unfoldable pub owned_of : List Member → List Bool
+owned_of members =
+    map (λ l. is_member l.place (owner_of_path members l.path)) (member_listings members)
 
 -- the first path in byte order that no member owns, with the first member that lists it and the first
 -- other one that this one does not beat; none if each path has an owner

@@ -10,9 +10,9 @@ use Rattle.base_core.specs.Lists.{and_then}
 use Rattle.base_core.proofs.AtName.{is_name}
 use Rattle.adb_dump.specs.Dump.{Line, int_line, text_line, hash_line, indent, with_dash, or_null, array_lines, block_lines, named_line, named_block, named_lines, fields_lines, unless_absent}
 use Rattle.adb_dump.specs.Values.{IsOfBytes, AreOfBytes}
-use Rattle.adb_dump.specs.ReadBack.{LinesRead, after_lines, strip_prefix, stop_or_add, split_block, only_line, entry_read, after_dash, entries_read, arr_read, obj_read, field_on_line, field_below, if_form, if_named, block_read, named_read, fields_read, int_read, text_read, hash_read}
+use Rattle.adb_dump.specs.ReadBack.{LinesRead, after_lines, strip_prefix, split_block, only_line, entry_read, after_dash, entries_read, arr_read, obj_read, field_on_line, field_below, if_form, if_named, block_read, named_read, fields_read, int_read, text_read, hash_read}
 use Rattle.adb_dump.proofs.Booleans.{chosen}
-use Rattle.adb_dump.proofs.ReadOnly.{block_only, Fits1, strip_prefix_some, keeps, or_null-is}
+use Rattle.adb_dump.proofs.ReadOnly.{block_only, Fits1, split_block_parts, strip_prefix_some, keeps, or_null-is}
 use Rattle.adb_dump.proofs.BlockLines.{no_lines}
 use Rattle.gen_core.specs.Reads.{line_read}
 use Rattle.gen_core.proofs.Reading.{HasOneLine}
@@ -21,14 +21,6 @@ use Rattle.gen_core.proofs.ReadBytes.{block_bytes}
 use Rattle.gen_core.proofs.Stable.{arr_bad, obj_bad, later, no_value, no_values, value_number, values_number}
 
 -- ---- lines
-
-parts : (ls : List Line) → ls ≡ indent (split_block ls).0 ++ (split_block ls).1
-parts [] = refl
-parts (l ∷ ls) = go (strip_prefix (codes "  ") l) refl (parts ls)
-  where
-    go : (o : Option Line) → strip_prefix (codes "  ") l ≡ o → ls ≡ indent (split_block ls).0 ++ (split_block ls).1 → l ∷ ls ≡ indent (stop_or_add l ls o (split_block ls)).0 ++ (stop_or_add l ls o (split_block ls)).1
-    go None e h = refl
-    go (Some i) e h = ap (λ (x : Line). x ∷ ls) (strip_prefix_some (codes "  ") l i e) ∙ ap (λ (x : List Line). (codes "  " ++ i) ∷ x) h
 
 indent-append : (xs ys : List Line) → indent (xs ++ ys) ≡ indent xs ++ indent ys
 indent-append [] ys = refl
@@ -52,13 +44,13 @@ front_in_block : (ls : List Line) (n : ℕ) → n ≤ length (split_block ls).0 
 front_in_block ls n le =
     let r = split_block ls in
     let within : n ≤ length (indent r.0) = omega (arith, le, indent-len r.0) in
-    ap (take n) (parts ls) ∙ take-append-le n (indent r.0) r.1 within ∙ take-indent n r.0
+    ap (take n) (split_block_parts ls) ∙ take-append-le n (indent r.0) r.1 within ∙ take-indent n r.0
 
 front_past_block : (ls : List Line) (n j : ℕ) → n ≡ length (split_block ls).0 + j → take n ls ≡ indent (split_block ls).0 ++ take j (split_block ls).1
 front_past_block ls n j e =
     let r = split_block ls in
     let count : n ≡ length (indent r.0) + j = omega (arith, e, indent-len r.0) in
-    ap (take n) (parts ls) ∙ ap (λ (k : ℕ). take k (indent r.0 ++ r.1)) count ∙ take-past (indent r.0) r.1 j
+    ap (take n) (split_block_parts ls) ∙ ap (λ (k : ℕ). take k (indent r.0 ++ r.1)) count ∙ take-past (indent r.0) r.1 j
 
 -- ---- values that fit a shape
 

@@ -180,4 +180,4 @@ told_misuses names old h a before now {r} gone so_far counted = by old gone so_f
     by (v ∷ o) g s = proper_now (HasRemovedNames names v) before now h r g counted (λ w q. tt) ∙ s
 
 pub take_all : (names : List (List ℕ)) (n : ℕ) (old h : History) → length names ≤ n → Gone (take n names) old h → Gone names old h
-take_all names n old h le gone = subst (λ (l : List (List ℕ)). Gone l old h) (take_whole names n le) gone
+take_all names n old h le gone = subst (λ (l : List (List ℕ)). Gone l old h) (take_whole n names le) gone

@@ -14,4 +14,4 @@ copies_more names i name copy old new at so_far same added =
     added ∙ ap (λ (l : List (List ℕ)). l ++ copy ∷ []) so_far ∙ ap (λ (x : List ℕ). take i names ++ x ∷ []) same ∙ sym (take_more names i name at)
 
 pub copies_all : (names : List (List ℕ)) (n : ℕ) (copy : List (List ℕ)) → length names ≤ n → copy ≡ take n names → copy ≡ names
-copies_all names n copy all is = is ∙ take_all names n all
+copies_all names n copy all is = is ∙ take_all n names all

@@ -32,7 +32,7 @@ count_texts none = refl
 count_texts (more v vs) = ap suc (count_texts vs)
 
 pub texts_all : (vs : Plains) (n : ℕ) (names : List (List ℕ)) → count_of vs ≤ n → names ≡ take n (map text_in (list_of vs)) → names ≡ map text_in (list_of vs)
-texts_all vs n names all is = is ∙ take_all (map text_in (list_of vs)) n (let count = count_texts vs in omega (arith, count, all))
+texts_all vs n names all is = is ∙ take_all n (map text_in (list_of vs)) (let count = count_texts vs in omega (arith, count, all))
 
 pub texts_few : (vs : Plains) (names : List (List ℕ)) → names ≡ map text_in (list_of vs) → count_of vs < 2 ^ 32 → length names < 2 ^ 32
 texts_few vs names is few = let count = ap length is ∙ count_texts vs in omega (arith, count, few)

@@ -10,12 +10,13 @@ ghost use Rattle.journal_intent.specs.Intent.{AreChangeNames, read_intent};
 ghost use Rattle.journal_intent.specs.IntentValue.{intent_of_lists, value_of_intent};
 
 use adb_block::what_is_spelled_is_read;
-use adb_sound::{
-    INTENT_WORD, WriteFault, a_container_of_a_good_value_is_sound, a_file_is_spelled,
-    a_value_overflows_exactly_past_a_limit, file_of, no_repeated_name_is_reported_if_there_is_none,
-    no_text_is_bad_where_each_keeps_its_rule, what_a_container_is_made_of_is_read_back,
+use adb_schema::{
+    INTENT_WORD, no_repeated_name_is_reported_if_there_is_none,
+    no_text_is_bad_where_each_keeps_its_rule,
 };
+use adb_sound::{a_container_of_a_good_value_is_sound, what_a_container_is_made_of_is_read_back};
 use adb_values::Draft;
+use adb_write::{WriteFault, a_file_is_spelled, a_value_overflows_exactly_past_a_limit, file_of};
 use base_core::Names;
 use std::alloc::{AllocError, Global};
 

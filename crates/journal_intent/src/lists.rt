@@ -11,7 +11,7 @@ ghost use Rattle.journal_intent.specs.FreeNames.{AllNamed};
 ghost use Rattle.journal_intent.specs.Intent.{read_intent};
 ghost use Rattle.journal_intent.specs.IntentValue.{intent_of_lists};
 
-use adb_sound::{List, ReadFault, Which, read_adb, sound_containers_hold_sound_values};
+use adb_schema::{List, ReadFault, Which, read_adb, sound_containers_hold_sound_values};
 use base_core::{Name, Names};
 use std::alloc::{AllocError, Global};
 

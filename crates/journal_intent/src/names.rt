@@ -13,7 +13,7 @@ ghost use Rattle.base_core.specs.Name.{is_name};
 ghost use Rattle.base_core.specs.declared.cause.Cause.{Cause};
 ghost use Rattle.journal_intent.specs.IntentValue.{intent_of_lists};
 
-use adb_sound::sound_containers_hold_sound_values;
+use adb_schema::sound_containers_hold_sound_values;
 use base_core::{Name, Names};
 use std::alloc::{AllocError, Global};
 

@@ -12,7 +12,8 @@ ghost use Rattle.journal_intent.specs.IntentValue.{intent_of_lists, value_of_int
 use crate::container::{copy_of_names, intent_file};
 use crate::lists::{IntentLists, read_lists};
 use crate::names::{a_read_intent_has_free_names, intent_name, stage_names};
-use adb_sound::{ReadFault, WriteFault};
+use adb_schema::ReadFault;
+use adb_write::WriteFault;
 use base_core::{Name, Names};
 use std::alloc::{AllocError, Global};
 use std::marker::Model;

@@ -9,6 +9,7 @@ use Rattle.std.proofs.lemmas.Cmp.{nat_list_cmp_total}
 use Rattle.std.proofs.lemmas.List.Concat.{flat_map-cons}
 use Rattle.std.proofs.lemmas.List.{append-nil}
 use Rattle.base_core.proofs.Listed.{at_index}
+use Rattle.base_core.proofs.Rising.{not_itself}
 use Rattle.adb_view.specs.Plain.{Plain}
 use Rattle.make_index.specs.adb_fields.Pairs.{NameWithPosition}
 use Rattle.make_index.specs.adb_fields.FirstPair.{IsFirstOf}
@@ -34,14 +35,8 @@ abbrev pub IsApart : List (List ℕ) → Type 0
 IsApart [] = Unit {0}
 IsApart (x ∷ xs) = ((q : List ℕ) → IsIn q xs → x ≢ q) × IsApart xs
 
-turned : (a b : List ℕ) (o : Ordering) → cmp a b ≡ o → cmp b a ≡ ordering_reverse o
-turned a b o e = nat_list_cmp_total.antisymm b a ∙ ap ordering_reverse e
-
-never_less : (x : List ℕ) → cmp x x ≡ Less → ⊥
-never_less x e = let back = turned x x Less e in (cc (e, back))
-
 less_apart : (x y : List ℕ) → cmp x y ≡ Less → x ≢ y
-less_apart x y e same = never_less x (subst (λ (z : List ℕ). cmp x z ≡ Less) (sym same) e)
+less_apart x y e same = not_itself x (subst (λ (z : List ℕ). cmp x z ≡ Less) (sym same) e)
 
 pub rises_apart : (xs : List (List ℕ)) → Rises xs → IsApart xs
 rises_apart [] r = tt
@@ -85,7 +80,7 @@ placed_rises name (x ∷ xs) r = by_order (cmp name x) refl (placed_rises name x
     by_order : (o : Ordering) → cmp name x ≡ o → Rises (with_folder name xs) → Rises (with_folder_by o name x xs (with_folder name xs))
     by_order Less e further = (all_behind name x xs e r.0, r)
     by_order Equal e further = r
-    by_order Greater e further = (λ q here. below_placed x name xs (turned name x Greater e) r.0 q (placed_in q name xs here), further)
+    by_order Greater e further = (λ q here. below_placed x name xs (nat_list_cmp_total.antisymm x name ∙ ap ordering_reverse e) r.0 q (placed_in q name xs here), further)
 
 all_placed_rises : (so_far names : List (List ℕ)) → Rises so_far → Rises (with_folders so_far names)
 all_placed_rises so_far [] r = r

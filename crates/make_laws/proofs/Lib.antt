@@ -1,3 +1,5 @@
+-- passed on: a crate above that names this one need not name these
+pub use Rattle.make_core.proofs as make_core
 pub mod Access
 pub mod MadeFrom
 pub mod NamesRising

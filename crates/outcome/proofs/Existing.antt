@@ -94,7 +94,7 @@ pub outcome_by : HaveList → HaveChoice → HaveClash → (read : Result Comman
 outcome_by have choose clashes (Err place) files within h = (just_refusal files (Usage place), refl)
 outcome_by have choose clashes (Ok command) files within h = outcome_unless have choose clashes (recovery_fault (effect_of command.applet) files) command files within h
 
-listing_one : HaveOneList → (values : List OptionValue) (files : Files) (a b : List (List ℕ)) → IsListing values files a → IsListing values files b → a ≡ b
+pub listing_one : HaveOneList → (values : List OptionValue) (files : Files) (a b : List (List ℕ)) → IsListing values files a → IsListing values files b → a ≡ b
 listing_one one [] files a b x y = x ∙ sym y
 listing_one one (v ∷ values) files a b x y = one (files_below (without_dot v.text) files) a b x y
 

@@ -4,6 +4,7 @@ pub use Rattle.engine_core.proofs.change_files as change_files
 pub use Rattle.engine_core.proofs.journal_intent as journal_intent
 pub use Rattle.engine_core.proofs.own_core as own_core
 pub use Rattle.gen_core.proofs.adb_dump as adb_dump
+pub use Rattle.make_core.proofs as make_core
 pub use Rattle.tell_core.proofs.adb_sound as adb_sound
 pub use Rattle.tell_core.proofs.file_owners as file_owners
 pub use Rattle.tell_core.proofs.installed_info as installed_info

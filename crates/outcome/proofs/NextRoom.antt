@@ -82,7 +82,7 @@ module _ (room : KeepsRoom) (gone : BringsNoIntent) where
 -- ---- a recovery
 
 -- it leaves no intent
-intent_gone : ReadSound → (files : Files) (found : Option (List ℕ)) → files intent_name ≡ found → fault_of_intent found ≡ None → unstaged_files files intent_name ≡ None
+pub intent_gone : ReadSound → (files : Files) (found : Option (List ℕ)) → files intent_name ≡ found → fault_of_intent found ≡ None → unstaged_files files intent_name ≡ None
 intent_gone sound files None is good = ap (λ (o : Option (List ℕ)). recovered_files_by (intent_at o) files intent_name) is ∙ is
 intent_gone sound files (Some file) is good =
     ap (λ (o : Option (List ℕ)). recovered_files_by (intent_at o) files intent_name) is

@@ -12,11 +12,12 @@ mod file;
 mod folders;
 mod packing;
 
+pub use adb_schema::PACKAGE_WORD;
 pub use adb_sound::{
-    PACKAGE_WORD, a_container_of_a_good_value_is_sound,
-    a_package_of_a_good_value_and_its_contents_is_sound, contents_are_in_their_container, file_of,
-    what_a_container_is_made_of_is_read_back,
+    a_container_of_a_good_value_is_sound, a_package_of_a_good_value_and_its_contents_is_sound,
+    contents_are_in_their_container, what_a_container_is_made_of_is_read_back,
 };
+pub use adb_write::file_of;
 pub use file::{File, FileKind, Folder, Packing};
 pub use folders::folder_of;
 pub use make_info::{Draft, Information, MakeFault, read_information, write_number, write_size};

@@ -112,6 +112,3 @@ pub read_failed : (place : BlockPlace) (file : List ℕ) (r : Result BlockRead P
 read_failed place file (Ok read) is = absurd is
 read_failed place file (Err (Bad c)) is = absurd (let e : Bad c ≡ Disk = is in (cc))
 read_failed place file (Err Disk) is = tt
-
-pub bad_not_disk : (c : Cause) → Bad c ≡ Disk → ⊥
-bad_not_disk c e = (cc)

@@ -1,5 +1,5 @@
 -- Pieces that were read in sequence.
-use Rattle.std.proofs.Common.{◌≡◌, ℕ, zero, suc, ◌+◌, ◌-◌, ◌*◌, ◌<◌, ◌≤◌, Bool, true, false, if◌then◌else◌, List, [], ◌∷◌, ◌++◌, length, take, replicate, Option, Some, None, Result, Ok, Err, refl, ap, sym, subst, ◌∙◌, arith, suc-mul}
+use Rattle.std.proofs.Common.{◌≡◌, ℕ, ◌+◌, ◌-◌, ◌*◌, ◌<◌, ◌≤◌, Bool, true, false, if◌then◌else◌, List, [], ◌∷◌, ◌++◌, length, replicate, Option, Some, None, Result, Ok, Err, refl, ap, sym, subst, ◌∙◌, arith, suc-mul}
 use Rattle.std.specs.Prelude.{IfOk, IfSome, IsErrOf}
 use Rattle.std.proofs.lemmas.List.{length-append, length-replicate}
 use Rattle.base_core.specs.declared.cause.Cause.{Cause}
@@ -99,13 +99,6 @@ none_passed h name len begun places within none_handed empty = record {
     joined = refl;
   };
 }
-
-abbrev no_bytes : List ℕ
-no_bytes = []
-
-take_none : (n : ℕ) → take n no_bytes ≡ no_bytes
-take_none zero = refl
-take_none (suc n) = refl
 
 -- what a call says of the bytes that it saw
 abbrev pub IsReadBy : List TreeState → PieceReader → List ℕ → Result (Option Part) PieceFault → PieceReader → Type 0

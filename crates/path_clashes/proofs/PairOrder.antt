@@ -14,9 +14,6 @@ use Rattle.path_clashes.specs.Clash.{NamePair, precedes_pair}
 
 -- ---- names
 
-names_rank : IsStrictWeakOrder precedes
-names_rank = ranks_by nat_list_cmp_total (λ (a : List ℕ). a)
-
 pub precedes_itself : (a : List ℕ) → precedes a a ≡ false
 precedes_itself a = ap is_lt (tied_itself nat_list_cmp_total a)
 

@@ -1,32 +1,11 @@
 -- A pattern is found in a name just if it matches a part of it.
-use Rattle.std.proofs.Common.{◌≡◌, inl, inr, ℕ, Bool, true, false, List, [], ◌∷◌, ◌++◌, refl, sym, ap, ◌∙◌, append_assoc, true≢false}
-use Rattle.std.specs.Prelude.{◌==◌, ◌&&◌, ◌||◌, if◌then◌else◌}
+use Rattle.std.proofs.Common.{◌≡◌, inl, inr, ℕ, true, false, List, [], ◌∷◌, ◌++◌, refl, sym, ap, ◌∙◌, append_assoc, true≢false}
+use Rattle.std.specs.Prelude.{◌==◌, ◌&&◌, if◌then◌else◌}
 use Rattle.std.specs.List.{list_any}
 use Rattle.std.proofs.lemmas.Bool.{and_parts, cases_Bool}
 use Rattle.star_patterns.specs.Ends.{is_end_matched}
 use Rattle.star_patterns.specs.Patterns.{is_byte_then, is_matched, is_matched_within, suffixes_of}
-use Rattle.star_patterns.proofs.Pieces.{literal_byte, whole_end, end_matched, empty_end}
-
--- an end of a text that a pattern matches
-record IsEnd (q b : List ℕ) : Type 0 where
-  pub front : List ℕ
-  pub rest : List ℕ
-  pub is : b ≡ front ++ rest
-  pub matched : is_matched q rest ≡ true
-
-end_next : (q b : List ℕ) (c : ℕ) (t : Bool) → is_matched q (c ∷ b) ≡ t → (t || is_end_matched q b) ≡ true → (is_end_matched q b ≡ true → IsEnd q b) → IsEnd q (c ∷ b)
-end_next q b c true e m find = record { front = []; rest = c ∷ b; is = refl; matched = e }
-end_next q b c false e m find =
-    let further = find m in
-    record { front = c ∷ further.front; rest = further.rest; is = ap (λ z. c ∷ z) further.is; matched = further.matched }
-
-end_of_nothing : (q : List ℕ) (t : Bool) → is_matched q [] ≡ t → (t || false) ≡ true → IsEnd q []
-end_of_nothing q true e m = record { front = []; rest = []; is = refl; matched = e }
-end_of_nothing q false e m = absurd (true≢false (sym m))
-
-end_found : (q b : List ℕ) → is_end_matched q b ≡ true → IsEnd q b
-end_found q [] m = end_of_nothing q (is_matched q []) refl m
-end_found q (c ∷ b) m = end_next q b c (is_matched q (c ∷ b)) refl m (λ further. end_found q b further)
+use Rattle.star_patterns.proofs.Pieces.{end_found, literal_byte, whole_end, end_matched, empty_end}
 
 star_matched : (b : ℕ) (p text : List ℕ) → (b == 42) ≡ true → is_end_matched p text ≡ true → is_matched (b ∷ p) text ≡ true
 star_matched b p text e m = ap (λ t. if t then list_any (is_matched p) (suffixes_of text) else is_byte_then b (is_matched p) text) e ∙ m

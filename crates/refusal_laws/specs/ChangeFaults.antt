@@ -19,7 +19,7 @@ use Rattle.outcome.specs.db_core.Members.{Listing, Member, member_listings, memb
 use Rattle.outcome.specs.db_write.NewDatabase.{database_of, database_value}
 use Rattle.outcome.specs.file_owners.Owners.{owned_of, owner_of_path}
 use Rattle.outcome.specs.file_owners.Replaces.{takes_over}
-use Rattle.outcome.specs.journal_intent.IntentValue.{intent_of_lists, value_of_intent}
+use Rattle.outcome.specs.journal_intent.IntentValue.{value_of_intent}
 use Rattle.base_core.specs.ByteOrder.{precedes}
 use Rattle.outcome.specs.make_info.Reads.{Reads}
 use Rattle.outcome.specs.package_files.Folders.{folder_of}
@@ -100,7 +100,7 @@ pub record IsIntentTooLarge (inputs : Inputs) (change : FileChange) (files : Fil
   pub database : List ℕ
   pub fits : database_of change.members (owned_of change.members) ≡ Ok database
   pub passes : (let actions = actions_of inputs change files (new_records inputs database) in
-      IsTooLarge (value_of_intent (intent_of_lists actions.removals actions.writes)) bytes values)
+      IsTooLarge (value_of_intent actions) bytes values)
 
 -- what a change writes exceeds a limit: of the database or, if that fits, of the intent
 abbrev pub IsResultTooLarge : Inputs → FileChange → Files → ℕ → ℕ → Type 0

@@ -4,8 +4,6 @@ use Rattle.std.specs.Prelude.{if◌then◌else◌, IsTrue}
 use Rattle.std.specs.Str.{bytes_eq}
 use Rattle.std.proofs.lemmas.Bool.{false≢true}
 use Rattle.apk_front.specs.adb_schema.Reserved.{is_reserved}
-use Rattle.apk_front.specs.adb_schema.Soundness.{first_fault, payload_in, root_value}
-use Rattle.adb_view.specs.declared.tables.Which.TheVariants.{Intent as IntentTable}
 use Rattle.base_core.specs.Files.{Files}
 use Rattle.base_core.specs.declared.cause.Cause.{Cause}
 use Rattle.base_core.proofs.NameParts.{other_bytes}
@@ -17,7 +15,7 @@ use Rattle.command_core.specs.declared.command.Applet.{Applet}
 use Rattle.command_core.specs.declared.command.Applet.TheVariants.{Demo, Mkndx, Mkpkg}
 use Rattle.apk_front.specs.engine_core.Changed.{Selected, change_of_selected, change_of_command, selected_for, simulated_change}
 use Rattle.apk_front.specs.engine_core.Wishes.{wishes_of}
-use Rattle.apk_front.specs.journal_core.Recovery.{Intent, intent_at, intent_in, intent_name, read_intent, recovered_files_by}
+use Rattle.apk_front.specs.journal_core.Recovery.{intent_name}
 use Rattle.apk_front.specs.journal_core.Replacing.{replaced_files, scratch_of}
 use Rattle.apk_front.specs.journal_core.Staged.{unstaged_files}
 use Rattle.apk_front.specs.make_index.Index.{made_index}
@@ -32,6 +30,8 @@ use Rattle.report_core.specs.declared.refusal.Refusal.{Refusal}
 use Rattle.report_core.specs.declared.refusal.Refusal.TheVariants.{Reserved}
 use Rattle.apk_front.specs.words_core.Grammar.{command_of}
 use Rattle.apk_front.proofs.outcome.Applets.{change_is}
+use Rattle.apk_front.proofs.outcome.NextRoom.{intent_gone}
+use Rattle.apk_front.proofs.outcome.Recovered.{ReadSound}
 use Rattle.apk_front.specs.outcome.Changing.{change_outcome}
 use Rattle.apk_front.specs.outcome.Commands.{IsOutcomeOf, IsOutcomeUnlessBadIntent, effect_outcome, reads_in}
 use Rattle.apk_front.specs.outcome.Effect.{Effect, Computes, Reads, Tells, Makes, Changes, effect_by, effect_of, reads_only}
@@ -39,16 +39,13 @@ use Rattle.apk_front.specs.outcome.Given.{Given}
 use Rattle.apk_front.specs.outcome.Make.{files_with_output, index_line, make_outcome, unless_reserved}
 use Rattle.apk_front.specs.outcome.Outcome.{Outcome, commit_report, just_refusal}
 use Rattle.apk_front.specs.outcome.Words.{IsOutcome, IsOutcomeFor}
-use Rattle.apk_front.specs.outcome.Work.{fault_of_intent, recovery_fault, work_files}
+use Rattle.apk_front.specs.outcome.Work.{recovery_fault, work_files}
 use Rattle.run_lists.proofs.BadIntent.{only_reads}
-use Rattle.run_lists.proofs.Names.{no_scratch}
+use Rattle.apk_front.proofs.file_replacement.Suffix.{intent_is_no_scratch}
 
 abbrev pub BringsNoIntent : Type 0
 BringsNoIntent = (inputs : Inputs) (r : Replacement) (wishes : ChangeWishes) (read : Reading) (clash : Option NamePair) (files : Files) (done : ChangeDone)
     → change_or_refusal inputs r wishes read clash files ≡ Ok done → files intent_name ≡ None → done.files intent_name ≡ None
-
-abbrev pub ReadSound : Type 0
-ReadSound = (file : List ℕ) → first_fault IntentTable file ≡ None → read_intent file ≡ Some (intent_in (root_value IntentTable (payload_in file)))
 
 abbrev Brings : Outcome → Type 0
 Brings o = o.commits ≡ true → o.files intent_name ≡ None
@@ -89,7 +86,7 @@ not_reserved name free is = false≢true (sym free ∙ ap is_reserved (sym is))
 with_other : (name bytes : List ℕ) (files : Files) → is_reserved name ≡ false → replaced_files name bytes files intent_name ≡ files intent_name
 with_other name bytes files free =
     ap (λ (b : Bool). if b then Some bytes else (if bytes_eq intent_name (scratch_of name) then None else files intent_name)) (other_bytes intent_name name (not_reserved name free))
-    ∙ ap (λ (b : Bool). if b then None else files intent_name) (other_bytes intent_name (scratch_of name) (no_scratch name))
+    ∙ ap (λ (b : Bool). if b then None else files intent_name) (other_bytes intent_name (scratch_of name) (intent_is_no_scratch name))
 
 made_by : (name bytes report : List ℕ) (files : Files) → files intent_name ≡ None → (b : Bool) → is_reserved name ≡ b
     → Brings (if b then just_refusal files (Reserved name) else commit_report (files_with_output (Some name) bytes files) report)
@@ -124,12 +121,6 @@ maker_none other command given files makes none = absurd (cc (makes))
 
 -- ---- by the words
 
-pub absent_now : ReadSound → (files : Files) (found : Option (List ℕ)) → files intent_name ≡ found → fault_of_intent found ≡ None → unstaged_files files intent_name ≡ None
-absent_now sound files None is good = ap (λ (o : Option (List ℕ)). recovered_files_by (intent_at o) files intent_name) is ∙ is
-absent_now sound files (Some file) is good =
-    ap (λ (o : Option (List ℕ)). recovered_files_by (intent_at o) files intent_name) is
-    ∙ ap (λ (o : Option Intent). recovered_files_by o files intent_name) (sound file good)
-
 no_demo : (applet : Applet) (command : CommandLine) (files : Files) (o : Outcome) → (effect_of applet ≡ Computes → ⊥) → IsOutcomeFor applet command files o → IsOutcomeOf (Ok command) files o
 no_demo Demo command files o works is = absurd (works refl)
 no_demo other command files o works is = is
@@ -144,7 +135,7 @@ module _ (gone : BringsNoIntent) (sound : ReadSound) where
   makes_none None command files o makes at (given, are, is) commits =
       let work : work_files (effect_of command.applet) files ≡ unstaged_files files = ap (λ (e : Effect). work_files e files) makes in
       let good = subst (λ (e : Effect). recovery_fault e files ≡ None) makes at in
-      let absent = ap (λ (f : Files). f intent_name) work ∙ absent_now sound files (files intent_name) refl good in
+      let absent = ap (λ (f : Files). f intent_name) work ∙ intent_gone sound files (files intent_name) refl good in
       subst Brings (sym is) (maker_none command.applet command given (work_files (effect_of command.applet) files) makes absent) commits
 
   changes_none : (fault : Option Cause) (command : CommandLine) (files : Files) (o : Outcome) → effect_of command.applet ≡ Changes → recovery_fault (effect_of command.applet) files ≡ fault → IsOutcomeUnlessBadIntent fault command files o → Brings o
@@ -152,7 +143,7 @@ module _ (gone : BringsNoIntent) (sound : ReadSound) where
   changes_none None command files o changes at (given, are, is) commits =
       let work : work_files (effect_of command.applet) files ≡ unstaged_files files = ap (λ (e : Effect). work_files e files) changes in
       let good = subst (λ (e : Effect). recovery_fault e files ≡ None) changes at in
-      let absent = ap (λ (f : Files). f intent_name) work ∙ absent_now sound files (files intent_name) refl good in
+      let absent = ap (λ (f : Files). f intent_name) work ∙ intent_gone sound files (files intent_name) refl good in
       let here = work_files (effect_of command.applet) files in
       subst Brings (change_is command.applet command given (reads_in here) here changes ∙ sym is)
       (change_none gone command here given.chosen given.clash (change_of_command command (reads_in here) here given.chosen given.clash) refl absent) commits

@@ -26,7 +26,8 @@ use Rattle.run_lists.proofs.Along.{seen_durable}
 use Rattle.run_lists.proofs.AtMoments.{History, now_map, start_or_made}
 use Rattle.run_lists.proofs.Committed.{CommitsNoIntent}
 use Rattle.run_lists.proofs.Facts.{Facts, Ignored}
-use Rattle.run_lists.proofs.Names.{after_hides, no_scratch}
+use Rattle.apk_front.proofs.file_replacement.Suffix.{intent_is_no_scratch}
+use Rattle.run_lists.proofs.Names.{after_hides}
 use Rattle.run_lists.proofs.OneRun.{now_hides, now_durable, durable_at}
 use Rattle.run_lists.proofs.Unstaged.{none_found, not_staged, plain_at}
 
@@ -38,7 +39,7 @@ intent_no_draft Computes o = refl
 intent_no_draft Reads o = refl
 intent_no_draft Tells o = refl
 intent_no_draft Makes None = refl
-intent_no_draft Makes (Some name) = other_bytes intent_name (scratch_of name) (no_scratch name)
+intent_no_draft Makes (Some name) = other_bytes intent_name (scratch_of name) (intent_is_no_scratch name)
 intent_no_draft Changes o = refl
 
 -- ---- a moment

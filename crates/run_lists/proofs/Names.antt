@@ -1,5 +1,5 @@
 -- Which names are ignored.
-use Rattle.std.proofs.Common.{◌≡◌, ℕ, Bool, true, false, ◌||◌, List, [], ◌∷◌, ◌++◌, codes, Option, Some, None, Result, Ok, Err, refl, sym, ap, subst, ◌∙◌, arith}
+use Rattle.std.proofs.Common.{◌≡◌, ℕ, Bool, true, false, ◌||◌, List, [], ◌∷◌, Option, Some, None, Result, Ok, Err, refl, sym, subst, ◌∙◌, arith}
 use Rattle.std.specs.Prelude.{IsTrue, if◌then◌else◌}
 use Rattle.std.specs.Str.{bytes_eq}
 use Rattle.std.proofs.lemmas.Bool.{false≢true, or_right, or_left}
@@ -7,6 +7,7 @@ use Rattle.std.proofs.lemmas.Slice.Eq.{bytes_eq-Decides}
 use Rattle.apk_front.specs.Moments.{IgnoresScratchOf, ignored_but}
 use Rattle.apk_front.specs.declared.answer.Answer.{Answer}
 use Rattle.apk_front.specs.declared.answer.Answer.TheVariants.{Ok as Done, Refused, TreeFault, OutFault, Memory}
+use Rattle.apk_front.proofs.file_replacement.Suffix.{intent_is_no_scratch}
 use Rattle.command_core.specs.Command.{CommandLine}
 use Rattle.apk_front.specs.journal_core.Recovery.{intent_name}
 use Rattle.apk_front.specs.journal_core.Replacing.{scratch_of}
@@ -17,25 +18,6 @@ use Rattle.run_lists.proofs.Touched.{intent_off}
 
 -- ---- the intent is never ignored
 
-last_of : List ℕ → ℕ
-last_of [] = 0
-last_of (b ∷ []) = b
-last_of (b ∷ c ∷ bs) = last_of (c ∷ bs)
-
-last-behind : (xs : List ℕ) (y : ℕ) (ys : List ℕ) → last_of (xs ++ y ∷ ys) ≡ last_of (y ∷ ys)
-unfolding last_of
-last-behind [] y ys = refl
-last-behind (x ∷ []) y ys = refl
-last-behind (x ∷ z ∷ xs) y ys = last-behind (z ∷ xs) y ys
-
-differ : (n : ℕ) → n ≡ 116 → n ≡ 112 → ⊥
-differ n t p = omega (arith, t, p)
-
--- it ends in t, and a scratch name in p
-pub no_scratch : (name : List ℕ) → intent_name ≡ scratch_of name → ⊥
-unfolding last_of
-no_scratch name is = differ (last_of intent_name) refl (ap last_of is ∙ last-behind name 46 (codes "apk-tmp"))
-
 neither : (a b : Bool) → (a ≡ true → ⊥) → b ≡ false → (a || b) ≡ false
 neither true b off is = absurd (off refl)
 neither false b off is = is
@@ -43,7 +25,7 @@ neither false b off is = is
 pub scratch_hides : (o : Option (List ℕ)) (ignored : Ignored) → ignored intent_name ≡ false → with_scratch o ignored intent_name ≡ false
 scratch_hides None ignored off = off
 scratch_hides (Some name) ignored off =
-    neither (bytes_eq intent_name (scratch_of name)) (ignored intent_name) (λ is. no_scratch name ((bytes_eq-Decides intent_name (scratch_of name)).0 is)) off
+    neither (bytes_eq intent_name (scratch_of name)) (ignored intent_name) (λ is. intent_is_no_scratch name ((bytes_eq-Decides intent_name (scratch_of name)).0 is)) off
 
 pub hides : (o : Option (List ℕ)) (ignored : Ignored) → ignored intent_name ≡ false → IgnoresScratchOf o (with_scratch o ignored)
 hides None ignored off = tt

@@ -28,7 +28,9 @@ use Rattle.run_lists.specs.Reading.{HasBadIntent}
 use Rattle.run_lists.specs.Recovered.{ReachesWithoutBadIntent, HasStateBefore, HasStateBeforeOrOutcome, HasStateOf, IsRecoveredBy, IsNotRefusedForIntent, LeavesNoBadIntent, PutsNoBadIntent}
 use Rattle.run_lists.specs.Safety.{HasOldOrOutcome, IsOldOrOutcome}
 use Rattle.run_lists.proofs.Along.{as_crash, seen_durable}
-use Rattle.run_lists.proofs.Committed.{CommitsNoIntent, ReadSound, absent_now}
+use Rattle.apk_front.proofs.outcome.NextRoom.{intent_gone}
+use Rattle.apk_front.proofs.outcome.Recovered.{ReadSound}
+use Rattle.run_lists.proofs.Committed.{CommitsNoIntent}
 use Rattle.run_lists.proofs.Facts.{AreMore, Facts, Ignored}
 use Rattle.run_lists.proofs.Idle.{state_read}
 use Rattle.run_lists.proofs.Moments.{last_moment}
@@ -236,7 +238,7 @@ module _ (facts : Facts) (crash_quiet : (ignored : Ignored) (v w : TreeState) â†
             unrefused = good_unrefused facts only w next is_next recovers here;
             works = fault;
             files = record {
-              intent = absent_now sound (files_of w) (files_of w intent_name) refl (good_fault (files_of w) (here (files_of w) (facts.read_left w)));
+              intent = intent_gone sound (files_of w) (files_of w intent_name) refl (good_fault (files_of w) (here (files_of w) (facts.read_left w)));
               stage = staged_none (files_of w);
               state = state_again names (files_of w) âˆ™ was.2;
             };

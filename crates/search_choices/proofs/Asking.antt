@@ -1,5 +1,5 @@
 -- Which candidates ask for a name by their install-if, and the least of these names.
-use Rattle.std.proofs.Common.{◌≡◌, inl, inr, ℕ, zero, suc, ◌+◌, ◌≤◌, ◌<◌, Bool, true, false, List, [], ◌∷◌, ◌++◌, length, map, get_or, refl, sym, subst, ap, ◌∙◌, arith}
+use Rattle.std.proofs.Common.{◌≡◌, inl, inr, ℕ, zero, suc, ◌+◌, ◌≤◌, ◌<◌, Bool, true, false, List, [], ◌∷◌, ◌++◌, length, map, get_or, refl, sym, subst, ap, ◌∙◌, arith, true≢false}
 use Rattle.std.specs.Prelude.{Option, Some, None, ◌&&◌, not, slice_get, if◌then◌else◌, MatchOption, ◌⊎◌}
 use Rattle.std.specs.Bool.{MatchBool}
 use Rattle.std.specs.Option.{option_map, option_map_or}
@@ -30,9 +30,6 @@ use Rattle.search_tables.proofs.Places.{there_is}
 use Rattle.search_choices.proofs.Consistency.{passing_is_within, none_raised}
 
 -- ---- places and ranks
-
-not_both : (b : Bool) → b ≡ true → b ≡ false → ⊥
-not_both b h g = let bad : true ≡ false = sym h ∙ g in absurd (cc)
 
 pub at_some : {X : Type 0} (p : X → Bool) (o : Option X) → option_map_or p o false ≡ true → (x : X) × (o ≡ Some x) × (p x ≡ true)
 at_some p None h = absurd (cc)
@@ -74,7 +71,7 @@ least_asks pool t by_name waiting cursor k are free here asks = record {
   least = λ o usable asking.
       let r = rank_of by_name o (are.each o usable) in
       elim (cases_lt r.0 cursor) [
-        | inl low ↦ absurd (not_both (rank_asks pool t by_name r.0) (some_at (λ (j : ℕ). asks_at pool t j) (slice_get by_name r.0) o r.2 ∙ asking) (free r.0 low))
+        | inl low ↦ absurd (true≢false (sym (some_at (λ (j : ℕ). asks_at pool t j) (slice_get by_name r.0) o r.2 ∙ asking) ∙ (free r.0 low)))
         | inr high ↦
             let up = are.rising cursor r.0 0 high r.1 in
             subst (λ (j : ℕ). has_lesser_name pool o j ≡ false) (get_is by_name cursor k 0 here)
@@ -119,14 +116,14 @@ met_by_last : (pool : SealedPool) (t : List ℕ) (c : ℕ) (q : Need) → is_met
 met_by_last pool t c q h none =
     let r = any_in (λ k. meets_at pool k q) (t ++ c ∷ []) h in
     elim (in_append r.0 t (c ∷ []) r.1) [
-      | inl a ↦ absurd (not_both (is_met pool t q) (one_any (λ k. meets_at pool k q) t r.0 a r.2) none)
+      | inl a ↦ absurd (true≢false (sym (one_any (λ k. meets_at pool k q) t r.0 a r.2) ∙ none))
       | inr b ↦ elim b [ inl e ↦ subst (λ (z : ℕ). meets_at pool z q ≡ true) e r.2 | inr bad ↦ absurd bad ]
     ]
 
 unmet_less : (pool : SealedPool) (t : List ℕ) (c : ℕ) (q : Need) → is_unmet pool (t ++ c ∷ []) q ≡ true → is_unmet pool t q ≡ true
 unmet_less pool t c q h = elim (cases_Bool (is_met pool t q)) [
   | inr e ↦ ap not e
-  | inl e ↦ let m : is_met pool (t ++ c ∷ []) q ≡ true = any_append (λ k. meets_at pool k q) t (c ∷ []) e in absurd (not_both (is_unmet pool (t ++ c ∷ []) q) h (ap not m))
+  | inl e ↦ let m : is_met pool (t ++ c ∷ []) q ≡ true = any_append (λ k. meets_at pool k q) t (c ∷ []) e in absurd (true≢false (sym h ∙ (ap not m)))
 ]
 
 -- the ranks in front of the cursor stay unasked where it does not pass one that the choice makes ask
@@ -142,7 +139,7 @@ unasked_more pool t c details by_name waiting old new are here was less now = λ
         | inl all ↦
             let asks : asks_for_name pool t one.0 ≡ true = rw all (unmet_less pool t c (named one.0.name) both.1) in
             let at : asks_at pool t k.0 ≡ true = some_at (asks_for_name pool t) (candidate_at pool k.0) one.0 one.1 ∙ asks in
-            absurd (not_both (rank_asks pool t by_name rank) (some_at (λ (j : ℕ). asks_at pool t j) (slice_get by_name rank) k.0 k.1 ∙ at) (was rank low_old))
+            absurd (true≢false (sym (some_at (λ (j : ℕ). asks_at pool t j) (slice_get by_name rank) k.0 k.1 ∙ at) ∙ (was rank low_old)))
         | inr some ↦
             let d = not_all (λ (d : Dependency). is_met pool t (entry d)) one.0.install_if some in
             let met = all_in (λ (d : Dependency). is_met pool (t ++ c ∷ []) (entry d)) one.0.install_if d.0 both.0 d.1 in
@@ -227,7 +224,7 @@ least_named pool t k is = least_is (name_at pool k) (asked_names pool t) (asked_
 none_named : (pool : SealedPool) (t : List ℕ) → IsNoneAsking pool t → least_name (asked_names pool t) ≡ None
 none_named pool t none = elim (none_or_some (least_name (asked_names pool t))) [
   | inl e ↦ e
-  | inr some ↦ let o = asked_by pool t some.0 (least_in (asked_names pool t) some.0 some.1) in absurd (not_both (asks_at pool t o.0) o.3 (none o.0 o.2))
+  | inr some ↦ let o = asked_by pool t some.0 (least_in (asked_names pool t) some.0 some.1) in absurd (true≢false (sym o.3 ∙ (none o.0 o.2)))
 ]
 
 -- no name is asked for and unmet

@@ -5,8 +5,7 @@ use Rattle.std.specs.List.{list_any}
 use Rattle.std.specs.List.Sorted.{IsPermutation, IsSortedBy}
 use Rattle.std.specs.Cmp.{IsStrictWeakOrder}
 use Rattle.std.specs.Cmp.Lexicographic.{nat_list_cmp_total}
-use Rattle.std.proofs.lemmas.Bool.{cases_lt}
-use Rattle.std.proofs.lemmas.Bool.Decides.{eqb_tells}
+use Rattle.std.proofs.lemmas.Bool.{cases_lt, eq-eqb, eqb-true}
 use Rattle.std.proofs.lemmas.List.Sorted.{list_any-IsPermutation, ranks_by, sorted_far}
 use Rattle.dep_core.specs.Dependency.{Dependency}
 use Rattle.pool_core.specs.candidate_core.Candidates.{has_usable_install_if}
@@ -17,20 +16,11 @@ use Rattle.search_tables.specs.NameTable.{items_of}
 use Rattle.pool_core.proofs.candidate_core.OptionLists.{in_places, places_in}
 use Rattle.search_tables.proofs.Satisfying.{any_one, one_any}
 
-self_eq : (x : ℕ) → (x == x) ≡ true
-self_eq x = elim (eqb_tells x x) [ inl e ↦ e.0 | inr n ↦ absurd (n.1 refl) ]
-
-equal_is : (x y : ℕ) → (x == y) ≡ true → x ≡ y
-equal_is x y h = elim (eqb_tells x y) [
-  | inl e ↦ e.1
-  | inr n ↦ let bad : true ≡ false = sym h ∙ n.0 in absurd (cc)
-]
-
 -- a list and its permutation have the same members
 moved : (xs ys : List ℕ) (k : ℕ) → list_any (λ x. k == x) xs ≡ list_any (λ x. k == x) ys → IsIn k xs → IsIn k ys
 moved xs ys k same h =
-    let r = any_one (λ x. k == x) ys (sym same ∙ one_any (λ x. k == x) xs k h (self_eq k)) in
-    subst (λ (z : ℕ). IsIn z ys) (sym (equal_is k r.0 r.2)) r.1
+    let r = any_one (λ x. k == x) ys (sym same ∙ one_any (λ x. k == x) xs k h (eq-eqb k k refl)) in
+    subst (λ (z : ℕ). IsIn z ys) (sym (eqb-true k r.0 r.2)) r.1
 
 pub in_sorted : (xs ys : List ℕ) → IsPermutation xs ys → AreMembers xs ys
 in_sorted xs ys same k h = moved xs ys k (list_any-IsPermutation (λ x. k == x) xs ys same) h

@@ -1,10 +1,12 @@
 -- What the walks of satisfying selections keep.
-use Rattle.std.proofs.Common.{◌≡◌, ◌⊎◌, inl, inr, ℕ, ◌+◌, Bool, true, false, List, [], ◌∷◌, ◌++◌, append_assoc, append-nil, refl, sym, subst, ap, ◌∙◌, arith}
+use Rattle.std.proofs.Common.{◌≡◌, ◌⊎◌, inl, inr, ℕ, ◌+◌, Bool, true, false, List, [], ◌∷◌, ◌++◌, append_assoc, append-nil, refl, sym, subst, ap, ◌∙◌, arith, true≢false}
 use Rattle.std.specs.Prelude.{Some}
-use Rattle.std.specs.Cmp.{IsTotalOrder}
+use Rattle.std.specs.Cmp.{IsStrictWeakOrder, IsTotalOrder}
 use Rattle.std.specs.Ordering.{is_lt, ordering_reverse}
 use Rattle.std.specs.declared.cmp.Ordering.{Ordering}
 use Rattle.std.specs.declared.cmp.Ordering.TheVariants.{Less, Equal, Greater}
+use Rattle.std.proofs.lemmas.Bool.{true_from_ne_false}
+use Rattle.std.proofs.lemmas.List.Sorted.{ranks_by}
 use Rattle.search_choices.specs.candidate_core.Candidates.{Need, is_eligible}
 use Rattle.search_choices.specs.candidate_core.Rank.{SealedPool, is_better, meets_at, rank_cmp}
 use Rattle.search_choices.specs.candidate_core.Options.{IsBestFirst, IsIn, options_for, places_from}
@@ -18,23 +20,20 @@ use Rattle.solve_core.proofs.FirstFound.{none_satisfies}
 use Rattle.search_choices.proofs.candidate_core.OptionLists.{in_places}
 use Rattle.solve_core.proofs.Existence.{first_or_none}
 
-less_of : (o : Ordering) → is_lt o ≡ true → o ≡ Less
-less_of Less h = refl
-less_of Equal h = absurd (cc)
-less_of Greater h = absurd (cc)
-
 sorted_of : (better : ℕ → ℕ → Bool) (cs : List ℕ) → IsBestFirst better cs → law.Sorted (λ a b. better a b ≡ true) cs
 sorted_of better [] h = tt
 sorted_of better (c ∷ cs) h = (h.0, sorted_of better cs h.1)
 
 module _ (pool : SealedPool) (total : (need : Need) → IsTotalOrder (rank_cmp pool need)) (strict : (need : Need) (a b : ℕ) → rank_cmp pool need a b ≡ Equal → a ≡ b) where
+  ranks : (q : Need) → IsStrictWeakOrder (is_better pool q)
+  ranks q = ranks_by (total q) (λ (a : ℕ). a)
+
   chain : (q : Need) (a b c : ℕ) → is_better pool q a b ≡ true → is_better pool q b c ≡ true → is_better pool q a c ≡ true
-  chain q a b c h g = ap is_lt ((total q).trans a b c (less_of (rank_cmp pool q a b) h) (less_of (rank_cmp pool q b c) g))
+  chain q a b c h g =
+      true_from_ne_false (is_better pool q a c) (λ none. true≢false (sym h ∙ (ranks q).chain a c b none ((ranks q).one_way b c g)))
 
   one_way : (q : Need) (a b : ℕ) → is_better pool q a b ≡ true → is_better pool q b a ≡ true → ⊥
-  one_way q a b h g =
-      let back : rank_cmp pool q b a ≡ Greater = (total q).antisymm b a ∙ ap ordering_reverse (less_of (rank_cmp pool q a b) h) in
-      let bad : true ≡ false = sym g ∙ ap is_lt back in absurd (cc)
+  one_way q a b h g = true≢false (sym g ∙ (ranks q).one_way a b h)
 
   one_of : (q : Need) (c d : ℕ) → (c ≡ d) ⊎ ((is_better pool q c d ≡ true) ⊎ (is_better pool q d c ≡ true))
   one_of q c d = by (rank_cmp pool q c d) refl

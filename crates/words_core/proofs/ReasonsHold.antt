@@ -172,7 +172,7 @@ module _ (words : List (List ℕ)) (start : Start) (s : line_start words ≡ Ok 
       let far : length words ≤ place - 1 = omega (arith, e) in
       reason_is place
       ∙ (ap (line_reason start.applet (line_rule words start) (next_after (take (place - 1) words))) (get_none words (place - 1) far)
-      ∙ ap (end_reason start.applet (line_rule words start)) (ap next_after (take_all words (place - 1) far) ∙ n))
+      ∙ ap (end_reason start.applet (line_rule words start)) (ap next_after (take_all (place - 1) words far) ∙ n))
 
   holds : (place : ℕ) (reason : UsageReason) → usage_reason words place ≡ reason → IsUsageReason reason words place → IsUsageReason (usage_reason words place) words place
   holds place reason e h = subst (λ r. IsUsageReason r words place) (sym e) h

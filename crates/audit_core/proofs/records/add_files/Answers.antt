@@ -3,9 +3,10 @@ use Rattle.adb_view.specs.Plain.{Plain}
 use Rattle.path_clashes.specs.adb_fields.ListValue.{list_value}
 use Rattle.path_clashes.specs.adb_fields.Repeated.{list_of}
 use Rattle.adb_view.specs.Values.{entries_in, nth}
+use Rattle.db_core.proofs.Places.{nth_listed}
 use Rattle.audit_core.specs.Records.{FileRecord, file_record}
 use Rattle.audit_core.specs.Seen.{record_seen}
-use Rattle.audit_core.proofs.RecordSteps.{added_more, all_values_taken, map_taken, value_at}
+use Rattle.audit_core.proofs.RecordSteps.{added_more, all_values_taken, map_taken}
 use Rattle.audit_core.proofs.records.add_files.Goals as goal
 
 pub loop-i-preserved : goal.loop-i-preserved
@@ -14,7 +15,7 @@ loop-i-preserved c =
     let record_of : Plain → FileRecord = file_record c.args.folder.now in
     added_more _ _ _ (record_of (nth vs c.loop-i.i) ∷ []) _ _
     c.in_ok-add_file.ensures c.loop-i.invariant
-    (map_taken record_of (list_of vs) c.loop-i.i (nth vs c.loop-i.i) (value_at vs c.loop-i.i (omega (arith, c.len-i-end.ensures.value, c.loop-i-test.true))))
+    (map_taken record_of (list_of vs) c.loop-i.i (nth vs c.loop-i.i) (nth_listed vs c.loop-i.i (omega (arith, c.len-i-end.ensures.value, c.loop-i-test.true))))
 
 pub returns : goal.returns
 returns c =

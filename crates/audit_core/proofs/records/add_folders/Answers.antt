@@ -3,16 +3,17 @@ use Rattle.std.specs.List.{flat_map}
 use Rattle.path_clashes.specs.adb_fields.ListValue.{list_value}
 use Rattle.path_clashes.specs.adb_fields.Repeated.{list_of}
 use Rattle.adb_view.specs.Values.{entries_in, nth}
+use Rattle.db_core.proofs.Places.{nth_listed}
 use Rattle.audit_core.specs.Records.{folder_records}
 use Rattle.audit_core.specs.Seen.{record_seen}
-use Rattle.audit_core.proofs.RecordSteps.{added_more, all_values_taken, flat_taken, value_at}
+use Rattle.audit_core.proofs.RecordSteps.{added_more, all_values_taken, flat_taken}
 use Rattle.audit_core.proofs.records.add_folders.Goals as goal
 
 pub loop-i-preserved : goal.loop-i-preserved
 loop-i-preserved c =
     let vs = entries_in (list_value c.args.folders.now) in
     added_more _ _ _ (folder_records (nth vs c.loop-i.i)) _ _ c.in_ok-add_folder.ensures c.loop-i.invariant
-    (flat_taken folder_records (list_of vs) c.loop-i.i (nth vs c.loop-i.i) (value_at vs c.loop-i.i (omega (arith, c.len-i-end.ensures.value, c.loop-i-test.true))))
+    (flat_taken folder_records (list_of vs) c.loop-i.i (nth vs c.loop-i.i) (nth_listed vs c.loop-i.i (omega (arith, c.len-i-end.ensures.value, c.loop-i-test.true))))
 
 pub returns : goal.returns
 returns c =
