@@ -9,13 +9,14 @@ mod process;
 
 use apk_front::{Answer, Refusal, RootAccess, access_for, status};
 use headline::apk_as_promised;
-use hint_core::explain;
+use hint_core::{explain, warn};
 use host_files::{Lock, write_path};
 use host_tree::HostTree;
 use process::{HostSink, WordsFault, take_stack, words_of};
 use std::io;
 use std::io::Write;
 use std::process::ExitCode;
+use unmet_world::explain_selection;
 use words_core::explain_usage;
 
 /// The status of a run that finds no memory for its words (`docs/commands.md`,
@@ -58,8 +59,14 @@ fn main(rt: HostRuntime) -> ExitCode {
         Answer::Refused(Refusal::Usage { place }) => {
             let _ = explain_usage(&words, *place, &mut err);
         }
+        Answer::Refused(Refusal::Unsatisfied) => {
+            let _ = explain_selection(rt.alloc(), &words, &mut tree, &mut err);
+        }
         Answer::Refused(refusal) => {
             let _ = explain(rt.alloc(), &words, refusal, &mut tree, &mut err);
+        }
+        Answer::Ok => {
+            let _ = warn(rt.alloc(), &words, &mut tree, &mut err);
         }
         _ => {}
     }

@@ -1,3 +1,4 @@
 pub mod Steps
 pub mod LinesFound
 pub mod So
+pub mod WarningSteps

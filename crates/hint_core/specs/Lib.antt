@@ -5,3 +5,5 @@ pub mod Lines
 pub mod Told
 -- what the law says of hints
 pub mod Truths
+-- what a command that was carried out is warned of
+pub mod Warnings

@@ -15,8 +15,10 @@ mod lines;
 mod places;
 mod printed;
 mod telling;
+mod warning;
 
 pub use find::hints;
 pub use hint::{Hint, HintFile, Hints, Subject};
-pub use laws::hints_are_so;
+pub use laws::{hints_are_so, tags_without_a_repository_are_warned_of};
 pub use telling::{HintFault, explain};
+pub use warning::warn;

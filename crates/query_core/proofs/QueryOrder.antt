@@ -1,6 +1,6 @@
 -- Candidates that are sorted by what was read of each, and by the texts or the ranks of their versions, are in the order of queries.
 use Rattle.std.proofs.Common.{◌≡◌, All, ℕ, ◌+◌, ◌<◌, true, false, List, [], length, map, get_or, refl, sym, ap, subst, ◌∙◌, arith}
-use Rattle.std.specs.Prelude.{Option, Some, None, slice_get}
+use Rattle.std.specs.Prelude.{Option, Some, None, ◌==◌, slice_get}
 use Rattle.std.specs.Option.{option_cmp}
 use Rattle.std.specs.Cmp.{IsTotalOrder, nat_cmp_total, on_total, then_total}
 use Rattle.std.specs.Cmp.Lexicographic.{nat_list_cmp_total, options_total}
@@ -8,6 +8,7 @@ use Rattle.std.specs.Ordering.{is_eq, is_lt, nat_cmp, ordering_then}
 use Rattle.std.specs.declared.cmp.Ordering.{Ordering}
 use Rattle.std.specs.declared.cmp.Ordering.TheVariants.{Less, Equal, Greater}
 use Rattle.std.specs.List.Sorted.{IsPermutation, IsSortedBy}
+use Rattle.std.proofs.lemmas.Bool.Decides.{Decides-eqb}
 use Rattle.std.proofs.lemmas.List.{get_or-map, length-map}
 use Rattle.std.proofs.lemmas.List.Sorted.{All-permutation, IsPermutation-map, IsPermutation-refl, IsPermutation-trans}
 use Rattle.std.proofs.lemmas.Map.Text.{is_eq-slice_cmp}
@@ -20,9 +21,10 @@ use Rattle.pool_core.specs.candidate_core.Rank.{bytes_cmp, greater_version}
 use Rattle.pool_core.specs.candidate_core.declared.versions.VersionKind.{VersionKind}
 use Rattle.pool_core.specs.candidate_core.declared.versions.VersionKind.TheVariants.{Under, Own}
 use Rattle.pool_core.specs.option_ranks.Ranking.{Ranking, ranking_by, ranking_cmp, version_order}
-use Rattle.pool_core.specs.option_ranks.VersionRanks.{AreRankedTwice, AreReadyFor, with_rank}
+use Rattle.pool_core.specs.option_ranks.VersionRanks.{AreRankedTwice, AreReadyFor, rank_among, with_rank}
 use Rattle.pool_core.specs.option_ranks.declared.rank.VersionKey.{VersionKey}
 use Rattle.pool_core.specs.option_ranks.declared.rank.VersionKey.TheVariants.{ByRank, ByText}
+use Rattle.pool_core.proofs.option_ranks.CountedRanks.{nat_same}
 use Rattle.pool_core.proofs.option_ranks.MovedMembers.{member_of_all}
 use Rattle.pool_core.proofs.option_ranks.RankOrder.{versions_back}
 use Rattle.pool_core.proofs.option_ranks.RankedOptions.{comes_before, place_of, same_by_rank}
@@ -102,6 +104,16 @@ texts_same (Some x) (Some y) h = ap Some ((bytes_eq-Decides x y).0 (sym (is_eq-s
 same_as_itself : (o : Option (List ℕ)) → is_same_version o o ≡ true
 same_as_itself None = refl
 same_as_itself (Some x) = (bytes_eq-Decides x x).1 refl
+
+module _ (versions : IsTotalOrder version_cmp) (owns : List (Option (List ℕ))) (a b : Ranking) (p : HasRank Own owns a) (q : HasRank Own owns b) where
+  alike_by_rank : (a.version.rank == b.version.rank) ≡ true → a.version.version ≡ b.version.version
+  alike_by_rank h =
+      texts_same a.version.version b.version.version
+      (last_decides (greater_version a.version.version b.version.version) (option_cmp bytes_cmp a.version.version b.version.version)
+      (sym (same_by_rank versions Own owns a b p q) ∙ nat_same a.version.rank b.version.rank ((Decides-eqb a.version.rank b.version.rank).0 h)))
+
+  same_by_version : a.version.version ≡ b.version.version → (a.version.rank == b.version.rank) ≡ true
+  same_by_version h = (Decides-eqb a.version.rank b.version.rank).1 (p.rank ∙ (ap (rank_among Own owns) h ∙ sym q.rank))
 
 -- ---- sorted rankings
 

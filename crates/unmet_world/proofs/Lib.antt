@@ -3,3 +3,5 @@ pub mod Steps
 pub mod AddedTexts
 pub mod Excluding
 pub mod FirstUnmet
+pub mod Pools
+pub mod ExplainedReads

@@ -4,3 +4,4 @@
 pub mod Exclusion
 pub mod Refutation
 pub mod Lines
+pub mod Explained

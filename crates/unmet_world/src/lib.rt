@@ -5,6 +5,7 @@
 #![tactic(auto)]
 
 mod exclusion;
+mod explain;
 mod laws;
 mod lines;
 mod propagation;
@@ -12,6 +13,7 @@ mod refutation;
 mod texts;
 mod unmet;
 
+pub use explain::explain_selection;
 pub use laws::a_refuted_world_has_no_selection;
 pub use refutation::{Owner, Refutation, Step, Want, is_refutation};
 pub use unmet::{explanation_of, why_unmet};

@@ -2,8 +2,8 @@
 //! the dependencies of a sure candidate, and a candidate that alone is left for one of these. It
 //! rules out a candidate that has a dependency for which none is left, or that a sure one excludes.
 //!
-//! No contract says what the search finds: `is_refutation` checks it, so a wrong step costs time
-//! only. It looks at a bounded number of options.
+//! No contract says what the search finds. `is_refutation` checks it, so a wrong step can lose a
+//! refutation, but never makes a line untrue. The search looks at a bounded number of options.
 use crate::exclusion::exclude_each_other;
 use crate::refutation::{Owner, Refutation, Step, Want, candidate, wanted};
 use dep_core::World;

@@ -7,7 +7,7 @@ use Rattle.change_outcome.specs.db_core.declared.members.TheConstants.{MOST_MEMB
 use Rattle.added_packages.specs.Arrivals.{ArePlaced, CanBeMembers, IsPlaced, member_read, members_read}
 use Rattle.added_packages.specs.declared.arrivals.MemberRead.{MemberRead}
 use Rattle.added_packages.proofs.Behind.{all_taken, next_behind, next_few, next_placed, one_more}
-use Rattle.added_packages.proofs.added_packages.members_of_change.Goals as goal
+use Rattle.added_packages.proofs.arrivals.members_of_change.Goals as goal
 
 pub loop-read-init : goal.loop-read-init
 loop-read-init c = record {

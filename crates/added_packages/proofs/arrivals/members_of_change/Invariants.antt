@@ -1,7 +1,7 @@
 use Rattle.std.proofs.Common.{◌≡◌, take}
 use Rattle.change_outcome.specs.db_core.Seen.{members_of, packages_before, packages_of}
 use Rattle.added_packages.specs.Arrivals.{members_read}
-use Rattle.added_packages.proofs.added_packages.members_of_change.Given as goal
+use Rattle.added_packages.proofs.arrivals.members_of_change.Given as goal
 
 abbrev pub invariant-loop-read : goal.invariant-loop-read
 invariant-loop-read l = record {

@@ -1,6 +1,6 @@
 use Rattle.change_outcome.specs.db_core.Seen.{members_of, packages_before}
 use Rattle.added_packages.proofs.Behind.{comes_next, stays_added, stays_after}
-use Rattle.added_packages.proofs.added_packages.push_read.Goals as goal
+use Rattle.added_packages.proofs.arrivals.push_read.Goals as goal
 
 pub stays-requires-clause-behind : goal.stays-requires-clause-behind
 stays-requires-clause-behind c = stays_after (packages_before c.args.members.now) (members_of c.args.members.now) c.args.read.now _ c.in-Stays.is c.requires.behind

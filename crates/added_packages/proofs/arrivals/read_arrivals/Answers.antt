@@ -8,7 +8,7 @@ use Rattle.added_packages.specs.declared.arrivals.Arrivals.{Arrivals}
 use Rattle.added_packages.proofs.ArrivalSteps.{read_more, read_none}
 use Rattle.added_packages.proofs.MembersFound.{PlacesLead, answer_as_before, can_be_members, explained_all, explained_failure, explained_refusal}
 use Rattle.added_packages.proofs.NameAnswers.{no_memory}
-use Rattle.added_packages.proofs.added_packages.read_arrivals.Goals as goal
+use Rattle.added_packages.proofs.arrivals.read_arrivals.Goals as goal
 
 pub returns-in_err-member-clause-found : goal.returns-in_err-member-clause-found
 returns-in_err-member-clause-found g c =

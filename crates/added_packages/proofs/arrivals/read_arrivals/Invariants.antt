@@ -6,7 +6,7 @@ use Rattle.change_outcome.specs.change_inputs.declared.root.Refused.TheVariants.
 use Rattle.change_outcome.specs.db_core.Seen.{packages_of}
 use Rattle.change_outcome.specs.package_changes.Seen.{placed_names_seen}
 use Rattle.added_packages.proofs.ArrivalSteps.{IsReadTo}
-use Rattle.added_packages.proofs.added_packages.read_arrivals.Given as goal
+use Rattle.added_packages.proofs.arrivals.read_arrivals.Given as goal
 
 abbrev pub invariant-loop-i : goal.invariant-loop-i
 invariant-loop-i g l = record {

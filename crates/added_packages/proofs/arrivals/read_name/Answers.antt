@@ -9,7 +9,7 @@ use Rattle.added_packages.specs.Arrivals.{IsPackageRead}
 use Rattle.added_packages.specs.NameReads.{IsNameRead, added_package_read, name_read}
 use Rattle.added_packages.proofs.NameAnswers.{answer_handed, by_any_read, part_refused, test_refused}
 use Rattle.added_packages.proofs.NameSteps.{by_none, comes_found, comes_refused, goes}
-use Rattle.added_packages.proofs.added_packages.read_name.Goals as goal
+use Rattle.added_packages.proofs.arrivals.read_name.Goals as goal
 
 pub returns-in_default-clause-found : goal.returns-in_default-clause-found
 returns-in_default-clause-found g c =

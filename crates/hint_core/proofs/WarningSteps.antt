@@ -1,0 +1,120 @@
+-- What a listing says of a folder, and the steps of the loops over operands and repositories.
+use Rattle.std.proofs.Common.{◌≡◌, ◌∙◌, ◌+◌, ◌<◌, ◌||◌, ℕ, zero, suc, Bool, true, false, List, [], ◌∷◌, ◌++◌, length, drop, Option, Some, None, Result, Ok, Err, refl, sym, ap, arith, inl, inr, append_assoc}
+use Rattle.std.specs.Prelude.{OnOk}
+use Rattle.std.specs.List.{slice_get, slice_index_or, Contains}
+use Rattle.std.specs.Option.{option_map}
+use Rattle.std.specs.Str.{bytes_eq}
+use Rattle.std.proofs.lemmas.Option.{none-some, same_Some}
+use Rattle.std.proofs.lemmas.Slice.Eq.{bytes_eq-Decides}
+use Rattle.base_core.specs.Calls.{IfObservable}
+use Rattle.base_core.specs.Listed.{IsListOf}
+use Rattle.base_core.specs.Tree.{TreeState, files_of}
+use Rattle.command_core.specs.declared.operands.Operand.{Operand}
+use Rattle.dep_core.specs.Repositories.{Repository, repositories_of}
+use Rattle.root_names.specs.RootNames.{repositories_name}
+use Rattle.words_core.proofs.OneMore.{left_at}
+use Rattle.hint_core.specs.Warnings.{HasFileBelow, WarnsOfFolder, WarnsOfTags, folder_line, is_tag_of, is_tagged, tag_line, tag_of, tag_warning, tag_warnings, text_in, warnings_by}
+
+-- ---- a folder
+
+nothing_below : (v : TreeState) (folder : List ℕ) (names : List (List ℕ)) → IsListOf folder v names → length names ≡ 0 → HasFileBelow v folder → ⊥
+nothing_below v folder names listed none has =
+    let at = (listed.each has.0).1 (has.1, has.2) in omega (arith, at.1, none)
+
+something_below : (v : TreeState) (folder : List ℕ) (names : List (List ℕ)) → IsListOf folder v names → (length names ≡ 0 → ⊥) → HasFileBelow v folder
+something_below v folder [] listed some = absurd (some refl)
+something_below v folder (name ∷ names) listed some =
+    let at = (listed.each name).0 (0, omega arith, refl) in (name, at.0, at.1)
+
+pub warned_below : (history : List TreeState) (folder lines : List ℕ) (names : List (List ℕ)) → IfObservable history (λ v. IsListOf folder v names) → length names ≡ 0 → lines ≡ folder_line folder → IfObservable history (WarnsOfFolder folder lines)
+warned_below [] folder lines names listed none is = tt
+warned_below (v ∷ earlier) folder lines names listed none is = inr (is, nothing_below v folder names listed none)
+
+pub silent_below : (history : List TreeState) (folder lines : List ℕ) (names : List (List ℕ)) → IfObservable history (λ v. IsListOf folder v names) → (length names ≡ 0 → ⊥) → lines ≡ [] → IfObservable history (WarnsOfFolder folder lines)
+silent_below [] folder lines names listed some is = tt
+silent_below (v ∷ earlier) folder lines names listed some is = inl (is, something_below v folder names listed some)
+
+-- ---- tags
+
+pub tags_read : (history : List TreeState) (operands : List Operand) (found : Option (List ℕ)) (lines : List ℕ) → IfObservable history (λ v. found ≡ files_of v repositories_name) → lines ≡ warnings_by (repositories_of (text_in found)) operands → IfObservable history (WarnsOfTags operands lines)
+tags_read [] operands found lines same is = tt
+tags_read (v ∷ earlier) operands found lines same is =
+    is ∙ ap (λ f. warnings_by (repositories_of (text_in f)) operands) same
+
+pub warning_more : (rs : List Repository) (os : List Operand) (i : ℕ) (o : Operand) (lines now text : List ℕ) → slice_get os i ≡ Some o → text ≡ o.text → now ≡ lines ++ tag_warning rs (tag_of text)
+    → lines ++ tag_warnings rs (drop i os) ≡ tag_warnings rs os → now ++ tag_warnings rs (drop (i + 1) os) ≡ tag_warnings rs os
+warning_more rs os i o lines now text at is so h =
+    ap (λ (l : List ℕ). l ++ tag_warnings rs (drop (i + 1) os)) (so ∙ ap (λ (t : List ℕ). lines ++ tag_warning rs (tag_of t)) is)
+    ∙ append_assoc lines (tag_warning rs (tag_of o.text)) (tag_warnings rs (drop (i + 1) os))
+    ∙ ap (λ (l : List Operand). lines ++ tag_warnings rs l) (sym (left_at os i o at)) ∙ h
+
+-- the repository at an index, of which the tag is known
+record IsTagAt (rs : List Repository) (i : ℕ) (tag : Option (List ℕ)) : Type 0 where
+  repository : Repository
+  at : slice_get rs i ≡ Some repository
+  is : repository.tag ≡ tag
+
+tag_at : (rs : List Repository) (i : ℕ) (tag : Option (List ℕ)) → option_map (λ (r : Repository). r.tag) (slice_get rs i) ≡ Some tag → IsTagAt rs i tag
+tag_at rs i tag e =
+    elim (slice_get rs i) as (λ o. slice_get rs i ≡ o → option_map (λ (r : Repository). r.tag) o ≡ Some tag → IsTagAt rs i tag) [
+      | None ↦ λ at none. absurd (none-some tag none)
+      | Some r ↦ λ at some. record { repository = r; at = at; is = same_Some _ _ some }
+    ] refl e
+
+tagged_from : (rs : List Repository) (i : ℕ) (tag : List ℕ) (found : Option (List ℕ)) → option_map (λ (r : Repository). r.tag) (slice_get rs i) ≡ Some found → is_tagged (drop i rs) tag ≡ (is_tag_of tag found || is_tagged (drop (i + 1) rs) tag)
+tagged_from rs i tag found e =
+    let one = tag_at rs i found e in
+    ap (λ (l : List Repository). is_tagged l tag) (left_at rs i one.repository one.at)
+    ∙ ap (λ t. is_tag_of tag t || is_tagged (drop (i + 1) rs) tag) one.is
+
+pub tagged_here : (rs : List Repository) (i : ℕ) (tag : List ℕ) (found : Option (List ℕ)) → option_map (λ (r : Repository). r.tag) (slice_get rs i) ≡ Some found → is_tag_of tag found ≡ true → is_tagged rs tag ≡ is_tagged (drop i rs) tag → true ≡ is_tagged rs tag
+tagged_here rs i tag found e here h =
+    sym (h ∙ (tagged_from rs i tag found e ∙ ap (λ b. b || is_tagged (drop (i + 1) rs) tag) here))
+
+pub tagged_later : (rs : List Repository) (i : ℕ) (tag : List ℕ) (found : Option (List ℕ)) → option_map (λ (r : Repository). r.tag) (slice_get rs i) ≡ Some found → is_tag_of tag found ≡ false → is_tagged rs tag ≡ is_tagged (drop i rs) tag → is_tagged rs tag ≡ is_tagged (drop (i + 1) rs) tag
+tagged_later rs i tag found e other h =
+    h ∙ (tagged_from rs i tag found e ∙ ap (λ b. b || is_tagged (drop (i + 1) rs) tag) other)
+
+-- ---- which tags are warned of
+
+not_true : (b : Bool) → (b ≡ true → ⊥) → b ≡ false
+not_true true h = absurd (h refl)
+not_true false h = refl
+
+or_true : (b : Bool) → (b || true) ≡ true
+or_true true = refl
+or_true false = refl
+
+is_other : (tag : List ℕ) (found : Option (List ℕ)) → (found ≡ Some tag → ⊥) → is_tag_of tag found ≡ false
+is_other tag None other = refl
+is_other tag (Some found) other =
+    not_true (bytes_eq found tag) (λ e. other (ap Some ((bytes_eq-Decides found tag).0 e)))
+
+is_same : (tag : List ℕ) (found : Option (List ℕ)) → found ≡ Some tag → is_tag_of tag found ≡ true
+is_same tag found e = ap (is_tag_of tag) e ∙ (bytes_eq-Decides tag tag).1 refl
+
+untagged : (rs : List Repository) (tag : List ℕ) → ((r : Repository) → Contains rs r → r.tag ≡ Some tag → ⊥) → is_tagged rs tag ≡ false
+untagged [] tag none = refl
+untagged (r ∷ rs) tag none =
+    ap (λ b. b || is_tagged rs tag) (is_other tag r.tag (none r (0, omega arith, refl)))
+    ∙ untagged rs tag (λ q at e. none q (suc at.0, omega (arith, at.1), at.2) e)
+
+tagged : (rs : List Repository) (tag : List ℕ) (k : ℕ) (r : Repository) → k < length rs → slice_index_or rs k r ≡ r → r.tag ≡ Some tag → is_tagged rs tag ≡ true
+tagged [] tag k r lt is e = absurd (omega (arith, lt))
+tagged (x ∷ rs) tag zero r lt is e =
+    ap (λ b. b || is_tagged rs tag) (is_same tag x.tag (ap (λ (y : Repository). y.tag) is ∙ e))
+tagged (x ∷ rs) tag (suc k) r lt is e =
+    ap (λ b. is_tag_of tag x.tag || b) (tagged rs tag k r (omega (arith, lt)) is e) ∙ or_true (is_tag_of tag x.tag)
+
+pub warned_if_none : (rs : List Repository) (tag : List ℕ) → ((r : Repository) → Contains rs r → r.tag ≡ Some tag → ⊥) → tag_warning rs (Some tag) ≡ tag_line tag
+warned_if_none rs tag none = rw (untagged rs tag none) refl
+
+pub silent_if_one : (rs : List Repository) (tag : List ℕ) (r : Repository) → Contains rs r → r.tag ≡ Some tag → tag_warning rs (Some tag) ≡ []
+silent_if_one rs tag r at e = rw (tagged rs tag at.0 r at.1 at.2 e) refl
+
+-- ---- what a call says
+
+-- what holds anyway holds of a success
+pub on_ok : {T E P : Type 0} (result : Result T E) → P → OnOk result P
+on_ok (Ok value) p = p
+on_ok (Err fault) p = tt

@@ -1,0 +1,109 @@
+-- Warnings: what a command that was carried out may not have been meant to do. The rules are in
+-- `docs/commands.md`, "Warnings".
+use Rattle.std.specs.Prelude.{◌≡◌, ◌⊎◌, ℕ, Bool, false, if◌then◌else◌, List, [], ◌∷◌, ◌++◌, codes, Option, Some, None, IsSome, option_and_then, Result, Ok, Err}
+use Rattle.std.specs.List.{list_any}
+use Rattle.std.specs.Option.{option_map}
+use Rattle.std.specs.Str.{bytes_eq}
+use Rattle.base_core.specs.Calls.{IfObservable}
+use Rattle.base_core.specs.Files.{IsFolderOf}
+use Rattle.base_core.specs.Tree.{TreeState, files_of}
+use Rattle.command_core.specs.Command.{CommandLine}
+use Rattle.command_core.specs.Files.{without_dot}
+use Rattle.command_core.specs.Values.{first_value}
+use Rattle.command_core.specs.declared.command.Applet.{Applet}
+use Rattle.command_core.specs.declared.command.Applet.TheVariants.{Add, Mkpkg}
+use Rattle.command_core.specs.declared.operands.Operand.{Operand}
+use Rattle.command_core.specs.declared.values.OptionValue.{OptionValue}
+use Rattle.command_core.specs.declared.values.TheConstants.{FILES}
+use Rattle.dep_core.specs.Dependency.{Dependency}
+use Rattle.dep_core.specs.Reading.{dependency_of}
+use Rattle.dep_core.specs.Repositories.{Repository, repositories_of}
+use Rattle.root_names.specs.RootNames.{repositories_name}
+use Rattle.words_core.specs.Usage.{texts_joined}
+use Rattle.hint_core.specs.Lines.{printed_text}
+
+-- ---- a folder without files
+
+-- the folder whose files a package gets, if `-F` gives one
+abbrev pub packed_folder : List OptionValue → Option (List ℕ)
+packed_folder values =
+    option_map (λ (v : OptionValue). without_dot v.text) (first_value FILES values)
+
+-- the line that says that no file is below a folder
+abbrev pub folder_line : List ℕ → List ℕ
+folder_line folder = texts_joined
+    (codes "apk: no file is below " ∷ (printed_text folder ∷ (codes "\n" ∷ [])))
+
+-- a file is below a folder
+abbrev pub HasFileBelow : TreeState → List ℕ → Type 0
+HasFileBelow v folder = (name : List ℕ) × IsSome (v.names name) × IsFolderOf folder name
+
+-- what is printed of a folder: nothing if a file is below it, else the line
+abbrev pub WarnsOfFolder : List ℕ → List ℕ → TreeState → Type 0
+WarnsOfFolder folder lines v =
+    ((lines ≡ []) × HasFileBelow v folder)
+    ⊎ ((lines ≡ folder_line folder) × (HasFileBelow v folder → ⊥))
+
+-- what is printed of the folder that `-F` gives, if it gives one
+abbrev pub WarnsIfGiven : Option (List ℕ) → List TreeState → List ℕ → Type 0
+WarnsIfGiven None history lines = lines ≡ []
+WarnsIfGiven (Some folder) history lines = IfObservable history (WarnsOfFolder folder lines)
+
+-- ---- a tag that no repository has
+
+-- the tag of a text that is a dependency, if it has one
+abbrev pub tag_of : List ℕ → Option (List ℕ)
+tag_of text = option_and_then (λ (d : Dependency). d.tag) (dependency_of text)
+
+-- whether a tag that there may be is this one
+abbrev pub is_tag_of : List ℕ → Option (List ℕ) → Bool
+is_tag_of tag None = false
+is_tag_of tag (Some other) = bytes_eq other tag
+
+-- whether one of some repositories has a tag
+abbrev pub is_tagged : List Repository → List ℕ → Bool
+is_tagged repositories tag = list_any (λ (r : Repository). is_tag_of tag r.tag) repositories
+
+-- the line that says that no repository has a tag
+abbrev pub tag_line : List ℕ → List ℕ
+tag_line tag = texts_joined
+    (codes "apk: no repository has the tag @" ∷ (printed_text tag ∷ (codes "\n" ∷ [])))
+
+-- what is printed of a tag, if there is one: the line if no repository has it
+abbrev pub tag_warning : List Repository → Option (List ℕ) → List ℕ
+tag_warning repositories None = []
+tag_warning repositories (Some tag) = if is_tagged repositories tag then [] else tag_line tag
+
+-- what is printed of the tags of operands
+abbrev pub tag_warnings : List Repository → List Operand → List ℕ
+tag_warnings repositories [] = []
+tag_warnings repositories (operand ∷ operands) =
+    tag_warning repositories (tag_of operand.text) ++ tag_warnings repositories operands
+
+-- the same, by the repositories that were read; nothing if they cannot be
+abbrev pub warnings_by : Result (List Repository) ℕ → List Operand → List ℕ
+warnings_by (Ok repositories) operands = tag_warnings repositories operands
+warnings_by (Err line) operands = []
+
+-- the text of a file; it is empty if there is no file
+abbrev pub text_in : Option (List ℕ) → List ℕ
+text_in None = []
+text_in (Some text) = text
+
+-- what is printed of the tags of operands are these lines, by the file that names the repositories
+abbrev pub WarnsOfTags : List Operand → List ℕ → TreeState → Type 0
+WarnsOfTags operands lines v =
+    lines ≡ warnings_by (repositories_of (text_in (files_of v repositories_name))) operands
+
+-- ---- both
+
+-- what is printed of a command with this applet
+abbrev pub WarnsBy : Applet → CommandLine → List TreeState → List ℕ → Type 0
+WarnsBy Mkpkg command history lines = WarnsIfGiven (packed_folder command.values) history lines
+WarnsBy Add command history lines = IfObservable history (WarnsOfTags command.operands lines)
+WarnsBy applet command history lines = lines ≡ []
+
+-- what is printed of the words of a command line
+abbrev pub Warns : Result CommandLine ℕ → List TreeState → List ℕ → Type 0
+Warns (Ok command) history lines = WarnsBy command.applet command history lines
+Warns (Err place) history lines = lines ≡ []

@@ -1,0 +1,258 @@
+//! Writes warnings after a command that was carried out. The rules are in `docs/commands.md`,
+//! "Warnings".
+ghost use Rattle.std.specs.Prelude.{◌≡◌, ◌⊎◌, ◌++◌, [], ℕ, List, IfOk, IfErr, OnOk, Contains, Some, None};
+ghost use Rattle.std.specs.Option.{option_copied, option_map};
+ghost use Rattle.base_core.specs.Calls.{IfObservable};
+ghost use Rattle.base_core.specs.Read.{OnlyReads, bytes_in};
+ghost use Rattle.base_core.specs.Sink.{sink_change};
+ghost use Rattle.dep_core.specs.Repositories.{Repository, repositories_of};
+ghost use Rattle.words_core.specs.Grammar.{command_of};
+ghost use Rattle.hint_core.specs.Told.{IsNoDisk, Tells};
+ghost use Rattle.hint_core.specs.Warnings.{WarnsBy, WarnsIfGiven, WarnsOfFolder, WarnsOfTags, Warns, folder_line, is_tag_of, is_tagged, packed_folder, tag_line, tag_of, tag_warning, tag_warnings, text_in, warnings_by};
+
+use crate::printed::{printed, push_texts};
+use crate::telling::HintFault;
+use base_core::{Name, Sink, Tree, TreeFault, Words, read_all, write_all};
+use command_core::{Applet, Command, FILES, Operands, values_are_of_their_kind};
+use dep_core::{Repos, ReposFault, read_dep};
+use root_names::repositories_name;
+use std::alloc::{AllocError, Global};
+use words_core::read_words;
+
+/// Writes the warnings of a command line that was carried out: of `mkpkg`, that no file is below
+/// the folder of `-F`; of `add`, the tags of operands that no repository has. Nothing of the tree
+/// is changed.
+///
+/// # Errors
+///
+/// `Disk` or `Memory`, and nothing was written; or `Sink`, and a prefix of the lines was.
+pub fn warn<T: Tree, S: Sink>(
+    alloc: Global,
+    words: &Words,
+    tree: &mut T,
+    sink: &mut S,
+) -> Result<(), HintFault>
+    // The lines are those of the words and of the tree. If the call fails, nothing was written, or
+    // a prefix of them.
+    ensures told { (lines : List ℕ)
+        × ((lines ≡ []) ⊎ Warns (command_of words.now) (T.history tree.old) lines)
+        × OnOk result (Warns (command_of words.now) (T.history tree.old) lines)
+        × Tells lines (sink_change S.bytes S.counts sink.old sink.new) result }
+    // The tree is only read.
+    ensures tree { OnlyReads HintFault.Disk (T.history tree.old) (T.history tree.new)
+        (T.counts tree.old) (T.counts tree.new) result }
+{
+    let lines = warnings(alloc, words, tree)?;
+    say(&lines, sink)
+}
+
+// Writes lines.
+fn say<S: Sink>(lines: &[u8], sink: &mut S) -> Result<(), HintFault>
+    ensures told { Tells lines.now (sink_change S.bytes S.counts sink.old sink.new) result }
+    // No tree failed.
+    ensures failed { IfErr result IsNoDisk }
+{
+    Ok(write_all(sink, lines)?)
+}
+
+// The warnings of a command line.
+fn warnings<T: Tree>(alloc: Global, words: &Words, tree: &mut T) -> Result<Vec<u8>, TreeFault>
+    ensures lines { IfOk result (λ lines.
+        Warns (command_of words.now) (T.history tree.old) lines.items) }
+    ensures tree { OnlyReads TreeFault.Disk (T.history tree.old) (T.history tree.new)
+        (T.counts tree.old) (T.counts tree.new) result }
+{
+    match read_words(alloc, words) {
+        Ok(command) => warnings_of(alloc, &command, tree),
+        Err(words_core::WordsFault::Usage { place: _ }) => Ok(Vec::new(alloc)),
+        Err(words_core::WordsFault::Memory) => Err(TreeFault::Memory),
+    }
+}
+
+// The warnings of a command.
+fn warnings_of<T: Tree>(
+    alloc: Global,
+    command: &Command,
+    tree: &mut T,
+) -> Result<Vec<u8>, TreeFault>
+    ensures lines { IfOk result (λ lines.
+        WarnsBy command.now.applet command.now (T.history tree.old) lines.items) }
+    ensures tree { OnlyReads TreeFault.Disk (T.history tree.old) (T.history tree.new)
+        (T.counts tree.old) (T.counts tree.new) result }
+{
+    match command.applet() {
+        Applet::Mkpkg => folder_warning(alloc, packed_folder(command), tree),
+        Applet::Add => tag_warnings(alloc, command.operands(), tree),
+        _ => Ok(Vec::new(alloc)),
+    }
+}
+
+// ---- a folder without files
+
+// The folder whose files a package gets, if `-F` gives one.
+fn packed_folder(command: &Command) -> Option<&Name>
+    ensures { option_map (λ name. name.now) result ≡ packed_folder command.entry.now.values }
+{
+    // A law that the proof needs; it computes nothing.
+    values_are_of_their_kind();
+    command.values().first_file(FILES)
+}
+
+// The warning of a folder, if one is given.
+fn folder_warning<T: Tree>(
+    alloc: Global,
+    folder: Option<&Name>,
+    tree: &mut T,
+) -> Result<Vec<u8>, TreeFault>
+    ensures lines { IfOk result (λ lines.
+        WarnsIfGiven (option_map (λ name. name.now) folder.entry) (T.history tree.old) lines.items) }
+    ensures tree { OnlyReads TreeFault.Disk (T.history tree.old) (T.history tree.new)
+        (T.counts tree.old) (T.counts tree.new) result }
+{
+    match folder {
+        Some(folder) => warning_below(alloc, folder, tree),
+        None => Ok(Vec::new(alloc)),
+    }
+}
+
+// The warning of a folder.
+fn warning_below<T: Tree>(alloc: Global, folder: &Name, tree: &mut T) -> Result<Vec<u8>, TreeFault>
+    ensures lines { IfOk result (λ lines.
+        IfObservable (T.history tree.old) (WarnsOfFolder folder.now lines.items)) }
+    ensures tree { OnlyReads TreeFault.Disk (T.history tree.old) (T.history tree.new)
+        (T.counts tree.old) (T.counts tree.new) result }
+{
+    let names = tree.list(alloc, folder)?;
+    if !names.is_empty() {
+        return Ok(Vec::new(alloc));
+    }
+    let line = folder_line(alloc, folder.as_bytes())?;
+    Ok(line)
+}
+
+// The line that says that no file is below a folder.
+fn folder_line(alloc: Global, folder: &[u8]) -> Result<Vec<u8>, AllocError>
+    ensures { IfOk result (λ line. line.items ≡ folder_line folder.now) }
+{
+    let shown = printed(alloc, folder)?;
+    let mut line = Vec::new(alloc);
+    push_texts(&mut line, &[b"apk: no file is below ", &shown, b"\n"])?;
+    Ok(line)
+}
+
+// ---- a tag that no repository has
+
+// The warnings of the tags of operands.
+fn tag_warnings<T: Tree>(
+    alloc: Global,
+    operands: &Operands,
+    tree: &mut T,
+) -> Result<Vec<u8>, TreeFault>
+    ensures lines { IfOk result (λ lines.
+        IfObservable (T.history tree.old) (WarnsOfTags operands.now lines.items)) }
+    ensures tree { OnlyReads TreeFault.Disk (T.history tree.old) (T.history tree.new)
+        (T.counts tree.old) (T.counts tree.new) result }
+{
+    let name = repositories_name(alloc)?;
+    let found = read_all(alloc, tree, &name)?;
+    let lines = warnings_by_text(alloc, text_in(&found), operands)?;
+    Ok(lines)
+}
+
+// The text of a file; it is empty if there is no file.
+fn text_in(found: &Option<Vec<u8>>) -> &[u8]
+    ensures { result.now ≡ text_in (bytes_in found.now) }
+{
+    match found {
+        Some(text) => text,
+        None => b"",
+    }
+}
+
+// The warnings of the tags of operands, given the text that names the repositories.
+fn warnings_by_text(alloc: Global, text: &[u8], operands: &Operands) -> Result<Vec<u8>, AllocError>
+    ensures { IfOk result (λ lines.
+        lines.items ≡ warnings_by (repositories_of text.now) operands.now) }
+{
+    match Repos::read(alloc, text) {
+        Ok(repos) => warnings_of_all(alloc, &repos, operands),
+        Err(ReposFault::Bad { line: _ }) => Ok(Vec::new(alloc)),
+        Err(ReposFault::Memory) => Err(AllocError),
+    }
+}
+
+// The warnings of the tags of operands.
+fn warnings_of_all(alloc: Global, repos: &Repos, operands: &Operands) -> Result<Vec<u8>, AllocError>
+    ensures { IfOk result (λ lines. lines.items ≡ tag_warnings repos.now operands.now) }
+{
+    let mut lines = Vec::new(alloc);
+    for i in 0..operands.len() {
+        push_warning(alloc, &mut lines, repos, operands.get(i).text.as_bytes())?;
+    }
+    Ok(lines)
+}
+
+// Adds the warning of an operand's tag, if no repository has it.
+fn push_warning(
+    alloc: Global,
+    lines: &mut Vec<u8>,
+    repos: &Repos,
+    operand: &[u8],
+) -> Result<(), AllocError>
+    ensures { OnOk result (lines.new.items
+        ≡ lines.old.items ++ tag_warning repos.now (tag_of operand.now)) }
+{
+    match tag_of(operand) {
+        Some(tag) => push_unless_tagged(alloc, lines, repos, tag),
+        None => Ok(()),
+    }
+}
+
+// Adds the warning of a tag, if no repository has it.
+fn push_unless_tagged(
+    alloc: Global,
+    lines: &mut Vec<u8>,
+    repos: &Repos,
+    tag: &[u8],
+) -> Result<(), AllocError>
+    ensures { OnOk result (lines.new.items
+        ≡ lines.old.items ++ tag_warning repos.now (Some tag.now)) }
+{
+    if is_tagged(repos, tag) {
+        return Ok(());
+    }
+    let shown = printed(alloc, tag)?;
+    push_texts(lines, &[b"apk: no repository has the tag @", &shown, b"\n"])
+}
+
+// The tag of a text that is a dependency, if it has one.
+fn tag_of(text: &[u8]) -> Option<&[u8]>
+    ensures { option_copied result ≡ tag_of text.entry.now }
+{
+    match read_dep(text) {
+        Some(dep) => dep.tag,
+        None => None,
+    }
+}
+
+// Whether one of some repositories has a tag.
+fn is_tagged(repos: &Repos, tag: &[u8]) -> bool
+    ensures { result ≡ is_tagged repos.now tag.now }
+{
+    for i in 0..repos.len() {
+        if is_tag_of(tag, repos.tag(i)) {
+            return true;
+        }
+    }
+    false
+}
+
+// Whether a tag that there may be is this one.
+fn is_tag_of(tag: &[u8], other: Option<&[u8]>) -> bool
+    ensures { result ≡ is_tag_of tag.now (option_copied other.entry) }
+{
+    match other {
+        Some(other) => other == tag,
+        None => false,
+    }
+}
