@@ -13,7 +13,7 @@ use Rattle.command_core.specs.declared.operands.Operand.{Operand}
 use Rattle.dep_core.specs.Repositories.{Repository, repositories_of}
 use Rattle.root_names.specs.RootNames.{repositories_name}
 use Rattle.words_core.proofs.OneMore.{left_at}
-use Rattle.hint_core.specs.Warnings.{HasFileBelow, WarnsOfFolder, WarnsOfTags, folder_line, is_tag_of, is_tagged, tag_line, tag_of, tag_warning, tag_warnings, text_in, warnings_by}
+use Rattle.hint_core.specs.Warnings.{HasFileBelow, WarnsOfFolder, WarnsOfTags, folder_line, is_tag_of, is_tagged, tag_line, tag_of, tag_warning, tag_warnings, text_of_found, warnings_by}
 
 -- ---- a folder
 
@@ -36,10 +36,10 @@ silent_below (v ∷ earlier) folder lines names listed some is = inl (is, someth
 
 -- ---- tags
 
-pub tags_read : (history : List TreeState) (operands : List Operand) (found : Option (List ℕ)) (lines : List ℕ) → IfObservable history (λ v. found ≡ files_of v repositories_name) → lines ≡ warnings_by (repositories_of (text_in found)) operands → IfObservable history (WarnsOfTags operands lines)
+pub tags_read : (history : List TreeState) (operands : List Operand) (found : Option (List ℕ)) (lines : List ℕ) → IfObservable history (λ v. found ≡ files_of v repositories_name) → lines ≡ warnings_by (repositories_of (text_of_found found)) operands → IfObservable history (WarnsOfTags operands lines)
 tags_read [] operands found lines same is = tt
 tags_read (v ∷ earlier) operands found lines same is =
-    is ∙ ap (λ f. warnings_by (repositories_of (text_in f)) operands) same
+    is ∙ ap (λ f. warnings_by (repositories_of (text_of_found f)) operands) same
 
 pub warning_more : (rs : List Repository) (os : List Operand) (i : ℕ) (o : Operand) (lines now text : List ℕ) → slice_get os i ≡ Some o → text ≡ o.text → now ≡ lines ++ tag_warning rs (tag_of text)
     → lines ++ tag_warnings rs (drop i os) ≡ tag_warnings rs os → now ++ tag_warnings rs (drop (i + 1) os) ≡ tag_warnings rs os

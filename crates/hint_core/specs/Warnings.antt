@@ -25,8 +25,8 @@ use Rattle.hint_core.specs.Lines.{printed_text}
 -- ---- a folder without files
 
 -- the folder whose files a package gets, if `-F` gives one
-abbrev pub packed_folder : List OptionValue → Option (List ℕ)
-packed_folder values =
+abbrev pub folder_to_pack : List OptionValue → Option (List ℕ)
+folder_to_pack values =
     option_map (λ (v : OptionValue). without_dot v.text) (first_value FILES values)
 
 -- the line that says that no file is below a folder
@@ -86,20 +86,20 @@ warnings_by (Ok repositories) operands = tag_warnings repositories operands
 warnings_by (Err line) operands = []
 
 -- the text of a file; it is empty if there is no file
-abbrev pub text_in : Option (List ℕ) → List ℕ
-text_in None = []
-text_in (Some text) = text
+abbrev pub text_of_found : Option (List ℕ) → List ℕ
+text_of_found None = []
+text_of_found (Some text) = text
 
 -- what is printed of the tags of operands are these lines, by the file that names the repositories
 abbrev pub WarnsOfTags : List Operand → List ℕ → TreeState → Type 0
 WarnsOfTags operands lines v =
-    lines ≡ warnings_by (repositories_of (text_in (files_of v repositories_name))) operands
+    lines ≡ warnings_by (repositories_of (text_of_found (files_of v repositories_name))) operands
 
 -- ---- both
 
 -- what is printed of a command with this applet
 abbrev pub WarnsBy : Applet → CommandLine → List TreeState → List ℕ → Type 0
-WarnsBy Mkpkg command history lines = WarnsIfGiven (packed_folder command.values) history lines
+WarnsBy Mkpkg command history lines = WarnsIfGiven (folder_to_pack command.values) history lines
 WarnsBy Add command history lines = IfObservable history (WarnsOfTags command.operands lines)
 WarnsBy applet command history lines = lines ≡ []
 

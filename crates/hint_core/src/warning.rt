@@ -8,7 +8,7 @@ ghost use Rattle.base_core.specs.Sink.{sink_change};
 ghost use Rattle.dep_core.specs.Repositories.{Repository, repositories_of};
 ghost use Rattle.words_core.specs.Grammar.{command_of};
 ghost use Rattle.hint_core.specs.Told.{IsNoDisk, Tells};
-ghost use Rattle.hint_core.specs.Warnings.{WarnsBy, WarnsIfGiven, WarnsOfFolder, WarnsOfTags, Warns, folder_line, is_tag_of, is_tagged, packed_folder, tag_line, tag_of, tag_warning, tag_warnings, text_in, warnings_by};
+ghost use Rattle.hint_core.specs.Warnings.{WarnsBy, WarnsIfGiven, WarnsOfFolder, WarnsOfTags, Warns, folder_line, is_tag_of, is_tagged, folder_to_pack, tag_line, tag_of, tag_warning, tag_warnings, text_of_found, warnings_by};
 
 use crate::printed::{printed, push_texts};
 use crate::telling::HintFault;
@@ -81,7 +81,7 @@ fn warnings_of<T: Tree>(
         (T.counts tree.old) (T.counts tree.new) result }
 {
     match command.applet() {
-        Applet::Mkpkg => folder_warning(alloc, packed_folder(command), tree),
+        Applet::Mkpkg => folder_warning(alloc, folder_to_pack(command), tree),
         Applet::Add => tag_warnings(alloc, command.operands(), tree),
         _ => Ok(Vec::new(alloc)),
     }
@@ -90,8 +90,8 @@ fn warnings_of<T: Tree>(
 // ---- a folder without files
 
 // The folder whose files a package gets, if `-F` gives one.
-fn packed_folder(command: &Command) -> Option<&Name>
-    ensures { option_map (λ name. name.now) result ≡ packed_folder command.entry.now.values }
+fn folder_to_pack(command: &Command) -> Option<&Name>
+    ensures { option_map (λ name. name.now) result ≡ folder_to_pack command.entry.now.values }
 {
     // A law that the proof needs; it computes nothing.
     values_are_of_their_kind();
@@ -155,13 +155,13 @@ fn tag_warnings<T: Tree>(
 {
     let name = repositories_name(alloc)?;
     let found = read_all(alloc, tree, &name)?;
-    let lines = warnings_by_text(alloc, text_in(&found), operands)?;
+    let lines = warnings_by_text(alloc, text_of_found(&found), operands)?;
     Ok(lines)
 }
 
 // The text of a file; it is empty if there is no file.
-fn text_in(found: &Option<Vec<u8>>) -> &[u8]
-    ensures { result.now ≡ text_in (bytes_in found.now) }
+fn text_of_found(found: &Option<Vec<u8>>) -> &[u8]
+    ensures { result.now ≡ text_of_found (bytes_in found.now) }
 {
     match found {
         Some(text) => text,

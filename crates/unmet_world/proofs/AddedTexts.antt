@@ -10,11 +10,11 @@ use Rattle.words_core.proofs.Hints.{shown_chain}
 use Rattle.dep_core.specs.Dependency.{Dependency}
 use Rattle.dep_core.specs.DependencyText.{dep_text}
 use Rattle.unmet_world.specs.Refutation.{if_positive}
-use Rattle.unmet_world.specs.Lines.{joined_texts, with_text, with_texts, world_lines, world_lines_of}
+use Rattle.unmet_world.specs.Lines.{joined_texts, with_text_once, with_texts, world_lines, world_lines_of}
 
 pub with_texts-append : (so_far xs ys : List (List ℕ)) → with_texts so_far (xs ++ ys) ≡ with_texts (with_texts so_far xs) ys
 with_texts-append so_far [] ys = refl
-with_texts-append so_far (x ∷ xs) ys = with_texts-append (with_text so_far x) xs ys
+with_texts-append so_far (x ∷ xs) ys = with_texts-append (with_text_once so_far x) xs ys
 
 pub flat_map-append : {X Y : Type 0} (f : X → List Y) (xs ys : List X) → flat_map f (xs ++ ys) ≡ flat_map f xs ++ flat_map f ys
 flat_map-append f [] ys = refl
@@ -41,9 +41,9 @@ shown_step so_far more x first before after one was is =
     is ∙ (ap (λ z. z ++ shown_byte x) was ∙ (append_assoc first (shown_bytes so_far) (shown_byte x) ∙ ap (λ z. first ++ z) (sym (ap shown_bytes one ∙ (shown_chain so_far (x ∷ []) ∙ ap (λ z. shown_bytes so_far ++ z) (append-nil (shown_byte x)))))))
 
 -- the text of one more element
-pub mapped_next : {X : Type 0} (f : X → List ℕ) (xs : List X) (i : ℕ) (x : X) (before after : List (List ℕ)) → slice_get xs i ≡ Some x → before ≡ with_texts [] (map f (take i xs)) → after ≡ with_text before (f x) → after ≡ with_texts [] (map f (take (i + 1) xs))
+pub mapped_next : {X : Type 0} (f : X → List ℕ) (xs : List X) (i : ℕ) (x : X) (before after : List (List ℕ)) → slice_get xs i ≡ Some x → before ≡ with_texts [] (map f (take i xs)) → after ≡ with_text_once before (f x) → after ≡ with_texts [] (map f (take (i + 1) xs))
 mapped_next f xs i x before after at was is =
-    is ∙ (ap (λ z. with_text z (f x)) was ∙ (sym (with_texts-append [] (map f (take i xs)) (f x ∷ [])) ∙ ap (with_texts []) (sym (ap (map f) (take_one_more xs i x at) ∙ map-append f (take i xs) (x ∷ [])))))
+    is ∙ (ap (λ z. with_text_once z (f x)) was ∙ (sym (with_texts-append [] (map f (take i xs)) (f x ∷ [])) ∙ ap (with_texts []) (sym (ap (map f) (take_one_more xs i x at) ∙ map-append f (take i xs) (x ∷ [])))))
 
 -- bytes of one more element
 pub bytes_next : {X : Type 0} (f : X → List ℕ) (xs : List X) (i : ℕ) (x : X) (first before after : List ℕ) → slice_get xs i ≡ Some x → before ≡ first ++ flat_map f (take i xs) → after ≡ before ++ f x → after ≡ first ++ flat_map f (take (i + 1) xs)

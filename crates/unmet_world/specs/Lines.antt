@@ -37,14 +37,14 @@ candidate_text repositories c =
     name_and_version_text c ++ codes " (" ++ origin_text repositories c.repository ++ codes ")"
 
 -- the candidate at a place
-abbrev pub text_at : SealedPool → List Repository → ℕ → List ℕ
-text_at pool repositories c =
+abbrev pub candidate_text_at : SealedPool → List Repository → ℕ → List ℕ
+candidate_text_at pool repositories c =
     option_map_or (candidate_text repositories) (candidate_at pool c) []
 
 -- who has a dependency
 abbrev pub dependency_owner_text : SealedPool → List Repository → Owner → List ℕ
 dependency_owner_text pool repositories World = codes "world"
-dependency_owner_text pool repositories (Package c) = text_at pool repositories c
+dependency_owner_text pool repositories (Package c) = candidate_text_at pool repositories c
 
 -- an owner needs a dependency: `world needs app>=2`
 abbrev pub needs_text : SealedPool → List Repository → Owner → Dependency → List ℕ
@@ -77,13 +77,13 @@ abbrev pub offer_text_at : SealedPool → List ℕ → ℕ → List ℕ
 offer_text_at pool name c = option_map_or (offer_text pool.world name) (candidate_at pool c) []
 
 -- some texts with one more, unless they have it
-abbrev pub with_text : List (List ℕ) → List ℕ → List (List ℕ)
-with_text texts text = if list_any (bytes_eq text) texts then texts else texts ++ text ∷ []
+abbrev pub with_text_once : List (List ℕ) → List ℕ → List (List ℕ)
+with_text_once texts text = if list_any (bytes_eq text) texts then texts else texts ++ text ∷ []
 
 -- some texts with more of them, each once
 abbrev pub with_texts : List (List ℕ) → List (List ℕ) → List (List ℕ)
 with_texts texts [] = texts
-with_texts texts (text ∷ more) = with_texts (with_text texts text) more
+with_texts texts (text ∷ more) = with_texts (with_text_once texts text) more
 
 -- texts with commas between them
 abbrev pub joined_texts : List (List ℕ) → List ℕ
@@ -136,18 +136,18 @@ abbrev pub only_lines :
     SealedPool → List Repository → Owner → ℕ → Option Dependency → List (List ℕ)
 only_lines pool repositories owner id None = []
 only_lines pool repositories owner id (Some d) =
-    (needs_text pool repositories owner d ++ codes ": only " ++ text_at pool repositories id) ∷ []
+    (needs_text pool repositories owner d ++ codes ": only " ++ candidate_text_at pool repositories id) ∷ []
 
 -- a candidate has a conflict that another one meets
 abbrev pub conflict_text : SealedPool → List Repository → ℕ → ℕ → Dependency → List ℕ
 conflict_text pool repositories a b d =
-    text_at pool repositories a ++ codes " conflicts with " ++ text_at pool repositories b
+    candidate_text_at pool repositories a ++ codes " conflicts with " ++ candidate_text_at pool repositories b
     ++ codes ": " ++ dep_text d
 
 -- two candidates both occupy a name
 abbrev pub sharing_text : SealedPool → List Repository → ℕ → ℕ → List ℕ → List ℕ
 sharing_text pool repositories a b name =
-    text_at pool repositories a ++ codes " and " ++ text_at pool repositories b
+    candidate_text_at pool repositories a ++ codes " and " ++ candidate_text_at pool repositories b
     ++ codes " exclude each other: both are " ++ name
 
 -- by what two candidates exclude each other: a conflict of the first, one of the second, or a name

@@ -7,7 +7,7 @@ ghost use Rattle.dep_core.specs.DependencyText.{dep_text};
 ghost use Rattle.dep_core.specs.Meets.{dependency};
 ghost use Rattle.search_tables.specs.candidate_core.Candidates.{uses_tag, is_allowed};
 ghost use Rattle.unmet_world.specs.Exclusion.{is_conflict_met_by};
-ghost use Rattle.unmet_world.specs.Lines.{origin_text, name_and_version_text, candidate_text, text_at, dependency_owner_text, bar_text, bar_reason_text, offer_text, offer_text_at, with_text, with_texts, joined_texts, most_offers, dots_if, offered_text, offers_line};
+ghost use Rattle.unmet_world.specs.Lines.{origin_text, name_and_version_text, candidate_text, candidate_text_at, dependency_owner_text, bar_text, bar_reason_text, offer_text, offer_text_at, with_text_once, with_texts, joined_texts, most_offers, dots_if, offered_text, offers_line};
 
 use crate::exclusion::is_conflict_met_by;
 use crate::refutation::{Owner, candidate};
@@ -101,7 +101,7 @@ pub(crate) fn add_candidate_at(
     id: CandId,
 ) -> Result<(), AllocError>
     ensures { OnOk result (text.new.items ≡ text.old.items
-        ++ text_at sources.now.pool.now sources.now.repositories.now id) }
+        ++ candidate_text_at sources.now.pool.now sources.now.repositories.now id) }
 {
     match sources.pool.at(id) {
         None => Ok(()),
@@ -248,7 +248,7 @@ fn offer_at(
 
 /// Adds a text to others, unless they have it.
 pub(crate) fn add_once(texts: &mut Vec<Text>, text: Text) -> Result<(), AllocError>
-    ensures { OnOk result (texts.new.items ≡ with_text texts.old.items text) }
+    ensures { OnOk result (texts.new.items ≡ with_text_once texts.old.items text) }
 {
     if has_text(texts, text.as_bytes()) {
         return Ok(());

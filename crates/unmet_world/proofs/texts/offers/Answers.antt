@@ -2,7 +2,7 @@ use Rattle.std.proofs.Common.{◌≡◌, ◌∙◌, ◌≤◌, [], List, ℕ, le
 use Rattle.std.specs.Prelude.{Some, slice_get}
 use Rattle.std.proofs.lemmas.List.{take_all}
 use Rattle.search_tables.proofs.candidate_core.Steps.{get_at}
-use Rattle.unmet_world.specs.Lines.{offer_text_at, with_text, with_texts}
+use Rattle.unmet_world.specs.Lines.{offer_text_at, with_text_once, with_texts}
 use Rattle.unmet_world.proofs.AddedTexts.{mapped_next}
 use Rattle.unmet_world.proofs.texts.offers.Goals as goal
 
@@ -12,7 +12,7 @@ loop-id-preserved c =
     let id : ℕ = c.id-item.result in
     let at : slice_get ids c.loop-id.id-index ≡ Some id = get_at ids c.loop-id.id-index id (omega arith) ∙ ap Some (sym c.id-item.is) in
     mapped_next (offer_text_at c.args.sources.now.pool.now c.args.name.now) ids c.loop-id.id-index id _ _ at c.loop-id.invariant
-    (c.in_ok-add_once.ensures ∙ ap (with_text c.loop-id.texts.items) c.in_ok-offer_at.ensures)
+    (c.in_ok-add_once.ensures ∙ ap (with_text_once c.loop-id.texts.items) c.in_ok-offer_at.ensures)
 
 pub returns : goal.returns
 returns c =
