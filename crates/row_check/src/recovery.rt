@@ -92,11 +92,11 @@ impl Sides {
     }
 }
 
-/// How many images are looked at of a tree: for each map of names one for each of the three
-/// fillings of the files that were not synced (`docs/crash-safety.md`,
+/// How many images are looked at of a tree: for each map of names that a number picks one for each
+/// of the three fillings of the files that were not synced (`docs/crash-safety.md`,
 /// "Images of the tree in memory": as read, nothing, or bytes of value 255).
 pub fn images_of(tree: &MemoryTree) -> u64 {
-    tree.maps().saturating_mul(3)
+    tree.picks().saturating_mul(3)
 }
 
 /// A tree that is recovered, which leaves nothing for a second recovery to do.

@@ -71,10 +71,10 @@ pub fn bytes_of<P: Program>(
     }
 }
 
-/// A tree with the same files, whose counts are 0 and in which all is synced: its image by the
-/// newest map of names.
+/// A tree with the same files, whose counts are 0 and in which all is synced: its image without a
+/// change undone.
 pub fn copy_of(alloc: Global, tree: &MemoryTree) -> Result<MemoryTree, AllocError> {
-    tree.pick_image(alloc, tree.maps().saturating_sub(1))
+    tree.pick_image(alloc, 0)
 }
 
 /// Whether a name is one under which an output is made before it is moved to its place: the sides

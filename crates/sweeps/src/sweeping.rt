@@ -198,7 +198,7 @@ fn add_images(
 /// What the images of a tree recover to.
 fn tally_of_images(alloc: Global, wanted: &Wanted, tree: &MemoryTree) -> Result<Tally, AllocError> {
     let mut tally = Tally::none();
-    for choice in 0..tree.maps().saturating_mul(3) {
+    for choice in 0..tree.picks().saturating_mul(3) {
         tally = tally.with(found_in_image(alloc, wanted, tree, choice)?);
     }
     Ok(tally)

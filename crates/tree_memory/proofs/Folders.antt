@@ -18,7 +18,7 @@ use Rattle.base_core.specs.Files.{IsFolderOf, HasNoFileAsFolder, NameMap, put_na
 use Rattle.base_core.proofs.Orderings.{is_less, tied_then}
 use Rattle.base_core.proofs.AtName.{other_name, name_cases, off_name}
 use Rattle.base_core.proofs.Folders.{at_folder}
-use Rattle.tree_memory.specs.Table.{IsTable, lookup, IsStart, MakesNoFolderOfAnother, IsBelow, HasBelowBut}
+use Rattle.tree_memory.specs.Table.{IsTable, lookup, IsStart, MakesNoFolderOfAnother, IsBelow, HasBelowBut, HasFolderBut}
 use Rattle.tree_memory.proofs.AtName.{put-at, put-off, drop_name-at, drop_name-off}
 use Rattle.tree_memory.proofs.Placed.{searchable, located, looked_up}
 use Rattle.tree_memory.specs.declared.table.NameAndFile.{NameAndFile}
@@ -275,3 +275,29 @@ module _ (names : NameMap) (es : List NameAndFile) (same : (q : List ℕ) → na
 
   pub put_fits : (name : List ℕ) (n : ℕ) → HasNoFileAsFolder (put_name names name n) → MakesNoFolderOfAnother es name name
   put_fits name n folders = moved_fits name name n (folder_like_fewer (put_name names name n) (put_name (drop_name names name) name n) (λ q some. subst IsSome (put_anyway names name n q) some) folders)
+
+-- ---- whether a table has a name below another
+
+pub folder_found : (es : List NameAndFile) (i : ℕ) (e : NameAndFile) (name : List ℕ) → i < length es → e ≡ get_or es i e → name ≡ e.name → HasFolderBut es name name → HasNoFileAsFolder (lookup es) → ⊥
+folder_found es i e name within is spelt (folder, below, (present, off)) none =
+    none folder name below present (subst (λ (n : List ℕ). IsSome (lookup es n)) (sym (at_entry es i e e name within is spelt)) (looked_up es i e within))
+
+-- no name so far has a folder among the names
+pub record AreFree (es : List NameAndFile) (i : ℕ) : Type 0 where
+  pub each : (k : ℕ) (d : NameAndFile) → k < i → HasFolderBut es (get_or es k d).name (get_or es k d).name → ⊥
+
+pub free_none : (es : List NameAndFile) → AreFree es 0
+free_none es = record { each = λ k d within. absurd (omega (arith, within)) }
+
+pub free_more : (es : List NameAndFile) (i : ℕ) (e : NameAndFile) (name : List ℕ) → i < length es → e ≡ get_or es i e → name ≡ e.name → (HasFolderBut es name name → ⊥) → AreFree es i → AreFree es (i + 1)
+free_more es i e name within is spelt off so_far = record { each = λ k d below. ⊎_elim (λ (same : k ≡ i). here k d same) (λ (apart : k ≢ i). so_far.each k d (omega (arith, below, apart))) (cases_eq k i) }
+  where
+    here : (k : ℕ) (d : NameAndFile) → k ≡ i → HasFolderBut es (get_or es k d).name (get_or es k d).name → ⊥
+    here k d same has = off (subst (λ (n : List ℕ). HasFolderBut es n n) (ap (λ (j : ℕ). (get_or es j d).name) same ∙ sym (at_entry es i e d name within is spelt)) has)
+
+pub free_all : (es : List NameAndFile) (i : ℕ) → length es ≤ i → AreFree es i → HasNoFileAsFolder (lookup es)
+free_all es i all free p q below has_p has_q =
+    let none : NameAndFile = record { name = q; file = 0 } in
+    let (k, within, same) = located es q none has_q in
+    free.each k none (omega (arith, within, all))
+    (subst (λ (n : List ℕ). HasFolderBut es n n) (sym same) (p, below, (has_p, other_name p q (λ is. not_itself q (subst (λ (n : List ℕ). IsFolderOf n q) is below)))))

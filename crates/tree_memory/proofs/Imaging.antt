@@ -5,19 +5,20 @@ use Rattle.std.proofs.lemmas.Bool.{cases_eq, eq-eqb, ne_eqb}
 use Rattle.std.specs.Str.{bytes_eq}
 use Rattle.std.specs.Option.{option_map}
 use Rattle.base_core.specs.Crash.{CrashMayLeave}
-use Rattle.base_core.specs.Restart.{IsAfterCrashInOrder}
+use Rattle.base_core.specs.Undone.{IsAfterCrash, IsCrashMap}
+use Rattle.base_core.proofs.Undone.{left_each, read_may_be_left}
 use Rattle.base_core.specs.Files.{Files, NameMap, no_names, put_name, HasNoFileAsFolder}
 use Rattle.base_core.specs.Tree.{TreeState, IsMapOf, bytes_at, files_of, set_file}
 use Rattle.std.proofs.lemmas.Nat.{mod_below}
 use Rattle.base_core.proofs.AtName.{name_cases, off_name}
 use Rattle.tree_memory.specs.Changes.{empty_state, after_put, state_on, is_record}
-use Rattle.tree_memory.specs.Images.{maps_of, newest_first, picked_map, crash_bytes, image_of, stored_file}
+use Rattle.tree_memory.specs.Images.{picked_map, picks_of, crash_bytes, stored_file, IsImageMap, IsImageOf, HasImageNames}
 use Rattle.tree_memory.specs.Kept.{IsKept, CanPut}
 use Rattle.tree_memory.specs.Table.{IsTable, lookup}
 use Rattle.tree_memory.specs.WellFormedLaw.{AreBounded}
 use Rattle.tree_memory.proofs.AtName.{put-at, put-off}
 use Rattle.tree_memory.proofs.Keeping.{read-after_put, stored_bytes}
-use Rattle.tree_memory.proofs.Picking.{among_at}
+use Rattle.tree_memory.proofs.Undoing.{picked_left}
 use Rattle.tree_memory.proofs.Placed.{apart, lookup_named, lookup_off, lookup_insert, looked_up}
 use Rattle.tree_memory.proofs.Folders.{entry_at}
 use Rattle.tree_memory.specs.declared.store.Change.{Change}
@@ -73,13 +74,13 @@ module _ (v : TreeState) (way : ℕ) (es : List NameAndFile) (table : IsTable es
 
   module _ (e : NameAndFile) (within : i < length es) (here : e ≡ get_or es i e) where
     -- the next name fits
-    pub can_next : (map : NameMap) → HasNoFileAsFolder map → ((q : List ℕ) → map q ≡ lookup es q) → CanPut e.name w
-    can_next map folders same = record { folders = λ p q folder has_p has_q. folders p q folder (there p has_p) (there q has_q) }
+    pub can_next : HasNoFileAsFolder (lookup es) → CanPut e.name w
+    can_next folders = record { folders = λ p q folder has_p has_q. folders p q folder (there p has_p) (there q has_q) }
       where
-        there : (q : List ℕ) → IsSome (put_name w.names e.name w.made q) → IsSome (map q)
+        there : (q : List ℕ) → IsSome (put_name w.names e.name w.made q) → IsSome (lookup es q)
         there q some = ⊎_elim
-            (λ is. subst IsSome (sym (same q)) (subst (λ (n : List ℕ). IsSome (lookup es n)) (ap (λ (x : NameAndFile). x.name) (sym here) ∙ sym is) (looked_up es i e within)))
-            (λ off. subst IsSome (sym (same q)) (lookup_take es i q (present q (subst IsSome (put-off w.names e.name w.made q (off_name q e.name off)) some))))
+            (λ is. subst (λ (n : List ℕ). IsSome (lookup es n)) (ap (λ (x : NameAndFile). x.name) (sym here) ∙ sym is) (looked_up es i e within))
+            (λ off. lookup_take es i q (present q (subst IsSome (put-off w.names e.name w.made q (off_name q e.name off)) some)))
             (name_cases q e.name)
 
     pub so_far_next : (bytes : List ℕ) (u : TreeState) → AreBounded w → bytes ≡ crash_bytes way (v.files e.file) → u ≡ after_put e.name bytes w → IsSoFar v way es (i + 1) u
@@ -108,40 +109,53 @@ module _ (v : TreeState) (way : ℕ) (es : List NameAndFile) (table : IsTable es
             some_same e = cc (e)
 
     -- it leads to a file that was made
-    pub number_made : (map : NameMap) → IsMapOf v map → AreBounded v → ((q : List ℕ) → map q ≡ lookup es q) → e.file < v.made
-    number_made map is whole same =
-        (whole.each map is).below e.name e.file (same e.name ∙ lookup_named es i e.name e table (record { within = within; here = λ d. ap (λ (x : NameAndFile). x.name) (entry_at es i e d within here) }) ∙ ap (λ (x : NameAndFile). Some x.file) (sym here))
+    pub number_made : IsCrashMap v (lookup es) → AreBounded v → e.file < v.made
+    number_made left whole =
+        left_each (λ (o : Option ℕ). o ≡ Some e.file → e.file < v.made) v e.name (λ one is at. (whole.each one is).below e.name e.file at) (lookup es) left
+        (lookup_named es i e.name e table (record { within = within; here = λ d. ap (λ (x : NameAndFile). x.name) (entry_at es i e d within here) }) ∙ ap (λ (x : NameAndFile). Some x.file) (sym here))
 
 -- ---- the tree that is done
 
-module _ (v : TreeState) (way : ℕ) (es : List NameAndFile) (map : NameMap) (same : (q : List ℕ) → map q ≡ lookup es q) (i : ℕ) (all : length es ≤ i) (w : TreeState) (so_far : IsSoFar v way es i w) where
-  pub image_files : (q : List ℕ) → files_of w q ≡ option_map (λ n. crash_bytes way (v.files n)) (map q)
-  image_files q = so_far.files q ∙ ap (λ (l : List NameAndFile). option_map (λ n. crash_bytes way (v.files n)) (lookup l q)) (take_all i es all) ∙ sym (ap (option_map (λ n. crash_bytes way (v.files n))) (same q))
+module _ (v : TreeState) (way : ℕ) (es : List NameAndFile) (i : ℕ) (all : length es ≤ i) (w : TreeState) (so_far : IsSoFar v way es i w) where
+  image_files : (q : List ℕ) → files_of w q ≡ option_map (λ n. crash_bytes way (v.files n)) (lookup es q)
+  image_files q = so_far.files q ∙ ap (λ (l : List NameAndFile). option_map (λ n. crash_bytes way (v.files n)) (lookup l q)) (take_all i es all)
 
   may : (o : Option ℕ) → CrashMayLeave v.files o (option_map (λ n. crash_bytes way (v.files n)) o)
   may None = refl
   may (Some n) = λ synced. ap (λ b. cond (b || (way == 0)) (v.files n).bytes (cond (way == 1) [] (replicate (length (v.files n).bytes) 255))) synced
 
-  pub image_crash : IsMapOf v map → IsAfterCrashInOrder v w
-  image_crash is = record {
-    left = (map, is, λ q. subst (CrashMayLeave v.files (map q)) (sym (image_files q)) (may (map q)));
+  pub image_crash : IsCrashMap v (lookup es) → IsAfterCrash v w
+  image_crash left = record {
+    left = (lookup es, left, λ q. subst (CrashMayLeave v.files (lookup es q)) (sym (image_files q)) (may (lookup es q)));
     one_map = so_far.one_map;
     synced = so_far.synced;
   }
 
--- ---- the map and the way
+  pub image_is : (choice picks : ℕ) → picks ≡ picks_of v → way ≡ (choice / picks) % 3 → HasImageNames (choice % picks) v es → IsImageOf choice v (files_of w)
+  image_is choice picks count is names = (
+    lookup es,
+    subst (λ p. IsImageMap (choice % p) v (lookup es)) count names.map,
+    λ q. image_files q ∙ ap (λ k. option_map (λ n. crash_bytes k (v.files n)) (lookup es q)) (is ∙ ap (λ p. (choice / p) % 3) count),
+  )
 
-pub map_back : (choice : ℕ) (v : TreeState) (maps back : ℕ) → maps ≡ length (maps_of v) → choice % maps < maps → back ≡ maps - 1 - choice % maps → (back < length (newest_first v)) × (picked_map choice v ≡ get_or (newest_first v) back no_names)
-map_back choice v maps back count below is =
-    let long : maps ≡ length (newest_first v) = count ∙ length-reverse (newest_first v) in (
-      omega (arith, long, below, is),
-      ap (λ m. get_or (maps_of v) (choice % m) no_names) (sym count)
-          ∙ get_or-reverse (newest_first v) (choice % maps) no_names (omega (arith, long, below))
-          ∙ ap (λ n. get_or (newest_first v) n no_names) (sym (is ∙ ap (λ m. m - 1 - choice % maps) long)),
-    )
+-- ---- the names of an image
 
-pub picked_files : (choice : ℕ) (v : TreeState) (way maps : ℕ) (files : Files) → maps ≡ length (maps_of v) → way ≡ (choice / maps) % 3 → ((q : List ℕ) → files q ≡ option_map (λ n. crash_bytes way (v.files n)) (picked_map choice v q)) → files ≡ image_of choice v
-picked_files choice v way maps files count is each = λ i q. (each q ∙ ap (λ k. option_map (λ n. crash_bytes k (v.files n)) (picked_map choice v q)) (is ∙ ap (λ m. (choice / m) % 3) count)) i
+module _ (pick : ℕ) (v : TreeState) (es : List NameAndFile) where
+  pub names_fit : ((q : List ℕ) → lookup es q ≡ picked_map pick v q) → HasNoFileAsFolder (lookup es) → HasImageNames pick v es
+  names_fit same folders =
+      let is : lookup es ≡ picked_map pick v = λ i q. same q i in record {
+        map = record { fits = λ has. is; as_read = λ none. absurd (none (subst HasNoFileAsFolder is folders)) };
+        left = subst (IsCrashMap v) (sym is) (picked_left pick v);
+        folders = folders;
+      }
+
+  pub names_as_read : (HasNoFileAsFolder (picked_map pick v) → ⊥) → ((q : List ℕ) → v.names q ≡ lookup es q) → HasNoFileAsFolder v.names → HasImageNames pick v es
+  names_as_read off same folders =
+      let is : lookup es ≡ v.names = λ i q. sym (same q) i in record {
+        map = record { fits = λ has. absurd (off has); as_read = λ none. is };
+        left = subst (IsCrashMap v) (sym is) (read_may_be_left v);
+        folders = subst HasNoFileAsFolder (sym is) folders;
+      }
 
 -- a file as it is stored
 pub file_at : (v : TreeState) (es : List NameAndFile) (files : List Stored) (n : ℕ) (s : Stored) → IsKept v es files → n < length files → s ≡ get_or files n s → stored_file s ≡ v.files n
@@ -149,27 +163,3 @@ file_at v es files n s kept within is =
     let bytes = sym (kept.bytes n ∙ stored_bytes files n s within is) in
     let synced = sym (kept.synced n ∙ get_or-map (λ (f : Stored). f.synced) files n s false within ∙ ap (λ (f : Stored). f.synced) (sym is)) in
     λ i. record { bytes = bytes i; synced = synced i }
-
--- a table has the map that is image_of, which is one that a crash may leave
-pub record IsPickedMap (v : TreeState) (choice : ℕ) (es : List NameAndFile) : Type 0 where
-  pub same : (q : List ℕ) → picked_map choice v q ≡ lookup es q
-  pub is_map : IsMapOf v (picked_map choice v)
-
-pub picked_from : (contents : List (List ℕ)) (cs ds ds' : List Change) (choice maps n : ℕ) (es fs : List NameAndFile) → is_record contents empty_state cs ≡ true → ds ≡ cs → ds' ≡ cs → maps ≡ length (maps_of (state_on contents empty_state cs)) → 0 < maps
-    → ((contents : List (List ℕ)) → is_record contents empty_state ds ≡ true → maps - 1 - choice % maps < length (newest_first (state_on contents empty_state ds))
-    → (q : List ℕ) → (state_on contents empty_state (take n ds)).names q ≡ get_or (newest_first (state_on contents empty_state ds)) (maps - 1 - choice % maps) no_names q)
-    → ((contents : List (List ℕ)) (q : List ℕ) → (state_on contents empty_state (take n ds')).names q ≡ lookup es q) → fs ≡ es → IsPickedMap (state_on contents empty_state cs) choice fs
-picked_from contents cs ds ds' choice maps n es fs recorded is is' count some moment names same_es =
-    let v = state_on contents empty_state cs in
-    let back = map_back choice v maps (maps - 1 - choice % maps) count (mod_below choice maps some) refl in
-    let recorded_ds = ap (λ (l : List Change). is_record contents empty_state l) is ∙ recorded in
-    let within = subst (λ (l : List Change). maps - 1 - choice % maps < length (newest_first (state_on contents empty_state l))) (sym is) back.0 in record {
-      same = λ q.
-          ap (λ (m : NameMap). m q) back.1
-          ∙ sym (ap (λ (l : List Change). get_or (newest_first (state_on contents empty_state l)) (maps - 1 - choice % maps) no_names q) is)
-          ∙ sym (moment contents recorded_ds within q)
-          ∙ ap (λ (l : List Change). (state_on contents empty_state (take n l)).names q) (is ∙ sym is')
-          ∙ names contents q
-          ∙ sym (ap (λ (l : List NameAndFile). lookup l q) same_es);
-      is_map = subst (IsMapOf v) (sym back.1) (among_at (newest_first v) (maps - 1 - choice % maps) back.0);
-    }

@@ -12,3 +12,4 @@ pub mod Placed
 pub mod Planned
 mod Rows
 pub mod Sinking
+pub mod Undoing

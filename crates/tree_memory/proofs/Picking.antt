@@ -1,14 +1,16 @@
--- The maps of names that a record gives, and the one that is picked.
+-- The maps of names that a record gives.
 use Rattle.std.proofs.Common.{◌≡◌, ◌⊎◌, inl, inr, ⊎_elim, ℕ, zero, suc, ◌+◌, ◌-◌, ◌<◌, ◌≤◌, Bool, true, false, cond, List, [], ◌∷◌, ◌++◌, length, get_or, take, drop, Option, None, Some, is_some, refl, sym, ap, subst, ◌∙◌, arith, take-append-drop}
 use Rattle.std.proofs.lemmas.List.{drop_more, take_more, take_all}
+use Rattle.std.specs.List.{AllWithin}
 use Rattle.std.specs.Str.{bytes_eq}
 use Rattle.base_core.specs.Files.{NameMap, no_names, put_name, drop_name}
-use Rattle.base_core.specs.Lists.{IsIn}
+use Rattle.base_core.specs.Undone.{with_change}
 use Rattle.base_core.specs.Tree.{TreeState, move_at, remove_at, after_rename, after_remove}
 use Rattle.tree_memory.specs.Changes.{empty_state, step, state_on, can_step, is_record}
-use Rattle.tree_memory.specs.Images.{newest_first, adds_map, maps_on, HasNames}
+use Rattle.tree_memory.specs.Images.{newest_first, syncs_names, maps_on, map_without, HasNames}
 use Rattle.tree_memory.specs.Table.{lookup}
 use Rattle.tree_memory.proofs.AtName.{is_name}
+use Rattle.tree_memory.proofs.Undoing.{without_none, without_step}
 use Rattle.tree_memory.proofs.Growing.{state_on-push, record_front}
 use Rattle.tree_memory.specs.declared.store.Change.{Change}
 use Rattle.tree_memory.specs.declared.store.Change.TheVariants.{Put, Create, Append, Sync, Rename, Remove, SyncNames, Stay}
@@ -35,35 +37,47 @@ some_at : (o : Option ℕ) → is_some o ≡ true → (n : ℕ) × (o ≡ Some n
 some_at None is = absurd (cc (is))
 some_at (Some n) is = (n, refl)
 
--- a change that makes one more map keeps the others
-pub older_added : (contents : List (List ℕ)) (c : Change) (v : TreeState) → can_step contents c v ≡ true → adds_map c ≡ true → (step contents c v).older ≡ newest_first v
-older_added contents (Put name file len) v can adds = absurd (cc (adds))
-older_added contents (Create name) v can adds = refl
-older_added contents (Append file len) v can adds = absurd (cc (adds))
-older_added contents (Sync file) v can adds = absurd (cc (adds))
-older_added contents (Rename from to) v can adds = let at = some_at (v.names from) can in ap (λ (o : Option ℕ). (move_at from to v o).older) at.1
-older_added contents (Remove name) v can adds = let at = some_at (v.names name) can in ap (λ (o : Option ℕ). (remove_at name v o).older) at.1
-older_added contents SyncNames v can adds = absurd (cc (adds))
-older_added contents Stay v can adds = absurd (cc (adds))
+-- a change that does not sync the names keeps the maps, or makes one more
+pub older_after : (contents : List (List ℕ)) (c : Change) (v : TreeState) → can_step contents c v ≡ true → syncs_names c ≡ false → (newest_first (step contents c v) ≡ newest_first v) ⊎ ((step contents c v).older ≡ newest_first v)
+older_after contents (Put name file len) v can off = absurd (cc (off))
+older_after contents (Create name) v can off = inr refl
+older_after contents (Append file len) v can off = inl refl
+older_after contents (Sync file) v can off = inl refl
+older_after contents (Rename from to) v can off = let at = some_at (v.names from) can in inr (ap (λ (o : Option ℕ). (move_at from to v o).older) at.1)
+older_after contents (Remove name) v can off = let at = some_at (v.names name) can in inr (ap (λ (o : Option ℕ). (remove_at name v o).older) at.1)
+older_after contents SyncNames v can off = absurd (cc (off))
+older_after contents Stay v can off = inl refl
 
--- another one keeps them all, or syncs the names
-pub maps_kept : (contents : List (List ℕ)) (c : Change) (v : TreeState) → adds_map c ≡ false → (newest_first (step contents c v) ≡ newest_first v) ⊎ ((step contents c v).older ≡ [])
-maps_kept contents (Put name file len) v adds = inr refl
-maps_kept contents (Create name) v adds = absurd (cc (adds))
-maps_kept contents (Append file len) v adds = inl refl
-maps_kept contents (Sync file) v adds = inl refl
-maps_kept contents (Rename from to) v adds = absurd (cc (adds))
-maps_kept contents (Remove name) v adds = absurd (cc (adds))
-maps_kept contents SyncNames v adds = inr refl
-maps_kept contents Stay v adds = inl refl
+-- and one that syncs them leaves no older one
+pub older_synced : (contents : List (List ℕ)) (c : Change) (v : TreeState) → syncs_names c ≡ true → (step contents c v).older ≡ []
+older_synced contents (Put name file len) v on = refl
+older_synced contents (Create name) v on = absurd (cc (on))
+older_synced contents (Append file len) v on = absurd (cc (on))
+older_synced contents (Sync file) v on = absurd (cc (on))
+older_synced contents (Rename from to) v on = absurd (cc (on))
+older_synced contents (Remove name) v on = absurd (cc (on))
+older_synced contents SyncNames v on = refl
+older_synced contents Stay v on = absurd (cc (on))
+
+pub older_at : (contents : List (List ℕ)) (cs : List Change) (i n : ℕ) (c : Change) → i + 1 ≡ n → i < length cs → c ≡ get_or cs i c → syncs_names c ≡ true → (state_on contents empty_state (take n cs)).older ≡ []
+older_at contents cs i n c next within is on =
+    ap (λ (k : ℕ). (state_on contents empty_state (take k cs)).older) (sym next)
+    ∙ ap (λ (v : TreeState). v.older) (state_at contents cs i c within is)
+    ∙ older_synced contents c (state_on contents empty_state (take i cs)) on
+
+-- a change from the place on from which none syncs the names
+pub not_synced : (cs ds : List Change) (start i : ℕ) (c : Change) → ds ≡ cs → start ≤ i → i < length cs → c ≡ get_or cs i c → AllWithin (λ x. syncs_names x ≡ false) ds start (length ds) → syncs_names c ≡ false
+not_synced cs ds start i c same from within is each =
+    let far : AllWithin (λ x. syncs_names x ≡ false) cs start (length cs) = subst (λ (l : List Change). AllWithin (λ x. syncs_names x ≡ false) l start (length l)) same each in
+    ap syncs_names is ∙ far i c from within
 
 pub maps_counted : (contents : List (List ℕ)) (c : Change) (v : TreeState) → can_step contents c v ≡ true → length (newest_first (step contents c v)) ≡ maps_on c (length (newest_first v))
 maps_counted contents (Put name file len) v can = refl
 maps_counted contents (Create name) v can = omega arith
 maps_counted contents (Append file len) v can = refl
 maps_counted contents (Sync file) v can = refl
-maps_counted contents (Rename from to) v can = omega (arith, ap length (older_added contents (Rename from to) v can refl))
-maps_counted contents (Remove name) v can = omega (arith, ap length (older_added contents (Remove name) v can refl))
+maps_counted contents (Rename from to) v can = let at = some_at (v.names from) can in omega (arith, ap (λ (o : Option ℕ). length (move_at from to v o).older) at.1)
+maps_counted contents (Remove name) v can = let at = some_at (v.names name) can in omega (arith, ap (λ (o : Option ℕ). length (remove_at name v o).older) at.1)
 maps_counted contents SyncNames v can = refl
 maps_counted contents Stay v can = refl
 
@@ -89,76 +103,6 @@ count_more contents cs i maps more c within is recorded so_far counted = record 
       ∙ sym (ap (λ (v : TreeState). length (newest_first v)) (state_at contents cs i c within is));
   few = subst (λ (n : ℕ). n ≤ i + 1 + 1) (sym counted) (maps_few c maps i so_far.few);
 }
-
--- ---- the moment of a map
-
-get_tail : {A : Type 0} (x : A) (xs : List A) (n : ℕ) (d : A) → 0 < n → get_or (x ∷ xs) n d ≡ get_or xs (n - 1) d
-get_tail x xs zero d some = absurd (omega (arith, some))
-get_tail x xs (suc n) d some = let same : suc n - 1 ≡ n = omega arith in sym (ap (λ k. get_or xs k d) same)
-
--- so many maps before the newest of a front stands the map that is looked for
-pub record IsMoment (cs : List Change) (back n left : ℕ) : Type 0 where
-  pub within : n ≤ length cs
-  pub there : (contents : List (List ℕ)) → is_record contents empty_state cs ≡ true → back < length (newest_first (state_on contents empty_state cs)) → left < length (newest_first (state_on contents empty_state (take n cs)))
-  pub same : (contents : List (List ℕ)) → is_record contents empty_state cs ≡ true → back < length (newest_first (state_on contents empty_state cs))
-      → (q : List ℕ) → get_or (newest_first (state_on contents empty_state (take n cs))) left no_names q ≡ get_or (newest_first (state_on contents empty_state cs)) back no_names q
-
-pub moment_first : (cs : List Change) (back : ℕ) → IsMoment cs back (length cs) back
-moment_first cs back =
-    let whole : take (length cs) cs ≡ cs = take_all (length cs) cs (omega arith) in record {
-      within = omega arith;
-      there = λ contents recorded some. subst (λ (l : List Change). back < length (newest_first (state_on contents empty_state l))) (sym whole) some;
-      same = λ contents recorded some q. ap (λ (l : List Change). get_or (newest_first (state_on contents empty_state l)) back no_names q) whole;
-    }
-
-module _ (cs : List Change) (back n left : ℕ) (c : Change) (here : n < length cs) (is : c ≡ get_or cs n c) (so_far : IsMoment cs back (n + 1) left) (some : 0 < left) where
-  module _ (contents : List (List ℕ)) (recorded : is_record contents empty_state cs ≡ true) (back_within : back < length (newest_first (state_on contents empty_state cs))) where
-    abbrev before : TreeState
-    before = state_on contents empty_state (take n cs)
-
-    leads : state_on contents empty_state (take (n + 1) cs) ≡ step contents c before
-    leads = state_at contents cs n c here is
-
-    left_within : left < length (newest_first (step contents c before))
-    left_within = subst (λ (v : TreeState). left < length (newest_first v)) leads (so_far.there contents recorded back_within)
-
-    left_same : (q : List ℕ) → get_or (newest_first (step contents c before)) left no_names q ≡ get_or (newest_first (state_on contents empty_state cs)) back no_names q
-    left_same q = sym (ap (λ (v : TreeState). get_or (newest_first v) left no_names q) leads) ∙ so_far.same contents recorded back_within q
-
-    added : adds_map c ≡ true → (step contents c before).older ≡ newest_first before
-    added = older_added contents c before (can_at contents cs n c here is recorded)
-
-    kept : adds_map c ≡ false → newest_first (step contents c before) ≡ newest_first before
-    kept adds = ⊎_elim (λ same. same) (λ none. absurd (omega (arith, left_within, ap length none, some))) (maps_kept contents c before adds)
-
-  pub moment_added : adds_map c ≡ true → IsMoment cs back n (left - 1)
-  moment_added adds = record {
-    within = omega (arith, here);
-    there = λ contents recorded within. omega (arith, left_within contents recorded within, ap length (added contents recorded within adds), some);
-    same = λ contents recorded within q.
-        sym (ap (λ (maps : List NameMap). get_or maps (left - 1) no_names q) (added contents recorded within adds))
-        ∙ sym (ap (λ (map : NameMap). map q) (get_tail (step contents c (before contents recorded within)).names (step contents c (before contents recorded within)).older left no_names some))
-        ∙ left_same contents recorded within q;
-  }
-
-  pub moment_kept : adds_map c ≡ false → IsMoment cs back n left
-  moment_kept adds = record {
-    within = omega (arith, here);
-    there = λ contents recorded within. subst (λ (maps : List NameMap). left < length maps) (kept contents recorded within adds) (left_within contents recorded within);
-    same = λ contents recorded within q. sym (ap (λ (maps : List NameMap). get_or maps left no_names q) (kept contents recorded within adds)) ∙ left_same contents recorded within q;
-  }
-
--- where no map is left to go back, and at the start
-pub moment_found : (cs : List Change) (back n left : ℕ) → IsMoment cs back n left → left ≡ 0 → (contents : List (List ℕ)) → is_record contents empty_state cs ≡ true → back < length (newest_first (state_on contents empty_state cs))
-    → (q : List ℕ) → (state_on contents empty_state (take n cs)).names q ≡ get_or (newest_first (state_on contents empty_state cs)) back no_names q
-moment_found cs back n left found none contents recorded within q =
-    sym (ap (λ (k : ℕ). get_or (newest_first (state_on contents empty_state (take n cs))) k no_names q) none) ∙ found.same contents recorded within q
-
-pub moment_start : (cs : List Change) (back n left : ℕ) → IsMoment cs back n left → n ≡ 0 → (contents : List (List ℕ)) → is_record contents empty_state cs ≡ true → back < length (newest_first (state_on contents empty_state cs))
-    → (q : List ℕ) → (state_on contents empty_state (take n cs)).names q ≡ get_or (newest_first (state_on contents empty_state cs)) back no_names q
-moment_start cs back n left found start contents recorded within =
-    let one : left < length (newest_first (state_on contents empty_state (take 0 cs))) = subst (λ (k : ℕ). left < length (newest_first (state_on contents empty_state (take k cs)))) start (found.there contents recorded within) in
-    moment_found cs back n left found (omega (arith, one)) contents recorded within
 
 -- ---- the names behind a front
 
@@ -197,9 +141,41 @@ names_removed name v es fs made was gone = by (v.names name) refl
     by None none = record { names = λ q. was.names q ∙ absent (bytes_eq q name) (lookup es q) (λ at. ap (lookup es) (is_name q name at) ∙ sym (was.names name) ∙ none) ∙ sym (gone q); made = was.made }
     by (Some n) some = record { names = λ q. ap (cond (bytes_eq q name) None) (was.names q) ∙ sym (gone q); made = was.made }
 
--- ---- the picked map is one of them
+-- ---- the picked names behind a front
 
-pub among_at : (maps : List NameMap) (k : ℕ) → k < length maps → IsIn (get_or maps k no_names) maps
-among_at [] k within = absurd (omega (arith, within))
-among_at (m ∷ maps) zero within = inl refl
-among_at (m ∷ maps) (suc k) within = inr (among_at maps k (omega (arith, within)))
+-- a front of a record has these names, these picked ones, this many files and this many maps
+pub record IsPicking (contents : List (List ℕ)) (cs : List Change) (undone : ℕ → Bool) (i : ℕ) (es picked : List NameAndFile) (made maps : ℕ) : Type 0 where
+  pub names : HasNames (state_on contents empty_state (take i cs)) es made
+  pub few : made ≤ i
+  pub count : IsMapCount contents cs i maps
+  pub kept : (q : List ℕ) → lookup picked q ≡ map_without undone (state_on contents empty_state (take i cs)).names (state_on contents empty_state (take i cs)).older q
+
+module _ (contents : List (List ℕ)) (cs : List Change) (undone : ℕ → Bool) (i : ℕ) where
+  abbrev front : TreeState
+  front = state_on contents empty_state (take i cs)
+
+  pub picking_first : (es picked : List NameAndFile) (made made₁ : ℕ) → front.older ≡ [] → HasNames front es made → HasNames front picked made₁ → made ≤ i → IsPicking contents cs undone i es picked made 1
+  picking_first es picked made made₁ none names same few = record {
+    names = names;
+    few = few;
+    count = record { count = sym (ap (λ (maps : List NameMap). suc (length maps)) none); few = omega arith };
+    kept = λ q. sym (same.names q) ∙ sym (without_none undone front none q);
+  }
+
+  module _ (c : Change) (within : i < length cs) (is : c ≡ get_or cs i c) (recorded : is_record contents empty_state cs ≡ true) (off : syncs_names c ≡ false)
+      (es picked : List NameAndFile) (made maps : ℕ) (so_far : IsPicking contents cs undone i es picked made maps) where
+    can : can_step contents c front ≡ true
+    can = can_at contents cs i c within is recorded
+
+    pub picking_more : (fs after : List NameAndFile) (more number : ℕ) → number ≡ maps_on c maps → more ≤ made + 1 → HasNames (step contents c front) fs more
+        → ((q : List ℕ) → lookup after q ≡ cond (undone (maps - 1)) (lookup picked q) (with_change front.names (step contents c front).names (lookup picked) q))
+        → IsPicking contents cs undone (i + 1) fs after more number
+    picking_more fs after more number counted up names now =
+        let count : maps - 1 ≡ length front.older = omega (arith, so_far.count.count) in record {
+          names = names_more contents cs i c fs more within is names;
+          few = omega (arith, up, so_far.few);
+          count = count_more contents cs i maps number c within is recorded so_far.count counted;
+          kept = λ q.
+              without_step undone front (step contents c front) (lookup picked) (lookup after) so_far.kept (λ r. now r ∙ ap (λ (k : ℕ). cond (undone k) (lookup picked r) (with_change front.names (step contents c front).names (lookup picked) r)) count) (older_after contents c front can off) q
+              ∙ ap (λ (w : TreeState). map_without undone w.names w.older q) (sym (state_at contents cs i c within is));
+        }

@@ -2,7 +2,7 @@
 use Rattle.std.specs.Prelude.{◌≡◌, true, false, [], ◌∷◌, Some, None, codes, length, refl}
 use Rattle.base_core.specs.Tree.{TreeState, after_create, after_append, after_sync, after_rename, after_remove, after_sync_names}
 use Rattle.tree_memory.specs.Changes.{empty_state, after_put}
-use Rattle.tree_memory.specs.Images.{maps_of, image_of}
+use Rattle.tree_memory.specs.Images.{crash_bytes, newest_first, picked_map, picks_of}
 use Rattle.tree_memory.specs.Plans.{PlanState, is_next, has_more, one_on}
 
 -- ---- images: an old file, and a new one that is not synced
@@ -10,50 +10,69 @@ use Rattle.tree_memory.specs.Plans.{PlanState, is_next, has_more, one_on}
 two_maps : TreeState
 two_maps = after_append (codes "new") (codes "23") (after_create (codes "new") (after_put (codes "old") (codes "1") empty_state))
 
--- the first choices go over the maps, the oldest first
-row_before : image_of 0 two_maps (codes "new") ≡ None
-unfolding two_maps
-row_before = refl
-
-row_old : image_of 0 two_maps (codes "old") ≡ Some (codes "1")
-unfolding two_maps
-row_old = refl
-
-row_as_read : image_of 1 two_maps (codes "new") ≡ Some (codes "23")
+-- the picked maps: that as read, and the one without the new name
+row_as_read : picked_map 0 two_maps (codes "new") ≡ Some 1
 unfolding two_maps
 row_as_read = refl
 
--- the next ones over what the unsynced file holds
-row_nothing : image_of 3 two_maps (codes "new") ≡ Some []
+row_undone : picked_map 1 two_maps (codes "new") ≡ None
+unfolding two_maps
+row_undone = refl
+
+row_old : picked_map 1 two_maps (codes "old") ≡ Some 0
+unfolding two_maps
+row_old = refl
+
+-- what the unsynced file holds
+row_bytes : crash_bytes 0 (two_maps.files 1) ≡ codes "23"
+unfolding two_maps
+row_bytes = refl
+
+row_nothing : crash_bytes 1 (two_maps.files 1) ≡ []
 unfolding two_maps
 row_nothing = refl
 
-row_ones : image_of 5 two_maps (codes "new") ≡ Some (255 ∷ 255 ∷ [])
+row_ones : crash_bytes 2 (two_maps.files 1) ≡ 255 ∷ 255 ∷ []
 unfolding two_maps
 row_ones = refl
 
-row_again : image_of 7 two_maps (codes "new") ≡ Some (codes "23")
-unfolding two_maps
-row_again = refl
-
 -- a synced file holds its bytes in each of them
-row_synced : image_of 5 (after_sync (codes "new") two_maps) (codes "new") ≡ Some (codes "23")
+row_synced : crash_bytes 2 ((after_sync (codes "new") two_maps).files 1) ≡ codes "23"
 unfolding two_maps
 row_synced = refl
 
 -- ---- maps
 
-row_moved : length (maps_of (after_rename (codes "new") (codes "old") two_maps)) ≡ 3
+row_moved : length (newest_first (after_rename (codes "new") (codes "old") two_maps)) ≡ 3
 unfolding two_maps
 row_moved = refl
 
-row_stayed : length (maps_of (after_remove (codes "x") two_maps)) ≡ 2
+row_stayed : length (newest_first (after_remove (codes "x") two_maps)) ≡ 2
 unfolding two_maps
 row_stayed = refl
 
-row_one : length (maps_of (after_sync_names two_maps)) ≡ 1
+row_one : length (newest_first (after_sync_names two_maps)) ≡ 1
 unfolding two_maps
 row_one = refl
+
+-- ---- picks: the newest change has the lowest digit
+
+two_changes : TreeState
+two_changes = after_rename (codes "new") (codes "old") two_maps
+
+-- the rename is undone
+row_newest_undone : (picked_map 1 two_changes (codes "new") ≡ Some 1) × (picked_map 1 two_changes (codes "old") ≡ Some 0)
+unfolding two_maps two_changes
+row_newest_undone = (refl, refl)
+
+-- the rename is kept, without the name that it moved
+row_oldest_undone : (picked_map 2 two_changes (codes "new") ≡ None) × (picked_map 2 two_changes (codes "old") ≡ Some 1)
+unfolding two_maps two_changes
+row_oldest_undone = (refl, refl)
+
+row_count : (picks_of two_changes ≡ 4) × (picks_of two_maps ≡ 2)
+unfolding two_maps two_changes
+row_count = (refl, refl)
 
 -- ---- plans
 

@@ -1,24 +1,56 @@
 -- What a crash leaves, by a number. The rule is in `docs/crash-safety.md`, "Images of the tree in
 -- memory"; "What a crash leaves" says what a crash may leave at all.
-use Rattle.std.specs.Prelude.{◌≡◌, ℕ, ◌+◌, ◌/◌, ◌%◌, Bool, true, false, if◌then◌else◌, ◌||◌, ◌==◌, List, [], ◌∷◌, reverse, length, replicate, slice_index_or}
+use Rattle.std.specs.Prelude.{◌≡◌, ℕ, zero, suc, ◌+◌, ◌-◌, ◌*◌, ◌/◌, ◌%◌, ◌^◌, ◌<◌, ◌≤◌, min, nat_le, Bool, true, false, if◌then◌else◌, ◌||◌, ◌==◌, List, [], ◌∷◌, length, replicate}
 use Rattle.std.specs.Option.{option_map}
-use Rattle.base_core.specs.Files.{Files, NameMap, no_names}
+use Rattle.base_core.specs.Files.{Files, NameMap, HasNoFileAsFolder}
 use Rattle.base_core.specs.Tree.{TreeState, File}
+use Rattle.base_core.specs.Undone.{IsCrashMap, with_change}
 use Rattle.tree_memory.specs.Table.{lookup}
 use Rattle.tree_memory.specs.declared.store.Change.{Change}
 use Rattle.tree_memory.specs.declared.store.Change.TheVariants.{Put, Create, Append, Sync, Rename, Remove, SyncNames, Stay}
 use Rattle.tree_memory.specs.declared.store.Stored.{Stored}
 use Rattle.tree_memory.specs.declared.table.NameAndFile.{NameAndFile}
 
--- ---- by a number
+-- ---- which changes of names are undone
 
--- the maps of names that a crash may leave, the oldest first
-abbrev pub maps_of : TreeState → List NameMap
-maps_of v = reverse (v.names ∷ v.older)
+-- the greatest number of changes of names of which each subset is undone by a number
+abbrev pub few_changes : ℕ
+few_changes = 5
 
--- the map of names that a number picks, counted from the oldest as 0
+-- whether the binary digit of a number is 1 at a place, counted from the lowest as 0
+abbrev pub is_one_at : ℕ → ℕ → Bool
+is_one_at n zero = n % 2 == 1
+is_one_at n (suc place) = is_one_at (n / 2) place
+
+-- Whether a change of names is undone, given how many there are since the names were last synced, the
+-- number that picks, and the number of the change, counted from the oldest as 0. Of few changes each
+-- subset has its number, with one binary digit for each change, the lowest for the newest. Of more
+-- changes the numbers up to their count undo so many of the newest ones, and each further number
+-- undoes one change alone, the oldest first.
+abbrev pub is_undone : ℕ → ℕ → ℕ → Bool
+is_undone changes pick number =
+    if nat_le changes few_changes then is_one_at pick (changes - number - 1)
+    else (if nat_le pick changes then nat_le (changes - pick) number
+    else pick - changes - 1 == number)
+
+-- how many numbers pick, given how many changes of names there are; it saturates
+abbrev pub pick_count : ℕ → ℕ
+pick_count changes =
+    if nat_le changes few_changes then 2 ^ changes else min (changes * 2 + 1) (2 ^ 64 - 1)
+
+-- the map of names that a crash leaves that undoes these changes, given the newest map and the older
+-- ones. A change has as its number how many there are before it.
+abbrev pub map_without : (ℕ → Bool) → NameMap → List NameMap → NameMap
+map_without undone new [] = new
+map_without undone new (old ∷ older) =
+    if undone (length older) then map_without undone old older
+    else with_change old new (map_without undone old older)
+
+-- the map of names that a number picks
 abbrev pub picked_map : ℕ → TreeState → NameMap
-picked_map choice v = slice_index_or (maps_of v) (choice % length (maps_of v)) no_names
+picked_map pick v = map_without (is_undone (length v.older) pick) v.names v.older
+
+-- ---- by a number
 
 -- the contents of a file after a crash: a synced one keeps its bytes; an unsynced one has, as chosen,
 -- its bytes as read (0), nothing (1), or as many bytes of value 255 (2)
@@ -26,28 +58,45 @@ abbrev pub crash_bytes : ℕ → File → List ℕ
 crash_bytes way file = if file.synced || way == 0 then file.bytes else
     (if way == 1 then [] else replicate (length file.bytes) 255)
 
--- the files after the crash that a number chooses: its remainder by the number of maps picks the map,
--- and the quotient modulo 3 the contents of unsynced files
-abbrev pub image_of : ℕ → TreeState → Files
-image_of choice v q = option_map (λ n. crash_bytes ((choice / length (maps_of v)) % 3) (v.files n))
-    (picked_map choice v q)
+-- how many numbers pick a map of names of this state
+abbrev pub picks_of : TreeState → ℕ
+picks_of v = pick_count (length v.older)
+
+-- the map of names of the image that a number picks: the picked one, or that as read if the picked
+-- one has a file as a folder, which no tree has
+pub record IsImageMap (pick : ℕ) (v : TreeState) (map : NameMap) : Type 0 where
+  pub fits : HasNoFileAsFolder (picked_map pick v) → map ≡ picked_map pick v
+  pub as_read : (HasNoFileAsFolder (picked_map pick v) → ⊥) → map ≡ v.names
+
+-- the files after the crash that a number chooses: its remainder by the count of the numbers that pick
+-- a map picks the map, and the quotient modulo 3 the contents of unsynced files
+abbrev pub IsImageOf : ℕ → TreeState → Files → Type 0
+IsImageOf choice v image = (map : NameMap) × IsImageMap (choice % picks_of v) v map
+    × ((q : List ℕ) → image q
+    ≡ option_map (λ n. crash_bytes ((choice / picks_of v) % 3) (v.files n)) (map q))
+
+-- a table has the names of the image that a number picks
+pub record HasImageNames (pick : ℕ) (v : TreeState) (entries : List NameAndFile) : Type 0 where
+  pub map : IsImageMap pick v (lookup entries)
+  pub left : IsCrashMap v (lookup entries)
+  pub folders : HasNoFileAsFolder (lookup entries)
 
 -- ---- as it is read from a record
 
--- the maps of names that a crash may leave, that as read first
+-- the maps of names since the names were last synced, that as read first
 abbrev pub newest_first : TreeState → List NameMap
 newest_first v = v.names ∷ v.older
 
--- whether a change that may be recorded adds a map of names
-abbrev pub adds_map : Change → Bool
-adds_map (Put name file len) = false
-adds_map (Create name) = true
-adds_map (Append file len) = false
-adds_map (Sync file) = false
-adds_map (Rename from to) = true
-adds_map (Remove name) = true
-adds_map SyncNames = false
-adds_map Stay = false
+-- whether a change that may be recorded syncs the names
+abbrev pub syncs_names : Change → Bool
+syncs_names (Put name file len) = true
+syncs_names (Create name) = false
+syncs_names (Append file len) = false
+syncs_names (Sync file) = false
+syncs_names (Rename from to) = false
+syncs_names (Remove name) = false
+syncs_names SyncNames = true
+syncs_names Stay = false
 
 -- how many maps of names there are after a change, given how many there were before
 abbrev pub maps_on : Change → ℕ → ℕ

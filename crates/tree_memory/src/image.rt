@@ -1,22 +1,29 @@
 //! What a crash leaves of a store.
 //! The rule is in `docs/crash-safety.md`, "Images of the tree in memory".
-ghost use Rattle.std.specs.Prelude.{◌≡◌, ◌+◌, ◌-◌, ◌<◌, ◌≤◌, ◌^◌, ℕ, List, true, IfOk, length, take, slice_index_or};
-ghost use Rattle.base_core.specs.Files.{no_names};
-ghost use Rattle.base_core.specs.Restart.{IsAfterCrashInOrder};
+ghost use Rattle.std.specs.Prelude.{◌≡◌, ◌+◌, ◌-◌, ◌<◌, ◌≤◌, ◌^◌, ℕ, [], List, true, false, if◌then◌else◌, IfOk, OnOk, length, take};
+ghost use Rattle.std.specs.List.{AllWithin};
+ghost use Rattle.std.specs.Str.{bytes_eq};
 ghost use Rattle.base_core.specs.Tree.{TreeState, files_of};
-ghost use Rattle.tree_memory.specs.Changes.{empty_state, state_on, is_record, step};
-ghost use Rattle.tree_memory.specs.Images.{maps_of, newest_first, adds_map, maps_on, image_of, crash_bytes, stored_file, HasNames};
+ghost use Rattle.base_core.specs.Undone.{IsAfterCrash, IsCrashMap, leads_alike, with_change};
+ghost use Rattle.base_core.specs.Files.{NameMap};
+ghost use Rattle.tree_memory.specs.Changes.{empty_state, state_on, step, can_step};
+ghost use Rattle.tree_memory.specs.Images.{newest_first, syncs_names, maps_on, is_one_at, is_undone, few_changes, pick_count, picks_of, picked_map, IsImageOf, HasImageNames, crash_bytes, stored_file, HasNames};
 ghost use Rattle.tree_memory.specs.Stores.{store_state};
 ghost use Rattle.tree_memory.specs.Table.{lookup};
 
 use crate::store::{Change, Store, Stored};
 use crate::table::NameTable;
+use base_core::Name;
 use std::alloc::{AllocError, Global};
 
+/// The greatest number of changes of names of which each subset is undone by a number.
+const FEW_CHANGES: u64 = 5;
+
 impl Store {
-    /// How many maps of names a crash may leave.
+    /// How many maps of names there are: that as read, and the older ones since the names were last
+    /// synced.
     pub fn maps(&self) -> u64
-        ensures count { result ≡ length (maps_of (store_state self.now)) }
+        ensures count { result ≡ length (newest_first (store_state self.now)) }
         ensures some { 0 < result }
     {
         let mut maps = 1;
@@ -26,19 +33,25 @@ impl Store {
         maps
     }
 
+    /// How many numbers pick a map of names that a crash may leave.
+    pub fn picks(&self) -> u64
+        ensures { result ≡ picks_of (store_state self.now) }
+    {
+        pick_count(self.maps() - 1)
+    }
+
     /// The store after the crash that a number chooses: the number picks the map of names and the
     /// contents of unsynced files.
     pub fn image(&self, alloc: Global, choice: u64) -> Result<Store, AllocError>
         ensures files { IfOk result (λ image.
-            files_of (store_state image) ≡ image_of choice (store_state self.now)) }
+            IsImageOf choice (store_state self.now) (files_of (store_state image))) }
         ensures crash { IfOk result (λ image.
-            IsAfterCrashInOrder (store_state self.now) (store_state image)) }
+            IsAfterCrash (store_state self.now) (store_state image)) }
     {
-        let maps = self.maps();
-        let back = maps - 1 - choice % maps;
-        let way = choice / maps % 3;
-        let moment = moment(&self.changes, back);
-        let names = names_after(alloc, &self.changes[..moment])?;
+        let changes = self.maps() - 1;
+        let picks = pick_count(changes);
+        let way = choice / picks % 3;
+        let names = self.image_names(alloc, changes, choice % picks)?;
         let mut image = Store::new(alloc);
         for entry in &names.entries {
             let bytes = crash_bytes(alloc, &self.files[entry.file], way)?;
@@ -46,6 +59,87 @@ impl Store {
         }
         Ok(image)
     }
+
+    // The names of the image that a number picks.
+    fn image_names(&self, alloc: Global, changes: u64, pick: u64) -> Result<NameTable, AllocError>
+        requires { changes ≡ length (store_state self.now).older }
+        ensures { IfOk result (λ names.
+            HasImageNames pick (store_state self.now) names.entries.items) }
+    {
+        let picked = self.picked_names(alloc, changes, pick)?;
+        if picked.has_no_folder() {
+            return Ok(picked);
+        }
+        let Replayed { names, .. } = names_after(alloc, &self.changes)?;
+        Ok(names)
+    }
+
+    // The names by the map that a number picks.
+    fn picked_names(&self, alloc: Global, changes: u64, pick: u64) -> Result<NameTable, AllocError>
+        requires { changes ≡ length (store_state self.now).older }
+        ensures { IfOk result (λ names. (q : List ℕ) → lookup names.entries.items q
+            ≡ picked_map pick (store_state self.now) q) }
+    {
+        // The names are followed from the moment of the last sync on, and beside them the picked
+        // ones, which lack the changes that are undone.
+        let start = last_sync(&self.changes);
+        let first = names_after(alloc, &self.changes[..start])?;
+        let second = names_after(alloc, &self.changes[..start])?;
+        let Replayed {
+            names: mut picked,
+            ..
+        } = first;
+        let Replayed {
+            mut names,
+            mut made,
+        } = second;
+        let mut maps = 1;
+        for i in start..self.changes.len() {
+            let change = &self.changes[i];
+            let undone = is_undone(changes, pick, maps - 1);
+            change_picked(alloc, &mut picked, &names, made, change, undone)?;
+            maps = maps_after(maps, change);
+            made = replay(alloc, &mut names, made, change)?;
+        }
+        Ok(picked)
+    }
+}
+
+// How many numbers pick a map, given how many changes of names there are.
+fn pick_count(changes: u64) -> u64
+    ensures count { result ≡ pick_count changes }
+    ensures some { 0 < result }
+{
+    if changes <= FEW_CHANGES {
+        return 1 << changes;
+    }
+    changes.saturating_mul(2).saturating_add(1)
+}
+
+// Whether the number that picks undoes the change of names with a number.
+fn is_undone(changes: u64, pick: u64, number: u64) -> bool
+    ensures { result ≡ is_undone changes pick number }
+{
+    if changes <= FEW_CHANGES {
+        return is_one_at(pick, changes.saturating_sub(number).saturating_sub(1));
+    }
+    if pick <= changes {
+        return changes - pick <= number;
+    }
+    pick - changes - 1 == number
+}
+
+// Whether the binary digit of a number is 1 at a place, counted from the lowest as 0.
+fn is_one_at(n: u64, place: u64) -> bool
+    ensures { result ≡ is_one_at n place }
+{
+    let mut left = n;
+    let mut places = place;
+    while places > 0 {
+        left /= 2;
+        places -= 1;
+    }
+    left % 2 == 1
 }
 
 // How many maps of names there are after one more change.
@@ -66,57 +160,145 @@ fn maps_after(maps: u64, change: &Change) -> u64
     }
 }
 
-// Whether a change adds a map of names.
-fn adds_map(change: &Change) -> bool
-    ensures { result ≡ adds_map change.now }
+// Whether a change syncs the names.
+fn syncs_names(change: &Change) -> bool
+    ensures { result ≡ syncs_names change.now }
 {
     match change {
-        Change::Put { .. } => false,
-        Change::Create { .. } => true,
+        Change::Put { .. } => true,
+        Change::Create { .. } => false,
         Change::Append { .. } => false,
         Change::Sync { .. } => false,
-        Change::Rename { .. } => true,
-        Change::Remove { .. } => true,
-        Change::SyncNames => false,
+        Change::Rename { .. } => false,
+        Change::Remove { .. } => false,
+        Change::SyncNames => true,
         Change::Stay => false,
     }
 }
 
-// How many changes the record had when the map of names was current that is `back` maps before the
-// newest one.
-fn moment(changes: &[Change], back: u64) -> usize
+// How many changes the record had when the names were last synced.
+fn last_sync(changes: &[Change]) -> usize
     ensures within { result ≤ length changes.now }
-    ensures names { (contents : List (List ℕ)) → is_record contents empty_state changes.now ≡ true
-        → back < length (newest_first (state_on contents empty_state changes.now))
-        → (q : List ℕ) → (state_on contents empty_state (take result changes.now)).names q
-        ≡ slice_index_or (newest_first (state_on contents empty_state changes.now)) back
-        no_names q }
+    ensures synced { (contents : List (List ℕ))
+        → (state_on contents empty_state (take result changes.now)).older ≡ [] }
+    ensures behind { AllWithin (λ c. syncs_names c ≡ false) changes.now result
+        (length changes.now) }
 {
     let mut n = changes.len();
-    let mut left = back;
     while n > 0 {
-        if left == 0 {
+        if syncs_names(&changes[n - 1]) {
             return n;
         }
         n -= 1;
-        if adds_map(&changes[n]) {
-            left -= 1;
-        }
     }
     n
 }
 
+// The names after some changes.
+#[derive(Drop)]
+struct Replayed {
+    // The names.
+    names: NameTable,
+    // How many files were made.
+    made: usize,
+}
+
 // The names after the first changes of a record.
-fn names_after(alloc: Global, changes: &[Change]) -> Result<NameTable, AllocError>
-    ensures { IfOk result (λ names. (contents : List (List ℕ)) (q : List ℕ)
-        → (state_on contents empty_state changes.now).names q ≡ lookup names.entries.items q) }
+fn names_after(alloc: Global, changes: &[Change]) -> Result<Replayed, AllocError>
+    ensures names { IfOk result (λ replayed. (contents : List (List ℕ))
+        → HasNames (state_on contents empty_state changes.now) replayed.names.entries.items
+        replayed.made) }
+    ensures few { IfOk result (λ replayed. replayed.made ≤ length changes.now) }
 {
     let mut names = NameTable::new(alloc);
     let mut made = 0;
     for change in changes {
         made = replay(alloc, &mut names, made, change)?;
     }
-    Ok(names)
+    Ok(Replayed { names, made })
+}
+
+// Applies one more change to the picked names unless it is undone, given the names as they were
+// before it.
+fn change_picked(
+    alloc: Global,
+    picked: &mut NameTable,
+    names: &NameTable,
+    made: usize,
+    change: &Change,
+    undone: bool,
+) -> Result<(), AllocError>
+    ensures { OnOk result ((contents : List (List ℕ)) (v : TreeState)
+        → HasNames v names.now.entries.items made → can_step contents change.now v ≡ true
+        → (q : List ℕ) → lookup picked.new.entries.items q
+        ≡ (if undone then lookup picked.old.entries.items q
+        else with_change v.names (step contents change.now v).names
+        (lookup picked.old.entries.items) q)) }
+{
+    if undone {
+        return Ok(());
+    }
+    keep_change(alloc, picked, names, made, change)
+}
+
+// Applies one more change to the picked names, given the names as they were before it.
+fn keep_change(
+    alloc: Global,
+    picked: &mut NameTable,
+    names: &NameTable,
+    made: usize,
+    change: &Change,
+) -> Result<(), AllocError>
+    ensures { OnOk result ((contents : List (List ℕ)) (v : TreeState)
+        → HasNames v names.now.entries.items made → can_step contents change.now v ≡ true
+        → (q : List ℕ) → lookup picked.new.entries.items q
+        ≡ with_change v.names (step contents change.now v).names
+        (lookup picked.old.entries.items) q) }
+{
+    match change {
+        Change::Put { name, .. } => lead(alloc, picked, names, name, Some(made)),
+        Change::Create { name } => lead(alloc, picked, names, name, Some(made)),
+        Change::Append { .. } => Ok(()),
+        Change::Sync { .. } => Ok(()),
+        Change::Rename { from, to } => {
+            if from.as_bytes() == to.as_bytes() {
+                return Ok(());
+            }
+            let file = names.find(from.as_bytes());
+            if file.is_some() {
+                lead(alloc, picked, names, from, None)?;
+                lead(alloc, picked, names, to, file)?;
+            }
+            Ok(())
+        }
+        Change::Remove { name } => lead(alloc, picked, names, name, None),
+        Change::SyncNames => Ok(()),
+        Change::Stay => Ok(()),
+    }
+}
+
+// Lets a picked name lead to a number or to none, unless it does so among the names already.
+fn lead(
+    alloc: Global,
+    picked: &mut NameTable,
+    names: &NameTable,
+    name: &Name,
+    file: Option<usize>,
+) -> Result<(), AllocError>
+    ensures { OnOk result ((q : List ℕ) → lookup picked.new.entries.items q
+        ≡ (if bytes_eq q name.now then
+        (if leads_alike (lookup names.now.entries.items name.now) file then
+        lookup picked.old.entries.items q else file)
+        else lookup picked.old.entries.items q)) }
+{
+    if names.find(name.as_bytes()) == file {
+        return Ok(());
+    }
+    match file {
+        None => picked.remove(name.as_bytes()),
+        Some(file) => picked.set(name.copy(alloc)?, file)?,
+    }
+    Ok(())
 }
 
 // Applies one more change to the names, and returns how many files were made then.
@@ -174,3 +356,15 @@ fn crash_bytes(alloc: Global, file: &Stored, way: u64) -> Result<Vec<u8>, AllocE
     }
     Vec::from_elem(alloc, 255, file.bytes.len())
 }
+
+/// If few names were changed since the names were last synced, a number picks each map of names
+/// that a crash may leave.
+pub fn each_map_of_few_changes_is_picked()
+    ensures { (v : TreeState) (map : NameMap) → length v.older ≤ few_changes → IsCrashMap v map
+        → (pick : ℕ) × (pick < picks_of v) × (picked_map pick v ≡ map) }
+{}
+
+/// The number 0 picks the map of names as read.
+pub fn no_change_is_undone_by_0()
+    ensures { (v : TreeState) → picked_map 0 v ≡ v.names }
+{}

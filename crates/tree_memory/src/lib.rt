@@ -20,5 +20,6 @@ pub use calls::{
     a_call_fails_where_it_is_planned, an_endless_sink_runs_out_of_memory,
     an_unplanned_fault_has_its_reason,
 };
+pub use image::{each_map_of_few_changes_is_picked, no_change_is_undone_by_0};
 pub use sink::MemorySink;
 pub use tree::MemoryTree;

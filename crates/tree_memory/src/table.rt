@@ -5,7 +5,7 @@ ghost use Rattle.std.specs.Prelude.{◌≡◌, ◌↔◌, ℕ, [], ◌∷◌, �
 ghost use Rattle.std.specs.Ordering.{nat_cmp, is_lt};
 ghost use Rattle.std.specs.Str.{bytes_eq};
 ghost use Rattle.std.specs.Cmp.Lexicographic.{slice_cmp};
-ghost use Rattle.base_core.specs.Files.{put_name, drop_name};
+ghost use Rattle.base_core.specs.Files.{put_name, drop_name, HasNoFileAsFolder};
 ghost use Rattle.tree_memory.specs.Table.{IsTable, MakesNoFolderOfAnother, lookup, names_of, IsNamed, IsPlace, IsStart, IsBelow, HasFolderBut, HasBelowBut};
 
 use base_core::{Name, Names, is_folder_of};
@@ -92,6 +92,19 @@ impl NameTable {
             return false;
         }
         !self.has_below(name, but)
+    }
+
+    /// Whether no name of the table is a folder of another.
+    pub fn has_no_folder(&self) -> bool
+        ensures { IsTrue result ↔ HasNoFileAsFolder (lookup self.now.entries.items) }
+    {
+        for entry in &self.entries {
+            let name = entry.name.as_bytes();
+            if self.has_folder_of(name, name) {
+                return false;
+            }
+        }
+        true
     }
 
     // Whether a folder of the name is itself a name of the table, other than `but`.

@@ -4,14 +4,14 @@
 ghost use Rattle.std.specs.Prelude.{◌≡◌, ◌↔◌, [], ◌∷◌, List, Some, None, IsTrue, IsOk, IfOk, IfSome, IsErrOf, OnOk, OnErr, false, true, length, max, take, drop, if◌then◌else◌};
 ghost use Rattle.std.specs.Option.{option_map, option_copied};
 ghost use Rattle.base_core.specs.Calls.{IsCounted, ChangesHistory, IfObservable};
-ghost use Rattle.base_core.specs.Restart.{IsAfterCrashInOrder};
 ghost use Rattle.base_core.specs.Faults.{CountsOnlyRise, HasCause, IsNoFault, next_count};
 ghost use Rattle.base_core.specs.Files.{put_name};
 ghost use Rattle.base_core.specs.Listed.{AreNamesBelow, IsNamesOf, IsListOf};
 ghost use Rattle.base_core.specs.Tree.{files_of, after_create, after_append, after_failed_append, after_sync, after_rename, after_remove, after_sync_names, after_failed_call, IsAlwaysAllowed, HasName, CanRead, CanCreate, CanRename};
+ghost use Rattle.base_core.specs.Undone.{IsAfterCrash};
 ghost use Rattle.base_core.specs.declared.tree.TreeFault.TheVariants.{Memory, Disk as DiskFault};
 ghost use Rattle.tree_memory.specs.Changes.{empty_state, after_put};
-ghost use Rattle.tree_memory.specs.Images.{maps_of, image_of};
+ghost use Rattle.tree_memory.specs.Images.{newest_first, picks_of, IsImageOf};
 ghost use Rattle.tree_memory.specs.Kept.{CanPut};
 ghost use Rattle.tree_memory.specs.Plans.{no_plan, is_next, has_more, one_on};
 
@@ -119,15 +119,17 @@ impl MemoryTree {
         self.calls.plan = Plan::after(self.store.alloc, n);
     }
 
-    /// A new tree as after a crash: it has one of the maps of names, and all its files are synced.
-    /// With m maps, it has map `choice mod m`, counted from the oldest as 0. A file that was not
-    /// synced has its bytes as read if `(choice / m) mod 3` is 0, nothing if it is 1, and as many
+    /// A new tree as after a crash: it has a map of names that a crash may leave, and all its files
+    /// are synced. With `p` of `picks`, the number `choice mod p` picks the map. 0 picks that as
+    /// read. If few names were changed since the names were last synced, each map has its number.
+    /// A map that has a file as a folder is replaced by that as read. A file that was not
+    /// synced has its bytes as read if `(choice / p) mod 3` is 0, nothing if it is 1, and as many
     /// bytes of value 255 if it is 2. The new tree has no faults and no planned failures. The tree
     /// itself is unchanged.
     pub fn pick_image(&self, alloc: Global, choice: u64) -> Result<MemoryTree, AllocError>
         ensures files { IfOk result (λ image.
-            files_of (tree_state image) ≡ image_of choice (tree_state self.now)) }
-        ensures crash { IfOk result (λ image. IsAfterCrashInOrder (tree_state self.now) (tree_state
+            IsImageOf choice (tree_state self.now) (files_of (tree_state image))) }
+        ensures crash { IfOk result (λ image. IsAfterCrash (tree_state self.now) (tree_state
             image)) }
         ensures counts { IfOk result (λ image. counts_of image ≡ no_faults) }
         ensures plan { IfOk result (λ image. plan_of image ≡ no_plan) }
@@ -179,11 +181,19 @@ impl MemoryTree {
         self.longest
     }
 
-    /// How many maps of names a crash may leave.
+    /// How many maps of names there are: that as read, and the older ones since the names were last
+    /// synced.
     pub fn maps(&self) -> u64
-        ensures { result ≡ length (maps_of (tree_state self.now)) }
+        ensures { result ≡ length (newest_first (tree_state self.now)) }
     {
         self.store.maps()
+    }
+
+    /// How many numbers pick a map of names that a crash may leave.
+    pub fn picks(&self) -> u64
+        ensures { result ≡ picks_of (tree_state self.now) }
+    {
+        self.store.picks()
     }
 }
 
