@@ -10,14 +10,14 @@ use Rattle.adb_view.proofs.FoundShapes.{shape_null}
 use Rattle.adb_dump.specs.Dump.{Line, begins_with_byte, int_line, text_line, hash_line, indent, with_dash, or_null, array_lines, named_line, named_block, unless_absent, block_lines, named_lines, fields_lines}
 use Rattle.base_core.specs.Lists.{and_then}
 use Rattle.base_core.proofs.AtName.{is_name}
-use Rattle.adb_dump.specs.ReadBack.{LinesRead, after_lines, strip_prefix, stop_or_add, split_block, quoted_read, unhex, blob_read, int_read, text_read, hash_read, if_form, only_line, entry_read, after_dash, entries_read, arr_read, obj_read, field_on_line, field_below, if_named, block_read, named_read, fields_read}
+use Rattle.adb_dump.specs.ReadBack.{ResultOrBadLine, after_lines, strip_prefix, stop_or_add, split_block, quoted_read, unhex, blob_read, int_read, text_read, hash_read, if_form, only_line, entry_read, after_dash, entries_read, arr_read, obj_read, field_on_line, field_below, if_named, block_read, named_read, fields_read}
 use Rattle.adb_dump.proofs.Booleans.{chosen}
 
-bind_ok : {A B : Type 0} (r : LinesRead A) (f : A → LinesRead B) (y : B) → and_then r f ≡ Ok y → (x : A) × (r ≡ Ok x) × (f x ≡ Ok y)
+bind_ok : {A B : Type 0} (r : ResultOrBadLine A) (f : A → ResultOrBadLine B) (y : B) → and_then r f ≡ Ok y → (x : A) × (r ≡ Ok x) × (f x ≡ Ok y)
 bind_ok (Ok x) f y e = (x, refl, e)
 bind_ok (Err k) f y e = absurd cc
 
-behind_ok : {A B : Type 0} (n : ℕ) (f : A → B) (r : LinesRead A) (y : B) → after_lines n f r ≡ Ok y → (x : A) × (r ≡ Ok x) × (f x ≡ y)
+behind_ok : {A B : Type 0} (n : ℕ) (f : A → B) (r : ResultOrBadLine A) (y : B) → after_lines n f r ≡ Ok y → (x : A) × (r ≡ Ok x) × (f x ≡ y)
 behind_ok n f (Ok x) y e = (x, refl, cc)
 behind_ok n f (Err k) y e = absurd cc
 
@@ -29,7 +29,7 @@ if_form_ok form l (Some u) v e =
       | inr x ↦ absurd (let f = x.1 in cc)
     ]
 
-only_line_ok : (f : Line → LinesRead Plain) (ls : List Line) (v : Plain) → only_line f ls ≡ Ok v → (l : Line) × (ls ≡ l ∷ []) × (f l ≡ Ok v)
+only_line_ok : (f : Line → ResultOrBadLine Plain) (ls : List Line) (v : Plain) → only_line f ls ≡ Ok v → (l : Line) × (ls ≡ l ∷ []) × (f l ≡ Ok v)
 only_line_ok f [] v e = absurd cc
 only_line_ok f (l ∷ []) v e = (l, refl, e)
 only_line_ok f (l ∷ m ∷ ls) v e = absurd (let (x, a, b) = bind_ok (f l) (λ v. Err 1) v e in cc)
@@ -91,10 +91,10 @@ hash_fits l v e = blob_fits hash (unhex l) v (λ y. tt) (made_blob_some (unhex l
 -- ---- entries
 
 -- what reading an entry says
-abbrev EntryOnly : (Plain → List Line) → (List Line → LinesRead Plain) → (Plain → Type 0) → Type 0
+abbrev EntryOnly : (Plain → List Line) → (List Line → ResultOrBadLine Plain) → (Plain → Type 0) → Type 0
 EntryOnly f r Q = (l : Line) (ls : List Line) (v : Plain) → entry_read r l ls ≡ Ok v → (or_null v (f v) ≡ l ∷ ls) × Q v
 
-dash_only : (f : Plain → List Line) (r : List Line → LinesRead Plain) (Q : Plain → Type 0) → EntryOnly f r Q → (n : ℕ) (l : Line) (ls : List Line) (o : Option Line) (vs : Plains) → strip_prefix (45 ∷ 32 ∷ []) l ≡ o
+dash_only : (f : Plain → List Line) (r : List Line → ResultOrBadLine Plain) (Q : Plain → Type 0) → EntryOnly f r Q → (n : ℕ) (l : Line) (ls : List Line) (o : Option Line) (vs : Plains) → strip_prefix (45 ∷ 32 ∷ []) l ≡ o
     → ((us : Plains) → entries_read r n (split_block ls).1 ≡ Ok us → (array_lines f us ≡ (split_block ls).1) × Each Q us) → after_dash r (entries_read r n) (split_block ls) o ≡ Ok vs → (array_lines f vs ≡ l ∷ ls) × Each Q vs
 dash_only f r Q h n l ls None vs i g e = absurd cc
 dash_only f r Q h n l ls (Some inner) vs i g e =
@@ -109,7 +109,7 @@ dash_only f r Q h n l ls (Some inner) vs i g e =
     cons_same : (x y : Line) (xs ys : List Line) → x ≡ y → xs ≡ ys → x ∷ xs ≡ y ∷ ys
     cons_same x y xs ys a b = cc
 
-entries_only : (f : Plain → List Line) (r : List Line → LinesRead Plain) (Q : Plain → Type 0) → EntryOnly f r Q → (n : ℕ) (ls : List Line) (vs : Plains) → length ls ≤ n → entries_read r n ls ≡ Ok vs → (array_lines f vs ≡ ls) × Each Q vs
+entries_only : (f : Plain → List Line) (r : List Line → ResultOrBadLine Plain) (Q : Plain → Type 0) → EntryOnly f r Q → (n : ℕ) (ls : List Line) (vs : Plains) → length ls ≤ n → entries_read r n ls ≡ Ok vs → (array_lines f vs ≡ ls) × Each Q vs
 entries_only f r Q h zero [] vs le e = let is : vs ≡ none = cc in (rw is refl, rw is tt)
 entries_only f r Q h zero (l ∷ ls) vs le e = absurd (omega arith)
 entries_only f r Q h (suc n) [] vs le e = let is : vs ≡ none = cc in (rw is refl, rw is tt)

@@ -10,7 +10,7 @@ use Rattle.adb_view.proofs.Normal.{trimmed-more}
 use Rattle.adb_dump.specs.Dump.{Line, int_line, text_line, hash_line, text_form, indent, with_dash, or_null, array_lines, block_lines, named_lines, fields_lines}
 use Rattle.base_core.specs.Lists.{and_then}
 use Rattle.base_core.proofs.AtName.{own_name, other_name as differs}
-use Rattle.adb_dump.specs.ReadBack.{LinesRead, after_lines, strip_prefix, split_block, entry_read, entries_read, arr_read, obj_read, field_below, block_read, named_read, fields_read}
+use Rattle.adb_dump.specs.ReadBack.{ResultOrBadLine, after_lines, strip_prefix, split_block, entry_read, entries_read, arr_read, obj_read, field_below, block_read, named_read, fields_read}
 use Rattle.adb_dump.specs.Values.{IsOfBytes, AreOfBytes}
 use Rattle.adb_dump.proofs.LineBack.{AreBytes, int_back, text_back, hash_back, int_not_null, text_not_null, hash_not_null}
 
@@ -61,17 +61,17 @@ split_block-indent (x ∷ xs) ys h = rw (split_block-indent xs ys h) refl
 -- ---- entries
 
 -- an entry's lines, of which there is one at least, are read as the entry
-pub record EntryBack (f : Plain → List Line) (r : List Line → LinesRead Plain) (v : Plain) : Type 0 where
+pub record EntryBack (f : Plain → List Line) (r : List Line → ResultOrBadLine Plain) (v : Plain) : Type 0 where
   pub first : Line
   pub others : List Line
   pub lines : or_null v (f v) ≡ first ∷ others
   pub back : entry_read r first others ≡ Ok v
 
-entries-fresh : (f : Plain → List Line) (r : List Line → LinesRead Plain) (vs : Plains) → Each (EntryBack f r) vs → IsFresh (array_lines f vs)
+entries-fresh : (f : Plain → List Line) (r : List Line → ResultOrBadLine Plain) (vs : Plains) → Each (EntryBack f r) vs → IsFresh (array_lines f vs)
 entries-fresh f r none h = tt
 entries-fresh f r (more v vs) h = rw h.0.lines refl
 
-entries_back : (f : Plain → List Line) (r : List Line → LinesRead Plain) (n : ℕ) (vs : Plains) → Each (EntryBack f r) vs → length (array_lines f vs) ≤ n → entries_read r n (array_lines f vs) ≡ Ok vs
+entries_back : (f : Plain → List Line) (r : List Line → ResultOrBadLine Plain) (n : ℕ) (vs : Plains) → Each (EntryBack f r) vs → length (array_lines f vs) ≤ n → entries_read r n (array_lines f vs) ≡ Ok vs
 entries_back f r zero none h le = refl
 entries_back f r (suc n) none h le = refl
 entries_back f r zero (more v vs) h le =
@@ -221,7 +221,7 @@ entry_from s (arr us) h = let b = h (λ e. cc) in record { first = b.first; othe
 entry_from s (obj us) h = let b = h (λ e. cc) in record { first = b.first; others = b.others; lines = b.lines; back = rw b.not_null (ap (block_read s) (sym b.lines) ∙ b.back) }
 
 -- a value's lines, named, and the lines of the other fields after them
-record NamedBack (s : Shape) (name : List ℕ) (v : Plain) (g : List Line → LinesRead Plains) (ls : List Line) : Type 0 where
+record NamedBack (s : Shape) (name : List ℕ) (v : Plain) (g : List Line → ResultOrBadLine Plains) (ls : List Line) : Type 0 where
   first : Line
   after : List Line
   rest : Line
@@ -229,7 +229,7 @@ record NamedBack (s : Shape) (name : List ℕ) (v : Plain) (g : List Line → Li
   is : first ≡ name ++ 58 ∷ rest
   back : (vs : Plains) → g ls ≡ Ok vs → named_read s g after rest ≡ Ok (more v vs)
 
-named_back : (s : Shape) (name : List ℕ) (v : Plain) (g : List Line → LinesRead Plains) (ls : List Line) → BlockBack s v → IsFresh ls → NamedBack s name v g ls
+named_back : (s : Shape) (name : List ℕ) (v : Plain) (g : List Line → ResultOrBadLine Plains) (ls : List Line) → BlockBack s v → IsFresh ls → NamedBack s name v g ls
 unfolding named_lines named_read
 named_back number name v g ls b fresh = record {
   first = name ++ (58 ∷ 32 ∷ int_line v);
@@ -237,7 +237,7 @@ named_back number name v g ls b fresh = record {
   rest = 32 ∷ int_line v;
   lines = refl;
   is = refl;
-  back = λ vs h. ap (λ (r : LinesRead Plain). and_then r (λ u. after_lines 1 (more u) (g ls))) b.back ∙ ap (after_lines 1 (more v)) h;
+  back = λ vs h. ap (λ (r : ResultOrBadLine Plain). and_then r (λ u. after_lines 1 (more u) (g ls))) b.back ∙ ap (after_lines 1 (more v)) h;
 }
 named_back text name v g ls b fresh = record {
   first = name ++ (58 ∷ 32 ∷ text_line v);
@@ -245,7 +245,7 @@ named_back text name v g ls b fresh = record {
   rest = 32 ∷ text_line v;
   lines = refl;
   is = refl;
-  back = λ vs h. ap (λ (r : LinesRead Plain). and_then r (λ u. after_lines 1 (more u) (g ls))) b.back ∙ ap (after_lines 1 (more v)) h;
+  back = λ vs h. ap (λ (r : ResultOrBadLine Plain). and_then r (λ u. after_lines 1 (more u) (g ls))) b.back ∙ ap (after_lines 1 (more v)) h;
 }
 named_back hash name v g ls b fresh = record {
   first = name ++ (58 ∷ 32 ∷ hash_line v);
@@ -253,7 +253,7 @@ named_back hash name v g ls b fresh = record {
   rest = 32 ∷ hash_line v;
   lines = refl;
   is = refl;
-  back = λ vs h. ap (λ (r : LinesRead Plain). and_then r (λ u. after_lines 1 (more u) (g ls))) b.back ∙ ap (after_lines 1 (more v)) h;
+  back = λ vs h. ap (λ (r : ResultOrBadLine Plain). and_then r (λ u. after_lines 1 (more u) (g ls))) b.back ∙ ap (after_lines 1 (more v)) h;
 }
 named_back (array s) name v g ls b fresh =
     let block = block_lines (array s) v in
@@ -264,7 +264,7 @@ named_back (array s) name v g ls b fresh =
       rest = [];
       lines = refl;
       is = refl;
-      back = λ vs h. ap (λ r. field_below (block_read (array s)) g r []) split ∙ ap (λ (r : LinesRead Plain). and_then (after_lines 1 (λ u. u) r) (λ u. after_lines (1 + length block) (more u) (g ls))) b.back ∙ ap (after_lines (1 + length block) (more v)) h;
+      back = λ vs h. ap (λ r. field_below (block_read (array s)) g r []) split ∙ ap (λ (r : ResultOrBadLine Plain). and_then (after_lines 1 (λ u. u) r) (λ u. after_lines (1 + length block) (more u) (g ls))) b.back ∙ ap (after_lines (1 + length block) (more v)) h;
     }
 named_back (object which fs) name v g ls b fresh =
     let block = block_lines (object which fs) v in
@@ -275,7 +275,7 @@ named_back (object which fs) name v g ls b fresh =
       rest = [];
       lines = refl;
       is = refl;
-      back = λ vs h. ap (λ r. field_below (block_read (object which fs)) g r []) split ∙ ap (λ (r : LinesRead Plain). and_then (after_lines 1 (λ u. u) r) (λ u. after_lines (1 + length block) (more u) (g ls))) b.back ∙ ap (after_lines (1 + length block) (more v)) h;
+      back = λ vs h. ap (λ r. field_below (block_read (object which fs)) g r []) split ∙ ap (λ (r : ResultOrBadLine Plain). and_then (after_lines 1 (λ u. u) r) (λ u. after_lines (1 + length block) (more u) (g ls))) b.back ∙ ap (after_lines (1 + length block) (more v)) h;
     }
 
 -- one field more
@@ -317,7 +317,7 @@ array_back s (more v vs) ne h =
       others = indent e.others ++ array_lines (block_lines s) vs;
       lines = ap (λ (ls : List Line). with_dash ls ++ array_lines (block_lines s) vs) e.lines;
       not_null = refl;
-      back = ap (λ (r : LinesRead Plains). and_then r arr_read) (entries_back (block_lines s) (block_read s) (length (array_lines (block_lines s) (more v vs))) (more v vs) h (omega arith));
+      back = ap (λ (r : ResultOrBadLine Plains). and_then r arr_read) (entries_back (block_lines s) (block_read s) (length (array_lines (block_lines s) (more v vs))) (more v vs) h (omega arith));
     }
 
 -- an object has a line
@@ -360,7 +360,7 @@ object_back which fs vs ne some h = go (fields_lines fs vs) refl (fields_first f
   where
     go : (ls : List Line) → fields_lines fs vs ≡ ls → FirstNamed fs ls → BlockBack (object which fs) (obj vs)
     go [] e f = absurd (some e)
-    go (l ∷ ls) e f = record { first = l; others = ls; lines = e; not_null = rw f.is (colon_not_null f.name f.rest); back = ap (λ (r : LinesRead Plains). and_then r obj_read) h ∙ obj_read-is vs ne }
+    go (l ∷ ls) e f = record { first = l; others = ls; lines = e; not_null = rw f.is (colon_not_null f.name f.rest); back = ap (λ (r : ResultOrBadLine Plains). and_then r obj_read) h ∙ obj_read-is vs ne }
 
 -- a field, whether it is Null or not
 one_more : (name : List ℕ) (s : Shape) (fs : Fields) (v : Plain) (vs : Plains) → Names name s fs → (without_last_nulls vs ≡ vs) × ((vs ≡ none) → v ≢ null) → (vs ≢ none → HaveShapes fs vs → fields_lines fs vs ≢ []) → HaveShapes fs vs

@@ -12,11 +12,11 @@ use Rattle.adb_view.specs.declared.tables.Kind.TheVariants.{Obj}
 use Rattle.adb_dump.specs.Dump.{Line, begins_with_byte, int_line, text_line, hash_line}
 
 -- the result of reading lines, or the number of the first line that is not allowed
-abbrev pub LinesRead : Type 0 → Type 0
-LinesRead A = Result A ℕ
+abbrev pub ResultOrBadLine : Type 0 → Type 0
+ResultOrBadLine A = Result A ℕ
 
 -- the result of reading after this many lines: the number of a bad line counts them too
-abbrev pub after_lines : {A B : Type 0} → ℕ → (A → B) → LinesRead A → LinesRead B
+abbrev pub after_lines : {A B : Type 0} → ℕ → (A → B) → ResultOrBadLine A → ResultOrBadLine B
 after_lines n f (Ok x) = Ok (f x)
 after_lines n f (Err k) = Err (n + k)
 
@@ -101,12 +101,12 @@ abbrev pub hash_read : Line → Option Plain
 hash_read l = blob_read (unhex l)
 
 -- the value of a line, if the line is the one form of the value; else the line is bad
-abbrev pub if_form : (Plain → Line) → Line → Option Plain → LinesRead Plain
+abbrev pub if_form : (Plain → Line) → Line → Option Plain → ResultOrBadLine Plain
 if_form form l None = Err 0
 if_form form l (Some v) = if bytes_eq (form v) l then Ok v else Err 0
 
 -- A value on one line. A second line is bad, and is reported as line 1 (lines count from 0).
-abbrev pub only_line : (Line → LinesRead Plain) → List Line → LinesRead Plain
+abbrev pub only_line : (Line → ResultOrBadLine Plain) → List Line → ResultOrBadLine Plain
 only_line f [] = Err 0
 only_line f (l ∷ []) = f l
 only_line f (l ∷ m ∷ ls) = and_then (f l) (λ v. Err 1)
@@ -115,57 +115,57 @@ only_line f (l ∷ m ∷ ls) = and_then (f l) (λ v. Err 1)
 
 -- an entry of an array by its lines, of which the first (`l`) is without its dash; `null` is the only
 -- line of its entry
-abbrev pub entry_read : (List Line → LinesRead Plain) → Line → List Line → LinesRead Plain
+abbrev pub entry_read : (List Line → ResultOrBadLine Plain) → Line → List Line → ResultOrBadLine Plain
 entry_read f l ls =
     if bytes_eq l (codes "null") then only_line (λ x. Ok null) (l ∷ ls) else f (l ∷ ls)
 
 -- an entry of an array and the entries after it; a line without a dash begins no entry
-abbrev pub after_dash : (List Line → LinesRead Plain) → (List Line → LinesRead Plains)
-    → List Line × List Line → Option Line → LinesRead Plains
+abbrev pub after_dash : (List Line → ResultOrBadLine Plain) → (List Line → ResultOrBadLine Plains)
+    → List Line × List Line → Option Line → ResultOrBadLine Plains
 after_dash f g r None = Err 0
 after_dash f g r (Some l) =
     and_then (entry_read f l r.0) (λ v. after_lines (1 + length r.0) (more v) (g r.1))
 
 -- the entries of an array by their lines. The number `n` bounds the turns; the number of lines is
 -- enough
-abbrev pub entries_read : (List Line → LinesRead Plain) → ℕ → List Line → LinesRead Plains
+abbrev pub entries_read : (List Line → ResultOrBadLine Plain) → ℕ → List Line → ResultOrBadLine Plains
 entries_read f zero ls = Ok none
 entries_read f (suc n) [] = Ok none
 entries_read f (suc n) (l ∷ ls) =
     after_dash f (entries_read f n) (split_block ls) (strip_prefix (codes "- ") l)
 
 -- the value of an array; one without an entry has no lines, so it cannot be read
-abbrev pub arr_read : Plains → LinesRead Plain
+abbrev pub arr_read : Plains → ResultOrBadLine Plain
 arr_read none = Err 0
 arr_read (more v vs) = Ok (arr (more v vs))
 
 -- the value of an object; one without a field has no lines, so it cannot be read
-abbrev pub obj_read : Plains → LinesRead Plain
+abbrev pub obj_read : Plains → ResultOrBadLine Plain
 obj_read none = Err 0
 obj_read (more v vs) = Ok (obj (more v vs))
 
 -- a field whose value follows `name:` on its line, and then the other fields
-abbrev pub field_on_line : (Line → LinesRead Plain) → (List Line → LinesRead Plains) → List Line
-    → Option Line → LinesRead Plains
+abbrev pub field_on_line : (Line → ResultOrBadLine Plain) → (List Line → ResultOrBadLine Plains) → List Line
+    → Option Line → ResultOrBadLine Plains
 field_on_line f g ls None = Err 0
 field_on_line f g ls (Some l) = and_then (f l) (λ v. after_lines 1 (more v) (g ls))
 
 -- a field whose value is below its name, which is alone on its line, and then the other fields
-abbrev pub field_below : (List Line → LinesRead Plain) → (List Line → LinesRead Plains)
-    → List Line × List Line → Line → LinesRead Plains
+abbrev pub field_below : (List Line → ResultOrBadLine Plain) → (List Line → ResultOrBadLine Plains)
+    → List Line × List Line → Line → ResultOrBadLine Plains
 field_below f g r [] =
     and_then (after_lines 1 (λ v. v) (f r.0)) (λ v. after_lines (1 + length r.0) (more v) (g r.1))
 field_below f g r (c ∷ cs) = Err 0
 
 -- the fields from a line on: if the line does not have the name of this field, those after it
 -- (`other`), else this one (`this`, of the text after `name:`)
-abbrev pub if_named : LinesRead Plains → (Line → LinesRead Plains) → Option Line → LinesRead Plains
+abbrev pub if_named : ResultOrBadLine Plains → (Line → ResultOrBadLine Plains) → Option Line → ResultOrBadLine Plains
 if_named other this None = other
 if_named other this (Some rest) = this rest
 
 unfoldable mutual
   -- the value of a shape with exactly these lines
-  pub block_read : Shape → List Line → LinesRead Plain
+  pub block_read : Shape → List Line → ResultOrBadLine Plain
   block_read number ls = only_line (λ l. if_form int_line l (int_read l)) ls
   block_read text ls = only_line (λ l. if_form text_line l (text_read l)) ls
   block_read hash ls = only_line (λ l. if_form hash_line l (hash_read l)) ls
@@ -173,7 +173,7 @@ unfoldable mutual
   block_read (object schema fs) ls = and_then (fields_read fs ls) obj_read
 
   -- the value of a field, from after `name:` on (`l`), and then the other fields (`g`)
-  pub named_read : Shape → (List Line → LinesRead Plains) → List Line → Line → LinesRead Plains
+  pub named_read : Shape → (List Line → ResultOrBadLine Plains) → List Line → Line → ResultOrBadLine Plains
   named_read number g ls l = field_on_line (λ l. if_form int_line l (int_read l)) g ls
       (strip_prefix (codes " ") l)
   named_read text g ls l = field_on_line (λ l. if_form text_line l (text_read l)) g ls
@@ -186,7 +186,7 @@ unfoldable mutual
       (split_block ls) l
 
   -- the fields of an object in order; a field whose name is not next is Null
-  pub fields_read : Fields → List Line → LinesRead Plains
+  pub fields_read : Fields → List Line → ResultOrBadLine Plains
   fields_read no_fields [] = Ok none
   fields_read no_fields (l ∷ ls) = Err 0
   fields_read (field name s fs) [] = Ok none
@@ -195,7 +195,7 @@ unfoldable mutual
       (strip_prefix (name ++ codes ":") l)
 
 -- the value of a table by the lines of a text after its first; Null has none
-abbrev pub value_read : Which → List Line → LinesRead Plain
+abbrev pub value_read : Which → List Line → ResultOrBadLine Plain
 value_read which [] = Ok null
 value_read which (l ∷ ls) = block_read (shape_of (Obj which)) (l ∷ ls)
 

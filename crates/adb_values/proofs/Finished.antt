@@ -1,7 +1,7 @@
 -- A draft of one value ends with what the writer makes of it.
 use Rattle.std.proofs.Common.{◌≡◌, ◌≤◌, ℕ, List, [], ◌∷◌, length, Result, Ok, Err, IfOk, sym, ap, subst, ◌∙◌, inl, inr, arith}
 use Rattle.adb_view.specs.Plain.{Plain}
-use Rattle.adb_write.specs.Canonical.{PayloadCounts, MOST_BYTES, canonical, empty_layout, end_offset, layout_counts, or_overflow, trace, write, written_of}
+use Rattle.adb_write.specs.Canonical.{PayloadCounts, MOST_BYTES, canonical, empty_layout, end_offset, layout_counts, or_overflow, counts_after_values, write, written_of}
 use Rattle.adb_write.specs.DepthFirst.{WritesValue}
 use Rattle.adb_write.specs.WriterState.{IsFinished}
 use Rattle.adb_write.specs.Writing.{Writing, calls, empty_writing, finish_result}
@@ -38,7 +38,7 @@ pub payload_small : (v : Plain) (payload : List ℕ) → written_of v ≡ Ok pay
 unfolding written_of
 payload_small v payload is = go (calls-end v empty_layout start_fine)
   where
-    go : Ends (trace v empty_layout) (calls v empty_writing) (write v empty_layout) → length payload ≤ MOST_BYTES
+    go : Ends (counts_after_values v empty_layout) (calls v empty_writing) (write v empty_layout) → length payload ≤ MOST_BYTES
     go (inl a) =
         let within = a.3 in
         let fits : end_offset (write v empty_layout).1 ≤ MOST_BYTES = fits_of (layout_counts (write v empty_layout).1) within.fine in

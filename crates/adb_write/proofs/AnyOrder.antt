@@ -6,7 +6,7 @@ use Rattle.std.specs.List.{AllByRecursion}
 use Rattle.std.proofs.lemmas.Bool.{ltb-false, ne_eqb}
 use Rattle.adb_view.specs.Plain.{Plain, null, int, blob, arr, obj, Plains, none, more, without_last_nulls, put_first_without_last_null, blob_or_null, arr_value, obj_of, obj_value, Shape, IsNormal, plain_of, value_of}
 use Rattle.adb_view.specs.Readers.{ARRAY, OBJECT}
-use Rattle.adb_write.specs.Canonical.{Cell, in_place, apart, int_cell, blob_cell, run_cell, keep_word, trimmed_words, Layout, end_offset, put_item, put_cell, put_run, PayloadCounts, layout_counts, passes, payload_with_root, MOST_BYTES, MOST_VALUES}
+use Rattle.adb_write.specs.Canonical.{Cell, in_place, apart, int_cell, blob_cell, run_cell, keep_word, trimmed_words, Layout, end_offset, put_item, put_cell, put_run, PayloadCounts, layout_counts, exceeds_a_limit, payload_with_root, MOST_BYTES, MOST_VALUES}
 use Rattle.adb_view.specs.Shaped.{HasShape}
 use Rattle.adb_write.specs.Denotes.{Holds, HoldAll, IsWordOf, Denotes, AllDenote}
 use Rattle.adb_write.specs.Writing.{Writing, writing_counts, is_past_limit, layout_of, writing_of, unless_past_limit, call, finish_result, int_call, blob_call, arr_call, obj_call}
@@ -20,7 +20,7 @@ pub record Stored (c : Cell) (w : Writing) : Type 0 where
   pub state : layout_of (call c w).1 ≡ (put_cell c (layout_of w)).1
   pub fits : Fits c (layout_of w)
 
-pub fits_of : (c : ℕ × ℕ) → passes c ≡ false → c.0 ≤ MOST_BYTES
+pub fits_of : (c : ℕ × ℕ) → exceeds_a_limit c ≡ false → c.0 ≤ MOST_BYTES
 fits_of c e = go (ltb MOST_BYTES c.0) refl e
   where
     go : (b : Bool) → ltb MOST_BYTES c.0 ≡ b → (b || ltb MOST_VALUES c.1) ≡ false → c.0 ≤ MOST_BYTES
@@ -32,7 +32,7 @@ unfolding call
 call_stored (in_place word) w e = record { before = e; word = rw e refl; state = refl; fits = tt }
 call_stored (apart i) w e = go (is_past_limit w) refl e
   where
-    past : (b : Bool) → passes (layout_counts (put_item i (layout_of w)).1) ≡ b
+    past : (b : Bool) → exceeds_a_limit (layout_counts (put_item i (layout_of w)).1) ≡ b
         → is_past_limit (cond {A = ℕ × Writing} b (0, record (writing_of (put_item i (layout_of w)).1) { body = w.body; items = w.items }) ((put_item i (layout_of w)).0, writing_of (put_item i (layout_of w)).1)).1 ≡ false
         → (◌≡◌ {A = ℕ × Writing} (cond {A = ℕ × Writing} b (0, record (writing_of (put_item i (layout_of w)).1) { body = w.body; items = w.items }) ((put_item i (layout_of w)).0, writing_of (put_item i (layout_of w)).1)) ((put_item i (layout_of w)).0, writing_of (put_item i (layout_of w)).1)) × (end_offset (put_item i (layout_of w)).1 ≤ MOST_BYTES)
     past true q f = absurd cc
@@ -41,7 +41,7 @@ call_stored (apart i) w e = go (is_past_limit w) refl e
     go : (b : Bool) → is_past_limit w ≡ b → is_past_limit (cond {A = ℕ × Writing} b (0, w) (unless_past_limit w (put_item i (layout_of w)))).1 ≡ false → Stored (apart i) w
     go true o f = absurd cc
     go false o f =
-        let p = past (passes (layout_counts (put_item i (layout_of w)).1)) refl f in
+        let p = past (exceeds_a_limit (layout_counts (put_item i (layout_of w)).1)) refl f in
         record { before = o; word = rw o (ap (λ (r : ℕ × Writing). r.0) p.0); state = rw o (ap (λ (r : ℕ × Writing). layout_of r.1) p.0); fits = p.1 }
 
 -- the word of a step is one in what the call leaves

@@ -13,7 +13,7 @@ use Rattle.adb_write.specs.Canonical.{WrittenItem, is_equal_item, word_of_item, 
 use Rattle.adb_write.specs.Items.{item_of, HasNumbersInRange}
 use Rattle.adb_write.specs.declared.item.Parts.{Parts}
 use Rattle.adb_write.specs.Keys.{key_of, key_at, HaveRisingKeys, word_of_locator}
-use Rattle.adb_write.specs.WordPages.{AreFilled, AllCompare, IsFoundIn, IsBetween}
+use Rattle.adb_write.specs.WordPages.{HaveNoEmptyPage, AllCompare, IsFoundIn, IsBetween}
 use Rattle.adb_write.specs.WriterState.{HasHead, IsStored, AreStored, written_item, with_item, items_of_locators}
 use Rattle.adb_write.proofs.Found.{find-none, Has}
 use Rattle.adb_write.proofs.Rising.{cmp, flipped, IsBelow, all_both, all_first, all_last, all_into, all_two, rising_none, rising_head, rising_rest, rising_more, rising_before, rising_with, rising_last}
@@ -161,7 +161,7 @@ all_lower p w ws behind s =
 
 -- ---- without a head nothing was written
 
-pub nothing_between : (p key : List ℕ) (pages : List (List ℕ)) (c : Cause) → HasHead p → AreFilled pages → AreStored p (concat pages) → Some c ≡ head_fault p → IsBetween p pages key (record { page = 0; index = 0 })
+pub nothing_between : (p key : List ℕ) (pages : List (List ℕ)) (c : Cause) → HasHead p → HaveNoEmptyPage pages → AreStored p (concat pages) → Some c ≡ head_fault p → IsBetween p pages key (record { page = 0; index = 0 })
 nothing_between p key [] c h f s e = record { inside = (refl, refl); lower = tt; higher = tt }
 nothing_between p key ([] ∷ pages) c h f s e = absurd (let some = f.0 in omega arith)
 nothing_between p key ((w ∷ page) ∷ pages) c (inl none) f s e = absurd (let t = s.0 in omega (arith, ap length none, stored_ends p w t, t.stored.behind_head))

@@ -2,7 +2,7 @@
 use Rattle.std.proofs.Common.{◌≡◌, ℕ, ◌+◌, ◌<◌, ◌≤◌, Bool, true, false, cond, List, [], ◌∷◌, ◌++◌, length, replicate, Option, Some, None, refl, sym, ap, subst, ◌∙◌, length-append, arith}
 use Rattle.std.specs.Prelude.{find}
 use Rattle.adb_view.specs.Readers.{ARRAY, OBJECT}
-use Rattle.adb_write.specs.Canonical.{gap, Item, WrittenItem, Cell, in_place, apart, int_cell, blob_item, blob_cell, run_cell, trimmed_words, Layout, end_offset, is_equal_item, word_of_item, put_unless, put_item, layout_counts, passes, MOST_BYTES}
+use Rattle.adb_write.specs.Canonical.{gap, Item, WrittenItem, Cell, in_place, apart, int_cell, blob_item, blob_cell, run_cell, trimmed_words, Layout, end_offset, is_equal_item, word_of_item, put_unless, put_item, layout_counts, exceeds_a_limit, MOST_BYTES}
 use Rattle.adb_write.specs.Writing.{Writing, empty_writing, writing_by, is_past_limit, layout_of, writing_of, unless_past_limit, call, int_call, blob_call, arr_call, obj_call}
 use Rattle.adb_write.specs.Again.{HasWholeItemsWithinLimit, HasLengthInFront, HasAllItems, IsWholeWriting, IsWordOfBlob}
 use Rattle.adb_write.proofs.Again.{array_cell_framed, blob_cell_framed, blob_framed, int_cell_framed, IsFoundAgain, IsFramedCell, Keeps, nothing_whole, object_cell_framed, put_cell_stays, put_item_found}
@@ -18,7 +18,7 @@ unfolding call
 call_bytes (in_place word) w e o = e
 call_bytes (apart i) w e o = go (is_past_limit w) o
   where
-    past : (b : Bool) (r : ℕ × Layout) → passes (layout_counts r.1) ≡ b
+    past : (b : Bool) (r : ℕ × Layout) → exceeds_a_limit (layout_counts r.1) ≡ b
         → is_past_limit (cond {A = ℕ × Writing} b (0, record (writing_of r.1) { body = w.body; items = w.items }) (r.0, writing_of r.1)).1 ≡ false
         → (cond {A = ℕ × Writing} b (0, record (writing_of r.1) { body = w.body; items = w.items }) (r.0, writing_of r.1)).1.bytes ≡ 8 + length (cond {A = ℕ × Writing} b (0, record (writing_of r.1) { body = w.body; items = w.items }) (r.0, writing_of r.1)).1.body
     past true r q f = absurd cc
@@ -27,7 +27,7 @@ call_bytes (apart i) w e o = go (is_past_limit w) o
     go : (b : Bool) → is_past_limit (cond {A = ℕ × Writing} b (0, w) (unless_past_limit w (put_item i (layout_of w)))).1 ≡ false
         → (cond {A = ℕ × Writing} b (0, w) (unless_past_limit w (put_item i (layout_of w)))).1.bytes ≡ 8 + length (cond {A = ℕ × Writing} b (0, w) (unless_past_limit w (put_item i (layout_of w)))).1.body
     go true f = e
-    go false f = past (passes (layout_counts (put_item i (layout_of w)).1)) (put_item i (layout_of w)) refl f
+    go false f = past (exceeds_a_limit (layout_counts (put_item i (layout_of w)).1)) (put_item i (layout_of w)) refl f
 
 record Left (c : Cell) (w : Writing) : Type 0 where
   pub whole : IsWholeWriting (call c w).1
@@ -64,7 +64,7 @@ found_call i there w g o none found =
     let put : ◌≡◌ {A = ℕ × Layout} (put_item i (layout_of w)) (word_of_item there, record (layout_of w) { values = w.values + i.entries }) = ap (λ (f : Option WrittenItem). put_unless f i (layout_of w)) found in
     let same : w.values + i.entries ≡ w.values = omega (arith, none) in
     let again : ◌≡◌ {A = ℕ × Layout} (put_item i (layout_of w)) (word_of_item there, layout_of w) = put ∙ ap (λ (n : ℕ). (word_of_item there, record (layout_of w) { values = n })) same in
-    let fine : passes (8 + length w.body, w.values) ≡ false = ap (λ (n : ℕ). passes (n, w.values)) (sym g.bytes) ∙ o in
+    let fine : exceeds_a_limit (8 + length w.body, w.values) ≡ false = ap (λ (n : ℕ). exceeds_a_limit (n, w.values)) (sym g.bytes) ∙ o in
     let stays : ◌≡◌ {A = ℕ × Writing} (unless_past_limit w (word_of_item there, layout_of w)) (word_of_item there, w) =
     rw fine (ap (λ (n : ℕ). (word_of_item there, writing_by w.body w.items n w.values)) (sym g.bytes)) in
     rw o (ap (unless_past_limit w) again ∙ stays)
@@ -77,9 +77,9 @@ call_step i w o = rw o refl
 new_call : (i : Item) (w : Writing) (word : ℕ) → is_past_limit w ≡ false → 0 < length i.bytes → find (is_equal_item w.body i) w.items ≡ None → ◌≡◌ {A = ℕ × Writing} (call (apart i) w) (word, w) → ⊥
 new_call i w word o some absent e =
     let put : ◌≡◌ {A = ℕ × Layout} (put_item i (layout_of w)) (put_unless None i (layout_of w)) = ap (λ (f : Option WrittenItem). put_unless f i (layout_of w)) absent in
-    go (passes (layout_counts (put_unless None i (layout_of w)).1)) refl (sym (ap (unless_past_limit w) put) ∙ sym (call_step i w o) ∙ e)
+    go (exceeds_a_limit (layout_counts (put_unless None i (layout_of w)).1)) refl (sym (ap (unless_past_limit w) put) ∙ sym (call_step i w o) ∙ e)
   where
-    go : (b : Bool) → passes (layout_counts (put_unless None i (layout_of w)).1) ≡ b
+    go : (b : Bool) → exceeds_a_limit (layout_counts (put_unless None i (layout_of w)).1) ≡ b
         → ◌≡◌ {A = ℕ × Writing} (cond {A = ℕ × Writing} b (0, record (writing_of (put_unless None i (layout_of w)).1) { body = w.body; items = w.items }) ((put_unless None i (layout_of w)).0, writing_of (put_unless None i (layout_of w)).1)) (word, w) → ⊥
     go true q f = let over : true ≡ is_past_limit w = sym q ∙ ap (λ (r : ℕ × Writing). is_past_limit r.1) f in absurd cc
     go false q f =

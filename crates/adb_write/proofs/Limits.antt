@@ -4,22 +4,22 @@ use Rattle.std.proofs.Common.{◌≡◌, ℕ, Bool, true, false, cond, List, [],
 use Rattle.std.specs.Prelude.{find}
 use Rattle.adb_view.specs.Plain.{Plain, null, int, blob, arr, obj, Plains, none, more}
 use Rattle.adb_view.specs.Readers.{ARRAY, OBJECT}
-use Rattle.adb_write.specs.Canonical.{Cell, in_place, apart, int_cell, blob_cell, run_cell, trimmed_words, Layout, empty_layout, put_cell, put_run, write, write_all, payload_with_root, canonical, PayloadCounts, layout_counts, passes, trace, trace_all, overflow_of, or_overflow, written_of}
+use Rattle.adb_write.specs.Canonical.{Cell, in_place, apart, int_cell, blob_cell, run_cell, trimmed_words, Layout, empty_layout, put_cell, put_run, write, write_all, payload_with_root, canonical, PayloadCounts, layout_counts, exceeds_a_limit, counts_after_values, trace_all, overflow_of, or_overflow, written_of}
 use Rattle.adb_write.specs.Writing.{Writing, empty_writing, writing_counts, is_past_limit, writing_of, call, finish_result, calls, calls_all}
 
-find-none : (xs ys : List PayloadCounts) → find passes xs ≡ None → find passes (xs ++ ys) ≡ find passes ys
+find-none : (xs ys : List PayloadCounts) → find exceeds_a_limit xs ≡ None → find exceeds_a_limit (xs ++ ys) ≡ find exceeds_a_limit ys
 find-none [] ys e = refl
-find-none (x ∷ xs) ys e = go (passes x) (λ f. find-none xs ys f) e
+find-none (x ∷ xs) ys e = go (exceeds_a_limit x) (λ f. find-none xs ys f) e
   where
-    go : (b : Bool) → (find passes xs ≡ None → find passes (xs ++ ys) ≡ find passes ys) → cond b (Some x) (find passes xs) ≡ None → cond b (Some x) (find passes (xs ++ ys)) ≡ find passes ys
+    go : (b : Bool) → (find exceeds_a_limit xs ≡ None → find exceeds_a_limit (xs ++ ys) ≡ find exceeds_a_limit ys) → cond b (Some x) (find exceeds_a_limit xs) ≡ None → cond b (Some x) (find exceeds_a_limit (xs ++ ys)) ≡ find exceeds_a_limit ys
     go true h e = absurd cc
     go false h e = h e
 
-find-some : (xs ys : List PayloadCounts) (c : PayloadCounts) → find passes xs ≡ Some c → find passes (xs ++ ys) ≡ Some c
+find-some : (xs ys : List PayloadCounts) (c : PayloadCounts) → find exceeds_a_limit xs ≡ Some c → find exceeds_a_limit (xs ++ ys) ≡ Some c
 find-some [] ys c e = absurd cc
-find-some (x ∷ xs) ys c e = go (passes x) (λ f. find-some xs ys c f) e
+find-some (x ∷ xs) ys c e = go (exceeds_a_limit x) (λ f. find-some xs ys c f) e
   where
-    go : (b : Bool) → (find passes xs ≡ Some c → find passes (xs ++ ys) ≡ Some c) → cond b (Some x) (find passes xs) ≡ Some c → cond b (Some x) (find passes (xs ++ ys)) ≡ Some c
+    go : (b : Bool) → (find exceeds_a_limit xs ≡ Some c → find exceeds_a_limit (xs ++ ys) ≡ Some c) → cond b (Some x) (find exceeds_a_limit xs) ≡ Some c → cond b (Some x) (find exceeds_a_limit (xs ++ ys)) ≡ Some c
     go true h e = e
     go false h e = h e
 
@@ -52,18 +52,18 @@ mutual
 
 -- within the limits
 pub record Within (out : Layout) : Type 0 where
-  pub fine : passes (layout_counts out) ≡ false
+  pub fine : exceeds_a_limit (layout_counts out) ≡ false
 
 -- either all is written, or the writer follows the first value past a limit
 abbrev pub Ends : {A : Type 0} → List PayloadCounts → A × Writing → A × Layout → Type 0
-Ends writing_counts r s = ((find passes writing_counts ≡ None) × (r.0 ≡ s.0) × (r.1 ≡ writing_of s.1) × Within s.1) ⊎ ((c : PayloadCounts) × (find passes writing_counts ≡ Some c) × ((r.1.bytes, r.1.values) ≡ c) × (is_past_limit r.1 ≡ true))
+Ends writing_counts r s = ((find exceeds_a_limit writing_counts ≡ None) × (r.0 ≡ s.0) × (r.1 ≡ writing_of s.1) × Within s.1) ⊎ ((c : PayloadCounts) × (find exceeds_a_limit writing_counts ≡ Some c) × ((r.1.bytes, r.1.values) ≡ c) × (is_past_limit r.1 ≡ true))
 
 call-ends : (c : Cell) (out : Layout) → Within out → Ends (layout_counts (put_cell c out).1 ∷ []) (call c (writing_of out)) (put_cell c out)
 unfolding call
 call-ends (in_place word) out w = rw w.fine (inl (refl, refl, refl, w))
-call-ends (apart i) out w = rw w.fine (go (passes (layout_counts (put_cell (apart i) out).1)) refl)
+call-ends (apart i) out w = rw w.fine (go (exceeds_a_limit (layout_counts (put_cell (apart i) out).1)) refl)
   where
-    go : (b : Bool) → passes (layout_counts (put_cell (apart i) out).1) ≡ b
+    go : (b : Bool) → exceeds_a_limit (layout_counts (put_cell (apart i) out).1) ≡ b
         → Ends (layout_counts (put_cell (apart i) out).1 ∷ []) (cond b (0, record (writing_of (put_cell (apart i) out).1) { body = out.body; items = out.items }) ((put_cell (apart i) out).0, writing_of (put_cell (apart i) out).1)) (put_cell (apart i) out)
     go true e = inr (layout_counts (put_cell (apart i) out).1, rw e refl, refl, e)
     go false e = inl (rw e refl, refl, refl, record { fine = e })
@@ -96,9 +96,9 @@ cons_ends v vs out word state (inl a) = inl (a.0, cons_words (calls v (writing_o
 cons_ends v vs out word state (inr b) = inr (b.0, b.1, rw state b.2, rw state b.3)
 
 mutual
-  unfolding calls write trace
+  unfolding calls write counts_after_values
 
-  pub calls-end : (v : Plain) (out : Layout) → Within out → Ends (trace v out) (calls v (writing_of out)) (write v out)
+  pub calls-end : (v : Plain) (out : Layout) → Within out → Ends (counts_after_values v out) (calls v (writing_of out)) (write v out)
   calls-end null out w = inl (refl, refl, refl, w)
   calls-end (int n) out w = call-ends (int_cell n) out w
   calls-end (blob b) out w = call-ends (blob_cell b) out w
@@ -114,7 +114,7 @@ mutual
   pub calls_all-end : (vs : Plains) (out : Layout) → Within out → Ends (trace_all vs out) (calls_all vs (writing_of out)) (write_all vs out)
   calls_all-end none out w = inl (refl, refl, refl, w)
   calls_all-end (more v vs) out w =
-      then_ends (trace v out) (trace_all vs (write v out).1) (calls v (writing_of out)) (write v out) (calls_all (more v vs) (writing_of out)) (write_all (more v vs) out) (calls-end v out w)
+      then_ends (counts_after_values v out) (trace_all vs (write v out).1) (calls v (writing_of out)) (write v out) (calls_all (more v vs) (writing_of out)) (write_all (more v vs) out) (calls-end v out w)
       (λ word state fine. cons_ends v vs out word state (calls_all-end vs (write v out).1 fine))
       (λ o. calls_all-over vs (calls v (writing_of out)).1 o)
 
@@ -133,6 +133,6 @@ calls-written v = go (calls-end v empty_layout start_fine)
     past : (word : ℕ) (w : Writing) → is_past_limit w ≡ true → finish_result word w ≡ Err (writing_counts w)
     past word w o = rw o refl
 
-    go : Ends (trace v empty_layout) (calls v empty_writing) (write v empty_layout) → finish_result (calls v empty_writing).0 (calls v empty_writing).1 ≡ or_overflow (canonical v) (overflow_of v)
+    go : Ends (counts_after_values v empty_layout) (calls v empty_writing) (write v empty_layout) → finish_result (calls v empty_writing).0 (calls v empty_writing).1 ≡ or_overflow (canonical v) (overflow_of v)
     go (inl a) = fitting (calls v empty_writing) (write v empty_layout) a.1 a.2 a.3 ∙ ap (or_overflow (canonical v)) (sym a.0)
     go (inr b) = past (calls v empty_writing).0 (calls v empty_writing).1 b.3 ∙ ap Err b.2 ∙ ap (or_overflow (canonical v)) (sym b.1)

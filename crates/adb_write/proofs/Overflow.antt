@@ -6,7 +6,7 @@ use Rattle.std.proofs.lemmas.Bool.{cases_lt, lt-ltb, le-ltb, ltb-true, or_cases}
 use Rattle.std.proofs.Math.Bool.{or-true}
 use Rattle.adb_view.specs.Plain.{Plain, null, int, blob, arr, obj, Plains, none, more, IsNormal, AreNormal, count_of}
 use Rattle.adb_view.specs.Readers.{ARRAY, OBJECT}
-use Rattle.adb_write.specs.Canonical.{Item, WrittenItem, Cell, in_place, apart, int_cell, blob_cell, run_cell, trimmed_words, Layout, empty_layout, end_offset, is_equal_item, put_unless, put_cell, write, write_all, payload_with_root, PayloadCounts, layout_counts, passes, trace, trace_all, overflow_of, canonical, or_overflow, written_of, MOST_BYTES, MOST_VALUES}
+use Rattle.adb_write.specs.Canonical.{Item, WrittenItem, Cell, in_place, apart, int_cell, blob_cell, run_cell, trimmed_words, Layout, empty_layout, end_offset, is_equal_item, put_unless, put_cell, write, write_all, payload_with_root, PayloadCounts, layout_counts, exceeds_a_limit, counts_after_values, trace_all, overflow_of, canonical, or_overflow, written_of, MOST_BYTES, MOST_VALUES}
 use Rattle.adb_write.specs.Size.{size_of, entries_of, entries_of_all, value_count}
 use Rattle.adb_write.specs.Writing.{empty_writing, calls}
 use Rattle.adb_write.proofs.RoundTrip.{Grows-here, stored-grows, put_run-grows, write_all-grows, write_all-made, words_stay}
@@ -79,49 +79,49 @@ mutual
 
 -- ---- the counts only rise
 
-passes_more : (c d : PayloadCounts) → c.0 ≤ d.0 → c.1 ≤ d.1 → passes c ≡ true → passes d ≡ true
+passes_more : (c d : PayloadCounts) → c.0 ≤ d.0 → c.1 ≤ d.1 → exceeds_a_limit c ≡ true → exceeds_a_limit d ≡ true
 passes_more c d p q e =
     elim (or_cases (ltb MOST_BYTES c.0) (ltb MOST_VALUES c.1) e) [
       | inl a ↦ let lt = ltb-true _ _ a in let t : ltb MOST_BYTES d.0 ≡ true = lt-ltb _ _ (omega arith) in rw t refl
       | inr a ↦ let lt = ltb-true _ _ a in let t : ltb MOST_VALUES d.1 ≡ true = lt-ltb _ _ (omega arith) in rw t (or-true (ltb MOST_BYTES d.0))
     ]
 
-stored_more : (c : Cell) (out : Layout) → passes (layout_counts out) ≡ true → passes (layout_counts (put_cell c out).1) ≡ true
+stored_more : (c : Cell) (out : Layout) → exceeds_a_limit (layout_counts out) ≡ true → exceeds_a_limit (layout_counts (put_cell c out).1) ≡ true
 stored_more c out e = passes_more _ _ (Grows-here _ _ (stored-grows c out)) (omega (arith, stored_values c out)) e
 
 mutual
   unfolding write
 
-  write_more : (v : Plain) (out : Layout) → passes (layout_counts out) ≡ true → passes (layout_counts (write v out).1) ≡ true
+  write_more : (v : Plain) (out : Layout) → exceeds_a_limit (layout_counts out) ≡ true → exceeds_a_limit (layout_counts (write v out).1) ≡ true
   write_more null out e = e
   write_more (int n) out e = stored_more (int_cell n) out e
   write_more (blob b) out e = stored_more (blob_cell b) out e
   write_more (arr vs) out e = stored_more (run_cell ARRAY (write_all vs out).0) (write_all vs out).1 (write_all_more vs out e)
   write_more (obj vs) out e = stored_more (run_cell OBJECT (trimmed_words (write_all vs out).0)) (write_all vs out).1 (write_all_more vs out e)
 
-  write_all_more : (vs : Plains) (out : Layout) → passes (layout_counts out) ≡ true → passes (layout_counts (write_all vs out).1) ≡ true
+  write_all_more : (vs : Plains) (out : Layout) → exceeds_a_limit (layout_counts out) ≡ true → exceeds_a_limit (layout_counts (write_all vs out).1) ≡ true
   write_all_more none out e = e
   write_all_more (more v vs) out e = write_all_more vs (write v out).1 (write_more v out e)
 
-find_either : (xs ys : List PayloadCounts) (c : PayloadCounts) → find passes (xs ++ ys) ≡ Some c → (find passes xs ≡ Some c) ⊎ (find passes ys ≡ Some c)
+find_either : (xs ys : List PayloadCounts) (c : PayloadCounts) → find exceeds_a_limit (xs ++ ys) ≡ Some c → (find exceeds_a_limit xs ≡ Some c) ⊎ (find exceeds_a_limit ys ≡ Some c)
 find_either [] ys c e = inr e
-find_either (x ∷ xs) ys c e = go (passes x) (λ f. find_either xs ys c f) e
+find_either (x ∷ xs) ys c e = go (exceeds_a_limit x) (λ f. find_either xs ys c f) e
   where
-    go : (b : Bool) → (find passes (xs ++ ys) ≡ Some c → (find passes xs ≡ Some c) ⊎ (find passes ys ≡ Some c)) → cond b (Some x) (find passes (xs ++ ys)) ≡ Some c → (cond b (Some x) (find passes xs) ≡ Some c) ⊎ (find passes ys ≡ Some c)
+    go : (b : Bool) → (find exceeds_a_limit (xs ++ ys) ≡ Some c → (find exceeds_a_limit xs ≡ Some c) ⊎ (find exceeds_a_limit ys ≡ Some c)) → cond b (Some x) (find exceeds_a_limit (xs ++ ys)) ≡ Some c → (cond b (Some x) (find exceeds_a_limit xs) ≡ Some c) ⊎ (find exceeds_a_limit ys ≡ Some c)
     go true h e = inl e
     go false h e = h e
 
-find_one : (x c : PayloadCounts) → find passes (x ∷ []) ≡ Some c → passes x ≡ true
-find_one x c e = go (passes x) refl e
+find_one : (x c : PayloadCounts) → find exceeds_a_limit (x ∷ []) ≡ Some c → exceeds_a_limit x ≡ true
+find_one x c e = go (exceeds_a_limit x) refl e
   where
-    go : (b : Bool) → passes x ≡ b → cond b (Some x) None ≡ Some c → passes x ≡ true
+    go : (b : Bool) → exceeds_a_limit x ≡ b → cond b (Some x) None ≡ Some c → exceeds_a_limit x ≡ true
     go true i e = i
     go false i e = absurd cc
 
 mutual
-  unfolding write trace
+  unfolding write counts_after_values
 
-  trace_over : (v : Plain) (out : Layout) (c : PayloadCounts) → find passes (trace v out) ≡ Some c → passes (layout_counts (write v out).1) ≡ true
+  trace_over : (v : Plain) (out : Layout) (c : PayloadCounts) → find exceeds_a_limit (counts_after_values v out) ≡ Some c → exceeds_a_limit (layout_counts (write v out).1) ≡ true
   trace_over null out c e = absurd cc
   trace_over (int n) out c e = find_one (layout_counts (write (int n) out).1) c e
   trace_over (blob b) out c e = find_one (layout_counts (write (blob b) out).1) c e
@@ -136,30 +136,30 @@ mutual
         | inr a ↦ find_one (layout_counts (write (obj vs) out).1) c a
       ]
 
-  trace_all_over : (vs : Plains) (out : Layout) (c : PayloadCounts) → find passes (trace_all vs out) ≡ Some c → passes (layout_counts (write_all vs out).1) ≡ true
+  trace_all_over : (vs : Plains) (out : Layout) (c : PayloadCounts) → find exceeds_a_limit (trace_all vs out) ≡ Some c → exceeds_a_limit (layout_counts (write_all vs out).1) ≡ true
   trace_all_over none out c e = absurd cc
   trace_all_over (more v vs) out c e =
-      elim (find_either (trace v out) (trace_all vs (write v out).1) c e) [
+      elim (find_either (counts_after_values v out) (trace_all vs (write v out).1) c e) [
         | inl a ↦ write_all_more vs (write v out).1 (trace_over v out c a)
         | inr a ↦ trace_all_over vs (write v out).1 c a
       ]
 
 -- ---- the law
 
-overflow_final : (v : Plain) → is_some (overflow_of v) ≡ passes (layout_counts (write v empty_layout).1)
+overflow_final : (v : Plain) → is_some (overflow_of v) ≡ exceeds_a_limit (layout_counts (write v empty_layout).1)
 overflow_final v = go (calls-end v empty_layout start_fine)
   where
-    go : Ends (trace v empty_layout) (calls v empty_writing) (write v empty_layout) → is_some (overflow_of v) ≡ passes (layout_counts (write v empty_layout).1)
+    go : Ends (counts_after_values v empty_layout) (calls v empty_writing) (write v empty_layout) → is_some (overflow_of v) ≡ exceeds_a_limit (layout_counts (write v empty_layout).1)
     go (inl a) = let w = a.3 in ap is_some a.0 ∙ sym w.fine
     go (inr b) = ap is_some b.1 ∙ sym (trace_over v empty_layout b.0 b.1)
 
-pub overflow_exact : (v : Plain) → IsNormal v → is_some (overflow_of v) ≡ passes (size_of v, value_count v)
+pub overflow_exact : (v : Plain) → IsNormal v → is_some (overflow_of v) ≡ exceeds_a_limit (size_of v, value_count v)
 overflow_exact v n = overflow_final v ∙ same
   where
     size : end_offset (write v empty_layout).1 ≡ size_of v
     size = omega arith
 
-    same : passes (layout_counts (write v empty_layout).1) ≡ passes (size_of v, value_count v)
+    same : exceeds_a_limit (layout_counts (write v empty_layout).1) ≡ exceeds_a_limit (size_of v, value_count v)
     same = elim (cases_lt MOST_BYTES (end_offset (write v empty_layout).1)) [
       | inl a ↦
           let s = size in
@@ -177,7 +177,7 @@ pub fits_written : (v : Plain) → IsNormal v → size_of v < 2 ^ 28 → value_c
 unfolding written_of
 fits_written v n size values = ap (or_overflow (canonical v)) (nothing (overflow_of v) (overflow_exact v n ∙ fine))
   where
-    fine : passes (size_of v, value_count v) ≡ false
+    fine : exceeds_a_limit (size_of v, value_count v) ≡ false
     fine =
         let t : ltb MOST_BYTES (size_of v) ≡ false = le-ltb _ _ (omega arith) in
         let u : ltb MOST_VALUES (value_count v) ≡ false = le-ltb _ _ (omega arith) in

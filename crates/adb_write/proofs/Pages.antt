@@ -12,7 +12,7 @@ use Rattle.std.proofs.lemmas.Cmp.{nat_list_cmp_total}
 use Rattle.std.proofs.lemmas.List.{drop_more, length-append, length-take, length-drop, drop-drop, get_or-map, length-map, map-set, take_all}
 use Rattle.std.proofs.lemmas.List.Edits.{get_or-insert_below}
 use Rattle.adb_write.specs.Keys.{key_at, HaveRisingKeys}
-use Rattle.adb_write.specs.WordPages.{page_at, words_before, words_from_slot, IsSlotIn, IsSameSlot, AreFilled, HALF, with_split, begins_above, AllCompare, IsPageAt, IsPageFor, IsFoundIn, IsBetween}
+use Rattle.adb_write.specs.WordPages.{page_at, words_before, words_from_slot, IsSlotIn, IsSameSlot, HaveNoEmptyPage, HALF, with_split, begins_above, AllCompare, IsPageAt, IsPageFor, IsFoundIn, IsBetween}
 use Rattle.adb_write.specs.declared.word_pages.Slot.{Slot}
 use Rattle.adb_write.proofs.Rising.{cmp, flipped, IsBelow, less_chain, all_both, all_last, all_into, all_front, all_back, rising_none, rising_head, rising_rest, rising_first, rising_last}
 
@@ -53,13 +53,13 @@ above p key (w ∷ page) rest r e =
     is_less Greater is = absurd cc
 
 -- if all words are above it, each page begins so
-all_above : (p key : List ℕ) (pages : List (List ℕ)) → AreFilled pages → AllCompare Less p key (concat pages) → (k : ℕ) → k < length pages → begins_above p key (page_at pages k) ≡ true
+all_above : (p key : List ℕ) (pages : List (List ℕ)) → HaveNoEmptyPage pages → AllCompare Less p key (concat pages) → (k : ℕ) → k < length pages → begins_above p key (page_at pages k) ≡ true
 all_above p key [] f a k within = absurd (omega arith)
 all_above p key ([] ∷ pages) f a zero within = absurd (let some = f.0 in omega arith)
 all_above p key ((w ∷ page) ∷ pages) f a zero within = ap is_lt a.0
 all_above p key (page ∷ pages) f a (suc k) within = all_above p key pages f.1 (all_last (λ v. cmp key (key_at p v) ≡ Less) page (concat pages) a) k (omega arith)
 
-pub above_on : (p key : List ℕ) (pages : List (List ℕ)) → AreFilled pages → HaveRisingKeys p (concat pages) → (i j : ℕ) → i ≤ j → j < length pages → begins_above p key (page_at pages i) ≡ true → begins_above p key (page_at pages j) ≡ true
+pub above_on : (p key : List ℕ) (pages : List (List ℕ)) → HaveNoEmptyPage pages → HaveRisingKeys p (concat pages) → (i j : ℕ) → i ≤ j → j < length pages → begins_above p key (page_at pages i) ≡ true → begins_above p key (page_at pages j) ≡ true
 above_on p key [] f r i j upto within e = absurd (omega arith)
 above_on p key (page ∷ pages) f r zero j upto within e = all_above p key (page ∷ pages) f (above p key page (concat pages) r e) j within
 above_on p key (page ∷ pages) f r (suc i) zero upto within e = absurd (omega arith)
@@ -92,18 +92,18 @@ below_key key a b less upto = go (cmp key b) refl upto
     go Greater is f = flipped a key Less (less_chain a b key less (flipped key b Greater is))
 
 -- a word below all others is below those of the key
-first_of : (p key : List ℕ) (v : ℕ) (pages : List (List ℕ)) (k : ℕ) → AreFilled pages → k < length pages → begins_above p key (page_at pages k) ≡ false → AllByRecursion (IsBelow p v) (concat pages) → cmp key (key_at p v) ≡ Greater
+first_of : (p key : List ℕ) (v : ℕ) (pages : List (List ℕ)) (k : ℕ) → HaveNoEmptyPage pages → k < length pages → begins_above p key (page_at pages k) ≡ false → AllByRecursion (IsBelow p v) (concat pages) → cmp key (key_at p v) ≡ Greater
 first_of p key v [] k f within e a = absurd (omega arith)
 first_of p key v ([] ∷ pages) zero f within e a = absurd (let some = f.0 in omega arith)
 first_of p key v ((w ∷ page) ∷ pages) zero f within e a = below_key key (key_at p v) (key_at p w) a.0 e
 first_of p key v (page ∷ pages) (suc k) f within e a = first_of p key v pages k f.1 (omega arith) e (all_last (IsBelow p v) page (concat pages) a)
 
-page_lower : (p key : List ℕ) (page : List ℕ) (pages : List (List ℕ)) (k : ℕ) → AreFilled pages → k < length pages → begins_above p key (page_at pages k) ≡ false → HaveRisingKeys p (page ++ concat pages) → AllCompare Greater p key page
+page_lower : (p key : List ℕ) (page : List ℕ) (pages : List (List ℕ)) (k : ℕ) → HaveNoEmptyPage pages → k < length pages → begins_above p key (page_at pages k) ≡ false → HaveRisingKeys p (page ++ concat pages) → AllCompare Greater p key page
 page_lower p key [] pages k f within e r = tt
 page_lower p key (v ∷ page) pages k f within e r =
     (first_of p key v pages k f within e (all_last (IsBelow p v) page (concat pages) (rising_head p v (page ++ concat pages) r)), page_lower p key page pages k f within e (rising_rest p v (page ++ concat pages) r))
 
-pub lower_before : (p key : List ℕ) (pages : List (List ℕ)) (k : ℕ) → AreFilled pages → HaveRisingKeys p (concat pages) → k < length pages → begins_above p key (page_at pages k) ≡ false → AllCompare Greater p key (words_before pages k 0)
+pub lower_before : (p key : List ℕ) (pages : List (List ℕ)) (k : ℕ) → HaveNoEmptyPage pages → HaveRisingKeys p (concat pages) → k < length pages → begins_above p key (page_at pages k) ≡ false → AllCompare Greater p key (words_before pages k 0)
 lower_before p key [] k f r within e = tt
 lower_before p key (page ∷ pages) zero f r within e = tt
 lower_before p key (page ∷ pages) (suc k) f r within e =
@@ -140,7 +140,7 @@ inserted [] k index w within = absurd (omega arith)
 inserted (page ∷ pages) zero index w within = append_assoc (take index page) (w ∷ drop index page) (concat pages)
 inserted (page ∷ pages) (suc k) index w within = ap (λ (x : List ℕ). page ++ x) (inserted pages k index w (omega arith)) ∙ sym (append_assoc page (words_before pages k index) (w ∷ words_from_slot pages k index))
 
-pub filled_set : (pages : List (List ℕ)) (k : ℕ) (page : List ℕ) → AreFilled pages → 0 < length page → AreFilled (set pages k page)
+pub filled_set : (pages : List (List ℕ)) (k : ℕ) (page : List ℕ) → HaveNoEmptyPage pages → 0 < length page → HaveNoEmptyPage (set pages k page)
 filled_set [] k page f some = tt
 filled_set (x ∷ pages) zero page f some = (some, f.1)
 filled_set (x ∷ pages) (suc k) page f some = (f.0, filled_set pages k page f.1 some)
@@ -162,7 +162,7 @@ split_long [] k within = absurd (omega arith)
 split_long (page ∷ pages) zero within = refl
 split_long (page ∷ pages) (suc k) within = ap suc (split_long pages k (omega arith))
 
-pub split_filled : (pages : List (List ℕ)) (k : ℕ) → AreFilled pages → HALF < length (page_at pages k) → AreFilled (with_split pages k)
+pub split_filled : (pages : List (List ℕ)) (k : ℕ) → HaveNoEmptyPage pages → HALF < length (page_at pages k) → HaveNoEmptyPage (with_split pages k)
 split_filled [] k f full = tt
 split_filled (page ∷ pages) zero f full = (omega (arith, length-take HALF page), (omega (arith, length-drop HALF page), f.1))
 split_filled (page ∷ pages) (suc k) f full = (f.0, split_filled pages k f.1 full)
@@ -289,9 +289,9 @@ same_vectors f old k t r within here same =
     set_own (page ∷ pages) zero = refl
     set_own (page ∷ pages) (suc k) = ap (λ (ps : List (List ℕ)). page ∷ ps) (set_own pages k)
 
-pub filled_vectors : {V : Type 0} (f : V → List ℕ) (old : List V) (k index w : ℕ) (t r : V) → AreFilled (map f old) → f t ≡ insert (f r) index w → AreFilled (map f (set old k t))
+pub filled_vectors : {V : Type 0} (f : V → List ℕ) (old : List V) (k index w : ℕ) (t r : V) → HaveNoEmptyPage (map f old) → f t ≡ insert (f r) index w → HaveNoEmptyPage (map f (set old k t))
 filled_vectors f old k index w t r filled is =
-    subst AreFilled (sym (map-set f old k t)) (filled_set (map f old) k (f t) filled (omega (arith, ap length is, length-append (take index (f r)) (w ∷ drop index (f r)))))
+    subst HaveNoEmptyPage (sym (map-set f old k t)) (filled_set (map f old) k (f t) filled (omega (arith, ap length is, length-append (take index (f r)) (w ∷ drop index (f r)))))
 
 pub slot_long : {V : Type 0} (f : V → List ℕ) (old : List V) (k index : ℕ) (r : V) → k < length old → r ≡ get_or old k r → IsSlotIn (map f old) k index → index ≤ length (f r)
 slot_long f old k index r within here inside =
@@ -313,7 +313,7 @@ page_for_first p key (page ∷ pages) r e = record {
   higher = after_less p key (page ∷ pages) 0 (above_after p key (page ∷ pages) 0 r (omega arith) (e (omega arith)));
 }
 
-pub page_for_next : (p key : List ℕ) (pages : List (List ℕ)) (k : ℕ) → AreFilled pages → HaveRisingKeys p (concat pages) → k < length pages → begins_above p key (page_at pages k) ≡ false
+pub page_for_next : (p key : List ℕ) (pages : List (List ℕ)) (k : ℕ) → HaveNoEmptyPage pages → HaveRisingKeys p (concat pages) → k < length pages → begins_above p key (page_at pages k) ≡ false
     → (suc k < length pages → begins_above p key (page_at pages (suc k)) ≡ true) → IsPageFor p pages key k
 page_for_next p key pages k f r within low high = record {
   inside = slot_in pages k 0 within (omega arith);
@@ -325,7 +325,7 @@ page_for_next p key pages k f r within low high = record {
 }
 
 -- the page that begins at or before a key, while the next one begins above it
-pub page_for_at : (p key : List ℕ) (pages : List (List ℕ)) (k : ℕ) → AreFilled pages → HaveRisingKeys p (concat pages) → IsPageAt p pages key k → IsPageFor p pages key k
+pub page_for_at : (p key : List ℕ) (pages : List (List ℕ)) (k : ℕ) → HaveNoEmptyPage pages → HaveRisingKeys p (concat pages) → IsPageAt p pages key k → IsPageFor p pages key k
 page_for_at p key pages k f r at = page_for_next p key pages k f r at.inside at.here at.next
 
 pub next_begins : (p key : List ℕ) (pages : List (List ℕ)) (k : ℕ) (r : Bool) → k < length pages → begins_above p key (page_at pages k) ≡ false → r ≡ begins_above p key (page_at pages (suc k)) → OnTrue r (IsPageAt p pages key k)
@@ -333,7 +333,7 @@ next_begins p key pages k true inside here is = record { inside = inside; here =
 next_begins p key pages k false inside here is = tt
 
 -- the pages that do not begin above a key are in front
-pub parted : {V : Type 0} (f : V → List ℕ) (p key : List ℕ) (vs : List V) → AreFilled (map f vs) → HaveRisingKeys p (concat (map f vs)) → IsPartitionedBy (λ v. not (begins_above p key (f v))) vs
+pub parted : {V : Type 0} (f : V → List ℕ) (p key : List ℕ) (vs : List V) → HaveNoEmptyPage (map f vs) → HaveRisingKeys p (concat (map f vs)) → IsPartitionedBy (λ v. not (begins_above p key (f v))) vs
 parted f p key vs filled rising i j d upto within e =
     let a = page_of_map f vs i d (omega arith) in
     let b = page_of_map f vs j d within in
@@ -348,7 +348,7 @@ parted f p key vs filled rising i j d upto within e =
         let no : false ≡ true = ap not same ∙ e in
         absurd cc
 
-pub page_for : {V : Type 0} (f : V → List ℕ) (p key : List ℕ) (vs : List V) (r k : ℕ) → AreFilled (map f vs) → HaveRisingKeys p (concat (map f vs)) → r ≤ length vs → k ≡ r - 1
+pub page_for : {V : Type 0} (f : V → List ℕ) (p key : List ℕ) (vs : List V) (r k : ℕ) → HaveNoEmptyPage (map f vs) → HaveRisingKeys p (concat (map f vs)) → r ≤ length vs → k ≡ r - 1
     → IsPartitionPoint (λ v. not (begins_above p key (f v)) ≡ true) (λ v. not (begins_above p key (f v)) ≡ false) vs r → IsPageFor p (map f vs) key k
 page_for f p key vs zero k filled rising upto is point =
     subst (IsPageFor p (map f vs) key) {x = 0} (omega arith) (page_for_first p key (map f vs) rising (λ some. begin vs (λ d within. point.1 0 d (omega arith) within) (omega (arith, length-map vs f))))

@@ -2,45 +2,45 @@
 use Rattle.std.proofs.Common.{◌≡◌, ◌<◌, ℕ, ◌+◌, ◌*◌, ◌^◌, Bool, true, false, List, [], ◌∷◌, ◌++◌, length, replicate, if◌then◌else◌, Option, Some, None, Result, Ok, Err, OnErr, refl, sym, ap, ◌∙◌, arith}
 use Rattle.std.specs.Prelude.{find, option_map}
 use Rattle.std.proofs.lemmas.List.{length-append, length-replicate}
-use Rattle.adb_write.specs.Canonical.{gap, Item, WrittenItem, apart, in_place, is_equal_item, word_of_item, blob_cell, run_cell, Layout, put_new, put_unless, put_item, layout_counts, passes}
+use Rattle.adb_write.specs.Canonical.{gap, Item, WrittenItem, apart, in_place, is_equal_item, word_of_item, blob_cell, run_cell, Layout, put_new, put_unless, put_item, layout_counts, exceeds_a_limit}
 use Rattle.adb_write.specs.Writing.{Writing, Grows, layout_of, writing_of, unless_past_limit, call, writing_by}
 use Rattle.adb_write.specs.WriterState.{FindsWord}
 
-pub call_past : (i : Item) (body : List ℕ) (items : List WrittenItem) (bytes values : ℕ) → passes (bytes, values) ≡ true → call (apart i) (writing_by body items bytes values) ≡ (0, writing_by body items bytes values)
+pub call_past : (i : Item) (body : List ℕ) (items : List WrittenItem) (bytes values : ℕ) → exceeds_a_limit (bytes, values) ≡ true → call (apart i) (writing_by body items bytes values) ≡ (0, writing_by body items bytes values)
 unfolding call
 call_past i body items bytes values p = rw p refl
 
 pub call_null : (w : Writing) → call (in_place 0) w ≡ (0, w)
 unfolding call
-call_null w = go (passes (w.bytes, w.values))
+call_null w = go (exceeds_a_limit (w.bytes, w.values))
   where
     go : (b : Bool) → ◌≡◌ {A = ℕ × Writing} ((if b then 0 else 0), w) (0, w)
     go true = refl
     go false = refl
 
 -- within the limits a call takes the step of the layout
-call_steps : (i : Item) (w : Writing) → passes (w.bytes, w.values) ≡ false → call (apart i) w ≡ unless_past_limit w (put_item i (layout_of w))
+call_steps : (i : Item) (w : Writing) → exceeds_a_limit (w.bytes, w.values) ≡ false → call (apart i) w ≡ unless_past_limit w (put_item i (layout_of w))
 unfolding call
 call_steps i w fine = rw fine refl
 
 -- ---- an item that is equal to a written one
 
-call_step_found : (i : Item) (w : Writing) (there : WrittenItem) → passes (w.bytes, w.values) ≡ false → find (is_equal_item w.body i) w.items ≡ Some there
+call_step_found : (i : Item) (w : Writing) (there : WrittenItem) → exceeds_a_limit (w.bytes, w.values) ≡ false → find (is_equal_item w.body i) w.items ≡ Some there
     → call (apart i) w ≡ unless_past_limit w (word_of_item there, record (layout_of w) { values = w.values + i.entries })
 call_step_found i w there fine found = call_steps i w fine ∙ ap (λ (o : Option WrittenItem). unless_past_limit w (put_unless o i (layout_of w))) found
 
-pub repeat_stops : (i : Item) (body : List ℕ) (items : List WrittenItem) (bytes values : ℕ) (there : WrittenItem) → passes (bytes, values) ≡ false → bytes ≡ 8 + length body
-    → find (is_equal_item body i) items ≡ Some there → passes (bytes, values + i.entries) ≡ true
+pub repeat_stops : (i : Item) (body : List ℕ) (items : List WrittenItem) (bytes values : ℕ) (there : WrittenItem) → exceeds_a_limit (bytes, values) ≡ false → bytes ≡ 8 + length body
+    → find (is_equal_item body i) items ≡ Some there → exceeds_a_limit (bytes, values + i.entries) ≡ true
     → call (apart i) (writing_by body items bytes values) ≡ (0, writing_by body items bytes (values + i.entries))
 repeat_stops i body items bytes values there fine e found past =
-    let over : passes (8 + length body, values + i.entries) ≡ true = ap (λ (k : ℕ). passes (k, values + i.entries)) (sym e) ∙ past in
+    let over : exceeds_a_limit (8 + length body, values + i.entries) ≡ true = ap (λ (k : ℕ). exceeds_a_limit (k, values + i.entries)) (sym e) ∙ past in
     call_step_found i (writing_by body items bytes values) there fine found ∙ rw over (ap (λ (k : ℕ). (0, writing_by body items k (values + i.entries))) (sym e))
 
-pub repeat_fits : (i : Item) (body : List ℕ) (items : List WrittenItem) (bytes values : ℕ) (there : WrittenItem) → passes (bytes, values) ≡ false → bytes ≡ 8 + length body
-    → find (is_equal_item body i) items ≡ Some there → passes (bytes, values + i.entries) ≡ false
+pub repeat_fits : (i : Item) (body : List ℕ) (items : List WrittenItem) (bytes values : ℕ) (there : WrittenItem) → exceeds_a_limit (bytes, values) ≡ false → bytes ≡ 8 + length body
+    → find (is_equal_item body i) items ≡ Some there → exceeds_a_limit (bytes, values + i.entries) ≡ false
     → call (apart i) (writing_by body items bytes values) ≡ (word_of_item there, writing_by body items bytes (values + i.entries))
 repeat_fits i body items bytes values there fine e found fits =
-    let over : passes (8 + length body, values + i.entries) ≡ false = ap (λ (k : ℕ). passes (k, values + i.entries)) (sym e) ∙ fits in
+    let over : exceeds_a_limit (8 + length body, values + i.entries) ≡ false = ap (λ (k : ℕ). exceeds_a_limit (k, values + i.entries)) (sym e) ∙ fits in
     call_step_found i (writing_by body items bytes values) there fine found ∙ rw over (ap (λ (k : ℕ). (word_of_item there, writing_by body items k (values + i.entries))) (sym e))
 
 -- ---- an item that was not written before
@@ -53,7 +53,7 @@ end_of i bytes = bytes + gap i.align bytes + length i.bytes
 abbrev pub written_at : Item → List ℕ → WrittenItem
 written_at i body = record { kind = i.kind; offset = length body + gap i.align (8 + length body) }
 
-call_step_new : (i : Item) (w : Writing) → passes (w.bytes, w.values) ≡ false → find (is_equal_item w.body i) w.items ≡ None
+call_step_new : (i : Item) (w : Writing) → exceeds_a_limit (w.bytes, w.values) ≡ false → find (is_equal_item w.body i) w.items ≡ None
     → call (apart i) w ≡ unless_past_limit w (put_new i (layout_of w))
 call_step_new i w fine none = call_steps i w fine ∙ ap (λ (o : Option WrittenItem). unless_past_limit w (put_unless o i (layout_of w))) none
 
@@ -63,20 +63,20 @@ placed_counts i body items bytes values e =
     let len : 8 + length (body ++ (zeros ++ i.bytes)) ≡ end_of i (8 + length body) = omega (arith, length-append body (zeros ++ i.bytes), length-append zeros i.bytes, length-replicate {A = ℕ} (gap i.align (8 + length body)) 0) in
     ap (λ (k : ℕ). (k, values + i.entries)) (len ∙ ap (λ (k : ℕ). end_of i k) (sym e))
 
-pub call_stops : (i : Item) (body : List ℕ) (items : List WrittenItem) (bytes values : ℕ) → passes (bytes, values) ≡ false → bytes ≡ 8 + length body
-    → find (is_equal_item body i) items ≡ None → passes (end_of i bytes, values + i.entries) ≡ true
+pub call_stops : (i : Item) (body : List ℕ) (items : List WrittenItem) (bytes values : ℕ) → exceeds_a_limit (bytes, values) ≡ false → bytes ≡ 8 + length body
+    → find (is_equal_item body i) items ≡ None → exceeds_a_limit (end_of i bytes, values + i.entries) ≡ true
     → call (apart i) (writing_by body items bytes values) ≡ (0, writing_by body items (end_of i bytes) (values + i.entries))
 call_stops i body items bytes values a e none r =
     let counts = placed_counts i body items bytes values e in
-    let b : passes (layout_counts (put_new i (layout_of (writing_by body items bytes values))).1) ≡ true = ap passes counts ∙ r in
+    let b : exceeds_a_limit (layout_counts (put_new i (layout_of (writing_by body items bytes values))).1) ≡ true = ap exceeds_a_limit counts ∙ r in
     call_step_new i (writing_by body items bytes values) a none ∙ rw b (ap (λ (k : ℕ × ℕ). (0, writing_by body items k.0 k.1)) counts)
 
-pub call_fits : (i : Item) (body : List ℕ) (items : List WrittenItem) (bytes values : ℕ) → passes (bytes, values) ≡ false → bytes ≡ 8 + length body
-    → find (is_equal_item body i) items ≡ None → passes (end_of i bytes, values + i.entries) ≡ false
+pub call_fits : (i : Item) (body : List ℕ) (items : List WrittenItem) (bytes values : ℕ) → exceeds_a_limit (bytes, values) ≡ false → bytes ≡ 8 + length body
+    → find (is_equal_item body i) items ≡ None → exceeds_a_limit (end_of i bytes, values + i.entries) ≡ false
     → call (apart i) (writing_by body items bytes values) ≡ (i.kind * 2 ^ 28 + (bytes + gap i.align bytes), writing_by (body ++ (replicate (gap i.align bytes) 0 ++ i.bytes)) (written_at i body ∷ items) (end_of i bytes) (values + i.entries))
 call_fits i body items bytes values a e none r =
     let counts = placed_counts i body items bytes values e in
-    let b : passes (layout_counts (put_new i (layout_of (writing_by body items bytes values))).1) ≡ false = ap passes counts ∙ r in
+    let b : exceeds_a_limit (layout_counts (put_new i (layout_of (writing_by body items bytes values))).1) ≡ false = ap exceeds_a_limit counts ∙ r in
     call_step_new i (writing_by body items bytes values) a none
     ∙ rw b (pair_same _ _ _ _ (ap (λ (k : ℕ). i.kind * 2 ^ 28 + (k + gap i.align k)) (sym e)) (writing_same _ _ counts (ap (λ (k : ℕ). body ++ (replicate (gap i.align k) 0 ++ i.bytes)) (sym e)) refl))
   where
@@ -91,8 +91,8 @@ call_fits i body items bytes values a e none r =
         ∙ ap (λ (k : ℕ × ℕ). writing_by (body ++ (replicate (gap i.align bytes) 0 ++ i.bytes)) (written_at i body ∷ items) k.0 k.1) f
 
 -- an item that fits adds its bytes
-pub call_grows : (i : Item) (body : List ℕ) (items : List WrittenItem) (bytes values : ℕ) → passes (bytes, values) ≡ false → bytes ≡ 8 + length body
-    → find (is_equal_item body i) items ≡ None → passes (end_of i bytes, values + i.entries) ≡ false → 0 < length i.bytes
+pub call_grows : (i : Item) (body : List ℕ) (items : List WrittenItem) (bytes values : ℕ) → exceeds_a_limit (bytes, values) ≡ false → bytes ≡ 8 + length body
+    → find (is_equal_item body i) items ≡ None → exceeds_a_limit (end_of i bytes, values + i.entries) ≡ false → 0 < length i.bytes
     → Grows (writing_by body items bytes values) (call (apart i) (writing_by body items bytes values)).1
 call_grows i body items bytes values a e none r some =
     let zeros : List ℕ = replicate (gap i.align bytes) 0 in
@@ -118,15 +118,15 @@ found_there i w word e = go (find (is_equal_item w.body i) w.items) refl e
     go None is f = absurd cc
     go (Some there) is f = (there, is, cc)
 
-pub repeat_past : (i : Item) (body : List ℕ) (items : List WrittenItem) (bytes values word : ℕ) → passes (bytes, values) ≡ false → bytes ≡ 8 + length body
-    → FindsWord i (writing_by body items bytes values) word → passes (bytes, values + i.entries) ≡ true
+pub repeat_past : (i : Item) (body : List ℕ) (items : List WrittenItem) (bytes values word : ℕ) → exceeds_a_limit (bytes, values) ≡ false → bytes ≡ 8 + length body
+    → FindsWord i (writing_by body items bytes values) word → exceeds_a_limit (bytes, values + i.entries) ≡ true
     → call (apart i) (writing_by body items bytes values) ≡ (0, writing_by body items bytes (values + i.entries))
 repeat_past i body items bytes values word fine agree f past =
     let found = found_there i (writing_by body items bytes values) word f in
     repeat_stops i body items bytes values found.0 fine agree found.1 past
 
-pub repeat_word : (i : Item) (body : List ℕ) (items : List WrittenItem) (bytes values word : ℕ) → passes (bytes, values) ≡ false → bytes ≡ 8 + length body
-    → FindsWord i (writing_by body items bytes values) word → passes (bytes, values + i.entries) ≡ false
+pub repeat_word : (i : Item) (body : List ℕ) (items : List WrittenItem) (bytes values word : ℕ) → exceeds_a_limit (bytes, values) ≡ false → bytes ≡ 8 + length body
+    → FindsWord i (writing_by body items bytes values) word → exceeds_a_limit (bytes, values + i.entries) ≡ false
     → call (apart i) (writing_by body items bytes values) ≡ (word, writing_by body items bytes (values + i.entries))
 repeat_word i body items bytes values word fine agree f fits =
     let found = found_there i (writing_by body items bytes values) word f in

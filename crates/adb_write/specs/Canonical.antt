@@ -188,26 +188,26 @@ abbrev pub layout_counts : Layout → PayloadCounts
 layout_counts out = (end_offset out, out.values)
 
 -- whether one of the two counts is above its limit
-abbrev pub passes : PayloadCounts → Bool
-passes c = nat_lt MOST_BYTES c.0 || nat_lt MOST_VALUES c.1
+abbrev pub exceeds_a_limit : PayloadCounts → Bool
+exceeds_a_limit c = nat_lt MOST_BYTES c.0 || nat_lt MOST_VALUES c.1
 
 -- the two counts just after each value that is written, in the order of writing
 unfoldable mutual
-  pub trace : Plain → Layout → List PayloadCounts
-  trace null out = []
-  trace (int n) out = layout_counts (write (int n) out).1 ∷ []
-  trace (blob b) out = layout_counts (write (blob b) out).1 ∷ []
-  trace (arr vs) out = trace_all vs out ++ layout_counts (write (arr vs) out).1 ∷ []
-  trace (obj vs) out = trace_all vs out ++ layout_counts (write (obj vs) out).1 ∷ []
+  pub counts_after_values : Plain → Layout → List PayloadCounts
+  counts_after_values null out = []
+  counts_after_values (int n) out = layout_counts (write (int n) out).1 ∷ []
+  counts_after_values (blob b) out = layout_counts (write (blob b) out).1 ∷ []
+  counts_after_values (arr vs) out = trace_all vs out ++ layout_counts (write (arr vs) out).1 ∷ []
+  counts_after_values (obj vs) out = trace_all vs out ++ layout_counts (write (obj vs) out).1 ∷ []
 
   -- the counts after each of these values and those below them
   pub trace_all : Plains → Layout → List PayloadCounts
   trace_all none out = []
-  trace_all (more v vs) out = trace v out ++ trace_all vs (write v out).1
+  trace_all (more v vs) out = counts_after_values v out ++ trace_all vs (write v out).1
 
 -- the counts just after the first value that passes a limit; None if none does
 abbrev pub overflow_of : Plain → Option PayloadCounts
-overflow_of v = find passes (trace v empty_layout)
+overflow_of v = find exceeds_a_limit (counts_after_values v empty_layout)
 
 -- the payload, or the counts at which a value overflows
 abbrev pub or_overflow : List ℕ → Option PayloadCounts → Result (List ℕ) PayloadCounts

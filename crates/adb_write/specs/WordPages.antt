@@ -38,8 +38,8 @@ IsSlotIn (page ∷ []) (suc k) index = ⊥
 IsSlotIn (page ∷ next ∷ pages) (suc k) index = IsSlotIn (next ∷ pages) k index
 
 -- no page is empty
-abbrev pub AreFilled : List (List ℕ) → Type 0
-AreFilled = AllByRecursion (λ page. 0 < length page)
+abbrev pub HaveNoEmptyPage : List (List ℕ) → Type 0
+HaveNoEmptyPage = AllByRecursion (λ page. 0 < length page)
 
 -- a slot of the old pages is one of the new ones: it is between the same locators
 pub record IsSameSlot (old : List (List ℕ)) (slot : Slot) (new : List (List ℕ))

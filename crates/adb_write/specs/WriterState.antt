@@ -4,11 +4,11 @@
 use Rattle.std.specs.Prelude.{◌≡◌, ℕ, ◌+◌, ◌-◌, ◌^◌, ◌<◌, ◌≤◌, ◌⊎◌, ◌%◌, suc, false, List, [], ◌∷◌, length, take, drop, replicate, nat_lt, find, option_map, Some, Result, Ok, Err, if◌then◌else◌}
 use Rattle.std.specs.List.{AllByRecursion, concat}
 use Rattle.adb_view.specs.Readers.{kind_of, low_of}
-use Rattle.adb_write.specs.Canonical.{Item, WrittenItem, is_equal_item, word_of_item, int_item, blob_item, run_item, PayloadCounts, passes}
+use Rattle.adb_write.specs.Canonical.{Item, WrittenItem, is_equal_item, word_of_item, int_item, blob_item, run_item, PayloadCounts, exceeds_a_limit}
 use Rattle.adb_write.specs.Writing.{Writing, is_past_limit}
 use Rattle.adb_write.specs.Items.{list_kind}
 use Rattle.adb_write.specs.Keys.{HaveRisingKeys, blob_fingerprint, fingerprint_of_locator, list_fingerprint, word_of_locator}
-use Rattle.adb_write.specs.WordPages.{AreFilled}
+use Rattle.adb_write.specs.WordPages.{HaveNoEmptyPage}
 use Rattle.adb_write.specs.declared.item.ListKind.{ListKind}
 use Rattle.adb_write.specs.declared.writer.WriteFault.{WriteFault}
 use Rattle.adb_write.specs.declared.writer.WriteFault.TheVariants.{TooLarge, Memory}
@@ -94,9 +94,9 @@ pub record IsWriterState (payload : List ℕ) (pages : List (List ℕ))
     (bytes values : ℕ) : Type 0 where
   pub head : HasHead payload
   -- the count of bytes is the payload's own, unless a limit was passed
-  pub agree : passes (bytes, values) ≡ false → bytes ≡ 8 + length (drop 8 payload)
+  pub agree : exceeds_a_limit (bytes, values) ≡ false → bytes ≡ 8 + length (drop 8 payload)
   -- no page is empty
-  pub filled : AreFilled pages
+  pub filled : HaveNoEmptyPage pages
   -- locators are in the order of their keys
   pub rising : HaveRisingKeys payload (concat pages)
   -- each locator names an item of the payload

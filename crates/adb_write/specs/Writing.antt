@@ -3,7 +3,7 @@
 use Rattle.std.specs.Prelude.{ℕ, ◌<◌, Bool, List, [], ◌∷◌, length, Result, Ok, Err, if◌then◌else◌}
 use Rattle.adb_view.specs.Plain.{Plain, null, int, blob, arr, obj, Plains, none, more}
 use Rattle.adb_view.specs.Readers.{ARRAY, OBJECT}
-use Rattle.adb_write.specs.Canonical.{WrittenItem, Cell, in_place, apart, int_cell, blob_cell, run_cell, trimmed_words, Layout, put_cell, PayloadCounts, layout_counts, passes, payload_with_root}
+use Rattle.adb_write.specs.Canonical.{WrittenItem, Cell, in_place, apart, int_cell, blob_cell, run_cell, trimmed_words, Layout, put_cell, PayloadCounts, layout_counts, exceeds_a_limit, payload_with_root}
 
 -- a writer: the payload after its head of 8 bytes, its items, the latest first, and two counts. The
 -- counts are those of the written values, or, past a limit, those just after the value that passed it
@@ -33,7 +33,7 @@ writing_counts w = (w.bytes, w.values)
 
 -- whether a writer passed a limit
 abbrev pub is_past_limit : Writing → Bool
-is_past_limit w = passes (writing_counts w)
+is_past_limit w = exceeds_a_limit (writing_counts w)
 
 -- the items and the counts of a writer, as a layout
 abbrev pub layout_of : Writing → Layout
@@ -47,7 +47,7 @@ writing_of out = writing_by out.body out.items (layout_counts out).0 (layout_cou
 -- the word is NULL
 abbrev pub unless_past_limit : Writing → ℕ × Layout → ℕ × Writing
 unless_past_limit w r =
-    if passes (layout_counts r.1)
+    if exceeds_a_limit (layout_counts r.1)
     then (0, record (writing_of r.1) { body = w.body; items = w.items })
     else (r.0, writing_of r.1)
 

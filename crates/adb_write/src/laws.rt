@@ -7,7 +7,7 @@ ghost use Rattle.adb_view.specs.Head.{root_of};
 ghost use Rattle.adb_view.specs.Visits.{visits};
 ghost use Rattle.adb_block.specs.Container.{Spells};
 ghost use Rattle.adb_write.specs.File.{adb_piece, file_of};
-ghost use Rattle.adb_write.specs.Canonical.{Layout, empty_layout, end_offset, write, canonical, passes, overflow_of, written_of, payload_with_root, MOST_BYTES};
+ghost use Rattle.adb_write.specs.Canonical.{Layout, empty_layout, end_offset, write, canonical, exceeds_a_limit, overflow_of, written_of, payload_with_root, MOST_BYTES};
 ghost use Rattle.adb_write.specs.Size.{size_of, entries_of, value_count, with_value_count_raised};
 ghost use Rattle.adb_write.specs.Writing.{Writing, empty_writing, is_past_limit, layout_of, int_call, blob_call, arr_call, obj_call, finish_result};
 ghost use Rattle.adb_write.specs.DepthFirst.{WritesValue, WritesValues, push};
@@ -101,7 +101,7 @@ pub fn a_finished_payload_is_read_back()
 /// exceeds the limit of a payload.
 pub fn a_value_overflows_exactly_past_a_limit()
     ensures { (v : Plain) → IsNormal v
-        → is_some (overflow_of v) ≡ passes (size_of v, value_count v) }
+        → is_some (overflow_of v) ≡ exceeds_a_limit (size_of v, value_count v) }
 {}
 
 /// A normal value is written if and only if it is within both limits. Its payload has at most 2^28

@@ -9,7 +9,7 @@ ghost use Rattle.std.specs.Prelude.{◌≡◌, ◌≤◌, ◌-◌, [], ◌∷◌
 ghost use Rattle.std.specs.List.{concat};
 ghost use Rattle.adb_write.specs.Items.{item_of};
 ghost use Rattle.adb_write.specs.Keys.{fingerprint_of, key_of, locator_of, HaveRisingKeys};
-ghost use Rattle.adb_write.specs.WordPages.{AreFilled, pages_of, words_before, words_from_slot, IsSlotIn, FindsIn};
+ghost use Rattle.adb_write.specs.WordPages.{HaveNoEmptyPage, pages_of, words_before, words_from_slot, IsSlotIn, FindsIn};
 ghost use Rattle.adb_write.specs.WriterState.{HasHead, AreStored};
 
 use crate::item::Parts;
@@ -43,7 +43,7 @@ impl Store {
     /// be inserted.
     pub(crate) fn find(&self, parts: &Parts<'_>) -> Result<u64, Slot>
         requires head { HasHead self.now.payload.items }
-        requires filled { AreFilled (pages_of self.now.words) }
+        requires filled { HaveNoEmptyPage (pages_of self.now.words) }
         requires rising { HaveRisingKeys self.now.payload.items (concat (pages_of self.now.words)) }
         requires stored { AreStored self.now.payload.items (concat (pages_of self.now.words)) }
         ensures { FindsIn self.now.payload.items (pages_of self.now.words) (key_of parts.now)
@@ -66,9 +66,9 @@ impl Store {
         word: Val,
     ) -> Result<(), AllocError>
         requires behind { length self.old.payload.items ≤ at }
-        requires filled { AreFilled (pages_of self.old.words) }
+        requires filled { HaveNoEmptyPage (pages_of self.old.words) }
         requires inside { IsSlotIn (pages_of self.old.words) slot.page slot.index }
-        ensures filled { AreFilled (pages_of self.new.words) }
+        ensures filled { HaveNoEmptyPage (pages_of self.new.words) }
         ensures bytes { OnOk result (self.new.payload.items
             ≡ self.old.payload.items
             ++ (replicate (at - length self.old.payload.items) 0 ++ (item_of parts.now).bytes)) }

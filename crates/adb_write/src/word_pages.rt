@@ -22,7 +22,7 @@ ghost use Rattle.adb_write.specs.Keys.{key_at, key_with, HaveRisingKeys};
 ghost use Rattle.std.specs.Bool.{OnTrue};
 ghost use Rattle.std.specs.Ordering.{nat_cmp, is_lt};
 ghost use Rattle.std.specs.Cmp.Lexicographic.{slice_cmp};
-ghost use Rattle.adb_write.specs.WordPages.{AreFilled, HALF, page_at, pages_of, words_before, words_from_slot, with_split, IsSlotIn, IsSameSlot, AllCompare, FindsIn, SearchesPage, IsPageAt, IsPageFor, begins_above};
+ghost use Rattle.adb_write.specs.WordPages.{HaveNoEmptyPage, HALF, page_at, pages_of, words_before, words_from_slot, with_split, IsSlotIn, IsSameSlot, AllCompare, FindsIn, SearchesPage, IsPageAt, IsPageFor, begins_above};
 ghost use Rattle.std.specs.declared.cmp.Ordering.TheVariants.{Less, Greater};
 
 use crate::first_locators::FirstLocators;
@@ -86,7 +86,7 @@ impl WordPages {
         parts: &Parts<'_>,
         fingerprint: u64,
     ) -> Result<u64, Slot>
-        requires filled { AreFilled (pages_of self.now) }
+        requires filled { HaveNoEmptyPage (pages_of self.now) }
         requires rising { HaveRisingKeys (payload_of adb.now) (concat (pages_of self.now)) }
         ensures { FindsIn (payload_of adb.now) (pages_of self.now) (key_with fingerprint parts.now)
             result }
@@ -104,7 +104,7 @@ impl WordPages {
     /// The page in which an item is looked for: the last that does not begin after the item, or the
     /// first.
     fn page_of(&self, adb: &Adb<'_>, parts: &Parts<'_>, fingerprint: u64) -> usize
-        requires filled { AreFilled (pages_of self.now) }
+        requires filled { HaveNoEmptyPage (pages_of self.now) }
         requires rising { HaveRisingKeys (payload_of adb.now) (concat (pages_of self.now)) }
         ensures { IsPageFor (payload_of adb.now) (pages_of self.now)
             (key_with fingerprint parts.now) result }
@@ -138,9 +138,9 @@ impl WordPages {
 
     /// Inserts a locator at a slot. If memory runs out, the locators are unchanged.
     pub(crate) fn insert(&mut self, slot: Slot, locator: u64) -> Result<(), AllocError>
-        requires filled { AreFilled (pages_of self.old) }
+        requires filled { HaveNoEmptyPage (pages_of self.old) }
         requires inside { IsSlotIn (pages_of self.old) slot.page slot.index }
-        ensures filled { AreFilled (pages_of self.new) }
+        ensures filled { HaveNoEmptyPage (pages_of self.new) }
         ensures ok { OnOk result (concat (pages_of self.new)
             ≡ words_before (pages_of self.old) slot.page slot.index
             ++ locator ∷ words_from_slot (pages_of self.old) slot.page slot.index) }
@@ -170,10 +170,10 @@ impl WordPages {
 
     /// Splits the page of a slot if it is full, and returns the new slot.
     fn make_room(&mut self, slot: Slot) -> Result<Slot, AllocError>
-        requires filled { AreFilled (pages_of self.old) }
+        requires filled { HaveNoEmptyPage (pages_of self.old) }
         requires inside { IsSlotIn (pages_of self.old) slot.page slot.index }
         requires some { 0 < length (pages_of self.old) }
-        ensures filled { AreFilled (pages_of self.new) }
+        ensures filled { HaveNoEmptyPage (pages_of self.new) }
         ensures some { 0 < length (pages_of self.new) }
         ensures ok { IfOk result
             (λ there. IsSameSlot (pages_of self.old) slot (pages_of self.new) there) }

@@ -3,7 +3,7 @@
 //! the limits below "A payload has at most", the file below "In a container each block is padded".
 
 ghost use Rattle.std.specs.Prelude.{◌≡◌, ◌<◌, ◌≤◌, ◌+◌, ◌^◌, false, IfOk, OnErr, length};
-ghost use Rattle.adb_write.specs.Canonical.{MOST_BYTES, passes, gap, in_place, apart, run_cell, trimmed_words};
+ghost use Rattle.adb_write.specs.Canonical.{MOST_BYTES, exceeds_a_limit, gap, in_place, apart, run_cell, trimmed_words};
 ghost use Rattle.adb_view.specs.Plain.{Plains, int, blob_or_null, arr_value, obj_value};
 ghost use Rattle.adb_write.specs.DepthFirst.{WritesValue, WritesValues};
 ghost use Rattle.adb_write.specs.Writing.{Writing, Grows, empty_writing, is_past_limit, call, int_call, blob_call, arr_call, obj_call, finish_result};
@@ -65,8 +65,8 @@ struct PayloadCounts {
 
 impl PayloadCounts {
     /// Whether one of the counts passes its limit.
-    fn passes(self) -> bool
-        ensures { result ≡ passes (self.bytes, self.values) }
+    fn exceeds_a_limit(self) -> bool
+        ensures { result ≡ exceeds_a_limit (self.bytes, self.values) }
     {
         self.bytes > MOST_BYTES || self.values > MOST_VALUES
     }
@@ -130,7 +130,7 @@ impl Writer {
     pub fn passes_limit(&self) -> bool
         ensures { result ≡ is_past_limit self.now }
     {
-        self.counts.passes()
+        self.counts.exceeds_a_limit()
     }
 
     /// Writes an integer: in its word below 2^28, in 32 bits below 2^32, else in 64.
@@ -193,7 +193,7 @@ impl Writer {
     pub fn finish(self, root: Val) -> Result<Vec<u8>, WriteFault>
         ensures { IsFinished (λ payload. payload.items) self result (finish_result root self) }
     {
-        if self.counts.passes() {
+        if self.counts.exceeds_a_limit() {
             return Err(WriteFault::TooLarge {
                 bytes: self.counts.bytes,
                 values: self.counts.values,
@@ -228,7 +228,7 @@ impl Writer {
     fn in_word(&self, word: u32) -> Val
         ensures { (result, self.now) ≡ call (in_place word) self.now }
     {
-        if self.counts.passes() {
+        if self.counts.exceeds_a_limit() {
             return Val::of(0);
         }
         Val::of(word)
@@ -244,7 +244,7 @@ impl Writer {
         ensures wants { OnErr result
             (Grows self.old (call (apart (item_of parts.now)) self.old).1) }
     {
-        if self.counts.passes() {
+        if self.counts.exceeds_a_limit() {
             return Ok(Val::of(0));
         }
         let slot = match self.store.find(parts) {
@@ -259,7 +259,7 @@ impl Writer {
             values: before.values + parts.entries(),
         };
         // The first value past a limit is counted, and not written.
-        if counts.passes() {
+        if counts.exceeds_a_limit() {
             self.counts = counts;
             return Ok(Val::of(0));
         }
@@ -277,7 +277,7 @@ impl Writer {
         ensures { (result, self.new) ≡ call (apart (item_of parts.now)) self.old }
     {
         self.counts.values += parts.entries();
-        if self.counts.passes() {
+        if self.counts.exceeds_a_limit() {
             return Val::of(0);
         }
         word

@@ -1,7 +1,7 @@
 //! The path of a package's file.
 //! The rule is in `docs/commands.md`, "`add` and `del`", **What is read**: `NAME-VERSION.apk`
 //! beside the index that has the package; which bytes are a name, in "Words" there.
-ghost use Rattle.change_outcome.specs.PackageFiles.{folder_prefix, if_name, package_file_of, package_path};
+ghost use Rattle.change_outcome.specs.PackageFiles.{folder_prefix_of, if_name, package_file_of, package_path};
 ghost use Rattle.change_outcome.specs.candidate_core.Values.{candidate_value};
 ghost use Rattle.std.specs.Prelude.{◌≡◌, IfOk};
 
@@ -54,7 +54,7 @@ fn package_path(
 ) -> Result<Vec<u8>, AllocError>
     ensures { IfOk result (λ path. path.items ≡ package_path index.now name.now version.now) }
 {
-    let mut path = Vec::from_slice(alloc, folder_prefix(index))?;
+    let mut path = Vec::from_slice(alloc, folder_prefix_of(index))?;
     path.extend_from_slice(name)?;
     path.extend_from_slice(b"-")?;
     path.extend_from_slice(version)?;
@@ -63,8 +63,8 @@ fn package_path(
 }
 
 /// A path up to its last `/`, with that; nothing of a path without one.
-fn folder_prefix(path: &[u8]) -> &[u8]
-    ensures { result.now ≡ folder_prefix path.now }
+fn folder_prefix_of(path: &[u8]) -> &[u8]
+    ensures { result.now ≡ folder_prefix_of path.now }
 {
     let mut end = 0;
     for (i, byte) in path.iter().enumerate() {

@@ -11,7 +11,7 @@ use Rattle.base_core.specs.declared.cause.Cause.{Cause}
 use Rattle.installed_info.specs.candidate_core.Candidates.{Candidate}
 use Rattle.change_outcome.specs.change_inputs.Chains.{unless_cause}
 use Rattle.change_outcome.specs.change_inputs.Database.{Database, database_by, payload_database, root_database}
-use Rattle.change_outcome.specs.PackageFiles.{folder_prefix, has_slash, if_name, package_file_of, package_path, path_beside_index}
+use Rattle.change_outcome.specs.PackageFiles.{folder_prefix_of, has_slash, if_name, package_file_of, package_path, path_beside_index}
 use Rattle.dep_core.specs.Repositories.{Repository}
 use Rattle.change_outcome.specs.package_changes.Changes.{selected_version}
 use Rattle.change_outcome.specs.package_files.Folders.{is_slash}
@@ -26,9 +26,9 @@ use Rattle.std.proofs.lemmas.List.{append_assoc}
 
 -- ---- the folder of an index
 
-no_prefix : (text : List ℕ) → list_any is_slash text ≡ false → folder_prefix text ≡ []
+no_prefix : (text : List ℕ) → list_any is_slash text ≡ false → folder_prefix_of text ≡ []
 no_prefix [] none = refl
-no_prefix (b ∷ text) none = ap (λ (t : Bool). if t then b ∷ folder_prefix text else []) none
+no_prefix (b ∷ text) none = ap (λ (t : Bool). if t then b ∷ folder_prefix_of text else []) none
 
 slash_within : (folder index : List ℕ) → has_slash (folder ++ codes "/" ++ index) ≡ true
 slash_within [] index = refl
@@ -38,10 +38,10 @@ slash_within (b ∷ folder) index = go (is_slash b) (slash_within folder index)
     go true e = refl
     go false e = e
 
-prefix_is : (folder index : List ℕ) → HasNoSlash index → folder_prefix (folder ++ codes "/" ++ index) ≡ folder ++ codes "/"
+prefix_is : (folder index : List ℕ) → HasNoSlash index → folder_prefix_of (folder ++ codes "/" ++ index) ≡ folder ++ codes "/"
 prefix_is [] index none = ap (λ (t : List ℕ). 47 ∷ t) (no_prefix index none)
 prefix_is (b ∷ folder) index none =
-    ap (λ (t : Bool). if t then b ∷ folder_prefix (folder ++ codes "/" ++ index) else []) (slash_within (b ∷ folder) index)
+    ap (λ (t : Bool). if t then b ∷ folder_prefix_of (folder ++ codes "/" ++ index) else []) (slash_within (b ∷ folder) index)
     ∙ ap (λ (t : List ℕ). b ∷ t) (prefix_is folder index none)
 
 -- ---- the file of a candidate

@@ -16,7 +16,7 @@ use Rattle.change_outcome.specs.db_core.Packages.{is_package_named}
 use Rattle.installed_info.specs.file_owners.Replaces.{version_text}
 use Rattle.change_outcome.specs.package_changes.Changes.{Replacement, change_between, change_of_name, changes_of, is_same_selected, is_selected_named, names_on_both_sides, selected_version, unless_same, version_change, version_text_cmp}
 use Rattle.report_core.specs.Reports.{Change, Install, Purge, Reinstall}
-use Rattle.answer_laws.specs.WhichChange.{IsInstalled, IsPurged, IsSelected, WasInstalled, changed_name}
+use Rattle.answer_laws.specs.WhichChange.{HasInstallChange, HasPurgeChange, IsSelected, WasInstalled, changed_name}
 use Rattle.answer_laws.proofs.Members.{found_name, given_in, given_of, listed, missing_name}
 
 -- ---- a change has the name that it is of
@@ -161,10 +161,10 @@ sides r name = go (list_any (bytes_eq name) r.again) (find (is_package_named nam
       absent = λ a b. absurd (a (was pkg is));
     }
 
-pub purged : (r : Replacement) (name : List ℕ) → IsPurged r name ↔ (WasInstalled r name × (IsSelected r name → ⊥))
+pub purged : (r : Replacement) (name : List ℕ) → HasPurgeChange r name ↔ (WasInstalled r name × (IsSelected r name → ⊥))
 purged r name = (sides r name).purge
 
-pub installed : (r : Replacement) (name : List ℕ) → IsInstalled r name ↔ (IsSelected r name × (WasInstalled r name → ⊥))
+pub installed : (r : Replacement) (name : List ℕ) → HasInstallChange r name ↔ (IsSelected r name × (WasInstalled r name → ⊥))
 installed r name = (sides r name).install
 
 pub absent : (r : Replacement) (name : List ℕ) → (WasInstalled r name → ⊥) → (IsSelected r name → ⊥) → change_of_name r name ≡ None

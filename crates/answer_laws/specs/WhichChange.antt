@@ -51,12 +51,12 @@ abbrev pub IsSelected : Replacement → List ℕ → Type 0
 IsSelected r name = IsIn name (map (λ (c : Candidate). c.name) r.selected)
 
 -- the package of a name is removed, in some version
-abbrev pub IsPurged : Replacement → List ℕ → Type 0
-IsPurged r name = (version : List ℕ) × (change_of_name r name ≡ Some (Purge name version))
+abbrev pub HasPurgeChange : Replacement → List ℕ → Type 0
+HasPurgeChange r name = (version : List ℕ) × (change_of_name r name ≡ Some (Purge name version))
 
 -- the package of a name is installed, in some version
-abbrev pub IsInstalled : Replacement → List ℕ → Type 0
-IsInstalled r name = (version : List ℕ) × (change_of_name r name ≡ Some (Install name version))
+abbrev pub HasInstallChange : Replacement → List ℕ → Type 0
+HasInstallChange r name = (version : List ℕ) × (change_of_name r name ≡ Some (Install name version))
 
 -- a text with one line for each change, which has the change's number, from 1, and the count of all
 pub record HasNumberedLines (changes : List Change) (text : List ℕ) : Type 0 where

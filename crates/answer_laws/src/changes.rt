@@ -6,7 +6,7 @@ ghost use Rattle.std.specs.Prelude.{◌≡◌, ◌↔◌, ℕ, List, Some, None,
 ghost use Rattle.std.specs.List.{find};
 ghost use Rattle.std.specs.declared.cmp.Ordering.TheVariants.{Less, Equal, Greater};
 ghost use Rattle.adb_view.specs.Plain.{Plain};
-ghost use Rattle.answer_laws.specs.WhichChange.{HasBothVersions, HasNumberedLines, IsInstalled, IsPurged, IsSelected, IsSelectedItself, IsVeryPackage, WasInstalled, changed_name};
+ghost use Rattle.answer_laws.specs.WhichChange.{HasBothVersions, HasInstallChange, HasNumberedLines, HasPurgeChange, IsSelected, IsSelectedItself, IsVeryPackage, WasInstalled, changed_name};
 ghost use Rattle.base_core.specs.Listed.{IsRising};
 ghost use Rattle.base_core.specs.Lists.{IsIn};
 ghost use Rattle.installed_info.specs.candidate_core.Candidates.{Candidate};
@@ -74,9 +74,9 @@ pub fn each_changed_name_has_one_change_in_order()
 /// the candidate. A name on neither side has no change.
 pub fn a_package_on_one_side_is_installed_or_removed()
     ensures purge { (r : Replacement) (name : List ℕ)
-        → IsPurged r name ↔ (WasInstalled r name × (IsSelected r name → ⊥)) }
+        → HasPurgeChange r name ↔ (WasInstalled r name × (IsSelected r name → ⊥)) }
     ensures install { (r : Replacement) (name : List ℕ)
-        → IsInstalled r name ↔ (IsSelected r name × (WasInstalled r name → ⊥)) }
+        → HasInstallChange r name ↔ (IsSelected r name × (WasInstalled r name → ⊥)) }
     ensures purged_version { (r : Replacement) (name : List ℕ) (pkg : Plain)
         → find (is_package_named name) r.before ≡ Some pkg
         → find (is_selected_named name) r.selected ≡ None

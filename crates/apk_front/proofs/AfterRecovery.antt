@@ -22,7 +22,7 @@ use Rattle.journal_core.proofs.Lasting.{some_none}
 use Rattle.outcome.specs.Effect.{Effect, does_recover}
 use Rattle.outcome.specs.Outcome.{Outcome}
 use Rattle.outcome.specs.Work.{recovery_fault, work_files}
-use Rattle.apk_front.specs.Moments.{MomentsLeadTo, AreReadDuringRun, AreOldOrLeadToOutcome, CanRecover, HasNothingToRecover, IsDurableState, IsRecoveringOrNext, IsReadDuringWork, IsRecovering, MakesDurable, MakesDurableWithoutRecovery, NamesAreDurableWithoutIntentExcept, ignored_but}
+use Rattle.apk_front.specs.Moments.{MomentsLeadTo, AreReadDuringRun, AreOldOrLeadToOutcome, CanRecover, HasNothingToRecover, IsDurableState, IsRecoveringOrNext, IsReadDuringWork, IsRecovering, MustLast, MustLastWithoutRecovery, NamesAreDurableWithoutIntentExcept, ignored_but}
 use Rattle.apk_front.specs.Runs.{AreReadDuringWork, IsRun, IsWholeRun, IsWithoutCommit}
 use Rattle.apk_front.proofs.Runs.{History, Judged, Leaves, err_ok, on_ok, settled_before, since_weaker}
 
@@ -107,7 +107,7 @@ safe_after laws A B makes ignored v u old mid now into is_unchanged first (inr (
 settled_same : (ignored : Ignored) (v u : TreeState) → EachCrashLeaves ignored (files_of v) u → state_of ignored (files_of u) ≡ state_of ignored (files_of v) → EachCrashLeaves ignored (files_of u) u
 settled_same ignored v u settled reads = λ image is. settled image is ∙ sym reads
 
-settles_after : AreLaws → (effect : Effect) (ignored : Ignored) (v u : TreeState) (o : Outcome) → StateIsUnchanged ignored v u → (IsSome (intent_of (files_of v)) → EachCrashLeaves ignored (files_of v) u) → MakesDurable effect ignored v o → MakesDurableWithoutRecovery ignored u o
+settles_after : AreLaws → (effect : Effect) (ignored : Ignored) (v u : TreeState) (o : Outcome) → StateIsUnchanged ignored v u → (IsSome (intent_of (files_of v)) → EachCrashLeaves ignored (files_of v) u) → MustLast effect ignored v o → MustLastWithoutRecovery ignored u o
 settles_after laws effect ignored v u o is_unchanged found (inl (inl commits)) = inl commits
 settles_after laws effect ignored v u o is_unchanged found (inl (inr before)) = inr (settled_same ignored v u (laws.lasts ignored (files_of v) v u before is_unchanged.quiet) is_unchanged.reads)
 settles_after laws effect ignored v u o is_unchanged found (inr (recovers, some)) = inr (settled_same ignored v u (found some) is_unchanged.reads)
@@ -253,7 +253,7 @@ whole_failed laws IsOne effect output judged e v rest now recovers failed recove
 abbrev pub LeavesAll : Effect → TreeState → Outcome → Type 0
 LeavesAll effect v o = Leaves (files_of v) o × (CanRecover effect v → ⊥)
 
-settled_left : (effect : Effect) (ignored : Ignored) (v : TreeState) (o : Outcome) → LeavesAll effect v o → MakesDurable effect ignored v o → EachCrashLeaves ignored (files_of v) v
+settled_left : (effect : Effect) (ignored : Ignored) (v : TreeState) (o : Outcome) → LeavesAll effect v o → MustLast effect ignored v o → EachCrashLeaves ignored (files_of v) v
 settled_left effect ignored v o (leaves, never) (inl settles) = settled_before ignored v o leaves.1 settles
 settled_left effect ignored v o (leaves, never) (inr can) = absurd (never can)
 

@@ -17,7 +17,7 @@ use Rattle.journal_core.specs.Staged.{AreReplayPathsFree, IsEmptyStage, IsIntent
 use Rattle.journal_core.specs.declared.fault.RecoverFault.{RecoverFault}
 use Rattle.journal_core.specs.declared.fault.RecoverFault.TheVariants.{IntentBad as BadIntent}
 use Rattle.outcome.specs.Commands.{IsPossibleOutcomeOf, IsPossibleOutcomeOn, IsOutcomeOf, IsOutcomeOn, IsOutcomeUnlessBadIntent}
-use Rattle.outcome.specs.Effect.{Effect, Computes, Reads, Tells, Makes, Changes, does_recover, effect_of}
+use Rattle.outcome.specs.Effect.{Effect, Computes, OnlyReadsFiles, AsksRoot, Makes, Changes, does_recover, effect_of}
 use Rattle.outcome.specs.Outcome.{Outcome, just_refusal}
 use Rattle.outcome.specs.Work.{fault_of_intent, recovery_fault}
 use Rattle.outcome.proofs.Recovering.{work_is}
@@ -45,15 +45,15 @@ no_bad files good = by_found (files intent_name) refl
 
 good_is : (effect : Effect) (files : Files) → does_recover effect ≡ true → ((cause : Cause) → IsIntentFault files cause → ⊥) → recovery_fault effect files ≡ None
 good_is Computes files recovering good = cc
-good_is Reads files recovering good = cc
-good_is Tells files recovering good = no_bad files good
+good_is OnlyReadsFiles files recovering good = cc
+good_is AsksRoot files recovering good = no_bad files good
 good_is Makes files recovering good = no_bad files good
 good_is Changes files recovering good = no_bad files good
 
 bad_is : (effect : Effect) (files : Files) (cause : Cause) → does_recover effect ≡ true → IsIntentFault files cause → recovery_fault effect files ≡ Some cause
 bad_is Computes files cause recovering bad = cc
-bad_is Reads files cause recovering bad = cc
-bad_is Tells files cause recovering (file, at, is) = ap fault_of_intent at ∙ is
+bad_is OnlyReadsFiles files cause recovering bad = cc
+bad_is AsksRoot files cause recovering (file, at, is) = ap fault_of_intent at ∙ is
 bad_is Makes files cause recovering (file, at, is) = ap fault_of_intent at ∙ is
 bad_is Changes files cause recovering (file, at, is) = ap fault_of_intent at ∙ is
 
@@ -71,8 +71,8 @@ fault_found files some = by_found (files intent_name) refl some
 -- why a command cannot recover
 bad_found : (effect : Effect) (files : Files) → IsSome (recovery_fault effect files) → (cause : Cause) × IsIntentFault files cause
 bad_found Computes files some = absurd (false≢true some)
-bad_found Reads files some = absurd (false≢true some)
-bad_found Tells files some = fault_found files some
+bad_found OnlyReadsFiles files some = absurd (false≢true some)
+bad_found AsksRoot files some = fault_found files some
 bad_found Makes files some = fault_found files some
 bad_found Changes files some = fault_found files some
 

@@ -18,12 +18,12 @@ use Rattle.journal_core.specs.Recovery.{EachCrashLeaves, StateDependsOn, intent_
 use Rattle.make_core.specs.make_info.Output.{output_name}
 use Rattle.make_core.specs.package_files.Sources.{AreNamesFor, values_with}
 use Rattle.command_core.specs.declared.values.TheConstants.{FILES}
-use Rattle.make_core.specs.make_index.Files.{AreFiles}
+use Rattle.make_core.specs.make_index.Files.{FindOnlyFiles}
 use Rattle.make_core.specs.make_info.Reads.{Reads}
 use Rattle.outcome.specs.Make.{mkndx, mkpkg}
 use Rattle.outcome.specs.Commands.{IsPossibleOutcomeOf, IsPossibleOutcomeOn, IsOutcomeOf, IsOutcomeOn, reads_in, computing_outcome, effect_outcome, reading_outcome}
 use Rattle.outcome.specs.Given.{Given, IsChosenFor, IsClashBy, IsGiven, IsListingFor, MayBeGiven, MayBeListedFor, MayClash, nothing_given}
-use Rattle.outcome.specs.Effect.{Effect, Computes, Reads as OnlyReading, Tells, Makes, Changes, does_only_read, does_recover, ignores_files, effect_by, effect_of, output, output_by, output_if, reads_only, depends_only_on_arguments}
+use Rattle.outcome.specs.Effect.{Effect, Computes, OnlyReadsFiles, AsksRoot, Makes, Changes, does_only_read, does_recover, ignores_files, effect_by, effect_of, output, output_by, output_if, reads_only, depends_only_on_arguments}
 use Rattle.outcome.specs.Words.{IsPossibleOutcome, IsOutcome}
 use Rattle.outcome.specs.Work.{recovery_fault}
 use Rattle.outcome.specs.Outcome.{Outcome, just_refusal, just_report, outcome_of, report_unless}
@@ -41,7 +41,7 @@ use Rattle.command_core.specs.declared.operands.Operand.{Operand}
 use Rattle.outcome.proofs.Looking.{look_leaves}
 use Rattle.apk_front.specs.Answers.{answer_by}
 use Rattle.apk_front.specs.Effects.{access_of}
-use Rattle.apk_front.specs.Moments.{AnswersOutcome, AreReadDuringRun, AreOldOrLeadToOutcome, CommitsNothing, HasNothingToRecover, ArePathsToWriteFree, IgnoresScratchOf, IsDurableState, IsNotCarriedOut, LeavesDurableState, LeavesDurableOnceAnswered, AreRunPathsFree, AreOutcomePathsFree, LeavesDurable, MakesDurable, NamesAreDurableWithoutIntentExcept, ignored_but}
+use Rattle.apk_front.specs.Moments.{AnswersOutcome, AreReadDuringRun, AreOldOrLeadToOutcome, CommitsNothing, HasNothingToRecover, ArePathsToWriteFree, IgnoresScratchOf, IsDurableState, IsRefusedOrOutOfMemory, LeavesDurableState, LeavesDurableOnceAnswered, AreRunPathsFree, AreOutcomePathsFree, LeavesDurable, MustLast, NamesAreDurableWithoutIntentExcept, ignored_but}
 use Rattle.apk_front.specs.Runs.{IfNothingStaged, IsRun, IsWholeRun, IsWithoutCommit}
 use Rattle.apk_front.specs.Containers.{IsIndexOutcome, IsPackageOutcome}
 use Rattle.apk_front.specs.Verdicts.{IsPrinted, IsShown, Reports, ReportsOne, as_outcome, looked_outcome}
@@ -149,7 +149,7 @@ package_read_one command (Err e) same found = tt
 package_read_one command (Ok verdict) same (names, named, read, reports) =
     (mkpkg read no_names command names, (listed names, read, no_names, given_by_some command read no_names names (makes_package command same) (subst (λ (a : Applet). MayBeListedFor a command names) same named), inl (ap (λ (a : Applet). effect_outcome (effect_of a) a command (listed names) read no_names) same)), reports)
 
-pub index_read_one : (command : CommandLine) (judged : Judged) → Mkndx ≡ command.applet → IfOk judged (λ verdict. (read : Reads) × AreFiles read 0 command.operands × Reports verdict (mkndx read no_names command))
+pub index_read_one : (command : CommandLine) (judged : Judged) → Mkndx ≡ command.applet → IfOk judged (λ verdict. (read : Reads) × FindOnlyFiles read 0 command.operands × Reports verdict (mkndx read no_names command))
     → IfOk judged (ReportsOne (IsPossibleOutcomeOn command))
 index_read_one command (Err e) same found = tt
 index_read_one command (Ok verdict) same (read, files, reports) =
@@ -286,7 +286,7 @@ lasting_shown IsOne effect ignored v now verdict o TreeFailed out err one report
 lasting_shown IsOne effect ignored v now verdict o Memory out err one reports lasts printed = tt
 
 lasting_judged : (IsOne : Outcome → Type 0) (effect : Effect) (ignored : List ℕ → Bool) (v : TreeState) (now : History) (judged : Judged) (answer : Answer) (out err : SinkChange) → IfOk judged (ReportsOne IsOne) → IsShown judged answer out err
-    → ((o : Outcome) → IsOne o → MakesDurable effect ignored v o → OnOk judged (HoldsNow now (EachCrashLeaves ignored o.files))) → LeavesDurableOnceAnswered IsOne effect ignored v now answer
+    → ((o : Outcome) → IsOne o → MustLast effect ignored v o → OnOk judged (HoldsNow now (EachCrashLeaves ignored o.files))) → LeavesDurableOnceAnswered IsOne effect ignored v now answer
 lasting_judged IsOne effect ignored v now (Ok verdict) answer out err (o, one, reports) is_shown settled = lasting_shown IsOne effect ignored v now verdict o answer out err one reports (settled o one) (is_shown o.files)
 lasting_judged IsOne effect ignored v now (Err Disk) answer out err found is_shown settled = subst (LeavesDurableOnceAnswered IsOne effect ignored v now) (sym is_shown.0) tt
 lasting_judged IsOne effect ignored v now (Err NoMemory) answer out err found is_shown settled = subst (LeavesDurableOnceAnswered IsOne effect ignored v now) (sym is_shown.0) tt
@@ -308,14 +308,14 @@ refused_answer (Some x) r same = refl
 abbrev pub RefusesAll : Type 0
 RefusesAll = (words : List (List ℕ)) (files : Files) (o : Outcome) → IsOutcome (command_of words) files o → IsSome o.refusal → o.commits ≡ false
 
-undone_without : RefusesAll → (words : List (List ℕ)) (v : TreeState) (judged : Judged) (answer : Answer) (out err : SinkChange) → IsShown judged answer out err → IfOk judged (ReportsOne (IsOutcome (command_of words) (files_of v))) → IsNotCarriedOut answer → IsWithoutCommit (IsOutcome (command_of words) (files_of v)) judged
+undone_without : RefusesAll → (words : List (List ℕ)) (v : TreeState) (judged : Judged) (answer : Answer) (out err : SinkChange) → IsShown judged answer out err → IfOk judged (ReportsOne (IsOutcome (command_of words) (files_of v))) → IsRefusedOrOutOfMemory answer → IsWithoutCommit (IsOutcome (command_of words) (files_of v)) judged
 undone_without law words v (Ok verdict) Done out err is_shown found undone = absurd undone
 undone_without law words v (Ok verdict) (Refused r) out err is_shown (o, one, reports) undone =
     inr (o, one, law words (files_of v) o one (subst (λ (x : Option Refusal). IsSome x) (ap (λ (x : Outcome). x.refusal) reports) (refused_answer verdict.refusal r (is_shown no_names).same)))
 undone_without law words v (Ok verdict) TreeFailed out err is_shown found undone = absurd undone
 undone_without law words v (Ok verdict) OutFault out err is_shown found undone = absurd undone
 undone_without law words v (Ok verdict) Memory out err is_shown found undone = absurd (is_shown no_names)
-undone_without law words v (Err Disk) answer out err is_shown found undone = absurd (subst IsNotCarriedOut is_shown.0 undone)
+undone_without law words v (Err Disk) answer out err is_shown found undone = absurd (subst IsRefusedOrOutOfMemory is_shown.0 undone)
 undone_without law words v (Err NoMemory) answer out err is_shown found undone = inl refl
 
 without : RefusesAll → (words : List (List ℕ)) (v : TreeState) (judged : Judged) (answer : Answer) (out err : SinkChange) → IsShown judged answer out err → IfOk judged (ReportsOne (IsOutcome (command_of words) (files_of v))) → CommitsNothing (IsOutcome (command_of words) (files_of v)) answer → IsWithoutCommit (IsOutcome (command_of words) (files_of v)) judged
@@ -382,15 +382,15 @@ writes_by_access command applet access same of is = write_is (does_only_read (ef
 -- what does not only read recovers, and does not rest on the words alone
 pub recovers_else : (effect : Effect) → does_only_read effect ≡ false → does_recover effect ≡ true
 recovers_else Computes writes = absurd (cc (writes))
-recovers_else OnlyReading writes = absurd (cc (writes))
-recovers_else Tells writes = refl
+recovers_else OnlyReadsFiles writes = absurd (cc (writes))
+recovers_else AsksRoot writes = refl
 recovers_else Makes writes = refl
 recovers_else Changes writes = refl
 
 pub not_on_words : (effect : Effect) → does_only_read effect ≡ false → IsTrue (ignores_files effect) → ⊥
 not_on_words Computes writes rests = cc (writes)
-not_on_words OnlyReading writes rests = cc (rests)
-not_on_words Tells writes rests = cc (rests)
+not_on_words OnlyReadsFiles writes rests = cc (rests)
+not_on_words AsksRoot writes rests = cc (rests)
 not_on_words Makes writes rests = cc (rests)
 not_on_words Changes writes rests = cc (rests)
 
@@ -445,8 +445,8 @@ reads_nothing other command read files none = refl
 
 nothing_of : (effect : Effect) (applet : Applet) (command : CommandLine) → IsNoneOfThese applet → does_only_read effect ≡ true → (read : Reads) (files : Files) → effect_outcome effect applet command nothing_given read files ≡ just_report files []
 nothing_of Computes applet command none reads read files = computes_nothing applet command files none
-nothing_of OnlyReading applet command none reads read files = reads_nothing applet command read files none
-nothing_of Tells applet command none reads read files = absurd (false≢true reads)
+nothing_of OnlyReadsFiles applet command none reads read files = reads_nothing applet command read files none
+nothing_of AsksRoot applet command none reads read files = absurd (false≢true reads)
 nothing_of Makes applet command none reads read files = absurd (false≢true reads)
 nothing_of Changes applet command none reads read files = absurd (false≢true reads)
 

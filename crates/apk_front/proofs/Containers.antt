@@ -9,12 +9,12 @@ use Rattle.base_core.specs.Files.{Files, no_names}
 use Rattle.base_core.specs.Tree.{TreeState, files_of}
 use Rattle.make_core.specs.make_info.Information.{information}
 use Rattle.make_core.specs.make_index.Index.{made_index}
-use Rattle.make_core.specs.make_index.Kept.{IsMadeBy}
+use Rattle.make_core.specs.make_index.Kept.{AgreesUnlessStopped}
 use Rattle.make_core.specs.make_info.Reads.{Reads}
 use Rattle.make_core.specs.make_package.Answers.{IsMadeBySome, IsMadeIn, OnRefusal}
 use Rattle.make_core.specs.make_package.Making.{made_package}
 use Rattle.make_core.specs.make_info.Output.{output_name}
-use Rattle.make_core.specs.make_index.Files.{AreFiles, reads_of}
+use Rattle.make_core.specs.make_index.Files.{FindOnlyFiles, reads_of}
 use Rattle.make_core.specs.package_files.Sources.{AreNamesFor, values_with}
 use Rattle.make_core.specs.make_info.declared.fault.MakeFault.{MakeFault}
 use Rattle.command_core.specs.declared.values.TheConstants.{FILES}
@@ -85,7 +85,7 @@ pub package_found : (command : CommandLine) (container : Container) → IfOk con
 package_found command container ok err =
     weaker container (IsMadeBySome command) (IsMadeBySome command) (λ made m. m) (means container (IsMadeBySome command) ok err)
 
-made_means : (container : Container) (answer : Result (List ℕ) MakeFault) → IsMadeBy (λ (file : Vec ℕ Global). file.items) container answer → OnMade container (λ made. answer ≡ made)
+made_means : (container : Container) (answer : Result (List ℕ) MakeFault) → AgreesUnlessStopped (λ (file : Vec ℕ Global). file.items) container answer → OnMade container (λ made. answer ≡ made)
 made_means (Ok file) answer h = h
 made_means (Err (Faults.FileMissing place)) answer h = λ cut. h
 made_means (Err (Faults.FileBad place cause)) answer h = λ cut. h
@@ -94,12 +94,12 @@ made_means (Err (Faults.TooLarge bytes values)) answer h = λ cut. h
 made_means (Err Faults.Disk) answer h = λ cut. cc
 made_means (Err Faults.Memory) answer h = λ cut. cc
 
-pub index_made : (command : CommandLine) (container : Container) (old : History) → IfObservable old (λ v. IsMadeBy (λ (file : Vec ℕ Global). file.items) container (made_index command (reads_of v))) → IfObservable old (λ v. OnMade container (IsIndexMade command (files_of v)))
+pub index_made : (command : CommandLine) (container : Container) (old : History) → IfObservable old (λ v. AgreesUnlessStopped (λ (file : Vec ℕ Global). file.items) container (made_index command (reads_of v))) → IfObservable old (λ v. OnMade container (IsIndexMade command (files_of v)))
 index_made command container old h =
-    map_observable old (λ v. IsMadeBy (λ (file : Vec ℕ Global). file.items) container (made_index command (reads_of v))) (λ v. OnMade container (IsIndexMade command (files_of v)))
+    map_observable old (λ v. AgreesUnlessStopped (λ (file : Vec ℕ Global). file.items) container (made_index command (reads_of v))) (λ v. OnMade container (IsIndexMade command (files_of v)))
     (λ v m. made_means container (made_index command (reads_of v)) m) h
 
-pub index_found : (command : CommandLine) (container : Container) → (read : Reads) × AreFiles read 0 command.operands × IsMadeBy (λ (file : Vec ℕ Global). file.items) container (made_index command read) → OnMade container (IsIndexFound command)
+pub index_found : (command : CommandLine) (container : Container) → (read : Reads) × FindOnlyFiles read 0 command.operands × AgreesUnlessStopped (λ (file : Vec ℕ Global). file.items) container (made_index command read) → OnMade container (IsIndexFound command)
 index_found command container (read, files, m) =
     weaker container (λ made. made_index command read ≡ made) (IsIndexFound command) (λ made is. record { read = read; files = files; is = is }) (made_means container (made_index command read) m)
 
@@ -244,7 +244,7 @@ index_outcomes command report is = record {
 
 pub index_read : (command : CommandLine) (report : List ℕ) (container : Container) (judged : Judged) → report ≡ index_line (length command.operands) → OnMade container (IsIndexFound command) → IfOk judged (λ verdict. ended_by_disk_or_memory container ≡ false)
     → IfOk judged (λ verdict. (files : Files) → Reports verdict (make_outcome files (output_name command) report (made_in container)))
-    → IfOk judged (λ verdict. (read : Reads) × AreFiles read 0 command.operands × Reports verdict (mkndx read no_names command))
+    → IfOk judged (λ verdict. (read : Reads) × FindOnlyFiles read 0 command.operands × Reports verdict (mkndx read no_names command))
 index_read command report container (Err e) is found whole reports = tt
 index_read command report container (Ok verdict) is found whole reports =
     let m = meant container (IsIndexFound command) whole found in

@@ -23,10 +23,10 @@ use Rattle.outcome.specs.Words.{IsPossibleOutcome, IsOutcome}
 use Rattle.outcome.specs.Version.{version}
 use Rattle.outcome.specs.Commands.{IsOutcomeOf, IsOutcomeOn, IsOutcomeUnlessBadIntent, effect_outcome, reads_in}
 use Rattle.outcome.specs.Given.{IsChosenFor, IsClashBy, IsGiven, IsListingFor, MayBeGiven, MayBeListedFor, MayClash, nothing_given}
-use Rattle.outcome.specs.Effect.{Effect, Computes, Reads as OnlyReads, Tells, Makes, Changes, does_only_read, does_recover, ignores_files, effect_by, effect_of, output, depends_only_on_arguments}
+use Rattle.outcome.specs.Effect.{Effect, Computes, OnlyReadsFiles, AsksRoot, Makes, Changes, does_only_read, does_recover, ignores_files, effect_by, effect_of, output, depends_only_on_arguments}
 use Rattle.outcome.specs.Work.{recovery_fault, work_files}
 use Rattle.base_core.specs.declared.cause.Cause.{Cause}
-use Rattle.apk_front.specs.Answers.{IsAnswerOf, LeavesFiles, LeavesAnyFiles, HasCauses, IsFaultless, AnswersOutcomeUnlessMemory, IsAnsweredInFull, DidNotFail, FailedAt, answer_by}
+use Rattle.apk_front.specs.Answers.{IsAnswerOf, LeavesFiles, LeavesAnyFiles, HasCauses, IsFaultless, AnswersOutcomeUnlessMemory, IsAnsweredInFull, DidNotFail, FailedWithBytes, answer_by}
 use Rattle.apk_front.specs.Runs.{IsWholeRun}
 use Rattle.apk_front.specs.Verdicts.{as_outcome, IsPrinted, IsShown, Reports, ReportsOne, looked_outcome}
 use Rattle.apk_front.proofs.Printing.{either_failed}
@@ -76,8 +76,8 @@ none_by_some command read files reads = record {
 
 pub words_read : (effect : Effect) → ignores_files effect ≡ true → does_only_read effect ≡ true
 words_read Computes rests = refl
-words_read OnlyReads rests = refl
-words_read Tells rests = cc
+words_read OnlyReadsFiles rests = refl
+words_read AsksRoot rests = cc
 words_read Makes rests = cc
 words_read Changes rests = cc
 
@@ -85,22 +85,22 @@ words_read Changes rests = cc
 
 pub reads_without : (effect : Effect) → does_only_read effect ≡ true → does_recover effect ≡ false
 reads_without Computes reads = refl
-reads_without OnlyReads reads = refl
-reads_without Tells reads = cc
+reads_without OnlyReadsFiles reads = refl
+reads_without AsksRoot reads = cc
 reads_without Makes reads = cc
 reads_without Changes reads = cc
 
 pub fault_without : (effect : Effect) (files : Files) → does_recover effect ≡ false → recovery_fault effect files ≡ None
 fault_without Computes files none = refl
-fault_without OnlyReads files none = refl
-fault_without Tells files none = cc
+fault_without OnlyReadsFiles files none = refl
+fault_without AsksRoot files none = cc
 fault_without Makes files none = cc
 fault_without Changes files none = cc
 
 pub work_without : (effect : Effect) (files : Files) → does_recover effect ≡ false → work_files effect files ≡ files
 work_without Computes files none = refl
-work_without OnlyReads files none = refl
-work_without Tells files none = cc
+work_without OnlyReadsFiles files none = refl
+work_without AsksRoot files none = cc
 work_without Makes files none = cc
 work_without Changes files none = cc
 
@@ -153,10 +153,10 @@ stated_alike a b answer out err refusal report line p = record {
   err_kept = p.err_kept;
 }
 
-which_alike : (a b : Outcome) (out err : SinkChange) → a.out ≡ b.out → a.err ≡ b.err → (FailedAt out a.out × Gets err [] × DidNotFail err) ⊎ (FailedAt err a.err × Gets out a.out × DidNotFail out)
-    → (FailedAt out b.out × Gets err [] × DidNotFail err) ⊎ (FailedAt err b.err × Gets out b.out × DidNotFail out)
-which_alike a b out err report line (inl (failed, gets, kept)) = inl (subst (λ (t : List ℕ). FailedAt out t) report failed, gets, kept)
-which_alike a b out err report line (inr (failed, gets, kept)) = inr (subst (λ (t : List ℕ). FailedAt err t) line failed, subst (λ (t : List ℕ). Gets out t) report gets, kept)
+which_alike : (a b : Outcome) (out err : SinkChange) → a.out ≡ b.out → a.err ≡ b.err → (FailedWithBytes out a.out × Gets err [] × DidNotFail err) ⊎ (FailedWithBytes err a.err × Gets out a.out × DidNotFail out)
+    → (FailedWithBytes out b.out × Gets err [] × DidNotFail err) ⊎ (FailedWithBytes err b.err × Gets out b.out × DidNotFail out)
+which_alike a b out err report line (inl (failed, gets, kept)) = inl (subst (λ (t : List ℕ). FailedWithBytes out t) report failed, gets, kept)
+which_alike a b out err report line (inr (failed, gets, kept)) = inr (subst (λ (t : List ℕ). FailedWithBytes err t) line failed, subst (λ (t : List ℕ). Gets out t) report gets, kept)
 
 printed_alike : (a b : Outcome) (answer : Answer) (out err : SinkChange) → a.refusal ≡ b.refusal → a.out ≡ b.out → a.err ≡ b.err → IsPrinted a answer out err → IsPrinted b answer out err
 printed_alike a b Good out err refusal report line p = stated_alike a b Good out err refusal report line p
@@ -206,7 +206,7 @@ answered words (v ∷ rest) now tree_failed judged answer out err found run disk
 
 -- ---- no count rose
 
-not_failed : (outcome : Outcome) (before after : Counts) (out err : SinkChange) → IsFaultless before after out err → FailedAt out outcome.out ⊎ FailedAt err outcome.err → ⊥
+not_failed : (outcome : Outcome) (before after : Counts) (out err : SinkChange) → IsFaultless before after out err → FailedWithBytes out outcome.out ⊎ FailedWithBytes err outcome.err → ⊥
 not_failed outcome before after out err faultless (inl failed) = faultless.out_sink failed.failed.fault
 not_failed outcome before after out err faultless (inr failed) = faultless.err_sink failed.failed.fault
 
@@ -264,7 +264,7 @@ answered_by_reads words tree_failed judged answer out err found disk is_shown =
 
 -- ---- causes
 
-which_failed : (o : Outcome) (out err : SinkChange) → (FailedAt out o.out × Gets err [] × DidNotFail err) ⊎ (FailedAt err o.err × Gets out o.out × DidNotFail out)
+which_failed : (o : Outcome) (out err : SinkChange) → (FailedWithBytes out o.out × Gets err [] × DidNotFail err) ⊎ (FailedWithBytes err o.err × Gets out o.out × DidNotFail out)
     → (SinkFailed out × DidNotFail err) ⊎ (SinkFailed err × DidNotFail out)
 which_failed o out err (inl (failed, gets, kept)) = inl (failed.failed, kept)
 which_failed o out err (inr (failed, gets, kept)) = inr (failed.failed, kept)

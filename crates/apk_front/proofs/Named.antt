@@ -6,7 +6,7 @@ use Rattle.base_core.specs.Sink.{SinkChange}
 use Rattle.base_core.specs.declared.tree.TreeFault.{TreeFault}
 use Rattle.base_core.specs.declared.tree.TreeFault.TheVariants.{Disk, Memory as NoMemory}
 use Rattle.command_core.specs.Command.{CommandLine}
-use Rattle.words_core.specs.Faults.{IsAfterApplet}
+use Rattle.words_core.specs.Faults.{HasStartIfOutOfMemory}
 use Rattle.words_core.specs.Grammar.{command_of, line_start}
 use Rattle.words_core.specs.declared.read.WordsFault.{WordsFault}
 use Rattle.words_core.specs.declared.read.WordsFault.TheVariants.{Memory as WantsMemory}
@@ -25,8 +25,8 @@ command_named words command h = or_right (is_ok (line_start words)) (is_ok (comm
 start_named : (words : List (List ℕ)) → IsTrue (is_ok (line_start words)) → IsTrue (name_a_command words)
 start_named words found = or_left (is_ok (line_start words)) (is_ok (command_of words)) found
 
-pub memory_named_so : (words : List (List ℕ)) (fault : WordsFault) → fault ≡ WantsMemory → IsAfterApplet fault (line_start words) → IsTrue (name_a_command words)
-memory_named_so words fault is behind = start_named words (subst (λ (f : WordsFault). IsAfterApplet f (line_start words)) is behind)
+pub memory_named_so : (words : List (List ℕ)) (fault : WordsFault) → fault ≡ WantsMemory → HasStartIfOutOfMemory fault (line_start words) → IsTrue (name_a_command words)
+memory_named_so words fault is behind = start_named words (subst (λ (f : WordsFault). HasStartIfOutOfMemory f (line_start words)) is behind)
 
 -- want of memory is answered where the judge found none
 pub memory_named : (judged : Result Verdict TreeFault) (answer : Answer) (out err : SinkChange) (P : Type 0) → IsShown judged answer out err → (IsErrOf judged NoMemory → P) → answer ≡ Memory → P

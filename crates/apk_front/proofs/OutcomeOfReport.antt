@@ -21,7 +21,7 @@ use Rattle.make_core.specs.package_files.Runs.{Explains}
 use Rattle.report_core.specs.declared.refusal.Refusal.{Refusal}
 use Rattle.outcome.proofs.Applets.{report_is, told_commits, told_files}
 use Rattle.outcome.specs.Commands.{IsPossibleOutcomeOn, reads_in}
-use Rattle.outcome.specs.Effect.{Effect, Tells, effect_of, output_if}
+use Rattle.outcome.specs.Effect.{AsksRoot, Effect, effect_of, output_if}
 use Rattle.outcome.specs.Given.{IsChosenFor, IsClashBy, IsGiven, IsListingFor, MayBeGiven, MayBeListedFor, MayClash, nothing_given}
 use Rattle.outcome.specs.Outcome.{Outcome}
 use Rattle.outcome.specs.OutcomeOfReport.{outcome_of_report}
@@ -43,22 +43,22 @@ IsToldBy command old answer = Explains old (λ read. AgreesUnlessDisk (λ done. 
 
 -- ---- nothing is given
 
-tells_listed : (applet : Applet) (command : CommandLine) (files : Files) → effect_of applet ≡ Tells → IsListingFor applet command files []
+tells_listed : (applet : Applet) (command : CommandLine) (files : Files) → effect_of applet ≡ AsksRoot → IsListingFor applet command files []
 tells_listed Mkpkg command files tells = absurd (cc (tells))
 tells_listed other command files tells = refl
 
-are_given : (command : CommandLine) (read : Reads) (files : Files) → effect_of command.applet ≡ Tells → IsGiven command read files nothing_given
+are_given : (command : CommandLine) (read : Reads) (files : Files) → effect_of command.applet ≡ AsksRoot → IsGiven command read files nothing_given
 are_given command read files tells = record {
   names = tells_listed command.applet command files tells;
   chosen = subst (λ (e : Effect). IsChosenFor e command read None) (sym tells) refl;
   clash = subst (λ (e : Effect). IsClashBy e command read files None None) (sym tells) refl;
 }
 
-tells_some : (applet : Applet) (command : CommandLine) → effect_of applet ≡ Tells → MayBeListedFor applet command []
+tells_some : (applet : Applet) (command : CommandLine) → effect_of applet ≡ AsksRoot → MayBeListedFor applet command []
 tells_some Mkpkg command tells = absurd (cc (tells))
 tells_some other command tells = refl
 
-may_be_given : (command : CommandLine) (read : Reads) (files : Files) → effect_of command.applet ≡ Tells → MayBeGiven command read files nothing_given
+may_be_given : (command : CommandLine) (read : Reads) (files : Files) → effect_of command.applet ≡ AsksRoot → MayBeGiven command read files nothing_given
 may_be_given command read files tells = record {
   names = tells_some command.applet command tells;
   chosen = subst (λ (e : Effect). IsChosenFor e command read None) (sym tells) refl;
@@ -78,7 +78,7 @@ reports_wanted (Err Memory) verdict files wanted agrees told = absurd (cc (told)
 same_reads : (v : TreeState) (rest : History) (P : Reads → Type 0) (e : Explains (v ∷ rest) P) → e.read ≡ reads_in (files_of v)
 same_reads v rest P e i n name = e.observed n name i
 
-module _ (command : CommandLine) (tells : effect_of command.applet ≡ Tells) where
+module _ (command : CommandLine) (tells : effect_of command.applet ≡ AsksRoot) where
   pub report_found : (old : History) (answer : Answered) (judged : Judged) → IsVerdictOnReport answer judged → IsToldBy command old answer → IfOk judged (λ verdict. IfNothingStaged old (λ v. ReportsOne (Ones command v) verdict))
   report_found old answer (Err e) told by = tt
   report_found [] answer (Ok verdict) told by = tt
@@ -151,7 +151,7 @@ report_memory answer (Err e) old now a b told tree none =
 
 -- ---- the applets
 
-pub tell_applet : (command : CommandLine) (applet : Applet) → applet ≡ command.applet → (applet ≡ Info) ⊎ ((applet ≡ Audit) ⊎ ((applet ≡ Manifest) ⊎ ((applet ≡ ListApplet) ⊎ ((applet ≡ Search) ⊎ (applet ≡ Policy))))) → effect_of command.applet ≡ Tells
+pub tell_applet : (command : CommandLine) (applet : Applet) → applet ≡ command.applet → (applet ≡ Info) ⊎ ((applet ≡ Audit) ⊎ ((applet ≡ Manifest) ⊎ ((applet ≡ ListApplet) ⊎ ((applet ≡ Search) ⊎ (applet ≡ Policy))))) → effect_of command.applet ≡ AsksRoot
 tell_applet command applet same (inl is) = ap effect_of (sym same ∙ is)
 tell_applet command applet same (inr (inl is)) = ap effect_of (sym same ∙ is)
 tell_applet command applet same (inr (inr (inl is))) = ap effect_of (sym same ∙ is)

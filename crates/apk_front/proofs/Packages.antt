@@ -7,14 +7,14 @@ use Rattle.command_core.specs.Command.{CommandLine}
 use Rattle.command_core.specs.Files.{without_dot}
 use Rattle.command_core.specs.declared.values.OptionValue.{OptionValue}
 use Rattle.command_core.specs.declared.values.TheConstants.{FILES, SCRIPT}
-use Rattle.make_core.specs.make_info.Information.{InfoItem, information}
+use Rattle.make_core.specs.make_info.Information.{FieldWithValue, information}
 use Rattle.make_core.specs.make_info.Reads.{Reads}
 use Rattle.make_core.specs.make_info.declared.fault.MakeFault.{MakeFault}
 use Rattle.make_core.specs.make_package.Answers.{AreBelow, IsMadeIn}
 use Rattle.make_core.specs.make_package.Making.{made_package, or_info_bad, package_of_parts}
 use Rattle.make_core.specs.package_files.Sources.{and_then, folders_below, values_with, scripts_from}
 use Rattle.outcome.specs.Commands.{reads_in}
-use Rattle.outcome.specs.Make.{IsListing, files_below}
+use Rattle.outcome.specs.Make.{AreNamesBelowOption, files_below}
 use Rattle.apk_front.specs.Containers.{IsPackageMade}
 
 -- the names below a folder, as a tree lists them, are those of its files
@@ -36,12 +36,12 @@ package_here law command v made m = by_values (values_with FILES command.values)
     by_values : (values : List OptionValue) → values_with FILES command.values ≡ values → AreBelow values v m.names → IsPackageMade command (files_of v) made
     by_values [] is listed = record {
       names = [];
-      listing = subst (λ (vs : List OptionValue). IsListing vs (files_of v) []) (sym is) refl;
+      listing = subst (λ (vs : List OptionValue). AreNamesBelowOption vs (files_of v) []) (sym is) refl;
       is = no_folder command (reads_in (files_of v)) [] m.names is ∙ m.is;
     }
     by_values (dir ∷ dirs) is listed = record {
       names = m.names;
-      listing = subst (λ (vs : List OptionValue). IsListing vs (files_of v) m.names) (sym is) (law (without_dot dir.text) v m.names listed);
+      listing = subst (λ (vs : List OptionValue). AreNamesBelowOption vs (files_of v) m.names) (sym is) (law (without_dot dir.text) v m.names listed);
       is = m.is;
     }
 
@@ -51,7 +51,7 @@ after_ok : {A B : Type 0} (r : Result A MakeFault) (next : A → Result B MakeFa
 after_ok (Ok x) next y h = (x, refl, h)
 after_ok (Err why) next y h = cc
 
-info_ok : (r : Result (List InfoItem) ℕ) (about : List InfoItem) → or_info_bad r ≡ Ok about → is_ok r ≡ true
+info_ok : (r : Result (List FieldWithValue) ℕ) (about : List FieldWithValue) → or_info_bad r ≡ Ok about → is_ok r ≡ true
 info_ok (Ok info) about h = refl
 info_ok (Err place) about h = cc
 

@@ -8,7 +8,7 @@ use Rattle.command_core.specs.Command.{CommandLine}
 use Rattle.command_core.specs.declared.command.Applet.{Applet}
 use Rattle.command_core.specs.declared.command.Applet.TheVariants.{Demo, Mkndx, Mkpkg}
 use Rattle.journal_core.specs.Staged.{unstaged_files}
-use Rattle.outcome.specs.Effect.{Effect, Changes, Makes, Tells, does_only_read, effect_by, effect_of}
+use Rattle.outcome.specs.Effect.{Effect, Changes, Makes, AsksRoot, does_only_read, effect_by, effect_of}
 use Rattle.engine_core.specs.journal_commit.Asked.{TargetsAreAccepted, HasAcceptedTargets}
 use Rattle.words_core.specs.Grammar.{command_of}
 use Rattle.apk_front.specs.Moments.{TargetsAreAcceptedThroughout}
@@ -53,7 +53,7 @@ changes_not_mkndx applet is changes = let made : effect_of applet ≡ Makes = ap
 pub changes_not_demo : (applet : Applet) → applet ≡ Demo → effect_of applet ≡ Changes → ⊥
 changes_not_demo applet is changes = let by : effect_of Demo ≡ Changes = ap effect_of (sym is) ∙ changes in cc (by)
 
-pub changes_not_told : (effect : Effect) → effect ≡ Tells → effect ≡ Changes → ⊥
+pub changes_not_told : (effect : Effect) → effect ≡ AsksRoot → effect ≡ Changes → ⊥
 changes_not_told effect tells changes = cc (tells, changes)
 
 pub changes_not_read : (effect : Effect) → does_only_read effect ≡ true → effect ≡ Changes → ⊥

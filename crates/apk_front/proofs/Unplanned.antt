@@ -4,7 +4,7 @@ use Rattle.base_core.specs.Calls.{IfObservable}
 use Rattle.base_core.specs.Faults.{Counts, HasCause, Rose}
 use Rattle.base_core.specs.Files.{Files}
 use Rattle.base_core.specs.Tree.{TreeState, files_of}
-use Rattle.apk_front.specs.Answers.{FailedAt, IsAnswerOf, IsOutcomeUnlessMemory, HasNoPlannedFailure, LeavesFiles}
+use Rattle.apk_front.specs.Answers.{FailedWithBytes, IsAnswerOf, IsOutcomeUnlessMemory, HasNoPlannedFailure, LeavesFiles}
 use Rattle.outcome.specs.Outcome.{Outcome}
 use Rattle.base_core.specs.Sink.{SinkChange, IsProperUse}
 use Rattle.apk_front.proofs.Printing.{either_failed}
@@ -23,7 +23,7 @@ wanted before after unplanned same cause = elim cause.reason [
   | inr (inr want) ↦ want
 ]
 
-sink_wanted : (o : Outcome) (out err : SinkChange) → HasNoPlannedFailure out.before → HasNoPlannedFailure err.before → IsProperUse out → IsProperUse err → FailedAt out o.out ⊎ FailedAt err o.err
+sink_wanted : (o : Outcome) (out err : SinkChange) → HasNoPlannedFailure out.before → HasNoPlannedFailure err.before → IsProperUse out → IsProperUse err → FailedWithBytes out o.out ⊎ FailedWithBytes err o.err
     → Rose out.before.memory_faults out.after.memory_faults ⊎ Rose err.before.memory_faults err.after.memory_faults
 sink_wanted o out err calm_out calm_err does_exclude keeps_err (inl failed) = inl (wanted out.before out.after calm_out does_exclude.proper failed.failed)
 sink_wanted o out err calm_out calm_err does_exclude keeps_err (inr failed) = inr (wanted err.before err.after calm_err keeps_err.proper failed.failed)

@@ -7,7 +7,7 @@ use Rattle.base_core.specs.Tree.{TreeState, bytes_at, files_of}
 use Rattle.journal_core.specs.Kept.{IsJournalName}
 use Rattle.journal_core.specs.Recovery.{intent_at, intent_name, is_staged, recovered_files, recovered_files_by}
 use Rattle.journal_core.specs.Staged.{unstaged_files}
-use Rattle.outcome.specs.Effect.{Effect, Computes, Reads, Tells, Makes, Changes, does_recover}
+use Rattle.outcome.specs.Effect.{Effect, Computes, OnlyReadsFiles, AsksRoot, Makes, Changes, does_recover}
 use Rattle.outcome.specs.Work.{work_files}
 use Rattle.apk_front.specs.Moments.{HasNothingToRecover, IsRecovering}
 
@@ -37,7 +37,7 @@ same_files effect v w nothing (recovers, moment) =
 
 pub same_work : (effect : Effect) (v : TreeState) → HasNothingToRecover effect v → work_files effect (files_of v) ≡ files_of v
 same_work Computes v nothing = refl
-same_work Reads v nothing = refl
-same_work Tells v nothing = stays (files_of v) (no_staged_intent Tells v refl nothing)
+same_work OnlyReadsFiles v nothing = refl
+same_work AsksRoot v nothing = stays (files_of v) (no_staged_intent AsksRoot v refl nothing)
 same_work Makes v nothing = stays (files_of v) (no_staged_intent Makes v refl nothing)
 same_work Changes v nothing = stays (files_of v) (no_staged_intent Changes v refl nothing)

@@ -37,7 +37,7 @@ abbrev pub GetsLine : SinkChange → List ℕ → Type 0
 GetsLine sink line = (Gets sink line × DidNotFail sink) ⊎ (GetsSome sink line × SinkFailed sink)
 
 -- a sink failed that had at least one byte to get
-pub record FailedAt (sink : SinkChange) (bytes : List ℕ) : Type 0 where
+pub record FailedWithBytes (sink : SinkChange) (bytes : List ℕ) : Type 0 where
   pub some : bytes ≢ []
   pub failed : SinkFailed sink
 
@@ -53,8 +53,8 @@ pub record IsAnsweredInFull (outcome : Outcome) (answer : Answer) (out err : Sin
 pub record IsOutFault (outcome : Outcome) (out err : SinkChange) : Type 0 where
   -- out failed, and then nothing is printed on err; or err failed, after the whole report on out
   pub which :
-      (FailedAt out outcome.out × Gets err [] × DidNotFail err)
-      ⊎ (FailedAt err outcome.err × Gets out outcome.out × DidNotFail out)
+      (FailedWithBytes out outcome.out × Gets err [] × DidNotFail err)
+      ⊎ (FailedWithBytes err outcome.err × Gets out outcome.out × DidNotFail out)
   pub out_gets : GetsSome out outcome.out
   pub err_gets : GetsSome err outcome.err
 

@@ -11,7 +11,7 @@ use Rattle.base_core.specs.Files.{Files}
 use Rattle.base_core.specs.declared.cause.Cause.{Cause}
 use Rattle.command_core.specs.Command.{CommandLine}
 use Rattle.command_core.specs.declared.values.TheConstants.{FILES}
-use Rattle.make_core.specs.make_index.Files.{AreFiles}
+use Rattle.make_core.specs.make_index.Files.{FindOnlyFiles}
 use Rattle.make_core.specs.make_index.Index.{made_index}
 use Rattle.make_core.specs.make_info.Reads.{Reads}
 use Rattle.make_core.specs.make_info.declared.fault.MakeFault.{MakeFault}
@@ -20,7 +20,7 @@ use Rattle.make_core.specs.make_package.Making.{made_package}
 use Rattle.make_core.specs.package_files.Sources.{values_with}
 use Rattle.outcome.specs.Commands.{reads_in}
 use Rattle.outcome.specs.Dump.{form_fault}
-use Rattle.outcome.specs.Make.{IsListing, mkndx, mkpkg}
+use Rattle.outcome.specs.Make.{AreNamesBelowOption, mkndx, mkpkg}
 use Rattle.outcome.specs.Outcome.{Outcome}
 
 -- ---- the text of a container
@@ -76,7 +76,7 @@ OnMade (Err why) Means = is_disk_or_memory why ≡ false → Means (Err why)
 pub record IsPackageMade (command : CommandLine) (files : Files)
     (made : Result (List ℕ) MakeFault) : Type 0 where
   pub names : List (List ℕ)
-  pub listing : IsListing (values_with FILES command.values) files names
+  pub listing : AreNamesBelowOption (values_with FILES command.values) files names
   pub is : made_package command names (reads_in files) ≡ made
 
 -- what `mkndx` makes of a command and these files, or why it makes none
@@ -87,7 +87,7 @@ IsIndexMade command files made = made_index command (reads_in files) ≡ made
 abbrev pub IsPackageOutcome : CommandLine → Files → Outcome → Type 0
 IsPackageOutcome command files outcome =
     (names : List (List ℕ))
-    × IsListing (values_with FILES command.values) files names
+    × AreNamesBelowOption (values_with FILES command.values) files names
     × (outcome ≡ mkpkg (reads_in files) files command names)
 
 -- the outcome of `mkndx` over these files
@@ -99,5 +99,5 @@ IsIndexOutcome command files outcome = outcome ≡ mkndx (reads_in files) files 
 -- the index that is made of a command by some reads, as on a tree that is not observable
 pub record IsIndexFound (command : CommandLine) (made : Result (List ℕ) MakeFault) : Type 0 where
   pub read : Reads
-  pub files : AreFiles read 0 command.operands
+  pub files : FindOnlyFiles read 0 command.operands
   pub is : made_index command read ≡ made

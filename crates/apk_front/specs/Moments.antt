@@ -14,7 +14,7 @@ use Rattle.journal_core.specs.Quiet.{StateIsUnchanged}
 use Rattle.journal_core.specs.Recovery.{EachCrashLeaves, StateDependsOn, intent_name, intent_of, is_staged}
 use Rattle.journal_core.specs.Replacing.{CanAddOutputNames, IgnoresScratch, IsMomentOfReplacing, scratch_of}
 use Rattle.journal_core.specs.Staged.{AreReplayPathsFree, AreStagingPathsFree, IsEmptyStage, IsOldUntilCommit, unstaged_files}
-use Rattle.outcome.specs.Effect.{Effect, Computes, Reads, Tells, Makes, Changes, does_recover, effect_by, output}
+use Rattle.outcome.specs.Effect.{Effect, Computes, OnlyReadsFiles, AsksRoot, Makes, Changes, does_recover, effect_by, output}
 use Rattle.outcome.specs.Outcome.{Outcome}
 use Rattle.outcome.specs.Words.{IsOutcome}
 use Rattle.outcome.specs.Work.{work_files}
@@ -51,8 +51,8 @@ CanAddOutputNamesIfAny (Some name) files = CanAddOutputNames name files
 -- the paths that a command writes are free in the files
 abbrev pub ArePathsToWriteFree : Effect → Option (List ℕ) → Files → Type 0
 ArePathsToWriteFree Computes output files = Unit {0}
-ArePathsToWriteFree Reads output files = Unit {0}
-ArePathsToWriteFree Tells output files = Unit {0}
+ArePathsToWriteFree OnlyReadsFiles output files = Unit {0}
+ArePathsToWriteFree AsksRoot output files = Unit {0}
 ArePathsToWriteFree Makes output files = CanAddOutputNamesIfAny output files
 ArePathsToWriteFree Changes output files = AreStagingPathsFree files
 
@@ -80,8 +80,8 @@ is_draft_name Makes (Some name) q = bytes_eq q (scratch_of name)
 is_draft_name Makes None q = false
 is_draft_name Changes output q = is_staged q
 is_draft_name Computes output q = false
-is_draft_name Reads output q = false
-is_draft_name Tells output q = false
+is_draft_name OnlyReadsFiles output q = false
+is_draft_name AsksRoot output q = false
 
 -- the files as read are these, apart from the draft names
 abbrev pub IsReadExceptDrafts : Effect → Option (List ℕ) → Files → TreeState → Type 0
@@ -168,13 +168,13 @@ AreOldOrLeadToOutcome IsOne makes ignored v old now =
     × MomentsLeadTo makes ignored outcome.files v old now)
 
 -- an outcome's files are durable if it commits, or if each crash left the old ones before
-abbrev pub MakesDurableWithoutRecovery : (List ℕ → Bool) → TreeState → Outcome → Type 0
-MakesDurableWithoutRecovery ignored v outcome =
+abbrev pub MustLastWithoutRecovery : (List ℕ → Bool) → TreeState → Outcome → Type 0
+MustLastWithoutRecovery ignored v outcome =
     (outcome.commits ≡ true) ⊎ EachCrashLeaves ignored (files_of v) v
 
--- an outcome's files last, by *MakesDurableWithoutRecovery* or since an intent was found and done
-abbrev pub MakesDurable : Effect → (List ℕ → Bool) → TreeState → Outcome → Type 0
-MakesDurable effect ignored v outcome = MakesDurableWithoutRecovery ignored v outcome
+-- an outcome's files last, by *MustLastWithoutRecovery* or since an intent was found and done
+abbrev pub MustLast : Effect → (List ℕ → Bool) → TreeState → Outcome → Type 0
+MustLast effect ignored v outcome = MustLastWithoutRecovery ignored v outcome
     ⊎ CanRecover effect v
 
 -- the tree is durable, and each crash leaves these files
@@ -191,10 +191,10 @@ IsCarriedOut OutFault = Unit {0}
 IsCarriedOut other = ⊥
 
 -- the command was not carried out, and the tree did not fail
-abbrev pub IsNotCarriedOut : Answer → Type 0
-IsNotCarriedOut (Refused refusal) = Unit {0}
-IsNotCarriedOut Memory = Unit {0}
-IsNotCarriedOut other = ⊥
+abbrev pub IsRefusedOrOutOfMemory : Answer → Type 0
+IsRefusedOrOutOfMemory (Refused refusal) = Unit {0}
+IsRefusedOrOutOfMemory Memory = Unit {0}
+IsRefusedOrOutOfMemory other = ⊥
 
 -- the outcome was answered, or a sink's fault in its place
 abbrev pub AnswersOutcome : Answer → Type 0
@@ -209,13 +209,13 @@ HasOutcomeWithoutCommit IsOne = (outcome : Outcome) × IsOne outcome × (outcome
 
 -- a run was not carried out, or its outcome commits nothing, whatever was answered instead
 abbrev pub CommitsNothing : (Outcome → Type 0) → Answer → Type 0
-CommitsNothing IsOne answer = IsNotCarriedOut answer ⊎ HasOutcomeWithoutCommit IsOne
+CommitsNothing IsOne answer = IsRefusedOrOutOfMemory answer ⊎ HasOutcomeWithoutCommit IsOne
 
 -- each crash after a run leaves the outcome's files, if something makes them durable
 abbrev pub LeavesDurable :
     Effect → (List ℕ → Bool) → TreeState → List TreeState → Outcome → Type 0
 LeavesDurable effect ignored v now outcome =
-    MakesDurable effect ignored v outcome → HoldsNow now (EachCrashLeaves ignored outcome.files)
+    MustLast effect ignored v outcome → HoldsNow now (EachCrashLeaves ignored outcome.files)
 
 -- Once the outcome is answered, even a refusal, or a sink's fault instead, its files are durable, if
 -- something makes them so.

@@ -15,7 +15,7 @@ use Rattle.journal_core.specs.Staged.{IsEmptyStage}
 use Rattle.outcome.specs.Effect.{Effect}
 use Rattle.outcome.specs.Outcome.{Outcome}
 use Rattle.outcome.specs.Work.{recovery_fault}
-use Rattle.apk_front.specs.Moments.{AreReadDuringRun, AreOldOrLeadToOutcome, HasOutcomeWithoutCommit, HasNothingToRecover, IgnoresScratchOf, IsDurableState, IsReadDuringWork, MakesDurable, MakesDurableWithoutRecovery, NamesAreDurableWithoutIntentExcept, ignored_but}
+use Rattle.apk_front.specs.Moments.{AreReadDuringRun, AreOldOrLeadToOutcome, HasOutcomeWithoutCommit, HasNothingToRecover, IgnoresScratchOf, IsDurableState, IsReadDuringWork, MustLast, MustLastWithoutRecovery, NamesAreDurableWithoutIntentExcept, ignored_but}
 use Rattle.apk_front.specs.declared.answer.Verdict.{Verdict}
 
 -- ---- after recovery
@@ -58,7 +58,7 @@ pub record IsRun (IsOne : Outcome → Type 0) (effect : Effect) (output : Option
   -- if an outcome was judged, and something makes its files durable, each crash leaves their state
   pub settled : (ignored : List ℕ → Bool) (outcome : Outcome)
       → IsDurable (StateDependsOn ignored) v → IgnoresScratchOf output ignored
-      → IsOne outcome → MakesDurableWithoutRecovery ignored v outcome
+      → IsOne outcome → MustLastWithoutRecovery ignored v outcome
       → OnOk judged (HoldsNow now (EachCrashLeaves ignored outcome.files))
   -- if an outcome that commits was judged, its output and the scratch name are no longer ignored
   pub durable_state : (ignored : List ℕ → Bool) (outcome : Outcome)
@@ -92,7 +92,7 @@ pub record IsWholeRun (IsOne : Outcome → Type 0) (effect : Effect) (output : O
       → HoldsNow now (IsDurable (StateDependsOn ignored))
   pub settled : (ignored : List ℕ → Bool) (outcome : Outcome)
       → IsDurable (StateDependsOn ignored) v → IgnoresScratchOf output ignored
-      → IsOne outcome → MakesDurable effect ignored v outcome
+      → IsOne outcome → MustLast effect ignored v outcome
       → OnOk judged (HoldsNow now (EachCrashLeaves ignored outcome.files))
   pub durable_state : (ignored : List ℕ → Bool) (outcome : Outcome)
       → IsDurable (StateDependsOn ignored) v → IgnoresScratchOf output ignored

@@ -1,7 +1,7 @@
 //! Laws: the clauses of `apk` hold of each outcome that a command line has, and not only of the one
 //! that they name. They serve `run_lists`; the rules are in `docs/crash-safety.md`, "Recovery".
 ghost use Rattle.std.specs.Prelude.{◌≡◌, ℕ, Bool, true, List, None, is_some};
-ghost use Rattle.apk_front.specs.Moments.{AreOldOrLeadToOutcome, HasNothingToRecover, IsCarriedOut, IsRecovering, LeavesDurableOnceAnswered, MakesDurable};
+ghost use Rattle.apk_front.specs.Moments.{AreOldOrLeadToOutcome, HasNothingToRecover, IsCarriedOut, IsRecovering, LeavesDurableOnceAnswered, MustLast};
 ghost use Rattle.apk_front.specs.declared.answer.Answer.{Answer};
 ghost use Rattle.base_core.specs.Calls.{HoldsNow};
 ghost use Rattle.base_core.specs.Crash.{Since};
@@ -42,7 +42,7 @@ pub fn what_is_carried_out_is_durable()
         (command_of words))
         ignored v now answer → IsCarriedOut answer
         → IsOutcome (command_of words) (files_of v) outcome → outcome.refusal ≡ None
-        → MakesDurable (effect_by (command_of words)) ignored v outcome
+        → MustLast (effect_by (command_of words)) ignored v outcome
         → HoldsNow now (EachCrashLeaves ignored outcome.files) }
 {
     an_outcome_is_unique();

@@ -15,7 +15,7 @@ ghost use Rattle.base_core.specs.Tree.{files_of};
 ghost use Rattle.command_core.specs.Sound.{IsCommand};
 ghost use Rattle.command_core.specs.declared.command.Applet.TheVariants.{Mkndx, Mkpkg};
 ghost use Rattle.command_core.specs.declared.values.TheConstants.{FILES};
-ghost use Rattle.make_core.specs.make_index.Files.{AreFiles};
+ghost use Rattle.make_core.specs.make_index.Files.{FindOnlyFiles};
 ghost use Rattle.make_core.specs.make_info.Output.{output_name};
 ghost use Rattle.make_core.specs.make_info.Reads.{Reads};
 ghost use Rattle.make_core.specs.package_files.Sources.{AreNamesFor, values_with};
@@ -93,7 +93,7 @@ pub(crate) fn mkndx<T: Tree>(
         ReportsOne (IsIndexOutcome command.now (files_of v)) verdict)) }
     // On every tree, for some contents at each read; the files are not used, so none are given.
     ensures by_reads { IfOk result (λ verdict. (read : Reads)
-        × AreFiles read 0 command.now.operands
+        × FindOnlyFiles read 0 command.now.operands
         × Reports verdict (mkndx read no_names command.now)) }
     ensures run { IfObservable (T.history tree.old) (λ v. IsRun
         (IsIndexOutcome command.now (files_of v)) Makes (output_name command.now)

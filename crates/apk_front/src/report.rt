@@ -9,7 +9,7 @@ ghost use Rattle.base_core.specs.Calls.{IfObservable};
 ghost use Rattle.base_core.specs.Faults.{CountsOnlyRise, HasCause, IsNoFault};
 ghost use Rattle.base_core.specs.Tree.{files_of};
 ghost use Rattle.outcome.specs.Commands.{IsPossibleOutcomeOn, IsOutcomeOn};
-ghost use Rattle.outcome.specs.Effect.{Tells, effect_of, output_if};
+ghost use Rattle.outcome.specs.Effect.{AsksRoot, effect_of, output_if};
 ghost use Rattle.outcome.specs.Outcome.{Outcome};
 
 use crate::answer::Verdict;
@@ -25,7 +25,7 @@ pub(crate) fn report<T: Tree>(
     command: &Command,
     tree: &mut T,
 ) -> Result<Verdict, TreeFault>
-    requires { effect_of command.now.applet ≡ Tells }
+    requires { effect_of command.now.applet ≡ AsksRoot }
     ensures found { IfOk result (λ verdict. IfNothingStaged (T.history tree.old) (λ v.
         ReportsOne (IsOutcomeOn command.now (files_of v)) verdict)) }
     ensures by_reads { IfOk result (λ verdict. ReportsOne (IsPossibleOutcomeOn command.now)

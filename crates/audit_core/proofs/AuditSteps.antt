@@ -14,16 +14,16 @@ use Rattle.package_files.specs.Runs.{Explains}
 use Rattle.package_files.proofs.ReadLemmas.{as_told_of, explained, joined, joined_below, joined_from, joined_told, reads_or}
 use Rattle.adb_view.specs.Plain.{Plain}
 use Rattle.audit_core.specs.Audit.{FileDifference, audit_report, difference_at, difference_from, difference_line, differences_from}
-use Rattle.audit_core.specs.Records.{FileRecord, records_by_path}
+use Rattle.audit_core.specs.Records.{PathAndEntry, records_by_path}
 use Rattle.audit_core.specs.Seen.{record_seen}
 use Rattle.audit_core.specs.StoredRecords.{StoredRecord}
 
 -- what a file is found to be: it differs from its record, or not
-abbrev pub difference_found : FileRecord → Option (List ℕ) → List FileDifference
+abbrev pub difference_found : PathAndEntry → Option (List ℕ) → List FileDifference
 difference_found r found = difference_at r.path (difference_from r.entry found)
 
 -- one record more, and one read more
-pub differences_more : (read : Reads) (n : ℕ) (rs : List FileRecord) (r : FileRecord)
+pub differences_more : (read : Reads) (n : ℕ) (rs : List PathAndEntry) (r : PathAndEntry)
     → differences_from read n (rs ++ r ∷ []) ≡ differences_from read n rs ++ difference_found r (read (n + length rs) r.path)
 differences_more read n [] r =
     let at : n ≡ n + 0 = omega arith in
@@ -34,7 +34,7 @@ differences_more read n (q ∷ rs) r =
     ∙ sym (append_assoc (difference_found q (read n q.path)) (differences_from read (suc n) rs) (difference_found r (read (n + suc (length rs)) r.path)))
 
 -- the differences rest on their own reads
-pub differences_same : (read other : Reads) (n : ℕ) (rs : List FileRecord)
+pub differences_same : (read other : Reads) (n : ℕ) (rs : List PathAndEntry)
     → ((k : ℕ) (name : List ℕ) → n ≤ k → k < n + length rs → read k name ≡ other k name)
     → differences_from read n rs ≡ differences_from other n rs
 differences_same read other n [] same = refl
@@ -49,7 +49,7 @@ found_next [] path found n located = refl
 found_next (v ∷ earlier) path found n located = sym located
 
 -- the report of the records so far, and the line of one more, if it differs
-pub one_more : (history : List TreeState) (first : ℕ) (rs : List FileRecord) (r : FileRecord) (found : Option (List ℕ)) (before after : List ℕ)
+pub one_more : (history : List TreeState) (first : ℕ) (rs : List PathAndEntry) (r : PathAndEntry) (found : Option (List ℕ)) (before after : List ℕ)
     → IfObservable history (λ v. found ≡ files_of v r.path)
     → after ≡ before ++ flat_map difference_line (difference_found r found)
     → Explains history (λ read. before ≡ flat_map difference_line (differences_from read first rs))
@@ -75,11 +75,11 @@ one_more history first rs r found before after located is so_far =
 -- ---- the records so far, as they are in the program
 
 -- the report of some records, from any number of reads on
-abbrev pub IsReport : List TreeState → List FileRecord → List ℕ → Type 0
+abbrev pub IsReport : List TreeState → List PathAndEntry → List ℕ → Type 0
 IsReport history rs report = (first : ℕ) → Explains history (λ read. report ≡ flat_map difference_line (differences_from read first rs))
 
 -- a report that is made longer by the line of a record, if its file differs
-abbrev pub IsLonger : List TreeState → FileRecord → List ℕ → List ℕ → Type 0
+abbrev pub IsLonger : List TreeState → PathAndEntry → List ℕ → List ℕ → Type 0
 IsLonger history r before after =
     (found : Option (List ℕ)) × IfObservable history (λ v. found ≡ files_of v r.path)
     × (after ≡ before ++ flat_map difference_line (difference_found r found))
@@ -93,14 +93,14 @@ reported_more history now xs i x before after same l is so_far longer first =
     let here : IsLonger history (record_seen x) before after = subst (λ (h : List TreeState). IsLonger h (record_seen x) before after) same longer in
     let more : map record_seen (take (i + 1) xs) ≡ map record_seen (take i xs) ++ record_seen x ∷ [] =
     ap (map record_seen) (take_more xs i x l ∙ ap (λ y. take i xs ++ y ∷ []) (sym is)) ∙ map-append record_seen (take i xs) (x ∷ []) in
-    subst (λ (rs : List FileRecord). Explains history (λ read. after ≡ flat_map difference_line (differences_from read first rs))) (sym more)
+    subst (λ (rs : List PathAndEntry). Explains history (λ read. after ≡ flat_map difference_line (differences_from read first rs))) (sym more)
     (one_more history first (map record_seen (take i xs)) (record_seen x) here.0 before after here.1 here.2 (so_far first))
 
 pub reported_all : (history : List TreeState) (xs : List StoredRecord) (i : ℕ) (report : List ℕ) → length xs ≤ i → IsReport history (map record_seen (take i xs)) report → IsReport history (map record_seen xs) report
 reported_all history xs i report l so_far = subst (λ (ys : List StoredRecord). IsReport history (map record_seen ys) report) (take_all i xs l) so_far
 
 -- the records are those of some packages
-pub report_of_packages : (history : List TreeState) (first : ℕ) (packages : List Plain) (rs : List FileRecord) (report text : List ℕ) → rs ≡ records_by_path packages → text ≡ report
+pub report_of_packages : (history : List TreeState) (first : ℕ) (packages : List Plain) (rs : List PathAndEntry) (report text : List ℕ) → rs ≡ records_by_path packages → text ≡ report
     → Explains history (λ read. report ≡ flat_map difference_line (differences_from read first rs)) → Explains history (λ read. text ≡ audit_report read first packages)
 unfolding audit_report
 report_of_packages history first packages rs report text are is so =
@@ -112,7 +112,7 @@ nothing_said history (Ok x) P fault is = absurd is
 nothing_said history (Err e) P fault is = explained history (λ read. Unit {0}) (λ read. tt)
 
 -- nor of a line that was not added
-pub not_longer : {A E : Type 0} (history : List TreeState) (r : FileRecord) (before after : List ℕ) (result : Result A E) (fault : E) → IsErrAnd result (λ e. e ≡ fault)
+pub not_longer : {A E : Type 0} (history : List TreeState) (r : PathAndEntry) (before after : List ℕ) (result : Result A E) (fault : E) → IsErrAnd result (λ e. e ≡ fault)
     → (found : Option (List ℕ)) × IfObservable history (λ v. found ≡ files_of v r.path) × OnOk result (after ≡ before ++ flat_map difference_line (difference_found r found))
 not_longer history r before after (Ok x) fault is = absurd is
 not_longer history r before after (Err e) fault is = (reads_or history (λ n name. None) 0 r.path, there history, tt)
@@ -124,5 +124,5 @@ not_longer history r before after (Err e) fault is = (reads_or history (λ n nam
 -- the path of a record is a name, where those of all are
 pub named_at : (xs : List StoredRecord) (i : ℕ) (x : StoredRecord) → i < length xs → x ≡ get_or xs i x → All (λ r. IsName r.path) (map record_seen xs) → IsName (record_seen x).path
 named_at xs i x l is named =
-    subst (λ (r : FileRecord). IsName r.path) (get_or-map record_seen xs i x ∙ ap record_seen (sym is))
+    subst (λ (r : PathAndEntry). IsName r.path) (get_or-map record_seen xs i x ∙ ap record_seen (sym is))
     (named i (record_seen x) (omega (arith, l, length-map xs record_seen)))

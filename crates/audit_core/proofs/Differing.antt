@@ -10,14 +10,14 @@ use Rattle.file_guard.specs.AsListed.{is_as_listed}
 use Rattle.package_files.specs.make_info.Reads.{Reads}
 use Rattle.audit_core.specs.Audit.{FileDifference, audit_report, difference_at, difference_from, difference_line, differences_from}
 use Rattle.audit_core.specs.Differences.{AreAsRecorded, IsDifferenceIn, IsDifferent, IsInstalledRecord, file_differences}
-use Rattle.audit_core.specs.Records.{FileRecord, database_records, package_records, record_cmp, records_by_path}
+use Rattle.audit_core.specs.Records.{PathAndEntry, database_records, package_records, record_cmp, records_by_path}
 use Rattle.audit_core.specs.declared.comparing.Difference.{Difference}
 use Rattle.audit_core.specs.declared.comparing.Difference.TheVariants.{Changed, Missing}
 use Rattle.audit_core.proofs.SortedRecords.{from_sorted, in_sorted}
 
 -- ---- over files, whatever the numbers of the reads
 
-over_files : (files : Files) (read : Reads) (n : ℕ) (rs : List FileRecord) → ((k : ℕ) (name : List ℕ) → read k name ≡ files name)
+over_files : (files : Files) (read : Reads) (n : ℕ) (rs : List PathAndEntry) → ((k : ℕ) (name : List ℕ) → read k name ≡ files name)
     → differences_from read n rs ≡ flat_map (λ r. difference_at r.path (difference_from r.entry (files r.path))) rs
 over_files files read n [] same = refl
 over_files files read n (r ∷ rs) same =
@@ -31,13 +31,13 @@ report_over files read first packages same = ap (flat_map difference_line) (over
 
 -- ---- records
 
-pub from_records : (packages : List Plain) (r : FileRecord) → IsIn r (records_by_path packages) → IsInstalledRecord packages r
+pub from_records : (packages : List Plain) (r : PathAndEntry) → IsIn r (records_by_path packages) → IsInstalledRecord packages r
 unfolding records_by_path
 from_records packages r here =
     let found = from-flat_map package_records r packages (from_sorted record_cmp r (database_records packages) here) in
     record { pkg = found.0; installed = found.1; listed = found.2 }
 
-pub in_records : (packages : List Plain) (r : FileRecord) → IsInstalledRecord packages r → IsIn r (records_by_path packages)
+pub in_records : (packages : List Plain) (r : PathAndEntry) → IsInstalledRecord packages r → IsIn r (records_by_path packages)
 unfolding records_by_path
 in_records packages r is = in_sorted record_cmp r (database_records packages) (in-flat_map package_records r is.pkg packages is.installed is.listed)
 
@@ -72,8 +72,8 @@ at_path path (Some difference) d (inr more) = absurd more
 pub difference_is : (files : Files) (packages : List Plain) (d : FileDifference) → IsIn d (file_differences files packages) → IsDifferenceIn packages files d
 unfolding file_differences
 difference_is files packages d here =
-    let found = from-flat_map (λ (r : FileRecord). difference_at r.path (difference_from r.entry (files r.path))) d (records_by_path packages) here in
-    let r : FileRecord = found.0 in
+    let found = from-flat_map (λ (r : PathAndEntry). difference_at r.path (difference_from r.entry (files r.path))) d (records_by_path packages) here in
+    let r : PathAndEntry = found.0 in
     let at = at_path r.path (difference_from r.entry (files r.path)) d found.2 in
     record {
       entry = r.entry;
@@ -84,8 +84,8 @@ difference_is files packages d here =
 pub is_difference : (files : Files) (packages : List Plain) (d : FileDifference) → IsDifferenceIn packages files d → IsIn d (file_differences files packages)
 unfolding file_differences
 is_difference files packages d is =
-    let r : FileRecord = record { path = d.path; entry = is.entry } in
-    in-flat_map (λ (r : FileRecord). difference_at r.path (difference_from r.entry (files r.path))) d r (records_by_path packages) (in_records packages r is.recorded)
+    let r : PathAndEntry = record { path = d.path; entry = is.entry } in
+    in-flat_map (λ (r : PathAndEntry). difference_at r.path (difference_from r.entry (files r.path))) d r (records_by_path packages) (in_records packages r is.recorded)
     (subst (λ (o : Option Difference). IsIn d (difference_at d.path o)) (sym (makes_difference is.entry (files d.path) d.difference is.differs)) (inl refl))
 
 -- ---- nothing is reported

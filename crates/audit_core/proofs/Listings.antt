@@ -10,10 +10,10 @@ use Rattle.base_core.specs.Name.{IsName}
 use Rattle.db_core.specs.Members.{Listing, Member, listings_by, listings_from, listings_in_folder, listings_in_folders, member_listings, member_of_kept, members_of_kept}
 use Rattle.base_core.specs.Sorted.{sorted_by}
 use Rattle.base_core.proofs.Sorting.{sorted_same}
-use Rattle.audit_core.specs.Records.{FileRecord, database_records, file_record, folder_records, package_records, record_cmp, records_by_path}
+use Rattle.audit_core.specs.Records.{PathAndEntry, database_records, file_record, folder_records, package_records, record_cmp, records_by_path}
 
 -- the record of a listing
-abbrev pub listing_record : Listing → FileRecord
+abbrev pub listing_record : Listing → PathAndEntry
 listing_record l = record { path = l.path; entry = l.entry }
 
 in_folder : (m : Member) (place folder i : ℕ) (above : List ℕ) (entries : List Plain) → map listing_record (listings_in_folder m place folder i above entries) ≡ map (file_record above) entries
@@ -39,7 +39,7 @@ unfolding member_listings
 records_are_listings packages = of_packages 0 packages
 
 -- the paths of the records are names, where those of the listings are
-pub records_have_names : (packages : List Plain) (rs : List FileRecord) → rs ≡ records_by_path packages → All (λ l. IsName l.path) (member_listings (members_of_kept packages)) → All (λ r. IsName r.path) rs
+pub records_have_names : (packages : List Plain) (rs : List PathAndEntry) → rs ≡ records_by_path packages → All (λ l. IsName l.path) (member_listings (members_of_kept packages)) → All (λ r. IsName r.path) rs
 unfolding records_by_path
 records_have_names packages rs are named =
     subst (All (λ r. IsName r.path)) (sym are)

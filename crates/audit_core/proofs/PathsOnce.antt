@@ -20,7 +20,7 @@ use Rattle.adb_view.specs.Plain.{Plain, Plains, more, none}
 use Rattle.adb_view.specs.Shaped.{Each}
 use Rattle.adb_view.specs.Values.{entries_in, entry_in}
 use Rattle.adb_view.specs.declared.tables.Which.TheVariants.{Idb}
-use Rattle.audit_core.specs.Records.{FileRecord, database_records, file_record, folder_records, package_records}
+use Rattle.audit_core.specs.Records.{PathAndEntry, database_records, file_record, folder_records, package_records}
 
 -- ---- names that stand once in lists one after the other
 
@@ -160,13 +160,13 @@ folder_paths folder = go (files_in folder)
 package_paths : (folders : List Plain) → map (λ r. r.path) (flat_map folder_records folders) ≡ flat_map paths_under folders
 package_paths [] = refl
 package_paths (folder ∷ folders) =
-    map-append (λ (r : FileRecord). r.path) (folder_records folder) (flat_map folder_records folders)
+    map-append (λ (r : PathAndEntry). r.path) (folder_records folder) (flat_map folder_records folders)
     ∙ (ap (λ paths. paths ++ map (λ r. r.path) (flat_map folder_records folders)) (folder_paths folder)
     ∙ ap (λ paths. paths_under folder ++ paths) (package_paths folders))
 
 pub record_paths : (packages : List Plain) → map (λ r. r.path) (database_records packages) ≡ flat_map paths_in packages
 record_paths [] = refl
 record_paths (pkg ∷ packages) =
-    map-append (λ (r : FileRecord). r.path) (package_records pkg) (database_records packages)
+    map-append (λ (r : PathAndEntry). r.path) (package_records pkg) (database_records packages)
     ∙ (ap (λ paths. paths ++ map (λ r. r.path) (database_records packages)) (package_paths (folders_in pkg))
     ∙ ap (λ paths. paths_in pkg ++ paths) (record_paths packages))

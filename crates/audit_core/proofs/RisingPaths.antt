@@ -19,11 +19,11 @@ use Rattle.base_core.proofs.Rising as Names
 use Rattle.base_core.proofs.Rising.{order, pairs_from_rises}
 use Rattle.audit_core.specs.Audit.{FileDifference, difference_at, difference_from}
 use Rattle.audit_core.specs.Differences.{file_differences}
-use Rattle.audit_core.specs.Records.{FileRecord, database_records, record_cmp, records_by_path}
+use Rattle.audit_core.specs.Records.{PathAndEntry, database_records, record_cmp, records_by_path}
 use Rattle.audit_core.specs.declared.comparing.Difference.{Difference}
 use Rattle.audit_core.proofs.PathsOnce.{database_once, record_paths}
 
-abbrev paths : List FileRecord → List (List ℕ)
+abbrev paths : List PathAndEntry → List (List ℕ)
 paths rs = map (λ r. r.path) rs
 
 as_in : (q : List ℕ) (names : List (List ℕ)) → Names.IsIn q names → IsIn q names
@@ -33,7 +33,7 @@ as_in q (name ∷ names) (inr here) = inr (as_in q names here)
 
 -- ---- a sorted list
 
-put_paths : (q : List ℕ) (x : FileRecord) (ys : List FileRecord) → Names.IsIn q (paths (with_element record_cmp x ys)) → (q ≡ x.path) ⊎ Names.IsIn q (paths ys)
+put_paths : (q : List ℕ) (x : PathAndEntry) (ys : List PathAndEntry) → Names.IsIn q (paths (with_element record_cmp x ys)) → (q ≡ x.path) ⊎ Names.IsIn q (paths ys)
 put_paths q x [] here = here
 put_paths q x (y ∷ ys) here = go (is_gt (record_cmp x y)) (put_paths q x ys) here
   where
@@ -43,7 +43,7 @@ put_paths q x (y ∷ ys) here = go (is_gt (record_cmp x y)) (put_paths q x ys) h
     go true rest (inr more) = elim (rest more) [ inl is ↦ inl is | inr old ↦ inr (inr old) ]
     go false rest here = here
 
-sorted_paths : (q : List ℕ) (rs : List FileRecord) → Names.IsIn q (paths (sorted_by record_cmp rs)) → Names.IsIn q (paths rs)
+sorted_paths : (q : List ℕ) (rs : List PathAndEntry) → Names.IsIn q (paths (sorted_by record_cmp rs)) → Names.IsIn q (paths rs)
 sorted_paths q [] here = here
 sorted_paths q (r ∷ rs) here = elim (put_paths q r (sorted_by record_cmp rs) here) [ inl is ↦ inl is | inr old ↦ inr (sorted_paths q rs old) ]
 
@@ -55,11 +55,11 @@ later : (x y : List ℕ) (names : List (List ℕ)) → order x y ≡ Greater →
 later x y names greater rises q (inl is) = ap (order y) is ∙ nat_list_cmp_total.antisymm y x ∙ ap ordering_reverse greater
 later x y names greater rises q (inr old) = rises.0 q old
 
-order_is : (x y : FileRecord) → record_cmp x y ≡ order x.path y.path
+order_is : (x y : PathAndEntry) → record_cmp x y ≡ order x.path y.path
 unfolding record_cmp
 order_is x y = refl
 
-rises_put : (x : FileRecord) (ys : List FileRecord) → Names.Rises (paths ys) → ((q : List ℕ) → Names.IsIn q (paths ys) → q ≡ x.path → ⊥) → Names.Rises (paths (with_element record_cmp x ys))
+rises_put : (x : PathAndEntry) (ys : List PathAndEntry) → Names.Rises (paths ys) → ((q : List ℕ) → Names.IsIn q (paths ys) → q ≡ x.path → ⊥) → Names.Rises (paths (with_element record_cmp x ys))
 rises_put x [] rises new = (λ q here. absurd here, tt)
 rises_put x (y ∷ ys) rises new = go (order x.path y.path) refl (order_is x y) (rises_put x ys rises.1 (λ q h. new q (inr h)))
   where
@@ -71,7 +71,7 @@ rises_put x (y ∷ ys) rises new = go (order x.path y.path) refl (order_is x y) 
         by Equal is = absurd (new y.path (inl refl) (sym (exact_bytes x.path y.path is)))
         by Greater is = (λ q here. later x.path y.path (paths ys) is rises q (put_paths q x ys here), rest)
 
-rises_sorted : (rs : List FileRecord) → AreDistinctNames (paths rs) → Names.Rises (paths (sorted_by record_cmp rs))
+rises_sorted : (rs : List PathAndEntry) → AreDistinctNames (paths rs) → Names.Rises (paths (sorted_by record_cmp rs))
 rises_sorted [] d = tt
 rises_sorted (r ∷ rs) d =
     rises_put r (sorted_by record_cmp rs) (rises_sorted rs d.1)
@@ -79,14 +79,14 @@ rises_sorted (r ∷ rs) d =
 
 -- ---- those that differ
 
-module _ (how : FileRecord → Option Difference) where
-  abbrev found_of : List FileRecord → List FileDifference
+module _ (how : PathAndEntry → Option Difference) where
+  abbrev found_of : List PathAndEntry → List FileDifference
   found_of rs = flat_map (λ r. difference_at r.path (how r)) rs
 
-  abbrev paths_found : List FileRecord → List (List ℕ)
+  abbrev paths_found : List PathAndEntry → List (List ℕ)
   paths_found rs = map (λ d. d.path) (found_of rs)
 
-  found_is_in : (q : List ℕ) (rs : List FileRecord) → Names.IsIn q (paths_found rs) → Names.IsIn q (paths rs)
+  found_is_in : (q : List ℕ) (rs : List PathAndEntry) → Names.IsIn q (paths_found rs) → Names.IsIn q (paths rs)
   found_is_in q [] here = here
   found_is_in q (r ∷ rs) here = go (how r) (found_is_in q rs) here
     where
@@ -95,7 +95,7 @@ module _ (how : FileRecord → Option Difference) where
       go (Some difference) rest (inl is) = inl is
       go (Some difference) rest (inr more) = inr (rest more)
 
-  rises_found : (rs : List FileRecord) → Names.Rises (paths rs) → Names.Rises (paths_found rs)
+  rises_found : (rs : List PathAndEntry) → Names.Rises (paths rs) → Names.Rises (paths_found rs)
   rises_found [] rises = tt
   rises_found (r ∷ rs) rises = go (how r) (rises_found rs rises.1)
     where

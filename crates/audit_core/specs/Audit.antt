@@ -3,7 +3,7 @@
 use Rattle.std.specs.Prelude.{ℕ, suc, List, [], ◌∷◌, ◌++◌, Option, Some, None, if◌then◌else◌}
 use Rattle.std.specs.List.{flat_map}
 use Rattle.adb_view.specs.Plain.{Plain}
-use Rattle.audit_core.specs.Records.{FileRecord, records_by_path}
+use Rattle.audit_core.specs.Records.{PathAndEntry, records_by_path}
 use Rattle.audit_core.specs.declared.comparing.Difference.{Difference}
 use Rattle.audit_core.specs.declared.comparing.Difference.TheVariants.{Changed, Missing}
 use Rattle.file_guard.specs.AsListed.{is_as_listed}
@@ -29,7 +29,7 @@ difference_at path (Some difference) = record { path = path; difference = differ
 
 -- the files that differ from some records, in the order of these; the read of the first file has
 -- this number
-abbrev pub differences_from : Reads → ℕ → List FileRecord → List FileDifference
+abbrev pub differences_from : Reads → ℕ → List PathAndEntry → List FileDifference
 differences_from read n [] = []
 differences_from read n (r ∷ rs) =
     difference_at r.path (difference_from r.entry (read n r.path))

@@ -5,7 +5,7 @@ use Rattle.std.specs.List.{flat_map}
 use Rattle.path_clashes.specs.adb_fields.FirstPair.{IsIn}
 use Rattle.adb_view.specs.Plain.{Plain}
 use Rattle.audit_core.specs.Audit.{FileDifference, difference_at, difference_from}
-use Rattle.audit_core.specs.Records.{FileRecord, package_records, records_by_path}
+use Rattle.audit_core.specs.Records.{PathAndEntry, package_records, records_by_path}
 use Rattle.audit_core.specs.declared.comparing.Difference.{Difference}
 use Rattle.audit_core.specs.declared.comparing.Difference.TheVariants.{Changed, Missing}
 use Rattle.base_core.specs.Files.{Files}
@@ -18,7 +18,7 @@ file_differences files packages =
     (records_by_path packages)
 
 -- one of the packages lists the file of a record
-pub record IsInstalledRecord (packages : List Plain) (r : FileRecord) : Type 0 where
+pub record IsInstalledRecord (packages : List Plain) (r : PathAndEntry) : Type 0 where
   pub pkg : Plain
   pub installed : IsIn pkg packages
   pub listed : IsIn r (package_records pkg)
@@ -37,5 +37,5 @@ pub record IsDifferenceIn (packages : List Plain) (files : Files) (d : FileDiffe
 -- each file that a package lists is there, with bytes as its entry lists them
 abbrev pub AreAsRecorded : List Plain → Files → Type 0
 AreAsRecorded packages files =
-    (r : FileRecord) → IsInstalledRecord packages r
+    (r : PathAndEntry) → IsInstalledRecord packages r
     → IsSomeAnd (files r.path) (λ bytes. is_as_listed r.entry bytes ≡ true)

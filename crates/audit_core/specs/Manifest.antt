@@ -3,7 +3,7 @@
 use Rattle.std.specs.Prelude.{ℕ, List, [], ◌∷◌, ◌++◌, Option, Some, None, Result, Ok, Err}
 use Rattle.std.specs.List.{find, flat_map}
 use Rattle.adb_view.specs.Plain.{Plain}
-use Rattle.audit_core.specs.Records.{FileRecord, package_records}
+use Rattle.audit_core.specs.Records.{PathAndEntry, package_records}
 use Rattle.base_core.specs.Lists.{and_then}
 use Rattle.command_core.specs.declared.operands.Operand.{Operand}
 use Rattle.db_core.specs.Packages.{is_package_named}
@@ -14,7 +14,7 @@ use Rattle.report_core.specs.declared.refusal.Refusal.{Refusal}
 use Rattle.report_core.specs.declared.refusal.Refusal.TheVariants.{NotInstalled}
 
 -- the line of a file
-abbrev pub manifest_line : FileRecord → List ℕ
+abbrev pub manifest_line : PathAndEntry → List ℕ
 manifest_line r = report_line (manifest_text (file_hash r.entry) r.path)
 
 -- the lines of a package's files, in the order of the database

@@ -12,30 +12,30 @@ use Rattle.base_core.specs.Sorted.{sorted_by}
 
 -- the record of a file: the path that a package lists, and the entry, which says what bytes the
 -- file has
-pub record FileRecord : Type 0 where
+pub record PathAndEntry : Type 0 where
   pub path : List ℕ
   pub entry : Plain
 
 -- the record of a file in the folder of this name
-abbrev pub file_record : List ℕ → Plain → FileRecord
+abbrev pub file_record : List ℕ → Plain → PathAndEntry
 file_record folder entry = record { path = path_of folder (name_of entry); entry = entry }
 
 -- the records of a folder's files, in their order
-abbrev pub folder_records : Plain → List FileRecord
+abbrev pub folder_records : Plain → List PathAndEntry
 folder_records folder = map (file_record (name_of folder)) (files_in folder)
 
 -- the records of a package's files, folder by folder
-abbrev pub package_records : Plain → List FileRecord
+abbrev pub package_records : Plain → List PathAndEntry
 package_records pkg = flat_map folder_records (folders_in pkg)
 
 -- the records of the files of all packages, package by package
-abbrev pub database_records : List Plain → List FileRecord
+abbrev pub database_records : List Plain → List PathAndEntry
 database_records packages = flat_map package_records packages
 
 -- the order of records: the byte order of their paths
-unfoldable pub record_cmp : FileRecord → FileRecord → Ordering
+unfoldable pub record_cmp : PathAndEntry → PathAndEntry → Ordering
 record_cmp = on (λ r. r.path) bytes_cmp
 
 -- the records of the files of all packages, in byte order of their paths
-unfoldable pub records_by_path : List Plain → List FileRecord
+unfoldable pub records_by_path : List Plain → List PathAndEntry
 records_by_path packages = sorted_by record_cmp (database_records packages)

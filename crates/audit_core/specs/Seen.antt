@@ -4,14 +4,14 @@ use Rattle.std.specs.Prelude.{Option, Some, None, if◌then◌else◌}
 use Rattle.adb_view.specs.Values.{value_at}
 use Rattle.adb_view.specs.declared.tables.Kind.TheVariants as Kinds
 use Rattle.adb_view.specs.declared.tables.Which.TheVariants as Tables
-use Rattle.audit_core.specs.Records.{FileRecord}
+use Rattle.audit_core.specs.Records.{PathAndEntry}
 use Rattle.audit_core.specs.StoredRecords.{StoredRecord}
 use Rattle.audit_core.specs.declared.comparing.Difference.{Difference}
 use Rattle.audit_core.specs.declared.comparing.Difference.TheVariants.{Changed, Missing}
 use Rattle.file_guard.specs.declared.compare.Comparison.{Comparison}
 
 -- the record that is stored so
-abbrev pub record_seen : StoredRecord → FileRecord
+abbrev pub record_seen : StoredRecord → PathAndEntry
 record_seen r = record {
   path = r.path;
   entry = value_at r.payload (Kinds.Obj Tables.File) r.word;

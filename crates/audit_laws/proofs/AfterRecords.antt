@@ -20,7 +20,7 @@ use Rattle.adb_view.specs.Shaped.{Each}
 use Rattle.adb_view.specs.Values.{entries_in, entry_in, int_in, text_in}
 use Rattle.adb_view.specs.declared.tables.Which.TheVariants.{Idb}
 use Rattle.audit_core.specs.Differences.{IsDifferent, IsInstalledRecord}
-use Rattle.audit_core.specs.Records.{FileRecord, database_records, file_record, folder_records, package_records}
+use Rattle.audit_core.specs.Records.{PathAndEntry, database_records, file_record, folder_records, package_records}
 use Rattle.audit_core.specs.declared.comparing.Difference.{Difference}
 use Rattle.audit_core.specs.declared.comparing.Difference.TheVariants.{Changed, Missing}
 use Rattle.audit_core.proofs.Listings.{listing_record, records_are_listings}
@@ -57,7 +57,7 @@ zeros_alike entry (Some bytes) Changed = (λ is. sym (zeros_as_listed entry byte
 
 -- ---- the records are those of the owned listings
 
-abbrev pub kept_record : Listing → FileRecord
+abbrev pub kept_record : Listing → PathAndEntry
 kept_record l = record { path = l.path; entry = without_zeros l.entry }
 
 abbrev tail_records : {X : Type 0} → List X → List X
@@ -68,7 +68,7 @@ abbrev head_or : {X : Type 0} → X → List X → X
 head_or d [] = d
 head_or d (x ∷ xs) = x
 
-same_records : (rs : List FileRecord) (ls : List Listing) → map (λ r. r.path) rs ≡ map (λ l. l.path) ls → map (λ r. r.entry) rs ≡ map (λ l. without_zeros l.entry) ls → rs ≡ map kept_record ls
+same_records : (rs : List PathAndEntry) (ls : List Listing) → map (λ r. r.path) rs ≡ map (λ l. l.path) ls → map (λ r. r.entry) rs ≡ map (λ l. without_zeros l.entry) ls → rs ≡ map kept_record ls
 same_records [] [] p e = refl
 same_records [] (l ∷ ls) p e = absurd (cc)
 same_records (r ∷ rs) [] p e = absurd (cc)
@@ -141,7 +141,7 @@ each_in P v none h here = absurd here
 each_in P v (more w vs) h (inl is) = subst P (sym is) h.0
 each_in P v (more w vs) h (inr here) = each_in P v vs h.1 here
 
-pub free_path : (database : Plain) → IsSoundValue Idb database → (r : FileRecord) → IsIn r (database_records (entries_at IDB_PACKAGES database)) → is_reserved r.path ≡ false
+pub free_path : (database : Plain) → IsSoundValue Idb database → (r : PathAndEntry) → IsIn r (database_records (entries_at IDB_PACKAGES database)) → is_reserved r.path ≡ false
 free_path database sound r here =
     let pkg = from-flat_map package_records r (entries_at IDB_PACKAGES database) here in
     let folder = from-flat_map folder_records r (folders_in pkg.0) pkg.2 in
@@ -149,7 +149,7 @@ free_path database sound r here =
     let is_package = each_in (IsPackage Idb) pkg.0 (entries_in (entry_in database IDB_PACKAGES)) sound.rules pkg.1 in
     let is_folder = each_in (IsFolder Idb) folder.0 (entries_in (entry_in pkg.0 PACKAGE_PATHS)) is_package.folders folder.1 in
     let is_file = each_in (IsFileOf Idb (name_of folder.0)) file.0 (entries_in (entry_in folder.0 DIR_FILES)) is_folder.files file.1 in
-    ap (λ (q : FileRecord). is_reserved q.path) file.2 ∙ not-true (is_reserved (file_record (name_of folder.0) file.0).path) is_file.listed
+    ap (λ (q : PathAndEntry). is_reserved q.path) file.2 ∙ not-true (is_reserved (file_record (name_of folder.0) file.0).path) is_file.listed
 
 -- ---- the database after a change
 
@@ -165,8 +165,8 @@ module _ (laws : WrittenLaws) (change : FileChange) (database : Plain) (sound : 
   records_are =
       let packages = list_of (packages_after change.members flags) in
       same_records (database_records packages) owned (record_paths packages ∙ laws.paths change.members flags)
-      (ap (map (λ (r : FileRecord). r.entry)) (sym (records_are_listings packages))
-      ∙ (map_twice (λ (r : FileRecord). r.entry) listing_record (member_listings (members_of_kept packages)) ∙ laws.entries change.members flags))
+      (ap (map (λ (r : PathAndEntry). r.entry)) (sym (records_are_listings packages))
+      ∙ (map_twice (λ (r : PathAndEntry). r.entry) listing_record (member_listings (members_of_kept packages)) ∙ laws.entries change.members flags))
 
   once : AreDistinctNames (map (λ l. l.path) owned)
   once = subst AreDistinctNames (ap (flat_map paths_in) are ∙ laws.paths change.members flags) (database_once database sound)
@@ -208,11 +208,11 @@ module _ (laws : WrittenLaws) (change : FileChange) (database : Plain) (sound : 
   pub record_of_owner : (path : List ℕ) (entry : Plain) → IsInstalledRecord (list_of (packages_after change.members flags)) (record { path = path; entry = entry })
       → (l : Listing) × (owner_listing change path ≡ Some l) × (entry ≡ without_zeros l.entry)
   record_of_owner path entry is =
-      let r : FileRecord = record { path = path; entry = entry } in
+      let r : PathAndEntry = record { path = path; entry = entry } in
       let here = subst (IsIn r) records_are (in-flat_map package_records r is.pkg (list_of (packages_after change.members flags)) is.installed is.listed) in
       let found = from-map kept_record r owned here in
-      let same : path ≡ found.0.path = ap (λ (q : FileRecord). q.path) found.2 in
-      (found.0, ap (owner_listing change) same ∙ owned_listing found.0 found.1, ap (λ (q : FileRecord). q.entry) found.2)
+      let same : path ≡ found.0.path = ap (λ (q : PathAndEntry). q.path) found.2 in
+      (found.0, ap (owner_listing change) same ∙ owned_listing found.0 found.1, ap (λ (q : PathAndEntry). q.entry) found.2)
 
   pub owner_record : (path : List ℕ) (l : Listing) → owner_listing change path ≡ Some l → IsInstalledRecord (list_of (packages_after change.members flags)) (record { path = path; entry = without_zeros l.entry })
   owner_record path l e =

@@ -17,7 +17,7 @@ use Rattle.audit_core.specs.Differences.{IsDifferenceIn, IsDifferent, file_diffe
 use Rattle.base_core.specs.Files.{Files}
 use Rattle.base_core.specs.declared.cause.Cause.{Cause}
 use Rattle.root_laws.specs.change_files.FileChange.{FileChange, added_owner_listing, if_member_added, owner_listing}
-use Rattle.root_laws.specs.change_files.FilesAfter.{Records, changed_files, listing_bytes}
+use Rattle.root_laws.specs.change_files.FilesAfter.{RootFilesAfter, changed_files, listing_bytes}
 use Rattle.root_laws.specs.change_files.Touched.{is_record_name}
 use Rattle.root_laws.proofs.change_files.Lists.{IsOneOf, contains_from_one}
 use Rattle.root_laws.proofs.change_files.OwnedFiles.{coming_is}
@@ -44,7 +44,7 @@ use Rattle.report_core.specs.declared.refusal.Refusal.{Refusal}
 use Rattle.report_core.specs.declared.refusal.Refusal.TheVariants.{DatabaseBad}
 use Rattle.root_laws.specs.RootLeft.{IsRootLeft}
 use Rattle.root_names.specs.RootNames.{database_name, text_database_name}
-use Rattle.audit_laws.specs.AfterChange.{IsEmptyUnlike, IsLeftBy, IsLeftDifferent, change_left, contents_left, packages_left}
+use Rattle.audit_laws.specs.AfterChange.{ExplainsDifference, IsEmptyUnlike, IsLeftDifferent, change_left, contents_left, packages_left}
 use Rattle.audit_laws.proofs.AfterFiles.{by_left, left_by, stays_so}
 use Rattle.audit_laws.proofs.AfterRecords.{WrittenLaws, owner_free, owner_record, record_of_owner, zeros_alike}
 use Rattle.audit_laws.proofs.FoundContents.{contents_listed}
@@ -52,7 +52,7 @@ use Rattle.audit_laws.proofs.FoundContents.{contents_listed}
 -- what the laws of the crates below say
 pub record Laws : Type 0 where
   pub values : (which : Which) (file : List ℕ) → IsSound which file → IsSoundValue which (root_value which (payload_in file))
-  pub reserved : (records : Records) (name : List ℕ) → is_record_name records name ≡ true → is_reserved name ≡ true
+  pub reserved : (records : RootFilesAfter) (name : List ℕ) → is_record_name records name ≡ true → is_reserved name ≡ true
   pub made : (inputs : Inputs) (r : Replacement) (wishes : ChangeWishes) (read : Reads) (clash : Option NamePair) (files : Files) (done : ChangeDone)
       → change_or_refusal inputs r wishes read clash files ≡ Ok done → IsChangeMade inputs r wishes read clash files done
   pub differences : (files : Files) (packages : List Plain) (d : FileDifference) → IsIn d (file_differences files packages) ↔ IsDifferenceIn packages files d
@@ -75,7 +75,7 @@ container_ok file packages bytes e = by_fault (first_fault Idb file) refl e
     by_fault None t e = (let same : there ≡ database_by packages (Some bytes) false = (let both : kept there ≡ kept (database_by packages (Some bytes) false) = e in cc) in (t, ap (λ (d : Database). d.packages) same))
     by_fault (Some cause) t e = absurd (cc (e))
 
-not_record : (records : Records) (name : List ℕ) → ((records : Records) (name : List ℕ) → is_record_name records name ≡ true → is_reserved name ≡ true) → is_reserved name ≡ false → is_record_name records name ≡ false
+not_record : (records : RootFilesAfter) (name : List ℕ) → ((records : RootFilesAfter) (name : List ℕ) → is_record_name records name ≡ true → is_reserved name ≡ true) → is_reserved name ≡ false → is_record_name records name ≡ false
 not_record records name reserved free = by_test (is_record_name records name) refl
   where
     by_test : (b : Bool) → is_record_name records name ≡ b → is_record_name records name ≡ false
@@ -104,7 +104,7 @@ module _ (laws : Laws) (command : CommandLine) (read : Reads) (files : Files) (c
   same_found : made_so.found ≡ left.found
   same_found = let both : Ok made_so.found ≡ Ok left.found = sym made_so.members ∙ left.members in (cc)
 
-  abbrev records : Records
+  abbrev records : RootFilesAfter
   records = new_records s.inputs made_so.database
 
   abbrev change : FileChange
@@ -140,16 +140,16 @@ module _ (laws : Laws) (command : CommandLine) (read : Reads) (files : Files) (c
   -- ---- what differs was left so
 
   left_so : (path : List ℕ) (l : Listing) (d : FileDifference) → d.path ≡ path → owner_listing change path ≡ Some l → IsDifferent d.difference l.entry (done.files path)
-      → IsLeftBy (contents_left left) change files d l (is_added l.member)
+      → ExplainsDifference (contents_left left) change files d l (is_added l.member)
   left_so path l d at owner differs =
       let here = subst (λ (fs : Files). IsDifferent d.difference l.entry (fs path)) files_are differs in
       by_coming (is_added l.member) refl here
     where
-      by_coming : (b : Bool) → is_added l.member ≡ b → IsDifferent d.difference l.entry (changed_files change bytes_of records files path) → IsLeftBy (contents_left left) change files d l b
+      by_coming : (b : Bool) → is_added l.member ≡ b → IsDifferent d.difference l.entry (changed_files change bytes_of records files path) → ExplainsDifference (contents_left left) change files d l b
       by_coming false t here =
           subst (λ (q : List ℕ). IsDifferent d.difference l.entry (files q)) (sym at) ((stays_so change bytes_of records files path (plain path l owner) l d.difference owner t).0 here)
       by_coming true t here =
-          subst (λ (q : List ℕ). IsLeftBy (contents_left left) change files (record { path = q; difference = d.difference }) l true) (sym at)
+          subst (λ (q : List ℕ). ExplainsDifference (contents_left left) change files (record { path = q; difference = d.difference }) l true) (sym at)
           (left_by change bytes_of records files path (plain path l owner) l (comes_if change path l owner t) d.difference here)
 
   pub is_path_left_over : (d : FileDifference) → IsIn d (file_differences done.files (packages_left left)) → IsLeftDifferent (contents_left left) change files d
@@ -165,7 +165,7 @@ module _ (laws : Laws) (command : CommandLine) (read : Reads) (files : Files) (c
 
   -- ---- what was left so differs
 
-  differs_so : (l : Listing) (d : FileDifference) → owner_listing change d.path ≡ Some l → (b : Bool) → is_added l.member ≡ b → IsLeftBy (contents_left left) change files d l b
+  differs_so : (l : Listing) (d : FileDifference) → owner_listing change d.path ≡ Some l → (b : Bool) → is_added l.member ≡ b → ExplainsDifference (contents_left left) change files d l b
       → IsDifferent d.difference l.entry (changed_files change bytes_of records files d.path)
   differs_so l d owner false t why = (stays_so change bytes_of records files d.path (plain d.path l owner) l d.difference owner t).1 why
   differs_so l d owner true t why = by_left change bytes_of records files d.path (plain d.path l owner) l (comes_if change d.path l owner t) d.difference why

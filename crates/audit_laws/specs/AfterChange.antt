@@ -35,10 +35,10 @@ IsKeptForUser change files path = (bytes : List ℕ) × IsUsersFile change files
 -- Why a listed file differs after a change. The file of a kept package differs as it did before. The
 -- file of an added package has other bytes: those that the user gave it, or those that the package has
 -- for it, which are not as its own entry lists them.
-abbrev pub IsLeftBy :
+abbrev pub ExplainsDifference :
     (ℕ → List Contents) → FileChange → Files → FileDifference → Listing → Bool → Type 0
-IsLeftBy contents change files d l false = IsDifferent d.difference l.entry (files d.path)
-IsLeftBy contents change files d l true =
+ExplainsDifference contents change files d l false = IsDifferent d.difference l.entry (files d.path)
+ExplainsDifference contents change files d l true =
     (d.difference ≡ Changed)
     × (IsKeptForUser change files d.path ⊎ (is_as_listed l.entry (listing_bytes contents l) ≡ false))
 
@@ -47,7 +47,7 @@ pub record IsLeftDifferent (contents : ℕ → List Contents) (change : FileChan
     (d : FileDifference) : Type 0 where
   pub listing : Listing
   pub owner : owner_listing change d.path ≡ Some listing
-  pub left : IsLeftBy contents change files d listing (is_added listing.member)
+  pub left : ExplainsDifference contents change files d listing (is_added listing.member)
 
 -- ---- of the root that a command leaves
 

@@ -75,16 +75,16 @@ abbrev pub earlier_repository : Option ℕ → Option ℕ → Ordering
 earlier_repository = flip_args (option_cmp (flip_args nat_cmp))
 
 -- keys 2 to 4: the tag of a candidate's repository, its name, and whether it is installed and kept
-abbrev pub quality_cmp : UpgradedNames → Need → Candidate → Candidate → Ordering
-quality_cmp upgraded need =
+abbrev pub tag_name_kept_cmp : UpgradedNames → Need → Candidate → Candidate → Ordering
+tag_name_kept_cmp upgraded need =
     then_cmp (quality_first is_untagged)
     (then_cmp (quality_first (has_needed_name need))
     (quality_first (is_kept_installed upgraded)))
 
 -- keys 5 to 8: the greater version under which the need is met, the greater provider-priority, the
 -- byte-lesser name, the greater version of its own
-abbrev pub merit_cmp : Need → Candidate → Candidate → Ordering
-merit_cmp need =
+abbrev pub version_and_priority_cmp : Need → Candidate → Candidate → Ordering
+version_and_priority_cmp need =
     then_cmp (on (version_under need) greater_version)
     (then_cmp (on (λ (c : Candidate). c.priority) (flip_args nat_cmp))
     (then_cmp (on (λ (c : Candidate). c.name) bytes_cmp)
@@ -99,7 +99,7 @@ text_cmp =
 -- keys 2 to 10, of two candidates that world pins both, or neither
 abbrev pub unpinned_cmp : UpgradedNames → Need → Candidate → Candidate → Ordering
 unpinned_cmp upgraded need =
-    then_cmp (quality_cmp upgraded need) (then_cmp (merit_cmp need) text_cmp)
+    then_cmp (tag_name_kept_cmp upgraded need) (then_cmp (version_and_priority_cmp need) text_cmp)
 
 -- keys 1 to 10, all but the place: candidates that world pins are first
 abbrev pub candidate_cmp : SealedPool → Need → Candidate → Candidate → Ordering

@@ -9,7 +9,7 @@ use Rattle.base_core.specs.Files.{Files}
 use Rattle.base_core.specs.Name.{IsName, is_name, is_part, parts_of}
 use Rattle.file_owners.specs.db_core.Members.{Listing}
 use Rattle.file_guard.specs.AsListed.{do_entries_agree, is_as_listed}
-use Rattle.change_files.specs.Fate.{Fate, agrees_with_old, aside_name, fate_beside, fate_by, fate_of, gives_way, goes_aside, goes_in, is_as_old, is_guarded}
+use Rattle.change_files.specs.Fate.{AddedFileFate, agrees_with_old, aside_name, fate_beside, fate_by, fate_of, gives_way, goes_aside, goes_in, is_as_old, is_guarded}
 use Rattle.change_files.specs.FileChange.{FileChange, added_owner_listing, is_claimed, old_entry}
 use Rattle.change_files.specs.FilesAfter.{if_aside, if_in, aside_claim_at, path_beside, written_as}
 use Rattle.std.specs.Option.{option_or}
@@ -54,7 +54,7 @@ unfolding written_as
 takes_path change files path l comes nobodys =
     let beside : Option Listing = option_and_then (aside_claim_at change files) (path_beside path) in
     ap (λ (o : Option Listing). option_or (option_and_then (λ l. if_in l (fate_of change files l)) o) beside) comes
-    ∙ ap (λ (f : Fate). option_or (if_in l f) beside) (nobodys_fate change files path l comes nobodys)
+    ∙ ap (λ (f : AddedFileFate). option_or (if_in l f) beside) (nobodys_fate change files path l comes nobodys)
 
 -- ---- it lies beside another
 

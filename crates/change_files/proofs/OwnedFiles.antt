@@ -12,7 +12,7 @@ use Rattle.base_core.proofs.Rising.{IsIn}
 use Rattle.file_owners.specs.db_core.Members.{Listing, Member, claims_of, is_added, member_listings}
 use Rattle.file_owners.specs.Owners.{owner_of_path}
 use Rattle.file_guard.specs.AsListed.{is_as_listed}
-use Rattle.change_files.specs.Fate.{Fate, agrees_with_old, aside_name, fate_beside, fate_by, fate_of, gives_way, goes_aside, goes_in, is_as_old, is_guarded}
+use Rattle.change_files.specs.Fate.{AddedFileFate, agrees_with_old, aside_name, fate_beside, fate_by, fate_of, gives_way, goes_aside, goes_in, is_as_old, is_guarded}
 use Rattle.change_files.specs.FileChange.{FileChange, added_owner_listing, if_member_added, is_claimed, old_entry, old_listings, owner_listing}
 use Rattle.change_files.specs.FilesAfter.{if_aside, if_in, aside_claim_at, path_beside, written_as, written_in}
 use Rattle.std.specs.Option.{option_or}
@@ -88,20 +88,20 @@ in_old_paths change path listed = by_found (find (λ l. bytes_eq l.path path) (o
 
 -- ---- its fate
 
-only_in : (o : Option Listing) (fate : Listing → Fate) (l : Listing) → option_and_then (λ l. if_in l (fate l)) o ≡ Some l → (o ≡ Some l) × (fate l ≡ goes_in)
+only_in : (o : Option Listing) (fate : Listing → AddedFileFate) (l : Listing) → option_and_then (λ l. if_in l (fate l)) o ≡ Some l → (o ≡ Some l) × (fate l ≡ goes_in)
 only_in None fate l e = absurd (cc)
 only_in (Some m) fate l e = by_fate (fate m) refl e
   where
-    by_fate : (f : Fate) → fate m ≡ f → if_in m f ≡ Some l → (Some m ≡ Some l) × (fate l ≡ goes_in)
+    by_fate : (f : AddedFileFate) → fate m ≡ f → if_in m f ≡ Some l → (Some m ≡ Some l) × (fate l ≡ goes_in)
     by_fate goes_in is e = let same : l ≡ m = (cc) in (e, ap fate same ∙ is)
     by_fate gives_way is e = absurd (cc)
     by_fate goes_aside is e = absurd (cc)
 
-only_aside : (o : Option Listing) (fate : Listing → Fate) (l : Listing) → option_and_then (λ l. if_aside l (fate l)) o ≡ Some l → (o ≡ Some l) × (fate l ≡ goes_aside)
+only_aside : (o : Option Listing) (fate : Listing → AddedFileFate) (l : Listing) → option_and_then (λ l. if_aside l (fate l)) o ≡ Some l → (o ≡ Some l) × (fate l ≡ goes_aside)
 only_aside None fate l e = absurd (cc)
 only_aside (Some m) fate l e = by_fate (fate m) refl e
   where
-    by_fate : (f : Fate) → fate m ≡ f → if_aside m f ≡ Some l → (Some m ≡ Some l) × (fate l ≡ goes_aside)
+    by_fate : (f : AddedFileFate) → fate m ≡ f → if_aside m f ≡ Some l → (Some m ≡ Some l) × (fate l ≡ goes_aside)
     by_fate goes_in is e = absurd (cc)
     by_fate gives_way is e = absurd (cc)
     by_fate goes_aside is e = let same : l ≡ m = (cc) in (e, ap fate same ∙ is)

@@ -8,7 +8,7 @@ use Rattle.file_owners.specs.Owners.{claims_in, owner_of_path}
 use Rattle.file_guard.specs.AsListed.{do_entries_agree, is_as_listed_by}
 use Rattle.change_files.specs.Fate.{fate_of, is_guarded}
 use Rattle.change_files.specs.FileChange.{FileChange, is_claimed, old_entry, old_listings, owner_listing}
-use Rattle.change_files.specs.FilesAfter.{Records, changed_files, is_kept, is_removed, written_as}
+use Rattle.change_files.specs.FilesAfter.{RootFilesAfter, changed_files, is_kept, is_removed, written_as}
 use Rattle.change_files.specs.PlanLists.{aside_of, file_writes_of, kept_of, names_in_order, removals_of}
 use Rattle.file_guard.proofs.Sample.{link}
 use Rattle.change_files.proofs.Sample.{folder, info, new_bytes, package_with, with_file}
@@ -25,7 +25,7 @@ changed = with_file conf (codes "x")
 abbrev unchanged : Files
 unchanged = with_file conf (codes "!<symlink>1")
 
-abbrev records : Records
+abbrev records : RootFilesAfter
 records = record { database = []; world = []; takes_text_over = false }
 
 -- ---- another version comes

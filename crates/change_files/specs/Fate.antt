@@ -31,13 +31,13 @@ is_as_old None bytes = false
 is_as_old (Some old) bytes = is_as_listed old bytes
 
 -- what is done with an added file of its owner
-pub data Fate : Type 0 where
+pub data AddedFileFate : Type 0 where
   -- the file takes its path
-  goes_in : Fate
+  goes_in : AddedFileFate
   -- the user's file is kept, and the new one is not installed
-  gives_way : Fate
+  gives_way : AddedFileFate
   -- the user's file is kept, and the new one is laid beside it
-  goes_aside : Fate
+  goes_aside : AddedFileFate
 
 -- how many bytes a name may have at most
 abbrev pub longest_name : ℕ
@@ -46,7 +46,7 @@ longest_name = 1024
 -- What is done with a file if the user changed the file under its path. It is laid beside that one if
 -- it differs from what was listed before, no package lists the name beside, and that is not too long
 -- for a name.
-abbrev pub fate_beside : FileChange → List ℕ → Plain → Fate
+abbrev pub fate_beside : FileChange → List ℕ → Plain → AddedFileFate
 fate_beside change path entry =
     if not (agrees_with_old (old_entry change path) entry)
     && (nat_le (length (aside_name path)) longest_name && not (is_claimed change (aside_name path)))
@@ -54,12 +54,12 @@ fate_beside change path entry =
 
 -- What is done with an added file, given the file under its path. The user changed a protected file if
 -- its bytes are neither those of the new entry nor those of the old one.
-abbrev pub fate_by : FileChange → List ℕ → Plain → Option (List ℕ) → Fate
+abbrev pub fate_by : FileChange → List ℕ → Plain → Option (List ℕ) → AddedFileFate
 fate_by change path entry None = goes_in
 fate_by change path entry (Some bytes) =
     if not (is_guarded path) || (is_as_listed entry bytes || is_as_old (old_entry change path) bytes)
     then goes_in else fate_beside change path entry
 
 -- what is done with a file whose member is added and owns its path
-unfoldable pub fate_of : FileChange → Files → Listing → Fate
+unfoldable pub fate_of : FileChange → Files → Listing → AddedFileFate
 fate_of change files l = fate_by change l.path l.entry (files l.path)

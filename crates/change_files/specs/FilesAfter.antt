@@ -9,19 +9,19 @@ use Rattle.file_owners.specs.db_core.Members.{Listing}
 use Rattle.file_guard.specs.pkg_core.Contents as Packages
 use Rattle.file_guard.specs.AsListed.{has_target, is_as_listed, link_bytes}
 pub use Rattle.root_names.specs.RootNames.{database_name, text_database_name, world_name}
-use Rattle.change_files.specs.Fate.{Fate, aside_ending, fate_of, gives_way, goes_aside, goes_in, is_guarded}
+use Rattle.change_files.specs.Fate.{AddedFileFate, aside_ending, fate_of, gives_way, goes_aside, goes_in, is_guarded}
 use Rattle.change_files.specs.FileChange.{FileChange, added_owner_listing, is_claimed, old_entry, was_listed}
 
 -- ---- what is written
 
 -- the file, if it takes its path
-abbrev pub if_in : Listing → Fate → Option Listing
+abbrev pub if_in : Listing → AddedFileFate → Option Listing
 if_in l goes_in = Some l
 if_in l gives_way = None
 if_in l goes_aside = None
 
 -- the file, if it is laid beside another
-abbrev pub if_aside : Listing → Fate → Option Listing
+abbrev pub if_aside : Listing → AddedFileFate → Option Listing
 if_aside l goes_in = None
 if_aside l gives_way = None
 if_aside l goes_aside = Some l
@@ -107,14 +107,14 @@ bytes_after bytes_of None false old = old
 
 -- the results of a change other than the files of packages: the bytes of the new database and of the
 -- new world, and whether a text database was converted
-pub record Records : Type 0 where
+pub record RootFilesAfter : Type 0 where
   pub database : List ℕ
   pub world : List ℕ
   pub takes_text_over : Bool
 
 -- The files after a change: the new database and world; no converted text database; the added files; no
 -- removed file; and all others as before.
-unfoldable pub changed_files : FileChange → (Listing → List ℕ) → Records → Files → Files
+unfoldable pub changed_files : FileChange → (Listing → List ℕ) → RootFilesAfter → Files → Files
 changed_files change bytes_of records files name =
     if bytes_eq name database_name then Some records.database
     else if bytes_eq name world_name then world_bytes_after records.world (files name)

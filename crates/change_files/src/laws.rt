@@ -15,7 +15,7 @@ ghost use Rattle.file_guard.specs.pkg_core.Contents.{Contents, expected_contents
 ghost use Rattle.file_guard.specs.pkg_core.GoodContents.{AreContentsOf, HaveDigests};
 ghost use Rattle.change_files.specs.Fate.{aside_name};
 ghost use Rattle.change_files.specs.FileChange.{FileChange, added_owner_listing, is_claimed, old_listings, owner_listing, was_listed};
-ghost use Rattle.change_files.specs.FilesAfter.{Records, changed_files, database_name, is_kept, is_no_longer_listed, is_removed, is_written, aside_claim_at, listing_bytes, text_database_name, world_name, written_as};
+ghost use Rattle.change_files.specs.FilesAfter.{RootFilesAfter, changed_files, database_name, is_kept, is_no_longer_listed, is_removed, is_written, aside_claim_at, listing_bytes, text_database_name, world_name, written_as};
 ghost use Rattle.change_files.specs.NamesAfter.{is_released, name_change};
 ghost use Rattle.change_files.specs.PlanLists.{FileWrite, aside_of, file_writes_of, first_reserved, kept_of, removals_of};
 ghost use Rattle.change_files.specs.Touched.{IsNewEntry, IsUsersFile, IsWriteOf, is_aside_name, is_added_path, is_record_name};
@@ -82,7 +82,7 @@ pub fn the_files_of_an_added_package_are_as_listed()
 
 /// A file that is written has those bytes after the change.
 pub fn what_is_written_takes_its_name()
-    ensures { (change : FileChange) (bytes_of : Listing → List ℕ) (records : Records)
+    ensures { (change : FileChange) (bytes_of : Listing → List ℕ) (records : RootFilesAfter)
         (files : Files) (name : List ℕ) (l : Listing) → written_as change files name ≡ Some l
         → is_record_name records name ≡ false
         → changed_files change bytes_of records files name ≡ Some (bytes_of l) }
@@ -94,7 +94,7 @@ pub fn what_is_written_is_not_reserved()
     ensures written { (change : FileChange) (files : Files) (name : List ℕ) (l : Listing)
         → first_reserved change.members ≡ None → written_as change files name ≡ Some l
         → is_reserved name ≡ false }
-    ensures records { (records : Records) (name : List ℕ) → is_record_name records name ≡ true
+    ensures records { (records : RootFilesAfter) (name : List ℕ) → is_record_name records name ≡ true
         → is_reserved name ≡ true }
 {}
 
@@ -105,7 +105,7 @@ pub fn what_is_removed_was_listed_before()
     ensures listed { (change : FileChange) (files : Files) (path : List ℕ)
         → is_removed change files path ≡ true
         → (was_listed change path ≡ true) × (is_claimed change path ≡ false) }
-    ensures gone { (change : FileChange) (bytes_of : Listing → List ℕ) (records : Records)
+    ensures gone { (change : FileChange) (bytes_of : Listing → List ℕ) (records : RootFilesAfter)
         (files : Files) (path : List ℕ) → is_removed change files path ≡ true
         → is_record_name records path ≡ false
         → changed_files change bytes_of records files path ≡ None }
@@ -140,7 +140,7 @@ pub fn the_file_of_a_kept_package_is_not_touched()
         → owner_listing change path ≡ Some l → is_added l.member ≡ false
         → (written_as change files path ≡ None) × (is_removed change files path ≡ false) }
     // So it is as before.
-    ensures file { (change : FileChange) (bytes_of : Listing → List ℕ) (records : Records)
+    ensures file { (change : FileChange) (bytes_of : Listing → List ℕ) (records : RootFilesAfter)
         (files : Files) (path : List ℕ) (l : Listing)
         → owner_listing change path ≡ Some l → is_added l.member ≡ false
         → is_record_name records path ≡ false
@@ -150,7 +150,7 @@ pub fn the_file_of_a_kept_package_is_not_touched()
 /// Configuration that the user changed keeps its bytes, unless it is to be purged and no package
 /// lists it. A file that was laid beside another is replaced by the one that is laid there now.
 pub fn configuration_that_the_user_changed_is_kept()
-    ensures { (change : FileChange) (bytes_of : Listing → List ℕ) (records : Records)
+    ensures { (change : FileChange) (bytes_of : Listing → List ℕ) (records : RootFilesAfter)
         (files : Files) (path bytes : List ℕ)
         → (change.purge ≡ false) ⊎ (is_claimed change path ≡ true)
         → IsUsersFile change files path bytes
@@ -160,7 +160,7 @@ pub fn configuration_that_the_user_changed_is_kept()
 
 /// A kept file is unchanged.
 pub fn what_is_kept_is_unchanged()
-    ensures { (change : FileChange) (bytes_of : Listing → List ℕ) (records : Records)
+    ensures { (change : FileChange) (bytes_of : Listing → List ℕ) (records : RootFilesAfter)
         (files : Files) (path : List ℕ) → is_kept change files path ≡ true
         → is_record_name records path ≡ false
         → changed_files change bytes_of records files path ≡ files path }
@@ -169,7 +169,7 @@ pub fn what_is_kept_is_unchanged()
 /// A name that no package listed before and that no added package lists is unchanged, unless a file
 /// is laid beside another one under it.
 pub fn a_name_that_nobody_lists_is_not_touched()
-    ensures { (change : FileChange) (bytes_of : Listing → List ℕ) (records : Records)
+    ensures { (change : FileChange) (bytes_of : Listing → List ℕ) (records : RootFilesAfter)
         (files : Files) (name : List ℕ) → was_listed change name ≡ false
         → is_added_path change name ≡ false
         → is_aside_name change files name ≡ false → is_record_name records name ≡ false
@@ -180,7 +180,7 @@ pub fn a_name_that_nobody_lists_is_not_touched()
 
 /// Each file after a change has one of the names after.
 pub fn the_files_after_a_change_are_under_its_names()
-    ensures { (change : FileChange) (bytes_of : Listing → List ℕ) (records : Records)
+    ensures { (change : FileChange) (bytes_of : Listing → List ℕ) (records : RootFilesAfter)
         (files : Files) (name : List ℕ)
         → is_some (changed_files change bytes_of records files name) ≡ true
         → is_name_after (name_change change files) files name ≡ true }
@@ -189,12 +189,12 @@ pub fn the_files_after_a_change_are_under_its_names()
 /// A file of before is present after a change that does not let go of its name. If the change lets
 /// go of the name and writes nothing there, the file is absent.
 pub fn the_names_after_a_change_are_those_of_its_files()
-    ensures located { (change : FileChange) (bytes_of : Listing → List ℕ) (records : Records)
+    ensures located { (change : FileChange) (bytes_of : Listing → List ℕ) (records : RootFilesAfter)
         (files : Files) (name : List ℕ)
         → is_some (files name) ≡ true → is_released change files name ≡ false
         → is_record_name records name ≡ false
         → is_some (changed_files change bytes_of records files name) ≡ true }
-    ensures gone { (change : FileChange) (bytes_of : Listing → List ℕ) (records : Records)
+    ensures gone { (change : FileChange) (bytes_of : Listing → List ℕ) (records : RootFilesAfter)
         (files : Files) (name : List ℕ)
         → is_released change files name ≡ true → is_written change files name ≡ false
         → is_record_name records name ≡ false
@@ -206,18 +206,18 @@ pub fn the_names_after_a_change_are_those_of_its_files()
 /// The new database and the new world are under their names. An absent world that would be empty
 /// stays absent, and a converted text database is absent.
 pub fn the_records_of_a_change_are_under_their_names()
-    ensures database { (change : FileChange) (bytes_of : Listing → List ℕ) (records : Records)
+    ensures database { (change : FileChange) (bytes_of : Listing → List ℕ) (records : RootFilesAfter)
         (files : Files)
         → changed_files change bytes_of records files database_name ≡ Some records.database }
-    ensures world { (change : FileChange) (bytes_of : Listing → List ℕ) (records : Records)
+    ensures world { (change : FileChange) (bytes_of : Listing → List ℕ) (records : RootFilesAfter)
         (files : Files) → (records.world ≢ []) ⊎ IsSome (files world_name)
         → changed_files change bytes_of records files world_name ≡ Some records.world }
     // An absent world that would be empty stays absent.
-    ensures no_world { (change : FileChange) (bytes_of : Listing → List ℕ) (records : Records)
+    ensures no_world { (change : FileChange) (bytes_of : Listing → List ℕ) (records : RootFilesAfter)
         (files : Files) → records.world ≡ [] → files world_name ≡ None
         → changed_files change bytes_of records files world_name ≡ None }
     // A converted text database is absent.
-    ensures text { (change : FileChange) (bytes_of : Listing → List ℕ) (records : Records)
+    ensures text { (change : FileChange) (bytes_of : Listing → List ℕ) (records : RootFilesAfter)
         (files : Files) → records.takes_text_over ≡ true
         → changed_files change bytes_of records files text_database_name ≡ None }
 {}

@@ -9,7 +9,7 @@ use Rattle.base_core.specs.Files.{Files}
 use Rattle.base_core.proofs.Rising.{IsIn, contains_from_in, in_from_contains}
 use Rattle.base_core.proofs.Listed.{in_both}
 use Rattle.package_changes.specs.change_files.FileChange.{FileChange}
-use Rattle.package_changes.specs.change_files.FilesAfter.{Records, database_name, is_removed, is_written, text_database_name, world_name, written_as}
+use Rattle.package_changes.specs.change_files.FilesAfter.{RootFilesAfter, database_name, is_removed, is_written, text_database_name, world_name, written_as}
 use Rattle.package_changes.specs.change_files.PlanLists.{removals_of, file_writes_of}
 use Rattle.package_changes.proofs.change_files.InOrder.{from_order, in_left, in_order, in_right, order_rises}
 use Rattle.package_changes.proofs.change_files.LeftOver.{removed_unreserved}
@@ -36,7 +36,7 @@ if_needed false name q is t = absurd (true≢false (sym t))
 not_in : (q : List ℕ) (names : List (List ℕ)) → IsNoneOf q names → IsIn q names → ⊥
 not_in q names none here = true≢false (sym (any_name q names here) ∙ none)
 
-module _ (inputs : Inputs) (change : FileChange) (files : Files) (records : Records) where
+module _ (inputs : Inputs) (change : FileChange) (files : Files) (records : RootFilesAfter) where
   abbrev actions : Intent
   actions = actions_of inputs change files records
 

@@ -30,14 +30,14 @@ abbrev pub has_slash : List ℕ → Bool
 has_slash path = list_any is_slash path
 
 -- the folder of a path: its bytes up to the last slash, with it
-abbrev pub folder_prefix : List ℕ → List ℕ
-folder_prefix [] = []
-folder_prefix (b ∷ bytes) = if has_slash (b ∷ bytes) then b ∷ folder_prefix bytes else []
+abbrev pub folder_prefix_of : List ℕ → List ℕ
+folder_prefix_of [] = []
+folder_prefix_of (b ∷ bytes) = if has_slash (b ∷ bytes) then b ∷ folder_prefix_of bytes else []
 
 -- the path of a package's file: NAME-VERSION.apk, beside the index
 abbrev pub package_path : List ℕ → List ℕ → List ℕ → List ℕ
 package_path index name version =
-    folder_prefix index ++ name_version name version ++ codes ".apk"
+    folder_prefix_of index ++ name_version name version ++ codes ".apk"
 
 -- a path, if it is a name: one of more than 1,024 bytes, for example, is none, and has no file
 abbrev pub if_name : List ℕ → Option (List ℕ)

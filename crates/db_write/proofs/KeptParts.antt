@@ -17,7 +17,7 @@ use Rattle.db_core.specs.Members.{Member, members_of_kept}
 use Rattle.adb_view.specs.FieldIndexes.{INFO_FILE_SIZE, INFO_HASHES}
 use Rattle.db_core.specs.Packages.{installed_id}
 use Rattle.db_write.specs.Information.{file_size_of}
-use Rattle.db_write.specs.NewDatabase.{database_container, database_of, database_value, each_by_flags, file_count, folder_after, folders_after, info_after, member_file_count, owned_entries, package_after, packages_after}
+use Rattle.db_write.specs.NewDatabase.{database_container, database_of, database_value, each_by_flags, file_count, folder_after, folders_after, info_in_new_database, member_file_count, owned_entries, package_after, packages_after}
 use Rattle.db_write.specs.Unchanged.{all_owned}
 use Rattle.db_write.proofs.ReadBack.{Back, is_file}
 use Rattle.db_write.proofs.RootNames.{info_entry, package_folders, package_info}
@@ -105,7 +105,7 @@ unfolding without_zeros info_with
 package_free m flags =
     let info : Plain = entry_in m.pkg 0 in
     let with_id : Plains = with_at 12 (int (int_in (entry_in info 12))) (with_at 2 (blob (unwrap_or m.id (text_in (entry_in info 2)))) (entries_in info)) in
-    zeros_obj (more (info_after m.id info) (more (arr_value (folders_after (folders_in m.pkg) flags)) (more (without_zeros (entry_in m.pkg 2)) (more (without_zeros (entry_in m.pkg 3)) (more (int_or_null (int_in (entry_in m.pkg 4))) none)))))
+    zeros_obj (more (info_in_new_database m.id info) (more (arr_value (folders_after (folders_in m.pkg) flags)) (more (without_zeros (entry_in m.pkg 2)) (more (without_zeros (entry_in m.pkg 3)) (more (int_or_null (int_in (entry_in m.pkg 4))) none)))))
     ∙ (λ j. obj_value (more (zeros_twice (obj with_id) j)
     (more ((zeros_arr (folders_after (folders_in m.pkg) flags) ∙ ap arr_value (each_free file_count folder_after folder_free (folders_in m.pkg) flags)) j)
     (more (zeros_twice (entry_in m.pkg 2) j) (more (zeros_twice (entry_in m.pkg 3) j) (more (zeros_twice (int (int_in (entry_in m.pkg 4))) j) none))))))

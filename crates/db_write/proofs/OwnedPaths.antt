@@ -11,7 +11,7 @@ use Rattle.adb_view.proofs.ValueEntries.{entries_arr, nth_obj, text_blob}
 use Rattle.adb_copy.proofs.WithoutZeros.{text_zeros}
 use Rattle.adb_copy.proofs.Entries.{entry_zeros}
 use Rattle.db_core.specs.Members.{Listing, Member, listings_by, listings_from, listings_in_folder, listings_in_folders, member_listings}
-use Rattle.db_write.specs.NewDatabase.{file_count, folder_after, folders_after, info_after, member_file_count, owned_entries, package_after, packages_after}
+use Rattle.db_write.specs.NewDatabase.{file_count, folder_after, folders_after, info_in_new_database, member_file_count, owned_entries, package_after, packages_after}
 use Rattle.db_core.specs.OwnedListings.{owned_listings, owned_paths}
 use Rattle.db_write.proofs.Listed.{in_folder, in_folders}
 
@@ -68,7 +68,7 @@ folders_owned m place i (d ∷ ds) flags =
 pub package_owned : (m : Member) (place : ℕ) (flags : List Bool) → paths_in (package_after m flags) ≡ paths_of (listings_by place m) flags
 package_owned m place flags =
     let folders : folders_in (package_after m flags) ≡ list_of (folders_after (folders_in m.pkg) flags) =
-    ap (λ v. list_of (entries_in v)) (nth_obj (more (info_after m.id (entry_in m.pkg 0)) (more (arr_value (folders_after (folders_in m.pkg) flags))
+    ap (λ v. list_of (entries_in v)) (nth_obj (more (info_in_new_database m.id (entry_in m.pkg 0)) (more (arr_value (folders_after (folders_in m.pkg) flags))
     (more (without_zeros (entry_in m.pkg 2)) (more (without_zeros (entry_in m.pkg 3)) (more (int_or_null (int_in (entry_in m.pkg 4))) none))))) 1)
     ∙ ap list_of (entries_arr (folders_after (folders_in m.pkg) flags)) in
     ap (flat_map paths_under) folders ∙ folders_owned m place 1 (folders_in m.pkg) flags

@@ -9,7 +9,7 @@ use Rattle.adb_copy.specs.adb_fields.Once.{HasNoRepeatedName}
 use Rattle.adb_copy.specs.adb_fields.Repeated.{repeated_fault}
 use Rattle.adb_sound.specs.adb_schema.SoundValues.{KeepsRules}
 use Rattle.adb_sound.specs.adb_schema.Texts.{text_fault}
-use Rattle.adb_sound.specs.adb_write.Canonical.{PayloadCounts, canonical, or_overflow, overflow_of, passes, written_of, MOST_BYTES, MOST_VALUES}
+use Rattle.adb_sound.specs.adb_write.Canonical.{PayloadCounts, canonical, or_overflow, overflow_of, exceeds_a_limit, written_of, MOST_BYTES, MOST_VALUES}
 use Rattle.adb_sound.specs.adb_write.Size.{size_of, value_count}
 use Rattle.adb_sound.specs.Root.{IsRootOf}
 use Rattle.db_core.specs.Members.{AreInOrder, Member, member_listings}
@@ -34,7 +34,7 @@ within members flags bytes h = within_by (database_value members flags) (overflo
 -- ---- what the layers below say
 
 abbrev pub Exact : Type 0
-Exact = (v : Plain) → IsNormal v → is_some (overflow_of v) ≡ passes (size_of v, value_count v)
+Exact = (v : Plain) → IsNormal v → is_some (overflow_of v) ≡ exceeds_a_limit (size_of v, value_count v)
 
 abbrev pub Kept : Type 0
 Kept = (which : Which) (v : Plain) → (text_fault which v ≡ None) ↔ KeepsRules which v

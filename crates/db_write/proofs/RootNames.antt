@@ -17,7 +17,7 @@ use Rattle.adb_view.proofs.ValueEntries.{entries_arr, nth_obj, text_blob}
 use Rattle.adb_copy.proofs.WithoutZeros.{text_zeros}
 use Rattle.adb_copy.proofs.Zeros.{at_other, nth_zeros}
 use Rattle.db_core.specs.Members.{AreInOrder, Member, member_listings, member_name}
-use Rattle.db_write.specs.NewDatabase.{database_value, file_count, folder_after, folders_after, info_after, member_file_count, owned_entries, package_after, packages_after}
+use Rattle.db_write.specs.NewDatabase.{database_value, file_count, folder_after, folders_after, info_in_new_database, member_file_count, owned_entries, package_after, packages_after}
 use Rattle.db_core.specs.OwnedListings.{owned_listings}
 use Rattle.db_core.specs.OwnedListings.{HaveOneOwner}
 use Rattle.db_write.proofs.OneOwner.{owned_apart}
@@ -36,14 +36,14 @@ folder_files d flags =
     ap entries_in (nth_obj (fields_of_folder d flags) 2)
     ∙ entries_arr (owned_entries (files_in d) flags)
 
-pub package_info : (m : Member) (flags : List Bool) → entry_in (package_after m flags) 0 ≡ info_after m.id (entry_in m.pkg 0)
+pub package_info : (m : Member) (flags : List Bool) → entry_in (package_after m flags) 0 ≡ info_in_new_database m.id (entry_in m.pkg 0)
 package_info m flags = nth_obj (fields_of_package m flags) 0
 
 pub package_folders : (m : Member) (flags : List Bool) → entries_in (entry_in (package_after m flags) 1) ≡ folders_after (folders_in m.pkg) flags
 package_folders m flags = ap entries_in (nth_obj (fields_of_package m flags) 1) ∙ entries_arr (folders_after (folders_in m.pkg) flags)
 
 -- a field of an information but its hash and its size
-pub info_entry : (id : Option (List ℕ)) (info : Plain) (i : ℕ) → (2 ≡ i → ⊥) → (12 ≡ i → ⊥) → entry_in (info_after id info) i ≡ without_zeros (entry_in info i)
+pub info_entry : (id : Option (List ℕ)) (info : Plain) (i : ℕ) → (2 ≡ i → ⊥) → (12 ≡ i → ⊥) → entry_in (info_in_new_database id info) i ≡ without_zeros (entry_in info i)
 unfolding info_with without_zeros
 info_entry id info i a b =
     let hash : Plain = blob (unwrap_or id (text_in (entry_in info 2))) in

@@ -15,7 +15,7 @@ use Rattle.adb_view.proofs.Normal.{arr_normal, blob_value_normal, obj_normal}
 use Rattle.adb_copy.proofs.Shapes.{entries_shape, nth_shape}
 use Rattle.adb_copy.proofs.WithoutZeros.{HasInts, HaveInts, each_ints, entries_ints, int_normal, int_shape, nth_ints, placed_normal, placed_shape, read_small, zeros_normal, zeros_shape}
 use Rattle.db_core.specs.Members.{Member}
-use Rattle.db_write.specs.NewDatabase.{database_value, each_by_flags, file_count, folder_after, folders_after, info_after, member_file_count, owned_entries, package_after, packages_after}
+use Rattle.db_write.specs.NewDatabase.{database_value, each_by_flags, file_count, folder_after, folders_after, info_in_new_database, member_file_count, owned_entries, package_after, packages_after}
 use Rattle.db_core.specs.SoundMembers.{AreOfSoundContainers}
 use Rattle.db_write.proofs.SoundPackages.{MayEnter, member_enters}
 use Rattle.db_write.proofs.Unchanged.{array_entries}
@@ -56,7 +56,7 @@ abbrev pub fields_of_folder : Plain → List Bool → Plains
 fields_of_folder d flags = more (blob_or_null (name_of d)) (more (without_zeros (entry_in d 1)) (more (arr_value (owned_entries (files_in d) flags)) none))
 
 abbrev pub fields_of_package : Member → List Bool → Plains
-fields_of_package m flags = more (info_after m.id (entry_in m.pkg 0)) (more (arr_value (folders_after (folders_in m.pkg) flags))
+fields_of_package m flags = more (info_in_new_database m.id (entry_in m.pkg 0)) (more (arr_value (folders_after (folders_in m.pkg) flags))
     (more (without_zeros (entry_in m.pkg 2)) (more (without_zeros (entry_in m.pkg 3)) (more (int_or_null (int_in (entry_in m.pkg 4))) none))))
 
 abbrev pub fields_of_database : List Member → List Bool → Plains
@@ -64,7 +64,7 @@ fields_of_database members flags = more (arr_value (packages_after members flags
 
 -- ---- normal
 
-info_normal : (id : Option (List ℕ)) (info : Plain) → HasInts info → IsNormal (info_after id info)
+info_normal : (id : Option (List ℕ)) (info : Plain) → HasInts info → IsNormal (info_in_new_database id info)
 unfolding info_with HasInts
 info_normal id info h = placed_normal 12 2 (int (int_in (entry_in info 12))) (blob (unwrap_or id (text_in (entry_in info 2)))) (entries_in info)
     (read_small (entry_in info 12) (nth_ints (entries_in info) 12 (entries_ints info h))) tt (entries_ints info h)
@@ -110,7 +110,7 @@ database_normal members flags h =
 
 -- ---- of its shape
 
-info_shape : (id : Option (List ℕ)) (info : Plain) → HasShape (shape_of (Obj Tables.PkgInfo)) info → HasShape (shape_of (Obj Tables.PkgInfo)) (info_after id info)
+info_shape : (id : Option (List ℕ)) (info : Plain) → HasShape (shape_of (Obj Tables.PkgInfo)) info → HasShape (shape_of (Obj Tables.PkgInfo)) (info_in_new_database id info)
 unfolding info_with HasShape shape_of
 info_shape id info h = placed_shape 3 INFO 12 2 (int (int_in (entry_in info 12))) (blob (unwrap_or id (text_in (entry_in info 2)))) (entries_in info) tt tt tt tt (entries_shape 3 INFO info h)
 

@@ -23,7 +23,7 @@ use Rattle.adb_copy.proofs.WithoutZeros.{int_zeros, text_zeros}
 use Rattle.adb_copy.proofs.Zeros.{at_other, at_same, nth_zeros, zeros_array}
 use Rattle.adb_copy.proofs.Entries.{entry_zeros}
 use Rattle.db_core.specs.Members.{Member}
-use Rattle.db_write.specs.NewDatabase.{database_value, file_count, folder_after, folders_after, info_after, member_file_count, owned_entries, package_after, packages_after}
+use Rattle.db_write.specs.NewDatabase.{database_value, file_count, folder_after, folders_after, info_in_new_database, member_file_count, owned_entries, package_after, packages_after}
 use Rattle.db_core.specs.OwnedListings.{owned_paths}
 use Rattle.db_core.specs.SoundMembers.{AreOfSoundContainers, IsOfSoundContainer, NoneReserved}
 use Rattle.db_write.proofs.OwnedPaths.{all_owned_listed, name_zeros}
@@ -47,7 +47,7 @@ each_zeros P f (more v vs) h = (f v h.0, each_zeros P f vs h.1)
 array_zeros : (P : Plain → Type 0) (v : Plain) → IsArrayOf P v → entries_in (without_zeros v) ≡ all_without_zeros (entries_in v)
 array_zeros P v h = ap entries_in (zeros_array P v h) ∙ entries_arr (all_without_zeros (entries_in v))
 
-hash_after : (id : Option (List ℕ)) (info : Plain) → text_in (entry_in (info_after id info) 2) ≡ unwrap_or id (text_in (entry_in info 2))
+hash_after : (id : Option (List ℕ)) (info : Plain) → text_in (entry_in (info_in_new_database id info) 2) ≡ unwrap_or id (text_in (entry_in info 2))
 unfolding info_with without_zeros
 hash_after id info =
     let hash : Plain = blob (unwrap_or id (text_in (entry_in info 2))) in
@@ -62,11 +62,11 @@ hash_kept pkg info None h e = e
 hash_kept pkg info (Some id) h e = digest_or_none (length id) h.digest
 
 module _ (id : Option (List ℕ)) (info : Plain) (shape : HasShape (shape_of (Obj Tables.PkgInfo)) info) where
-  text_kept : (i : ℕ) → (2 ≡ i → ⊥) → (12 ≡ i → ⊥) → text_in (entry_in (info_after id info) i) ≡ text_in (entry_in info i)
+  text_kept : (i : ℕ) → (2 ≡ i → ⊥) → (12 ≡ i → ⊥) → text_in (entry_in (info_in_new_database id info) i) ≡ text_in (entry_in info i)
   text_kept i a b = ap text_in (info_entry id info i a b) ∙ text_zeros (entry_in info i)
 
   list_kept : (i : ℕ) → (2 ≡ i → ⊥) → (12 ≡ i → ⊥) → IsArrayOf (HasShape (shape_of (Obj Tables.Dep))) (entry_in info i) → Each IsSoundDependency (entries_in (entry_in info i))
-      → Each IsSoundDependency (entries_in (entry_in (info_after id info) i))
+      → Each IsSoundDependency (entries_in (entry_in (info_in_new_database id info) i))
   list_kept i a b array h =
       subst (Each IsSoundDependency) (sym (ap entries_in (info_entry id info i a b) ∙ array_zeros (HasShape (shape_of (Obj Tables.Dep))) (entry_in info i) array))
       (each_zeros IsSoundDependency zeros_dependency (entries_in (entry_in info i)) h)
@@ -74,7 +74,7 @@ module _ (id : Option (List ℕ)) (info : Plain) (shape : HasShape (shape_of (Ob
   dependencies : (i : ℕ) → Type 0
   dependencies i = IsArrayOf (HasShape (shape_of (Obj Tables.Dep))) (entry_in info i)
 
-  pub info_kept : (pkg : Plain) → IsOfSoundContainer pkg id → IsInformation Tables.Idb info → IsInformation Tables.Idb (info_after id info)
+  pub info_kept : (pkg : Plain) → IsOfSoundContainer pkg id → IsInformation Tables.Idb info → IsInformation Tables.Idb (info_in_new_database id info)
   unfolding shape_of HasShape
   info_kept pkg from h =
       let fields = entries_shape 3 (shapes_of (table Tables.PkgInfo)) info shape in

@@ -16,7 +16,7 @@ use Rattle.adb_copy.proofs.Fields.{INFO, info_written, object_written}
 use Rattle.adb_copy.proofs.Shapes.{entries_shape, nth_shape}
 use Rattle.adb_copy.proofs.Zeros.{zeros_array}
 use Rattle.db_core.specs.Members.{Member, member_of_kept, members_of_kept}
-use Rattle.db_write.specs.NewDatabase.{database_container, database_of, database_value, each_by_flags, file_count, folder_after, folders_after, info_after, member_file_count, owned_entries, package_after, packages_after, total_of}
+use Rattle.db_write.specs.NewDatabase.{database_container, database_of, database_value, each_by_flags, file_count, folder_after, folders_after, info_in_new_database, member_file_count, owned_entries, package_after, packages_after, total_of}
 use Rattle.db_write.specs.Unchanged.{all_owned}
 
 -- ---- flags that are all set
@@ -71,7 +71,7 @@ folder_same v m h enough =
 
 -- ---- packages
 
-info_same : (info : Plain) → HasShape (shape_of (Kinds.Obj Tables.PkgInfo)) info → info_after None info ≡ without_zeros info
+info_same : (info : Plain) → HasShape (shape_of (Kinds.Obj Tables.PkgInfo)) info → info_in_new_database None info ≡ without_zeros info
 unfolding shape_of
 info_same info h =
     info_written info (text_in (entry_in info 2)) (int_in (entry_in info 12)) h _ _ _ _ _ _ _ _ _ _ _ _ _ _ _ _ _ _ _ _

@@ -59,8 +59,8 @@ abbrev pub member_file_count : Member → ℕ
 member_file_count m = total_of file_count (folders_in m.pkg)
 
 -- the information of a package in the new database; the hash of an added package is its id
-abbrev pub info_after : Option (List ℕ) → Plain → Plain
-info_after id info =
+abbrev pub info_in_new_database : Option (List ℕ) → Plain → Plain
+info_in_new_database id info =
     info_with info (unwrap_or id (text_in (entry_in info INFO_HASHES)))
     (int_in (entry_in info INFO_FILE_SIZE))
 
@@ -68,7 +68,7 @@ info_after id info =
 -- priority in replacing
 abbrev pub package_after : Member → List Bool → Plain
 package_after m flags =
-    obj_value (more (info_after m.id (entry_in m.pkg PACKAGE_INFO))
+    obj_value (more (info_in_new_database m.id (entry_in m.pkg PACKAGE_INFO))
     (more (arr_value (folders_after (folders_in m.pkg) flags))
     (more (without_zeros (entry_in m.pkg PACKAGE_SCRIPTS))
     (more (without_zeros (entry_in m.pkg PACKAGE_TRIGGERS))

@@ -11,7 +11,7 @@ ghost use Rattle.adb_view.specs.Adb.{payload_of};
 ghost use Rattle.adb_view.specs.Plain.{arr_value};
 ghost use Rattle.db_core.specs.Members.{Member};
 ghost use Rattle.db_core.specs.Seen.{members_of, payload_before};
-ghost use Rattle.db_write.specs.NewDatabase.{info_after, member_file_count, package_after, packages_after};
+ghost use Rattle.db_write.specs.NewDatabase.{info_in_new_database, member_file_count, package_after, packages_after};
 ghost use Rattle.std.specs.Prelude.{◌≡◌, ◌<◌, true, OnOk, Some, drop, length, slice_get, unwrap_or};
 
 use crate::folders::{flags_behind, write_folders};
@@ -129,7 +129,7 @@ fn write_member_info(
 ) -> Result<(), AllocError>
     requires sound { is_sound (payload_of adb) (Kinds.Obj Tables.Package) pkg ≡ true }
     requires known { AreBlobsOf (payload_of adb) draft.old known.old }
-    ensures info { OnOk result (draft.new ≡ draft_with (info_after id (entry_in
+    ensures info { OnOk result (draft.new ≡ draft_with (info_in_new_database id (entry_in
         (value_at (payload_of adb.entry) (Kinds.Obj Tables.Package) pkg) PACKAGE_INFO))
         draft.old) }
     ensures known { OnOk result (AreBlobsOf (payload_of adb.entry) draft.new known.new) }

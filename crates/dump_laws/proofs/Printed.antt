@@ -19,7 +19,7 @@ use Rattle.adb_view.specs.Visits.{MOST_VALUES}
 use Rattle.adb_view.specs.declared.tables.Which.{Which}
 use Rattle.adb_view.specs.declared.tables.Kind.TheVariants.{Obj}
 use Rattle.outcome.specs.adb_schema.Soundness.{first_payload, root_value, schema_word}
-use Rattle.outcome.specs.adb_write.Canonical.{Layout, MOST_BYTES, canonical, empty_layout, overflow_of, passes, payload_with_root, write, written_of}
+use Rattle.outcome.specs.adb_write.Canonical.{Layout, MOST_BYTES, canonical, empty_layout, exceeds_a_limit, overflow_of, payload_with_root, write, written_of}
 use Rattle.outcome.specs.adb_write.Size.{size_of, value_count}
 use Rattle.outcome.specs.adb_write.File.{adb_piece, file_of}
 use Rattle.outcome.specs.pkg_core.Whole.{root_of_schema}
@@ -42,7 +42,7 @@ pub record HasNamesAmong (which : Which) (v : Plain) : Type 0 where
 
 -- what the layer below says of a value that overflows
 abbrev pub Overflows : Type 0
-Overflows = (v : Plain) → IsNormal v → is_some (overflow_of v) ≡ passes (size_of v, value_count v)
+Overflows = (v : Plain) → IsNormal v → is_some (overflow_of v) ≡ exceeds_a_limit (size_of v, value_count v)
 
 neither : (a b : Bool) → false ≡ (a || b) → (a ≡ false) × (b ≡ false)
 neither true b e = absurd cc

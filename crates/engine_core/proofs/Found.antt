@@ -36,7 +36,7 @@ use Rattle.change_report.specs.path_clashes.FirstClash.{IsClashOf, MayBeClashOf}
 use Rattle.report_core.specs.declared.refusal.Refusal.{Refusal}
 use Rattle.report_core.specs.declared.refusal.Refusal.TheVariants.{Owned, PathClash, Reserved}
 use Rattle.engine_core.specs.ChangeRun.{CarriesOut}
-use Rattle.engine_core.specs.Finishing.{AreArrivals, IsArrived, IsPlanned, arrived_inputs, arrived_replacement}
+use Rattle.engine_core.specs.Finishing.{HasReadArrivals, IsArrived, IsPlanned, arrived_inputs, arrived_replacement}
 use Rattle.engine_core.specs.Plans.{HasNoPlan, IsPlanFrom, IsRefusedFor}
 use Rattle.engine_core.specs.declared.planning.Arrived.{Arrived}
 use Rattle.engine_core.specs.declared.planning.Planned.{Planned}
@@ -244,6 +244,6 @@ planned_step_run old mid now before between after p wishes found result comes pl
     (comes plan.lists.files (planned_step old mid p wishes found plan quiet.same arrived))
 
 -- the packages after a change have arrived
-pub has_arrived : (history : List TreeState) (a : Arrived) (found : List MemberFound) → members_of a.members.now ≡ found_members found → AreArrivals history a.selection.now a.names.now a.arrivals.now found
+pub has_arrived : (history : List TreeState) (a : Arrived) (found : List MemberFound) → members_of a.members.now ≡ found_members found → HasReadArrivals history a.selection.now a.names.now a.arrivals.now found
     → IsArrived history a found
 has_arrived history a found members read = record { read = read; members = members }

@@ -32,7 +32,7 @@ use Rattle.change_report.specs.candidate_core.declared.candidate_list.TheConstan
 use Rattle.report_core.specs.declared.refusal.Refusal.{Refusal}
 use Rattle.engine_core.specs.ChangeRun.{CarriesOut}
 use Rattle.engine_core.specs.Changed.{IsClashOfSelectedAmong, IsClashUnlessSimulatedAmong, change_of_selected, simulated_change}
-use Rattle.engine_core.specs.Finishing.{AreArrivals, IsRootRead}
+use Rattle.engine_core.specs.Finishing.{HasReadArrivals, IsRootRead}
 use Rattle.engine_core.specs.Runs.{IsSelectedRun}
 use Rattle.engine_core.specs.Selecting.{pool_by}
 use Rattle.engine_core.specs.SelectionSeen.{HasItsDatabase, inputs_of_selection, replacement_seen, selection_seen}
@@ -118,8 +118,8 @@ module _ (s : Selection) (database : HasItsDatabase s) (command : CommandLine) w
         found_is : change_members inputs (replacement_seen s) wishes explained.read ≡ Ok explained.is.0
         found_is = sym (members_are explained.read repositories flags are is_flags) ∙ explained.is.1
 
-        pub arrived : AreArrivals mid s names arrivals explained.is.0
-        arrived = subst (λ (h : List TreeState). AreArrivals h s names arrivals explained.is.0) (sym quiet.same) (record {
+        pub arrived : HasReadArrivals mid s names arrivals explained.is.0
+        arrived = subst (λ (h : List TreeState). HasReadArrivals h s names arrivals explained.is.0) (sym quiet.same) (record {
           database = database;
           placed = named;
           read = explained.is.2;

@@ -14,7 +14,7 @@ use Rattle.change_report.specs.own_core.Planned.{written_names}
 use Rattle.change_report.specs.own_core.WritesSeen.{writes_in}
 use Rattle.change_report.specs.own_core.declared.planning.FilePlan.{FilePlan}
 use Rattle.journal_staging.specs.declared.writes.StagedWrite.{StagedWrite}
-use Rattle.engine_core.specs.Writing.{IsFileWrite, IsRecordOf, IsSourceOfWrite, IsWriteBy, Packages, database_and_world_names, record_writes, write_name}
+use Rattle.engine_core.specs.Writing.{IsFileWrite, IsRecordOf, IsSourceOfWrite, IsWriteBy, PackagesRead, database_and_world_names, record_writes, write_name}
 use Rattle.engine_core.specs.declared.writes.RecordWrites.{RecordWrites}
 use Rattle.engine_core.proofs.Elements.{all_each, contains_at, each_all, each_both, each_weaker, mapped_at}
 use Rattle.engine_core.proofs.Lists.{map_both, map_more, take_next}
@@ -23,14 +23,14 @@ use Rattle.engine_core.proofs.Once.{each_sorted, names_sorted, once_ordered}
 -- ---- the planned files
 
 -- the first so many are added to others
-abbrev pub Wrote : List Member → Packages → FilePlan → List StagedWrite → ℕ → List StagedWrite → Type 0
+abbrev pub Wrote : List Member → PackagesRead → FilePlan → List StagedWrite → ℕ → List StagedWrite → Type 0
 Wrote members packages plan base i now =
     (files : List StagedWrite)
     × (now ≡ base ++ files)
     × (map write_name files ≡ take i (written_names plan))
     × Each (IsFileWrite members packages (writes_in plan.writes)) files
 
-module _ (members : List Member) (packages : Packages) (plan : FilePlan) (base : List StagedWrite) where
+module _ (members : List Member) (packages : PackagesRead) (plan : FilePlan) (base : List StagedWrite) where
   pub none_wrote : Wrote members packages plan base 0 base
   none_wrote = ([], sym (nothing base), refl, tt)
     where
@@ -71,7 +71,7 @@ record_each Q name (Some bytes) each = (each _ (record { named = refl; source = 
 
 -- ---- all of them
 
-module _ (members : List Member) (packages : Packages) (plan : FilePlan) (r : RecordWrites) where
+module _ (members : List Member) (packages : PackagesRead) (plan : FilePlan) (r : RecordWrites) where
   abbrev pub Gathered : List StagedWrite → Type 0
   Gathered items =
       (files : List StagedWrite)

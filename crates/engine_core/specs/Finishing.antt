@@ -51,7 +51,7 @@ abbrev pub arrived_members : Arrived → List Member
 arrived_members a = members_of a.members.now
 
 -- the added packages were read, and with the kept ones they are those that are found
-pub record AreArrivals (history : List TreeState) (s : Selection) (names : PlacedNames)
+pub record HasReadArrivals (history : List TreeState) (s : Selection) (names : PlacedNames)
     (arrivals : Arrivals) (found : List MemberFound) : Type 0 where
   pub database : HasItsDatabase s
   pub placed : placed_names_seen names
@@ -61,7 +61,7 @@ pub record AreArrivals (history : List TreeState) (s : Selection) (names : Place
 
 -- the packages after a change have arrived: they were read, and one database can list their members
 pub record IsArrived (history : List TreeState) (a : Arrived) (found : List MemberFound) : Type 0 where
-  pub read : AreArrivals history a.selection.now a.names.now a.arrivals.now found
+  pub read : HasReadArrivals history a.selection.now a.names.now a.arrivals.now found
   pub members : arrived_members a ≡ found_members found
 
 -- ---- the plan

@@ -29,18 +29,18 @@ entry_of_write members w =
     listed_file_at (folders_if_any (slice_get members w.member)) w.folder w.file
 
 -- the packages that were read for the added members, by their places
-abbrev pub Packages : Type 0
-Packages = ℕ → Option TestedPackage
+abbrev pub PackagesRead : Type 0
+PackagesRead = ℕ → Option TestedPackage
 
 -- a file in a package is the one that a write is of
-pub record IsFileOfWrite (packages : Packages) (w : FileWrite) (f : PackagedFile) : Type 0 where
+pub record IsFileOfWrite (packages : PackagesRead) (w : FileWrite) (f : PackagedFile) : Type 0 where
   pub read : packages w.member ≡ Some f.package.now
   pub member : f.member ≡ w.member
   pub folder : f.folder ≡ w.folder
   pub file : f.file ≡ w.file
 
 -- the source of a write's bytes: a link's text, or the file in the package
-abbrev pub IsSourceOfWrite : List Member → Packages → FileWrite → Source → Type 0
+abbrev pub IsSourceOfWrite : List Member → PackagesRead → FileWrite → Source → Type 0
 IsSourceOfWrite members packages w (Bytes own) = ⊥
 IsSourceOfWrite members packages w (Link target) =
     (has_target (entry_of_write members w) ≡ true)
@@ -49,7 +49,7 @@ IsSourceOfWrite members packages w (File f) =
     (has_target (entry_of_write members w) ≡ false) × IsFileOfWrite packages w f
 
 -- the staged file of a name is the one that the plan writes there
-pub record IsFileWrite (members : List Member) (packages : Packages) (planned : List FileWrite)
+pub record IsFileWrite (members : List Member) (packages : PackagesRead) (planned : List FileWrite)
     (write : StagedWrite) : Type 0 where
   pub file : FileWrite
   pub planned_file : Contains planned file
@@ -89,7 +89,7 @@ database_and_world_names r =
 
 -- a write is that of a file of a package, of the database, or of world
 abbrev pub IsWriteBy :
-    List Member → Packages → List FileWrite → RecordWrites → StagedWrite → Type 0
+    List Member → PackagesRead → List FileWrite → RecordWrites → StagedWrite → Type 0
 IsWriteBy members packages planned r write =
     IsFileWrite members packages planned write
     ⊎ (IsRecordOf r.database_name.now r.database write

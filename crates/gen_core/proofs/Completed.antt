@@ -10,7 +10,7 @@ use Rattle.base_core.specs.Lists.{and_then}
 use Rattle.base_core.proofs.AtName.{is_name}
 use Rattle.adb_dump.specs.Dump.{Line, int_line, text_line, hash_line, indent, with_dash, or_null, array_lines, block_lines, named_line, named_block, named_lines, fields_lines, unless_absent}
 use Rattle.adb_dump.specs.Values.{IsOfBytes, AreOfBytes}
-use Rattle.adb_dump.specs.ReadBack.{LinesRead, after_lines, strip_prefix, split_block, only_line, entry_read, after_dash, entries_read, arr_read, obj_read, field_on_line, field_below, if_form, if_named, block_read, named_read, fields_read, int_read, text_read, hash_read}
+use Rattle.adb_dump.specs.ReadBack.{ResultOrBadLine, after_lines, strip_prefix, split_block, only_line, entry_read, after_dash, entries_read, arr_read, obj_read, field_on_line, field_below, if_form, if_named, block_read, named_read, fields_read, int_read, text_read, hash_read}
 use Rattle.adb_dump.proofs.Booleans.{chosen}
 use Rattle.adb_dump.proofs.ReadOnly.{block_only, Fits1, split_block_parts, strip_prefix_some, keeps, or_null-is}
 use Rattle.adb_dump.proofs.BlockLines.{no_lines}
@@ -204,7 +204,7 @@ line_completed s h p ls k e = go ls (sym (h ls) ∙ e)
     go (l ∷ []) e = at_first s p (l ∷ []) k (line_zero s l k e)
     go (l ∷ m ∷ ms) e = by_first (line_read s l) refl e
       where
-        by_first : (x : LinesRead Plain) → line_read s l ≡ x → and_then x (λ v. no_value 1) ≡ no_value k → Completed s (l ∷ m ∷ ms) k
+        by_first : (x : ResultOrBadLine Plain) → line_read s l ≡ x → and_then x (λ v. no_value 1) ≡ no_value k → Completed s (l ∷ m ∷ ms) k
         by_first (Err j) is e = at_first s p (l ∷ m ∷ ms) k (line_zero s l k (is ∙ e))
         by_first (Ok v) is e =
             let one : 1 ≡ k = value_number 1 k e in
@@ -321,7 +321,7 @@ entries_completed s h zero ls k e = absurd cc
 entries_completed s h (suc n) [] k e = absurd cc
 entries_completed s h (suc n) (l ∷ ls) k e = go (strip_prefix (codes "- ") l) refl (entries_completed s h n (split_block ls).1) e
   where
-    after : (m : Line) → Some m ≡ strip_prefix (codes "- ") l → ((j : ℕ) → entries_read (block_read s) n (split_block ls).1 ≡ Err j → EntriesCompleted s (split_block ls).1 j) → (x : LinesRead Plain) → entry_read (block_read s) m (split_block ls).0 ≡ x
+    after : (m : Line) → Some m ≡ strip_prefix (codes "- ") l → ((j : ℕ) → entries_read (block_read s) n (split_block ls).1 ≡ Err j → EntriesCompleted s (split_block ls).1 j) → (x : ResultOrBadLine Plain) → entry_read (block_read s) m (split_block ls).0 ≡ x
         → and_then x (λ v. after_lines (1 + length (split_block ls).0) (more v) (entries_read (block_read s) n (split_block ls).1)) ≡ no_values k → EntriesCompleted s (l ∷ ls) k
     after m dash next (Err j) is e = entry_ends s l m ls k dash (entry_completed s h m (split_block ls).0 k (is ∙ ap no_value (values_number j k e)))
     after m dash next (Ok v) is e =
@@ -343,7 +343,7 @@ array_completed s h ls k e =
     ]
   where
     zero_of : entries_read (block_read s) (length ls) ls ≡ Ok none → and_then (entries_read (block_read s) (length ls) ls) arr_read ≡ no_value k → k ≡ 0
-    zero_of nothing e = sym (value_number 0 k (sym (ap (λ (r : LinesRead Plains). and_then r arr_read) nothing) ∙ e))
+    zero_of nothing e = sym (value_number 0 k (sym (ap (λ (r : ResultOrBadLine Plains). and_then r arr_read) nothing) ∙ e))
 
 -- ---- fields
 
@@ -461,7 +461,7 @@ on_line_completed name s fs form read h fits next l rest ls k here e = go (strip
               | inr x ↦ absurd (let f = x.1 in cc)
             ]
 
-    after : (word : Line) → Some word ≡ strip_prefix (codes " ") rest → (x : LinesRead Plain) → if_form form word (read word) ≡ x → and_then x (λ v. after_lines 1 (more v) (fields_read fs ls)) ≡ no_values k → FieldsCompleted (field name s fs) (l ∷ ls) k
+    after : (word : Line) → Some word ≡ strip_prefix (codes " ") rest → (x : ResultOrBadLine Plain) → if_form form word (read word) ≡ x → and_then x (λ v. after_lines 1 (more v) (fields_read fs ls)) ≡ no_values k → FieldsCompleted (field name s fs) (l ∷ ls) k
     after word space (Err j) is e = no_field (field name s fs) (l ∷ ls) k (sym (values_number j k e) ∙ form_zero form word (read word) j is)
     after word space (Ok v) is e =
         let (j, bad, count) = later 1 v (fields_read fs ls) k e in
@@ -477,7 +477,7 @@ below_completed : (name : List ℕ) (s : Shape) (fs : Fields) → ((v : Plain) �
 below_completed name s fs h inner next l (c ∷ cs) ls k here e = no_field (field name s fs) (l ∷ ls) k (sym (values_number 0 k e))
 below_completed name s fs h inner next l [] ls k here e = go (block_read s (split_block ls).0) refl e
   where
-    go : (x : LinesRead Plain) → block_read s (split_block ls).0 ≡ x → and_then (after_lines 1 (λ v. v) x) (λ v. after_lines (1 + length (split_block ls).0) (more v) (fields_read fs (split_block ls).1)) ≡ no_values k → FieldsCompleted (field name s fs) (l ∷ ls) k
+    go : (x : ResultOrBadLine Plain) → block_read s (split_block ls).0 ≡ x → and_then (after_lines 1 (λ v. v) x) (λ v. after_lines (1 + length (split_block ls).0) (more v) (fields_read fs (split_block ls).1)) ≡ no_values k → FieldsCompleted (field name s fs) (l ∷ ls) k
     go (Err j) is e = below_ends name s fs h l [] ls k j here refl (sym (values_number (1 + j) k e)) (inner (split_block ls).0 j is)
     go (Ok v) is e =
         let (j, bad, count) = later (1 + length (split_block ls).0) v (fields_read fs (split_block ls).1) k e in
@@ -528,7 +528,7 @@ unfolding block_read block_lines
 object_completed which fs p h ls k e =
     elim (obj_bad (fields_read fs ls) k e) [
       | inl bad ↦ by_values (h ls k bad)
-      | inr nothing ↦ at_first (object which fs) p ls k (sym (value_number 0 k (sym (ap (λ (r : LinesRead Plains). and_then r obj_read) nothing) ∙ e)))
+      | inr nothing ↦ at_first (object which fs) p ls k (sym (value_number 0 k (sym (ap (λ (r : ResultOrBadLine Plains). and_then r obj_read) nothing) ∙ e)))
     ]
   where
     empty_front : (xs ys : List Line) → [] ≡ xs ++ ys → xs ≡ []

@@ -7,12 +7,12 @@ use Rattle.adb_values.specs.Drafts.{DraftState, draft_with, draft_with_all, draf
 use Rattle.base_core.specs.Lists.{and_then}
 use Rattle.adb_dump.specs.Dump.{Line}
 use Rattle.adb_dump.specs.Margin.{margin}
-use Rattle.adb_dump.specs.ReadBack.{LinesRead, after_lines, strip_prefix, stop_or_add, split_block, with_line, only_line, entry_read, after_dash, entries_read, arr_read, obj_read, field_on_line, field_below, if_named, block_read, named_read, fields_read}
+use Rattle.adb_dump.specs.ReadBack.{ResultOrBadLine, after_lines, strip_prefix, stop_or_add, split_block, with_line, only_line, entry_read, after_dash, entries_read, arr_read, obj_read, field_on_line, field_below, if_named, block_read, named_read, fields_read}
 use Rattle.adb_dump.proofs.Booleans.{chosen}
 use Rattle.adb_dump.proofs.ReadOnly.{FieldsOnly, fields_only, some_line as no_line}
 use Rattle.adb_dump.proofs.ValueBack.{strip_prefix-append}
 use Rattle.gen_core.specs.Cursors.{CursorState, after_block, after_line, at_entry, block_at, cursor_by, line_of_block, levels_after}
-use Rattle.gen_core.specs.Reads.{Read, block_taken, end_read, entry_block_read, is_null_line, line_read, line_taken, values_taken, IsTextFault}
+use Rattle.gen_core.specs.Reads.{DraftOrBadLine, block_taken, end_read, entry_block_read, is_null_line, line_read, line_taken, values_taken, IsTextFault}
 use Rattle.gen_core.specs.declared.generate.GenFault.{GenFault}
 use Rattle.gen_core.proofs.Blocks.{FirstLine, Inner, Split, first_line, inner_block, no_block}
 use Rattle.gen_core.proofs.Reading.{Answers, CountsOnlyRise, Reading, bad_at, later_values, place_ends, taken}
@@ -38,12 +38,12 @@ split_count (l ∷ ls) = go (strip_prefix (codes "  ") l) (split_count ls)
 
 -- ---- entries
 
-same_dash : (f : List Line → LinesRead Plain) (g h : List Line → LinesRead Plains) (r : Split) (o : Option Line) → g r.1 ≡ h r.1 → after_dash f g r o ≡ after_dash f h r o
+same_dash : (f : List Line → ResultOrBadLine Plain) (g h : List Line → ResultOrBadLine Plains) (r : Split) (o : Option Line) → g r.1 ≡ h r.1 → after_dash f g r o ≡ after_dash f h r o
 same_dash f g h r None e = refl
-same_dash f g h r (Some l) e = ap (λ (x : LinesRead Plains). and_then (entry_read f l r.0) (λ v. after_lines (1 + length r.0) (more v) x)) e
+same_dash f g h r (Some l) e = ap (λ (x : ResultOrBadLine Plains). and_then (entry_read f l r.0) (λ v. after_lines (1 + length r.0) (more v) x)) e
 
 -- the number of lines is enough turns
-turns_enough : (f : List Line → LinesRead Plain) (n m : ℕ) (ls : List Line) → length ls ≤ n → length ls ≤ m → entries_read f n ls ≡ entries_read f m ls
+turns_enough : (f : List Line → ResultOrBadLine Plain) (n m : ℕ) (ls : List Line) → length ls ≤ n → length ls ≤ m → entries_read f n ls ≡ entries_read f m ls
 turns_enough f zero zero ls a b = refl
 turns_enough f zero (suc m) [] a b = refl
 turns_enough f zero (suc m) (l ∷ ls) a b = absurd (omega (arith, a))
@@ -85,12 +85,12 @@ entry_place depth line entry c e =
     }
 
 -- the entries from one on, by the entry
-entries_from : (f : List Line → LinesRead Plain) (line entry : Line) (ls rest : List Line) (d : DraftState) (c : CursorState) → Some entry ≡ strip_prefix (codes "- ") line
+entries_from : (f : List Line → ResultOrBadLine Plain) (line entry : Line) (ls rest : List Line) (d : DraftState) (c : CursorState) → Some entry ≡ strip_prefix (codes "- ") line
     → values_taken (entries_read f (length (line ∷ ls)) (line ∷ ls)) (line ∷ ls, rest) d c ≡ values_taken (after_dash f (entries_read f (length ls)) (split_block ls) (Some entry)) (line ∷ ls, rest) d c
 entries_from f line entry ls rest d c e =
     ap (λ (o : Option Line). values_taken (after_dash f (entries_read f (length ls)) (split_block ls) o) (line ∷ ls, rest) d c) (sym e)
 
-pub entry_bad : (f : List Line → LinesRead Plain) (depth : ℕ) (line entry : Line) (d : DraftState) (c : CursorState) → Some line ≡ line_of_block (block_at depth c.lines).0 → Some entry ≡ strip_prefix (codes "- ") line → (n : ℕ)
+pub entry_bad : (f : List Line → ResultOrBadLine Plain) (depth : ℕ) (line entry : Line) (d : DraftState) (c : CursorState) → Some line ≡ line_of_block (block_at depth c.lines).0 → Some entry ≡ strip_prefix (codes "- ") line → (n : ℕ)
     → (let new = at_entry (depth + 1) entry c.lines c in block_taken (entry_block_read f (block_at (depth + 1) new.lines).0) (block_at (depth + 1) new.lines) d new ≡ bad_at n)
     → values_taken (entries_read f (length (block_at depth c.lines).0) (block_at depth c.lines).0) (block_at depth c.lines) d c ≡ bad_at n
 entry_bad f depth line entry d c e dash n bad =
@@ -102,7 +102,7 @@ entry_bad f depth line entry d c e dash n bad =
     ∙ entries_from f line entry ls (block_at depth p.others).1 d c dash
     ∙ go (entry_read f entry (split_block ls).0) (inner ∙ refl) p.number
   where
-    go : (r : LinesRead Plain) → block_taken r (entry ∷ (split_block (block_at depth (entry_place depth line entry c e).others).0).0, (block_at (depth + 1) (entry_place depth line entry c e).others).1) d (at_entry (depth + 1) entry c.lines c) ≡ bad_at n
+    go : (r : ResultOrBadLine Plain) → block_taken r (entry ∷ (split_block (block_at depth (entry_place depth line entry c e).others).0).0, (block_at (depth + 1) (entry_place depth line entry c e).others).1) d (at_entry (depth + 1) entry c.lines c) ≡ bad_at n
         → (at_entry (depth + 1) entry c.lines c).number ≡ c.number
         → values_taken (and_then r (λ v. after_lines (1 + length (split_block (block_at depth (entry_place depth line entry c e).others).0).0) (more v) (entries_read f (length (block_at depth (entry_place depth line entry c e).others).0) (split_block (block_at depth (entry_place depth line entry c e).others).0).1)))
         (line ∷ (block_at depth (entry_place depth line entry c e).others).0, (block_at depth (entry_place depth line entry c e).others).1) d c ≡ bad_at n
@@ -110,7 +110,7 @@ entry_bad f depth line entry d c e dash n bad =
     go (Err k) h same = ap (λ (m : ℕ). bad_at (m + k)) (sym same) ∙ h
 
 -- what an entry leaves
-pub record EntryLeft (f : List Line → LinesRead Plain) (depth : ℕ) (d : DraftState) (c : CursorState) (later : Reading) : Type 0 where
+pub record EntryLeft (f : List Line → ResultOrBadLine Plain) (depth : ℕ) (d : DraftState) (c : CursorState) (later : Reading) : Type 0 where
   pub levels : later.1.levels ≡ 0
   pub shorter : length later.1.lines < length c.lines
   pub so_far : values_taken (entries_read f (length (block_at depth later.1.lines).0) (block_at depth later.1.lines).0) (block_at depth later.1.lines) later.0 later.1
@@ -120,14 +120,14 @@ pub no_levels : (ls : List Line) → levels_after ls 0 ≡ 0
 no_levels [] = refl
 no_levels (l ∷ ls) = refl
 
-abbrev read_ok : Reading → Read
+abbrev read_ok : Reading → DraftOrBadLine
 read_ok p = Ok p
 
 one : (p q : Reading) → Ok p ≡ read_ok q → p ≡ q
 one p q e = cc
 
 -- after an entry that was read
-entry_read_left : (f : List Line → LinesRead Plain) (depth : ℕ) (line entry : Line) (d : DraftState) (c new : CursorState) (p : EntryPlace depth line entry c) (v : Plain) → new.number ≡ c.number
+entry_read_left : (f : List Line → ResultOrBadLine Plain) (depth : ℕ) (line entry : Line) (d : DraftState) (c new : CursorState) (p : EntryPlace depth line entry c) (v : Plain) → new.number ≡ c.number
     → values_taken (entries_read f (length (block_at depth c.lines).0) (block_at depth c.lines).0) (block_at depth c.lines) d c
     ≡ values_taken (after_lines (1 + length (split_block (block_at depth p.others).0).0) (more v) (entries_read f (length (block_at depth p.others).0) (split_block (block_at depth p.others).0).1)) (line ∷ (block_at depth p.others).0, (block_at depth p.others).1) d c
     → EntryLeft f depth d c (draft_with v d, after_block (entry ∷ (split_block (block_at depth p.others).0).0, (block_at (depth + 1) p.others).1) new)
@@ -148,12 +148,12 @@ entry_read_left f depth line entry d c new p v same whole =
       shorter = p.shorter;
       so_far =
           ap (λ (b : Split). values_taken (entries_read f (length b.0) b.0) b (draft_with v d) place) p.later
-          ∙ ap (λ (x : LinesRead Plains). values_taken x (r.1, rest) (draft_with v d) place) (turns_enough f (length r.1) (length ls) r.1 (omega arith) (omega (arith, split_count ls)))
+          ∙ ap (λ (x : ResultOrBadLine Plains). values_taken x (r.1, rest) (draft_with v d) place) (turns_enough f (length r.1) (length ls) r.1 (omega arith) (omega (arith, split_count ls)))
           ∙ sym (later_values (line ∷ ls, rest) (r.1, rest) (1 + length r.0) d c place goes v (entries_read f (length ls) r.1))
           ∙ sym whole;
     }
 
-pub entry_left : (f : List Line → LinesRead Plain) (depth : ℕ) (line entry : Line) (d : DraftState) (c : CursorState) → Some line ≡ line_of_block (block_at depth c.lines).0 → Some entry ≡ strip_prefix (codes "- ") line → (later : Reading)
+pub entry_left : (f : List Line → ResultOrBadLine Plain) (depth : ℕ) (line entry : Line) (d : DraftState) (c : CursorState) → Some line ≡ line_of_block (block_at depth c.lines).0 → Some entry ≡ strip_prefix (codes "- ") line → (later : Reading)
     → (let new = at_entry (depth + 1) entry c.lines c in block_taken (entry_block_read f (block_at (depth + 1) new.lines).0) (block_at (depth + 1) new.lines) d new ≡ Ok later)
     → EntryLeft f depth d c later
 entry_left f depth line entry d c e dash later ok = go (entry_read f entry r.0) inner whole
@@ -177,13 +177,13 @@ entry_left f depth line entry d c e dash later ok = go (entry_read f entry r.0) 
         ≡ values_taken (and_then (entry_read f entry r.0) (λ v. after_lines (1 + length r.0) (more v) (entries_read f (length ls) r.1))) (line ∷ ls, (block_at depth p.others).1) d c
     whole = ap (λ (b : Split). values_taken (entries_read f (length b.0) b.0) b d c) p.outer ∙ entries_from f line entry ls (block_at depth p.others).1 d c dash
 
-    go : (x : LinesRead Plain) → block_taken x (entry ∷ r.0, (block_at (depth + 1) p.others).1) d new ≡ Ok later
+    go : (x : ResultOrBadLine Plain) → block_taken x (entry ∷ r.0, (block_at (depth + 1) p.others).1) d new ≡ Ok later
         → values_taken (entries_read f (length (block_at depth c.lines).0) (block_at depth c.lines).0) (block_at depth c.lines) d c ≡ values_taken (and_then x (λ v. after_lines (1 + length r.0) (more v) (entries_read f (length ls) r.1))) (line ∷ ls, (block_at depth p.others).1) d c
         → EntryLeft f depth d c later
     go (Err k) h whole = absurd cc
     go (Ok v) h whole = subst (λ (x : Reading). EntryLeft f depth d c x) (one (draft_with v d, after_block (entry ∷ r.0, (block_at (depth + 1) p.others).1) new) later h) (entry_read_left f depth line entry d c new p v p.number whole)
 
-pub no_dash : (f : List Line → LinesRead Plain) (depth : ℕ) (line : Line) (d : DraftState) (c : CursorState) → Some line ≡ line_of_block (block_at depth c.lines).0 → None ≡ strip_prefix (codes "- ") line
+pub no_dash : (f : List Line → ResultOrBadLine Plain) (depth : ℕ) (line : Line) (d : DraftState) (c : CursorState) → Some line ≡ line_of_block (block_at depth c.lines).0 → None ≡ strip_prefix (codes "- ") line
     → values_taken (entries_read f (length (block_at depth c.lines).0) (block_at depth c.lines).0) (block_at depth c.lines) d c ≡ bad_at c.number
 no_dash f depth line d c e dash =
     let b = (first_line depth c.lines line e).block in
@@ -195,16 +195,16 @@ no_dash f depth line d c e dash =
 
 -- ---- an entry
 
-null_line : (f : List Line → LinesRead Plain) (depth : ℕ) (line : Line) (d : DraftState) (c : CursorState) (b : FirstLine depth c.lines line) → bytes_eq line (codes "null") ≡ true → (r : Result (Unit {0}) GenFault)
+null_line : (f : List Line → ResultOrBadLine Plain) (depth : ℕ) (line : Line) (d : DraftState) (c : CursorState) (b : FirstLine depth c.lines line) → bytes_eq line (codes "null") ≡ true → (r : Result (Unit {0}) GenFault)
     → r ≡ end_read (block_at depth (after_line c.lines c).lines).0 (after_line c.lines c).number → Answers r (block_taken (entry_block_read f (block_at depth c.lines).0) (block_at depth c.lines) d c) (draft_with null d) (after_line c.lines c)
 null_line f depth line d c b e r is =
     let t = block_at depth b.others in
     let whole : block_taken (entry_block_read f (block_at depth c.lines).0) (block_at depth c.lines) d c ≡ block_taken (only_line (λ x. Ok null) (line ∷ t.0)) (line ∷ t.0, t.1) d c =
     ap (λ (b : Split). block_taken (entry_block_read f b.0) b d c) b.block
     ∙ ap (λ (word : Bool). block_taken (cond word (only_line (λ x. Ok null) (line ∷ t.0)) (f (line ∷ t.0))) (line ∷ t.0, t.1) d c) e in
-    subst (λ (x : Read). Answers r x (draft_with null d) (after_line c.lines c)) (sym whole) (place_ends depth line null d c b r is)
+    subst (λ (x : DraftOrBadLine). Answers r x (draft_with null d) (after_line c.lines c)) (sym whole) (place_ends depth line null d c b r is)
 
-pub null_entry : (f : List Line → LinesRead Plain) (depth : ℕ) (d : DraftState) (c : CursorState) → true ≡ is_null_line (line_of_block (block_at depth c.lines).0) → (r : Result (Unit {0}) GenFault)
+pub null_entry : (f : List Line → ResultOrBadLine Plain) (depth : ℕ) (d : DraftState) (c : CursorState) → true ≡ is_null_line (line_of_block (block_at depth c.lines).0) → (r : Result (Unit {0}) GenFault)
     → r ≡ end_read (block_at depth (after_line c.lines c).lines).0 (after_line c.lines c).number → Answers r (block_taken (entry_block_read f (block_at depth c.lines).0) (block_at depth c.lines) d c) (draft_with null d) (after_line c.lines c)
 null_entry f depth d c e r is = by_first (line_of_block (block_at depth c.lines).0) refl e
   where
@@ -212,14 +212,14 @@ null_entry f depth d c e r is = by_first (line_of_block (block_at depth c.lines)
     by_first None h e = absurd cc
     by_first (Some line) h e = null_line f depth line d c (first_line depth c.lines line h) (sym e) r is
 
-pub other_entry : (f : List Line → LinesRead Plain) (ls : List Line) → false ≡ is_null_line (line_of_block ls) → entry_block_read f ls ≡ f ls
+pub other_entry : (f : List Line → ResultOrBadLine Plain) (ls : List Line) → false ≡ is_null_line (line_of_block ls) → entry_block_read f ls ≡ f ls
 other_entry f [] e = refl
 other_entry f (l ∷ ls) e = ap (λ (word : Bool). cond word (only_line (λ x. Ok null) (l ∷ ls)) (f (l ∷ ls))) (sym e)
 
 -- ---- lists
 
 -- a list whose values were read is closed
-pub list_closed : (x : LinesRead Plains) (read : Plains → LinesRead Plain) (made : Plains → Plain) (block : Split) (d : DraftState) (c : CursorState) → ((vs : Plains) → x ≡ Ok vs → read vs ≡ Ok (made vs)) → (later : Reading)
+pub list_closed : (x : ResultOrBadLine Plains) (read : Plains → ResultOrBadLine Plain) (made : Plains → Plain) (block : Split) (d : DraftState) (c : CursorState) → ((vs : Plains) → x ≡ Ok vs → read vs ≡ Ok (made vs)) → (later : Reading)
     → values_taken x block (draft_with_open_list d) c ≡ Ok later → (new : DraftState) → ((vs : Plains) (before : DraftState) → later.0 ≡ draft_with_all vs (draft_with_open_list before) → new ≡ draft_with (made vs) before)
     → block_taken (and_then x read) block d c ≡ taken new later.1
 list_closed (Err k) read made block d c h later ok new close = absurd cc
@@ -227,20 +227,20 @@ list_closed (Ok vs) read made block d c h later ok new close =
     let both = one (draft_with_all vs (draft_with_open_list d), after_block block c) later ok in
     let first : draft_with_all vs (draft_with_open_list d) ≡ later.0 = ap (λ (p : Reading). p.0) both in
     let second : after_block block c ≡ later.1 = ap (λ (p : Reading). p.1) both in
-    ap (λ (r : LinesRead Plain). block_taken r block d c) (h vs refl)
+    ap (λ (r : ResultOrBadLine Plain). block_taken r block d c) (h vs refl)
     ∙ ap (λ (p : CursorState). taken (draft_with (made vs) d) p) second
     ∙ ap (λ (n : DraftState). taken n later.1) (sym (close vs d (sym first)))
 
-pub list_bad : (x : LinesRead Plains) (read : Plains → LinesRead Plain) (block : Split) (d open_draft : DraftState) (c : CursorState) (n : ℕ) → values_taken x block open_draft c ≡ bad_at n → block_taken (and_then x read) block d c ≡ bad_at n
+pub list_bad : (x : ResultOrBadLine Plains) (read : Plains → ResultOrBadLine Plain) (block : Split) (d open_draft : DraftState) (c : CursorState) (n : ℕ) → values_taken x block open_draft c ≡ bad_at n → block_taken (and_then x read) block d c ≡ bad_at n
 list_bad (Err k) read block d o c n e = e
 list_bad (Ok vs) read block d o c n e = absurd cc
 
-more_values : (o : LinesRead Plain) (n : ℕ) (r : LinesRead Plains) → and_then o (λ v. after_lines n (more v) r) ≢ Ok none
+more_values : (o : ResultOrBadLine Plain) (n : ℕ) (r : ResultOrBadLine Plains) → and_then o (λ v. after_lines n (more v) r) ≢ Ok none
 more_values (Ok v) n (Ok vs) e = absurd cc
 more_values (Ok v) n (Err k) e = absurd cc
 more_values (Err k) n r e = absurd cc
 
-pub some_entries : (f : List Line → LinesRead Plain) (ls : List Line) (line : Line) → Some line ≡ line_of_block ls → entries_read f (length ls) ls ≢ Ok none
+pub some_entries : (f : List Line → ResultOrBadLine Plain) (ls : List Line) (line : Line) → Some line ≡ line_of_block ls → entries_read f (length ls) ls ≢ Ok none
 some_entries f [] line e = absurd cc
 some_entries f (l ∷ ls) line e = go (strip_prefix (codes "- ") l)
   where
@@ -248,7 +248,7 @@ some_entries f (l ∷ ls) line e = go (strip_prefix (codes "- ") l)
     go None e = absurd cc
     go (Some m) e = more_values (entry_read f m (split_block ls).0) (1 + length (split_block ls).0) (entries_read f (length ls) (split_block ls).1) e
 
-pub array_made : (f : List Line → LinesRead Plain) (ls : List Line) (line : Line) → Some line ≡ line_of_block ls → (vs : Plains) → entries_read f (length ls) ls ≡ Ok vs → arr_read vs ≡ Ok (arr_value vs)
+pub array_made : (f : List Line → ResultOrBadLine Plain) (ls : List Line) (line : Line) → Some line ≡ line_of_block ls → (vs : Plains) → entries_read f (length ls) ls ≡ Ok vs → arr_read vs ≡ Ok (arr_value vs)
 array_made f ls line e none is = absurd (some_entries f ls line e is)
 array_made f ls line e (more v vs) is = refl
 
@@ -258,17 +258,17 @@ object_made fs (l ∷ ls) line e vs is = go vs (fields_only fs (l ∷ ls) vs is)
   where
     go : (vs : Plains) → FieldsOnly fs (l ∷ ls) vs → obj_read vs ≡ Ok (obj_value vs)
     go none r = absurd (no_line fs l ls r.lines)
-    go (more v vs) r = ap (λ (us : Plains). let x : LinesRead Plain = Ok (obj_of us) in x) (sym r.trim)
+    go (more v vs) r = ap (λ (us : Plains). let x : ResultOrBadLine Plain = Ok (obj_of us) in x) (sym r.trim)
 
 -- ---- the value of a field
 
 -- the shape's value is on the line of its field's name
 abbrev pub IsOnLine : Shape → Type 0
-IsOnLine s = (g : List Line → LinesRead Plains) (ls : List Line) (l : Line) → named_read s g ls l ≡ field_on_line (line_read s) g ls (strip_prefix (codes " ") l)
+IsOnLine s = (g : List Line → ResultOrBadLine Plains) (ls : List Line) (l : Line) → named_read s g ls l ≡ field_on_line (line_read s) g ls (strip_prefix (codes " ") l)
 
 -- the shape's value is below its field's name
 abbrev pub IsBelow : Shape → Type 0
-IsBelow s = (g : List Line → LinesRead Plains) (ls : List Line) (l : Line) → named_read s g ls l ≡ field_below (block_read s) g (split_block ls) l
+IsBelow s = (g : List Line → ResultOrBadLine Plains) (ls : List Line) (l : Line) → named_read s g ls l ≡ field_below (block_read s) g (split_block ls) l
 
 some_line : (ls : List Line) → 0 < length ls → (line : Line) × (Some line ≡ line_of_block ls)
 some_line [] lt = absurd (omega arith)
@@ -281,23 +281,23 @@ block_first depth c lt = let (line, e) = some_line (block_at depth c.lines).0 lt
 zero_more : (n : ℕ) → bad_at (n + 0) ≡ bad_at n
 zero_more n = let e : n + 0 ≡ n = omega arith in ap bad_at e
 
-pub no_space : (s : Shape) → IsOnLine s → (g : List Line → LinesRead Plains) (ls : List Line) (value : Line) (block : Split) (d : DraftState) (c : CursorState) → None ≡ strip_prefix (codes " ") value → values_taken (named_read s g ls value) block d c ≡ bad_at c.number
+pub no_space : (s : Shape) → IsOnLine s → (g : List Line → ResultOrBadLine Plains) (ls : List Line) (value : Line) (block : Split) (d : DraftState) (c : CursorState) → None ≡ strip_prefix (codes " ") value → values_taken (named_read s g ls value) block d c ≡ bad_at c.number
 no_space s h g ls value block d c e =
-    ap (λ (r : LinesRead Plains). values_taken r block d c) (h g ls value ∙ ap (field_on_line (line_read s) g ls) (sym e)) ∙ zero_more c.number
+    ap (λ (r : ResultOrBadLine Plains). values_taken r block d c) (h g ls value ∙ ap (field_on_line (line_read s) g ls) (sym e)) ∙ zero_more c.number
 
-pub line_bad : (s : Shape) → IsOnLine s → (g : List Line → LinesRead Plains) (ls : List Line) (value word : Line) (block : Split) (d : DraftState) (c : CursorState) (n : ℕ) → Some word ≡ strip_prefix (codes " ") value → line_taken (line_read s word) d c ≡ bad_at n
+pub line_bad : (s : Shape) → IsOnLine s → (g : List Line → ResultOrBadLine Plains) (ls : List Line) (value word : Line) (block : Split) (d : DraftState) (c : CursorState) (n : ℕ) → Some word ≡ strip_prefix (codes " ") value → line_taken (line_read s word) d c ≡ bad_at n
     → values_taken (named_read s g ls value) block d c ≡ bad_at n
 line_bad s h g ls value word block d c n e bad =
-    ap (λ (r : LinesRead Plains). values_taken r block d c) (h g ls value ∙ ap (field_on_line (line_read s) g ls) (sym e)) ∙ go (line_read s word) bad
+    ap (λ (r : ResultOrBadLine Plains). values_taken r block d c) (h g ls value ∙ ap (field_on_line (line_read s) g ls) (sym e)) ∙ go (line_read s word) bad
   where
-    go : (x : LinesRead Plain) → line_taken x d c ≡ bad_at n → values_taken (and_then x (λ v. after_lines 1 (more v) (g ls))) block d c ≡ bad_at n
+    go : (x : ResultOrBadLine Plain) → line_taken x d c ≡ bad_at n → values_taken (and_then x (λ v. after_lines 1 (more v) (g ls))) block d c ≡ bad_at n
     go (Ok v) bad = absurd cc
     go (Err k) bad = bad
 
 -- what the value of a field leaves
 pub record NamedLeft (s : Shape) (value : Line) (depth : ℕ) (d : DraftState) (c : CursorState) (later : Reading) : Type 0 where
   pub levels : later.1.levels ≡ 0
-  pub goes : (g : List Line → LinesRead Plains) → values_taken (named_read s g (drop 1 (block_at depth c.lines).0) value) (block_at depth c.lines) d c ≡ values_taken (g (block_at depth later.1.lines).0) (block_at depth later.1.lines) later.0 later.1
+  pub goes : (g : List Line → ResultOrBadLine Plains) → values_taken (named_read s g (drop 1 (block_at depth c.lines).0) value) (block_at depth c.lines) d c ≡ values_taken (g (block_at depth later.1.lines).0) (block_at depth later.1.lines) later.0 later.1
 
 pub line_left : (s : Shape) → IsOnLine s → (depth : ℕ) (value word : Line) (d : DraftState) (c : CursorState) → 0 < length (block_at depth c.lines).0 → Some word ≡ strip_prefix (codes " ") value → (later : Reading) → line_taken (line_read s word) d c ≡ Ok later
     → NamedLeft s value depth d c later
@@ -323,19 +323,19 @@ line_left s h depth value word d c some e later ok = go (line_read s word) refl 
       levels = refl;
       goes = λ g.
           ap (λ (b : Split). values_taken (named_read s g (drop 1 b.0) value) b d c) f.block
-          ∙ ap (λ (r : LinesRead Plains). values_taken r (first.0 ∷ t.0, t.1) d c) (h g t.0 value ∙ ap (field_on_line (line_read s) g t.0) (sym e))
-          ∙ ap (λ (x : LinesRead Plain). values_taken (and_then x (λ v. after_lines 1 (more v) (g t.0))) (first.0 ∷ t.0, t.1) d c) is
+          ∙ ap (λ (r : ResultOrBadLine Plains). values_taken r (first.0 ∷ t.0, t.1) d c) (h g t.0 value ∙ ap (field_on_line (line_read s) g t.0) (sym e))
+          ∙ ap (λ (x : ResultOrBadLine Plain). values_taken (and_then x (λ v. after_lines 1 (more v) (g t.0))) (first.0 ∷ t.0, t.1) d c) is
           ∙ later_values (first.0 ∷ t.0, t.1) t 1 d c (cursor_by f.others (c.number + 1) 0) goes v (g t.0);
     }
 
-    go : (x : LinesRead Plain) → line_read s word ≡ x → line_taken x d c ≡ Ok later → NamedLeft s value depth d c later
+    go : (x : ResultOrBadLine Plain) → line_read s word ≡ x → line_taken x d c ≡ Ok later → NamedLeft s value depth d c later
     go (Err k) is ok = absurd cc
     go (Ok v) is ok = subst (λ (p : Reading). NamedLeft s value depth d c p) (one (draft_with v d, cursor_by f.others (c.number + 1) 0) later (ap (λ (p : CursorState). taken (draft_with v d) p) (sym next) ∙ ok)) (here v is)
 
 -- a value that is on the line where it should be below
-pub not_below : (s : Shape) → IsBelow s → (g : List Line → LinesRead Plains) (ls : List Line) (value : Line) (block : Split) (d : DraftState) (c : CursorState) → value ≢ [] → values_taken (named_read s g ls value) block d c ≡ bad_at c.number
+pub not_below : (s : Shape) → IsBelow s → (g : List Line → ResultOrBadLine Plains) (ls : List Line) (value : Line) (block : Split) (d : DraftState) (c : CursorState) → value ≢ [] → values_taken (named_read s g ls value) block d c ≡ bad_at c.number
 not_below s h g ls [] block d c ne = absurd (ne refl)
-not_below s h g ls (x ∷ xs) block d c ne = ap (λ (r : LinesRead Plains). values_taken r block d c) (h g ls (x ∷ xs)) ∙ zero_more c.number
+not_below s h g ls (x ∷ xs) block d c ne = ap (λ (r : ResultOrBadLine Plains). values_taken r block d c) (h g ls (x ∷ xs)) ∙ zero_more c.number
 
 -- the block below a field's name
 record Below (depth : ℕ) (c : CursorState) : Type 0 where
@@ -359,18 +359,18 @@ below depth c some =
     }
 
 -- what is read of a field whose value is below
-below_read : (s : Shape) → IsBelow s → (depth : ℕ) (value : Line) (d : DraftState) (c : CursorState) (b : Below depth c) → value ≡ [] → (g : List Line → LinesRead Plains) → (x : LinesRead Plain) → block_read s (split_block (block_at depth b.first.others).0).0 ≡ x
+below_read : (s : Shape) → IsBelow s → (depth : ℕ) (value : Line) (d : DraftState) (c : CursorState) (b : Below depth c) → value ≡ [] → (g : List Line → ResultOrBadLine Plains) → (x : ResultOrBadLine Plain) → block_read s (split_block (block_at depth b.first.others).0).0 ≡ x
     → values_taken (named_read s g (drop 1 (block_at depth c.lines).0) value) (block_at depth c.lines) d c
     ≡ values_taken (and_then (after_lines 1 (λ v. v) x) (λ v. after_lines (1 + length (split_block (block_at depth b.first.others).0).0) (more v) (g (split_block (block_at depth b.first.others).0).1))) (b.line ∷ (block_at depth b.first.others).0, (block_at depth b.first.others).1) d c
 below_read s h depth value d c b e g x is =
     let t = block_at depth b.first.others in
     let r = split_block t.0 in
     ap (λ (y : Split). values_taken (named_read s g (drop 1 y.0) value) y d c) b.first.block
-    ∙ ap (λ (y : LinesRead Plains). values_taken y (b.line ∷ t.0, t.1) d c) (h g t.0 value ∙ ap (field_below (block_read s) g r) e)
-    ∙ ap (λ (y : LinesRead Plain). values_taken (and_then (after_lines 1 (λ v. v) y) (λ v. after_lines (1 + length r.0) (more v) (g r.1))) (b.line ∷ t.0, t.1) d c) is
+    ∙ ap (λ (y : ResultOrBadLine Plains). values_taken y (b.line ∷ t.0, t.1) d c) (h g t.0 value ∙ ap (field_below (block_read s) g r) e)
+    ∙ ap (λ (y : ResultOrBadLine Plain). values_taken (and_then (after_lines 1 (λ v. v) y) (λ v. after_lines (1 + length r.0) (more v) (g r.1))) (b.line ∷ t.0, t.1) d c) is
 
 -- the block below, as it was taken
-below_taken : (s : Shape) (depth : ℕ) (d : DraftState) (c : CursorState) (b : Below depth c) (y : Read) → block_taken (block_read s (block_at (depth + 1) (after_line c.lines c).lines).0) (block_at (depth + 1) (after_line c.lines c).lines) d (after_line c.lines c) ≡ y
+below_taken : (s : Shape) (depth : ℕ) (d : DraftState) (c : CursorState) (b : Below depth c) (y : DraftOrBadLine) → block_taken (block_read s (block_at (depth + 1) (after_line c.lines c).lines).0) (block_at (depth + 1) (after_line c.lines c).lines) d (after_line c.lines c) ≡ y
     → block_taken (block_read s (split_block (block_at depth b.first.others).0).0) ((split_block (block_at depth b.first.others).0).0, (block_at (depth + 1) b.first.others).1) d (cursor_by b.first.others (c.number + 1) 0) ≡ y
 below_taken s depth d c b y e =
     let r = split_block (block_at depth b.first.others).0 in
@@ -380,7 +380,7 @@ below_taken s depth d c b y e =
 
 pub below_bad : (s : Shape) → IsBelow s → (depth : ℕ) (value : Line) (d : DraftState) (c : CursorState) → 0 < length (block_at depth c.lines).0 → value ≡ [] → (n : ℕ)
     → block_taken (block_read s (block_at (depth + 1) (after_line c.lines c).lines).0) (block_at (depth + 1) (after_line c.lines c).lines) d (after_line c.lines c) ≡ bad_at n
-    → (g : List Line → LinesRead Plains) → values_taken (named_read s g (drop 1 (block_at depth c.lines).0) value) (block_at depth c.lines) d c ≡ bad_at n
+    → (g : List Line → ResultOrBadLine Plains) → values_taken (named_read s g (drop 1 (block_at depth c.lines).0) value) (block_at depth c.lines) d c ≡ bad_at n
 below_bad s h depth value d c some e n bad g = go (block_read s r.0) refl (below_taken s depth d c b (bad_at n) bad)
   where
     b : Below depth c
@@ -389,7 +389,7 @@ below_bad s h depth value d c some e n bad g = go (block_read s r.0) refl (below
     r : Split
     r = split_block (block_at depth b.first.others).0
 
-    go : (x : LinesRead Plain) → block_read s r.0 ≡ x → block_taken x (r.0, (block_at (depth + 1) b.first.others).1) d (cursor_by b.first.others (c.number + 1) 0) ≡ bad_at n
+    go : (x : ResultOrBadLine Plain) → block_read s r.0 ≡ x → block_taken x (r.0, (block_at (depth + 1) b.first.others).1) d (cursor_by b.first.others (c.number + 1) 0) ≡ bad_at n
         → values_taken (named_read s g (drop 1 (block_at depth c.lines).0) value) (block_at depth c.lines) d c ≡ bad_at n
     go (Ok v) is bad = absurd cc
     go (Err k) is bad =
@@ -432,6 +432,6 @@ below_left s h depth value d c some e later ok = go (block_read s r.0) refl (bel
           ∙ ap (λ (x : Split). values_taken (g x.0) x (draft_with v d) place) (sym b.later);
     }
 
-    go : (x : LinesRead Plain) → block_read s r.0 ≡ x → block_taken x (r.0, left) d (cursor_by b.first.others (c.number + 1) 0) ≡ Ok later → NamedLeft s value depth d c later
+    go : (x : ResultOrBadLine Plain) → block_read s r.0 ≡ x → block_taken x (r.0, left) d (cursor_by b.first.others (c.number + 1) 0) ≡ Ok later → NamedLeft s value depth d c later
     go (Err k) is ok = absurd cc
     go (Ok v) is ok = subst (λ (p : Reading). NamedLeft s value depth d c p) (one (draft_with v d, place) later ok) (here v is)

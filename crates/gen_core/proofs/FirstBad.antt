@@ -11,7 +11,7 @@ use Rattle.adb_view.specs.declared.tables.Which.TheVariants.{Dep, Acl, PkgInfo, 
 use Rattle.adb_dump.specs.adb_schema.Soundness.{schema_word}
 use Rattle.base_core.specs.Lists.{and_then}
 use Rattle.adb_dump.specs.Dump.{Line, dump_lines, schema_line, value_lines}
-use Rattle.adb_dump.specs.ReadBack.{LinesRead, value_read}
+use Rattle.adb_dump.specs.ReadBack.{ResultOrBadLine, value_read}
 use Rattle.adb_dump.proofs.ValueLaws.{read_back}
 use Rattle.gen_core.specs.Dumps.{AreDumpLines, BeginsADump, IsFirstBadDumpLine, IsRootValue}
 use Rattle.gen_core.specs.Generated.{DumpedRoot, dumped_root, root_of_lines, root_of_table, root_read, table_of_line, text_lines, unless_rest}
@@ -132,7 +132,7 @@ first_bad : (ls : List Line) (n : ℕ) → root_of_lines ls ≡ Err n → FirstB
 first_bad [] n e = subst (FirstBad []) (root_number 1 n e) at_nothing
 first_bad (l ∷ ls) n e = by_table (table_of_line l) refl e
   where
-    by_value : (w : Which) (r : LinesRead Plain) → table_of_line l ≡ Some w → value_read w ls ≡ r → root_read w r ≡ bad_root n → FirstBad (l ∷ ls) n
+    by_value : (w : Which) (r : ResultOrBadLine Plain) → table_of_line l ≡ Some w → value_read w ls ≡ r → root_read w r ≡ bad_root n → FirstBad (l ∷ ls) n
     by_value w (Ok v) t is e = absurd cc
     by_value w (Err k) t is e = subst (FirstBad (l ∷ ls)) (root_number (k + 2) n e) (at_value l ls w k t is)
 

@@ -11,7 +11,7 @@ use Rattle.base_core.specs.Lists.{and_then}
 use Rattle.adb_view.specs.declared.tables.Kind.{Kind}
 use Rattle.adb_view.specs.declared.tables.Kind.TheVariants.{Int, Text, Hash, Obj, TextArr, ObjArr}
 use Rattle.adb_dump.specs.Dump.{Line}
-use Rattle.adb_dump.specs.ReadBack.{LinesRead, arr_read, entries_read, fields_read, obj_read, value_read, only_line, field_on_line, field_below, block_read, named_read, split_block, strip_prefix}
+use Rattle.adb_dump.specs.ReadBack.{ResultOrBadLine, arr_read, entries_read, fields_read, obj_read, value_read, only_line, field_on_line, field_below, block_read, named_read, split_block, strip_prefix}
 use Rattle.adb_dump.specs.Words.{has_one_line}
 use Rattle.gen_core.specs.Cursors.{CursorState, block_at, line_of_block}
 use Rattle.gen_core.specs.Reads.{block_taken, line_read}
@@ -113,5 +113,5 @@ root_block w (l ∷ ls) line e = ap (λ (b : Split). block_read (shape_of (Obj w
 pub root_taken_as : (w : Which) (d : DraftState) (c : CursorState) (line : Line) → Some line ≡ line_of_block (block_at 0 c.lines).0
     → block_taken (value_read w c.lines) (c.lines, []) d c ≡ block_taken (block_read (shape_of (Obj w)) (block_at 0 c.lines).0) (block_at 0 c.lines) d c
 root_taken_as w d c line e =
-    ap (λ (r : LinesRead Plain). block_taken r (c.lines, []) d c) (root_block w c.lines line e)
+    ap (λ (r : ResultOrBadLine Plain). block_taken r (c.lines, []) d c) (root_block w c.lines line e)
     ∙ ap (λ (b : Split). block_taken (block_read (shape_of (Obj w)) (block_at 0 c.lines).0) b d c) (sym (all_lines c.lines))

@@ -9,7 +9,7 @@ use Rattle.hex.specs.Hex.{encode_with, encode_lower, lower_digits}
 use Rattle.base_core.proofs.AtName.{other_name}
 use Rattle.adb_view.specs.Plain.{Plain, int, blob, number, text, hash}
 use Rattle.adb_dump.specs.Dump.{Line, is_printable, begins_with_byte, is_bare, escape_of, text_form, int_line, text_line, hash_line}
-use Rattle.adb_dump.specs.ReadBack.{LinesRead, hex_value, quoted_read, unhex, blob_read, int_read, text_read, hash_read, if_form}
+use Rattle.adb_dump.specs.ReadBack.{ResultOrBadLine, hex_value, quoted_read, unhex, blob_read, int_read, text_read, hash_read, if_form}
 use Rattle.adb_dump.proofs.Booleans.{chosen}
 use Rattle.adb_dump.proofs.LineBack.{AreBytes, int_back, text_back, hash_back, hex_value-digit, unquoted-escaped}
 use Rattle.adb_dump.proofs.ReadOnly.{made_blob_some}

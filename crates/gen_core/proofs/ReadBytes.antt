@@ -7,22 +7,22 @@ use Rattle.base_core.specs.Lists.{and_then}
 use Rattle.base_core.proofs.AtName.{is_name}
 use Rattle.adb_dump.specs.Dump.{Line, int_line, text_line, hash_line}
 use Rattle.adb_dump.specs.Values.{IsOfBytes, AreOfBytes}
-use Rattle.adb_dump.specs.ReadBack.{LinesRead, after_lines, strip_prefix, split_block, unhex, only_line, entry_read, after_dash, entries_read, arr_read, obj_read, field_on_line, field_below, if_form, if_named, block_read, named_read, fields_read, int_read, text_read, hash_read}
+use Rattle.adb_dump.specs.ReadBack.{ResultOrBadLine, after_lines, strip_prefix, split_block, unhex, only_line, entry_read, after_dash, entries_read, arr_read, obj_read, field_on_line, field_below, if_form, if_named, block_read, named_read, fields_read, int_read, text_read, hash_read}
 use Rattle.adb_dump.proofs.Booleans.{chosen}
 use Rattle.adb_dump.proofs.ReadOnly.{if_form_ok, made_blob_some}
 use Rattle.gen_core.proofs.LineReads.{hash_bytes, some_text, text_bytes}
 
 -- ---- results that are Ok
 
-pub bound : {A B : Type 0} (r : LinesRead A) (f : A → LinesRead B) (y : B) → and_then r f ≡ Ok y → (x : A) × (r ≡ Ok x) × (f x ≡ Ok y)
+pub bound : {A B : Type 0} (r : ResultOrBadLine A) (f : A → ResultOrBadLine B) (y : B) → and_then r f ≡ Ok y → (x : A) × (r ≡ Ok x) × (f x ≡ Ok y)
 bound (Ok x) f y e = (x, refl, e)
 bound (Err k) f y e = absurd cc
 
-pub read_after : {A B : Type 0} (n : ℕ) (f : A → B) (r : LinesRead A) (y : B) → after_lines n f r ≡ Ok y → (x : A) × (r ≡ Ok x) × (f x ≡ y)
+pub read_after : {A B : Type 0} (n : ℕ) (f : A → B) (r : ResultOrBadLine A) (y : B) → after_lines n f r ≡ Ok y → (x : A) × (r ≡ Ok x) × (f x ≡ y)
 read_after n f (Ok x) y e = (x, refl, cc)
 read_after n f (Err k) y e = absurd cc
 
-only_ok : (f : Line → LinesRead Plain) (ls : List Line) (v : Plain) → only_line f ls ≡ Ok v → (l : Line) × (f l ≡ Ok v)
+only_ok : (f : Line → ResultOrBadLine Plain) (ls : List Line) (v : Plain) → only_line f ls ≡ Ok v → (l : Line) × (f l ≡ Ok v)
 only_ok f [] v e = absurd cc
 only_ok f (l ∷ []) v e = (l, e)
 only_ok f (l ∷ m ∷ ls) v e = absurd (let (x, a, b) = bound (f l) (λ v. Err 1) v e in cc)
@@ -54,10 +54,10 @@ hash_of_bytes l v e =
 -- ---- lists
 
 -- what is read is of bytes
-abbrev pub ReadsBytes : (List Line → LinesRead Plain) → Type 0
+abbrev pub ReadsBytes : (List Line → ResultOrBadLine Plain) → Type 0
 ReadsBytes f = (ls : List Line) (v : Plain) → f ls ≡ Ok v → IsOfBytes v
 
-pub entry_bytes : (f : List Line → LinesRead Plain) → ReadsBytes f → (l : Line) (ls : List Line) (v : Plain) → entry_read f l ls ≡ Ok v → IsOfBytes v
+pub entry_bytes : (f : List Line → ResultOrBadLine Plain) → ReadsBytes f → (l : Line) (ls : List Line) (v : Plain) → entry_read f l ls ≡ Ok v → IsOfBytes v
 unfolding IsOfBytes
 entry_bytes f h l ls v e =
     elim (chosen (bytes_eq l (codes "null")) _ _ _ e) [
@@ -65,7 +65,7 @@ entry_bytes f h l ls v e =
       | inr x ↦ h (l ∷ ls) v x.1
     ]
 
-entries_bytes : (f : List Line → LinesRead Plain) → ReadsBytes f → (n : ℕ) (ls : List Line) (vs : Plains) → entries_read f n ls ≡ Ok vs → AreOfBytes vs
+entries_bytes : (f : List Line → ResultOrBadLine Plain) → ReadsBytes f → (n : ℕ) (ls : List Line) (vs : Plains) → entries_read f n ls ≡ Ok vs → AreOfBytes vs
 unfolding IsOfBytes
 entries_bytes f h zero ls vs e = let same : none ≡ vs = cc in subst AreOfBytes same tt
 entries_bytes f h (suc n) [] vs e = let same : none ≡ vs = cc in subst AreOfBytes same tt
@@ -95,7 +95,7 @@ array_bytes s h ls v e =
     arr_bytes vs v (entries_bytes (block_read s) h (length ls) ls vs some) made
 
 -- fields that are read are of bytes
-abbrev pub ReadsAllBytes : (List Line → LinesRead Plains) → Type 0
+abbrev pub ReadsAllBytes : (List Line → ResultOrBadLine Plains) → Type 0
 ReadsAllBytes f = (ls : List Line) (vs : Plains) → f ls ≡ Ok vs → AreOfBytes vs
 
 object_bytes : (which : ℕ) (fs : Fields) → ReadsAllBytes (fields_read fs) → ReadsBytes (block_read (object which fs))
@@ -104,7 +104,7 @@ object_bytes which fs h ls v e =
     let (vs, some, made) = bound (fields_read fs ls) obj_read v e in
     obj_bytes vs v (h ls vs some) made
 
-on_line_bytes : (g : Line → LinesRead Plain) (f : List Line → LinesRead Plains) → ((l : Line) (v : Plain) → g l ≡ Ok v → IsOfBytes v) → ReadsAllBytes f → (ls : List Line) (o : Option Line) (vs : Plains) → field_on_line g f ls o ≡ Ok vs → AreOfBytes vs
+on_line_bytes : (g : Line → ResultOrBadLine Plain) (f : List Line → ResultOrBadLine Plains) → ((l : Line) (v : Plain) → g l ≡ Ok v → IsOfBytes v) → ReadsAllBytes f → (ls : List Line) (o : Option Line) (vs : Plains) → field_on_line g f ls o ≡ Ok vs → AreOfBytes vs
 unfolding IsOfBytes
 on_line_bytes g f hg hf ls None vs e = absurd cc
 on_line_bytes g f hg hf ls (Some l) vs e =
@@ -112,7 +112,7 @@ on_line_bytes g f hg hf ls (Some l) vs e =
     let (us, others, is) = read_after 1 (more v) (f ls) vs a in
     subst AreOfBytes is (hg l v one, hf ls us others)
 
-below_bytes : (b : List Line → LinesRead Plain) (f : List Line → LinesRead Plains) → ReadsBytes b → ReadsAllBytes f → (ls : List Line) (rest : Line) (vs : Plains) → field_below b f (split_block ls) rest ≡ Ok vs → AreOfBytes vs
+below_bytes : (b : List Line → ResultOrBadLine Plain) (f : List Line → ResultOrBadLine Plains) → ReadsBytes b → ReadsAllBytes f → (ls : List Line) (rest : Line) (vs : Plains) → field_below b f (split_block ls) rest ≡ Ok vs → AreOfBytes vs
 unfolding IsOfBytes
 below_bytes b f hb hf ls (c ∷ cs) vs e = absurd cc
 below_bytes b f hb hf ls [] vs e =
@@ -121,7 +121,7 @@ below_bytes b f hb hf ls [] vs e =
     let (us, others, is) = read_after (1 + length (split_block ls).0) (more v) (f (split_block ls).1) vs a in
     subst AreOfBytes is (subst IsOfBytes same (hb (split_block ls).0 u some), hf (split_block ls).1 us others)
 
-named_bytes : (s : Shape) (f : List Line → LinesRead Plains) → ReadsBytes (block_read s) → ReadsAllBytes f → (ls : List Line) (rest : Line) (vs : Plains) → named_read s f ls rest ≡ Ok vs → AreOfBytes vs
+named_bytes : (s : Shape) (f : List Line → ResultOrBadLine Plains) → ReadsBytes (block_read s) → ReadsAllBytes f → (ls : List Line) (rest : Line) (vs : Plains) → named_read s f ls rest ≡ Ok vs → AreOfBytes vs
 unfolding named_read block_read
 named_bytes number f hb hf ls rest vs e = on_line_bytes (λ l. if_form int_line l (int_read l)) f int_of_bytes hf ls (strip_prefix (codes " ") rest) vs e
 named_bytes text f hb hf ls rest vs e = on_line_bytes (λ l. if_form text_line l (text_read l)) f text_of_bytes hf ls (strip_prefix (codes " ") rest) vs e

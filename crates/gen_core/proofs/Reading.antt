@@ -6,9 +6,9 @@ use Rattle.adb_values.specs.Drafts.{DraftState, draft_with, draft_with_all, draf
 use Rattle.base_core.specs.Lists.{and_then}
 use Rattle.adb_dump.specs.Dump.{Line}
 use Rattle.adb_dump.specs.Margin.{margin}
-use Rattle.adb_dump.specs.ReadBack.{LinesRead, after_lines, strip_prefix, stop_or_add, split_block, only_line, entry_read, after_dash, entries_read, arr_read, obj_read, field_on_line, field_below, if_named, block_read, named_read, fields_read}
+use Rattle.adb_dump.specs.ReadBack.{ResultOrBadLine, after_lines, strip_prefix, stop_or_add, split_block, only_line, entry_read, after_dash, entries_read, arr_read, obj_read, field_on_line, field_below, if_named, block_read, named_read, fields_read}
 use Rattle.gen_core.specs.Cursors.{CursorState, after_block, after_line, at_entry, block_at, cursor_by, line_of_block, levels_after}
-use Rattle.gen_core.specs.Reads.{Read, block_taken, end_read, entry_block_read, is_null_line, line_read, line_taken, values_taken, IsTextFault}
+use Rattle.gen_core.specs.Reads.{DraftOrBadLine, block_taken, end_read, entry_block_read, is_null_line, line_read, line_taken, values_taken, IsTextFault}
 use Rattle.gen_core.specs.declared.generate.GenFault.{GenFault}
 use Rattle.gen_core.specs.declared.generate.GenFault.TheVariants.{Bad, TooLarge, Memory}
 use Rattle.gen_core.proofs.Blocks.{FirstLine, Inner, Split, first_line, inner_block, no_block}
@@ -17,16 +17,16 @@ use Rattle.gen_core.proofs.Blocks.{FirstLine, Inner, Split, first_line, inner_bl
 abbrev pub Reading : Type 0
 Reading = DraftState × CursorState
 
-abbrev pub taken : DraftState → CursorState → Read
+abbrev pub taken : DraftState → CursorState → DraftOrBadLine
 taken d c = Ok (d, c)
 
-abbrev pub bad_at : ℕ → Read
+abbrev pub bad_at : ℕ → DraftOrBadLine
 bad_at n = Err n
 
 -- ---- what a function answers
 
 -- the answer of a function, by what reading comes to
-pub record Answers (r : Result (Unit {0}) GenFault) (read : Read) (d : DraftState) (c : CursorState) : Type 0 where
+pub record Answers (r : Result (Unit {0}) GenFault) (read : DraftOrBadLine) (d : DraftState) (c : CursorState) : Type 0 where
   pub ok : OnOk r (read ≡ taken d c)
   pub err : IfErr r (λ fault. IsTextFault fault read)
 
@@ -56,7 +56,7 @@ handed_on r fault P p h = subst (λ r. IfErr r P) (sym (p.1 ∙ ap Err p.2)) h
 number_plus_zero : (n : ℕ) → bad_at (n + 0) ≡ bad_at n
 number_plus_zero n = let e : n + 0 ≡ n = omega arith in ap bad_at e
 
-abbrev pub read_ok : Reading → Read
+abbrev pub read_ok : Reading → DraftOrBadLine
 read_ok p = Ok p
 
 pub one : (p q : Reading) → Ok p ≡ read_ok q → p ≡ q
@@ -76,15 +76,15 @@ nothing_read (object which (field name s fs)) = refl
 pub none_taken : (s : Shape) (depth : ℕ) (d : DraftState) (c : CursorState) → None ≡ line_of_block (block_at depth c.lines).0 → block_taken (block_read s (block_at depth c.lines).0) (block_at depth c.lines) d c ≡ bad_at c.number
 none_taken s depth d c e =
     ap (λ (b : Split). block_taken (block_read s b.0) b d c) (no_block depth c.lines e)
-    ∙ ap (λ (r : LinesRead Plain). block_taken r ([], c.lines) d c) (nothing_read s) ∙ number_plus_zero c.number
+    ∙ ap (λ (r : ResultOrBadLine Plain). block_taken r ([], c.lines) d c) (nothing_read s) ∙ number_plus_zero c.number
 
 same_place : (c : CursorState) → after_block ([], c.lines) c ≡ c
 same_place c = let e : c.number + 0 ≡ c.number = omega arith in ap (λ (n : ℕ). cursor_by c.lines n c.levels) e
 
-no_values : (r : List Line → LinesRead Plains) (depth : ℕ) (d : DraftState) (c : CursorState) → r [] ≡ Ok none → None ≡ line_of_block (block_at depth c.lines).0 → values_taken (r (block_at depth c.lines).0) (block_at depth c.lines) d c ≡ taken d c
+no_values : (r : List Line → ResultOrBadLine Plains) (depth : ℕ) (d : DraftState) (c : CursorState) → r [] ≡ Ok none → None ≡ line_of_block (block_at depth c.lines).0 → values_taken (r (block_at depth c.lines).0) (block_at depth c.lines) d c ≡ taken d c
 no_values r depth d c h e =
     ap (λ (b : Split). values_taken (r b.0) b d c) (no_block depth c.lines e)
-    ∙ ap (λ (x : LinesRead Plains). values_taken x ([], c.lines) d c) h ∙ ap (λ (x : CursorState). taken d x) (same_place c)
+    ∙ ap (λ (x : ResultOrBadLine Plains). values_taken x ([], c.lines) d c) h ∙ ap (λ (x : CursorState). taken d x) (same_place c)
 
 no_fields_left : (fs : Fields) → fields_read fs [] ≡ Ok none
 unfolding fields_read
@@ -94,7 +94,7 @@ no_fields_left (field name s fs) = refl
 pub fields_stop : (fs : Fields) (depth : ℕ) (d : DraftState) (c : CursorState) → None ≡ line_of_block (block_at depth c.lines).0 → values_taken (fields_read fs (block_at depth c.lines).0) (block_at depth c.lines) d c ≡ taken d c
 fields_stop fs depth d c e = no_values (fields_read fs) depth d c (no_fields_left fs) e
 
-pub entries_stop : (f : List Line → LinesRead Plain) (depth : ℕ) (d : DraftState) (c : CursorState) → None ≡ line_of_block (block_at depth c.lines).0 → values_taken (entries_read f (length (block_at depth c.lines).0) (block_at depth c.lines).0) (block_at depth c.lines) d c ≡ taken d c
+pub entries_stop : (f : List Line → ResultOrBadLine Plain) (depth : ℕ) (d : DraftState) (c : CursorState) → None ≡ line_of_block (block_at depth c.lines).0 → values_taken (entries_read f (length (block_at depth c.lines).0) (block_at depth c.lines).0) (block_at depth c.lines) d c ≡ taken d c
 entries_stop f depth d c e = no_values (λ ls. entries_read f (length ls) ls) depth d c refl e
 
 -- ---- values that come after a value
@@ -106,7 +106,7 @@ pub record CountsOnlyRise (block later : Split) (n : ℕ) (c new : CursorState) 
   pub count : n + length later.0 ≡ length block.0
   pub levels : levels_after later.0 new.levels ≡ levels_after block.0 c.levels
 
-pub later_values : (block later : Split) (n : ℕ) (d : DraftState) (c new : CursorState) → CountsOnlyRise block later n c new → (v : Plain) (r : LinesRead Plains) → values_taken (after_lines n (more v) r) block d c ≡ values_taken r later (draft_with v d) new
+pub later_values : (block later : Split) (n : ℕ) (d : DraftState) (c new : CursorState) → CountsOnlyRise block later n c new → (v : Plain) (r : ResultOrBadLine Plains) → values_taken (after_lines n (more v) r) block d c ≡ values_taken r later (draft_with v d) new
 later_values block later n d c new g v (Ok vs) =
     let count : c.number + length block.0 ≡ new.number + length later.0 = omega (arith, g.number, g.count) in
     ap (λ (x : CursorState). taken (draft_with_all vs (draft_with v d)) x)
@@ -128,10 +128,10 @@ only_line_bad s h depth line d c e n bad =
     let f = first_line depth c.lines line e in
     let t = block_at depth f.others in
     ap (λ (b : Split). block_taken (block_read s b.0) b d c) f.block
-    ∙ ap (λ (r : LinesRead Plain). block_taken r (line ∷ t.0, t.1) d c) (h (line ∷ t.0))
+    ∙ ap (λ (r : ResultOrBadLine Plain). block_taken r (line ∷ t.0, t.1) d c) (h (line ∷ t.0))
     ∙ go (line_read s line) t.0 t.1 bad
   where
-    go : (r : LinesRead Plain) (ls rest : List Line) → line_taken r d c ≡ bad_at n → block_taken (only_line (λ x. r) (line ∷ ls)) (line ∷ ls, rest) d c ≡ bad_at n
+    go : (r : ResultOrBadLine Plain) (ls rest : List Line) → line_taken r d c ≡ bad_at n → block_taken (only_line (λ x. r) (line ∷ ls)) (line ∷ ls, rest) d c ≡ bad_at n
     go (Ok v) ls rest e = absurd cc
     go (Err k) [] rest e = e
     go (Err k) (m ∷ ms) rest e = e
@@ -155,7 +155,7 @@ place_ends depth line v d c f r is =
 pub only_line_ends : (s : Shape) → HasOneLine s → (depth : ℕ) (line : Line) (d : DraftState) (c : CursorState) → Some line ≡ line_of_block (block_at depth c.lines).0 → (later : Reading) → line_taken (line_read s line) d c ≡ Ok later
     → (r : Result (Unit {0}) GenFault) → r ≡ end_read (block_at depth later.1.lines).0 later.1.number → Answers r (block_taken (block_read s (block_at depth c.lines).0) (block_at depth c.lines) d c) later.0 later.1
 only_line_ends s h depth line d c e later ok r is =
-    subst (λ (x : Read). Answers r x later.0 later.1) (sym whole) (go (line_read s line) ok)
+    subst (λ (x : DraftOrBadLine). Answers r x later.0 later.1) (sym whole) (go (line_read s line) ok)
   where
     f : FirstLine depth c.lines line
     f = first_line depth c.lines line e
@@ -164,9 +164,9 @@ only_line_ends s h depth line d c e later ok r is =
     t = block_at depth f.others
 
     whole : block_taken (block_read s (block_at depth c.lines).0) (block_at depth c.lines) d c ≡ block_taken (only_line (line_read s) (line ∷ t.0)) (line ∷ t.0, t.1) d c
-    whole = ap (λ (b : Split). block_taken (block_read s b.0) b d c) f.block ∙ ap (λ (x : LinesRead Plain). block_taken x (line ∷ t.0, t.1) d c) (h (line ∷ t.0))
+    whole = ap (λ (b : Split). block_taken (block_read s b.0) b d c) f.block ∙ ap (λ (x : ResultOrBadLine Plain). block_taken x (line ∷ t.0, t.1) d c) (h (line ∷ t.0))
 
-    go : (x : LinesRead Plain) → line_taken x d c ≡ Ok later → Answers r (block_taken (only_line (λ y. x) (line ∷ t.0)) (line ∷ t.0, t.1) d c) later.0 later.1
+    go : (x : ResultOrBadLine Plain) → line_taken x d c ≡ Ok later → Answers r (block_taken (only_line (λ y. x) (line ∷ t.0)) (line ∷ t.0, t.1) d c) later.0 later.1
     go (Err k) ok = absurd cc
     go (Ok v) ok =
         subst (λ (p : Reading). r ≡ end_read (block_at depth p.1.lines).0 p.1.number → Answers r (block_taken (only_line (λ y. Ok v) (line ∷ t.0)) (line ∷ t.0, t.1) d c) p.0 p.1)
@@ -174,7 +174,7 @@ only_line_ends s h depth line d c e later ok r is =
 
 -- ---- fields
 
-after_null : (r : LinesRead Plains) (block : Split) (d : DraftState) (c : CursorState) → values_taken r block (draft_with null d) c ≡ values_taken (after_lines 0 (more null) r) block d c
+after_null : (r : ResultOrBadLine Plains) (block : Split) (d : DraftState) (c : CursorState) → values_taken r block (draft_with null d) c ≡ values_taken (after_lines 0 (more null) r) block d c
 after_null (Ok vs) block d c = refl
 after_null (Err k) block d c = let e : c.number + k ≡ c.number + (0 + k) = omega arith in ap bad_at e
 
@@ -187,7 +187,7 @@ field_absent name s fs depth line d c e absent =
     let read : fields_read (field name s fs) (line ∷ t.0) ≡ after_lines 0 (more null) (fields_read fs (line ∷ t.0)) = ap (if_named (after_lines 0 (more null) (fields_read fs (line ∷ t.0))) (named_read s (fields_read fs) t.0)) (sym absent) in
     ap (λ (b : Split). values_taken (fields_read fs b.0) b (draft_with null d) c) f.block
     ∙ after_null (fields_read fs (line ∷ t.0)) (line ∷ t.0, t.1) d c
-    ∙ ap (λ (r : LinesRead Plains). values_taken r (line ∷ t.0, t.1) d c) (sym read)
+    ∙ ap (λ (r : ResultOrBadLine Plains). values_taken r (line ∷ t.0, t.1) d c) (sym read)
     ∙ ap (λ (b : Split). values_taken (fields_read (field name s fs) b.0) b d c) (sym f.block)
 
 -- a field that comes next, by what is left of its line

@@ -10,10 +10,10 @@ use Rattle.adb_values.specs.adb_write.declared.writer.WriteFault.{WriteFault}
 use Rattle.adb_values.specs.adb_write.declared.writer.WriteFault.TheVariants as WriteFaults
 use Rattle.adb_values.specs.Written.{IsWrittenAs}
 use Rattle.adb_dump.specs.Dump.{Line}
-use Rattle.adb_dump.specs.ReadBack.{LinesRead, value_read}
+use Rattle.adb_dump.specs.ReadBack.{ResultOrBadLine, value_read}
 use Rattle.gen_core.specs.Cursors.{CursorState, after_line, cursor_by}
 use Rattle.gen_core.specs.Generated.{DumpedRoot, IsGenFault, dumped_root, file_of_root, file_unless_too_large, generated_file, root_of_lines, root_of_table, root_read, table_of_line, text_lines, unless_rest, word_of_root}
-use Rattle.gen_core.specs.Reads.{IsTextFault, Read, block_taken, fault_of_writer, has_rest, root_taken, table_read}
+use Rattle.gen_core.specs.Reads.{DraftOrBadLine, IsTextFault, block_taken, fault_of_writer, has_rest, root_taken, table_read}
 use Rattle.gen_core.specs.declared.generate.GenFault.{GenFault}
 use Rattle.gen_core.specs.declared.generate.GenFault.TheVariants.{Bad, TooLarge, Memory}
 use Rattle.gen_core.proofs.Reading.{Reading, bad_at, one, taken}
@@ -67,7 +67,7 @@ opened t which e = go (text_lines t).0 refl e
     }
 
 -- what is read after the first line
-abbrev pub rest_taken : List ℕ → Which → DraftState → Read
+abbrev pub rest_taken : List ℕ → Which → DraftState → DraftOrBadLine
 rest_taken t which d = block_taken (value_read which (after_first t).lines) ((after_first t).lines, []) d (after_first t)
 
 here : (t : List ℕ) (which : Which) (d : DraftState) (o : Opened t which) → rest_taken t which d ≡ block_taken (value_read which o.lines) (o.lines, []) d (cursor_by o.lines 2 0)
@@ -76,7 +76,7 @@ here t which d o = ap (λ (p : CursorState). block_taken (value_read which p.lin
 pub bad_value : (t : List ℕ) (which : Which) (d : DraftState) (n : ℕ) → table_read (text_lines t).0 ≡ Some which → rest_taken t which d ≡ bad_at n → root_taken (dumped_root t) d ≡ bad_root n
 bad_value t which d n e bad = let o = opened t which e in go o (value_read which o.lines) refl (sym (here t which d o) ∙ bad)
   where
-    go : (o : Opened t which) (r : LinesRead Plain) → value_read which o.lines ≡ r → block_taken r (o.lines, []) d (cursor_by o.lines 2 0) ≡ bad_at n → root_taken (dumped_root t) d ≡ bad_root n
+    go : (o : Opened t which) (r : ResultOrBadLine Plain) → value_read which o.lines ≡ r → block_taken r (o.lines, []) d (cursor_by o.lines 2 0) ≡ bad_at n → root_taken (dumped_root t) d ≡ bad_root n
     go o (Ok v) is bad = absurd cc
     go o (Err k) is bad =
         let number : 2 + k ≡ n = same (2 + k) n bad in
@@ -96,7 +96,7 @@ record ValueRead (t : List ℕ) (which : Which) (d : DraftState) (later : Readin
 value_there : (t : List ℕ) (which : Which) (d : DraftState) (later : Reading) → table_read (text_lines t).0 ≡ Some which → rest_taken t which d ≡ Ok later → ValueRead t which d later
 value_there t which d later e ok = let o = opened t which e in go o (value_read which o.lines) refl (sym (here t which d o) ∙ ok)
   where
-    go : (o : Opened t which) (r : LinesRead Plain) → value_read which o.lines ≡ r → block_taken r (o.lines, []) d (cursor_by o.lines 2 0) ≡ Ok later → ValueRead t which d later
+    go : (o : Opened t which) (r : ResultOrBadLine Plain) → value_read which o.lines ≡ r → block_taken r (o.lines, []) d (cursor_by o.lines 2 0) ≡ Ok later → ValueRead t which d later
     go o (Err k) is ok = absurd cc
     go o (Ok v) is ok =
         let both = one (draft_with v d, cursor_by [] (2 + length o.lines) _) later ok in

@@ -4,7 +4,7 @@ use Rattle.std.specs.Prelude.{codes, bytes_eq}
 use Rattle.adb_view.specs.Plain.{Plain, Plains, null, none, more, Shape, number, text, hash, array, object, Fields, no_fields, field}
 use Rattle.base_core.specs.Lists.{and_then}
 use Rattle.adb_dump.specs.Dump.{Line, fields_lines, int_line, text_line, hash_line}
-use Rattle.adb_dump.specs.ReadBack.{LinesRead, after_lines, strip_prefix, stop_or_add, split_block, only_line, entry_read, after_dash, entries_read, arr_read, obj_read, field_on_line, field_below, if_form, if_named, block_read, named_read, fields_read, int_read, text_read, hash_read}
+use Rattle.adb_dump.specs.ReadBack.{ResultOrBadLine, after_lines, strip_prefix, stop_or_add, split_block, only_line, entry_read, after_dash, entries_read, arr_read, obj_read, field_on_line, field_below, if_form, if_named, block_read, named_read, fields_read, int_read, text_read, hash_read}
 use Rattle.adb_dump.proofs.Booleans.{chosen}
 use Rattle.adb_dump.proofs.ReadOnly.{FieldsOnly, fields_only, some_line}
 use Rattle.gen_core.specs.Reads.{entry_block_read}
@@ -49,13 +49,13 @@ split_agree (suc n) (x ∷ xs) (y ∷ ys) a =
 -- ---- readers
 
 -- a bad line is found again among other lines that are the same up to it
-abbrev pub IsStable : {A : Type 0} → (List Line → LinesRead A) → Type 0
+abbrev pub IsStable : {A : Type 0} → (List Line → ResultOrBadLine A) → Type 0
 IsStable f = (xs ys : List Line) (k : ℕ) → f xs ≡ Err k → Agree (suc k) xs ys → f ys ≡ Err k
 
-abbrev pub no_value : ℕ → LinesRead Plain
+abbrev pub no_value : ℕ → ResultOrBadLine Plain
 no_value n = Err n
 
-abbrev pub no_values : ℕ → LinesRead Plains
+abbrev pub no_values : ℕ → ResultOrBadLine Plains
 no_values n = Err n
 
 pub value_number : (m n : ℕ) → no_value m ≡ no_value n → m ≡ n
@@ -64,21 +64,21 @@ value_number m n e = cc
 pub values_number : (m n : ℕ) → no_values m ≡ no_values n → m ≡ n
 values_number m n e = cc
 
-only_stable : (g : Line → LinesRead Plain) → IsStable (only_line g)
+only_stable : (g : Line → ResultOrBadLine Plain) → IsStable (only_line g)
 only_stable g [] ys k e a = absurd a
 only_stable g (x ∷ xs) [] k e a = absurd a
 only_stable g (x ∷ xs) (y ∷ ys) k e a = subst (λ (l : Line). only_line g (l ∷ ys) ≡ Err k) a.0 (go (g x) refl xs ys e a.1)
   where
-    go : (r : LinesRead Plain) → g x ≡ r → (xs ys : List Line) → only_line g (x ∷ xs) ≡ Err k → Agree k xs ys → only_line g (x ∷ ys) ≡ Err k
+    go : (r : ResultOrBadLine Plain) → g x ≡ r → (xs ys : List Line) → only_line g (x ∷ xs) ≡ Err k → Agree k xs ys → only_line g (x ∷ ys) ≡ Err k
     go r is [] [] e a = e
-    go r is [] (m ∷ ms) e a = ap (λ (r : LinesRead Plain). and_then r (λ v. no_value 1)) e
-    go (Err j) is (l ∷ ls) [] e a = is ∙ (sym (ap (λ (r : LinesRead Plain). and_then r (λ v. no_value 1)) is) ∙ e)
+    go r is [] (m ∷ ms) e a = ap (λ (r : ResultOrBadLine Plain). and_then r (λ v. no_value 1)) e
+    go (Err j) is (l ∷ ls) [] e a = is ∙ (sym (ap (λ (r : ResultOrBadLine Plain). and_then r (λ v. no_value 1)) is) ∙ e)
     go (Ok v) is (l ∷ ls) [] e a =
-        let one : 1 ≡ k = value_number 1 k (sym (ap (λ (r : LinesRead Plain). and_then r (λ v. no_value 1)) is) ∙ e) in
+        let one : 1 ≡ k = value_number 1 k (sym (ap (λ (r : ResultOrBadLine Plain). and_then r (λ v. no_value 1)) is) ∙ e) in
         absurd (subst (λ (n : ℕ). Agree n (l ∷ ls) []) (sym one) a)
     go r is (l ∷ ls) (m ∷ ms) e a = e
 
-entry_stable : (f : List Line → LinesRead Plain) → IsStable f → IsStable (entry_block_read f)
+entry_stable : (f : List Line → ResultOrBadLine Plain) → IsStable f → IsStable (entry_block_read f)
 entry_stable f h [] ys k e a = absurd a
 entry_stable f h (x ∷ xs) [] k e a = absurd a
 entry_stable f h (x ∷ xs) (y ∷ ys) k e a = subst (λ (l : Line). entry_block_read f (l ∷ ys) ≡ Err k) a.0 (go (bytes_eq x (codes "null")) e)
@@ -88,12 +88,12 @@ entry_stable f h (x ∷ xs) (y ∷ ys) k e a = subst (λ (l : Line). entry_block
     go false e = h (x ∷ xs) (x ∷ ys) k e (refl, a.1)
 
 -- values after a value
-pub later : (n : ℕ) (v : Plain) (r : LinesRead Plains) (k : ℕ) → after_lines n (more v) r ≡ no_values k → (j : ℕ) × (r ≡ Err j) × (k ≡ n + j)
+pub later : (n : ℕ) (v : Plain) (r : ResultOrBadLine Plains) (k : ℕ) → after_lines n (more v) r ≡ no_values k → (j : ℕ) × (r ≡ Err j) × (k ≡ n + j)
 later n v (Ok vs) k e = absurd cc
 later n v (Err j) k e = (j, refl, sym (values_number (n + j) k e))
 
 -- an entry, and those after it
-entry_step : (f : List Line → LinesRead Plain) → IsStable f → (g h : List Line → LinesRead Plains) (l : Line) (xs ys : List Line) (k : ℕ) → Agree k xs ys
+entry_step : (f : List Line → ResultOrBadLine Plain) → IsStable f → (g h : List Line → ResultOrBadLine Plains) (l : Line) (xs ys : List Line) (k : ℕ) → Agree k xs ys
     → ((j : ℕ) → g (split_block xs).1 ≡ Err j → Agree (suc j) (split_block xs).1 (split_block ys).1 → h (split_block ys).1 ≡ Err j)
     → after_dash f g (split_block xs) (Some l) ≡ no_values k → after_dash f h (split_block ys) (Some l) ≡ no_values k
 entry_step f s g h l xs ys k a next e = go (entry_read f l r.0) refl e
@@ -115,14 +115,14 @@ entry_step f s g h l xs ys k a next e = go (entry_read f l r.0) refl e
         let same : entry_read f l q.0 ≡ Ok v = ap (entry_read f l) (sym p.same) ∙ e in
         let after : h q.1 ≡ Err j = next j bad (subst (λ (n : ℕ). Agree n r.1 q.1) left p.agree) in
         let len : 1 + length q.0 + j ≡ k = ap (λ (ls : List Line). 1 + length ls + j) (sym p.same) ∙ sym is in
-        ap (λ (x : LinesRead Plain). and_then x (λ v. after_lines (1 + length q.0) (more v) (h q.1))) same
+        ap (λ (x : ResultOrBadLine Plain). and_then x (λ v. after_lines (1 + length q.0) (more v) (h q.1))) same
         ∙ ap (after_lines (1 + length q.0) (more v)) after ∙ ap no_values len
 
-    go : (x : LinesRead Plain) → entry_read f l r.0 ≡ x → and_then x (λ v. after_lines (1 + length r.0) (more v) (g r.1)) ≡ no_values k → after_dash f h q (Some l) ≡ no_values k
-    go (Err j) is e = ap (λ (x : LinesRead Plain). and_then x (λ v. after_lines (1 + length q.0) (more v) (h q.1))) (here j is (values_number j k e) (split_agree k xs ys a))
+    go : (x : ResultOrBadLine Plain) → entry_read f l r.0 ≡ x → and_then x (λ v. after_lines (1 + length r.0) (more v) (g r.1)) ≡ no_values k → after_dash f h q (Some l) ≡ no_values k
+    go (Err j) is e = ap (λ (x : ResultOrBadLine Plain). and_then x (λ v. after_lines (1 + length q.0) (more v) (h q.1))) (here j is (values_number j k e) (split_agree k xs ys a))
     go (Ok v) is e = let (j, bad, count) = later (1 + length r.0) v (g r.1) k e in beyond v j is bad count (split_agree k xs ys a)
 
-entries_stable : (f : List Line → LinesRead Plain) → IsStable f → (n m : ℕ) (xs ys : List Line) (k : ℕ) → length xs ≤ n → length ys ≤ m → entries_read f n xs ≡ Err k → Agree (suc k) xs ys → entries_read f m ys ≡ Err k
+entries_stable : (f : List Line → ResultOrBadLine Plain) → IsStable f → (n m : ℕ) (xs ys : List Line) (k : ℕ) → length xs ≤ n → length ys ≤ m → entries_read f n xs ≡ Err k → Agree (suc k) xs ys → entries_read f m ys ≡ Err k
 entries_stable f s zero m xs ys k a b e agree = absurd cc
 entries_stable f s (suc n) m [] ys k a b e agree = absurd cc
 entries_stable f s (suc n) m (x ∷ xs) [] k a b e agree = absurd agree
@@ -138,12 +138,12 @@ entries_stable f s (suc n) (suc m) (x ∷ xs) (y ∷ ys) k a b e agree =
 
 -- ---- whole lists
 
-pub arr_bad : (r : LinesRead Plains) (k : ℕ) → and_then r arr_read ≡ no_value k → (r ≡ Err k) ⊎ (r ≡ Ok none)
+pub arr_bad : (r : ResultOrBadLine Plains) (k : ℕ) → and_then r arr_read ≡ no_value k → (r ≡ Err k) ⊎ (r ≡ Ok none)
 arr_bad (Err j) k e = inl (ap no_values (value_number j k e))
 arr_bad (Ok none) k e = inr refl
 arr_bad (Ok (more v vs)) k e = absurd cc
 
-pub obj_bad : (r : LinesRead Plains) (k : ℕ) → and_then r obj_read ≡ no_value k → (r ≡ Err k) ⊎ (r ≡ Ok none)
+pub obj_bad : (r : ResultOrBadLine Plains) (k : ℕ) → and_then r obj_read ≡ no_value k → (r ≡ Err k) ⊎ (r ≡ Ok none)
 obj_bad (Err j) k e = inl (ap no_values (value_number j k e))
 obj_bad (Ok none) k e = inr refl
 obj_bad (Ok (more v vs)) k e = absurd cc
@@ -153,7 +153,7 @@ unfolding block_read
 array_stable s h [] ys k e a = absurd a
 array_stable s h (x ∷ xs) ys k e a =
     elim (arr_bad (entries_read (block_read s) (length (x ∷ xs)) (x ∷ xs)) k e) [
-      | inl bad ↦ ap (λ (r : LinesRead Plains). and_then r arr_read) (entries_stable (block_read s) h (length (x ∷ xs)) (length ys) (x ∷ xs) ys k (omega arith) (omega arith) bad a)
+      | inl bad ↦ ap (λ (r : ResultOrBadLine Plains). and_then r arr_read) (entries_stable (block_read s) h (length (x ∷ xs)) (length ys) (x ∷ xs) ys k (omega arith) (omega arith) bad a)
       | inr nothing ↦ absurd (some_entries (block_read s) (x ∷ xs) x refl nothing)
     ]
 
@@ -165,20 +165,20 @@ unfolding block_read
 object_stable which fs h [] ys k e a = absurd a
 object_stable which fs h (x ∷ xs) ys k e a =
     elim (obj_bad (fields_read fs (x ∷ xs)) k e) [
-      | inl bad ↦ ap (λ (r : LinesRead Plains). and_then r obj_read) (h (x ∷ xs) ys k bad a)
+      | inl bad ↦ ap (λ (r : ResultOrBadLine Plains). and_then r obj_read) (h (x ∷ xs) ys k bad a)
       | inr nothing ↦ absurd (some_fields fs x xs nothing)
     ]
 
 -- ---- fields
 
 -- what is read of a field and those after it
-abbrev StableNamed : (List Line → Line → LinesRead Plains) → Type 0
+abbrev StableNamed : (List Line → Line → ResultOrBadLine Plains) → Type 0
 StableNamed f = (rest : Line) (xs ys : List Line) (k : ℕ) → Agree k xs ys → f xs rest ≡ Err k → f ys rest ≡ Err k
 
-on_line_stable : (g : Line → LinesRead Plain) (f : List Line → LinesRead Plains) → IsStable f → StableNamed (λ ls rest. field_on_line g f ls (strip_prefix (codes " ") rest))
+on_line_stable : (g : Line → ResultOrBadLine Plain) (f : List Line → ResultOrBadLine Plains) → IsStable f → StableNamed (λ ls rest. field_on_line g f ls (strip_prefix (codes " ") rest))
 on_line_stable g f s rest xs ys k a e = go (strip_prefix (codes " ") rest) e
   where
-    then : (x : LinesRead Plain) → and_then x (λ v. after_lines 1 (more v) (f xs)) ≡ no_values k → and_then x (λ v. after_lines 1 (more v) (f ys)) ≡ no_values k
+    then : (x : ResultOrBadLine Plain) → and_then x (λ v. after_lines 1 (more v) (f xs)) ≡ no_values k → and_then x (λ v. after_lines 1 (more v) (f ys)) ≡ no_values k
     then (Err j) e = e
     then (Ok v) e =
         let (j, bad, count) = later 1 v (f xs) k e in
@@ -190,7 +190,7 @@ on_line_stable g f s rest xs ys k a e = go (strip_prefix (codes " ") rest) e
     go None e = e
     go (Some l) e = then (g l) e
 
-below_stable : (b : List Line → LinesRead Plain) (f : List Line → LinesRead Plains) → IsStable b → IsStable f → StableNamed (λ ls rest. field_below b f (split_block ls) rest)
+below_stable : (b : List Line → ResultOrBadLine Plain) (f : List Line → ResultOrBadLine Plains) → IsStable b → IsStable f → StableNamed (λ ls rest. field_below b f (split_block ls) rest)
 below_stable b f sb sf (c ∷ cs) xs ys k a e = e
 below_stable b f sb sf [] xs ys k a e = go (b r.0) refl e
   where
@@ -204,9 +204,9 @@ below_stable b f sb sf [] xs ys k a e = go (b r.0) refl e
     here j bad is (inl i) =
         let same : k ≡ suc j = omega (arith, is) in
         let agree : Agree (suc j) r.0 q.0 = subst (λ (n : ℕ). Agree n r.0 q.0) same i.agree in
-        ap (λ (x : LinesRead Plain). and_then (after_lines 1 (λ v. v) x) (λ v. after_lines (1 + length q.0) (more v) (f q.1))) (sb r.0 q.0 j bad agree) ∙ ap no_values is
+        ap (λ (x : ResultOrBadLine Plain). and_then (after_lines 1 (λ v. v) x) (λ v. after_lines (1 + length q.0) (more v) (f q.1))) (sb r.0 q.0 j bad agree) ∙ ap no_values is
     here j bad is (inr p) =
-        ap (λ (x : LinesRead Plain). and_then (after_lines 1 (λ v. v) x) (λ v. after_lines (1 + length q.0) (more v) (f q.1))) (ap b (sym p.same) ∙ bad) ∙ ap no_values is
+        ap (λ (x : ResultOrBadLine Plain). and_then (after_lines 1 (λ v. v) x) (λ v. after_lines (1 + length q.0) (more v) (f q.1))) (ap b (sym p.same) ∙ bad) ∙ ap no_values is
 
     beyond : (v : Plain) (j : ℕ) → b r.0 ≡ Ok v → f r.1 ≡ Err j → k ≡ 1 + length r.0 + j → Inside k r q ⊎ Past k r q → field_below b f q [] ≡ no_values k
     beyond v j ok bad is (inl i) = absurd (omega (arith, i.le, is))
@@ -214,14 +214,14 @@ below_stable b f sb sf [] xs ys k a e = go (b r.0) refl e
         let left : p.left ≡ suc j = omega (arith, p.count, is) in
         let after : f q.1 ≡ Err j = sf r.1 q.1 j bad (subst (λ (n : ℕ). Agree n r.1 q.1) left p.agree) in
         let len : 1 + length q.0 + j ≡ k = ap (λ (ls : List Line). 1 + length ls + j) (sym p.same) ∙ sym is in
-        ap (λ (x : LinesRead Plain). and_then (after_lines 1 (λ v. v) x) (λ v. after_lines (1 + length q.0) (more v) (f q.1))) (ap b (sym p.same) ∙ ok)
+        ap (λ (x : ResultOrBadLine Plain). and_then (after_lines 1 (λ v. v) x) (λ v. after_lines (1 + length q.0) (more v) (f q.1))) (ap b (sym p.same) ∙ ok)
         ∙ ap (after_lines (1 + length q.0) (more v)) after ∙ ap no_values len
 
-    go : (x : LinesRead Plain) → b r.0 ≡ x → and_then (after_lines 1 (λ v. v) x) (λ v. after_lines (1 + length r.0) (more v) (f r.1)) ≡ no_values k → field_below b f q [] ≡ no_values k
+    go : (x : ResultOrBadLine Plain) → b r.0 ≡ x → and_then (after_lines 1 (λ v. v) x) (λ v. after_lines (1 + length r.0) (more v) (f r.1)) ≡ no_values k → field_below b f q [] ≡ no_values k
     go (Err j) is e = here j is (values_number (1 + j) k e) (split_agree k xs ys a)
     go (Ok v) is e = let (j, bad, count) = later (1 + length r.0) v (f r.1) k e in beyond v j is bad count (split_agree k xs ys a)
 
-named_stable : (s : Shape) (f : List Line → LinesRead Plains) → IsStable (block_read s) → IsStable f → StableNamed (named_read s f)
+named_stable : (s : Shape) (f : List Line → ResultOrBadLine Plains) → IsStable (block_read s) → IsStable f → StableNamed (named_read s f)
 unfolding named_read block_read
 named_stable number f sb sf = on_line_stable (λ l. if_form int_line l (int_read l)) f sf
 named_stable text f sb sf = on_line_stable (λ l. if_form text_line l (text_read l)) f sf

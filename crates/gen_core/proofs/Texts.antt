@@ -12,7 +12,7 @@ use Rattle.adb_dump.specs.adb_schema.Soundness.{schema_word}
 use Rattle.base_core.specs.Lists.{and_then}
 use Rattle.base_core.proofs.AtName.{is_name}
 use Rattle.adb_dump.specs.Dump.{Line, dump_lines, dump_text, schema_line, text_of, value_lines}
-use Rattle.adb_dump.specs.ReadBack.{LinesRead, add_char, split_lines, value_read}
+use Rattle.adb_dump.specs.ReadBack.{ResultOrBadLine, add_char, split_lines, value_read}
 use Rattle.adb_dump.specs.Values.{IsOfBytes, IsValueOf}
 use Rattle.adb_dump.proofs.Booleans.{chosen}
 use Rattle.adb_dump.proofs.ValueLaws.{only_values, read_back, text_split}
@@ -143,7 +143,7 @@ ok_root r = Ok r
 same_root : (p q : DumpedRoot) → ok_root p ≡ ok_root q → p ≡ q
 same_root p q e = cc
 
-value_lines_of : (l : Line) (ls : List Line) (w : Which) (r : LinesRead Plain) (root : DumpedRoot) → table_of_line l ≡ Some w → value_read w ls ≡ r → root_read w r ≡ Ok root → AreLinesOf (l ∷ ls) root
+value_lines_of : (l : Line) (ls : List Line) (w : Which) (r : ResultOrBadLine Plain) (root : DumpedRoot) → table_of_line l ≡ Some w → value_read w ls ≡ r → root_read w r ≡ Ok root → AreLinesOf (l ∷ ls) root
 value_lines_of l ls w (Err k) root t e ok = absurd cc
 value_lines_of l ls w (Ok v) root t e ok =
     let names = root_of_line l w t in

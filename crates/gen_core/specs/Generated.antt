@@ -10,7 +10,7 @@ use Rattle.adb_dump.specs.adb_schema.Soundness.{schema_word}
 use Rattle.adb_values.specs.adb_write.Canonical.{PayloadCounts, written_of}
 use Rattle.adb_values.specs.adb_write.File.{file_of}
 use Rattle.adb_dump.specs.Dump.{Line, schema_line}
-use Rattle.adb_dump.specs.ReadBack.{LinesRead, value_read}
+use Rattle.adb_dump.specs.ReadBack.{ResultOrBadLine, value_read}
 use Rattle.gen_core.specs.declared.generate.GenFault.{GenFault}
 use Rattle.gen_core.specs.declared.generate.GenFault.TheVariants.{Bad, TooLarge, Memory}
 
@@ -55,7 +55,7 @@ table_of_line l = find (λ which. bytes_eq l (schema_line (schema_word which))) 
 
 -- the root of a value that was read from the lines after the first. A bad line has its number among
 -- those lines, from 0; among all lines, from 1, it has this number plus 2
-abbrev pub root_read : Which → LinesRead Plain → Result DumpedRoot ℕ
+abbrev pub root_read : Which → ResultOrBadLine Plain → Result DumpedRoot ℕ
 root_read which (Ok v) = Ok (record { which = which; value = v })
 root_read which (Err k) = Err (k + 2)
 

@@ -8,7 +8,7 @@ use Rattle.adb_values.specs.adb_write.declared.writer.WriteFault.{WriteFault}
 use Rattle.adb_values.specs.adb_write.declared.writer.WriteFault.TheVariants as WriteFaults
 use Rattle.adb_values.specs.Drafts.{DraftState, draft_with, draft_with_all}
 use Rattle.adb_dump.specs.Dump.{Line, int_line, text_line, hash_line}
-use Rattle.adb_dump.specs.ReadBack.{LinesRead, entry_read, if_form, int_read, text_read, hash_read}
+use Rattle.adb_dump.specs.ReadBack.{ResultOrBadLine, entry_read, if_form, int_read, text_read, hash_read}
 use Rattle.gen_core.specs.Cursors.{CursorState, after_block, after_line}
 use Rattle.adb_view.specs.declared.tables.Which.{Which}
 use Rattle.gen_core.specs.Generated.{DumpedRoot, table_of_line}
@@ -24,7 +24,7 @@ IsFormOf form false bytes l =
     (other : List ℕ) → AllByRecursion (λ b. b < 256) other → other ≢ [] → form other ≢ l
 
 -- the value of a shape that has one line; a shape of several lines has no such value
-abbrev pub line_read : Shape → Line → LinesRead Plain
+abbrev pub line_read : Shape → Line → ResultOrBadLine Plain
 line_read number l = if_form int_line l (int_read l)
 line_read text l = if_form text_line l (text_read l)
 line_read hash l = if_form hash_line l (hash_read l)
@@ -32,7 +32,7 @@ line_read (array s) l = Err 0
 line_read (object schema fs) l = Err 0
 
 -- a draft has the value that was read more; or the line cannot be read
-abbrev pub IsLineRead : Bool → LinesRead Plain → DraftState → DraftState → Type 0
+abbrev pub IsLineRead : Bool → ResultOrBadLine Plain → DraftState → DraftState → Type 0
 IsLineRead true read old new = (v : Plain) × (read ≡ Ok v) × (new ≡ draft_with v old)
 IsLineRead false read old new = read ≡ Err 0
 
@@ -40,27 +40,27 @@ IsLineRead false read old new = read ≡ Err 0
 
 -- what reading comes to: a draft, and the place from which more is read into it; or the number of
 -- the first bad line, from 1
-abbrev pub Read : Type 0
-Read = Result (DraftState × CursorState) ℕ
+abbrev pub DraftOrBadLine : Type 0
+DraftOrBadLine = Result (DraftState × CursorState) ℕ
 
 -- the line that is read is read as a value
-abbrev pub line_taken : LinesRead Plain → DraftState → CursorState → Read
+abbrev pub line_taken : ResultOrBadLine Plain → DraftState → CursorState → DraftOrBadLine
 line_taken (Ok v) d c = Ok (draft_with v d, after_line c.lines c)
 line_taken (Err k) d c = Err (c.number + k)
 
 -- a block is read as a value
-abbrev pub block_taken : LinesRead Plain → List Line × List Line → DraftState → CursorState → Read
+abbrev pub block_taken : ResultOrBadLine Plain → List Line × List Line → DraftState → CursorState → DraftOrBadLine
 block_taken (Ok v) block d c = Ok (draft_with v d, after_block block c)
 block_taken (Err k) block d c = Err (c.number + k)
 
 -- a block is read as values
 abbrev pub values_taken :
-    LinesRead Plains → List Line × List Line → DraftState → CursorState → Read
+    ResultOrBadLine Plains → List Line × List Line → DraftState → CursorState → DraftOrBadLine
 values_taken (Ok vs) block d c = Ok (draft_with_all vs d, after_block block c)
 values_taken (Err k) block d c = Err (c.number + k)
 
 -- a block is read as an entry of an array
-abbrev pub entry_block_read : (List Line → LinesRead Plain) → List Line → LinesRead Plain
+abbrev pub entry_block_read : (List Line → ResultOrBadLine Plain) → List Line → ResultOrBadLine Plain
 entry_block_read f [] = f []
 entry_block_read f (l ∷ ls) = entry_read f l ls
 

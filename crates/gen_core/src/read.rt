@@ -9,7 +9,7 @@ ghost use Rattle.adb_view.specs.Rank.{rank, rank_of_all};
 ghost use Rattle.adb_view.specs.declared.tables.Kind.TheVariants as Kinds;
 ghost use Rattle.adb_dump.specs.Dump.{Line};
 ghost use Rattle.adb_dump.specs.Margin.{DEPTH_LIMIT};
-ghost use Rattle.adb_dump.specs.ReadBack.{LinesRead, block_read, entries_read, fields_read, named_read, strip_prefix, value_read};
+ghost use Rattle.adb_dump.specs.ReadBack.{ResultOrBadLine, block_read, entries_read, fields_read, named_read, strip_prefix, value_read};
 ghost use Rattle.adb_dump.specs.Words.{has_one_line};
 ghost use Rattle.gen_core.specs.Cursors.{block_at, line_of_block};
 ghost use Rattle.gen_core.specs.Reads.{IsLineRead, IsTextFault, block_taken, end_read, entry_block_read, is_null_line, line_read, line_taken, values_taken};
@@ -345,14 +345,14 @@ fn read_named(
     requires deep { depth + rank kind < DEPTH_LIMIT }
     requires some { 0 < length (block_at depth cursor.old.lines).0 }
     ensures ok { let block = block_at depth cursor.old.lines in OnOk result
-        ((others : List Line → LinesRead Plains)
+        ((others : List Line → ResultOrBadLine Plains)
         → values_taken (named_read (shape_of kind) others (drop 1 block.0) value.now)
         block draft.old cursor.old
         ≡ values_taken (others (block_at depth cursor.new.lines).0)
         (block_at depth cursor.new.lines) draft.new cursor.new) }
     ensures begun { OnOk result (cursor.new.levels ≡ 0) }
     ensures err { let block = block_at depth cursor.old.lines in IfErr result (λ fault.
-        (others : List Line → LinesRead Plains) → IsTextFault fault
+        (others : List Line → ResultOrBadLine Plains) → IsTextFault fault
         (values_taken (named_read (shape_of kind) others (drop 1 block.0) value.now)
         block draft.old cursor.old)) }
 {

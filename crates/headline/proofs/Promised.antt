@@ -1,6 +1,6 @@
 -- What a run recovers to, at each of its moments.
 use Rattle.std.proofs.Common.{◌≡◌, ◌⊎◌, inl, inr, ℕ, true, false, List, [], ◌∷◌, Ok, refl, subst, ◌∙◌}
-use Rattle.run_lists.specs.apk_front.Moments.{AnswersOutcome, IgnoresScratchOf, IsDurableState, MakesDurable}
+use Rattle.run_lists.specs.apk_front.Moments.{AnswersOutcome, IgnoresScratchOf, IsDurableState, MustLast}
 use Rattle.base_core.specs.Calls.{HoldsNow, IfObservable}
 use Rattle.base_core.specs.Undone.{IsDurable, IsCrashImage}
 use Rattle.base_core.specs.Files.{Files}
@@ -113,11 +113,11 @@ module _ (begins : (ignored : Ignored) (first v : TreeState) (events : List Even
       recovers_to Names m (left_at m (at, moment, torn)) (λ names. HasStateBefore names v) (before_rests v)
       (λ image is. (idle_moment Names v run is_run durable idle at moment).quiet image (torn_image at m torn image is))
 
-  ends_settled : (o : Outcome) → IsOutcomeFrom v run o → MakesDurable (effect_by (command_of run.words)) Names v o → (w : TreeState) → LeavesOutcome (ignored_after ignored events) v run w → EachCrashLeaves Names o.files w
+  ends_settled : (o : Outcome) → IsOutcomeFrom v run o → MustLast (effect_by (command_of run.words)) Names v o → (w : TreeState) → LeavesOutcome (ignored_after ignored events) v run w → EachCrashLeaves Names o.files w
   ends_settled o is settles w leaves =
-      subst (λ (p : Outcome). (MakesDurable (effect_by (command_of run.words)) Names v p → EachCrashLeaves Names p.files w)) (unique run.words (files_of v) leaves.outcome o leaves.is_outcome is) leaves.settled settles
+      subst (λ (p : Outcome). (MustLast (effect_by (command_of run.words)) Names v p → EachCrashLeaves Names p.files w)) (unique run.words (files_of v) leaves.outcome o leaves.is_outcome is) leaves.settled settles
 
-  answered : AnswersOutcome run.answer → (o : Outcome) → IsOutcomeFrom v run o → MakesDurable (effect_by (command_of run.words)) Names v o → HoldsNow run.now (RootRecoversTo (λ names. HasStateOf names o.files) Names)
+  answered : AnswersOutcome run.answer → (o : Outcome) → IsOutcomeFrom v run o → MustLast (effect_by (command_of run.words)) Names v o → HoldsNow run.now (RootRecoversTo (λ names. HasStateOf names o.files) Names)
   answered answers o is settles =
       now_last run.now (LeavesOutcome (ignored_after ignored events) v run) (RootRecoversTo (λ names. HasStateOf names o.files) Names)
       (λ w ends leaves. recovers_to Names w (left_at w (w, last_moment run v w is_run ends, torn_self w)) (λ names. HasStateOf names o.files) (state_rests o.files) (ends_settled o is settles w leaves))

@@ -3,7 +3,7 @@
 -- (states), `outcome` (what a command comes to) and `refusal_laws` (what a refusal says).
 use Rattle.std.specs.Prelude.{◌≡◌, ◌⊎◌, ℕ, Bool, true, false, List, Some, None, Ok}
 use Rattle.run_lists.specs.apk_front.Answers.{IsAnswerOf, LeavesFiles}
-use Rattle.run_lists.specs.apk_front.Moments.{AnswersOutcome, IsDurableState, MakesDurable}
+use Rattle.run_lists.specs.apk_front.Moments.{AnswersOutcome, IsDurableState, MustLast}
 use Rattle.base_core.specs.Calls.{HoldsNow}
 use Rattle.base_core.specs.Undone.{IsDurable, IsCrashImage}
 use Rattle.base_core.specs.Faults.{HasCause}
@@ -66,7 +66,7 @@ pub record IsAsPromised (ignored : List ℕ → Bool) (v : TreeState) (run : Run
   -- then recovers to the outcome's state, if this is made durable: the outcome commits, or each crash
   -- before the run left the state of the files as read, or an intent was found.
   pub answered : AnswersOutcome run.answer → (o : Outcome) → IsOutcomeFrom v run o
-      → MakesDurable (effect_by (command_of run.words)) ignored v o
+      → MustLast (effect_by (command_of run.words)) ignored v o
       → HoldsNow run.now (RootRecoversTo (λ names. HasStateOf names o.files) ignored)
   -- If the run is refused, runs out of memory, or commits nothing, the root recovers to a state from
   -- before the run.

@@ -14,7 +14,7 @@ use Rattle.command_core.specs.declared.operands.Operand.{Operand}
 use Rattle.base_core.specs.Sorted.{sorted_by}
 use Rattle.make_index.specs.Entries.{entry_of_package}
 use Rattle.make_index.specs.EntryOrder.{entry_cmp}
-use Rattle.make_index.specs.Files.{AreFiles}
+use Rattle.make_index.specs.Files.{FindOnlyFiles}
 use Rattle.make_index.specs.Index.{and_entries, description_in, entry_unless, found_entries, found_entry, made_index, value_of_index}
 use Rattle.make_index.specs.make_info.Reads.{Reads}
 use Rattle.make_index.specs.make_info.Values.{plains_of_list}
@@ -101,7 +101,7 @@ in_order same sorted read operands description index (Ok entries) is e =
       sorted = subst (IsSorted entry_cmp) stand (sorted entries);
     }
 
-pub made_in_order : Same → Sorted → Back → Exact → Values → (command : CommandLine) (read : Reads) (bytes : List ℕ) → AreFiles read 0 command.operands → made_index command read ≡ Ok bytes
+pub made_in_order : Same → Sorted → Back → Exact → Values → (command : CommandLine) (read : Reads) (bytes : List ℕ) → FindOnlyFiles read 0 command.operands → made_index command read ≡ Ok bytes
     → HasPackagesInOrder read command.operands (root_value Index (payload_in bytes))
 made_in_order same sorted back exact values command read bytes files e =
     in_order same sorted read command.operands (description_in command.values) (root_value Index (payload_in bytes)) (found_entries read 0 command.operands) refl

@@ -25,7 +25,7 @@ use Rattle.make_index.specs.make_info.declared.field.Kind.{Kind}
 use Rattle.make_index.specs.make_info.declared.field.Kind.TheVariants as Kinds
 use Rattle.make_index.specs.make_info.Fields.{FieldValue, text, number, need, kind_of_field, values_by_kind, text_if, if_untagged}
 use Rattle.make_index.specs.make_info.FieldTexts.{FieldText, field_text_in, values_of_info, is_for, is_text_for, is_same, is_too_long}
-use Rattle.make_index.specs.make_info.Information.{InfoItem, all_items, first_offence, information_fields, information_value, information_of, is_item_for, info_item, item_value, items_of_text, items_of_option, lacks_name_or_version, value_of_list, need_value, number_in, offends, replaces_priority, plain_value, value_of_single, unless_offence, plains_for, with_values}
+use Rattle.make_index.specs.make_info.Information.{FieldWithValue, all_items, first_offence, information_fields, information_value, information_of, is_item_for, info_item, item_value, items_of_text, items_of_option, lacks_name_or_version, value_of_list, need_value, number_in, offends, replaces_priority, plain_value, value_of_single, unless_offence, plains_for, with_values}
 use Rattle.make_index.specs.make_info.Values.{number_value}
 use Rattle.make_index.proofs.make_info.OutputFacts.{no_offence}
 use Rattle.make_core.proofs.GoodValues.{IsGood, arr_good, hash_good, null_number, number_good, obj_good, text_good}
@@ -39,11 +39,11 @@ pub record Needs : Type 0 where
 
 -- ---- items
 
-abbrev pub AreItems : List InfoItem → Type 0
+abbrev pub AreItems : List FieldWithValue → Type 0
 AreItems [] = Unit {0}
 AreItems (item ∷ items) = IsSaidAs (kind_of_field item.field) item.value × AreItems items
 
-items_append : (xs ys : List InfoItem) → AreItems xs → AreItems ys → AreItems (xs ++ ys)
+items_append : (xs ys : List FieldWithValue) → AreItems xs → AreItems ys → AreItems (xs ++ ys)
 items_append [] ys a b = b
 items_append (x ∷ xs) ys a b = (a.0, items_append xs ys a.1 b)
 
@@ -51,19 +51,19 @@ items_said : (f : Field) (ss : List FieldValue) → AreSaidAs (kind_of_field f) 
 items_said f [] h = tt
 items_said f (s ∷ ss) h = (h.0, items_said f ss h.1)
 
-with_good : (f : Field) (o : Option (List FieldValue)) (items : List InfoItem) → ((ss : List FieldValue) → o ≡ Some ss → AreSaidAs (kind_of_field f) ss) → with_values [] f o ≡ Some items → AreItems items
+with_good : (f : Field) (o : Option (List FieldValue)) (items : List FieldWithValue) → ((ss : List FieldValue) → o ≡ Some ss → AreSaidAs (kind_of_field f) ss) → with_values [] f o ≡ Some items → AreItems items
 with_good f None items h e = absurd (cc (e))
 with_good f (Some ss) items h e = let same : map (info_item f) ss ≡ items = cc (e) in subst AreItems same (items_said f ss (h ss refl))
 
-given_good : (o : Option FieldText) (items : List InfoItem) → option_and_then items_of_text o ≡ Some items → AreItems items
+given_good : (o : Option FieldText) (items : List FieldWithValue) → option_and_then items_of_text o ≡ Some items → AreItems items
 given_good None items e = absurd (cc (e))
 given_good (Some g) items e = with_good g.field (values_by_kind (kind_of_field g.field) g.value) items (λ ss is. said_good (kind_of_field g.field) g.value ss is) e
 
-or_none_good : (o : Option (List InfoItem)) → ((items : List InfoItem) → o ≡ Some items → AreItems items) → AreItems (unwrap_or o [])
+or_none_good : (o : Option (List FieldWithValue)) → ((items : List FieldWithValue) → o ≡ Some items → AreItems items) → AreItems (unwrap_or o [])
 or_none_good None h = tt
 or_none_good (Some items) h = h items refl
 
-abbrev said_by : OptionValue → List InfoItem
+abbrev said_by : OptionValue → List FieldWithValue
 said_by v = unwrap_or (items_of_option v) []
 
 all_good : (told : List OptionValue) → AreItems (all_items told)
@@ -124,7 +124,7 @@ among f (v ∷ vs) says ok e =
     by_side (inl here) further = or_left _ _ (among_by f (field_text_in v.text) says here ok.0)
     by_side (inr there) further = or_right (list_any (is_item_for f) (said_by v)) _ (further there)
 
-pub record IsInformation (items : List InfoItem) : Type 0 where
+pub record IsInformation (items : List FieldWithValue) : Type 0 where
   pub good : AreItems items
   pub name : list_any (is_item_for Fields.Name) items ≡ true
   pub version : list_any (is_item_for Fields.Version) items ≡ true
@@ -134,7 +134,7 @@ neither_lacks true true e = (refl, refl)
 neither_lacks true false e = absurd (cc (e))
 neither_lacks false b e = absurd (cc (e))
 
-information_by : (told : List OptionValue) (o : Option ℕ) (b : Bool) (behind : ℕ) (items : List InfoItem) → (o ≡ None → AreAllowed told) → lacks_name_or_version told ≡ b
+information_by : (told : List OptionValue) (o : Option ℕ) (b : Bool) (behind : ℕ) (items : List FieldWithValue) → (o ≡ None → AreAllowed told) → lacks_name_or_version told ≡ b
     → unless_offence o (if b then Err behind else Ok (all_items told)) ≡ Ok items → IsInformation items
 information_by told (Some place) b behind items ok is e = absurd (cc (e))
 information_by told None true behind items ok is e = absurd (cc (e))
@@ -147,18 +147,18 @@ information_by told None false behind items ok is e =
       version = among Fields.Version told version_says (ok refl) both.1;
     })
 
-pub information_good : (values : List OptionValue) (behind : ℕ) (items : List InfoItem) → information_of values behind ≡ Ok items → IsInformation items
+pub information_good : (values : List OptionValue) (behind : ℕ) (items : List FieldWithValue) → information_of values behind ≡ Ok items → IsInformation items
 unfolding information_of
 information_good values behind items e =
     information_by (values_of_info values) (first_offence (is_too_long values) [] (values_of_info values)) (lacks_name_or_version (values_of_info values)) behind items (λ k. allowed (is_too_long values) [] (values_of_info values) k) refl e
 
 -- ---- what is found of a field
 
-abbrev IsFound : Field → Option InfoItem → Type 0
+abbrev IsFound : Field → Option FieldWithValue → Type 0
 IsFound f None = Unit {0}
 IsFound f (Some item) = IsSaidAs (kind_of_field f) item.value
 
-found : (f : Field) (items : List InfoItem) → AreItems items → IsFound f (find (is_item_for f) items)
+found : (f : Field) (items : List FieldWithValue) → AreItems items → IsFound f (find (is_item_for f) items)
 found f [] h = tt
 found f (item ∷ items) h = by_field (is_item_for f item) refl (found f items h.1)
   where
@@ -166,7 +166,7 @@ found f (item ∷ items) h = by_field (is_item_for f item) refl (found f items h
     by_field true is further = subst (λ (k : Kind). IsSaidAs k item.value) (same_kind item.field f is) h.0
     by_field false is further = further
 
-there : (f : Field) (items : List InfoItem) → list_any (is_item_for f) items ≡ true → is_some (find (is_item_for f) items) ≡ true
+there : (f : Field) (items : List FieldWithValue) → list_any (is_item_for f) items ≡ true → is_some (find (is_item_for f) items) ≡ true
 there f [] e = absurd (cc (e))
 there f (item ∷ items) e = by_field (is_item_for f item) (there f items) e
   where
@@ -174,21 +174,21 @@ there f (item ∷ items) e = by_field (is_item_for f item) (there f items) e
     by_field true further k = refl
     by_field false further k = further k
 
-single_by : (P : Plain → Type 0) (f : Field) (o : Option InfoItem) → IsFound f o → P null → ((s : FieldValue) → IsSaidAs (kind_of_field f) s → P (plain_value s)) → P (item_value o)
+single_by : (P : Plain → Type 0) (f : Field) (o : Option FieldWithValue) → IsFound f o → P null → ((s : FieldValue) → IsSaidAs (kind_of_field f) s → P (plain_value s)) → P (item_value o)
 single_by P f None h lacking good = lacking
 single_by P f (Some item) h lacking good = good item.value h
 
-single_good : (P : Plain → Type 0) (f : Field) (items : List InfoItem) → AreItems items → P null → ((s : FieldValue) → IsSaidAs (kind_of_field f) s → P (plain_value s)) → P (value_of_single f items)
+single_good : (P : Plain → Type 0) (f : Field) (items : List FieldWithValue) → AreItems items → P null → ((s : FieldValue) → IsSaidAs (kind_of_field f) s → P (plain_value s)) → P (value_of_single f items)
 single_good P f items h lacking good = single_by P f (find (is_item_for f) items) (found f items h) lacking good
 
-given_by_some : (P : Plain → Type 0) (f : Field) (o : Option InfoItem) → IsFound f o → is_some o ≡ true → ((s : FieldValue) → IsSaidAs (kind_of_field f) s → P (plain_value s)) → P (item_value o)
+given_by_some : (P : Plain → Type 0) (f : Field) (o : Option FieldWithValue) → IsFound f o → is_some o ≡ true → ((s : FieldValue) → IsSaidAs (kind_of_field f) s → P (plain_value s)) → P (item_value o)
 given_by_some P f None h some good = absurd (cc (some))
 given_by_some P f (Some item) h some good = good item.value h
 
-given_single : (P : Plain → Type 0) (f : Field) (items : List InfoItem) → AreItems items → list_any (is_item_for f) items ≡ true → ((s : FieldValue) → IsSaidAs (kind_of_field f) s → P (plain_value s)) → P (value_of_single f items)
+given_single : (P : Plain → Type 0) (f : Field) (items : List FieldWithValue) → AreItems items → list_any (is_item_for f) items ≡ true → ((s : FieldValue) → IsSaidAs (kind_of_field f) s → P (plain_value s)) → P (value_of_single f items)
 given_single P f items h any good = given_by_some P f (find (is_item_for f) items) (found f items h) (there f items any) good
 
-values_good : (P : Plain → Type 0) (f : Field) (items : List InfoItem) → AreItems items → ((s : FieldValue) → IsSaidAs (kind_of_field f) s → P (plain_value s)) → Each P (plains_for f items)
+values_good : (P : Plain → Type 0) (f : Field) (items : List FieldWithValue) → AreItems items → ((s : FieldValue) → IsSaidAs (kind_of_field f) s → P (plain_value s)) → Each P (plains_for f items)
 values_good P f [] h good = tt
 values_good P f (item ∷ items) h good = by_field (is_item_for f item) refl (values_good P f items h.1 good)
   where
@@ -265,7 +265,7 @@ a_need needs place a (need d) h = need_good needs place a d h
 
 -- ---- all of them
 
-module _ (needs : Needs) (items : List InfoItem) (is : IsInformation items) where
+module _ (needs : Needs) (items : List FieldWithValue) (is : IsInformation items) where
   text_at : (place : ℕ) (a : Surroundings) (f : Field) → kind_of_field f ≡ Kinds.AnyText → IsFree place → IsGood text_shape place a (value_of_single f items)
   text_at place a f k free =
       single_good (IsGood text_shape place a) f items is.good (text_good place a [] (free a [])) (λ s h. any_text place a free s (subst (λ (kind : Kind). IsSaidAs kind s) k h))
@@ -348,7 +348,7 @@ module _ (needs : Needs) (items : List InfoItem) (is : IsInformation items) wher
         ),
       )
 
-  priority_by : (o : Option InfoItem) → IsFound Fields.ReplacesPriority o → IsGood number_shape 705 around_folder (number_value (option_and_then (λ (item : InfoItem). number_in item.value) o))
+  priority_by : (o : Option FieldWithValue) → IsFound Fields.ReplacesPriority o → IsGood number_shape 705 around_folder (number_value (option_and_then (λ (item : FieldWithValue). number_in item.value) o))
   priority_by None h = null_number 705 around_folder refl
   priority_by (Some item) h = by_said item.value h
     where

@@ -9,7 +9,7 @@ use Rattle.command_core.specs.Command.{CommandLine}
 use Rattle.command_core.specs.Files.{without_dot}
 use Rattle.command_core.specs.Values.{script_file, script_type}
 use Rattle.command_core.specs.declared.values.OptionValue.{OptionValue}
-use Rattle.make_index.specs.make_info.Information.{InfoItem, information}
+use Rattle.make_index.specs.make_info.Information.{FieldWithValue, information}
 use Rattle.make_index.specs.make_info.Reads.{Reads}
 use Rattle.make_index.specs.make_info.declared.fault.MakeFault.{MakeFault}
 use Rattle.make_index.specs.make_info.declared.fault.MakeFault.TheVariants.{FileMissing}
@@ -133,16 +133,16 @@ container_by : (o : Option PayloadCounts) (v : Plain) (contents : List Contents)
 container_by None v contents place e = cc (e)
 container_by (Some counts) v contents place e = cc (e)
 
-packed_never : (command : CommandLine) (scripts : List Script) (items : List InfoItem) (sources : List SourceFolder) (place : ℕ) → package_of_parts command scripts items sources ≡ Err (FileMissing place) → ⊥
+packed_never : (command : CommandLine) (scripts : List Script) (items : List FieldWithValue) (sources : List SourceFolder) (place : ℕ) → package_of_parts command scripts items sources ≡ Err (FileMissing place) → ⊥
 unfolding package_container
 packed_never command scripts items sources place e = container_by _ _ _ place e
 
-info_never : (r : Result (List InfoItem) ℕ) (place : ℕ) → or_info_bad r ≡ Err (FileMissing place) → ⊥
+info_never : (r : Result (List FieldWithValue) ℕ) (place : ℕ) → or_info_bad r ≡ Err (FileMissing place) → ⊥
 info_never (Ok items) place e = cc (e)
 info_never (Err at) place e = cc (e)
 
 module _ (command : CommandLine) (names : List (List ℕ)) (read : Reads) (place : ℕ) where
-  at_files : (scripts : List Script) (items : List InfoItem) → Fails (folders_below read (length scripts) (values_with FILES command.values) names) (package_of_parts command scripts items) (FileMissing place) → IsMissing read command names place
+  at_files : (scripts : List Script) (items : List FieldWithValue) → Fails (folders_below read (length scripts) (values_with FILES command.values) names) (package_of_parts command scripts items) (FileMissing place) → IsMissing read command names place
   at_files scripts items (at_first e) = inr (file_is_missing read (length scripts) (values_with FILES command.values) names place e)
   at_files scripts items (behind sources e f) = absurd (packed_never command scripts items sources place f)
 

@@ -13,7 +13,7 @@ use Rattle.make_index.specs.make_info.declared.field.Field.{Field}
 use Rattle.make_index.specs.make_info.declared.field.Field.TheVariants as Fields
 use Rattle.make_index.specs.make_info.declared.field.Kind.{Kind}
 use Rattle.make_index.specs.make_info.declared.field.Kind.TheVariants as Kinds
-use Rattle.make_index.specs.make_info.Fields.{FieldValue, text, number, need, value_of_digits, field_word, fields, kind_of_field, field_among, need_in, needs_in, decimal_number, nonempty_parts, values_by_kind, text_if, text_values, and_needs, if_untagged}
+use Rattle.make_index.specs.make_info.Fields.{FieldValue, text, number, need, value_of_digits, field_word, fields, kind_of_field, field_among, untagged_dependency_in, needs_in, decimal_number, nonempty_parts, values_by_kind, text_if, text_values, and_needs, if_untagged}
 use Rattle.command_core.specs.Operands.{is_decimal}
 use Rattle.make_index.specs.make_info.FieldTexts.{is_same}
 
@@ -113,7 +113,7 @@ need_by : (part : List ℕ) (o : Option Dependency) (d : Dependency) → depende
 need_by part None d is e = absurd (cc (e))
 need_by part (Some x) d is e = let both = untagged_is x d e in (part, is ∙ ap Some both.0, both.1)
 
-needs_by : (part : List ℕ) (o : Option Dependency) (os : Option (List FieldValue)) (ss : List FieldValue) → need_in part ≡ o → ((ts : List FieldValue) → os ≡ Some ts → AreSaidAs Kinds.Dependencies ts) → and_needs o os ≡ Some ss → AreSaidAs Kinds.Dependencies ss
+needs_by : (part : List ℕ) (o : Option Dependency) (os : Option (List FieldValue)) (ss : List FieldValue) → untagged_dependency_in part ≡ o → ((ts : List FieldValue) → os ≡ Some ts → AreSaidAs Kinds.Dependencies ts) → and_needs o os ≡ Some ss → AreSaidAs Kinds.Dependencies ss
 needs_by part None os ss is further e = absurd (cc (e))
 needs_by part (Some d) None ss is further e = absurd (cc (e))
 needs_by part (Some d) (Some ts) ss is further e =
@@ -122,7 +122,7 @@ needs_by part (Some d) (Some ts) ss is further e =
 
 needs_said : (parts : List (List ℕ)) (ss : List FieldValue) → needs_in parts ≡ Some ss → AreSaidAs Kinds.Dependencies ss
 needs_said [] ss e = let same : [] ≡ ss = cc (e) in subst (AreSaidAs Kinds.Dependencies) same tt
-needs_said (part ∷ parts) ss e = needs_by part (need_in part) (needs_in parts) ss refl (λ ts is. needs_said parts ts is) e
+needs_said (part ∷ parts) ss e = needs_by part (untagged_dependency_in part) (needs_in parts) ss refl (λ ts is. needs_said parts ts is) e
 
 texts_said : (parts : List (List ℕ)) → AreSaidAs Kinds.Texts (text_values parts)
 texts_said [] = tt

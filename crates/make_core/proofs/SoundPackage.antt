@@ -14,7 +14,7 @@ use Rattle.make_index.specs.pkg_core.Whole.{container_fault, package_with_conten
 use Rattle.command_core.specs.Command.{CommandLine}
 use Rattle.command_core.specs.Files.{without_dot}
 use Rattle.command_core.specs.declared.values.OptionValue.{OptionValue}
-use Rattle.make_index.specs.make_info.Information.{InfoItem, information_value, information, replaces_priority}
+use Rattle.make_index.specs.make_info.Information.{FieldWithValue, information_value, information, replaces_priority}
 use Rattle.make_package.specs.adb_sound.Contents.{contents_size}
 use Rattle.make_package.specs.adb_sound.Container.{container_of, package_by}
 use Rattle.make_package.specs.Making.{container_unless, made_package, or_info_bad, package_container, package_of_parts}
@@ -42,7 +42,7 @@ module _ (P : Plain → List Contents → List ℕ → Type 0) where
   abbrev pub Holds : Type 0
   Holds = (v : Plain) (contents : List Contents) → IsRootOf Package v → AreContentsOf (expected_contents v) contents → length (container_of PACKAGE_WORD v contents) < 2 ^ 64 → P v contents (container_of PACKAGE_WORD v contents)
 
-  value_holds : Holds → Sizes → Exact → Needs → Tells → (items : List InfoItem) (sources : List SourceFolder) (scripts : List Script) (triggers : List (List ℕ)) → IsInformation items → AreSources sources
+  value_holds : Holds → Sizes → Exact → Needs → Tells → (items : List FieldWithValue) (sources : List SourceFolder) (scripts : List Script) (triggers : List (List ℕ)) → IsInformation items → AreSources sources
       → (v : Plain) → v ≡ value_of_package (information_value items (installed_size sources)) sources scripts triggers (replaces_priority items)
       → overflow_of v ≡ None → length (container_of PACKAGE_WORD v (contents_of_folders 1 sources)) < 2 ^ 64 → P v (contents_of_folders 1 sources) (container_of PACKAGE_WORD v (contents_of_folders 1 sources))
   value_holds holds sizes exact needs tells items sources scripts triggers about are v is fits short =
@@ -66,7 +66,7 @@ module _ (P : Plain → List Contents → List ℕ → Type 0) where
       let same : container_of PACKAGE_WORD v contents ≡ bytes = cc (e) in
       subst (P v contents) same (holds is (subst (λ (b : List ℕ). length b < 2 ^ 64) (sym same) short))
 
-  package_holds : Holds → Sizes → Exact → Needs → Tells → (command : CommandLine) (scripts : List Script) (items : List InfoItem) (sources : List SourceFolder) (bytes : List ℕ) → IsInformation items → AreSources sources
+  package_holds : Holds → Sizes → Exact → Needs → Tells → (command : CommandLine) (scripts : List Script) (items : List FieldWithValue) (sources : List SourceFolder) (bytes : List ℕ) → IsInformation items → AreSources sources
       → length bytes < 2 ^ 64 → package_of_parts command scripts items sources ≡ Ok bytes
       → P (value_of_package (information_value items (installed_size sources)) sources scripts (texts_of (values_with TRIGGER command.values)) (replaces_priority items)) (contents_of_folders 1 sources) bytes
   unfolding package_container
@@ -90,14 +90,14 @@ sources_are read n [] names sources below e =
 sources_are read n (v ∷ vs) names sources below e =
     sources_good (without_dot v.text) names v.place read n sources (are_listed (without_dot v.text) names below.each) (rises_from_pairs names below.rising) e
 
-pub info_ok : (r : Result (List InfoItem) ℕ) (items : List InfoItem) → or_info_bad r ≡ Ok items → r ≡ Ok items
+pub info_ok : (r : Result (List FieldWithValue) ℕ) (items : List FieldWithValue) → or_info_bad r ≡ Ok items → r ≡ Ok items
 info_ok (Ok x) items e = let same : x ≡ items = cc (e) in ap Ok same
 info_ok (Err place) items e = absurd (cc (e))
 
 -- what a made package was made of
 pub record IsMadeOf (P : Plain → List Contents → List ℕ → Type 0) (command : CommandLine) (names : List (List ℕ)) (read : Reads) (bytes : List ℕ) : Type 0 where
   pub scripts : List Script
-  pub items : List InfoItem
+  pub items : List FieldWithValue
   pub sources : List SourceFolder
   pub scripts_read : scripts_from read 0 (values_with SCRIPT command.values) ≡ Ok scripts
   pub items_read : or_info_bad (information command) ≡ Ok items

@@ -10,7 +10,7 @@ use Rattle.command_core.specs.Command.{CommandLine}
 use Rattle.make_index.specs.EntryOrder.{entry_cmp}
 use Rattle.base_core.specs.Sorted.{sorted_by}
 use Rattle.make_index.specs.Index.{description_in, found_entries, value_of_index}
-use Rattle.make_index.specs.make_info.Information.{InfoItem, information, information_value, replaces_priority}
+use Rattle.make_index.specs.make_info.Information.{FieldWithValue, information, information_value, replaces_priority}
 use Rattle.make_index.specs.make_info.Reads.{Reads}
 use Rattle.make_index.specs.make_info.declared.fault.MakeFault.{MakeFault}
 use Rattle.make_package.specs.Making.{or_info_bad}
@@ -21,7 +21,7 @@ use Rattle.make_index.specs.pkg_core.Whole.{Packed}
 -- the value and the contents of a package, given what was read of each part, in the order in which the
 -- parts are read
 abbrev pub packed_of_parts :
-    CommandLine → List Script → List InfoItem → List SourceFolder → Result Packed MakeFault
+    CommandLine → List Script → List FieldWithValue → List SourceFolder → Result Packed MakeFault
 packed_of_parts command scripts about folders =
     Ok (package_by
     (value_of_package (information_value about (installed_size folders)) folders scripts

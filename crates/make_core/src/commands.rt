@@ -3,9 +3,9 @@
 //! their order; that the result is sound, in `docs/DECISIONS.md`, "Making".
 ghost use Rattle.base_core.specs.Calls.{IfObservable};
 ghost use Rattle.base_core.specs.Read.{OnlyReads};
-ghost use Rattle.make_index.specs.Files.{AreFiles, reads_of};
+ghost use Rattle.make_index.specs.Files.{FindOnlyFiles, reads_of};
 ghost use Rattle.make_index.specs.Index.{made_index};
-ghost use Rattle.make_index.specs.Kept.{IsMadeBy};
+ghost use Rattle.make_index.specs.Kept.{AgreesUnlessStopped};
 ghost use Rattle.make_index.specs.make_info.Reads.{Reads};
 ghost use Rattle.make_package.specs.Answers.{IsMadeBySome, IsMadeIn, OnRefusal};
 ghost use Rattle.make_index.specs.pkg_core.Whole.{container_fault};
@@ -59,10 +59,10 @@ pub fn mkndx<T: Tree>(alloc: Global, command: &Command, tree: &mut T) -> Result<
     requires { command.now.applet ≡ Applet.Mkndx }
     // If the tree's files are observable.
     ensures made { IfObservable (T.history tree.old) (λ v.
-        IsMadeBy (λ file. file.items) result (made_index command.now (reads_of v))) }
+        AgreesUnlessStopped (λ file. file.items) result (made_index command.now (reads_of v))) }
     // Over every tree: by some bytes for each read. The first operand's read has the number 0.
-    ensures found { (read : Reads) × AreFiles read 0 command.now.operands
-        × IsMadeBy (λ file. file.items) result (made_index command.now read) }
+    ensures found { (read : Reads) × FindOnlyFiles read 0 command.now.operands
+        × AgreesUnlessStopped (λ file. file.items) result (made_index command.now read) }
     // What is made passes all tests of a container.
     ensures sound { IfOk result (λ file. container_fault file.items ≡ None) }
     // The tree is only read, and `Disk` has a fault of the tree as its cause.

@@ -5,7 +5,7 @@
 ghost use Rattle.make_index.specs.adb_schema.Soundness.{payload_in, root_value};
 ghost use Rattle.adb_view.specs.declared.tables.Which.TheVariants.{Index, Package};
 ghost use Rattle.command_core.specs.declared.values.TheConstants.{FILES, SCRIPT};
-ghost use Rattle.make_index.specs.Files.{AreFiles};
+ghost use Rattle.make_index.specs.Files.{FindOnlyFiles};
 ghost use Rattle.make_index.specs.Index.{made_index};
 ghost use Rattle.make_index.specs.make_info.Reads.{Reads};
 ghost use Rattle.make_package.specs.Making.{made_package};
@@ -39,7 +39,7 @@ use make_package::{
 /// than 2^64 each.
 pub fn a_made_index_is_sound()
     ensures { (command : CommandLine) (read : Reads) (bytes : List ℕ)
-        → AreFiles read 0 command.operands → made_index command read ≡ Ok bytes
+        → FindOnlyFiles read 0 command.operands → made_index command read ≡ Ok bytes
         → container_fault bytes ≡ None }
 {
     a_container_of_a_good_value_is_sound();
@@ -70,7 +70,7 @@ pub fn a_made_package_is_sound()
 /// of the packages that are named, in order.
 pub fn a_made_index_is_read_back()
     ensures { (command : CommandLine) (read : Reads) (bytes : List ℕ)
-        → AreFiles read 0 command.operands → made_index command read ≡ Ok bytes
+        → FindOnlyFiles read 0 command.operands → made_index command read ≡ Ok bytes
         → index_value_by command read ≡ Ok (root_value Index (payload_in bytes)) }
 {
     what_a_container_is_made_of_is_read_back();
@@ -101,7 +101,7 @@ pub fn a_made_package_is_read_back()
 /// order; each package passes all its tests.
 pub fn a_made_index_has_its_packages_in_order()
     ensures { (command : CommandLine) (read : Reads) (bytes : List ℕ)
-        → AreFiles read 0 command.operands → made_index command read ≡ Ok bytes
+        → FindOnlyFiles read 0 command.operands → made_index command read ≡ Ok bytes
         → HasPackagesInOrder read command.operands (root_value Index (payload_in bytes)) }
 {
     an_index_is_in_order();

@@ -7,7 +7,7 @@ use Rattle.std.specs.Int.{w32, to_le_bytes}
 use Rattle.adb_view.specs.Head.{head_fault, root_of}
 use Rattle.adb_view.specs.Plain.{Plain, null, int, blob, arr, obj, Plains, none, more, Shape, plain_of, value_of, IsNormal, AreNormal}
 use Rattle.adb_view.specs.Shaped.{HasShape}
-use Rattle.adb_copy.specs.adb_write.Canonical.{Layout, write, empty_layout, payload_with_root, canonical, passes, overflow_of, or_overflow, written_of, PayloadCounts, MOST_BYTES}
+use Rattle.adb_copy.specs.adb_write.Canonical.{Layout, write, empty_layout, payload_with_root, canonical, exceeds_a_limit, overflow_of, or_overflow, written_of, PayloadCounts, MOST_BYTES}
 use Rattle.adb_copy.specs.adb_write.Size.{size_of, value_count}
 use Rattle.adb_view.specs.Schema.{shape_of}
 use Rattle.adb_view.specs.Values.{is_sound, value_at, nth, entry_in, text_in}
@@ -52,7 +52,7 @@ written_is v p h = go (overflow_of v) refl
     go None e = (ap (ok_in []) (sym h ∙ ap (or_overflow (canonical v)) e), e)
     go (Some c) e = absurd (err_ok c p (sym (ap (or_overflow (canonical v)) e) ∙ h))
 
-within : (v : Plain) → (is_some (overflow_of v) ≡ passes (size_of v, value_count v)) → overflow_of v ≡ None → size_of v ≤ MOST_BYTES
+within : (v : Plain) → (is_some (overflow_of v) ≡ exceeds_a_limit (size_of v, value_count v)) → overflow_of v ≡ None → size_of v ≤ MOST_BYTES
 within v law e = ltb-false MOST_BYTES (size_of v) (neither_first (nat_lt MOST_BYTES (size_of v)) _ (sym law ∙ ap is_some e))
 
 -- ---- it is read back
@@ -73,7 +73,7 @@ value_of_plain p k w v h = ap (λ o. unwrap_or o null) h
 
 module _
     (read_back : (shape : Shape) (v : Plain) → IsNormal v → HasShape shape v → size_of v ≤ MOST_BYTES → value_of (canonical v) shape ≡ Some v)
-    (overflows : (v : Plain) → IsNormal v → is_some (overflow_of v) ≡ passes (size_of v, value_count v))
+    (overflows : (v : Plain) → IsNormal v → is_some (overflow_of v) ≡ exceeds_a_limit (size_of v, value_count v))
     (normal : (payload : List ℕ) → All (λ b. b < 256) payload → (shape : Shape) (word : ℕ) → IfSome (plain_of payload shape word) IsNormal) where
   value_normal : (p : List ℕ) (k : Kind) (w : ℕ) → All (λ b. b < 256) p → IsNormal (value_at p k w)
   unfolding value_at IsNormal
@@ -145,7 +145,7 @@ bytes_all xs h k d l = subst (λ n. n < 256) (get_or_default xs k 0 d l) (h k)
 
 pub holds_found : FoundShapes →
     ((shape : Shape) (v : Plain) → IsNormal v → HasShape shape v → size_of v ≤ MOST_BYTES → value_of (canonical v) shape ≡ Some v)
-    → ((v : Plain) → IsNormal v → is_some (overflow_of v) ≡ passes (size_of v, value_count v))
+    → ((v : Plain) → IsNormal v → is_some (overflow_of v) ≡ exceeds_a_limit (size_of v, value_count v))
     → ((payload : List ℕ) → All (λ b. b < 256) payload → (shape : Shape) (word : ℕ) → IfSome (plain_of payload shape word) IsNormal)
     → (file : List ℕ) (value : Plain) (payload : List ℕ) → value ≡ root_value Tables.Package (payload_in file) → payload ≡ payload_in file → All (λ b. b < 256) file → length file < 2 ^ 64
     → (found : Option (Vec ℕ Global)) → IfSome found (λ own. written_of (info_with (entry_in value 0) (sha256 payload) (length file)) ≡ Ok own.items) → IfSome found (λ own. HoldsEntry own.items (entry_of_package file))

@@ -9,11 +9,11 @@ use Rattle.make_info.specs.Reads.{Reads}
 
 -- the reads of operands find files, if they find anything; the read of the first operand has the number
 -- `n`
-abbrev pub AreFiles : Reads → ℕ → List Operand → Type 0
-AreFiles read n [] = Unit {0}
-AreFiles read n (o ∷ operands) =
+abbrev pub FindOnlyFiles : Reads → ℕ → List Operand → Type 0
+FindOnlyFiles read n [] = Unit {0}
+FindOnlyFiles read n (o ∷ operands) =
     ((file : List ℕ) → read n (without_dot o.text) ≡ Some file → IsFile file)
-    × AreFiles read (n + 1) operands
+    × FindOnlyFiles read (n + 1) operands
 
 -- the reads of a tree in this state: each finds what is under its name
 abbrev pub reads_of : TreeState → Reads

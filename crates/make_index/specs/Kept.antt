@@ -49,21 +49,21 @@ pub record IsKeyed (name version id : List ℕ) (entry : Plain) : Type 0 where
 
 -- a result, seen by a view, is the value of a definition; out of memory says nothing, and no tree can
 -- have failed
-abbrev pub IsMade :
+abbrev pub AgreesUnlessMemory :
     {A B : Type 0} → (A → B) → Result A MakeFault → Result B MakeFault → Type 0
-IsMade view (Ok x) wanted = wanted ≡ Ok (view x)
-IsMade view (Err Memory) wanted = Unit {0}
-IsMade view (Err Disk) wanted = ⊥
-IsMade view (Err fault) wanted = wanted ≡ Err fault
+AgreesUnlessMemory view (Ok x) wanted = wanted ≡ Ok (view x)
+AgreesUnlessMemory view (Err Memory) wanted = Unit {0}
+AgreesUnlessMemory view (Err Disk) wanted = ⊥
+AgreesUnlessMemory view (Err fault) wanted = wanted ≡ Err fault
 
 -- a result, seen by a view, is the value of a definition; out of memory and an I/O error of the tree
 -- say nothing
-abbrev pub IsMadeBy :
+abbrev pub AgreesUnlessStopped :
     {A B : Type 0} → (A → B) → Result A MakeFault → Result B MakeFault → Type 0
-IsMadeBy view (Ok x) wanted = wanted ≡ Ok (view x)
-IsMadeBy view (Err Memory) wanted = Unit {0}
-IsMadeBy view (Err Disk) wanted = Unit {0}
-IsMadeBy view (Err fault) wanted = wanted ≡ Err fault
+AgreesUnlessStopped view (Ok x) wanted = wanted ≡ Ok (view x)
+AgreesUnlessStopped view (Err Memory) wanted = Unit {0}
+AgreesUnlessStopped view (Err Disk) wanted = Unit {0}
+AgreesUnlessStopped view (Err fault) wanted = wanted ≡ Err fault
 
 -- a package that the operand at this place names is refused for the first of its tests that fails
 abbrev pub IsRefusedAt : ℕ → MakeFault → Option Cause → Type 0

@@ -7,7 +7,7 @@ ghost use Rattle.base_core.specs.declared.cause.Cause.{Cause};
 ghost use Rattle.make_index.specs.Entries.{entry_of_package};
 ghost use Rattle.make_index.specs.EntryOrder.{entry_cmp};
 ghost use Rattle.make_index.specs.Index.{found_entry};
-ghost use Rattle.make_index.specs.Kept.{kept_value, HoldsEntry, IsKeyed, IsMade, IsRefusedAt};
+ghost use Rattle.make_index.specs.Kept.{kept_value, HoldsEntry, IsKeyed, AgreesUnlessMemory, IsRefusedAt};
 ghost use Rattle.pkg_core.specs.Contents.{fault_in};
 ghost use Rattle.pkg_core.specs.Opened.{opened_files, opened_payload, opened_value};
 ghost use Rattle.pkg_core.specs.Whole.{package_fault};
@@ -56,7 +56,7 @@ impl Entry {
     ///
     /// `FileBad` with the cause of the first test that fails, or `Memory`.
     pub(crate) fn of(alloc: Global, place: u32, file: Vec<u8>) -> Result<Entry, MakeFault>
-        ensures made { IsMade entry_view result (found_entry place (Some file.items)) }
+        ensures made { AgreesUnlessMemory entry_view result (found_entry place (Some file.items)) }
         ensures bytes { IsFile file.items }
     {
         let parts = read_parts(alloc, place, &file)?;

@@ -18,9 +18,9 @@ ghost use Rattle.make_index.specs.Entries.{entry_of_package};
 ghost use Rattle.make_index.specs.EntryOrder.{entry_cmp, version_in, id_in, name_in};
 ghost use Rattle.base_core.specs.Sorted.{sorted_by};
 ghost use Rattle.base_core.specs.Files.{IsFile};
-ghost use Rattle.make_index.specs.Files.{AreFiles, reads_of};
+ghost use Rattle.make_index.specs.Files.{FindOnlyFiles, reads_of};
 ghost use Rattle.make_index.specs.Index.{description_in, index_of, value_of_index, found_entries, found_entry, made_index};
-ghost use Rattle.make_index.specs.Kept.{IsMade, IsMadeBy};
+ghost use Rattle.make_index.specs.Kept.{AgreesUnlessMemory, AgreesUnlessStopped};
 ghost use Rattle.make_index.specs.Views.{entries_view, entry_view};
 ghost use Rattle.make_info.specs.Faults.{IsOverflow};
 ghost use Rattle.make_info.specs.Reads.{Reads};
@@ -56,10 +56,10 @@ pub fn make<T: Tree>(alloc: Global, command: &Command, tree: &mut T) -> Result<V
     requires { command.now.applet ≡ Applet.Mkndx }
     // If the tree's files are observable.
     ensures made { IfObservable (T.history tree.old) (λ v.
-        IsMadeBy (λ file. file.items) result (made_index command.now (reads_of v))) }
+        AgreesUnlessStopped (λ file. file.items) result (made_index command.now (reads_of v))) }
     // Over every tree: by some bytes for each read. The first operand's read has the number 0.
-    ensures found { (read : Reads) × AreFiles read 0 command.now.operands
-        × IsMadeBy (λ file. file.items) result (made_index command.now read) }
+    ensures found { (read : Reads) × FindOnlyFiles read 0 command.now.operands
+        × AgreesUnlessStopped (λ file. file.items) result (made_index command.now read) }
     // The tree is only read, and `Disk` has a fault of the tree as its cause.
     ensures tree { OnlyReads MakeFault.Disk (T.history tree.old) (T.history tree.new)
         (T.counts tree.old) (T.counts tree.new) result }
@@ -89,9 +89,9 @@ fn read_entries<T: Tree>(
 ) -> Result<Vec<Entry>, MakeFault>
     requires { IsTrue (are_files operands.now) }
     ensures made { IfObservable (T.history tree.old) (λ v.
-        IsMadeBy entries_view result (found_entries (reads_of v) 0 operands.now)) }
-    ensures found { (read : Reads) × AreFiles read 0 operands.now
-        × IsMadeBy entries_view result (found_entries read 0 operands.now) }
+        AgreesUnlessStopped entries_view result (found_entries (reads_of v) 0 operands.now)) }
+    ensures found { (read : Reads) × FindOnlyFiles read 0 operands.now
+        × AgreesUnlessStopped entries_view result (found_entries read 0 operands.now) }
     ensures tree { OnlyReads MakeFault.Disk (T.history tree.old) (T.history tree.new)
         (T.counts tree.old) (T.counts tree.new) result }
 {
@@ -123,9 +123,9 @@ fn read_entry<T: Tree>(
     tree: &mut T,
 ) -> Result<Entry, MakeFault>
     ensures made { IfObservable (T.history tree.old) (λ v.
-        IsMadeBy entry_view result (found_entry place (files_of v file.now))) }
+        AgreesUnlessStopped entry_view result (found_entry place (files_of v file.now))) }
     ensures found { (found : Option (List ℕ)) × IfSome found IsFile
-        × IsMadeBy entry_view result (found_entry place found) }
+        × AgreesUnlessStopped entry_view result (found_entry place found) }
     ensures tree { OnlyReads MakeFault.Disk (T.history tree.old) (T.history tree.new)
         (T.counts tree.old) (T.counts tree.new) result }
 {
@@ -136,7 +136,7 @@ fn read_entry<T: Tree>(
 /// The entry of what was found under the name that the operand at a place gives; a file that is
 /// absent is refused.
 fn entry_of(alloc: Global, place: u32, found: Option<Vec<u8>>) -> Result<Entry, MakeFault>
-    ensures made { IsMade entry_view result (found_entry place (bytes_in found)) }
+    ensures made { AgreesUnlessMemory entry_view result (found_entry place (bytes_in found)) }
     ensures bytes { IfSome (bytes_in found) IsFile }
 {
     match found {
@@ -151,7 +151,7 @@ fn entry_of(alloc: Global, place: u32, found: Option<Vec<u8>>) -> Result<Entry, 
 ///
 /// `TooLarge` if the payload exceeds a limit of the writer, or `Memory`.
 fn index_file(alloc: Global, description: &[u8], entries: Vec<Entry>) -> Result<Vec<u8>, MakeFault>
-    ensures { IsMade (λ file. file.items) result
+    ensures { AgreesUnlessMemory (λ file. file.items) result
         (index_of description.now (map entry_view entries.items)) }
 {
     // Only the order changes.

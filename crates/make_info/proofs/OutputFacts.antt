@@ -19,14 +19,14 @@ use Rattle.make_info.specs.declared.field.Field.TheVariants as Fields
 use Rattle.make_info.specs.Fields.{kind_of_field, values_by_kind, text_if}
 use Rattle.command_core.specs.Files.{longest_output}
 use Rattle.make_info.specs.FieldTexts.{FieldText, file_name_in, first_text_for, field_text_in, if_passes, values_of_info, is_for, is_text_for, is_info_option, is_too_long, package_name_in, named_output, default_output, package_file_name_of, text_when_for, package_version_in}
-use Rattle.make_info.specs.Information.{InfoItem, all_items, first_offence, information, information_of, repeats_single_field, info_item, items_of_text, items_of_option, lacks_name_or_version, offends, unless_offence}
+use Rattle.make_info.specs.Information.{FieldWithValue, all_items, first_offence, information, information_of, repeats_single_field, info_item, items_of_text, items_of_option, lacks_name_or_version, offends, unless_offence}
 use Rattle.make_info.specs.Output.{if_allowed, is_mkpkg, output_name, package_output}
 use Rattle.make_info.proofs.Outputs.{AreOutputs, allowed, named_short, no_value, own_fits, unoffended}
 use Rattle.make_info.proofs.Reading.{same_field}
 
 -- ---- it is short
 
-package_short : AreOutputs → (command : CommandLine) (file : List ℕ) (r : Result (List InfoItem) ℕ) (named : Option (List ℕ)) → r ≡ information command → named ≡ named_output command.values → IsCommand command → if_allowed r (option_or named (default_output command.values)) ≡ Some file → length file ≤ longest_output
+package_short : AreOutputs → (command : CommandLine) (file : List ℕ) (r : Result (List FieldWithValue) ℕ) (named : Option (List ℕ)) → r ≡ information command → named ≡ named_output command.values → IsCommand command → if_allowed r (option_or named (default_output command.values)) ≡ Some file → length file ≤ longest_output
 package_short law command file (Err place) named r n is h = absurd (none-some file h)
 package_short law command file (Ok about) (Some name) r n is h = named_short law command file is (sym n ∙ h)
 package_short law command file (Ok about) None r n is h = own_fits command.values command.behind file (ap is_ok (sym r)) (sym n) h
@@ -121,12 +121,12 @@ any_or : (named own : Option (List ℕ)) → is_some own ≡ true → is_some (o
 any_or None own h = h
 any_or (Some name) own h = refl
 
-not_lacking : (a b : Bool) (behind : ℕ) (all : List InfoItem) → is_ok (if not a || not b then Err behind else Ok all) ≡ true → (a ≡ true) × (b ≡ true)
+not_lacking : (a b : Bool) (behind : ℕ) (all : List FieldWithValue) → is_ok (if not a || not b then Err behind else Ok all) ≡ true → (a ≡ true) × (b ≡ true)
 not_lacking true true behind all h = (refl, refl)
 not_lacking true false behind all h = cc
 not_lacking false b behind all h = cc
 
-told_all : (o : Option ℕ) (otherwise : Result (List InfoItem) ℕ) → is_ok (unless_offence o otherwise) ≡ true → is_ok otherwise ≡ true
+told_all : (o : Option ℕ) (otherwise : Result (List FieldWithValue) ℕ) → is_ok (unless_offence o otherwise) ≡ true → is_ok otherwise ≡ true
 told_all None otherwise h = h
 told_all (Some place) otherwise h = cc
 

@@ -15,7 +15,7 @@ use Rattle.command_core.specs.declared.values.OptionValue.{OptionValue}
 use Rattle.make_info.specs.declared.field.Field.{Field}
 use Rattle.make_info.specs.declared.field.Field.TheVariants as Fields
 use Rattle.make_info.specs.FieldTexts.{FieldText, file_name_in, first_text_for, field_text_in, if_passes, values_of_info, is_for, is_text_for, is_info_option, is_long_name, is_too_long, package_name_in, named_output, default_output, package_file_name_of, text_for, text_when_for}
-use Rattle.make_info.specs.Information.{InfoItem, all_items, first_offence, information, information_of, items_of_option, lacks_name_or_version, offends, repeats_single_field, unless_offence}
+use Rattle.make_info.specs.Information.{FieldWithValue, all_items, first_offence, information, information_of, items_of_option, lacks_name_or_version, offends, repeats_single_field, unless_offence}
 use Rattle.make_info.specs.Output.{if_allowed, package_output}
 use Rattle.make_info.proofs.FileNames.{HaveVersionBytes, own_file_name}
 
@@ -57,7 +57,7 @@ read_name (Err e) file o when value is h = tt
 read_name (Ok None) file o when value is h = cc
 read_name (Ok (Some name)) file o when value is h = ap Some value ∙ h
 
-pub allowed : (r : Result (List InfoItem) ℕ) (o : Option (List ℕ)) → is_ok r ≡ true → if_allowed r o ≡ o
+pub allowed : (r : Result (List FieldWithValue) ℕ) (o : Option (List ℕ)) → is_ok r ≡ true → if_allowed r o ≡ o
 allowed (Ok info) o h = refl
 allowed (Err place) o h = cc
 
@@ -97,7 +97,7 @@ no_file : (name : Option (List ℕ)) → package_file_name_of name None ≡ None
 no_file None = refl
 no_file (Some name) = refl
 
-pub first_is_none : (o : Option ℕ) (otherwise : Result (List InfoItem) ℕ) → is_ok (unless_offence o otherwise) ≡ true → o ≡ None
+pub first_is_none : (o : Option ℕ) (otherwise : Result (List FieldWithValue) ℕ) → is_ok (unless_offence o otherwise) ≡ true → o ≡ None
 first_is_none None otherwise h = refl
 first_is_none (Some place) otherwise h = cc
 

@@ -18,7 +18,7 @@ use Rattle.make_info.specs.declared.field.Kind.{Kind}
 use Rattle.make_info.specs.declared.field.Kind.TheVariants as Kinds
 use Rattle.make_info.specs.Fields.{FieldValue, text, number, value_of_digits, field_word, fields, may_repeat, kind_of_field, field_among, decimal_number, values_by_kind, text_if}
 use Rattle.make_info.specs.FieldTexts.{FieldText, field_text_in, values_of_info, is_for, is_text_for, is_same, is_too_long}
-use Rattle.make_info.specs.Information.{InfoItem, all_items, first_offence, information_of, is_item_for, repeats_field, info_item, items_of_text, items_of_option, lacks_name_or_version, offends, unless_offence, with_values}
+use Rattle.make_info.specs.Information.{FieldWithValue, all_items, first_offence, information_of, is_item_for, repeats_field, info_item, items_of_text, items_of_option, lacks_name_or_version, offends, unless_offence, with_values}
 use Rattle.make_info.specs.Reading.{has_no_name_or_version, items_with, items_with_text}
 
 -- ---- fields are told apart by their words
@@ -93,14 +93,14 @@ among f g value said false h k s = not_found f g said h
 
 -- ---- a value offends exactly when it is not taken
 
-abbrev pub IsFresh : List OptionValue → List InfoItem → Type 0
+abbrev pub IsFresh : List OptionValue → List FieldWithValue → Type 0
 IsFresh done said = (f : Field) → may_repeat (kind_of_field f) ≡ false → is_some (find (is_item_for f) said) ≡ list_any (is_for f) done
 
 abbrev offends_given : Bool → List OptionValue → Option FieldText → Bool
 offends_given too_long done given =
     not (is_some (option_and_then items_of_text given)) || (repeats_field done given || (too_long && is_text_for Fields.Version given))
 
-by_parts : (x l d h : Bool) (s : Option (List FieldValue)) (f : Field) (before : List InfoItem) → (l ≡ false → h ≡ d) → (not (is_some (with_values [] f s)) || ((not l && d) || x)) ≡ not (is_some (cond x None (cond (not l && h) None (with_values before f s))))
+by_parts : (x l d h : Bool) (s : Option (List FieldValue)) (f : Field) (before : List FieldWithValue) → (l ≡ false → h ≡ d) → (not (is_some (with_values [] f s)) || ((not l && d) || x)) ≡ not (is_some (cond x None (cond (not l && h) None (with_values before f s))))
 by_parts true l d h None f before same = refl
 by_parts false true d h None f before same = refl
 by_parts false false d true None f before same = refl
@@ -114,42 +114,42 @@ by_parts false false true h (Some s) f before same =
 by_parts false false false h (Some s) f before same =
     ap (λ b. not (is_some (cond b None (with_values before f (Some s))))) (sym (same refl))
 
-judged_given : (too_long : Bool) (done : List OptionValue) (said : List InfoItem) (given : Option FieldText) → IsFresh done said → offends_given too_long done given ≡ not (is_some (items_with_text too_long said given))
+judged_given : (too_long : Bool) (done : List OptionValue) (said : List FieldWithValue) (given : Option FieldText) → IsFresh done said → offends_given too_long done given ≡ not (is_some (items_with_text too_long said given))
 judged_given too_long done said None fresh = refl
 judged_given too_long done said (Some g) fresh =
     by_parts (too_long && is_same g.field Fields.Version) (may_repeat (kind_of_field g.field)) (list_any (is_for g.field) done) (is_some (find (is_item_for g.field) said)) (values_by_kind (kind_of_field g.field) g.value) g.field said (fresh g.field)
 
-judged : (too_long : Bool) (done : List OptionValue) (said : List InfoItem) (v : OptionValue) → IsFresh done said → offends too_long done v ≡ not (is_some (items_with too_long said v.text))
+judged : (too_long : Bool) (done : List OptionValue) (said : List FieldWithValue) (v : OptionValue) → IsFresh done said → offends too_long done v ≡ not (is_some (items_with too_long said v.text))
 unfolding items_with
 judged too_long done said v fresh = judged_given too_long done said (field_text_in v.text) fresh
 
 -- ---- what a value that is taken says
 
-abbrev SaysAs : List InfoItem → List InfoItem → List OptionValue → Option FieldText → Type 0
+abbrev SaysAs : List FieldWithValue → List FieldWithValue → List OptionValue → Option FieldText → Type 0
 SaysAs said new done given =
     (new ≡ said ++ unwrap_or (option_and_then items_of_text given) [])
     × ((f : Field) → may_repeat (kind_of_field f) ≡ false → is_some (find (is_item_for f) (unwrap_or (option_and_then items_of_text given) [])) ≡ is_text_for f given)
 
-by_taking : (x y : Bool) (g : FieldText) (s : Option (List FieldValue)) (said new : List InfoItem) (done : List OptionValue) → values_by_kind (kind_of_field g.field) g.value ≡ s → Some new ≡ cond x None (cond y None (with_values said g.field s)) → (new ≡ said ++ unwrap_or (with_values [] g.field s) []) × ((f : Field) → may_repeat (kind_of_field f) ≡ false → is_some (find (is_item_for f) (unwrap_or (with_values [] g.field s) [])) ≡ is_same g.field f)
+by_taking : (x y : Bool) (g : FieldText) (s : Option (List FieldValue)) (said new : List FieldWithValue) (done : List OptionValue) → values_by_kind (kind_of_field g.field) g.value ≡ s → Some new ≡ cond x None (cond y None (with_values said g.field s)) → (new ≡ said ++ unwrap_or (with_values [] g.field s) []) × ((f : Field) → may_repeat (kind_of_field f) ≡ false → is_some (find (is_item_for f) (unwrap_or (with_values [] g.field s) [])) ≡ is_same g.field f)
 by_taking true y g s said new done e h = cc
 by_taking false true g s said new done e h = cc
 by_taking false false g None said new done e h = cc
 by_taking false false g (Some xs) said new done e h =
     (cc, λ f k. among f g.field g.value xs (is_same g.field f) refl k e)
 
-says_given : (too_long : Bool) (done : List OptionValue) (said new : List InfoItem) (given : Option FieldText) → Some new ≡ items_with_text too_long said given → SaysAs said new done given
+says_given : (too_long : Bool) (done : List OptionValue) (said new : List FieldWithValue) (given : Option FieldText) → Some new ≡ items_with_text too_long said given → SaysAs said new done given
 says_given too_long done said new None h = cc
 says_given too_long done said new (Some g) h =
     by_taking (too_long && is_same g.field Fields.Version) (not (may_repeat (kind_of_field g.field)) && is_some (find (is_item_for g.field) said)) g (values_by_kind (kind_of_field g.field) g.value) said new done refl h
 
-says : (too_long : Bool) (done : List OptionValue) (said new : List InfoItem) (v : OptionValue) → Some new ≡ items_with too_long said v.text → SaysAs said new done (field_text_in v.text)
+says : (too_long : Bool) (done : List OptionValue) (said new : List FieldWithValue) (v : OptionValue) → Some new ≡ items_with too_long said v.text → SaysAs said new done (field_text_in v.text)
 unfolding items_with
 says too_long done said new v h = says_given too_long done said new (field_text_in v.text) h
 
 -- ---- the values one after the other
 
 -- the first values were taken, and said this
-pub record IsReadTo (too_long : Bool) (told rest : List OptionValue) (said : List InfoItem) : Type 0 where
+pub record IsReadTo (too_long : Bool) (told rest : List OptionValue) (said : List FieldWithValue) : Type 0 where
   pub done : List OptionValue
   pub whole : done ++ rest ≡ told
   pub first : first_offence too_long done rest ≡ first_offence too_long [] told
@@ -159,14 +159,14 @@ pub record IsReadTo (too_long : Bool) (told rest : List OptionValue) (said : Lis
 pub nothing_read : (too_long : Bool) (told : List OptionValue) → IsReadTo too_long told told []
 nothing_read too_long told = record { done = []; whole = refl; first = refl; all = refl; fresh = λ f k. refl }
 
-some_or : (a b : Option InfoItem) → is_some (option_or a b) ≡ (is_some a || is_some b)
+some_or : (a b : Option FieldWithValue) → is_some (option_or a b) ≡ (is_some a || is_some b)
 some_or (Some x) b = refl
 some_or None b = refl
 
-pub one_taken : (too_long : Bool) (told rest : List OptionValue) (v : OptionValue) (said new : List InfoItem) → IsReadTo too_long told (v ∷ rest) said → Some new ≡ items_with too_long said v.text → IsReadTo too_long told rest new
+pub one_taken : (too_long : Bool) (told rest : List OptionValue) (v : OptionValue) (said new : List FieldWithValue) → IsReadTo too_long told (v ∷ rest) said → Some new ≡ items_with too_long said v.text → IsReadTo too_long told rest new
 one_taken too_long told rest v said new r h =
     let more : SaysAs said new r.done (field_text_in v.text) = says too_long r.done said new v h in
-    let items : List InfoItem = unwrap_or (items_of_option v) [] in
+    let items : List FieldWithValue = unwrap_or (items_of_option v) [] in
     let good : offends too_long r.done v ≡ false = judged too_long r.done said v r.fresh ∙ ap (λ o. not (is_some o)) (sym h) in
     record {
       done = r.done ++ v ∷ [];
@@ -182,7 +182,7 @@ one_taken too_long told rest v said new r h =
           ∙ sym (list_any-append (is_for f) r.done (v ∷ []))))));
     }
 
-pub one_refused : (too_long : Bool) (told rest : List OptionValue) (v : OptionValue) (said : List InfoItem) → IsReadTo too_long told (v ∷ rest) said → None ≡ items_with too_long said v.text → first_offence too_long [] told ≡ Some v.place
+pub one_refused : (too_long : Bool) (told rest : List OptionValue) (v : OptionValue) (said : List FieldWithValue) → IsReadTo too_long told (v ∷ rest) said → None ≡ items_with too_long said v.text → first_offence too_long [] told ≡ Some v.place
 one_refused too_long told rest v said r h =
     let bad : offends too_long r.done v ≡ true = judged too_long r.done said v r.fresh ∙ ap (λ o. not (is_some o)) (sym h) in
     sym r.first ∙ ap (λ b. cond b (Some v.place) (first_offence too_long (r.done ++ v ∷ []) rest)) bad
@@ -196,7 +196,7 @@ refused_at values behind too_long place e h =
     ap (λ t. unless_offence (first_offence t [] told) (cond (lacks_name_or_version told) (Err behind) (Ok (all_items told)))) (sym e)
     ∙ ap (λ o. unless_offence o (cond (lacks_name_or_version told) (Err behind) (Ok (all_items told)))) h
 
-all_read : (values : List OptionValue) (behind : ℕ) (too_long : Bool) (said : List InfoItem) → too_long ≡ is_too_long values → IsReadTo too_long (values_of_info values) [] said → information_of values behind ≡ cond (has_no_name_or_version said) (Err behind) (Ok said)
+all_read : (values : List OptionValue) (behind : ℕ) (too_long : Bool) (said : List FieldWithValue) → too_long ≡ is_too_long values → IsReadTo too_long (values_of_info values) [] said → information_of values behind ≡ cond (has_no_name_or_version said) (Err behind) (Ok said)
 unfolding information_of
 all_read values behind too_long said e r =
     let told = values_of_info values in
@@ -209,10 +209,10 @@ all_read values behind too_long said e r =
     ∙ (ap (λ b. cond b (Err behind) (Ok (all_items told))) lacking
     ∙ ap (λ s. cond (has_no_name_or_version said) (Err behind) (Ok s)) (ap all_items (sym done) ∙ sym r.all)))
 
-pub lacking_at : (values : List OptionValue) (behind : ℕ) (too_long : Bool) (said : List InfoItem) → too_long ≡ is_too_long values → IsReadTo too_long (values_of_info values) [] said → has_no_name_or_version said ≡ true → information_of values behind ≡ Err behind
+pub lacking_at : (values : List OptionValue) (behind : ℕ) (too_long : Bool) (said : List FieldWithValue) → too_long ≡ is_too_long values → IsReadTo too_long (values_of_info values) [] said → has_no_name_or_version said ≡ true → information_of values behind ≡ Err behind
 lacking_at values behind too_long said e r l =
     all_read values behind too_long said e r ∙ ap (λ b. cond b (Err behind) (Ok said)) l
 
-pub read_whole : (values : List OptionValue) (behind : ℕ) (too_long : Bool) (said : List InfoItem) → too_long ≡ is_too_long values → IsReadTo too_long (values_of_info values) [] said → has_no_name_or_version said ≡ false → information_of values behind ≡ Ok said
+pub read_whole : (values : List OptionValue) (behind : ℕ) (too_long : Bool) (said : List FieldWithValue) → too_long ≡ is_too_long values → IsReadTo too_long (values_of_info values) [] said → has_no_name_or_version said ≡ false → information_of values behind ≡ Ok said
 read_whole values behind too_long said e r l =
     all_read values behind too_long said e r ∙ ap (λ b. cond b (Err behind) (Ok said)) l

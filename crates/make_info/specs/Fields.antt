@@ -125,8 +125,8 @@ abbrev pub if_untagged : Dependency → Option Dependency
 if_untagged d = if is_some d.tag then None else Some d
 
 -- the dependency without tag that a text is, if it is one
-abbrev pub need_in : List ℕ → Option Dependency
-need_in part = option_and_then if_untagged (dependency_of part)
+abbrev pub untagged_dependency_in : List ℕ → Option Dependency
+untagged_dependency_in part = option_and_then if_untagged (dependency_of part)
 
 -- the values of a dependency followed by others; None if one of them is no dependency
 abbrev pub and_needs : Option Dependency → Option (List FieldValue) → Option (List FieldValue)
@@ -136,7 +136,7 @@ and_needs d others =
 -- the values of a list of dependencies, one for each part; None if a part is no dependency
 abbrev pub needs_in : List (List ℕ) → Option (List FieldValue)
 needs_in [] = Some []
-needs_in (part ∷ parts) = and_needs (need_in part) (needs_in parts)
+needs_in (part ∷ parts) = and_needs (untagged_dependency_in part) (needs_in parts)
 
 -- the values of a text under a kind: several or none for a list, one for another kind; None if the text
 -- is not allowed

@@ -15,28 +15,28 @@ use Rattle.make_info.specs.Values.{number_value, size_value}
 
 -- An item of an information: a field with a value. An information is the list of all of them, in the
 -- order given: of a list field one item for each part of each text, of another field one item.
-pub record InfoItem : Type 0 where
+pub record FieldWithValue : Type 0 where
   pub field : Field
   pub value : FieldValue
 
 -- an item by its parts
-abbrev pub info_item : Field → FieldValue → InfoItem
+abbrev pub info_item : Field → FieldValue → FieldWithValue
 info_item f value = record { field = f; value = value }
 
 -- the items so far, followed by one for each of these values of a field; None if there are no values,
 -- since the text is not allowed
 abbrev pub with_values :
-    List InfoItem → Field → Option (List FieldValue) → Option (List InfoItem)
+    List FieldWithValue → Field → Option (List FieldValue) → Option (List FieldWithValue)
 with_values before f values = option_map (λ values. before ++ map (info_item f) values) values
 
 -- the items of a field with a text; None if the text is not allowed
-abbrev pub items_of_text : FieldText → Option (List InfoItem)
+abbrev pub items_of_text : FieldText → Option (List FieldWithValue)
 items_of_text given =
     with_values [] given.field (values_by_kind (kind_of_field given.field) given.value)
 
 -- the items of one value of `-I`; None if it is no FIELD:VALUE, or the value is not in the field's
 -- grammar
-abbrev pub items_of_option : OptionValue → Option (List InfoItem)
+abbrev pub items_of_option : OptionValue → Option (List FieldWithValue)
 items_of_option v = option_and_then items_of_text (field_text_in v.text)
 
 -- whether a value is for a single field for which one is given before
@@ -69,18 +69,18 @@ lacks_name_or_version values =
     not (list_any (is_for Fields.Name) values) || not (list_any (is_for Fields.Version) values)
 
 -- the items of values that do not offend
-abbrev pub all_items : List OptionValue → List InfoItem
+abbrev pub all_items : List OptionValue → List FieldWithValue
 all_items values = flat_map (λ v. unwrap_or (items_of_option v) []) values
 
 -- a refusal at the place that offends, if there is one, and otherwise the given information
 abbrev pub unless_offence :
-    Option ℕ → Result (List InfoItem) ℕ → Result (List InfoItem) ℕ
+    Option ℕ → Result (List FieldWithValue) ℕ → Result (List FieldWithValue) ℕ
 unless_offence None otherwise = otherwise
 unless_offence (Some place) otherwise = Err place
 
 -- the information of the values of a command, or the first place that offends: that of a value, or the
 -- one after the last argument if the name or the version is missing
-unfoldable pub information_of : List OptionValue → ℕ → Result (List InfoItem) ℕ
+unfoldable pub information_of : List OptionValue → ℕ → Result (List FieldWithValue) ℕ
 information_of values behind =
     let own = values_of_info values in
     unless_offence (first_offence (is_too_long values) [] own)
@@ -88,7 +88,7 @@ information_of values behind =
 
 -- the information of a command line, or the first place that offends; a missing name or version is
 -- reported at the place after its last argument
-abbrev pub information : CommandLine → Result (List InfoItem) ℕ
+abbrev pub information : CommandLine → Result (List FieldWithValue) ℕ
 information command = information_of command.values command.behind
 
 -- ---- the value of an information
@@ -106,32 +106,32 @@ plain_value (number n) = int n
 plain_value (need d) = need_value (dep_value d)
 
 -- whether an item is one of this field
-abbrev pub is_item_for : Field → InfoItem → Bool
+abbrev pub is_item_for : Field → FieldWithValue → Bool
 is_item_for f item = is_same item.field f
 
 -- the plain value of an item; Null if nothing is given for the field
-abbrev pub item_value : Option InfoItem → Plain
+abbrev pub item_value : Option FieldWithValue → Plain
 item_value None = null
 item_value (Some item) = plain_value item.value
 
 -- the value of a field that is given once
-abbrev pub value_of_single : Field → List InfoItem → Plain
+abbrev pub value_of_single : Field → List FieldWithValue → Plain
 value_of_single f info = item_value (find (is_item_for f) info)
 
 -- the plain values of all items of a field, in their order
-abbrev pub plains_for : Field → List InfoItem → Plains
+abbrev pub plains_for : Field → List FieldWithValue → Plains
 plains_for f [] = none
 plains_for f (item ∷ items) =
     if is_item_for f item then more (plain_value item.value) (plains_for f items)
     else plains_for f items
 
 -- the value of a field to which each value adds: an array
-abbrev pub value_of_list : Field → List InfoItem → Plain
+abbrev pub value_of_list : Field → List FieldWithValue → Plain
 value_of_list f info = arr_value (plains_for f info)
 
 -- the 22 fields of table 3 in order, with the size of the files; hashes (3), file-size (13), layer (20)
 -- and the unused one (22) are Null
-abbrev pub information_fields : List InfoItem → ℕ → Plains
+abbrev pub information_fields : List FieldWithValue → ℕ → Plains
 information_fields info size =
     more (value_of_single Fields.Name info) (more (value_of_single Fields.Version info) (more null
     (more (value_of_single Fields.Description info) (more (value_of_single Fields.Arch info)
@@ -145,7 +145,7 @@ information_fields info size =
     (more (value_of_list Fields.Tags info) (more null none)))))))))))))))))))))
 
 -- the object of a package's information, with the size of the files
-unfoldable pub information_value : List InfoItem → ℕ → Plain
+unfoldable pub information_value : List FieldWithValue → ℕ → Plain
 information_value info size = obj_value (information_fields info size)
 
 -- the number that a value is, if it is one
@@ -155,7 +155,7 @@ number_in (number n) = Some n
 number_in (need d) = None
 
 -- the priority in replacing, which is a field of the package and not of its information
-abbrev pub replaces_priority : List InfoItem → Option ℕ
+abbrev pub replaces_priority : List FieldWithValue → Option ℕ
 replaces_priority info =
-    option_and_then (λ (item : InfoItem). number_in item.value)
+    option_and_then (λ (item : FieldWithValue). number_in item.value)
     (find (is_item_for Fields.ReplacesPriority) info)

@@ -9,7 +9,7 @@ use Rattle.adb_view.specs.Plain.{Plain, Plains, none, more}
 use Rattle.make_info.specs.declared.field.Field as Options
 use Rattle.make_info.specs.declared.field.Field.TheVariants as Fields
 use Rattle.make_info.specs.Fields.{kind_of_field, may_repeat}
-use Rattle.make_info.specs.Information.{InfoItem, value_of_list, value_of_single}
+use Rattle.make_info.specs.Information.{FieldWithValue, value_of_list, value_of_single}
 
 -- the value at the field of this name, of values in the order of a table's fields; None if no field
 -- has the name
@@ -21,7 +21,7 @@ value_by_name word (f ∷ fields) (more v values) =
 
 -- the value of a field that `-I` gives: for a list the array of its items, otherwise the one. The
 -- priority in replacing is not part of a package's information.
-abbrev pub value_of_field : Options.Field → List InfoItem → Option Plain
+abbrev pub value_of_field : Options.Field → List FieldWithValue → Option Plain
 value_of_field Fields.ReplacesPriority info = None
 value_of_field f info =
     if may_repeat (kind_of_field f) then Some (value_of_list f info)

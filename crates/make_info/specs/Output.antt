@@ -7,7 +7,7 @@ use Rattle.command_core.specs.Command.{CommandLine}
 use Rattle.command_core.specs.declared.command.Applet.{Applet}
 use Rattle.command_core.specs.declared.command.Applet.TheVariants.{Mkpkg}
 use Rattle.make_info.specs.FieldTexts.{named_output, default_output}
-use Rattle.make_info.specs.Information.{InfoItem, information}
+use Rattle.make_info.specs.Information.{FieldWithValue, information}
 
 -- whether the applet is `mkpkg`, the only one whose output need not be named by its arguments
 abbrev pub is_mkpkg : Applet → Bool
@@ -15,7 +15,7 @@ is_mkpkg Mkpkg = true
 is_mkpkg applet = false
 
 -- this name, if the information is allowed; otherwise there is no output, even if `-o` names one
-abbrev pub if_allowed : Result (List InfoItem) ℕ → Option (List ℕ) → Option (List ℕ)
+abbrev pub if_allowed : Result (List FieldWithValue) ℕ → Option (List ℕ) → Option (List ℕ)
 if_allowed (Ok info) name = name
 if_allowed (Err place) name = None
 

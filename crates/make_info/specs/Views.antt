@@ -7,7 +7,7 @@ use Rattle.make_info.specs.declared.information.Value.TheVariants.{Text, Bytes, 
 use Rattle.make_info.specs.declared.information.Item.{Item}
 use Rattle.make_info.specs.Fields.{FieldValue, text, number, need}
 use Rattle.make_info.specs.FieldTexts.{FieldText}
-use Rattle.make_info.specs.Information.{InfoItem}
+use Rattle.make_info.specs.Information.{FieldWithValue}
 
 -- the field and the value of a text FIELD:VALUE that was taken apart
 abbrev pub field_text_view : FieldSlices → FieldText
@@ -21,5 +21,5 @@ value_view (Number n) = number n
 value_view (Need dep) = need (dependency dep)
 
 -- an item: a field with a value
-abbrev pub item_view : Item → InfoItem
+abbrev pub item_view : Item → FieldWithValue
 item_view e = record { field = e.field; value = value_view e.value }

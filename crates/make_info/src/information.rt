@@ -6,9 +6,9 @@ ghost use Rattle.dep_core.specs.Meets.{dependency};
 ghost use Rattle.hex.specs.Hex.{decode_of};
 ghost use Rattle.make_info.specs.Faults.{IsInfoFault};
 ghost use Rattle.make_info.specs.FieldTexts.{field_text_in};
-ghost use Rattle.make_info.specs.Fields.{value_of_digits, kind_of_field, need_in, needs_in, number, decimal_number, nonempty_parts, values_by_kind, text_if, text_values, field_word};
+ghost use Rattle.make_info.specs.Fields.{value_of_digits, kind_of_field, untagged_dependency_in, needs_in, number, decimal_number, nonempty_parts, values_by_kind, text_if, text_values, field_word};
 ghost use Rattle.make_info.specs.Reading.{nonempty_part, has_no_name_or_version, items_with};
-ghost use Rattle.make_info.specs.Information.{information, information_of, is_item_for, info_item, with_values, InfoItem, first_offence, information_fields};
+ghost use Rattle.make_info.specs.Information.{information, information_of, is_item_for, info_item, with_values, FieldWithValue, first_offence, information_fields};
 ghost use Rattle.make_info.specs.Views.{field_text_view, item_view, value_view};
 ghost use Rattle.std.specs.List.{find};
 ghost use Rattle.std.specs.Option.{option_map};
@@ -72,9 +72,9 @@ pub struct Information<'a> {
 
 impl<'a> Model for Information<'a> {
     ghost use Rattle.std.specs.Prelude.{List};
-    ghost use Rattle.make_info.specs.Information.{InfoItem};
+    ghost use Rattle.make_info.specs.Information.{FieldWithValue};
 
-    ghost Value = { List InfoItem };
+    ghost Value = { List FieldWithValue };
 
     ghost view = { λ info. info.entries };
 }
@@ -182,10 +182,10 @@ pub(crate) struct Items<'a> {
 
 impl<'a> Model for Items<'a> {
     ghost use Rattle.std.specs.Prelude.{List, map};
-    ghost use Rattle.make_info.specs.Information.{InfoItem};
+    ghost use Rattle.make_info.specs.Information.{FieldWithValue};
     ghost use Rattle.make_info.specs.Views.{item_view};
 
-    ghost Value = { List InfoItem };
+    ghost Value = { List FieldWithValue };
 
     ghost view = { λ entries. map item_view entries.entries.items };
 }
@@ -323,7 +323,7 @@ impl<'a> Items<'a> {
 
 /// The dependency without tag that a text is (apk-package(5)).
 pub fn read_need(text: &[u8]) -> Option<Dep<'_>>
-    ensures { option_map dependency result ≡ need_in text.entry.now }
+    ensures { option_map dependency result ≡ untagged_dependency_in text.entry.now }
 {
     let dep = read_dep(text)?;
     if dep.tag.is_some() {
@@ -336,7 +336,7 @@ pub fn read_need(text: &[u8]) -> Option<Dep<'_>>
 /// is the field's word: all eighteen except the priority in replacing, which is no field of the
 /// information.
 pub fn an_option_gives_the_field_of_its_name()
-    ensures { (f : Field) (info : List InfoItem) (size : ℕ)
+    ensures { (f : Field) (info : List FieldWithValue) (size : ℕ)
         → value_by_name (field_word f) (table PkgInfo) (information_fields info size)
         ≡ value_of_field f info }
 {}

@@ -19,7 +19,7 @@ use Rattle.dep_core.specs.Spelling.{SpellsDependency}
 use Rattle.version_core.specs.Order.{is_version}
 use Rattle.make_core.specs.make_info.declared.field.Field.{Field}
 use Rattle.make_core.specs.make_info.declared.field.Field.TheVariants as Fields
-use Rattle.make_core.specs.make_info.Fields.{FieldValue, text, number, need, and_needs, decimal_number, if_untagged, is_nonempty, kind_of_field, need_in, needs_in, nonempty_parts, text_if, text_values, value_of_digits, values_by_kind}
+use Rattle.make_core.specs.make_info.Fields.{FieldValue, text, number, need, and_needs, decimal_number, if_untagged, is_nonempty, kind_of_field, untagged_dependency_in, needs_in, nonempty_parts, text_if, text_values, value_of_digits, values_by_kind}
 use Rattle.make_laws.specs.OptionGrammar.{SaysNeeds, SaysNumber, SaysOfField, SaysText, SpellNeeds, SpellsBytes, SpellsNumber, spaced_parts}
 
 -- ---- texts
@@ -175,9 +175,9 @@ module _ (spelled : (t : List ℕ) (d : Dependency) → dependency_of t ≡ Some
 
   needs_to : (parts : List (List ℕ)) (said : List FieldValue) → needs_in parts ≡ Some said → SpellNeeds parts said
   needs_to [] said e = let same : [] ≡ said = cc (e) in subst (SpellNeeds []) same tt
-  needs_to (part ∷ parts) said e = by_both (need_in part) (needs_in parts) refl (needs_to parts) e
+  needs_to (part ∷ parts) said e = by_both (untagged_dependency_in part) (needs_in parts) refl (needs_to parts) e
     where
-      by_both : (od : Option Dependency) (os : Option (List FieldValue)) → need_in part ≡ od → ((more : List FieldValue) → os ≡ Some more → SpellNeeds parts more)
+      by_both : (od : Option Dependency) (os : Option (List FieldValue)) → untagged_dependency_in part ≡ od → ((more : List FieldValue) → os ≡ Some more → SpellNeeds parts more)
           → and_needs od os ≡ Some said → SpellNeeds (part ∷ parts) said
       by_both (Some d) (Some more) is further e =
           let same : need d ∷ more ≡ said = cc (e) in
@@ -193,7 +193,7 @@ module _ (spelled : (t : List ℕ) (d : Dependency) → dependency_of t ≡ Some
   needs_from (part ∷ parts) (text bytes ∷ xs) s = absurd s
   needs_from (part ∷ parts) (number n ∷ xs) s = absurd s
   needs_from (part ∷ parts) (need d ∷ xs) s =
-      let one : need_in part ≡ Some d = ap (option_and_then if_untagged) (read part d s.0.0) ∙ ap (λ (o : Option (List ℕ)). if is_some o then None else Some d) s.0.1 in
+      let one : untagged_dependency_in part ≡ Some d = ap (option_and_then if_untagged) (read part d s.0.0) ∙ ap (λ (o : Option (List ℕ)). if is_some o then None else Some d) s.0.1 in
       let more = needs_from parts xs s.1 in
       λ k. and_needs (one k) (more k)
 

@@ -7,7 +7,7 @@ use Rattle.adb_view.specs.Values.{entries_in, entry_in, text_in}
 use Rattle.adb_view.proofs.ValueEntries.{entries_arr, nth_obj, text_blob}
 use Rattle.adb_view.specs.Plain.{Plain, blob_or_null}
 use Rattle.command_core.specs.Command.{CommandLine}
-use Rattle.make_core.specs.make_info.Information.{InfoItem, information_value, information, replaces_priority}
+use Rattle.make_core.specs.make_info.Information.{FieldWithValue, information_value, information, replaces_priority}
 use Rattle.make_core.specs.make_info.Reads.{Reads}
 use Rattle.make_core.specs.make_info.Values.{number_value, plains_of_list}
 use Rattle.make_core.specs.make_package.Making.{made_package, or_info_bad}
@@ -26,7 +26,7 @@ ReadsBack = (command : CommandLine) (names : List (List ℕ)) (read : Reads) (by
 
 pub record IsMadeFrom (command : CommandLine) (names : List (List ℕ)) (read : Reads) (pkg : Plain) : Type 0 where
   pub scripts : List Script
-  pub items : List InfoItem
+  pub items : List FieldWithValue
   pub sources : List SourceFolder
   pub scripts_read : scripts_from read 0 (values_with SCRIPT command.values) ≡ Ok scripts
   pub items_read : or_info_bad (information command) ≡ Ok items

@@ -17,7 +17,7 @@ use Rattle.make_core.specs.make_info.declared.field.Field.{Field}
 use Rattle.make_core.specs.make_info.declared.field.Field.TheVariants as Fields
 use Rattle.make_core.specs.make_info.Fields.{FieldValue, text, number, need, field_word, kind_of_field, values_by_kind}
 use Rattle.make_core.specs.make_info.FieldTexts.{FieldText, field_text_in, is_same, is_too_long, values_of_info}
-use Rattle.make_core.specs.make_info.Information.{InfoItem, all_items, first_offence, info_item, information_fields, information_of, information_value, is_item_for, item_value, items_of_option, items_of_text, lacks_name_or_version, number_in, offends, plain_value, plains_for, replaces_priority, unless_offence, value_of_list, value_of_single, with_values}
+use Rattle.make_core.specs.make_info.Information.{FieldWithValue, all_items, first_offence, info_item, information_fields, information_of, information_value, is_item_for, item_value, items_of_option, items_of_text, lacks_name_or_version, number_in, offends, plain_value, plains_for, replaces_priority, unless_offence, value_of_list, value_of_single, with_values}
 use Rattle.make_core.specs.make_info.Values.{number_value}
 use Rattle.make_core.proofs.make_info.Reading.{same_field}
 use Rattle.make_laws.specs.NamedFields.{field_named}
@@ -28,35 +28,35 @@ use Rattle.make_laws.proofs.OptionTexts.{given, text_is}
 
 -- ---- the values of a field among items
 
-abbrev pub values_for : Field → List InfoItem → List FieldValue
-values_for f items = map (λ (i : InfoItem). i.value) (filter (is_item_for f) items)
+abbrev pub values_for : Field → List FieldWithValue → List FieldValue
+values_for f items = map (λ (i : FieldWithValue). i.value) (filter (is_item_for f) items)
 
-values_append : (f : Field) (xs ys : List InfoItem) → values_for f (xs ++ ys) ≡ values_for f xs ++ values_for f ys
+values_append : (f : Field) (xs ys : List FieldWithValue) → values_for f (xs ++ ys) ≡ values_for f xs ++ values_for f ys
 values_append f [] ys = refl
 values_append f (x ∷ xs) ys = by_test (is_item_for f x) (values_append f xs ys)
   where
     by_test : (b : Bool) → values_for f (xs ++ ys) ≡ values_for f xs ++ values_for f ys
-        → map (λ (i : InfoItem). i.value) (cond b (x ∷ filter (is_item_for f) (xs ++ ys)) (filter (is_item_for f) (xs ++ ys)))
-        ≡ map (λ (i : InfoItem). i.value) (cond b (x ∷ filter (is_item_for f) xs) (filter (is_item_for f) xs)) ++ values_for f ys
+        → map (λ (i : FieldWithValue). i.value) (cond b (x ∷ filter (is_item_for f) (xs ++ ys)) (filter (is_item_for f) (xs ++ ys)))
+        ≡ map (λ (i : FieldWithValue). i.value) (cond b (x ∷ filter (is_item_for f) xs) (filter (is_item_for f) xs)) ++ values_for f ys
     by_test true e = ap (λ (l : List FieldValue). x.value ∷ l) e
     by_test false e = e
 
 own_values : (f g : Field) (said : List FieldValue) → is_same g f ≡ true → values_for f (map (info_item g) said) ≡ said
 own_values f g [] e = refl
 own_values f g (x ∷ xs) e =
-    ap (λ (b : Bool). map (λ (i : InfoItem). i.value) (cond b (info_item g x ∷ filter (is_item_for f) (map (info_item g) xs)) (filter (is_item_for f) (map (info_item g) xs)))) e
+    ap (λ (b : Bool). map (λ (i : FieldWithValue). i.value) (cond b (info_item g x ∷ filter (is_item_for f) (map (info_item g) xs)) (filter (is_item_for f) (map (info_item g) xs)))) e
     ∙ ap (λ (l : List FieldValue). x ∷ l) (own_values f g xs e)
 
 other_values : (f g : Field) (said : List FieldValue) → is_same g f ≡ false → values_for f (map (info_item g) said) ≡ []
 other_values f g [] e = refl
 other_values f g (x ∷ xs) e =
-    ap (λ (b : Bool). map (λ (i : InfoItem). i.value) (cond b (info_item g x ∷ filter (is_item_for f) (map (info_item g) xs)) (filter (is_item_for f) (map (info_item g) xs)))) e
+    ap (λ (b : Bool). map (λ (i : FieldWithValue). i.value) (cond b (info_item g x ∷ filter (is_item_for f) (map (info_item g) xs)) (filter (is_item_for f) (map (info_item g) xs)))) e
     ∙ other_values f g xs e
 
 -- ---- what the options say
 
 module _ (spelled : (t : List ℕ) (d : Dependency) → dependency_of t ≡ Some d → SpellsDependency t d) (read : (t : List ℕ) (d : Dependency) → SpellsDependency t d → dependency_of t ≡ Some d) where
-  said_by_text : (f : Field) (v : OptionValue) (g : FieldText) (o : Option (List FieldValue)) (items : List InfoItem) → field_text_in v.text ≡ Some g → values_by_kind (kind_of_field g.field) g.value ≡ o
+  said_by_text : (f : Field) (v : OptionValue) (g : FieldText) (o : Option (List FieldValue)) (items : List FieldWithValue) → field_text_in v.text ≡ Some g → values_by_kind (kind_of_field g.field) g.value ≡ o
       → with_values [] g.field o ≡ Some items → SaysOfOne f v (values_for f items)
   said_by_text f v g None items is kind e = absurd (cc (e))
   said_by_text f v g (Some said) items is kind e = by_field (is_same g.field f) refl
@@ -82,11 +82,11 @@ module _ (spelled : (t : List ℕ) (d : Dependency) → dependency_of t ≡ Some
               let yes : is_same g.field f ≡ true = ap (λ (h : Field). is_same h f) field ∙ (bytes_eq-Decides (field_word f) (field_word f)).1 refl in
               cc (s, yes)
 
-  said_by_option : (f : Field) (v : OptionValue) (o : Option FieldText) (items : List InfoItem) → field_text_in v.text ≡ o → option_and_then items_of_text o ≡ Some items → SaysOfOne f v (values_for f items)
+  said_by_option : (f : Field) (v : OptionValue) (o : Option FieldText) (items : List FieldWithValue) → field_text_in v.text ≡ o → option_and_then items_of_text o ≡ Some items → SaysOfOne f v (values_for f items)
   said_by_option f v None items is e = absurd (cc (e))
   said_by_option f v (Some g) items is e = said_by_text f v g (values_by_kind (kind_of_field g.field) g.value) items is refl e
 
-  some_items : (o : Option (List InfoItem)) → is_some o ≡ true → (items : List InfoItem) × (o ≡ Some items)
+  some_items : (o : Option (List FieldWithValue)) → is_some o ≡ true → (items : List FieldWithValue) × (o ≡ Some items)
   some_items None e = absurd (cc (e))
   some_items (Some items) e = (items, refl)
 
@@ -103,42 +103,42 @@ module _ (spelled : (t : List ℕ) (d : Dependency) → dependency_of t ≡ Some
       by_offence true o e further = absurd (cc (e))
       by_offence false o e further =
           let one = some_items (items_of_option v) (allowed_first (is_some (items_of_option v)) _ o) in
-          let here : unwrap_or (items_of_option v) [] ≡ one.0 = ap (λ (x : Option (List InfoItem)). unwrap_or x []) one.1 in
-          let whole : all_items (v ∷ vs) ≡ one.0 ++ all_items vs = flat_map-cons (λ (u : OptionValue). unwrap_or (items_of_option u) []) v vs ∙ ap (λ (l : List InfoItem). l ++ all_items vs) here in
+          let here : unwrap_or (items_of_option v) [] ≡ one.0 = ap (λ (x : Option (List FieldWithValue)). unwrap_or x []) one.1 in
+          let whole : all_items (v ∷ vs) ≡ one.0 ++ all_items vs = flat_map-cons (λ (u : OptionValue). unwrap_or (items_of_option u) []) v vs ∙ ap (λ (l : List FieldWithValue). l ++ all_items vs) here in
           (values_for f one.0, values_for f (all_items vs), said_by_option f v (field_text_in v.text) one.0 refl one.1, further e, ap (values_for f) whole ∙ values_append f one.0 (all_items vs))
 
 -- ---- how an information tells it
 
-told_list : (f : Field) (items : List InfoItem) → list_of (plains_for f items) ≡ map plain_value (values_for f items)
+told_list : (f : Field) (items : List FieldWithValue) → list_of (plains_for f items) ≡ map plain_value (values_for f items)
 told_list f [] = refl
 told_list f (x ∷ xs) = by_test (is_item_for f x) (told_list f xs)
   where
     by_test : (b : Bool) → list_of (plains_for f xs) ≡ map plain_value (values_for f xs)
         → list_of (if b then more (plain_value x.value) (plains_for f xs) else plains_for f xs)
-        ≡ map plain_value (map (λ (i : InfoItem). i.value) (cond b (x ∷ filter (is_item_for f) xs) (filter (is_item_for f) xs)))
+        ≡ map plain_value (map (λ (i : FieldWithValue). i.value) (cond b (x ∷ filter (is_item_for f) xs) (filter (is_item_for f) xs)))
     by_test true e = ap (λ (l : List Plain). plain_value x.value ∷ l) e
     by_test false e = e
 
-tells_all : (f : Field) (items : List InfoItem) (v : Plain) → v ≡ value_of_list f items → HasAllValues (values_for f items) v
+tells_all : (f : Field) (items : List FieldWithValue) (v : Plain) → v ≡ value_of_list f items → HasAllValues (values_for f items) v
 tells_all f items v e =
     ap (λ (u : Plain). list_of (entries_in u)) e ∙ (ap list_of (entries_arr (plains_for f items)) ∙ told_list f items)
 
-told_first : (f : Field) (items : List InfoItem) → HasFirstValue (values_for f items) (item_value (find (is_item_for f) items))
+told_first : (f : Field) (items : List FieldWithValue) → HasFirstValue (values_for f items) (item_value (find (is_item_for f) items))
 told_first f [] = refl
 told_first f (x ∷ xs) = by_test (is_item_for f x) (told_first f xs)
   where
     by_test : (b : Bool) → HasFirstValue (values_for f xs) (item_value (find (is_item_for f) xs))
-        → HasFirstValue (map (λ (i : InfoItem). i.value) (cond b (x ∷ filter (is_item_for f) xs) (filter (is_item_for f) xs))) (item_value (cond b (Some x) (find (is_item_for f) xs)))
+        → HasFirstValue (map (λ (i : FieldWithValue). i.value) (cond b (x ∷ filter (is_item_for f) xs) (filter (is_item_for f) xs))) (item_value (cond b (Some x) (find (is_item_for f) xs)))
     by_test true e = refl
     by_test false e = e
 
-tells_first : (f : Field) (items : List InfoItem) (v : Plain) → v ≡ value_of_single f items → HasFirstValue (values_for f items) v
+tells_first : (f : Field) (items : List FieldWithValue) (v : Plain) → v ≡ value_of_single f items → HasFirstValue (values_for f items) v
 tells_first f items v e = subst (HasFirstValue (values_for f items)) (sym e) (told_first f items)
 
-abbrev field_at : Field → List InfoItem → ℕ → Plain
+abbrev field_at : Field → List FieldWithValue → ℕ → Plain
 field_at f items size = field_named PkgInfo (field_word f) (information_value items size)
 
-pub told_info : (f : Field) (items : List InfoItem) (size : ℕ) → (f ≡ Fields.ReplacesPriority → ⊥) → HasValuesOfField f (values_for f items) (field_at f items size)
+pub told_info : (f : Field) (items : List FieldWithValue) (size : ℕ) → (f ≡ Fields.ReplacesPriority → ⊥) → HasValuesOfField f (values_for f items) (field_at f items size)
 unfolding information_value
 told_info Fields.Name items size other = tells_first Fields.Name items _ (nth_obj (information_fields items size) 0)
 told_info Fields.Version items size other = tells_first Fields.Version items _ (nth_obj (information_fields items size) 1)
@@ -183,7 +183,7 @@ all_numbers [] said e = subst AreNumbers (sym e) tt
 all_numbers (v ∷ vs) said (here, further, one, rest, e) =
     subst AreNumbers (sym e) (numbers_append here further (one_number v here one) (all_numbers vs further rest))
 
-first_number : (f : Field) (items : List InfoItem) → AreNumbers (values_for f items) → number_value (option_and_then (λ (item : InfoItem). number_in item.value) (find (is_item_for f) items)) ≡ item_value (find (is_item_for f) items)
+first_number : (f : Field) (items : List FieldWithValue) → AreNumbers (values_for f items) → number_value (option_and_then (λ (item : FieldWithValue). number_in item.value) (find (is_item_for f) items)) ≡ item_value (find (is_item_for f) items)
 first_number f [] all = refl
 first_number f (x ∷ xs) all = by_test (is_item_for f x) all (first_number f xs)
   where
@@ -192,30 +192,30 @@ first_number f (x ∷ xs) all = by_test (is_item_for f x) all (first_number f xs
     own (number n) said a = refl
     own (need d) said a = absurd a
 
-    by_test : (b : Bool) → AreNumbers (map (λ (i : InfoItem). i.value) (cond b (x ∷ filter (is_item_for f) xs) (filter (is_item_for f) xs)))
-        → (AreNumbers (values_for f xs) → number_value (option_and_then (λ (item : InfoItem). number_in item.value) (find (is_item_for f) xs)) ≡ item_value (find (is_item_for f) xs))
-        → number_value (option_and_then (λ (item : InfoItem). number_in item.value) (cond b (Some x) (find (is_item_for f) xs))) ≡ item_value (cond b (Some x) (find (is_item_for f) xs))
+    by_test : (b : Bool) → AreNumbers (map (λ (i : FieldWithValue). i.value) (cond b (x ∷ filter (is_item_for f) xs) (filter (is_item_for f) xs)))
+        → (AreNumbers (values_for f xs) → number_value (option_and_then (λ (item : FieldWithValue). number_in item.value) (find (is_item_for f) xs)) ≡ item_value (find (is_item_for f) xs))
+        → number_value (option_and_then (λ (item : FieldWithValue). number_in item.value) (cond b (Some x) (find (is_item_for f) xs))) ≡ item_value (cond b (Some x) (find (is_item_for f) xs))
     by_test true a further = own x.value (values_for f xs) a
     by_test false a further = further a
 
-pub told_priority : (told : List OptionValue) (items : List InfoItem) → SayOfField Fields.ReplacesPriority told (values_for Fields.ReplacesPriority items) → (v : Plain) → v ≡ number_value (replaces_priority items)
+pub told_priority : (told : List OptionValue) (items : List FieldWithValue) → SayOfField Fields.ReplacesPriority told (values_for Fields.ReplacesPriority items) → (v : Plain) → v ≡ number_value (replaces_priority items)
     → HasValuesOfField Fields.ReplacesPriority (values_for Fields.ReplacesPriority items) v
 told_priority told items say v e =
     tells_first Fields.ReplacesPriority items v (e ∙ first_number Fields.ReplacesPriority items (all_numbers told (values_for Fields.ReplacesPriority items) say))
 
 -- ---- the information of a command
 
-pub record AreItemsOf (too_long : Bool) (told : List OptionValue) (items : List InfoItem) : Type 0 where
+pub record AreItemsOf (too_long : Bool) (told : List OptionValue) (items : List FieldWithValue) : Type 0 where
   pub none : first_offence too_long [] told ≡ None
   pub all : items ≡ all_items told
 
-items_by : (too_long : Bool) (told : List OptionValue) (behind : ℕ) (items : List InfoItem) (o : Option ℕ) (lacks : Bool) → first_offence too_long [] told ≡ o
+items_by : (too_long : Bool) (told : List OptionValue) (behind : ℕ) (items : List FieldWithValue) (o : Option ℕ) (lacks : Bool) → first_offence too_long [] told ≡ o
     → unless_offence o (if lacks then Err behind else Ok (all_items told)) ≡ Ok items → AreItemsOf too_long told items
 items_by too_long told behind items (Some place) lacks is e = absurd (cc (e))
 items_by too_long told behind items None true is e = absurd (cc (e))
 items_by too_long told behind items None false is e = let same : all_items told ≡ items = cc (e) in record { none = is; all = sym same }
 
-pub items_of : (values : List OptionValue) (behind : ℕ) (items : List InfoItem) → information_of values behind ≡ Ok items → AreItemsOf (is_too_long values) (values_of_info values) items
+pub items_of : (values : List OptionValue) (behind : ℕ) (items : List FieldWithValue) → information_of values behind ≡ Ok items → AreItemsOf (is_too_long values) (values_of_info values) items
 unfolding information_of
 items_of values behind items e =
     items_by (is_too_long values) (values_of_info values) behind items (first_offence (is_too_long values) [] (values_of_info values)) (lacks_name_or_version (values_of_info values)) refl e

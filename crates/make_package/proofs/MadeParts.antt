@@ -29,14 +29,14 @@ use Rattle.command_core.specs.declared.values.OptionValue.{OptionValue}
 use Rattle.command_core.proofs.Parts.{value_at}
 use Rattle.package_files.specs.Blocks.{contents_block, contents_blocks}
 use Rattle.package_files.specs.make_info.Faults.{IsOverflow}
-use Rattle.package_files.specs.make_info.Information.{InfoItem, information_value, replaces_priority}
+use Rattle.package_files.specs.make_info.Information.{FieldWithValue, information_value, replaces_priority}
 use Rattle.package_files.specs.adb_sound.Contents.{contents_size}
 use Rattle.package_files.specs.adb_sound.Container.{contents_piece, container_of}
 use Rattle.make_package.specs.Answers.{IsBytes, IsFirstValue, IsNotDisk}
 use Rattle.make_package.specs.Making.{container_unless, package_container}
 use Rattle.package_files.specs.Package.{Script, Source, SourceFolder, contents_of_folders, value_of_file, value_of_folder, folder_with, installed_size, kind_of_file, value_of_kind, value_of_package, package_with, size_of_folder, size_of_kind}
 use Rattle.package_files.specs.Packed.{AreFilesFrom, AreFoldersFrom, ArePackedFolders, packed_file, packed_folder, files_size, packed_size}
-use Rattle.package_files.specs.Runs.{IsAnswer}
+use Rattle.package_files.specs.Runs.{AgreesOrIsFault}
 use Rattle.package_files.specs.Sources.{values_with, texts_of}
 use Rattle.package_files.specs.make_info.declared.fault.MakeFault.{MakeFault}
 use Rattle.package_files.specs.make_info.declared.fault.MakeFault.TheVariants.{FileMissing, FileBad, InfoBad, TooLarge, Disk, Memory}
@@ -243,7 +243,7 @@ file_large v contents bytes values (Some counts) w =
     let same : counts ≡ (bytes, values) = cc in
     ap (λ (c : PayloadCounts). Err (TooLarge c.0 c.1)) same
 
-pub package_err : (v : Plain) (contents : List Contents) (fault : MakeFault) → IsOverflow fault (written_of v) → IsAnswer IsBytes (Err fault) (package_container v contents)
+pub package_err : (v : Plain) (contents : List Contents) (fault : MakeFault) → IsOverflow fault (written_of v) → AgreesOrIsFault IsBytes (Err fault) (package_container v contents)
 unfolding written_of package_container
 package_err v contents (TooLarge bytes values) h = file_large v contents bytes values (overflow_of v) h
 package_err v contents Disk h = tt
@@ -269,7 +269,7 @@ memory_answer (Ok x) h = absurd h
 memory_answer {A} (Err e) h = let P : MakeFault → Type 0 = λ f. IsNotDisk {A = A} (Err f) in subst P (sym h) tt
 
 -- the value that is written is that of the package
-pub value_is : (about : List InfoItem) (size : ℕ) (written folders : List Folder) (sources : List SourceFolder) (scripts : List Script) (values wanted : List OptionValue)
+pub value_is : (about : List FieldWithValue) (size : ℕ) (written folders : List Folder) (sources : List SourceFolder) (scripts : List Script) (values wanted : List OptionValue)
     → size ≡ packed_size folders → written ≡ folders → AreFoldersFrom folders sources → values ≡ wanted
     → package_with (information_value about size) (map packed_folder written) scripts (texts_of (values_with TRIGGER values)) (replaces_priority about)
     ≡ value_of_package (information_value about (installed_size sources)) sources scripts (texts_of (values_with TRIGGER wanted)) (replaces_priority about)

@@ -15,13 +15,13 @@ use Rattle.command_core.specs.Files.{without_dot}
 use Rattle.command_core.specs.declared.values.OptionValue.{OptionValue}
 use Rattle.package_files.specs.Folders.{folders_of}
 use Rattle.package_files.specs.make_info.Faults.{IsInfoFault}
-use Rattle.package_files.specs.make_info.Information.{InfoItem, information}
-use Rattle.make_package.specs.Answers.{IsBytes, IsCutOff, IsMadeRun, IsNotDisk, AreBelow}
+use Rattle.package_files.specs.make_info.Information.{FieldWithValue, information}
+use Rattle.make_package.specs.Answers.{IsBytes, IsOkOrDiskOrMemory, IsMadeRun, IsNotDisk, AreBelow}
 use Rattle.make_package.specs.Making.{made_package, or_info_bad, package_of_parts}
 use Rattle.package_files.specs.Package as packages
 use Rattle.package_files.specs.Package.{SourceFolder}
 use Rattle.package_files.specs.Packed.{IsPacking}
-use Rattle.package_files.specs.Runs.{Explains, IsAnswer}
+use Rattle.package_files.specs.Runs.{AgreesOrIsFault, Explains}
 use Rattle.make_package.specs.Scripts.{AreScripts, IsScript, script_view, scripts_view}
 use Rattle.package_files.specs.Sources.{AreNamesFor, and_then, each_from, folder_at, folders_below, source_folders_from, found_at, values_with, script_at, scripts_from}
 use Rattle.package_files.specs.make_info.Reads.{Reads}
@@ -64,9 +64,9 @@ module _ (told : List TreeState) (values : List OptionValue) (i : ℕ) (v : Opti
       ∙ sym (given_append SCRIPT (take i values) (drop i values)) ∙ ap (values_with SCRIPT) (take-append-drop i values)
 
   pub scripts_stop : (scripts : Vec Script Global) (fault : MakeFault) → IsSoFar told one_read script_at (values_with SCRIPT (take i values)) (AreScripts scripts) → IsNext told script_at v IsScript (Err fault)
-      → (n : ℕ) → Explains told (λ read. IsAnswer AreScripts (Err fault) (scripts_from read n (values_with SCRIPT values)))
+      → (n : ℕ) → Explains told (λ read. AgreesOrIsFault AreScripts (Err fault) (scripts_from read n (values_with SCRIPT values)))
   scripts_stop scripts fault so_far next n =
-      let P : List OptionValue → Type 0 = λ xs. Explains told (λ read. IsAnswer AreScripts (Err fault) (scripts_from read n xs)) in
+      let P : List OptionValue → Type 0 = λ xs. Explains told (λ read. AgreesOrIsFault AreScripts (Err fault) (scripts_from read n xs)) in
       subst P all_given
       (so_far_stops told one_read script_at script_own (values_with SCRIPT (take i values)) v (values_with SCRIPT (drop (i + 1) values)) (AreScripts scripts) IsScript AreScripts fault so_far next n)
 
@@ -100,10 +100,10 @@ pub record AreParts (ss ds : List OptionValue) (names : List (List ℕ)) (script
   pub given : List packages.Script
   pub are : scripts_from read 0 ss ≡ Ok given
   pub view : AreScripts scripts given
-  pub rest : IsAnswer IsPacking r (folders_below read (length given) ds names)
+  pub rest : AgreesOrIsFault IsPacking r (folders_below read (length given) ds names)
 
 pub both_parts : (told : List TreeState) (ss ds : List OptionValue) (names : List (List ℕ)) (scripts : Vec Script Global) (r : Result Packing MakeFault)
-    → Explains told (λ read. IsAnswer AreScripts (Ok scripts) (scripts_from read 0 ss)) → ((n : ℕ) → Explains told (λ read. IsAnswer IsPacking r (folders_below read n ds names)))
+    → Explains told (λ read. AgreesOrIsFault AreScripts (Ok scripts) (scripts_from read 0 ss)) → ((n : ℕ) → Explains told (λ read. AgreesOrIsFault IsPacking r (folders_below read n ds names)))
     → Explains told (AreParts ss ds names scripts r)
 both_parts told ss ds names scripts r p q =
     let k : ℕ = 0 + total one_read ss in
@@ -112,8 +112,8 @@ both_parts told ss ds names scripts r p q =
     let many : length p.is.0 ≡ length ss = each_long one_read (script_at p.read) 0 ss p.is.0 p.is.1 in
     let counted : total one_read ss ≡ length ss = ones ss in
     let long : k ≡ length p.is.0 = omega arith in
-    let P : ℕ → Type 0 = λ n. IsAnswer IsPacking r (folders_below both n ds names) in
-    let Q : Result (List SourceFolder) MakeFault → Type 0 = λ w. IsAnswer IsPacking r w in
+    let P : ℕ → Type 0 = λ n. AgreesOrIsFault IsPacking r (folders_below both n ds names) in
+    let Q : Result (List SourceFolder) MakeFault → Type 0 = λ w. AgreesOrIsFault IsPacking r w in
     record {
       read = both;
       observed = joined_told told k p.read h.read p.observed h.observed;
@@ -128,13 +128,13 @@ both_parts told ss ds names scripts r p q =
 -- ---- what is made of the parts
 
 module _ (command : CommandLine) (names : List (List ℕ)) (read : Reads) where
-  abbrev behind_info : List packages.Script → List InfoItem → Result (List ℕ) MakeFault
+  abbrev behind_info : List packages.Script → List FieldWithValue → Result (List ℕ) MakeFault
   behind_info scripts about = and_then (folders_below read (length scripts) (values_with FILES command.values) names) (package_of_parts command scripts about)
 
   abbrev after_scripts : List packages.Script → Result (List ℕ) MakeFault
   after_scripts scripts = and_then (or_info_bad (information command)) (behind_info scripts)
 
-  pub scripts_fault : (fault : MakeFault) → IsAnswer AreScripts (Err fault) (scripts_from read 0 (values_with SCRIPT command.values)) → IsAnswer IsBytes (Err fault) (made_package command names read)
+  pub scripts_fault : (fault : MakeFault) → AgreesOrIsFault AreScripts (Err fault) (scripts_from read 0 (values_with SCRIPT command.values)) → AgreesOrIsFault IsBytes (Err fault) (made_package command names read)
   unfolding made_package
   scripts_fault fault h = fault_of_part AreScripts IsBytes fault (scripts_from read 0 (values_with SCRIPT command.values)) after_scripts h
 
@@ -142,38 +142,38 @@ module _ (command : CommandLine) (names : List (List ℕ)) (read : Reads) where
   unfolding made_package
   to_info ys e = ap (λ (r : Result (List packages.Script) MakeFault). and_then r after_scripts) e
 
-  pub info_fault : (ys : List packages.Script) (fault : MakeFault) → scripts_from read 0 (values_with SCRIPT command.values) ≡ Ok ys → IsInfoFault fault (information command) → IsAnswer IsBytes (Err fault) (made_package command names read)
-  info_fault ys (InfoBad place) e h = to_info ys e ∙ ap (λ (r : Result (List InfoItem) ℕ). and_then (or_info_bad r) (behind_info ys)) h
+  pub info_fault : (ys : List packages.Script) (fault : MakeFault) → scripts_from read 0 (values_with SCRIPT command.values) ≡ Ok ys → IsInfoFault fault (information command) → AgreesOrIsFault IsBytes (Err fault) (made_package command names read)
+  info_fault ys (InfoBad place) e h = to_info ys e ∙ ap (λ (r : Result (List FieldWithValue) ℕ). and_then (or_info_bad r) (behind_info ys)) h
   info_fault ys Memory e h = tt
   info_fault ys Disk e h = tt
   info_fault ys (FileMissing p) e h = absurd h
   info_fault ys (FileBad p c) e h = absurd h
   info_fault ys (TooLarge b v) e h = absurd h
 
-  to_folders : (ys : List packages.Script) (about : List InfoItem) → scripts_from read 0 (values_with SCRIPT command.values) ≡ Ok ys → information command ≡ Ok about → made_package command names read ≡ behind_info ys about
-  to_folders ys about e i = to_info ys e ∙ ap (λ (r : Result (List InfoItem) ℕ). and_then (or_info_bad r) (behind_info ys)) i
+  to_folders : (ys : List packages.Script) (about : List FieldWithValue) → scripts_from read 0 (values_with SCRIPT command.values) ≡ Ok ys → information command ≡ Ok about → made_package command names read ≡ behind_info ys about
+  to_folders ys about e i = to_info ys e ∙ ap (λ (r : Result (List FieldWithValue) ℕ). and_then (or_info_bad r) (behind_info ys)) i
 
-  pub folders_fault : (scripts : Vec Script Global) (about : List InfoItem) (fault : MakeFault) → information command ≡ Ok about
-      → AreParts (values_with SCRIPT command.values) (values_with FILES command.values) names scripts (Err fault) read → IsAnswer IsBytes (Err fault) (made_package command names read)
+  pub folders_fault : (scripts : Vec Script Global) (about : List FieldWithValue) (fault : MakeFault) → information command ≡ Ok about
+      → AreParts (values_with SCRIPT command.values) (values_with FILES command.values) names scripts (Err fault) read → AgreesOrIsFault IsBytes (Err fault) (made_package command names read)
   folders_fault scripts about fault i h =
-      let Q : Result (List ℕ) MakeFault → Type 0 = λ w. IsAnswer IsBytes (Err fault) w in
+      let Q : Result (List ℕ) MakeFault → Type 0 = λ w. AgreesOrIsFault IsBytes (Err fault) w in
       subst Q (sym (to_folders h.given about h.are i))
       (fault_of_part IsPacking IsBytes fault (folders_below read (length h.given) (values_with FILES command.values) names) (package_of_parts command h.given about) h.rest)
 
-  pub parts_made : (scripts : Vec Script Global) (about : List InfoItem) (packing : Packing) (r : Result (Vec ℕ Global) MakeFault) → information command ≡ Ok about
+  pub parts_made : (scripts : Vec Script Global) (about : List FieldWithValue) (packing : Packing) (r : Result (Vec ℕ Global) MakeFault) → information command ≡ Ok about
       → AreParts (values_with SCRIPT command.values) (values_with FILES command.values) names scripts (Ok packing) read
-      → ((sources : List SourceFolder) → IsPacking packing sources → IsAnswer IsBytes r (package_of_parts command (scripts_view scripts.items) about sources))
-      → IsAnswer IsBytes r (made_package command names read)
+      → ((sources : List SourceFolder) → IsPacking packing sources → AgreesOrIsFault IsBytes r (package_of_parts command (scripts_view scripts.items) about sources))
+      → AgreesOrIsFault IsBytes r (made_package command names read)
   parts_made scripts about packing r i h made =
-      let Q : Result (List ℕ) MakeFault → Type 0 = λ w. IsAnswer IsBytes r w in
-      let R : List packages.Script → Type 0 = λ l. IsAnswer IsBytes r (package_of_parts command l about h.rest.0) in
+      let Q : Result (List ℕ) MakeFault → Type 0 = λ w. AgreesOrIsFault IsBytes r w in
+      let R : List packages.Script → Type 0 = λ l. AgreesOrIsFault IsBytes r (package_of_parts command l about h.rest.0) in
       subst Q (sym (to_folders h.given about h.are i ∙ ap (λ (x : Result (List SourceFolder) MakeFault). and_then x (package_of_parts command h.given about)) h.rest.1))
       (subst R h.view (made h.rest.0 h.rest.2))
 
 -- ---- a run, of what is made
 
 pub made_by : (told : List TreeState) (command : CommandLine) (names : List (List ℕ)) (r : Result (Vec ℕ Global) MakeFault) → AreNamesFor (values_with FILES command.values) names → IfObservable told (λ v. AreBelow (values_with FILES command.values) v names)
-    → Explains told (λ read. IsAnswer IsBytes r (made_package command names read)) → IsMadeRun told command r
+    → Explains told (λ read. AgreesOrIsFault IsBytes r (made_package command names read)) → IsMadeRun told command r
 made_by told command names (Ok file) named below p = record { names = names; named = named; below = below; reads = record { read = p.read; observed = p.observed; is = p.is.1 ∙ ap Ok p.is.2 } }
 made_by told command names (Err Disk) named below p = tt
 made_by told command names (Err Memory) named below p = tt
@@ -184,9 +184,9 @@ made_by told command names (Err (TooLarge b v)) named below p = record { names =
 
 -- the tree was asked before the run, and stayed as it was
 pub run_as : (t0 t1 : List TreeState) (command : CommandLine) (names : List (List ℕ)) (r : Result (Vec ℕ Global) MakeFault) → t1 ≡ t0 → AreNamesFor (values_with FILES command.values) names → IfObservable t0 (λ v. AreBelow (values_with FILES command.values) v names)
-    → Explains t1 (λ read. IsAnswer IsBytes r (made_package command names read)) → IsMadeRun t0 command r
+    → Explains t1 (λ read. AgreesOrIsFault IsBytes r (made_package command names read)) → IsMadeRun t0 command r
 run_as t0 t1 command names r e named below p =
-    let P : List TreeState → Type 0 = λ t. Explains t (λ read. IsAnswer IsBytes r (made_package command names read)) in
+    let P : List TreeState → Type 0 = λ t. Explains t (λ read. AgreesOrIsFault IsBytes r (made_package command names read)) in
     made_by t0 command names r named below (subst P e p)
 
 -- ---- the listing
@@ -205,7 +205,7 @@ pub nothing_below : (told : List TreeState) (dirs : List OptionValue) (names : L
 nothing_below [] dirs names e = tt
 nothing_below (v ∷ vs) dirs names e = let P : List OptionValue → Type 0 = λ l. AreBelow l v names in subst P (sym e) tt
 
-cut_by : (told : List TreeState) (command : CommandLine) (fault : MakeFault) → IsCutOff {A = List (List ℕ)} (Err fault) → IsMadeRun told command (Err fault)
+cut_by : (told : List TreeState) (command : CommandLine) (fault : MakeFault) → IsOkOrDiskOrMemory {A = List (List ℕ)} (Err fault) → IsMadeRun told command (Err fault)
 cut_by told command Disk cut = tt
 cut_by told command Memory cut = tt
 cut_by told command (FileMissing p) cut = absurd cut
@@ -213,30 +213,30 @@ cut_by told command (FileBad p c) cut = absurd cut
 cut_by told command (InfoBad p) cut = absurd cut
 cut_by told command (TooLarge b v) cut = absurd cut
 
-pub cut_run : (told : List TreeState) (command : CommandLine) (r : Result (Vec ℕ Global) MakeFault) (fault : MakeFault) → IsErrAnd r (λ e. e ≡ fault) → IsCutOff {A = List (List ℕ)} (Err fault) → IsMadeRun told command r
+pub cut_run : (told : List TreeState) (command : CommandLine) (r : Result (Vec ℕ Global) MakeFault) (fault : MakeFault) → IsErrAnd r (λ e. e ≡ fault) → IsOkOrDiskOrMemory {A = List (List ℕ)} (Err fault) → IsMadeRun told command r
 cut_run told command (Ok file) fault h cut = absurd h
 cut_run told command (Err e) fault h cut = let P : MakeFault → Type 0 = λ f. IsMadeRun told command (Err f) in subst P (sym h) (cut_by told command fault cut)
 
 -- ---- what is said of a command's values, and of lists as they are borrowed
 
 pub scripts_as : (told : List TreeState) (r : Result (Vec Script Global) MakeFault) (values wanted : List OptionValue) → values ≡ wanted
-    → Explains told (λ read. IsAnswer AreScripts r (scripts_from read 0 (values_with SCRIPT values))) → Explains told (λ read. IsAnswer AreScripts r (scripts_from read 0 (values_with SCRIPT wanted)))
-scripts_as told r values wanted e h = let P : List OptionValue → Type 0 = λ vs. Explains told (λ read. IsAnswer AreScripts r (scripts_from read 0 (values_with SCRIPT vs))) in subst P e h
+    → Explains told (λ read. AgreesOrIsFault AreScripts r (scripts_from read 0 (values_with SCRIPT values))) → Explains told (λ read. AgreesOrIsFault AreScripts r (scripts_from read 0 (values_with SCRIPT wanted)))
+scripts_as told r values wanted e h = let P : List OptionValue → Type 0 = λ vs. Explains told (λ read. AgreesOrIsFault AreScripts r (scripts_from read 0 (values_with SCRIPT vs))) in subst P e h
 
 -- folders behind scripts, after which the tree stayed as it was
 pub both_as : (t0 t1 : List TreeState) (command : CommandLine) (values : List OptionValue) (names : List (List ℕ)) (scripts : Vec Script Global) (r : Result Packing MakeFault) → values ≡ command.values → t1 ≡ t0
-    → Explains t0 (λ read. IsAnswer AreScripts (Ok scripts) (scripts_from read 0 (values_with SCRIPT values))) → ((n : ℕ) → Explains t1 (λ read. IsAnswer IsPacking r (folders_below read n (values_with FILES values) names)))
+    → Explains t0 (λ read. AgreesOrIsFault AreScripts (Ok scripts) (scripts_from read 0 (values_with SCRIPT values))) → ((n : ℕ) → Explains t1 (λ read. AgreesOrIsFault IsPacking r (folders_below read n (values_with FILES values) names)))
     → Explains t0 (AreParts (values_with SCRIPT command.values) (values_with FILES command.values) names scripts r)
 both_as t0 t1 command values names scripts r e same p q =
     let P : List OptionValue → Type 0 = λ vs. Explains t0 (AreParts (values_with SCRIPT vs) (values_with FILES vs) names scripts r) in
-    let Q : List TreeState → Type 0 = λ t. (n : ℕ) → Explains t (λ read. IsAnswer IsPacking r (folders_below read n (values_with FILES values) names)) in
+    let Q : List TreeState → Type 0 = λ t. (n : ℕ) → Explains t (λ read. AgreesOrIsFault IsPacking r (folders_below read n (values_with FILES values) names)) in
     subst P e (both_parts t0 (values_with SCRIPT values) (values_with FILES values) names scripts r p (subst Q same q))
 
-pub package_as : (command : CommandLine) (about : List InfoItem) (borrowed scripts : List Script) (packing : Packing) (r : Result (Vec ℕ Global) MakeFault) → borrowed ≡ scripts
-    → ((sources : List SourceFolder) → IsPacking packing sources → IsAnswer IsBytes r (package_of_parts command (scripts_view borrowed) about sources))
-    → (sources : List SourceFolder) → IsPacking packing sources → IsAnswer IsBytes r (package_of_parts command (scripts_view scripts) about sources)
+pub package_as : (command : CommandLine) (about : List FieldWithValue) (borrowed scripts : List Script) (packing : Packing) (r : Result (Vec ℕ Global) MakeFault) → borrowed ≡ scripts
+    → ((sources : List SourceFolder) → IsPacking packing sources → AgreesOrIsFault IsBytes r (package_of_parts command (scripts_view borrowed) about sources))
+    → (sources : List SourceFolder) → IsPacking packing sources → AgreesOrIsFault IsBytes r (package_of_parts command (scripts_view scripts) about sources)
 package_as command about borrowed scripts packing r e made sources is =
-    let P : List Script → Type 0 = λ l. IsAnswer IsBytes r (package_of_parts command (scripts_view l) about sources) in subst P e (made sources is)
+    let P : List Script → Type 0 = λ l. AgreesOrIsFault IsBytes r (package_of_parts command (scripts_view l) about sources) in subst P e (made sources is)
 
 -- ---- of the folder that is given, or of none
 
@@ -254,17 +254,17 @@ named_for vs folder names f h =
     subst P (sym f.first) (subst Q (sym f.name) h)
 
 pub packed_for : (told : List TreeState) (dirs : List OptionValue) (v : OptionValue) (others : List OptionValue) (dir : List ℕ) (names : List (List ℕ)) (r : Result Packing MakeFault) (n : ℕ) → dirs ≡ v ∷ others
-    → dir ≡ without_dot v.text → Explains told (λ read. IsAnswer IsPacking r (source_folders_from v.place read n (folders_of dir names))) → Explains told (λ read. IsAnswer IsPacking r (folders_below read n dirs names))
+    → dir ≡ without_dot v.text → Explains told (λ read. AgreesOrIsFault IsPacking r (source_folders_from v.place read n (folders_of dir names))) → Explains told (λ read. AgreesOrIsFault IsPacking r (folders_below read n dirs names))
 packed_for told dirs v others dir names r n e d h =
-    let P : List OptionValue → Type 0 = λ l. Explains told (λ read. IsAnswer IsPacking r (folders_below read n l names)) in
-    let Q : List ℕ → Type 0 = λ f. Explains told (λ read. IsAnswer IsPacking r (source_folders_from v.place read n (folders_of f names))) in
+    let P : List OptionValue → Type 0 = λ l. Explains told (λ read. AgreesOrIsFault IsPacking r (folders_below read n l names)) in
+    let Q : List ℕ → Type 0 = λ f. Explains told (λ read. AgreesOrIsFault IsPacking r (source_folders_from v.place read n (folders_of f names))) in
     subst P (sym e) (subst Q d h)
 
 pub nothing_packed : (told : List TreeState) (dirs : List OptionValue) (names : List (List ℕ)) (packing : Packing) (n : ℕ) → dirs ≡ [] → packing.blocks.items ≡ [] → packing.folders.items ≡ []
-    → Explains told (λ read. IsAnswer IsPacking (Ok packing) (folders_below read n dirs names))
+    → Explains told (λ read. AgreesOrIsFault IsPacking (Ok packing) (folders_below read n dirs names))
 nothing_packed told dirs names packing n e b f =
-    let P : List OptionValue → Type 0 = λ l. Explains told (λ read. IsAnswer IsPacking (Ok packing) (folders_below read n l names)) in
-    subst P (sym e) (explained told (λ read. IsAnswer IsPacking (Ok packing) (Ok [])) (λ read. ([], refl, folders_none packing.blocks.items packing.folders b f)))
+    let P : List OptionValue → Type 0 = λ l. Explains told (λ read. AgreesOrIsFault IsPacking (Ok packing) (folders_below read n l names)) in
+    subst P (sym e) (explained told (λ read. AgreesOrIsFault IsPacking (Ok packing) (Ok [])) (λ read. ([], refl, folders_none packing.blocks.items packing.folders b f)))
 
 -- ---- a run, of the tree
 

@@ -4,7 +4,7 @@ use Rattle.command_core.specs.Values.{script_type, script_file}
 use Rattle.command_core.specs.Files.{without_dot}
 use Rattle.command_core.specs.declared.values.OptionValue.{OptionValue}
 use Rattle.package_files.specs.Package as packages
-use Rattle.package_files.specs.Runs.{IsAnswer}
+use Rattle.package_files.specs.Runs.{AgreesOrIsFault}
 use Rattle.make_package.specs.Scripts.{IsScript}
 use Rattle.package_files.specs.Sources.{and_then, found_at, script_at}
 use Rattle.package_files.specs.make_info.Reads.{Reads}
@@ -20,13 +20,13 @@ abbrev pub next_of : OptionValue → List ℕ → Result packages.Script MakeFau
 next_of v bytes = Ok (record { field = script_type v.text; bytes = bytes })
 
 pub script_fault : (read : Reads) (n : ℕ) (v : OptionValue) (file : List ℕ) (fault : MakeFault) → file ≡ file_of v
-    → IsAnswer IsFound (Err fault) (found_at v.place (read n file)) → IsAnswer IsScript (Err fault) (script_at read n v)
+    → AgreesOrIsFault IsFound (Err fault) (found_at v.place (read n file)) → AgreesOrIsFault IsScript (Err fault) (script_at read n v)
 script_fault read n v file fault e h =
-    let P : List ℕ → Type 0 = λ name. IsAnswer IsFound (Err fault) (found_at v.place (read n name)) in
+    let P : List ℕ → Type 0 = λ name. AgreesOrIsFault IsFound (Err fault) (found_at v.place (read n name)) in
     fault_of_part IsFound IsScript fault (found_at v.place (read n (file_of v))) (next_of v) (subst P e h)
 
 pub script_is : (read : Reads) (n : ℕ) (v : OptionValue) (file : List ℕ) (script : Script) → file ≡ file_of v → script.kind.now ≡ script_type v.text
-    → IsAnswer IsFound (Ok script.bytes) (found_at v.place (read n file)) → IsAnswer IsScript (Ok script) (script_at read n v)
+    → AgreesOrIsFault IsFound (Ok script.bytes) (found_at v.place (read n file)) → AgreesOrIsFault IsScript (Ok script) (script_at read n v)
 script_is read n v file script e k h = (
   record { field = script_type v.text; bytes = h.0 },
   ap (λ (r : Result (List ℕ) MakeFault). and_then r (next_of v)) (sym (ap (λ (name : List ℕ). found_at v.place (read n name)) e) ∙ h.1),

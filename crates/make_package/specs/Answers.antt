@@ -30,11 +30,11 @@ abbrev pub IsBytes : Vec ℕ Global → List ℕ → Type 0
 IsBytes file bytes = bytes ≡ file.items
 
 -- an error is an I/O error of the tree, or out of memory
-abbrev pub IsCutOff : {A : Type 0} → Result A MakeFault → Type 0
-IsCutOff (Ok x) = Unit {0}
-IsCutOff (Err Disk) = Unit {0}
-IsCutOff (Err Memory) = Unit {0}
-IsCutOff (Err fault) = ⊥
+abbrev pub IsOkOrDiskOrMemory : {A : Type 0} → Result A MakeFault → Type 0
+IsOkOrDiskOrMemory (Ok x) = Unit {0}
+IsOkOrDiskOrMemory (Err Disk) = Unit {0}
+IsOkOrDiskOrMemory (Err Memory) = Unit {0}
+IsOkOrDiskOrMemory (Err fault) = ⊥
 
 -- the result is not that the tree failed
 abbrev pub IsNotDisk : {A : Type 0} → Result A MakeFault → Type 0

@@ -10,7 +10,7 @@ use Rattle.package_files.specs.adb_write.Canonical.{PayloadCounts, overflow_of}
 use Rattle.package_files.specs.pkg_core.Contents.{Contents}
 use Rattle.command_core.specs.Command.{CommandLine}
 use Rattle.package_files.specs.adb_sound.Container.{container_of}
-use Rattle.package_files.specs.make_info.Information.{InfoItem, information, information_value, replaces_priority}
+use Rattle.package_files.specs.make_info.Information.{FieldWithValue, information, information_value, replaces_priority}
 use Rattle.package_files.specs.make_info.Reads.{Reads}
 use Rattle.package_files.specs.make_info.declared.fault.MakeFault.{MakeFault}
 use Rattle.package_files.specs.make_info.declared.fault.MakeFault.TheVariants.{InfoBad, TooLarge}
@@ -34,13 +34,13 @@ package_container v contents = container_unless (overflow_of v) v contents
 -- ---- the package
 
 -- the information of `-I`; a place at which it is not allowed is a fault of making
-abbrev pub or_info_bad : Result (List InfoItem) ℕ → Result (List InfoItem) MakeFault
+abbrev pub or_info_bad : Result (List FieldWithValue) ℕ → Result (List FieldWithValue) MakeFault
 or_info_bad (Ok information) = Ok information
 or_info_bad (Err place) = Err (InfoBad place)
 
 -- the package of what was read: the scripts, the information of `-I` (`about`), and the folders
 abbrev pub package_of_parts :
-    CommandLine → List Script → List InfoItem → List SourceFolder → Result (List ℕ) MakeFault
+    CommandLine → List Script → List FieldWithValue → List SourceFolder → Result (List ℕ) MakeFault
 package_of_parts command scripts about folders =
     package_container
     (value_of_package (information_value about (installed_size folders)) folders scripts

@@ -14,7 +14,7 @@ ghost use Rattle.make_package.specs.Making.{package_of_parts};
 ghost use Rattle.package_files.specs.adb_sound.Contents.{contents_size};
 ghost use Rattle.package_files.specs.Package.{SourceFolder, contents_of_folders, installed_size, package_with};
 ghost use Rattle.package_files.specs.Packed.{IsPacking, files_size, packed_folder, packed_size};
-ghost use Rattle.package_files.specs.Runs.{IsAnswer};
+ghost use Rattle.package_files.specs.Runs.{AgreesOrIsFault};
 ghost use Rattle.make_package.specs.Scripts.{scripts_view};
 ghost use Rattle.package_files.specs.Sources.{values_with, texts_of};
 
@@ -38,7 +38,7 @@ pub(crate) fn package(
     // their length.
     requires { packed_size packing.folders.items ≤ length packing.blocks.items }
     ensures made { (sources : List SourceFolder) → IsPacking packing.entry sources
-        → IsAnswer IsBytes result (package_of_parts command.now
+        → AgreesOrIsFault IsBytes result (package_of_parts command.now
         (scripts_view scripts.now) about.now sources) }
     // The tree is not called, so it did not fail.
     ensures disk { IsNotDisk result }

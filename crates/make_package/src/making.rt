@@ -3,7 +3,7 @@
 ghost use Rattle.base_core.specs.Read.{OnlyReads};
 ghost use Rattle.make_package.specs.Answers.{IsBytes, IsMadeRun};
 ghost use Rattle.make_package.specs.Making.{made_package};
-ghost use Rattle.package_files.specs.Runs.{Explains, IsAnswer};
+ghost use Rattle.package_files.specs.Runs.{AgreesOrIsFault, Explains};
 ghost use Rattle.std.specs.Prelude.{◌≡◌};
 
 use crate::assembly::package;
@@ -51,7 +51,7 @@ fn pack<T: Tree>(
     ensures tree { OnlyReads MakeFault.Disk (T.history tree.old) (T.history tree.new)
         (T.counts tree.old) (T.counts tree.new) result }
     ensures read { Explains (T.history tree.old) (λ read.
-        IsAnswer IsBytes result (made_package command.now names.now read)) }
+        AgreesOrIsFault IsBytes result (made_package command.now names.now read)) }
 {
     // Laws that the proof needs; they compute nothing.
     a_command_has_what_its_applet_may_have();

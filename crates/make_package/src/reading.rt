@@ -9,9 +9,9 @@ ghost use Rattle.command_core.specs.Files.{without_dot};
 ghost use Rattle.command_core.specs.Values.{script_file};
 ghost use Rattle.command_core.specs.declared.command.Applet.TheVariants.{Mkpkg};
 ghost use Rattle.command_core.specs.declared.values.TheConstants.{FILES, SCRIPT};
-ghost use Rattle.make_package.specs.Answers.{IsCutOff, IsFirstValue, AreBelow};
+ghost use Rattle.make_package.specs.Answers.{IsOkOrDiskOrMemory, IsFirstValue, AreBelow};
 ghost use Rattle.package_files.specs.Packed.{IsPacking};
-ghost use Rattle.package_files.specs.Runs.{Explains, IsAnswer};
+ghost use Rattle.package_files.specs.Runs.{AgreesOrIsFault, Explains};
 ghost use Rattle.make_package.specs.Scripts.{AreScripts, IsScript};
 ghost use Rattle.package_files.specs.Sources.{AreNamesFor, folders_below, values_with, script_at, scripts_from};
 ghost use Rattle.std.specs.Prelude.{◌≡◌, ◌++◌, ◌∷◌, [], ℕ, IfOk, IsTrue, OnOk};
@@ -34,7 +34,7 @@ pub(crate) fn list_names<T: Tree>(
     ensures tree { OnlyReads MakeFault.Disk (T.history tree.old) (T.history tree.new)
         (T.counts tree.old) (T.counts tree.new) result }
     // A listing can fail only by an I/O error of the tree or out of memory.
-    ensures cut { IsCutOff result }
+    ensures cut { IsOkOrDiskOrMemory result }
     // If the tree's files are observable, these are the names below the folder.
     ensures names { IfOk result (λ names. IfObservable (T.history tree.old) (λ v.
         AreBelow (values_with FILES values.now) v names)) }
@@ -61,7 +61,7 @@ pub(crate) fn pack_below<'a, T: Tree>(
     ensures tree { OnlyReads MakeFault.Disk (T.history tree.old) (T.history tree.new)
         (T.counts tree.old) (T.counts tree.new) result }
     ensures read { (n : ℕ) → Explains (T.history tree.old) (λ read.
-        IsAnswer IsPacking result (folders_below read n (values_with FILES values.now) names.now)) }
+        AgreesOrIsFault IsPacking result (folders_below read n (values_with FILES values.now) names.now)) }
 {
     match first_folder(values) {
         Some(value) => {
@@ -92,7 +92,7 @@ pub(crate) fn read_scripts<'a, T: Tree>(
     ensures tree { OnlyReads MakeFault.Disk (T.history tree.old) (T.history tree.new)
         (T.counts tree.old) (T.counts tree.new) result }
     ensures read { (n : ℕ) → Explains (T.history tree.old) (λ read.
-        IsAnswer AreScripts result (scripts_from read n (values_with SCRIPT values.entry.now))) }
+        AgreesOrIsFault AreScripts result (scripts_from read n (values_with SCRIPT values.entry.now))) }
 {
     let mut scripts = Vec::new(alloc);
     for i in 0..values.len() {
@@ -126,7 +126,7 @@ fn read_script<'a, T: Tree>(
     ensures tree { OnlyReads MakeFault.Disk (T.history tree.old) (T.history tree.new)
         (T.counts tree.old) (T.counts tree.new) result }
     ensures read { (n : ℕ) → Explains (T.history tree.old) (λ read.
-        IsAnswer IsScript result (script_at read n value.entry.now)) }
+        AgreesOrIsFault IsScript result (script_at read n value.entry.now)) }
 {
     let bytes = read_file(alloc, tree, value.place, file)?;
     let kind = value.script_type();

@@ -8,7 +8,7 @@ use Rattle.tell_core.specs.installed_info.declared.telling.ReportAndRefusal.{Rep
 use Rattle.make_core.specs.make_info.Reads.{Reads}
 use Rattle.report_core.specs.declared.refusal.Refusal.{Refusal}
 use Rattle.outcome.specs.Commands.{effect_outcome}
-use Rattle.outcome.specs.Effect.{Effect, Changes, Tells, effect_of}
+use Rattle.outcome.specs.Effect.{Effect, Changes, AsksRoot, effect_of}
 use Rattle.outcome.specs.Given.{Given}
 use Rattle.outcome.specs.OutcomeOfReport.{outcome_of_report}
 use Rattle.tell_core.specs.ReportForCommand.{report_for_command}
@@ -20,7 +20,7 @@ pub change_is : (applet : Applet) (command : CommandLine) (given : Given) (read 
 change_is applet command given read files changes = sym (ap (λ (e : Effect). effect_outcome e applet command given read files) changes)
 
 -- one that only reports
-pub report_is : (applet : Applet) (command : CommandLine) (given : Given) (read : Reads) (files : Files) → effect_of applet ≡ Tells → outcome_of_report files (report_for_command command read) ≡ effect_outcome (effect_of applet) applet command given read files
+pub report_is : (applet : Applet) (command : CommandLine) (given : Given) (read : Reads) (files : Files) → effect_of applet ≡ AsksRoot → outcome_of_report files (report_for_command command read) ≡ effect_outcome (effect_of applet) applet command given read files
 report_is applet command given read files tells = sym (ap (λ (e : Effect). effect_outcome e applet command given read files) tells)
 
 -- it leaves the files, and commits nothing

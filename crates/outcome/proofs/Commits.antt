@@ -23,7 +23,7 @@ use Rattle.outcome.proofs.MadeSound.{IsRefusalOrMade, index_fine, package_fine}
 use Rattle.outcome.specs.Changing.{change_outcome}
 use Rattle.outcome.specs.Given.{Given}
 use Rattle.outcome.specs.Commands.{IsOutcomeOf, IsOutcomeUnlessBadIntent, effect_outcome, reads_in}
-use Rattle.outcome.specs.Effect.{Effect, Computes, Reads as OnlyReads, Tells, Makes, Changes, does_only_read, effect_by, effect_of, reads_only}
+use Rattle.outcome.specs.Effect.{Effect, Computes, OnlyReadsFiles, AsksRoot, Makes, Changes, does_only_read, effect_by, effect_of, reads_only}
 use Rattle.outcome.specs.Make.{files_with_output, index_line, make_outcome, unless_reserved}
 use Rattle.outcome.specs.Outcome.{Outcome, commit_report, just_refusal}
 use Rattle.outcome.specs.Work.{recovery_fault, work_files}
@@ -89,22 +89,22 @@ changes_by (Ok command) files o changes is = changes_unless (recovery_fault (eff
 
 -- ---- a command that only reports
 
-tells_unless : (fault : Option Cause) (command : CommandLine) (files : Files) (o : Outcome) → effect_of command.applet ≡ Tells → IsOutcomeUnlessBadIntent fault command files o → o.commits ≡ false
+tells_unless : (fault : Option Cause) (command : CommandLine) (files : Files) (o : Outcome) → effect_of command.applet ≡ AsksRoot → IsOutcomeUnlessBadIntent fault command files o → o.commits ≡ false
 tells_unless (Some cause) command files o tells is = ap (λ (p : Outcome). p.commits) is
 tells_unless None command files o tells (given, are, is) =
     let work = work_files (effect_of command.applet) files in
     ap (λ (p : Outcome). p.commits) (is ∙ sym (report_is command.applet command given (reads_in work) work tells))
     ∙ told_commits work (report_for_command command (reads_in work))
 
-tells_by : (read : Result CommandLine ℕ) (files : Files) (o : Outcome) → effect_by read ≡ Tells → IsOutcomeOf read files o → o.commits ≡ false
+tells_by : (read : Result CommandLine ℕ) (files : Files) (o : Outcome) → effect_by read ≡ AsksRoot → IsOutcomeOf read files o → o.commits ≡ false
 tells_by (Err place) files o tells is = cc
 tells_by (Ok command) files o tells is = tells_unless (recovery_fault (effect_of command.applet) files) command files o tells is
 
 -- it commits nothing
-pub teller_commits : (words : List (List ℕ)) (files : Files) (o : Outcome) → effect_by (command_of words) ≡ Tells → IsOutcomeOf (command_of words) files o → o.commits ≡ false
+pub teller_commits : (words : List (List ℕ)) (files : Files) (o : Outcome) → effect_by (command_of words) ≡ AsksRoot → IsOutcomeOf (command_of words) files o → o.commits ≡ false
 teller_commits words files o tells is = tells_by (command_of words) files o tells is
 
-tells_files : (fault : Option Cause) (command : CommandLine) (files : Files) (o : Outcome) → effect_of command.applet ≡ Tells → IsOutcomeUnlessBadIntent fault command files o → (o.files ≡ files) ⊎ (o.files ≡ work_files Tells files)
+tells_files : (fault : Option Cause) (command : CommandLine) (files : Files) (o : Outcome) → effect_of command.applet ≡ AsksRoot → IsOutcomeUnlessBadIntent fault command files o → (o.files ≡ files) ⊎ (o.files ≡ work_files AsksRoot files)
 tells_files (Some cause) command files o tells is = inl (ap (λ (p : Outcome). p.files) is)
 tells_files None command files o tells (given, are, is) =
     let work = work_files (effect_of command.applet) files in
@@ -114,12 +114,12 @@ tells_files None command files o tells (given, are, is) =
     ∙ ap (λ (e : Effect). work_files e files) tells
     )
 
-files_by : (read : Result CommandLine ℕ) (files : Files) (o : Outcome) → effect_by read ≡ Tells → IsOutcomeOf read files o → (o.files ≡ files) ⊎ (o.files ≡ work_files Tells files)
+files_by : (read : Result CommandLine ℕ) (files : Files) (o : Outcome) → effect_by read ≡ AsksRoot → IsOutcomeOf read files o → (o.files ≡ files) ⊎ (o.files ≡ work_files AsksRoot files)
 files_by (Err place) files o tells is = cc
 files_by (Ok command) files o tells is = tells_files (recovery_fault (effect_of command.applet) files) command files o tells is
 
 -- and leaves the files that a recovery leaves
-pub teller_files : (words : List (List ℕ)) (files : Files) (o : Outcome) → effect_by (command_of words) ≡ Tells → IsOutcomeOf (command_of words) files o → (o.files ≡ files) ⊎ (o.files ≡ work_files Tells files)
+pub teller_files : (words : List (List ℕ)) (files : Files) (o : Outcome) → effect_by (command_of words) ≡ AsksRoot → IsOutcomeOf (command_of words) files o → (o.files ≡ files) ⊎ (o.files ≡ work_files AsksRoot files)
 teller_files words files o tells is = files_by (command_of words) files o tells is
 
 -- ---- a refusal
@@ -128,18 +128,18 @@ refused_maker : (o : Outcome) → CommitsUnlessRefused o → IsSome o.refusal �
 refused_maker o h some = h ∙ ap not some
 
 -- a command only reads, tells, makes a file, or changes what is installed
-effect_cases : (effect : Effect) → (IsTrue (does_only_read effect)) ⊎ ((effect ≡ Tells) ⊎ ((effect ≡ Makes) ⊎ (effect ≡ Changes)))
+effect_cases : (effect : Effect) → (IsTrue (does_only_read effect)) ⊎ ((effect ≡ AsksRoot) ⊎ ((effect ≡ Makes) ⊎ (effect ≡ Changes)))
 effect_cases Computes = inl refl
-effect_cases OnlyReads = inl refl
-effect_cases Tells = inr (inl refl)
+effect_cases OnlyReadsFiles = inl refl
+effect_cases AsksRoot = inr (inl refl)
 effect_cases Makes = inr (inr (inl refl))
 effect_cases Changes = inr (inr (inr refl))
 
-line_cases : (read : Result CommandLine ℕ) → (IsTrue (reads_only read)) ⊎ ((effect_by read ≡ Tells) ⊎ ((effect_by read ≡ Makes) ⊎ (effect_by read ≡ Changes)))
+line_cases : (read : Result CommandLine ℕ) → (IsTrue (reads_only read)) ⊎ ((effect_by read ≡ AsksRoot) ⊎ ((effect_by read ≡ Makes) ⊎ (effect_by read ≡ Changes)))
 line_cases (Err place) = inl refl
 line_cases (Ok command) = effect_cases (effect_of command.applet)
 
-pub refusal_commits : (words : List (List ℕ)) (files : Files) (o : Outcome) → IsOutcomeOf (command_of words) files o → (IsTrue (reads_only (command_of words)) → o.commits ≡ false) → (effect_by (command_of words) ≡ Tells → o.commits ≡ false) → (effect_by (command_of words) ≡ Makes → CommitsUnlessRefused o) → IsSome o.refusal → o.commits ≡ false
+pub refusal_commits : (words : List (List ℕ)) (files : Files) (o : Outcome) → IsOutcomeOf (command_of words) files o → (IsTrue (reads_only (command_of words)) → o.commits ≡ false) → (effect_by (command_of words) ≡ AsksRoot → o.commits ≡ false) → (effect_by (command_of words) ≡ Makes → CommitsUnlessRefused o) → IsSome o.refusal → o.commits ≡ false
 refusal_commits words files o is reads tell makes some = elim (line_cases (command_of words)) as (λ _. o.commits ≡ false) [
   | inl only ↦ reads only
   | inr (inl tells) ↦ tell tells

@@ -21,7 +21,7 @@ use Rattle.make_core.specs.make_package.Making.{made_package}
 use Rattle.report_core.specs.declared.refusal.Refusal.{Refusal}
 use Rattle.report_core.specs.declared.refusal.Refusal.TheVariants.{Reserved, ResultTooLarge}
 use Rattle.root_names.specs.RootNames.{repositories_name}
-use Rattle.words_core.specs.Grammar.{asked_at, asked_or_err, command_of, line_command, next_after, site_at, spelled_or_asked, takes_option, unless_at, verdict}
+use Rattle.words_core.specs.Grammar.{asked_at, asked_or_err, command_of, command_of_reading, line_command, next_after, site_at, spelled_or_asked, takes_option, unless_at}
 use Rattle.words_core.specs.Options.{asked_by}
 use Rattle.outcome.proofs.Existing.{work_within}
 use Rattle.outcome.proofs.Looking.{read_leaves}
@@ -129,11 +129,11 @@ line_makes words (Ok command) makes = makes
 line_makes words (Err place) makes = asked_makes words place (asked_at words place) (place_asks (takes_option (next_after (take (place - 1) words))) (slice_get words (place - 1)))
 
 mkpkg_line : (words : List (List ℕ)) → DoMake (line_command (codes "mkpkg" ∷ words))
-unfolding line_command site_at verdict
+unfolding line_command site_at command_of_reading
 mkpkg_line words = unless_makes _ _ _ _ refl
 
 mkndx_line : (words : List (List ℕ)) → DoMake (line_command (codes "mkndx" ∷ words))
-unfolding line_command site_at verdict
+unfolding line_command site_at command_of_reading
 mkndx_line words = unless_makes _ _ _ _ refl
 
 mkpkg_makes : (words : List (List ℕ)) → DoMake (command_of (codes "mkpkg" ∷ words))

@@ -25,8 +25,8 @@ use Rattle.outcome.proofs.Clashes.{HaveClash, HaveOneClash, clash_exists, clash_
 use Rattle.outcome.proofs.Recovered.{unstaged_within}
 use Rattle.outcome.specs.Given.{Given, IsChosenFor, IsClashBy, IsGiven, IsListingFor}
 use Rattle.outcome.specs.Commands.{IsOutcomeOf, IsOutcomeOn, IsOutcomeUnlessBadIntent, effect_outcome, reads_in}
-use Rattle.outcome.specs.Effect.{Effect, Computes, Reads as OnlyReads, Tells, Makes, Changes, effect_of}
-use Rattle.outcome.specs.Make.{IsListing, files_below}
+use Rattle.outcome.specs.Effect.{Effect, Computes, OnlyReadsFiles, AsksRoot, Makes, Changes, effect_of}
+use Rattle.outcome.specs.Make.{AreNamesBelowOption, files_below}
 use Rattle.outcome.specs.Outcome.{Outcome, just_refusal}
 use Rattle.outcome.specs.Work.{recovery_fault, work_files}
 
@@ -45,7 +45,7 @@ within_below folder files within h q some =
       | false ↦ λ s. absurd (false≢true s)
     ] some
 
-listing_exists : HaveList → (values : List OptionValue) (files : Files) (within : List (List ℕ)) → HasNamesAmong within files → (names : List (List ℕ)) × IsListing values files names
+listing_exists : HaveList → (values : List OptionValue) (files : Files) (within : List (List ℕ)) → HasNamesAmong within files → (names : List (List ℕ)) × AreNamesBelowOption values files names
 listing_exists have [] files within h = ([], refl)
 listing_exists have (v ∷ values) files within h = have (files_below (without_dot v.text) files) within (within_below (without_dot v.text) files within h)
 
@@ -55,8 +55,8 @@ names_exist have other command files within h = ([], refl)
 
 pub work_within : (effect : Effect) (files : Files) (within : List (List ℕ)) → HasNamesAmong within files → (names : List (List ℕ)) × HasNamesAmong names (work_files effect files)
 work_within Computes files within h = (within, h)
-work_within OnlyReads files within h = (within, h)
-work_within Tells files within h = unstaged_within files within h
+work_within OnlyReadsFiles files within h = (within, h)
+work_within AsksRoot files within h = unstaged_within files within h
 work_within Makes files within h = unstaged_within files within h
 work_within Changes files within h = unstaged_within files within h
 
@@ -94,7 +94,7 @@ pub outcome_by : HaveList → HaveChoice → HaveClash → (read : Result Comman
 outcome_by have choose clashes (Err place) files within h = (just_refusal files (Usage place), refl)
 outcome_by have choose clashes (Ok command) files within h = outcome_unless have choose clashes (recovery_fault (effect_of command.applet) files) command files within h
 
-pub listing_one : HaveOneList → (values : List OptionValue) (files : Files) (a b : List (List ℕ)) → IsListing values files a → IsListing values files b → a ≡ b
+pub listing_one : HaveOneList → (values : List OptionValue) (files : Files) (a b : List (List ℕ)) → AreNamesBelowOption values files a → AreNamesBelowOption values files b → a ≡ b
 listing_one one [] files a b x y = x ∙ sym y
 listing_one one (v ∷ values) files a b x y = one (files_below (without_dot v.text) files) a b x y
 

@@ -27,7 +27,7 @@ use Rattle.report_core.specs.declared.refusal.Refusal.TheVariants.{NotInstalled}
 use Rattle.outcome.proofs.Applets.{change_is}
 use Rattle.outcome.proofs.Ends.{HasKnownRefusal, inputs_stated, pool_stated}
 use Rattle.outcome.proofs.PackageRefusals.{refusal_stated}
-use Rattle.outcome.specs.ChangeEnd.{IsChangeEnd, IsEndBy, IsRunEnd, is_input_refusal, is_package_refusal}
+use Rattle.outcome.specs.ChangeEnd.{IsChangeEnd, IsEndBy, IsRunEnd, is_input_refusal, is_refusal_after_choice}
 use Rattle.outcome.specs.Changing.{change_outcome}
 use Rattle.outcome.specs.Commands.{IsOutcomeOf, IsOutcomeOn, IsOutcomeUnlessBadIntent, reads_in}
 use Rattle.outcome.specs.Effect.{Changes, Effect, effect_of}
@@ -90,7 +90,7 @@ end_by known command files clash s false simulates (Ok done) is =
     record { outcome = refl; rest = rest; report = lines; simulated = λ simulated. absurd (true≢false (sym simulated ∙ simulates)) }
 end_by known command files clash s true simulates (Err refusal) is = absurd (cc (is))
 end_by known command files clash s false simulates (Err refusal) is =
-    (subst (HasKnownRefusal is_package_refusal) is (refusal_stated s.inputs s.replacement (wishes_of command) (reads_in files) clash files), refl)
+    (subst (HasKnownRefusal is_refusal_after_choice) is (refusal_stated s.inputs s.replacement (wishes_of command) (reads_in files) clash files), refl)
 
 -- ---- by what is chosen
 

@@ -37,7 +37,7 @@ use Rattle.outcome.proofs.Applets.{told_files}
 use Rattle.outcome.specs.Changing.{change_outcome}
 use Rattle.outcome.specs.Commands.{IsOutcomeOf, IsOutcomeOn, IsOutcomeUnlessBadIntent, computing_outcome, effect_outcome, making_outcome, reading_outcome, reads_in}
 use Rattle.outcome.specs.Dump.{adbdump, dump_of, dump_outcome, text_outcome}
-use Rattle.outcome.specs.Effect.{Effect, Changes, Computes, Makes, Reads as OnlyReads, Tells, effect_by, effect_of}
+use Rattle.outcome.specs.Effect.{Effect, Changes, Computes, Makes, OnlyReadsFiles, AsksRoot, effect_by, effect_of}
 use Rattle.outcome.specs.Generate.{adbgen, container_outcome, generate_outcome}
 use Rattle.outcome.specs.Given.{Given}
 use Rattle.outcome.specs.Make.{files_with_output, index_line, make_outcome, unless_reserved}
@@ -181,8 +181,8 @@ change_idle rooted idle command files chosen clash (Err refusal) is nothing = re
 
 effect_idle : HaveRoot → HaveIdle → (effect : Effect) (applet : Applet) (command : CommandLine) (given : Given) (files : Files) → LeavesIdle files (effect_outcome effect applet command given (reads_in files) files)
 effect_idle rooted idle Computes applet command given files = computing_idle applet command files
-effect_idle rooted idle OnlyReads applet command given files = reading_idle applet command (reads_in files) files
-effect_idle rooted idle Tells applet command given files = λ nothing. told_files files (report_for_command command (reads_in files))
+effect_idle rooted idle OnlyReadsFiles applet command given files = reading_idle applet command (reads_in files) files
+effect_idle rooted idle AsksRoot applet command given files = λ nothing. told_files files (report_for_command command (reads_in files))
 effect_idle rooted idle Makes applet command given files = making_idle applet command given.names (reads_in files) files
 effect_idle rooted idle Changes applet command given files = change_idle rooted idle command files given.chosen given.clash (change_of_command command (reads_in files) files given.chosen given.clash) refl
 

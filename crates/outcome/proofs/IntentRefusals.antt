@@ -12,16 +12,16 @@ use Rattle.command_core.specs.declared.command.Applet.TheVariants.{Demo, Mkndx, 
 use Rattle.engine_core.specs.Changed.{Selected, change_of_selected}
 use Rattle.tell_core.specs.installed_info.declared.telling.ReportAndRefusal.{ReportAndRefusal}
 use Rattle.make_core.specs.make_info.Output.{output_name}
-use Rattle.make_core.specs.make_info.Reads.{Reads as Reading}
+use Rattle.make_core.specs.make_info.Reads.{Reads}
 use Rattle.make_core.specs.make_info.declared.fault.MakeFault.{MakeFault}
 use Rattle.make_core.specs.make_info.declared.fault.MakeFault.TheVariants.{FileMissing as NoFile, FileBad as BadFile, InfoBad as BadInfo, TooLarge, Disk, Memory}
 use Rattle.report_core.specs.declared.refusal.Refusal.{Refusal}
 use Rattle.report_core.specs.declared.refusal.Refusal.TheVariants.{IntentBad, Reserved, Unsatisfied}
 use Rattle.tell_core.specs.ReportForCommand.{report_for_command}
 use Rattle.words_core.specs.Grammar.{command_of}
-use Rattle.outcome.specs.ChangeEnd.{IsChangeEnd, IsEndBy, is_input_refusal, is_package_refusal}
+use Rattle.outcome.specs.ChangeEnd.{IsChangeEnd, IsEndBy, is_input_refusal, is_refusal_after_choice}
 use Rattle.outcome.specs.Commands.{IsOutcomeOf, IsOutcomeOn, IsOutcomeUnlessBadIntent, effect_outcome, reads_in}
-use Rattle.outcome.specs.Effect.{Effect, Computes, Reads, Tells, Makes, Changes, does_recover, effect_by, effect_of}
+use Rattle.outcome.specs.Effect.{Effect, Computes, OnlyReadsFiles, AsksRoot, Makes, Changes, does_recover, effect_by, effect_of}
 use Rattle.outcome.specs.Given.{Given}
 use Rattle.outcome.specs.Make.{make_outcome, unless_reserved}
 use Rattle.outcome.specs.Outcome.{Outcome, just_refusal}
@@ -48,8 +48,8 @@ refused_other files refusal other cause is = other cause (some_same refusal (Int
 input_other : (refusal : Refusal) → is_input_refusal refusal ≡ true → IsOther refusal
 input_other refusal stated cause is = false≢true (sym (ap is_input_refusal is) ∙ stated)
 
-package_other : (refusal : Refusal) → is_package_refusal refusal ≡ true → IsOther refusal
-package_other refusal stated cause is = false≢true (sym (ap is_package_refusal is) ∙ stated)
+package_other : (refusal : Refusal) → is_refusal_after_choice refusal ≡ true → IsOther refusal
+package_other refusal stated cause is = false≢true (sym (ap is_refusal_after_choice is) ∙ stated)
 
 end_other : (command : CommandLine) (files : Files) (s : Selected) (o : Outcome) (result : Result ChangeDone Refusal) → IsEndBy command files s result o → NamesNoIntent o
 end_other command files s o (Ok done) reported = subst NamesNoIntent (sym reported.outcome) (λ cause is. cc (is))
@@ -79,16 +79,16 @@ made_other output report files (Err (TooLarge bytes values)) = reserved_other fi
 made_other output report files (Err Disk) = λ cause is. cc (is)
 made_other output report files (Err Memory) = λ cause is. cc (is)
 
-maker_other : (applet : Applet) (command : CommandLine) (given : Given) (read : Reading) (files : Files) → effect_of applet ≡ Makes → NamesNoIntent (effect_outcome (effect_of applet) applet command given read files)
+maker_other : (applet : Applet) (command : CommandLine) (given : Given) (read : Reads) (files : Files) → effect_of applet ≡ Makes → NamesNoIntent (effect_outcome (effect_of applet) applet command given read files)
 maker_other Mkpkg command given read files makes = made_other (output_name command) _ files _
 maker_other Mkndx command given read files makes = made_other (output_name command) _ files _
 maker_other other command given read files makes = absurd (cc (makes))
 
 -- ---- a report
 
-module _ (refused : (c : CommandLine) (read : Reading) (refusal : Refusal) → report_for_command c read ≡ Err refusal → is_input_refusal refusal ≡ true)
-    (following_refusal : (c : CommandLine) (read : Reading) (done : ReportAndRefusal) (refusal : Refusal) → report_for_command c read ≡ Ok done → done.following_refusal ≡ Some refusal → is_input_refusal refusal ≡ true) where
-  report_other : (command : CommandLine) (read : Reading) (files : Files) (told : Result ReportAndRefusal Refusal) → report_for_command command read ≡ told → NamesNoIntent (outcome_of_report files told)
+module _ (refused : (c : CommandLine) (read : Reads) (refusal : Refusal) → report_for_command c read ≡ Err refusal → is_input_refusal refusal ≡ true)
+    (following_refusal : (c : CommandLine) (read : Reads) (done : ReportAndRefusal) (refusal : Refusal) → report_for_command c read ≡ Ok done → done.following_refusal ≡ Some refusal → is_input_refusal refusal ≡ true) where
+  report_other : (command : CommandLine) (read : Reads) (files : Files) (told : Result ReportAndRefusal Refusal) → report_for_command command read ≡ told → NamesNoIntent (outcome_of_report files told)
   report_other command read files (Ok done) is = λ cause beside. input_other (IntentBad cause) (following_refusal command read done (IntentBad cause) is beside) cause refl
   report_other command read files (Err refusal) is = refused_other files refusal (input_other refusal (refused command read refusal is))
 
@@ -97,8 +97,8 @@ module _ (refused : (c : CommandLine) (read : Reading) (refusal : Refusal) → r
   module _ (ends : (command : CommandLine) (files : Files) (o : Outcome) → effect_of command.applet ≡ Changes → IsOutcomeOn command files o → IsChangeEnd command files o) where
     over_other : (command : CommandLine) (files : Files) (o : Outcome) (effect : Effect) → effect_of command.applet ≡ effect → does_recover effect ≡ true → IsOutcomeOn command files o → NamesNoIntent o
     over_other command files o Computes at recovers over = absurd (false≢true recovers)
-    over_other command files o Reads at recovers over = absurd (false≢true recovers)
-    over_other command files o Tells at recovers (given, are, is) =
+    over_other command files o OnlyReadsFiles at recovers over = absurd (false≢true recovers)
+    over_other command files o AsksRoot at recovers (given, are, is) =
         subst NamesNoIntent (report_is command.applet command given (reads_in files) files at ∙ sym is) (report_other command (reads_in files) files (report_for_command command (reads_in files)) refl)
     over_other command files o Makes at recovers (given, are, is) = subst NamesNoIntent (sym is) (maker_other command.applet command given (reads_in files) files at)
     over_other command files o Changes at recovers over = change_other command files o (ends command files o at over)

@@ -16,7 +16,7 @@ use Rattle.make_core.specs.make_info.Reads.{Reads}
 use Rattle.report_core.specs.declared.refusal.Refusal.{Refusal}
 use Rattle.outcome.specs.Commands.{IsOutcomeOf, IsOutcomeOn, IsOutcomeUnlessBadIntent, computing_outcome, effect_outcome, reading_outcome, reads_in}
 use Rattle.outcome.specs.Dump.{adbdump, dump_of, dump_outcome, text_outcome}
-use Rattle.outcome.specs.Effect.{Effect, Changes, Computes, Makes, Reads as OnlyReads, Tells, does_only_read, effect_of, reads_only}
+use Rattle.outcome.specs.Effect.{Effect, Changes, Computes, Makes, OnlyReadsFiles, AsksRoot, does_only_read, effect_of, reads_only}
 use Rattle.outcome.specs.Generate.{adbgen, container_outcome, generate_outcome}
 use Rattle.outcome.specs.Given.{Given}
 use Rattle.outcome.specs.Outcome.{Outcome, outcome_of, report_unless}
@@ -75,8 +75,8 @@ reading_leaves other command read files = (refl, refl)
 
 pub look_leaves : (effect : Effect) (applet : Applet) (command : CommandLine) (given : Given) (files : Files) → does_only_read effect ≡ true → LeavesFiles files (effect_outcome effect applet command given (reads_in files) files)
 look_leaves Computes applet command given files reads = computing_leaves applet command files
-look_leaves OnlyReads applet command given files reads = reading_leaves applet command (reads_in files) files
-look_leaves Tells applet command given files reads = absurd (false≢true reads)
+look_leaves OnlyReadsFiles applet command given files reads = reading_leaves applet command (reads_in files) files
+look_leaves AsksRoot applet command given files reads = absurd (false≢true reads)
 look_leaves Makes applet command given files reads = absurd (false≢true reads)
 look_leaves Changes applet command given files reads = absurd (false≢true reads)
 
@@ -84,15 +84,15 @@ look_leaves Changes applet command given files reads = absurd (false≢true read
 
 no_fault : (effect : Effect) (files : Files) → does_only_read effect ≡ true → recovery_fault effect files ≡ None
 no_fault Computes files reads = refl
-no_fault OnlyReads files reads = refl
-no_fault Tells files reads = absurd (false≢true reads)
+no_fault OnlyReadsFiles files reads = refl
+no_fault AsksRoot files reads = absurd (false≢true reads)
 no_fault Makes files reads = absurd (false≢true reads)
 no_fault Changes files reads = absurd (false≢true reads)
 
 same_files : (effect : Effect) (files : Files) → does_only_read effect ≡ true → work_files effect files ≡ files
 same_files Computes files reads = refl
-same_files OnlyReads files reads = refl
-same_files Tells files reads = absurd (false≢true reads)
+same_files OnlyReadsFiles files reads = refl
+same_files AsksRoot files reads = absurd (false≢true reads)
 same_files Makes files reads = absurd (false≢true reads)
 same_files Changes files reads = absurd (false≢true reads)
 

@@ -18,11 +18,11 @@ use Rattle.make_core.specs.package_files.Folders.{FolderListing, folders_of, las
 use Rattle.make_core.specs.make_index.Index.{and_entries, found_entries, found_entry, index_container, index_of, index_of_found, value_of_index, entry_unless, description_in, made_index}
 use Rattle.make_core.specs.make_index.EntryOrder.{entry_cmp}
 use Rattle.base_core.specs.Sorted.{sorted_by}
-use Rattle.make_core.specs.make_info.Information.{InfoItem, information_value, information, replaces_priority}
+use Rattle.make_core.specs.make_info.Information.{FieldWithValue, information_value, information, replaces_priority}
 use Rattle.make_core.specs.make_package.Making.{container_unless, made_package, or_info_bad, package_container, package_of_parts}
 use Rattle.make_core.specs.make_info.Output.{output_name}
 use Rattle.make_core.specs.package_files.Package.{Script, Source, SourceFolder, contents_of_folders, installed_size, value_of_package}
-use Rattle.make_core.specs.make_index.Files.{AreFiles}
+use Rattle.make_core.specs.make_index.Files.{FindOnlyFiles}
 use Rattle.make_core.specs.package_files.Sources.{AreNamesFor, and_then, each_from, file_at, sources_from, folder_at, folders_below, found_at, values_with, script_at, scripts_from, texts_of}
 use Rattle.make_core.specs.make_info.Reads.{Reads}
 use Rattle.make_core.specs.make_info.declared.fault.MakeFault.{MakeFault}
@@ -43,8 +43,8 @@ use Rattle.engine_core.proofs.journal_core.Below.{is_below}
 use Rattle.outcome.proofs.Listings.{if_some}
 use Rattle.outcome.specs.Given.{Given, IsListingFor}
 use Rattle.outcome.specs.Commands.{IsOutcomeOf, IsOutcomeUnlessBadIntent, effect_outcome, reads_in}
-use Rattle.outcome.specs.Effect.{Effect, Computes, Reads as OnlyReads, Tells, Makes, Changes, effect_of, output, output_by, output_if}
-use Rattle.outcome.specs.Make.{IsListing, files_below, index_line, make_outcome, mkndx, mkpkg}
+use Rattle.outcome.specs.Effect.{Effect, Computes, OnlyReadsFiles, AsksRoot, Makes, Changes, effect_of, output, output_by, output_if}
+use Rattle.outcome.specs.Make.{AreNamesBelowOption, files_below, index_line, make_outcome, mkndx, mkpkg}
 use Rattle.outcome.specs.Outcome.{Outcome, commit_report, just_refusal}
 use Rattle.outcome.specs.Sound.{IsSoundAt}
 use Rattle.outcome.specs.Work.{recovery_fault, work_files}
@@ -54,7 +54,7 @@ abbrev pub SoundPackage : Type 0
 SoundPackage = (command : CommandLine) (names : List (List ℕ)) (read : Reads) (bytes : List ℕ) → AreNamesFor (values_with FILES command.values) names → made_package command names read ≡ Ok bytes → length bytes < 2 ^ 64 → container_fault bytes ≡ None
 
 abbrev pub SoundIndex : Type 0
-SoundIndex = (command : CommandLine) (read : Reads) (bytes : List ℕ) → AreFiles read 0 command.operands → made_index command read ≡ Ok bytes → container_fault bytes ≡ None
+SoundIndex = (command : CommandLine) (read : Reads) (bytes : List ℕ) → FindOnlyFiles read 0 command.operands → made_index command read ≡ Ok bytes → container_fault bytes ≡ None
 
 -- ---- the names below a folder are names below it
 
@@ -69,13 +69,13 @@ names_below folder files names good are = record {
   each = All-weaker (Contains names) (IsNameBelow folder) (λ q here. name_below folder files good q ((are.each q).0 here)) names (All-contains_itself names);
 }
 
-names_for : (values : List OptionValue) (files : Files) (names : List (List ℕ)) → AreNamedFiles files → IsListing values files names → AreNamesFor values names
+names_for : (values : List OptionValue) (files : Files) (names : List (List ℕ)) → AreNamedFiles files → AreNamesBelowOption values files names → AreNamesFor values names
 names_for [] files names good are = tt
 names_for (folder ∷ values) files names good are = names_below (without_dot folder.text) files names good are
 
 -- ---- what reads find in the files are files
 
-files_found : (files : Files) → AreNamedFiles files → (n : ℕ) (operands : List Operand) → AreFiles (reads_in files) n operands
+files_found : (files : Files) → AreNamedFiles files → (n : ℕ) (operands : List Operand) → FindOnlyFiles (reads_in files) n operands
 files_found files good n [] = tt
 files_found files good n (o ∷ operands) = (good.each (without_dot o.text), files_found files good (n + 1) operands)
 
@@ -112,7 +112,7 @@ found_fine : (place : ℕ) (found : Option (List ℕ)) → IsRefusalOrMade (foun
 found_fine place None = tt
 found_fine place (Some bytes) = tt
 
-info_fine : (r : Result (List InfoItem) ℕ) → IsRefusalOrMade (or_info_bad r)
+info_fine : (r : Result (List FieldWithValue) ℕ) → IsRefusalOrMade (or_info_bad r)
 info_fine (Ok items) = tt
 info_fine (Err place) = tt
 
@@ -233,7 +233,7 @@ stands_at files output name report result fine is =
 
 -- ---- the outcome of a command
 
-package_sound : SoundPackage → (command : CommandLine) (names : List (List ℕ)) (files : Files) (name : List ℕ) → AreNamedFiles files → IsListing (values_with FILES command.values) files names → output_name command ≡ Some name
+package_sound : SoundPackage → (command : CommandLine) (names : List (List ℕ)) (files : Files) (name : List ℕ) → AreNamedFiles files → AreNamesBelowOption (values_with FILES command.values) files names → output_name command ≡ Some name
     → (mkpkg (reads_in files) files command names).refusal ≡ None → IsSoundAt name (mkpkg (reads_in files) files command names).files
 package_sound law command names files name good are is none =
     let read : Reads = reads_in files in
@@ -259,8 +259,8 @@ StayNamed = (files : Files) → AreNamedFiles files → AreNamedFiles (unstaged_
 
 work_named : StayNamed → (effect : Effect) (files : Files) → AreNamedFiles files → AreNamedFiles (work_files effect files)
 work_named stay Computes files good = good
-work_named stay OnlyReads files good = good
-work_named stay Tells files good = stay files good
+work_named stay OnlyReadsFiles files good = good
+work_named stay AsksRoot files good = stay files good
 work_named stay Makes files good = stay files good
 work_named stay Changes files good = stay files good
 

@@ -26,14 +26,14 @@ use Rattle.tell_core.specs.candidate_core.Candidates.{Candidate, is_same_id}
 use Rattle.report_core.specs.Reports.{Change}
 use Rattle.report_core.specs.declared.refusal.Refusal.{Refusal}
 use Rattle.outcome.proofs.Ends.{HasKnownRefusal, then_stated}
-use Rattle.outcome.specs.ChangeEnd.{is_package_refusal}
+use Rattle.outcome.specs.ChangeEnd.{is_refusal_after_choice}
 
 abbrev IsPackagesResult : {A : Type 0} → Result A Refusal → Type 0
-IsPackagesResult r = HasKnownRefusal is_package_refusal r
+IsPackagesResult r = HasKnownRefusal is_refusal_after_choice r
 
 -- ---- a package that comes
 
-test_stated : {A : Type 0} (test : Bool) (refusal : Refusal) (next : Result A Refusal) → is_package_refusal refusal ≡ true → IsPackagesResult next → IsPackagesResult (if test then Err refusal else next)
+test_stated : {A : Type 0} (test : Bool) (refusal : Refusal) (next : Result A Refusal) → is_refusal_after_choice refusal ≡ true → IsPackagesResult next → IsPackagesResult (if test then Err refusal else next)
 test_stated true refusal next stated h = stated
 test_stated false refusal next stated h = h
 
@@ -73,7 +73,7 @@ selected_stated : (read : Reads) (repositories : List Repository) (no_scripts : 
     → IsPackagesResult (name_by_selected read repositories no_scripts n name change before selected)
 selected_stated read repositories no_scripts n name change before None = goes_stated no_scripts name change before
 selected_stated read repositories no_scripts n name change before (Some c) =
-    then_stated is_package_refusal (added_package_by_path read n c (package_file_of repositories c)) _ (path_stated read n c (package_file_of repositories c)) (λ pkg.
+    then_stated is_refusal_after_choice (added_package_by_path read n c (package_file_of repositories c)) _ (path_stated read n c (package_file_of repositories c)) (λ pkg.
     script_stated no_scripts name pkg.value (scripts_of_change change) (Some (added_member_found pkg)))
 
 change_stated : (read : Reads) (repositories : List Repository) (no_scripts : Bool) (n : ℕ) (name : List ℕ) (change : Option Change) (before : Option Plain) (selected : Option Candidate)
@@ -84,8 +84,8 @@ change_stated read repositories no_scripts n name (Some change) before selected 
 names_stated : (r : Replacement) (read : Reads) (repositories : List Repository) (no_scripts : Bool) (n : ℕ) (names : List (List ℕ)) → IsPackagesResult (names_after r read repositories no_scripts n names)
 names_stated r read repositories no_scripts n [] = tt
 names_stated r read repositories no_scripts n (name ∷ names) =
-    then_stated is_package_refusal (name_after r read repositories no_scripts n name) _ (change_stated read repositories no_scripts n name _ _ _) (λ first.
-    then_stated is_package_refusal (names_after r read repositories no_scripts (suc n) names) _ (names_stated r read repositories no_scripts (suc n) names) (λ others. tt))
+    then_stated is_refusal_after_choice (name_after r read repositories no_scripts n name) _ (change_stated read repositories no_scripts n name _ _ _) (λ first.
+    then_stated is_refusal_after_choice (names_after r read repositories no_scripts (suc n) names) _ (names_stated r read repositories no_scripts (suc n) names) (λ others. tt))
 
 members_stated : (r : Replacement) (read : Reads) (repositories : List Repository) (no_scripts : Bool) → IsPackagesResult (members_after r read repositories no_scripts)
 unfolding members_after
@@ -121,7 +121,7 @@ overflow_stated (Some counts) a = refl
 too_large_stated : (inputs : Inputs) (r : Replacement) (wishes : ChangeWishes) (found : List MemberFound) (files : Files) → IsPackagesResult (unless_too_large inputs r wishes found files)
 too_large_stated inputs r wishes found files =
     let members = (file_change inputs wishes found).members in
-    then_stated {A = List ℕ} {B = ChangeDone} is_package_refusal (unless_large (database_of members (owned_of members)))
+    then_stated {A = List ℕ} {B = ChangeDone} is_refusal_after_choice (unless_large (database_of members (owned_of members)))
     (λ database.
     let records = new_records inputs database in
     let actions = actions_of inputs (file_change inputs wishes found) files records in
@@ -137,11 +137,11 @@ with_members_stated inputs r wishes clash files found =
     let change = file_change inputs wishes found in
     let paths = touched_paths change files in
     let rest : IsPackagesResult (and_then (unless_trigger wishes.no_scripts paths change.members) (λ is_allowed. unless_too_large inputs r wishes found files)) =
-    then_stated is_package_refusal (unless_trigger wishes.no_scripts paths change.members) (λ is_allowed. unless_too_large inputs r wishes found files) (trigger_stated wishes.no_scripts paths change.members) (λ is_allowed. too_large_stated inputs r wishes found files) in
+    then_stated is_refusal_after_choice (unless_trigger wishes.no_scripts paths change.members) (λ is_allowed. unless_too_large inputs r wishes found files) (trigger_stated wishes.no_scripts paths change.members) (λ is_allowed. too_large_stated inputs r wishes found files) in
     let owned : Result ChangeDone Refusal = unless_contested change.members (contested_of change.members) (and_then (unless_trigger wishes.no_scripts paths change.members) (λ is_allowed. unless_too_large inputs r wishes found files)) in
     reserved_stated (first_reserved change.members) (unless_clash clash owned) (clash_stated clash owned (contested_stated change.members (contested_of change.members) (and_then (unless_trigger wishes.no_scripts paths change.members) (λ is_allowed. unless_too_large inputs r wishes found files)) rest))
 
 pub refusal_stated : (inputs : Inputs) (r : Replacement) (wishes : ChangeWishes) (read : Reads) (clash : Option NamePair) (files : Files) → IsPackagesResult (change_or_refusal inputs r wishes read clash files)
 unfolding change_or_refusal
 refusal_stated inputs r wishes read clash files =
-    then_stated is_package_refusal (change_members inputs r wishes read) _ (members_stated r read inputs.root.repositories wishes.no_scripts) (with_members_stated inputs r wishes clash files)
+    then_stated is_refusal_after_choice (change_members inputs r wishes read) _ (members_stated r read inputs.root.repositories wishes.no_scripts) (with_members_stated inputs r wishes clash files)

@@ -13,7 +13,7 @@ use Rattle.words_core.specs.Grammar.{command_of}
 use Rattle.outcome.proofs.Idle.{HaveIdle, HaveRoot, over_idle}
 use Rattle.outcome.proofs.Worded.{of_by}
 use Rattle.outcome.specs.Commands.{IsOutcomeOf, IsOutcomeOn, IsOutcomeUnlessBadIntent}
-use Rattle.outcome.specs.Effect.{Effect, Changes, Computes, Makes, Reads, Tells, does_only_read, does_recover, effect_of, reads_only}
+use Rattle.outcome.specs.Effect.{Effect, Changes, Computes, Makes, OnlyReadsFiles, AsksRoot, does_only_read, does_recover, effect_of, reads_only}
 use Rattle.outcome.specs.Outcome.{Outcome, just_refusal}
 use Rattle.outcome.specs.Recovers.{must_recover}
 use Rattle.outcome.specs.Words.{IsOutcome}
@@ -66,15 +66,15 @@ others_read Policy h = absurd (true≢false h)
 
 fault_is : (effect : Effect) (files : Files) → does_recover effect ≡ true → recovery_fault effect files ≡ fault_of_intent (files intent_name)
 fault_is Computes files h = absurd (true≢false (sym h))
-fault_is Reads files h = absurd (true≢false (sym h))
-fault_is Tells files h = refl
+fault_is OnlyReadsFiles files h = absurd (true≢false (sym h))
+fault_is AsksRoot files h = refl
 fault_is Makes files h = refl
 fault_is Changes files h = refl
 
 pub work_is : (effect : Effect) (files : Files) → does_recover effect ≡ true → work_files effect files ≡ unstaged_files files
 work_is Computes files h = absurd (true≢false (sym h))
-work_is Reads files h = absurd (true≢false (sym h))
-work_is Tells files h = refl
+work_is OnlyReadsFiles files h = absurd (true≢false (sym h))
+work_is AsksRoot files h = refl
 work_is Makes files h = refl
 work_is Changes files h = refl
 

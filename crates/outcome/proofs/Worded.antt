@@ -9,7 +9,7 @@ use Rattle.demo_lines.specs.Count.{demo_count}
 use Rattle.outcome.proofs.Demos.{HaveOneOutcome, HaveOutcome, demo_everywhere, demo_exists, demo_leaves, demo_one}
 use Rattle.outcome.specs.Commands.{IsOutcomeOf}
 use Rattle.outcome.specs.Demo.{IsDemoOutcome}
-use Rattle.outcome.specs.Effect.{Effect, Computes, Tells, Makes, Changes, ignores_files, effect_by, effect_of, output_by, output_if, depends_only_on_arguments}
+use Rattle.outcome.specs.Effect.{Effect, Computes, AsksRoot, Makes, Changes, ignores_files, effect_by, effect_of, output_by, output_if, depends_only_on_arguments}
 use Rattle.outcome.specs.Outcome.{Outcome, outcome_of}
 use Rattle.outcome.specs.Words.{IsOutcome, IsOutcomeFor}
 
@@ -50,8 +50,8 @@ either (Err place) files o is = inl is
 pub of_by : (read : Result CommandLine ℕ) (files : Files) (o : Outcome) → (effect_by read ≡ Computes → ⊥) → IsOutcome read files o → IsOutcomeOf read files o
 of_by read files o rests is = ⊎_elim (λ of. of) (λ demo. absurd (rests demo.2)) (either read files o is)
 
-pub tells_not : (effect : Effect) → effect ≡ Tells → effect ≡ Computes → ⊥
-tells_not effect tells computes = let e : Tells ≡ Computes = sym tells ∙ computes in cc
+pub tells_not : (effect : Effect) → effect ≡ AsksRoot → effect ≡ Computes → ⊥
+tells_not effect tells computes = let e : AsksRoot ≡ Computes = sym tells ∙ computes in cc
 
 pub makes_not : (effect : Effect) → effect ≡ Makes → effect ≡ Computes → ⊥
 makes_not effect makes computes = let e : Makes ≡ Computes = sym makes ∙ computes in cc

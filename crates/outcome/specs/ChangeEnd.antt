@@ -43,17 +43,17 @@ is_input_refusal other = false
 
 -- whether a refusal is of the added, removed and kept packages: of their files, scripts and triggers,
 -- and of the files that they would leave
-abbrev pub is_package_refusal : Refusal → Bool
-is_package_refusal (PackageMissing name version) = true
-is_package_refusal (PackageBad name version cause) = true
-is_package_refusal (PackageDiffers name version field wanted found) = true
-is_package_refusal (ScriptNeeded name script) = true
-is_package_refusal (Reserved path) = true
-is_package_refusal (PathClash path other) = true
-is_package_refusal (Owned path first second) = true
-is_package_refusal (TriggerNeeded name) = true
-is_package_refusal (ResultTooLarge bytes values) = true
-is_package_refusal other = false
+abbrev pub is_refusal_after_choice : Refusal → Bool
+is_refusal_after_choice (PackageMissing name version) = true
+is_refusal_after_choice (PackageBad name version cause) = true
+is_refusal_after_choice (PackageDiffers name version field wanted found) = true
+is_refusal_after_choice (ScriptNeeded name script) = true
+is_refusal_after_choice (Reserved path) = true
+is_refusal_after_choice (PathClash path other) = true
+is_refusal_after_choice (Owned path first second) = true
+is_refusal_after_choice (TriggerNeeded name) = true
+is_refusal_after_choice (ResultTooLarge bytes values) = true
+is_refusal_after_choice other = false
 
 -- ---- without a selection
 
@@ -89,7 +89,7 @@ abbrev pub IsEndBy :
     CommandLine → Files → Selected → Result ChangeDone Refusal → Outcome → Type 0
 IsEndBy command files selected (Ok done) o = IsReported command files selected done o
 IsEndBy command files selected (Err refusal) o =
-    (is_package_refusal refusal ≡ true) × (o ≡ just_refusal files refusal)
+    (is_refusal_after_choice refusal ≡ true) × (o ≡ just_refusal files refusal)
 
 -- the first preferred selection of the candidates replaces the packages before, up to the end of the
 -- change

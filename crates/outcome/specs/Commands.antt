@@ -17,7 +17,7 @@ use Rattle.tell_core.specs.ReportForCommand.{report_for_command}
 use Rattle.words_core.specs.HelpTexts.{help_text, version_line}
 use Rattle.outcome.specs.Changing.{change_outcome}
 use Rattle.outcome.specs.Dump.{adbdump}
-use Rattle.outcome.specs.Effect.{Effect, Computes, Reads as OnlyReads, Tells, Makes, Changes, does_recover, effect_of}
+use Rattle.outcome.specs.Effect.{Effect, Computes, OnlyReadsFiles, AsksRoot, Makes, Changes, does_recover, effect_of}
 use Rattle.outcome.specs.Generate.{adbgen}
 use Rattle.outcome.specs.Given.{Given, IsGiven, MayBeGiven}
 use Rattle.outcome.specs.Make.{mkndx, mkpkg}
@@ -55,8 +55,8 @@ making_outcome other command names read files = just_report files []
 -- definition, and so have all changes.
 abbrev pub effect_outcome : Effect → Applet → CommandLine → Given → Reads → Files → Outcome
 effect_outcome Computes applet command given read files = computing_outcome applet command files
-effect_outcome OnlyReads applet command given read files = reading_outcome applet command read files
-effect_outcome Tells applet command given read files = outcome_of_report files (report_for_command
+effect_outcome OnlyReadsFiles applet command given read files = reading_outcome applet command read files
+effect_outcome AsksRoot applet command given read files = outcome_of_report files (report_for_command
     command read)
 effect_outcome Makes applet command given read files =
     making_outcome applet command given.names read files

@@ -12,9 +12,9 @@ pub data Effect : Type 0 where
   -- the command looks at its words alone
   Computes : Effect
   -- the command reads files, and leaves them as they are
-  Reads : Effect
+  OnlyReadsFiles : Effect
   -- the command recovers, reads files, and leaves them as they are then
-  Tells : Effect
+  AsksRoot : Effect
   -- the command recovers, reads files, and writes one
   Makes : Effect
   -- the command recovers, reads files, and writes and removes several in one step
@@ -26,15 +26,15 @@ effect_of Version = Computes
 effect_of Demo = Computes
 effect_of Help = Computes
 effect_of ProgramVersion = Computes
-effect_of Verify = Reads
-effect_of Adbdump = Reads
-effect_of Adbgen = Reads
-effect_of Info = Tells
-effect_of Audit = Tells
-effect_of Manifest = Tells
-effect_of ListApplet = Tells
-effect_of Search = Tells
-effect_of Policy = Tells
+effect_of Verify = OnlyReadsFiles
+effect_of Adbdump = OnlyReadsFiles
+effect_of Adbgen = OnlyReadsFiles
+effect_of Info = AsksRoot
+effect_of Audit = AsksRoot
+effect_of Manifest = AsksRoot
+effect_of ListApplet = AsksRoot
+effect_of Search = AsksRoot
+effect_of Policy = AsksRoot
 effect_of Mkpkg = Makes
 effect_of Mkndx = Makes
 effect_of Add = Changes
@@ -45,32 +45,32 @@ effect_of Fix = Changes
 -- whether the outcome of a command depends on its arguments alone, whatever the files are
 abbrev pub ignores_files : Effect → Bool
 ignores_files Computes = true
-ignores_files Reads = false
-ignores_files Tells = false
+ignores_files OnlyReadsFiles = false
+ignores_files AsksRoot = false
 ignores_files Makes = false
 ignores_files Changes = false
 
 -- whether a command leaves the tree unchanged, whatever it finds there
 abbrev pub does_only_read : Effect → Bool
 does_only_read Computes = true
-does_only_read Reads = true
-does_only_read Tells = false
+does_only_read OnlyReadsFiles = true
+does_only_read AsksRoot = false
 does_only_read Makes = false
 does_only_read Changes = false
 
 -- whether a command first recovers: it finishes the change of an intent that is found
 abbrev pub does_recover : Effect → Bool
 does_recover Computes = false
-does_recover Reads = false
-does_recover Tells = true
+does_recover OnlyReadsFiles = false
+does_recover AsksRoot = true
 does_recover Makes = true
 does_recover Changes = true
 
 -- the name under which a command writes a file, if it writes one
 abbrev pub output_if : Effect → CommandLine → Option (List ℕ)
 output_if Computes command = None
-output_if Reads command = None
-output_if Tells command = None
+output_if OnlyReadsFiles command = None
+output_if AsksRoot command = None
 output_if Makes command = output_name command
 output_if Changes command = None
 

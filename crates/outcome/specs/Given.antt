@@ -15,7 +15,7 @@ use Rattle.make_core.specs.make_info.Reads.{Reads}
 use Rattle.make_core.specs.package_files.Sources.{AreNamesFor, values_with}
 use Rattle.tell_core.specs.path_clashes.Clash.{NamePair}
 use Rattle.outcome.specs.Effect.{Effect, Changes, effect_of}
-use Rattle.outcome.specs.Make.{IsListing}
+use Rattle.outcome.specs.Make.{AreNamesBelowOption}
 
 -- what an outcome depends on besides the command, what reads find, and the files
 pub record Given : Type 0 where
@@ -42,7 +42,7 @@ IsChosenFor other command read chosen = chosen ≡ None
 
 -- the names that an applet lists: `mkpkg` those below its folder, the others none
 abbrev pub IsListingFor : Applet → CommandLine → Files → List (List ℕ) → Type 0
-IsListingFor Mkpkg command files names = IsListing (values_with FILES command.values) files names
+IsListingFor Mkpkg command files names = AreNamesBelowOption (values_with FILES command.values) files names
 IsListingFor other command files names = names ≡ []
 
 -- the first clash of the names after a command, which only a change has

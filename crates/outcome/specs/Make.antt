@@ -27,9 +27,9 @@ files_below folder files name =
     if starts_with nat_eq name (folder ++ codes "/") then files name else None
 
 -- exactly the names of the files below the folder, in byte order; none if no folder is given
-abbrev pub IsListing : List OptionValue → Files → List (List ℕ) → Type 0
-IsListing [] files names = names ≡ []
-IsListing (folder ∷ values) files names =
+abbrev pub AreNamesBelowOption : List OptionValue → Files → List (List ℕ) → Type 0
+AreNamesBelowOption [] files names = names ≡ []
+AreNamesBelowOption (folder ∷ values) files names =
     IsNamesOf (files_below (without_dot folder.text) files) names
 
 -- ---- the outcome

@@ -7,13 +7,13 @@ use Rattle.base_core.specs.Files.{Files}
 use Rattle.base_core.specs.declared.cause.Cause.{Cause}
 use Rattle.engine_core.specs.journal_core.Recovery.{intent_name}
 use Rattle.engine_core.specs.journal_core.Staged.{unstaged_files}
-use Rattle.outcome.specs.Effect.{Effect, Computes, Reads, Tells, Makes, Changes}
+use Rattle.outcome.specs.Effect.{Effect, Computes, OnlyReadsFiles, AsksRoot, Makes, Changes}
 
 -- the files on which a command works: the recovered files, if it recovers
 abbrev pub work_files : Effect → Files → Files
 work_files Computes files = files
-work_files Reads files = files
-work_files Tells files = unstaged_files files
+work_files OnlyReadsFiles files = files
+work_files AsksRoot files = unstaged_files files
 work_files Makes files = unstaged_files files
 work_files Changes files = unstaged_files files
 
@@ -25,7 +25,7 @@ fault_of_intent (Some file) = first_fault IntentTable file
 -- why a command cannot recover these files, if it has to
 abbrev pub recovery_fault : Effect → Files → Option Cause
 recovery_fault Computes files = None
-recovery_fault Reads files = None
-recovery_fault Tells files = fault_of_intent (files intent_name)
+recovery_fault OnlyReadsFiles files = None
+recovery_fault AsksRoot files = fault_of_intent (files intent_name)
 recovery_fault Makes files = fault_of_intent (files intent_name)
 recovery_fault Changes files = fault_of_intent (files intent_name)

@@ -32,7 +32,7 @@ ghost use Rattle.tell_core.specs.installed_info.declared.telling.ReportAndRefusa
 ghost use Rattle.make_core.specs.make_info.Reads.{Reads};
 ghost use Rattle.outcome.specs.ChangeEnd.{IsChangeEnd, IsRunEnd, is_input_refusal};
 ghost use Rattle.outcome.specs.Commands.{IsOutcomeOf, IsOutcomeOn, reads_in};
-ghost use Rattle.outcome.specs.Effect.{Changes, Makes, Tells, does_recover, effect_by, effect_of, output, reads_only, depends_only_on_arguments};
+ghost use Rattle.outcome.specs.Effect.{Changes, Makes, AsksRoot, does_recover, effect_by, effect_of, output, reads_only, depends_only_on_arguments};
 ghost use Rattle.outcome.specs.Make.{files_below};
 ghost use Rattle.outcome.specs.Outcome.{Outcome, just_refusal, outcome_of};
 ghost use Rattle.outcome.specs.Recovers.{must_recover};
@@ -111,10 +111,10 @@ fn reading_leaves_the_files()
 /// the old ones if it cannot recover.
 pub fn a_reporting_command_leaves_the_files()
     ensures files { (words : List (List ℕ)) (files : Files) (o : Outcome)
-        → effect_by (command_of words) ≡ Tells → IsOutcome (command_of words) files o
-        → (o.files ≡ files) ⊎ (o.files ≡ work_files Tells files) }
+        → effect_by (command_of words) ≡ AsksRoot → IsOutcome (command_of words) files o
+        → (o.files ≡ files) ⊎ (o.files ≡ work_files AsksRoot files) }
     ensures commits { (words : List (List ℕ)) (files : Files) (o : Outcome)
-        → effect_by (command_of words) ≡ Tells → IsOutcome (command_of words) files o
+        → effect_by (command_of words) ≡ AsksRoot → IsOutcome (command_of words) files o
         → o.commits ≡ false }
 {}
 

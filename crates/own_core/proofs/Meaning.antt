@@ -109,15 +109,15 @@ module _ (change : FileChange) (files : Files) (coming : List PathClaim) (up : N
   pub together : (q : List ℕ) → GoTogether (added_owner_listing change q) (find (is_of_path q) coming)
   together q = subst (GoTogether (added_owner_listing change q)) (sym (each q)) (coming_is change q)
 
-  abbrev pub with_fate : Fates.Fate → List PathClaim
+  abbrev pub with_fate : Fates.AddedFileFate → List PathClaim
   with_fate f = filter (λ c. is_fate f (claim_fate change c (files c.path))) coming
 
-  aside_test : (l : Listing) (f : Fates.Fate) → is_some (if_aside l f) ≡ is_fate goes_aside f
+  aside_test : (l : Listing) (f : Fates.AddedFileFate) → is_some (if_aside l f) ≡ is_fate goes_aside f
   aside_test l goes_in = refl
   aside_test l gives_way = refl
   aside_test l goes_aside = refl
 
-  in_test : (l : Listing) (f : Fates.Fate) → is_some (if_in l f) ≡ is_fate goes_in f
+  in_test : (l : Listing) (f : Fates.AddedFileFate) → is_some (if_in l f) ≡ is_fate goes_in f
   in_test l goes_in = refl
   in_test l gives_way = refl
   in_test l goes_aside = refl

@@ -30,7 +30,7 @@ as_told_old (Some listed) (Some entry) bytes of = told_as_listed listed entry by
 -- ---- a file that comes
 
 -- the user changed the file that stands there
-pub changed_fate : (change : FileChange) (h : List TreeState) (c : PathClaim) (name : List ℕ) (listed : ListedFile) (old : Option ListedFile) (found : Option Comparison) (fate : Fates.Fate)
+pub changed_fate : (change : FileChange) (h : List TreeState) (c : PathClaim) (name : List ℕ) (listed : ListedFile) (old : Option ListedFile) (found : Option Comparison) (fate : Fates.AddedFileFate)
     → name ≡ c.path → is_guarded c.path ≡ true → IsOfEntry listed (claim_entry change.members c) → IsOfEntryIfAny old (old_entry change c.path)
     → (file : Option (List ℕ)) × IfObservable h (λ v. file ≡ files_of v name) × (found ≡ comparison_of (Some listed) old file)
     → IsSomeAnd found (λ d. (d.as_new ≡ false) × (d.as_old ≡ false)) → fate ≡ fate_beside change c.path (claim_entry change.members c) → IsByFile (claim_fate change) h c fate

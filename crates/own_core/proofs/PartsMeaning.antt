@@ -25,7 +25,7 @@ use Rattle.own_core.specs.Fates.{claim_fate, is_fate, is_flag, is_free_beside, m
 use Rattle.own_core.specs.Found.{AreAnswersByFiles, said_of}
 use Rattle.own_core.specs.Going.{is_file_kept, is_beside, is_path_left_over}
 use Rattle.own_core.specs.ListsSeen.{AreListsOfParts}
-use Rattle.own_core.specs.Parts.{AreFilesByFate, asides_of, ins_of, kept_of_parts, left_over_claims_by, removed_of}
+use Rattle.own_core.specs.Parts.{AreFilesByFate, asides_of, kept_of_parts, left_over_claims_by, removed_of, written_claims_of}
 use Rattle.own_core.specs.Planned.{ArePlanLists}
 use Rattle.own_core.specs.Sides.{HasClaims, claims_after, claims_before, file_change_of}
 use Rattle.own_core.specs.WritesSeen.{HaveNamesBeside, aside_write, claim_write, write_cmp}
@@ -59,8 +59,8 @@ coming_claims_of change h coming firsts i c g =
 names_marked : {Y : Type 0} (test : Y → Bool) (cs xs : List PathClaim) (ms : List Y) → HaveNames cs → xs ≡ marked_claims test cs ms → HaveNames xs
 names_marked test cs xs ms h e i c g = let f = marked_from test cs ms i c (ap (λ ys. slice_get ys i) (sym e) ∙ g) in h f.0 c f.1
 
-pub ins_named : (change : Change) (history : List TreeState) (coming : List PathClaim) (parts : Parts) → AreClaimsOf (members_of change.members.now) coming → AreFilesByFate change history coming parts → HaveNames (ins_of parts)
-ins_named change history coming parts h p = names_marked (is_fate goes_in) coming (ins_of parts) p.fates (λ i c g. (h i c g).name) p.ins
+pub ins_named : (change : Change) (history : List TreeState) (coming : List PathClaim) (parts : Parts) → AreClaimsOf (members_of change.members.now) coming → AreFilesByFate change history coming parts → HaveNames (written_claims_of parts)
+ins_named change history coming parts h p = names_marked (is_fate goes_in) coming (written_claims_of parts) p.fates (λ i c g. (h i c g).name) p.ins
 
 left_named : (change : Change) → HasClaims change → (asides : List PathClaim) → HaveNames (left_over_claims_by change asides)
 left_named change h asides i c g =
@@ -72,13 +72,13 @@ removed_named change history coming parts h p = names_marked (is_flag false) (le
 pub kept_named : (change : Change) (history : List TreeState) (coming : List PathClaim) (parts : Parts) → HasClaims change → AreFilesByFate change history coming parts → HaveNames (kept_of_parts parts)
 kept_named change history coming parts h p = names_marked (is_flag true) (left_over_claims_by change (asides_of parts)) (kept_of_parts parts) p.stays (left_named change h (asides_of parts)) p.kept
 
-room_of : (change : FileChange) (h : List TreeState) (cs : List PathClaim) (fs : List Fates.Fate) → AreAnswersByFiles (claim_fate change) h cs fs
+room_of : (change : FileChange) (h : List TreeState) (cs : List PathClaim) (fs : List Fates.AddedFileFate) → AreAnswersByFiles (claim_fate change) h cs fs
     → (i : ℕ) (c : PathClaim) → slice_get (marked_claims (is_fate goes_aside) cs fs) i ≡ Some c → is_free_beside change c.path ≡ true
 room_of change h [] fs are i c g = absurd (no_some c g)
 room_of change h (d ∷ cs) [] are i c g = absurd are
 room_of change h (d ∷ cs) (f ∷ fs) are i c g = go (is_fate goes_aside f) refl i (λ j k. room_of change h cs fs are.1 j c k) g
   where
-    is_it : (f : Fates.Fate) → is_fate goes_aside f ≡ true → f ≡ goes_aside
+    is_it : (f : Fates.AddedFileFate) → is_fate goes_aside f ≡ true → f ≡ goes_aside
     is_it goes_in e = absurd (true≢false (sym e))
     is_it gives_way e = absurd (true≢false (sym e))
     is_it goes_aside e = refl
@@ -114,14 +114,14 @@ module _ (change : Change) (claims : HasClaims change) (coming : List PathClaim)
   pub each : (q : List ℕ) → find (is_of_path q) coming ≡ find (is_of_path q) (filter (is_of_added_owner (members_of change.members.now)) (sorted_by claim_cmp (claims_in (members_of change.members.now))))
   each q = firsts.each q ∙ ap (λ cs. find (is_of_path q) (filter (is_of_added_owner (members_of change.members.now)) cs)) claims.after
 
-  by_fate : (f : Fates.Fate) (xs : List PathClaim) → xs ≡ marked_claims (is_fate f) coming are.fates → xs ≡ with_fate (file_change_of change) files coming up each f
+  by_fate : (f : Fates.AddedFileFate) (xs : List PathClaim) → xs ≡ marked_claims (is_fate f) coming are.fates → xs ≡ with_fate (file_change_of change) files coming up each f
   by_fate f xs e = e ∙ (ap (marked_claims (is_fate f) coming) fates_are ∙ marked_by (is_fate f) (λ c. claim_fate (file_change_of change) c (files c.path)) coming)
 
   pub asides_are : asides_of parts ≡ with_fate (file_change_of change) files coming up each goes_aside
   asides_are = by_fate goes_aside (asides_of parts) are.asides
 
-  pub ins_are : ins_of parts ≡ with_fate (file_change_of change) files coming up each goes_in
-  ins_are = by_fate goes_in (ins_of parts) are.ins
+  pub ins_are : written_claims_of parts ≡ with_fate (file_change_of change) files coming up each goes_in
+  ins_are = by_fate goes_in (written_claims_of parts) are.ins
 
   pub beside_parts : (q : List ℕ) → is_beside (asides_of parts) q ≡ is_some (option_and_then (aside_claim_at (file_change_of change) files) (path_beside q))
   beside_parts q = ap (λ cs. is_beside cs q) asides_are ∙ beside_is (file_change_of change) files coming up each q

@@ -213,12 +213,12 @@ each_joined : (P : FileWrite → Type 0) (xs ys : List FileWrite) → Each P xs 
 each_joined P [] ys h k = k
 each_joined P (x ∷ xs) ys h k = (h.0, each_joined P xs ys h.1 k)
 
-is_in : (f : Fates.Fate) → is_fate goes_in f ≡ true → f ≡ goes_in
+is_in : (f : Fates.AddedFileFate) → is_fate goes_in f ≡ true → f ≡ goes_in
 is_in goes_in h = refl
 is_in gives_way h = absurd (true≢false (sym h))
 is_in goes_aside h = absurd (true≢false (sym h))
 
-pub is_aside : (f : Fates.Fate) → is_fate goes_aside f ≡ true → f ≡ goes_aside
+pub is_aside : (f : Fates.AddedFileFate) → is_fate goes_aside f ≡ true → f ≡ goes_aside
 is_aside goes_in h = absurd (true≢false (sym h))
 is_aside gives_way h = absurd (true≢false (sym h))
 is_aside goes_aside h = refl

@@ -10,18 +10,18 @@ use Rattle.change_files.specs.Fate as Fates
 use Rattle.change_files.specs.Fate.{aside_name, fate_by, gives_way, goes_aside, goes_in, longest_name}
 use Rattle.change_files.specs.FileChange.{FileChange, is_claimed}
 use Rattle.own_core.specs.ClaimEntries.{claim_entry}
-use Rattle.own_core.specs.declared.fate.Fate.{Fate}
-use Rattle.own_core.specs.declared.fate.Fate.TheVariants.{GivesWay, GoesAside, GoesIn}
+use Rattle.own_core.specs.declared.fate.AddedFileFate.{AddedFileFate}
+use Rattle.own_core.specs.declared.fate.AddedFileFate.TheVariants.{GivesWay, GoesAside, GoesIn}
 
 -- the fate of a file, as contracts see it
-abbrev pub fate_seen : Fate → Fates.Fate
+abbrev pub fate_seen : AddedFileFate → Fates.AddedFileFate
 fate_seen GoesIn = goes_in
 fate_seen GivesWay = gives_way
 fate_seen GoesAside = goes_aside
 
 -- the fate of the file of an added owner's claim, given the file under its path (`found`; none if there
 -- is no file)
-abbrev pub claim_fate : FileChange → PathClaim → Option (List ℕ) → Fates.Fate
+abbrev pub claim_fate : FileChange → PathClaim → Option (List ℕ) → Fates.AddedFileFate
 claim_fate change c found = fate_by change c.path (claim_entry change.members c) found
 
 -- whether a file may be laid beside a path: no package lists the name beside it, and that is short
@@ -40,7 +40,7 @@ IsOfEntryIfAny (Some listed) (Some entry) = IsOfEntry listed entry
 -- ---- claims by their fates
 
 -- whether two fates are the same
-abbrev pub is_fate : Fates.Fate → Fates.Fate → Bool
+abbrev pub is_fate : Fates.AddedFileFate → Fates.AddedFileFate → Bool
 is_fate goes_in goes_in = true
 is_fate gives_way gives_way = true
 is_fate goes_aside goes_aside = true

@@ -16,8 +16,8 @@ use Rattle.own_core.specs.declared.change.Change.{Change}
 use Rattle.own_core.specs.declared.parts.Parts.{Parts}
 
 -- the claims of the files that take their paths
-abbrev pub ins_of : Parts → List PathClaim
-ins_of parts = map claim_seen parts.ins.items
+abbrev pub written_claims_of : Parts → List PathClaim
+written_claims_of parts = map claim_seen parts.ins.items
 
 -- the claims of the files that are laid beside the user's
 abbrev pub asides_of : Parts → List PathClaim
@@ -40,12 +40,12 @@ left_over_claims_by change asides =
 -- that are left over some are removed and some are kept.
 pub record AreFilesByFate (change : Change) (history : List TreeState) (coming : List PathClaim)
     (parts : Parts) : Type 0 where
-  pub fates : List Fates.Fate
+  pub fates : List Fates.AddedFileFate
   pub stays : List Bool
   pub fates_found : AreAnswersByFiles (claim_fate (file_change_of change)) history coming fates
   pub stays_found : AreAnswersByFiles (is_file_kept (file_change_of change)) history
       (left_over_claims_by change (asides_of parts)) stays
-  pub ins : ins_of parts ≡ marked_claims (is_fate goes_in) coming fates
+  pub ins : written_claims_of parts ≡ marked_claims (is_fate goes_in) coming fates
   pub asides : asides_of parts ≡ marked_claims (is_fate goes_aside) coming fates
   pub removed : removed_of parts
       ≡ marked_claims (is_flag false) (left_over_claims_by change (asides_of parts)) stays

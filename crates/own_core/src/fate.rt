@@ -27,7 +27,7 @@ use std::marker::PhantomData;
 
 /// What is done with an added file, and with the one under its path.
 #[derive(Clone, Copy)]
-pub(crate) enum Fate {
+pub(crate) enum AddedFileFate {
     /// The file takes the path.
     GoesIn,
     /// The user's file is kept, and the new one is left out.
@@ -88,16 +88,16 @@ fn fate_beside(
     name: &Name,
     new: &ListedFile<'_>,
     old: &Option<ListedFile<'_>>,
-) -> Result<Fate, AllocError>
+) -> Result<AddedFileFate, AllocError>
     requires claims { HasClaims change.now }
     requires old { IsOfEntryIfAny old.now (old_entry (file_change_of change.now) name.now) }
     ensures { IfOk result (λ fate. (entry : Plain) → IsOfEntry new.now entry
         → fate_seen fate ≡ fate_beside (file_change_of change.now) name.now entry) }
 {
     if agrees_with_old(new, old) || !is_free_beside(alloc, change, name)? {
-        return Ok(Fate::GivesWay);
+        return Ok(AddedFileFate::GivesWay);
     }
-    Ok(Fate::GoesAside)
+    Ok(AddedFileFate::GoesAside)
 }
 
 /// Whether the file's bytes are neither those of the new entry nor those of the old one. `found` is
@@ -118,7 +118,7 @@ fn guarded_fate<T: Tree>(
     tree: &mut T,
     change: &Change<'_, '_, '_>,
     claim: &Claim<'_>,
-) -> Result<Fate, TreeFault>
+) -> Result<AddedFileFate, TreeFault>
     requires claims { HasClaims change.now }
     requires file { IsClaimOf (members_of change.now.members.now) (claim_seen claim.now) }
     requires guarded { is_guarded (claim_seen claim.now).path ≡ true }
@@ -136,7 +136,7 @@ fn guarded_fate<T: Tree>(
         let fate = fate_beside(alloc, change, &name, &new, &old)?;
         return Ok(fate);
     }
-    Ok(Fate::GoesIn)
+    Ok(AddedFileFate::GoesIn)
 }
 
 /// What is done with an added file; one that is not below `etc` takes its path, and nothing is
@@ -146,7 +146,7 @@ fn fate_of<T: Tree>(
     tree: &mut T,
     change: &Change<'_, '_, '_>,
     claim: &Claim<'_>,
-) -> Result<Fate, TreeFault>
+) -> Result<AddedFileFate, TreeFault>
     requires claims { HasClaims change.now }
     requires file { IsClaimOf (members_of change.now.members.now) (claim_seen claim.now) }
     ensures fate { IfOk result (λ fate. IsByFile (claim_fate (file_change_of change.now))
@@ -157,11 +157,11 @@ fn fate_of<T: Tree>(
     if is_guarded(&claim.path) {
         return guarded_fate(alloc, tree, change, claim);
     }
-    Ok(Fate::GoesIn)
+    Ok(AddedFileFate::GoesIn)
 }
 
 /// Adds the fate of a file to the others.
-fn add_fate(fates: &mut Vec<Fate>, fate: Fate) -> Result<(), AllocError>
+fn add_fate(fates: &mut Vec<AddedFileFate>, fate: AddedFileFate) -> Result<(), AllocError>
     ensures { OnOk result (fates.new.items ≡ fates.old.items ++ fate ∷ []) }
 {
     fates.push(fate)?;
@@ -174,7 +174,7 @@ pub(crate) fn fates_of<T: Tree>(
     tree: &mut T,
     change: &Change<'_, '_, '_>,
     coming: &[Claim<'_>],
-) -> Result<Vec<Fate>, TreeFault>
+) -> Result<Vec<AddedFileFate>, TreeFault>
     requires claims { HasClaims change.now }
     requires files { AreClaimsOf (members_of change.now.members.now) (map claim_seen coming.now) }
     ensures fates { IfOk result (λ fates. AreAnswersByFiles (claim_fate (file_change_of change.now))

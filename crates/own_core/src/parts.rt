@@ -21,7 +21,7 @@ ghost use Rattle.own_core.specs.Sides.{HasClaims, claims_before, file_change_of}
 
 use crate::change::Change;
 use crate::entries::listed_before;
-use crate::fate::{Fate, fates_of, is_changed};
+use crate::fate::{AddedFileFate, fates_of, is_changed};
 use crate::guarded::{is_guarded, path_beside};
 use base_core::{Tree, TreeFault};
 use change_files::compare_file;
@@ -30,13 +30,13 @@ use std::alloc::{AllocError, Global};
 use std::marker::PhantomData;
 
 /// Whether two fates are the same.
-fn is_fate(one: Fate, other: Fate) -> bool
+fn is_fate(one: AddedFileFate, other: AddedFileFate) -> bool
     ensures { result ≡ is_fate (fate_seen one) (fate_seen other) }
 {
     match (one, other) {
-        (Fate::GoesIn, Fate::GoesIn) => true,
-        (Fate::GivesWay, Fate::GivesWay) => true,
-        (Fate::GoesAside, Fate::GoesAside) => true,
+        (AddedFileFate::GoesIn, AddedFileFate::GoesIn) => true,
+        (AddedFileFate::GivesWay, AddedFileFate::GivesWay) => true,
+        (AddedFileFate::GoesAside, AddedFileFate::GoesAside) => true,
         _ => false,
     }
 }
@@ -46,8 +46,8 @@ fn is_fate(one: Fate, other: Fate) -> bool
 fn claims_with<'n>(
     alloc: Global,
     coming: &[Claim<'n>],
-    fates: &[Fate],
-    fate: Fate,
+    fates: &[AddedFileFate],
+    fate: AddedFileFate,
 ) -> Result<Vec<Claim<'n>>, AllocError>
     requires { length fates.now ≡ length coming.now }
     ensures { IfOk result (λ some. map claim_seen some.items ≡ marked_claims
@@ -230,8 +230,8 @@ pub fn parts_of<'o, 'n, T: Tree>(
         (T.counts tree.old) (T.counts tree.new) result }
 {
     let fates = fates_of(alloc, tree, change, coming)?;
-    let ins = claims_with(alloc, coming, &fates, Fate::GoesIn)?;
-    let asides = claims_with(alloc, coming, &fates, Fate::GoesAside)?;
+    let ins = claims_with(alloc, coming, &fates, AddedFileFate::GoesIn)?;
+    let asides = claims_with(alloc, coming, &fates, AddedFileFate::GoesAside)?;
     let left = left_over_claims(alloc, change, &asides)?;
     let stays = stays_of(alloc, tree, change, &left)?;
     let removed = claims_where(alloc, &left, &stays, false)?;

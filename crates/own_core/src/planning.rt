@@ -23,7 +23,7 @@ ghost use Rattle.path_claim_lists.specs.path_clashes.ClashSeen.{clash_seen};
 ghost use Rattle.path_claim_lists.specs.path_clashes.FirstClash.{IsClashOf, MayBeClashOf};
 ghost use Rattle.own_core.specs.ClaimEntries.{AreClaimsOf, IsClaimOf, is_of_added_owner, is_added_and_reserved};
 ghost use Rattle.own_core.specs.ListsSeen.{AreListsOfParts};
-ghost use Rattle.own_core.specs.Parts.{AreFilesByFate, asides_of, ins_of, kept_of_parts, removed_of};
+ghost use Rattle.own_core.specs.Parts.{AreFilesByFate, asides_of, kept_of_parts, removed_of, written_claims_of};
 ghost use Rattle.own_core.specs.NamesChanged.{names_changed_by};
 ghost use Rattle.own_core.specs.Planned.{HasOwnNames, HasSources, IsOwnedBy, IsPlanFor, IsPlanOf, IsRefusalFor, IsRefusalOf, MayBeRefusalOf, change_by, member_name_at};
 ghost use Rattle.own_core.specs.Sides.{HasClaims, claims_after, file_change_of};
@@ -194,7 +194,7 @@ fn contest(
 fn lists_of(alloc: Global, parts: &Parts<'_, '_>, owned: Vec<bool>) -> Result<FilePlan, AllocError>
     requires removed { HaveNames (removed_of parts.now) }
     requires kept { HaveNames (kept_of_parts parts.now) }
-    requires ins { HaveNames (ins_of parts.now) }
+    requires ins { HaveNames (written_claims_of parts.now) }
     requires asides { HaveNamesBeside (asides_of parts.now) }
     ensures { IfOk result (AreListsOfParts parts.now owned.items) }
 {

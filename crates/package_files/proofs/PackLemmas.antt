@@ -12,7 +12,7 @@ use Rattle.package_files.specs.Package.{Source, SourceFolder, contents_of_file, 
 use Rattle.package_files.specs.Folders.{last_part_of, listing_of, all_folders_above, names_in_folder, path_below, folders_of, FolderListing}
 use Rattle.package_files.specs.Packed.{IsFileFrom, AreFilesFrom, IsPackedFile, ArePackedFiles, IsFolderFrom, AreFoldersFrom, IsPackedFolder, ArePackedFolders}
 use Rattle.package_files.specs.BorrowedNames.{listings_of, names_borrowed}
-use Rattle.package_files.specs.Runs.{IsAnswer, Explains}
+use Rattle.package_files.specs.Runs.{AgreesOrIsFault, Explains}
 use Rattle.package_files.specs.Sources.{found_at, file_at, sources_from, folder_at, source_folders_from, and_then}
 use Rattle.make_info.specs.Reads.{Reads}
 use Rattle.base_core.specs.Tree.{TreeState}
@@ -98,13 +98,13 @@ abbrev pub IsFoundAt : List ℕ → ℕ → List ℕ → Type 0
 IsFoundAt blocks at found = found ≡ drop at blocks
 
 pub file_fault : (folder file : ℕ) (before mid later : List ℕ) (place : ℕ) (read : Reads) (n : ℕ) (name : List ℕ) (fault : MakeFault)
-    → IsAnswer (IsFoundAt mid) (Err fault) (found_at place (read n name)) → IsAnswer (IsPackedFile folder file before later) (Err fault) (file_at place read n name)
+    → AgreesOrIsFault (IsFoundAt mid) (Err fault) (found_at place (read n name)) → AgreesOrIsFault (IsPackedFile folder file before later) (Err fault) (file_at place read n name)
 file_fault folder file before mid later place read n name fault h =
     fault_of_part (IsFoundAt mid) (IsPackedFile folder file before later) fault (found_at place (read n name)) (λ bytes. Ok (record { name = last_part_of name; bytes = bytes })) h
 
 pub packed_file_is : (folder file : ℕ) (before mid later : List ℕ) (place : ℕ) (read : Reads) (n : ℕ) (name : List ℕ) (at : ℕ) (part : Bor (List ℕ)) (kind : FileKind)
     → part.now ≡ last_part_of name → kind ≡ kind_of_file (drop at mid) → later ≡ before ++ contents_blocks (contents_of_file folder file (drop at mid))
-    → IsAnswer (IsFoundAt mid) (Ok at) (found_at place (read n name)) → IsAnswer (IsPackedFile folder file before later) (Ok (record { name = part; kind = kind })) (file_at place read n name)
+    → AgreesOrIsFault (IsFoundAt mid) (Ok at) (found_at place (read n name)) → AgreesOrIsFault (IsPackedFile folder file before later) (Ok (record { name = part; kind = kind })) (file_at place read n name)
 packed_file_is folder file before mid later place read n name at part kind p k b h = (
   record { name = last_part_of name; bytes = h.0 },
   ap (λ (r : Result (List ℕ) MakeFault). and_then r (λ bytes. let file : Source = record { name = last_part_of name; bytes = bytes } in Ok file)) h.1,
@@ -128,9 +128,9 @@ files_go_on told place names i name R R' S file lt e so_far next grows =
 
 pub files_stop : {A : Type 0} (told : List TreeState) (place : ℕ) (names : List (Bor (List ℕ))) (i : ℕ) (name : Bor (List ℕ)) (R : List Source → Type 0) (S : File → Source → Type 0) (T : A → List Source → Type 0) (fault : MakeFault)
     → i < length names → name ≡ get_or names i name → IsSoFar told (λ (name : List ℕ). 1) (file_at place) (take i (now_of names)) R → IsNext told (file_at place) name.now S (Err fault)
-    → (n : ℕ) → Explains told (λ read. IsAnswer T (Err fault) (sources_from place read n (now_of names)))
+    → (n : ℕ) → Explains told (λ read. AgreesOrIsFault T (Err fault) (sources_from place read n (now_of names)))
 files_stop {A} told place names i name R S T fault lt e so_far next n =
-    let P : List (List ℕ) → Type 0 = λ xs. Explains told (λ read. IsAnswer T (Err fault) (sources_from place read n xs)) in
+    let P : List (List ℕ) → Type 0 = λ xs. Explains told (λ read. AgreesOrIsFault T (Err fault) (sources_from place read n xs)) in
     subst P (names_split names i name lt e) (so_far_stops told (λ (name : List ℕ). 1) (file_at place) (file_own place) (take i (now_of names)) name.now (drop (suc i) (now_of names)) R S T fault so_far next n)
 
 pub names_whole : (names : List (Bor (List ℕ))) (i : ℕ) → length names ≤ i → take i (now_of names) ≡ now_of names
@@ -155,13 +155,13 @@ folder_own place f g n folder h =
     (each_rests (λ (name : List ℕ). 1) (file_at place) (file_own place) f g n folder.files (λ m name lo hi. h m name lo (omega arith)))
 
 pub folder_fault : (position : ℕ) (before later : List ℕ) (place : ℕ) (read : Reads) (n : ℕ) (folder : FolderListing) (fault : MakeFault)
-    → IsAnswer (ArePackedFiles position before later) (Err fault) (sources_from place read n folder.files) → IsAnswer (IsPackedFolder position before later) (Err fault) (folder_at place read n folder)
+    → AgreesOrIsFault (ArePackedFiles position before later) (Err fault) (sources_from place read n folder.files) → AgreesOrIsFault (IsPackedFolder position before later) (Err fault) (folder_at place read n folder)
 folder_fault position before later place read n folder fault h =
     fault_of_part (ArePackedFiles position before later) (IsPackedFolder position before later) fault (sources_from place read n folder.files) (with_name folder.name) h
 
 pub packed_folder_is : (position : ℕ) (before later : List ℕ) (place : ℕ) (read : Reads) (n : ℕ) (name : Bor (List ℕ)) (names : List (List ℕ)) (files : Vec File Global)
-    → IsAnswer (ArePackedFiles position before later) (Ok files) (sources_from place read n names)
-    → IsAnswer (IsPackedFolder position before later) (Ok (record { name = name; files = files })) (folder_at place read n (record { name = name.now; files = names }))
+    → AgreesOrIsFault (ArePackedFiles position before later) (Ok files) (sources_from place read n names)
+    → AgreesOrIsFault (IsPackedFolder position before later) (Ok (record { name = name; files = files })) (folder_at place read n (record { name = name.now; files = names }))
 packed_folder_is position before later place read n name names files h = (
   record { name = name.now; files = h.0 },
   ap (λ (r : Result (List Source) MakeFault). and_then r (with_name name.now)) h.1,
@@ -240,9 +240,9 @@ folders_go_on told place all i one R R' S folder lt e so_far next grows =
 
 pub folders_stop : {A : Type 0} (told : List TreeState) (place : ℕ) (all : List FolderListing) (i : ℕ) (one : FolderListing) (R : List SourceFolder → Type 0) (S : Folder → SourceFolder → Type 0) (T : A → List SourceFolder → Type 0) (fault : MakeFault)
     → i < length all → one ≡ get_or all i one → IsSoFar told reads_in (folder_at place) (take i all) R → IsNext told (folder_at place) one S (Err fault)
-    → (n : ℕ) → Explains told (λ read. IsAnswer T (Err fault) (source_folders_from place read n all))
+    → (n : ℕ) → Explains told (λ read. AgreesOrIsFault T (Err fault) (source_folders_from place read n all))
 folders_stop {A} told place all i one R S T fault lt e so_far next n =
-    let P : List FolderListing → Type 0 = λ xs. Explains told (λ read. IsAnswer T (Err fault) (source_folders_from place read n xs)) in
+    let P : List FolderListing → Type 0 = λ xs. Explains told (λ read. AgreesOrIsFault T (Err fault) (source_folders_from place read n xs)) in
     subst P (ap (λ (l : List FolderListing). take i all ++ l) (ap (λ (x : FolderListing). x ∷ drop (suc i) all) e ∙ sym (drop-cons all i one lt)) ∙ take-append-drop i all)
     (so_far_stops told reads_in (folder_at place) (folder_own place) (take i all) one (drop (suc i) all) R S T fault so_far next n)
 

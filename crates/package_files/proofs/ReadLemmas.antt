@@ -5,7 +5,7 @@ use Rattle.base_core.specs.Calls.{IfObservable}
 use Rattle.base_core.specs.Tree.{TreeState, files_of}
 use Rattle.package_files.specs.Sources.{and_then, each_from}
 use Rattle.make_info.specs.Reads.{Reads}
-use Rattle.package_files.specs.Runs.{AreObserved, Explains, IsAnswer}
+use Rattle.package_files.specs.Runs.{AgreesOrIsFault, AreObserved, Explains}
 use Rattle.base_core.specs.declared.tree.TreeFault.{TreeFault}
 use Rattle.base_core.specs.declared.tree.TreeFault.TheVariants as Trees
 use Rattle.std.specs.Result.{IsErrAnd}
@@ -101,7 +101,7 @@ IsSoFar {X} {Y} told count of xs R = (n : ℕ) → Explains told (λ read. (ys :
 
 -- the answer at the next one
 abbrev pub IsNext : {X Y A : Type 0} → List TreeState → (Reads → ℕ → X → Result Y MakeFault) → X → (A → Y → Type 0) → Result A MakeFault → Type 0
-IsNext told of x S r = (n : ℕ) → Explains told (λ read. IsAnswer S r (of read n x))
+IsNext told of x S r = (n : ℕ) → Explains told (λ read. AgreesOrIsFault S r (of read n x))
 
 module _ {X Y : Type 0} (told : List TreeState) (count : X → ℕ) (of : Reads → ℕ → X → Result Y MakeFault) (own : RestsOnOwn count of) where
   abbrev SoFar : List X → (List Y → Type 0) → Type 0
@@ -137,7 +137,7 @@ module _ {X Y : Type 0} (told : List TreeState) (count : X → ℕ) (of : Reads 
 
   -- a fault of the next one is that of all
   pub so_far_stops : {A B : Type 0} (xs : List X) (x : X) (rest : List X) (R : List Y → Type 0) (S : A → Y → Type 0) (T : B → List Y → Type 0) (fault : MakeFault)
-      → SoFar xs R → Next x S (Err fault) → (n : ℕ) → Explains told (λ read. IsAnswer T (Err fault) (each_from count (of read) n (xs ++ x ∷ rest)))
+      → SoFar xs R → Next x S (Err fault) → (n : ℕ) → Explains told (λ read. AgreesOrIsFault T (Err fault) (each_from count (of read) n (xs ++ x ∷ rest)))
   so_far_stops {A} {B} xs x rest R S T fault before next n =
       let k : ℕ = n + total count xs in
       let p = before n in
@@ -148,7 +148,7 @@ module _ {X Y : Type 0} (told : List TreeState) (count : X → ℕ) (of : Reads 
         is = by fault q.is (λ h. each_stops count (of (joined k p.read q.read)) n k xs x rest p.is.0 fault refl (kept_reads n xs p.read q.read ∙ p.is.1) (next_reads k x p.read q.read ∙ h));
       }
     where
-      by : (fault : MakeFault) {r : Result Y MakeFault} {s : Result (List Y) MakeFault} → IsAnswer S (Err fault) r → (r ≡ Err fault → s ≡ Err fault) → IsAnswer T (Err fault) s
+      by : (fault : MakeFault) {r : Result Y MakeFault} {s : Result (List Y) MakeFault} → AgreesOrIsFault S (Err fault) r → (r ≡ Err fault → s ≡ Err fault) → AgreesOrIsFault T (Err fault) s
       by Disk h f = tt
       by Memory h f = tt
       by (FileMissing p) h f = f h
@@ -172,7 +172,7 @@ explained told P h = record { read = reads_or told (λ n name. None); observed =
 
 -- a fault of a part is that of the whole
 pub fault_of_part : {A B C D : Type 0} (S : A → B → Type 0) (T : C → D → Type 0) (fault : MakeFault) (part : Result B MakeFault) (next : B → Result D MakeFault)
-    → IsAnswer S (Err fault) part → IsAnswer T (Err fault) (and_then part next)
+    → AgreesOrIsFault S (Err fault) part → AgreesOrIsFault T (Err fault) (and_then part next)
 fault_of_part S T Disk part next h = tt
 fault_of_part S T Memory part next h = tt
 fault_of_part S T (FileMissing p) part next h = ap (λ r. and_then r next) h
@@ -183,18 +183,18 @@ fault_of_part S T (TooLarge p q) part next h = ap (λ r. and_then r next) h
 -- ---- faults that are handed on
 
 module _ {A B : Type 0} (S : A → B → Type 0) (w : Result B MakeFault) where
-  answered : (fault : MakeFault) (e : MakeFault) → e ≡ fault → IsAnswer S (Err fault) w → IsAnswer S (Err e) w
-  answered fault e same h = let P : MakeFault → Type 0 = λ f. IsAnswer S (Err f) w in subst P (sym same) h
+  answered : (fault : MakeFault) (e : MakeFault) → e ≡ fault → AgreesOrIsFault S (Err fault) w → AgreesOrIsFault S (Err e) w
+  answered fault e same h = let P : MakeFault → Type 0 = λ f. AgreesOrIsFault S (Err f) w in subst P (sym same) h
 
-  pub same_fault : (r : Result A MakeFault) (fault : MakeFault) → IsErrAnd r (λ e. e ≡ fault) → IsAnswer S (Err fault) w → IsAnswer S r w
+  pub same_fault : (r : Result A MakeFault) (fault : MakeFault) → IsErrAnd r (λ e. e ≡ fault) → AgreesOrIsFault S (Err fault) w → AgreesOrIsFault S r w
   same_fault (Ok x) fault h a = absurd h
   same_fault (Err e) fault h a = answered fault e h a
 
-  pub memory_fault : (r : Result A MakeFault) → IsErrAnd r (λ e. e ≡ Memory) → IsAnswer S r w
+  pub memory_fault : (r : Result A MakeFault) → IsErrAnd r (λ e. e ≡ Memory) → AgreesOrIsFault S r w
   memory_fault (Ok x) h = absurd h
   memory_fault (Err e) h = answered Memory e h tt
 
-  pub tree_fault : (r : Result A MakeFault) (fault : TreeFault) → IsErrAnd r (IsMakeFaultOf fault) → IsAnswer S r w
+  pub tree_fault : (r : Result A MakeFault) (fault : TreeFault) → IsErrAnd r (IsMakeFaultOf fault) → AgreesOrIsFault S r w
   tree_fault (Ok x) fault h = absurd h
   tree_fault (Err e) Trees.Disk h = answered Disk e h tt
   tree_fault (Err e) Trees.Memory h = answered Memory e h tt

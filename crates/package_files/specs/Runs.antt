@@ -21,9 +21,9 @@ pub record Explains (history : List TreeState) (P : Reads → Type 0) : Type 0 w
 
 -- a result denotes the wanted value, or is the wanted fault; an I/O error of the tree and out of memory
 -- may occur in any case
-abbrev pub IsAnswer :
+abbrev pub AgreesOrIsFault :
     {A B : Type 0} → (A → B → Type 0) → Result A MakeFault → Result B MakeFault → Type 0
-IsAnswer {A} {B} Denotes (Ok x) wanted = (y : B) × (wanted ≡ Ok y) × Denotes x y
-IsAnswer Denotes (Err Disk) wanted = Unit {0}
-IsAnswer Denotes (Err Memory) wanted = Unit {0}
-IsAnswer Denotes (Err fault) wanted = wanted ≡ Err fault
+AgreesOrIsFault {A} {B} Denotes (Ok x) wanted = (y : B) × (wanted ≡ Ok y) × Denotes x y
+AgreesOrIsFault Denotes (Err Disk) wanted = Unit {0}
+AgreesOrIsFault Denotes (Err Memory) wanted = Unit {0}
+AgreesOrIsFault Denotes (Err fault) wanted = wanted ≡ Err fault

@@ -62,13 +62,13 @@ scripts_from read n values = each_from (λ v. 1) (script_at read) n values
 -- ---- files
 
 -- the file that was read under a name in the tree
-abbrev pub source_with : List ℕ → List ℕ → Source
-source_with name bytes = record { name = last_part_of name; bytes = bytes }
+abbrev pub source_of_read : List ℕ → List ℕ → Source
+source_of_read name bytes = record { name = last_part_of name; bytes = bytes }
 
 -- the file under a name in the tree by the read of number `n`; the argument at a place lists the name
 abbrev pub file_at : ℕ → Reads → ℕ → List ℕ → Result Source MakeFault
 file_at place read n name =
-    and_then (found_at place (read n name)) (λ bytes. Ok (source_with name bytes))
+    and_then (found_at place (read n name)) (λ bytes. Ok (source_of_read name bytes))
 
 -- the files under names in the tree, each with a read of its own; `place` is that of `-F`, at which a
 -- file that is gone is reported

@@ -12,7 +12,7 @@ ghost use Rattle.package_files.specs.BorrowedNames.{listings_of};
 ghost use Rattle.package_files.specs.Folders.{folders_of};
 ghost use Rattle.package_files.specs.Package.{has_contents};
 ghost use Rattle.package_files.specs.Packed.{IsPackedFile, ArePackedFiles, IsPackedFolder, IsPacking};
-ghost use Rattle.package_files.specs.Runs.{Explains, IsAnswer};
+ghost use Rattle.package_files.specs.Runs.{AgreesOrIsFault, Explains};
 ghost use Rattle.package_files.specs.Sources.{found_at, file_at, sources_from, folder_at, source_folders_from};
 ghost use Rattle.std.specs.Option.{option_map};
 ghost use Rattle.std.specs.Prelude.{◌≡◌, ◌++◌, ◌≤◌, ◌-◌, length, take, drop, replicate, OnOk, IfOk, IfSome, [], ◌∷◌, ℕ, map, true, false};
@@ -98,7 +98,7 @@ pub fn pack_names<'a, T: Tree>(
     // Some reads, from any number on, explain the result; if the tree's files are observable, the
     // reads are theirs.
     ensures read { (n : ℕ) → Explains (T.history tree.old) (λ read.
-        IsAnswer IsPacking result (source_folders_from place read n
+        AgreesOrIsFault IsPacking result (source_folders_from place read n
         (folders_of dir.now names.now))) }
 {
     let folders = all_folders_above(alloc, dir, names)?;
@@ -120,7 +120,7 @@ fn pack_folders<'a, T: Tree>(
     ensures tree { OnlyReads MakeFault.Disk (T.history tree.old) (T.history tree.new)
         (T.counts tree.old) (T.counts tree.new) result }
     ensures read { (n : ℕ) → Explains (T.history tree.old) (λ read.
-        IsAnswer IsPacking result (source_folders_from place read n
+        AgreesOrIsFault IsPacking result (source_folders_from place read n
         (listings_of folders.now files.now))) }
 {
     let mut packed = Vec::new(alloc);
@@ -165,7 +165,7 @@ fn pack_folder<'a, T: Tree>(
     ensures tree { OnlyReads MakeFault.Disk (T.history tree.old) (T.history tree.new)
         (T.counts tree.old) (T.counts tree.new) result }
     ensures read { (n : ℕ) → Explains (T.history tree.old) (λ read.
-        IsAnswer (IsPackedFolder position blocks.old.items blocks.new.items) result
+        AgreesOrIsFault (IsPackedFolder position blocks.old.items blocks.new.items) result
         (folder_at place read n (record {
           name = name.now;
           files = map (λ name.
@@ -189,7 +189,7 @@ fn pack_files<'a, T: Tree>(
     ensures tree { OnlyReads MakeFault.Disk (T.history tree.old) (T.history tree.new)
         (T.counts tree.old) (T.counts tree.new) result }
     ensures read { (n : ℕ) → Explains (T.history tree.old) (λ read.
-        IsAnswer (ArePackedFiles folder blocks.old.items blocks.new.items) result
+        AgreesOrIsFault (ArePackedFiles folder blocks.old.items blocks.new.items) result
         (sources_from place read n (map (λ name. name.now) names.now))) }
 {
     let mut files = Vec::new(alloc);
@@ -221,7 +221,7 @@ fn pack_file<'a, T: Tree>(
     ensures tree { OnlyReads MakeFault.Disk (T.history tree.old) (T.history tree.new)
         (T.counts tree.old) (T.counts tree.new) result }
     ensures read { (n : ℕ) → Explains (T.history tree.old) (λ read.
-        IsAnswer (IsPackedFile position.0 position.1 blocks.old.items blocks.new.items) result
+        AgreesOrIsFault (IsPackedFile position.0 position.1 blocks.old.items blocks.new.items) result
         (file_at place read n name.now)) }
 {
     let start = blocks.len();
@@ -246,7 +246,7 @@ fn read_listed<T: Tree>(
     ensures begun { IfOk result (λ at. HasBlockFront position.0 position.1 blocks.old.items
         blocks.new.items at) }
     ensures read { (n : ℕ) → Explains (T.history tree.old) (λ read.
-        IsAnswer (λ at bytes. bytes ≡ drop at blocks.new.items) result
+        AgreesOrIsFault (λ at bytes. bytes ≡ drop at blocks.new.items) result
         (found_at place (read n name.now))) }
 {
     match read_in_block(tree, position, name, blocks)? {
@@ -290,7 +290,7 @@ pub fn read_file<T: Tree>(
     ensures tree { OnlyReads MakeFault.Disk (T.history tree.old) (T.history tree.new)
         (T.counts tree.old) (T.counts tree.new) result }
     ensures read { (n : ℕ) → Explains (T.history tree.old) (λ read.
-        IsAnswer (λ bytes found. found ≡ bytes.items) result (found_at place (read n name.now))) }
+        AgreesOrIsFault (λ bytes found. found ≡ bytes.items) result (found_at place (read n name.now))) }
 {
     match read_all(alloc, tree, name)? {
         Some(bytes) => Ok(bytes),

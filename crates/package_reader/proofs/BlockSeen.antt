@@ -9,7 +9,7 @@ use Rattle.adb_block.specs.Framing.{failed}
 use Rattle.adb_block.specs.Frames.{IsHeadPrefix, head_len, raw_size}
 use Rattle.adb_block.specs.declared.block.Frame.{Frame}
 use Rattle.pkg_core.specs.Opened.{left_in}
-use Rattle.pkg_core.specs.Seen.{HasAt, IsSeen, IsSeenIn}
+use Rattle.pkg_core.specs.Seen.{AreBytesRead, HasAt, IsSeenIn}
 use Rattle.pkg_core.proofs.SeenBytes.{has_rest, seen_by_read, seen_then}
 use Rattle.pkg_core.specs.Pieces.{pieces_by_blocks, refusal}
 use Rattle.pkg_core.specs.Places.{HasPositions, pieces_at, reader_at_place, step_at}
@@ -23,9 +23,9 @@ use Rattle.package_reader.specs.declared.piece.PieceFault.TheVariants.{Bad, Disk
 -- ---- the positions
 
 pub positions_seen : (h : List TreeState) (name : List ℕ) (at : ℕ) (framing : Option Frame) (frame : Frame) (bytes : List ℕ) → framing ≡ Some frame → 8 ≤ frame.payload_len → length bytes ≡ 8 → IfObservable h (λ v. IfSome (files_of v name) (λ file. bytes ≡ take 8 (drop (at + frame.head_len) file)))
-    → (seen : List ℕ) × SeesPositions framing bytes seen × ((file_len : ℕ) → IsSeen h name file_len (at + head_size framing) seen)
+    → (seen : List ℕ) × SeesPositions framing bytes seen × ((file_len : ℕ) → AreBytesRead h name file_len (at + head_size framing) seen)
 positions_seen h name at framing frame bytes is room eight value =
-    subst (λ (f : Option Frame). (seen : List ℕ) × SeesPositions f bytes seen × ((file_len : ℕ) → IsSeen h name file_len (at + head_size f) seen)) (sym is)
+    subst (λ (f : Option Frame). (seen : List ℕ) × SeesPositions f bytes seen × ((file_len : ℕ) → AreBytesRead h name file_len (at + head_size f) seen)) (sym is)
     (bytes, (omega (arith, room, eight), λ enough. refl), λ file_len. seen_by_read h name file_len (at + frame.head_len) 8 bytes value eight)
 
 pub fits_in : (framing : Option Frame) (at len : ℕ) → at ≤ len → IfSome framing (λ frame. (0 < len - at) × (raw_size frame ≤ len - at)) → IfSome framing (λ frame. at + raw_size frame ≤ len)
@@ -40,10 +40,10 @@ head_whole head frame left holds short same fits =
     let whole = holds.whole (omega (arith, same, fits)) in
     omega (arith, whole, short, same)
 
-pub head_in : (h : List TreeState) (name head : List ℕ) (len at : ℕ) → at ≤ len → IsHeadPrefix head (len - at) → IsSeen h name len at head → IsSeenIn h name len at head
+pub head_in : (h : List TreeState) (name head : List ℕ) (len at : ℕ) → at ≤ len → IsHeadPrefix head (len - at) → AreBytesRead h name len at head → IsSeenIn h name len at head
 head_in h name head len at le holds seen = record { seen = seen; within = omega (arith, le, holds.within) }
 
-pub block_seen : (h later : List TreeState) (name head positions seen : List ℕ) (len at : ℕ) (framing : Option Frame) → later ≡ h → at ≤ len → IsHeadPrefix head (len - at) → length head ≤ head_len head → IfSome framing (λ frame. frame.head_len ≡ head_len head) → IfSome framing (λ frame. (0 < len - at) × (raw_size frame ≤ len - at)) → IsSeen h name len at head → SeesPositions framing positions seen → ((file_len : ℕ) → IsSeen later name file_len (at + head_size framing) seen)
+pub block_seen : (h later : List TreeState) (name head positions seen : List ℕ) (len at : ℕ) (framing : Option Frame) → later ≡ h → at ≤ len → IsHeadPrefix head (len - at) → length head ≤ head_len head → IfSome framing (λ frame. frame.head_len ≡ head_len head) → IfSome framing (λ frame. (0 < len - at) × (raw_size frame ≤ len - at)) → AreBytesRead h name len at head → SeesPositions framing positions seen → ((file_len : ℕ) → AreBytesRead later name file_len (at + head_size framing) seen)
     → IsSeenIn h name len at (head ++ seen)
 block_seen h later name head positions seen len at None same le holds short is fits first sees further =
     subst (λ (xs : List ℕ). IsSeenIn h name len at xs) (sym (ap (λ (ys : List ℕ). head ++ ys) sees ∙ append-nil head)) (head_in h name head len at le holds first)
@@ -51,7 +51,7 @@ block_seen h later name head positions seen len at (Some frame) same le holds sh
     let whole = head_whole head frame (len - at) holds short is fits.1 in
     let all = length-append head seen in
     record {
-      seen = seen_then h name len at (at + frame.head_len) head seen (ap (λ (n : ℕ). at + n) whole) first (subst (λ (g : List TreeState). IsSeen g name len (at + frame.head_len) seen) same (further len));
+      seen = seen_then h name len at (at + frame.head_len) head seen (ap (λ (n : ℕ). at + n) whole) first (subst (λ (g : List TreeState). AreBytesRead g name len (at + frame.head_len) seen) same (further len));
       within = omega (arith, whole, all, fits.1, sees.0, le);
     }
 

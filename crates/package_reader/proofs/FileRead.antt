@@ -8,7 +8,7 @@ use Rattle.base_core.specs.declared.cause.Cause.{Cause}
 use Rattle.pkg_core.specs.Contents.{Expected, hash_fault}
 use Rattle.pkg_core.specs.Opened.{expected_of}
 use Rattle.pkg_core.specs.declared.walk.Wanted.{Wanted}
-use Rattle.pkg_core.specs.Seen.{HasAt, IsSeen}
+use Rattle.pkg_core.specs.Seen.{AreBytesRead, HasAt}
 use Rattle.pkg_core.specs.Pieces.{PiecesRead, no_piece, pieces_from, refusal, whole_pieces}
 use Rattle.pkg_core.specs.Taking.{file_bytes_left, pieces_in}
 use Rattle.pkg_core.specs.declared.file.Part.{Part}
@@ -113,7 +113,7 @@ given o (Some f) pkg left bytes part is has this all of room =
       },
     )
 
-pub gives_piece : (h : List TreeState) (old : FilePieces) (Then : List ℕ → List ℕ → Type 0) (o : OpenFile) (rest : Option OpenFile) (bytes : List ℕ) (part : Part) → old.opened ≡ Some o → 0 < file_bytes_left o.file → ((pkg further : List ℕ) → AreUnreadBytes rest pkg further → Then pkg further) → ((len : ℕ) → IsSeen h (package_name_of_file old) len o.at bytes) → IsAnswerOf o bytes (Ok (part, rest))
+pub gives_piece : (h : List TreeState) (old : FilePieces) (Then : List ℕ → List ℕ → Type 0) (o : OpenFile) (rest : Option OpenFile) (bytes : List ℕ) (part : Part) → old.opened ≡ Some o → 0 < file_bytes_left o.file → ((pkg further : List ℕ) → AreUnreadBytes rest pkg further → Then pkg further) → ((len : ℕ) → AreBytesRead h (package_name_of_file old) len o.at bytes) → IsAnswerOf o bytes (Ok (part, rest))
     → IfNone rest (length bytes ≡ file_bytes_left o.file) → IsPieceOf o (length bytes) (part, rest) → IfSome rest (λ further. further.at + file_bytes_left further.file ≡ o.at + file_bytes_left o.file) → GivesBytesOf h old Then bytes (Ok true)
 gives_piece [] old Then o rest bytes part is some then seen next all of room = tt
 gives_piece (v ∷ earlier) old Then o rest bytes part is some then seen next all of room = λ pkg left there reading.
@@ -123,7 +123,7 @@ gives_piece (v ∷ earlier) old Then o rest bytes part is some then seen next al
     let (further, is_split, come) = given o rest pkg left bytes part left_of has this all of room in
     (further, is_split, then pkg further come)
 
-pub gives_fault : (h : List TreeState) (old : FilePieces) (Then : List ℕ → List ℕ → Type 0) (o : OpenFile) (bytes : List ℕ) (fault : PieceFault) (r : Result Bool PieceFault) → old.opened ≡ Some o → 0 < file_bytes_left o.file → IsErrAnd r (λ other. other ≡ fault) → (NotDisk {A = Part × Option OpenFile} (Err fault) → (len : ℕ) → IsSeen h (package_name_of_file old) len o.at bytes)
+pub gives_fault : (h : List TreeState) (old : FilePieces) (Then : List ℕ → List ℕ → Type 0) (o : OpenFile) (bytes : List ℕ) (fault : PieceFault) (r : Result Bool PieceFault) → old.opened ≡ Some o → 0 < file_bytes_left o.file → IsErrAnd r (λ other. other ≡ fault) → (NotDisk {A = Part × Option OpenFile} (Err fault) → (len : ℕ) → AreBytesRead h (package_name_of_file old) len o.at bytes)
     → IsAnswerOf o bytes (Err fault) → GivesBytesOf h old Then bytes r
 gives_fault [] old Then o bytes fault r is some answer seen next = tt
 gives_fault (v ∷ earlier) old Then o bytes fault (Ok came) is some answer seen next = absurd answer

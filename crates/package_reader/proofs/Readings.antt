@@ -5,7 +5,7 @@ use Rattle.std.proofs.lemmas.Bool.{false≢true}
 use Rattle.base_core.specs.declared.cause.Cause.{Cause}
 use Rattle.base_core.specs.Faults.{Counts}
 use Rattle.base_core.specs.Tree.{TreeState}
-use Rattle.pkg_core.specs.Seen.{HasAt, IsSeen, IsSeenIn, ReadsFile}
+use Rattle.pkg_core.specs.Seen.{AreBytesRead, HasAt, IsSeenIn, ReadsFile}
 use Rattle.adb_block.specs.Reading.{reading_of}
 use Rattle.adb_block.specs.declared.block.BlockKind.{BlockKind}
 use Rattle.pkg_core.specs.Contents.{Expected}
@@ -47,7 +47,7 @@ pub record IsSeenUnlessDisk (h : List TreeState) (name : List ℕ) (len at file_
   pub has_first : (pkg : List ℕ) → HasAt pkg at all → HasAt pkg at first
   pub has_bytes : (c : Cause) → fault ≡ Bad c → (pkg : List ℕ) → HasAt pkg at all → HasAt pkg file_at bytes
 
-pub seen_unless_disk : (h later : List TreeState) (name : List ℕ) (len at file_at left : ℕ) (first bytes : List ℕ) (fault : PieceFault) → later ≡ h → at + length first ≡ file_at → file_at + left ≤ len → IsSeenIn h name len at first → (NotDisk {A = Part × Option OpenFile} (Err fault) → length bytes ≤ left) → (NotDisk {A = Part × Option OpenFile} (Err fault) → IsSeen later name len file_at bytes)
+pub seen_unless_disk : (h later : List TreeState) (name : List ℕ) (len at file_at left : ℕ) (first bytes : List ℕ) (fault : PieceFault) → later ≡ h → at + length first ≡ file_at → file_at + left ≤ len → IsSeenIn h name len at first → (NotDisk {A = Part × Option OpenFile} (Err fault) → length bytes ≤ left) → (NotDisk {A = Part × Option OpenFile} (Err fault) → AreBytesRead later name len file_at bytes)
     → IsSeenUnlessDisk h name len at file_at first bytes fault
 seen_unless_disk h later name len at file_at left first bytes (Bad d) same located room seen few then =
     let few_bytes = few tt in

@@ -4,7 +4,7 @@
 
 ghost use Rattle.std.specs.Prelude.{◌≡◌, ◌≤◌, ◌<◌, ◌+◌, ◌-◌, ◌^◌, ℕ, List, length, IfErr, IfOk, IfSome, OnOk};
 ghost use Rattle.adb_block.specs.Frames.{raw_size};
-ghost use Rattle.pkg_core.specs.Seen.{HasAt, IsSeen, IsSeenIn, ReadsFile};
+ghost use Rattle.pkg_core.specs.Seen.{AreBytesRead, HasAt, IsSeenIn, ReadsFile};
 ghost use Rattle.package_reader.specs.Blocks.{EndsBefore, GoesFurther, GoesOnWith, IsBlockRead, IsInBlock, IsNextBlock, SeesPositions, head_size};
 ghost use Rattle.package_reader.specs.declared.piece.PieceFault.TheVariants.{Disk as DiskFault};
 ghost use Rattle.pkg_core.specs.Taking.{file_bytes_left};
@@ -134,7 +134,7 @@ fn read_positions<T: Tree>(
     requires { IfSome framing (λ frame. at + raw_size frame < 2 ^ 64) }
     ensures seen { IfOk result (λ positions. (seen : List ℕ) × SeesPositions framing positions seen
         × ((file_len : ℕ)
-        → IsSeen (T.history tree.old) name.now file_len (at + head_size framing) seen)) }
+        → AreBytesRead (T.history tree.old) name.now file_len (at + head_size framing) seen)) }
     ensures disk { IfErr result (λ fault. fault ≡ DiskFault) }
     // The tree is unchanged. `Disk` is returned only if the tree failed, and no call is a misuse if
     // the file still has its length.

@@ -7,7 +7,7 @@ ghost use Rattle.pkg_core.specs.Pieces.{PiecesRead};
 ghost use Rattle.pkg_core.specs.Taking.{HasTaken, file_bytes_left, next_len};
 ghost use Rattle.pkg_core.specs.Contents.{hash_fault};
 ghost use Rattle.pkg_core.specs.Opened.{expected_of};
-ghost use Rattle.pkg_core.specs.Seen.{HasAt, IsSeen, ReadsFile};
+ghost use Rattle.pkg_core.specs.Seen.{AreBytesRead, HasAt, ReadsFile};
 ghost use Rattle.package_reader.specs.Opened.{AreLeftOf, AreTestedSoFar, IsNextPiece, IsOpenFile, IsPieceOf, NotDisk, place_fault};
 ghost use Rattle.package_reader.specs.declared.piece.PieceFault.TheVariants.{Disk as DiskFault};
 
@@ -44,7 +44,7 @@ impl<'a> OpenFile<'a> {
         // Offsets have 64 bits.
         requires { self.at + file_bytes_left self.file < 2 ^ 64 }
         ensures seen { NotDisk result → (file_len : ℕ)
-            → IsSeen (T.history tree.old) name.now file_len self.entry.at piece.new }
+            → AreBytesRead (T.history tree.old) name.now file_len self.entry.at piece.new }
         // For each file that has the bytes that were seen.
         ensures piece { (file so_far : List ℕ) (further before : PiecesRead)
             → HasAt file self.entry.at piece.new

@@ -2,7 +2,7 @@
 //! other blocks", the paragraph of pieces.
 
 ghost use Rattle.std.specs.Prelude.{◌≡◌, ◌≤◌, ◌+◌, ℕ, [], length, IfErr, OnOk};
-ghost use Rattle.pkg_core.specs.Seen.{IsSeen, ReadsFile};
+ghost use Rattle.pkg_core.specs.Seen.{AreBytesRead, ReadsFile};
 ghost use Rattle.pkg_core.specs.declared.file.TheConstants.{PIECE_LEN};
 ghost use Rattle.package_reader.specs.declared.piece.PieceFault.TheVariants.{Disk as DiskFault};
 
@@ -64,7 +64,7 @@ impl Piece {
         ensures len { OnOk result (length self.new ≡ len) }
         ensures disk { IfErr result (λ fault. fault ≡ DiskFault) }
         ensures seen { OnOk result ((file_len : ℕ)
-            → IsSeen (T.history tree.old) name.now file_len at self.new) }
+            → AreBytesRead (T.history tree.old) name.now file_len at self.new) }
         // The tree is unchanged. `Disk` is returned only if the tree failed, and no call is a
         // misuse if the file still has its length.
         ensures tree { (file_len : ℕ) → at + len ≤ file_len

@@ -5,7 +5,7 @@ use Rattle.std.proofs.lemmas.List.{length-append}
 use Rattle.base_core.specs.declared.cause.Cause.{Cause}
 use Rattle.base_core.specs.Tree.{TreeState}
 use Rattle.pkg_core.specs.Front.{IsPresentRead, front_fault}
-use Rattle.pkg_core.specs.Seen.{HasAt, IsSeen, IsSeenIn}
+use Rattle.pkg_core.specs.Seen.{AreBytesRead, HasAt, IsSeenIn}
 use Rattle.pkg_core.specs.declared.front.Front.{Front}
 use Rattle.pkg_core.specs.declared.front.FrontFault.{FrontFault}
 use Rattle.pkg_core.specs.declared.front.FrontFault.TheVariants.{Bad, Disk, Memory}
@@ -15,22 +15,22 @@ use Rattle.pkg_core.proofs.SeenBytes.{IsFilled, filled, seen_then}
 
 -- ---- the bytes
 
-pub header_seen : (h : List TreeState) (name header : List ℕ) (len : ℕ) → length header ≡ min len 8 → IsSeen h name len 0 header → IsSeenIn h name len 0 header
+pub header_seen : (h : List TreeState) (name header : List ℕ) (len : ℕ) → length header ≡ min len 8 → AreBytesRead h name len 0 header → IsSeenIn h name len 0 header
 header_seen h name header len n seen = record { seen = seen; within = omega arith }
 
-pub head_seen : (h later : List TreeState) (name header head : List ℕ) (len : ℕ) → later ≡ h → length header ≡ 8 → 8 + length head ≤ len → IsSeen h name len 0 header → IsSeen later name len 8 head → IsSeenIn h name len 0 (header ++ head)
+pub head_seen : (h later : List TreeState) (name header head : List ℕ) (len : ℕ) → later ≡ h → length header ≡ 8 → 8 + length head ≤ len → AreBytesRead h name len 0 header → AreBytesRead later name len 8 head → IsSeenIn h name len 0 (header ++ head)
 head_seen h later name header head len same n le seen further =
     let m = length-append header head in
     record {
-      seen = seen_then h name len 0 8 header head (omega arith) seen (subst (λ (g : List TreeState). IsSeen g name len 8 head) same further);
+      seen = seen_then h name len 0 8 header head (omega arith) seen (subst (λ (g : List TreeState). AreBytesRead g name len 8 head) same further);
       within = omega arith;
     }
 
-pub payload_seen : (h later : List TreeState) (name front payload : List ℕ) (len at : ℕ) → later ≡ h → at ≡ length front → at + length payload ≤ len → IsSeenIn h name len 0 front → IsSeen later name len at payload → IsSeenIn h name len 0 (front ++ payload)
+pub payload_seen : (h later : List TreeState) (name front payload : List ℕ) (len at : ℕ) → later ≡ h → at ≡ length front → at + length payload ≤ len → IsSeenIn h name len 0 front → AreBytesRead later name len at payload → IsSeenIn h name len 0 (front ++ payload)
 payload_seen h later name front payload len at same n le seen further =
     let m = length-append front payload in
     record {
-      seen = seen_then h name len 0 at front payload (omega (arith, n)) seen.seen (subst (λ (g : List TreeState). IsSeen g name len at payload) same further);
+      seen = seen_then h name len 0 at front payload (omega (arith, n)) seen.seen (subst (λ (g : List TreeState). AreBytesRead g name len at payload) same further);
       within = omega arith;
     }
 

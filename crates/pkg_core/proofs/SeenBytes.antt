@@ -10,7 +10,7 @@ use Rattle.base_core.specs.Calls.{IfObservable}
 use Rattle.base_core.specs.Faults.{Counts, IsNoFault}
 use Rattle.base_core.specs.Tree.{TreeState, CanRead, files_of}
 use Rattle.base_core.proofs.Counting.{goes_on_twice, no_fault_twice, cause_later}
-use Rattle.pkg_core.specs.Seen.{HasAt, IsSeen, IsSeenIn, IsSoLong, ReadsFile}
+use Rattle.pkg_core.specs.Seen.{AreBytesRead, HasAt, IsSeenIn, IsSoLong, ReadsFile}
 
 -- ---- a file
 
@@ -50,28 +50,28 @@ both_in : (found : Option (List ℕ)) (len at : ℕ) (xs ys : List ℕ) → IfSo
 both_in None len at xs ys h g = h
 both_in (Some file) len at xs ys h g = λ same. has_both file at xs ys (h same) (g same)
 
-pub seen_both : (history : List TreeState) (name : List ℕ) (len at : ℕ) (xs ys : List ℕ) → IsSeen history name len at xs → IsSeen history name len (at + length xs) ys → IsSeen history name len at (xs ++ ys)
+pub seen_both : (history : List TreeState) (name : List ℕ) (len at : ℕ) (xs ys : List ℕ) → AreBytesRead history name len at xs → AreBytesRead history name len (at + length xs) ys → AreBytesRead history name len at (xs ++ ys)
 seen_both [] name len at xs ys h g = h
 seen_both (v ∷ earlier) name len at xs ys h g = both_in (files_of v name) len at xs ys h g
 
-pub seen_then : (history : List TreeState) (name : List ℕ) (len at to : ℕ) (xs ys : List ℕ) → to ≡ at + length xs → IsSeen history name len at xs → IsSeen history name len to ys → IsSeen history name len at (xs ++ ys)
-seen_then history name len at to xs ys e h g = seen_both history name len at xs ys h (subst (λ (n : ℕ). IsSeen history name len n ys) e g)
+pub seen_then : (history : List TreeState) (name : List ℕ) (len at to : ℕ) (xs ys : List ℕ) → to ≡ at + length xs → AreBytesRead history name len at xs → AreBytesRead history name len to ys → AreBytesRead history name len at (xs ++ ys)
+seen_then history name len at to xs ys e h g = seen_both history name len at xs ys h (subst (λ (n : ℕ). AreBytesRead history name len n ys) e g)
 
 -- what a read filled a buffer with
 read_in : (found : Option (List ℕ)) (len at n : ℕ) (bytes : List ℕ) → length bytes ≡ n → IfSome found (λ file. bytes ≡ take n (drop at file)) → IfSome found (λ file. length file ≡ len → HasAt file at bytes)
 read_in None len at n bytes e h = h
 read_in (Some file) len at n bytes e h = λ same. ap (λ (k : ℕ). take k (drop at file)) e ∙ sym h
 
-pub seen_by_read : (history : List TreeState) (name : List ℕ) (len at n : ℕ) (bytes : List ℕ) → IfObservable history (λ v. IfSome (files_of v name) (λ file. bytes ≡ take n (drop at file))) → length bytes ≡ n → IsSeen history name len at bytes
+pub seen_by_read : (history : List TreeState) (name : List ℕ) (len at n : ℕ) (bytes : List ℕ) → IfObservable history (λ v. IfSome (files_of v name) (λ file. bytes ≡ take n (drop at file))) → length bytes ≡ n → AreBytesRead history name len at bytes
 seen_by_read [] name len at n bytes h e = h
 seen_by_read (v ∷ earlier) name len at n bytes h e = read_in (files_of v name) len at n bytes e h
 
 -- two reads, of which the second begins where the first ended
-pub seen_by_two : (history later : List TreeState) (name : List ℕ) (len at n m : ℕ) (xs ys all : List ℕ) → later ≡ history → all ≡ xs ++ ys → length xs ≡ n → length ys ≡ m → IfObservable history (λ v. IfSome (files_of v name) (λ file. xs ≡ take n (drop at file))) → IfObservable later (λ v. IfSome (files_of v name) (λ file. ys ≡ take m (drop (at + n) file))) → IsSeen history name len at all
+pub seen_by_two : (history later : List TreeState) (name : List ℕ) (len at n m : ℕ) (xs ys all : List ℕ) → later ≡ history → all ≡ xs ++ ys → length xs ≡ n → length ys ≡ m → IfObservable history (λ v. IfSome (files_of v name) (λ file. xs ≡ take n (drop at file))) → IfObservable later (λ v. IfSome (files_of v name) (λ file. ys ≡ take m (drop (at + n) file))) → AreBytesRead history name len at all
 seen_by_two history later name len at n m xs ys all same is first second h g =
     let before = seen_by_read history name len at n xs h first in
-    let behind = subst (λ (k : List TreeState). IsSeen k name len (at + n) ys) same (seen_by_read later name len (at + n) m ys g second) in
-    subst (λ (zs : List ℕ). IsSeen history name len at zs) (sym is) (seen_then history name len at (at + n) xs ys (ap (λ (k : ℕ). at + k) (sym first)) before behind)
+    let behind = subst (λ (k : List TreeState). AreBytesRead k name len (at + n) ys) same (seen_by_read later name len (at + n) m ys g second) in
+    subst (λ (zs : List ℕ). AreBytesRead history name len at zs) (sym is) (seen_then history name len at (at + n) xs ys (ap (λ (k : ℕ). at + k) (sym first)) before behind)
 
 -- ---- what reads make of a tree
 
@@ -88,7 +88,7 @@ proper_where_long (v ∷ earlier) name at n len a b h le = λ long. h (can_read 
 pub record IsFilled (history : List TreeState) (name : List ℕ) (len at n : ℕ) (bytes : List ℕ) : Type 0 where
   pub further : List ℕ
   pub long : length further ≡ n
-  pub seen : IsSeen history name len at (bytes ++ further)
+  pub seen : AreBytesRead history name len at (bytes ++ further)
 
 zeros : ℕ → List ℕ
 zeros n = replicate n 0
@@ -117,7 +117,7 @@ fill_in (Some file) len at n bytes le h = by_length (length file == len) refl
         (take n (drop (at + length bytes) file), omega arith, λ s. file_filled file at n bytes (subst (λ (k : ℕ). at + length bytes + n ≤ k) (sym s) le) (h s))
     by_length false e = (zeros n, zeros_filled n, λ s. absurd (let no : (length file == len) ≡ true = grind arith in (cc)))
 
-pub filled : (history : List TreeState) (name : List ℕ) (len at n : ℕ) (bytes : List ℕ) → IsSeen history name len at bytes → at + length bytes + n ≤ len → IsFilled history name len at n bytes
+pub filled : (history : List TreeState) (name : List ℕ) (len at n : ℕ) (bytes : List ℕ) → AreBytesRead history name len at bytes → at + length bytes + n ≤ len → IsFilled history name len at n bytes
 filled [] name len at n bytes h le = record { further = zeros n; long = zeros_filled n; seen = h }
 filled (v ∷ earlier) name len at n bytes h le =
     let (further, long, seen) = fill_in (files_of v name) len at n bytes le h in

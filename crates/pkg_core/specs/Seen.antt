@@ -13,15 +13,15 @@ HasAt file at bytes = take (length bytes) (drop at file) ≡ bytes
 
 -- a read saw these bytes: if the tree is observable, and the file under this name has this length, it
 -- has them at this offset
-abbrev pub IsSeen : List TreeState → List ℕ → ℕ → ℕ → List ℕ → Type 0
-IsSeen history name len at bytes =
+abbrev pub AreBytesRead : List TreeState → List ℕ → ℕ → ℕ → List ℕ → Type 0
+AreBytesRead history name len at bytes =
     IfObservable history
     (λ v. IfSome (files_of v name) (λ file. length file ≡ len → HasAt file at bytes))
 
 -- a read saw these bytes, and they are within a file of this length
 pub record IsSeenIn (history : List TreeState) (name : List ℕ) (len at : ℕ)
     (bytes : List ℕ) : Type 0 where
-  pub seen : IsSeen history name len at bytes
+  pub seen : AreBytesRead history name len at bytes
   pub within : at + length bytes ≤ len
 
 -- the file under this name exists and has this length

@@ -3,7 +3,7 @@
 
 ghost use Rattle.std.specs.Prelude.{◌≡◌, ◌≤◌, ◌<◌, ◌+◌, ◌^◌, ℕ, [], ◌++◌, length, IfOk};
 ghost use Rattle.adb_block.specs.Frames.{IsHeadPrefix, head_len};
-ghost use Rattle.pkg_core.specs.Seen.{IsSeen, ReadsFile, tree_fault};
+ghost use Rattle.pkg_core.specs.Seen.{AreBytesRead, ReadsFile, tree_fault};
 
 use adb_block::head_len;
 use base_core::{Disk, Name, Tree};
@@ -49,7 +49,7 @@ impl HeadBytes {
         // Offsets have 64 bits.
         requires { at + left < 2 ^ 64 }
         ensures seen { IfOk result (λ head. (file_len : ℕ)
-            → IsSeen (T.history tree.old) name.now file_len at head) }
+            → AreBytesRead (T.history tree.old) name.now file_len at head) }
         ensures holds { IfOk result (λ head. IsHeadPrefix head left) }
         ensures short { IfOk result (λ head. length head ≤ head_len head) }
         // The tree is unchanged. `Disk` is returned only if the tree failed, and no call is a

@@ -10,7 +10,7 @@ ghost use Rattle.base_core.specs.Calls.{IfObservable};
 ghost use Rattle.base_core.specs.Read.{OnlyReads};
 ghost use Rattle.base_core.specs.Tree.{files_of};
 ghost use Rattle.pkg_core.specs.Front.{IsFrontOf, IsFrontRead, IsNotBad, IsPresentRead, front_end, front_file_len};
-ghost use Rattle.pkg_core.specs.Seen.{HasAt, IsSeen, IsSeenIn, ReadsFile};
+ghost use Rattle.pkg_core.specs.Seen.{AreBytesRead, HasAt, IsSeenIn, ReadsFile};
 ghost use Rattle.pkg_core.specs.declared.front.FrontFault.TheVariants.{Disk as DiskFault};
 
 use crate::front::{Front, FrontFault};
@@ -83,7 +83,7 @@ impl Header {
     fn read<T: Tree>(tree: &mut T, name: &Name, len: u64) -> Result<Header, FrontFault>
         ensures len { IfOk result (λ header. length header ≡ min len 8) }
         ensures seen { IfOk result (λ header. (file_len : ℕ)
-            → IsSeen (T.history tree.old) name.now file_len 0 header) }
+            → AreBytesRead (T.history tree.old) name.now file_len 0 header) }
         ensures disk { IfErr result (λ fault. fault ≡ DiskFault) }
         // The tree is unchanged. `Disk` is returned only if the tree failed, and no call is a
         // misuse if the file still has its length.
@@ -116,7 +116,7 @@ fn read_payload<T: Tree>(
 ) -> Result<Vec<u8>, FrontFault>
     ensures len { IfOk result (λ payload. length payload.items ≡ len) }
     ensures seen { IfOk result (λ payload. (file_len : ℕ)
-        → IsSeen (T.history tree.old) name.now file_len at payload.items) }
+        → AreBytesRead (T.history tree.old) name.now file_len at payload.items) }
     ensures good { IfErr result (λ fault. IsNotBad fault) }
     // The tree is unchanged. `Disk` is returned only if the tree failed, and no call is a misuse if
     // the file still has its length.

@@ -4,7 +4,7 @@ use Rattle.std.specs.Prelude.{if◌then◌else◌}
 use Rattle.std.proofs.lemmas.Bool.{and_parts}
 use Rattle.outcome.specs.adb_fields.FirstPair.{IsIn}
 use Rattle.adb_view.specs.Plain.{Plain}
-use Rattle.outcome.specs.adb_write.Canonical.{PayloadCounts, empty_layout, overflow_of, passes, trace, written_of}
+use Rattle.outcome.specs.adb_write.Canonical.{PayloadCounts, counts_after_values, empty_layout, exceeds_a_limit, overflow_of, written_of}
 use Rattle.base_core.specs.Files.{Files}
 use Rattle.outcome.specs.change_files.FileChange.{FileChange}
 use Rattle.outcome.specs.change_files.PlanLists.{first_reserved}
@@ -36,7 +36,7 @@ use Rattle.refusal_laws.proofs.Paths.{contested_is, first_reserved_is}
 -- ---- limits
 
 pub too_large : (v : Plain) (counts : PayloadCounts) → overflow_of v ≡ Some counts → IsTooLarge v counts.0 counts.1
-too_large v counts e = (e, (found_in passes (trace v empty_layout) counts e).1)
+too_large v counts e = (e, (found_in exceeds_a_limit (counts_after_values v empty_layout) counts e).1)
 
 database_err : (members : List Member) (flags : List Bool) (counts : PayloadCounts) → database_of members flags ≡ Err counts → written_of (database_value members flags) ≡ Err counts
 unfolding database_of

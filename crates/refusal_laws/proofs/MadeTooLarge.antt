@@ -9,14 +9,14 @@ use Rattle.command_core.specs.Files.{without_dot}
 use Rattle.command_core.specs.Values.{script_file, script_type}
 use Rattle.command_core.specs.declared.values.OptionValue.{OptionValue}
 use Rattle.outcome.specs.make_core.ReadBack.{packed_of_parts, packed_package}
-use Rattle.outcome.specs.make_info.Information.{InfoItem, information, information_value, replaces_priority}
+use Rattle.outcome.specs.make_info.Information.{FieldWithValue, information, information_value, replaces_priority}
 use Rattle.outcome.specs.make_info.Reads.{Reads}
 use Rattle.outcome.specs.make_info.declared.fault.MakeFault.{MakeFault}
 use Rattle.outcome.specs.make_info.declared.fault.MakeFault.TheVariants.{TooLarge}
 use Rattle.outcome.specs.package_files.Folders.{FolderListing, folders_of}
 use Rattle.outcome.specs.make_package.Making.{container_unless, made_package, or_info_bad, package_container, package_of_parts}
 use Rattle.outcome.specs.package_files.Package.{Script, Source, SourceFolder, contents_of_folders, installed_size, value_of_package}
-use Rattle.outcome.specs.package_files.Sources.{each_from, file_at, folder_at, folders_below, found_at, and_then, script_at, script_with, scripts_from, source_with, sources_from, texts_of, values_with}
+use Rattle.outcome.specs.package_files.Sources.{each_from, file_at, folder_at, folders_below, found_at, and_then, script_at, script_with, scripts_from, source_of_read, sources_from, texts_of, values_with}
 use Rattle.outcome.specs.pkg_core.Contents.{Contents}
 use Rattle.refusal_laws.specs.MadeTooLarge.{IsPackageTooLarge}
 use Rattle.refusal_laws.proofs.ChangeFaults.{too_large}
@@ -55,7 +55,7 @@ module _ (bytes values : ℕ) where
   folder_never : (place : ℕ) (read : Reads) (n : ℕ) (folder : FolderListing) → IsNever (folder_at place read n folder)
   folder_never place read n folder e =
       elim (success_err (sources_from place read n folder.files) (λ files. with_files files) (TooLarge bytes values) e) [
-        | inl first ↦ each_never (λ name. 1) (file_at place read) (λ m name f. found_never place (read m name) (λ b. source_with name b) f) n folder.files first
+        | inl first ↦ each_never (λ name. 1) (file_at place read) (λ m name f. found_never place (read m name) (λ b. source_of_read name b) f) n folder.files first
         | inr last ↦ no_fault (source_folder last.0) (TooLarge bytes values) last.2
       ]
     where
@@ -70,7 +70,7 @@ module _ (bytes values : ℕ) where
   folders_never read n (v ∷ vs) names e =
       each_never (λ (folder : FolderListing). length folder.files) (folder_at v.place read) (folder_never v.place read) n (folders_of (without_dot v.text) names) e
 
-  info_never : (r : Result (List InfoItem) ℕ) → IsNever (or_info_bad r)
+  info_never : (r : Result (List FieldWithValue) ℕ) → IsNever (or_info_bad r)
   info_never (Ok items) e = cc (e)
   info_never (Err place) e = cc (e)
 
@@ -109,22 +109,22 @@ module _ (bytes values : ℕ) where
       scripts : Result (List Script) MakeFault
       scripts = scripts_from read 0 (values_with SCRIPT command.values)
 
-      then_about : List Script → List InfoItem → Result (List ℕ) MakeFault
+      then_about : List Script → List FieldWithValue → Result (List ℕ) MakeFault
       then_about found about = and_then (folders_below read (length found) (values_with FILES command.values) names) (package_of_parts command found about)
 
       then_scripts : List Script → Result (List ℕ) MakeFault
       then_scripts found = and_then (or_info_bad (information command)) (then_about found)
 
-      value_of : List Script → List InfoItem → List SourceFolder → Plain
+      value_of : List Script → List FieldWithValue → List SourceFolder → Plain
       value_of found about folders =
           value_of_package (information_value about (installed_size folders)) folders found (texts_of (values_with TRIGGER command.values)) (replaces_priority about)
 
-      packed_is : (found : List Script) (about : List InfoItem) (folders : List SourceFolder) → scripts ≡ Ok found → or_info_bad (information command) ≡ Ok about
+      packed_is : (found : List Script) (about : List FieldWithValue) (folders : List SourceFolder) → scripts ≡ Ok found → or_info_bad (information command) ≡ Ok about
           → folders_below read (length found) (values_with FILES command.values) names ≡ Ok folders → packed_package command names read ≡ Ok (package_by (value_of found about folders) (contents_of_folders 1 folders))
       packed_is found about folders s a f =
           ap (λ (x : Result (List Script) MakeFault). and_then x (λ scripts.
           and_then (or_info_bad (information command)) (λ about.
           and_then (folders_below read (length scripts) (values_with FILES command.values) names) (packed_of_parts command scripts about)))) s
-          ∙ (ap (λ (x : Result (List InfoItem) MakeFault). and_then x (λ about.
+          ∙ (ap (λ (x : Result (List FieldWithValue) MakeFault). and_then x (λ about.
           and_then (folders_below read (length found) (values_with FILES command.values) names) (packed_of_parts command found about))) a
           ∙ ap (λ (x : Result (List SourceFolder) MakeFault). and_then x (packed_of_parts command found about)) f)

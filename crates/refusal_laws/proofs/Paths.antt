@@ -28,7 +28,7 @@ use Rattle.outcome.proofs.own_core.NamesOnce.{not_below}
 use Rattle.outcome.specs.path_claims.Claims.{ContestedPath, claimants, contested_at, contested_by, contested_path, is_of_path, owner_by}
 use Rattle.outcome.specs.path_claims.Contest.{beats_each, first_rivals, rivals_of, winner}
 use Rattle.outcome.specs.path_claims.declared.contest.Rivals.{Rivals}
-use Rattle.refusal_laws.specs.ChangeFaults.{IsContested, IsFirstReserved}
+use Rattle.refusal_laws.specs.ChangeFaults.{IsContested, IsFirstReservedAddedPath}
 use Rattle.refusal_laws.specs.TestsPassed.{AreUnreserved, HaveOwners}
 use Rattle.refusal_laws.proofs.Lists.{all_pass, found_in, in_names, name_in, none_found}
 
@@ -62,7 +62,7 @@ smallest_is xs x e = by_list (sorted_by bytes_cmp xs) refl (sym (smallest_first 
           λ q here. found_is_first (λ z. true) (y ∷ ys) x up e q (subst (λ zs. Names.IsIn q zs) is (in_sorted q xs here)) refl,
         )
 
-pub first_reserved_is : (members : List Member) (path : List ℕ) → first_reserved members ≡ Some path → IsFirstReserved members path
+pub first_reserved_is : (members : List Member) (path : List ℕ) → first_reserved members ≡ Some path → IsFirstReservedAddedPath members path
 unfolding first_reserved
 first_reserved_is members path e =
     let is = smallest_is (filter is_reserved (added_paths members)) path e in

@@ -25,7 +25,7 @@ use Rattle.outcome.specs.path_clashes.Clash.{NamePair}
 use Rattle.report_core.specs.declared.refusal.Refusal.{Refusal}
 use Rattle.report_core.specs.declared.refusal.Refusal.TheVariants.{Owned, PathClash, Reserved, TriggerNeeded}
 use Rattle.refusal_laws.specs.ChangeFaults.{IsWatchedFor}
-use Rattle.refusal_laws.specs.TestsPassed.{AreUnreserved, HasNoFault, HasNoTrigger, PassesNameTests, PassesFileTests, HasPassedBefore}
+use Rattle.refusal_laws.specs.TestsPassed.{AreUnreserved, PassesChangeTests, HasNoTrigger, PassesNameTests, PassesFileTests, HasPassedBefore}
 use Rattle.refusal_laws.proofs.ChangeFaults.{kept_test, large_told, trigger_of}
 use Rattle.refusal_laws.proofs.Lists.{and_then_err, and_then_ok, in_any, in_mapped, name_in}
 use Rattle.refusal_laws.proofs.Paths.{are_unreserved, have_owners}
@@ -105,21 +105,21 @@ module _ (inputs : Inputs) (r : Replacement) (wishes : ChangeWishes) (files : Fi
 
   -- ---- made
 
-  owners_made : (o : Option ContestedPath) (done : ChangeDone) → contested_of change.members ≡ o → PassesNameTests change files → unless_contested change.members o with_triggers ≡ Ok done → HasNoFault wishes change files
+  owners_made : (o : Option ContestedPath) (done : ChangeDone) → contested_of change.members ≡ o → PassesNameTests change files → unless_contested change.members o with_triggers ≡ Ok done → PassesChangeTests wishes change files
   owners_made None done is names e =
       let triggers = and_then_ok (unless_trigger wishes.no_scripts (touched_paths change files) change.members) (λ is_allowed. unless_too_large inputs r wishes found files) done e in
       ((names, have_owners change.members is), no_trigger wishes change files triggers.0 triggers.1)
   owners_made (Some c) done is names e = absurd (cc (e))
 
   clash_made : (o : Option NamePair) (done : ChangeDone) → IsClashFound inputs wishes files (Ok found) o → AreUnreserved change.members
-      → unless_clash o (unless_contested change.members (contested_of change.members) with_triggers) ≡ Ok done → HasNoFault wishes change files
+      → unless_clash o (unless_contested change.members (contested_of change.members) with_triggers) ≡ Ok done → PassesChangeTests wishes change files
   clash_made None done is free e = owners_made (contested_of change.members) done refl (free, is) e
   clash_made (Some pair) done is free e = absurd (cc (e))
 
-  pub files_made : (clash : Option NamePair) (done : ChangeDone) → IsClashFound inputs wishes files (Ok found) clash → change_with_members inputs r wishes clash files found ≡ Ok done → HasNoFault wishes (file_change inputs wishes found) files
+  pub files_made : (clash : Option NamePair) (done : ChangeDone) → IsClashFound inputs wishes files (Ok found) clash → change_with_members inputs r wishes clash files found ≡ Ok done → PassesChangeTests wishes (file_change inputs wishes found) files
   files_made clash done is e = by_path (first_reserved change.members) refl e
     where
-      by_path : (o : Option (List ℕ)) → first_reserved change.members ≡ o → unless_reserved_path o (unless_clash clash (unless_contested change.members (contested_of change.members) with_triggers)) ≡ Ok done → HasNoFault wishes change files
+      by_path : (o : Option (List ℕ)) → first_reserved change.members ≡ o → unless_reserved_path o (unless_clash clash (unless_contested change.members (contested_of change.members) with_triggers)) ≡ Ok done → PassesChangeTests wishes change files
       by_path None none e = clash_made clash done is (are_unreserved change.members none) e
       by_path (Some path) first e = absurd (cc (e))
 
@@ -132,7 +132,7 @@ change_passed inputs r wishes read clash files found refusal are e is =
 
 pub change_made : (inputs : Inputs) (r : Replacement) (wishes : ChangeWishes) (read : Reads) (clash : Option NamePair) (files : Files) (done : ChangeDone)
     → change_or_refusal inputs r wishes read clash files ≡ Ok done → IsClashOfChange inputs r wishes read files clash
-    → (found : List MemberFound) × (change_members inputs r wishes read ≡ Ok found) × HasNoFault wishes (file_change inputs wishes found) files
+    → (found : List MemberFound) × (change_members inputs r wishes read ≡ Ok found) × PassesChangeTests wishes (file_change inputs wishes found) files
 unfolding change_or_refusal
 change_made inputs r wishes read clash files done e is =
     let found = and_then_ok (change_members inputs r wishes read) (change_with_members inputs r wishes clash files) done e in

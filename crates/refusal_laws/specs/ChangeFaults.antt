@@ -5,7 +5,7 @@ use Rattle.std.specs.Prelude.{◌≡◌, ◌⊎◌, ℕ, true, false, List, Some
 use Rattle.outcome.specs.adb_fields.FirstPair.{IsIn}
 use Rattle.outcome.specs.adb_schema.Reserved.{is_reserved}
 use Rattle.adb_view.specs.Plain.{Plain}
-use Rattle.outcome.specs.adb_write.Canonical.{overflow_of, passes}
+use Rattle.outcome.specs.adb_write.Canonical.{exceeds_a_limit, overflow_of}
 use Rattle.base_core.specs.Files.{Files}
 use Rattle.outcome.specs.change_files.FileChange.{FileChange}
 use Rattle.outcome.specs.change_files.NamesAfter.{added_paths, name_change}
@@ -32,7 +32,7 @@ use Rattle.refusal_laws.specs.PackageFaults.{IsFileBad, IsPackageMissing, IsPack
 -- ---- paths
 
 -- a path is the first that an added package lists and that apk keeps for itself
-pub record IsFirstReserved (members : List Member) (path : List ℕ) : Type 0 where
+pub record IsFirstReservedAddedPath (members : List Member) (path : List ℕ) : Type 0 where
   pub comes : IsIn path (added_paths members)
   pub reserved : is_reserved path ≡ true
   pub first : (other : List ℕ) → IsIn other (added_paths members) → is_reserved other ≡ true
@@ -87,7 +87,7 @@ pub record IsTriggerNeeded (wishes : ChangeWishes) (change : FileChange) (files 
 -- what is written of a value exceeds a limit, first at this number of bytes and values
 abbrev pub IsTooLarge : Plain → ℕ → ℕ → Type 0
 IsTooLarge v bytes values =
-    (overflow_of v ≡ Some (bytes, values)) × (passes (bytes, values) ≡ true)
+    (overflow_of v ≡ Some (bytes, values)) × (exceeds_a_limit (bytes, values) ≡ true)
 
 -- what is written of the database after the change exceeds a limit
 abbrev pub IsDatabaseTooLarge : List Member → ℕ → ℕ → Type 0
@@ -113,7 +113,7 @@ IsResultTooLarge inputs change files bytes values =
 -- a refusal is true of the files that the packages after a change would leave
 abbrev pub IsFaultOfFiles : Inputs → ChangeWishes → Files → List MemberFound → Refusal → Type 0
 IsFaultOfFiles inputs wishes files found (Reserved path) =
-    IsFirstReserved (found_members found) path
+    IsFirstReservedAddedPath (found_members found) path
 IsFaultOfFiles inputs wishes files found (PathClash path other) =
     IsFirstClash (name_change (file_change inputs wishes found) files) files
     (record { path = path; other = other })

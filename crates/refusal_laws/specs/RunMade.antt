@@ -13,7 +13,7 @@ use Rattle.outcome.specs.package_changes.Placed.{candidates_at}
 use Rattle.outcome.specs.candidate_core.Rank.{SealedPool}
 use Rattle.outcome.specs.search_tables.Selection.{IsFirstSelection}
 use Rattle.refusal_laws.specs.PackagesAfter.{AreSelectedOnes}
-use Rattle.refusal_laws.specs.TestsPassed.{HasNoFault}
+use Rattle.refusal_laws.specs.TestsPassed.{PassesChangeTests}
 
 -- a run has taken the first preferred selection: it is found, the packages after the change are exactly
 -- those, and the files that they leave have no fault
@@ -32,4 +32,4 @@ pub record HasFirstSelection (command : CommandLine) (files : Files) : Type 0 wh
   pub are_selected :
       AreSelectedOnes selected.inputs selected.replacement (reads_in files) found
   pub no_fault :
-      HasNoFault (wishes_of command) (file_change selected.inputs (wishes_of command) found) files
+      PassesChangeTests (wishes_of command) (file_change selected.inputs (wishes_of command) found) files

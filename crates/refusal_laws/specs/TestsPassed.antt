@@ -44,13 +44,13 @@ PassesFileTests change files = PassesNameTests change files × HaveOwners change
 
 -- a change has none of the faults for which its files would be refused, except for the limits of what
 -- is written
-abbrev pub HasNoFault : ChangeWishes → FileChange → Files → Type 0
-HasNoFault wishes change files = PassesFileTests change files × HasNoTrigger wishes change files
+abbrev pub PassesChangeTests : ChangeWishes → FileChange → Files → Type 0
+PassesChangeTests wishes change files = PassesFileTests change files × HasNoTrigger wishes change files
 
 -- what is tested before this refusal of a change's files
 abbrev pub HasPassedBefore : ChangeWishes → FileChange → Files → Refusal → Type 0
 HasPassedBefore wishes change files (PathClash path other) = AreUnreserved change.members
 HasPassedBefore wishes change files (Owned path first second) = PassesNameTests change files
 HasPassedBefore wishes change files (TriggerNeeded name) = PassesFileTests change files
-HasPassedBefore wishes change files (ResultTooLarge bytes values) = HasNoFault wishes change files
+HasPassedBefore wishes change files (ResultTooLarge bytes values) = PassesChangeTests wishes change files
 HasPassedBefore wishes change files other = Unit {0}

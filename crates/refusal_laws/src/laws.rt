@@ -34,7 +34,7 @@ ghost use Rattle.refusal_laws.specs.QueryFaults.{IsFaultOfQuery};
 ghost use Rattle.refusal_laws.specs.ReadBefore.{HasReadBefore};
 ghost use Rattle.refusal_laws.specs.RunFaults.{IsFaultOfRun, IsFaultOver};
 ghost use Rattle.refusal_laws.specs.RunMade.{HasFirstSelection};
-ghost use Rattle.refusal_laws.specs.TestsPassed.{HasNoFault, HasPassedBefore};
+ghost use Rattle.refusal_laws.specs.TestsPassed.{HasPassedBefore, PassesChangeTests};
 ghost use Rattle.outcome.specs.tell_core.AuditResult.{audit_result, manifest_result};
 ghost use Rattle.outcome.specs.tell_core.InfoResult.{info_result};
 ghost use Rattle.outcome.specs.tell_core.QueryResult.{query_result};
@@ -165,7 +165,7 @@ pub fn a_change_that_is_made_has_no_fault()
         → change_or_refusal inputs r wishes read clash files ≡ Ok done
         → IsClashOfChange inputs r wishes read files clash
         → (found : List MemberFound) × (change_members inputs r wishes read ≡ Ok found)
-        × HasNoFault wishes (file_change inputs wishes found) files }
+        × PassesChangeTests wishes (file_change inputs wishes found) files }
 {}
 
 /// If an added or removed package is refused, it is the first one with a fault, in byte order of

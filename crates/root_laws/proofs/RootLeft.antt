@@ -3,7 +3,7 @@ use Rattle.std.proofs.Common.{◌≡◌, ◌∙◌, ℕ, Bool, true, false, List
 use Rattle.std.specs.Prelude.{if◌then◌else◌}
 use Rattle.base_core.specs.Files.{Files}
 use Rattle.engine_core.specs.change_files.FileChange.{FileChange}
-use Rattle.engine_core.specs.change_files.FilesAfter.{Records, listing_bytes}
+use Rattle.engine_core.specs.change_files.FilesAfter.{RootFilesAfter, listing_bytes}
 use Rattle.engine_core.proofs.change_files.RecordNames.{database_after}
 use Rattle.engine_core.specs.change_inputs.Database.{root_database}
 use Rattle.engine_core.specs.change_inputs.Inputs.{Inputs, inputs_of, text_database_read}
@@ -77,7 +77,7 @@ module _ (laws : Laws) (command : CommandLine) (read : Reads) (files : Files) (c
       let sound : AllSound s.replacement.before = subst AllSound (sym of.before) (before_sound laws.stay laws.texts command read s.inputs.root bytes root) in
       let members = members_ok laws.come laws.tested read bytes s.replacement sound s.inputs.root.repositories (wishes_of command).no_scripts m.found m.members in
       let change : FileChange = file_change s.inputs (wishes_of command) m.found in
-      let records : Records = new_records s.inputs m.database in
+      let records : RootFilesAfter = new_records s.inputs m.database in
       let database_there : done.files database_name ≡ Some m.database =
       ap (λ (d : ChangeDone). d.files database_name) m.is ∙ database_after change (listing_bytes (found_package_contents m.found)) records files in
       let world_there : text_found (done.files world_name) ≡ records.world =

@@ -22,12 +22,12 @@ use Rattle.command_core.specs.Operands.{is_decimal}
 use Rattle.hex.specs.Hex.{decode_of as hex_bytes}
 use Rattle.hex.specs.declared.error.FromHexError.{FromHexError}
 use Rattle.std.specs.Str.Parse.{digits_value}
-use Rattle.make_index.specs.make_info.Fields.{FieldValue, need, and_needs, decimal_number, if_untagged, need_in, needs_in, nonempty_parts, text_if}
+use Rattle.make_index.specs.make_info.Fields.{FieldValue, need, and_needs, decimal_number, if_untagged, untagged_dependency_in, needs_in, nonempty_parts, text_if}
 use Rattle.make_index.specs.make_info.Information.{plain_value}
 use Rattle.make_index.specs.make_info.Values.{number_value, plains_of_list}
 use Rattle.engine_core.specs.v2_core.Database.{array_of, object_of}
 use Rattle.engine_core.specs.v2_core.Records.{InfoLine, info_by}
-use Rattle.engine_core.specs.v2_lines.Accesses.{Access, access_by, access_in, before_colon, after_colon, is_id, is_octal, octal_number}
+use Rattle.engine_core.specs.v2_lines.Accesses.{Access, access_by, access_in, before_colon, after_colon, is_uid_or_gid, is_octal, octal_number}
 use Rattle.engine_core.specs.v2_lines.InfoFields.{field_of_letter, grammar_of}
 use Rattle.engine_core.specs.v2_lines.InfoValues.{commit_values, one_number, one_text, sha1_of, values_by_grammar}
 use Rattle.engine_core.specs.v2_lines.Lines.{RecordLine, info_line, folder_line, folder_access_line, file_line, file_access_line, file_hash_line, other_line, file_line_of, folder_line_of, info_line_by, record_line_by, record_line_of}
@@ -181,7 +181,7 @@ untagged_good d h = by_tag (is_some d.tag)
     by_tag true = tt
     by_tag false = h
 
-need_good : (part : List ℕ) → IfSome (need_in part) IsDependency
+need_good : (part : List ℕ) → IfSome (untagged_dependency_in part) IsDependency
 need_good part = by_read (dependency_of part) refl
   where
     by_read : (o : Option Dependency) → dependency_of part ≡ o → IfSome (option_and_then if_untagged o) IsDependency
@@ -190,7 +190,7 @@ need_good part = by_read (dependency_of part) refl
 
 needs_good : (parts : List (List ℕ)) → IfSome (needs_in parts) (EachIn (IsOfGrammar Grammars.Dependencies))
 needs_good [] = tt
-needs_good (part ∷ parts) = both (need_in part) (needs_in parts) (need_good part) (needs_good parts)
+needs_good (part ∷ parts) = both (untagged_dependency_in part) (needs_in parts) (need_good part) (needs_good parts)
   where
     both : (d : Option Dependency) (others : Option (List FieldValue)) → IfSome d IsDependency → IfSome others (EachIn (IsOfGrammar Grammars.Dependencies))
         → IfSome (and_needs d others) (EachIn (IsOfGrammar Grammars.Dependencies))
@@ -224,7 +224,7 @@ octal_good digits = by_test (is_octal digits) (nat_lt (digits_value 8 digits) (2
 
 access_good : (value : List ℕ) → IfSome (access_in value) IsGoodAccess
 access_good value =
-    if_each (λ o. IfSome o IsGoodAccess) (is_id (before_colon value) && is_id (before_colon (after_colon value))) _ None
+    if_each (λ o. IfSome o IsGoodAccess) (is_uid_or_gid (before_colon value) && is_uid_or_gid (before_colon (after_colon value))) _ None
     (map_some (λ n. n < 2 ^ 64) IsGoodAccess (access_by (before_colon value) (before_colon (after_colon value))) (octal_number (before_colon (after_colon (after_colon value)))) (λ n h. h)
     (octal_good (before_colon (after_colon (after_colon value))))) tt
 

@@ -10,7 +10,7 @@ use Rattle.adb_view.specs.declared.tables.Which.TheVariants as Tables
 use Rattle.adb_view.specs.Head.{root_of}
 use Rattle.adb_view.specs.Plain.{IsNormal, Plain, Shape, null, plain_of, value_of}
 use Rattle.adb_view.specs.Shaped.{HasShape}
-use Rattle.make_index.specs.adb_write.Canonical.{MOST_BYTES, PayloadCounts, canonical, or_overflow, overflow_of, passes, written_of}
+use Rattle.make_index.specs.adb_write.Canonical.{MOST_BYTES, PayloadCounts, canonical, exceeds_a_limit, or_overflow, overflow_of, written_of}
 use Rattle.make_index.specs.adb_write.Size.{size_of, value_count}
 use Rattle.base_core.specs.declared.cause.Cause.{Cause}
 use Rattle.base_core.proofs.Booleans.{neither_first}
@@ -27,7 +27,7 @@ abbrev pub ReadBack : Type 0
 ReadBack = (shape : Shape) (v : Plain) → IsNormal v → HasShape shape v → size_of v ≤ MOST_BYTES → value_of (canonical v) shape ≡ Some v
 
 abbrev pub Exact : Type 0
-Exact = (v : Plain) → IsNormal v → is_some (overflow_of v) ≡ passes (size_of v, value_count v)
+Exact = (v : Plain) → IsNormal v → is_some (overflow_of v) ≡ exceeds_a_limit (size_of v, value_count v)
 
 -- ---- a payload that is written
 

@@ -8,7 +8,7 @@ use Rattle.base_core.specs.Tree.{TreeState, files_of}
 use Rattle.base_core.specs.declared.cause.Cause.{Cause}
 use Rattle.command_core.specs.Command.{CommandLine}
 use Rattle.apk_front.specs.journal_core.Recovery.{intent_name}
-use Rattle.apk_front.specs.outcome.Effect.{Effect, Computes, Reads, Tells, Makes, Changes, does_only_read, effect_by, reads_only}
+use Rattle.apk_front.specs.outcome.Effect.{Effect, Computes, OnlyReadsFiles, AsksRoot, Makes, Changes, does_only_read, effect_by, reads_only}
 use Rattle.apk_front.specs.outcome.Work.{fault_of_intent, recovery_fault}
 use Rattle.apk_front.specs.words_core.Grammar.{command_of}
 use Rattle.run_lists.specs.Events.{Crashes, Edits, Ends, Event, IsRunFrom, IsTransition, Run, Stops, Touches}
@@ -31,8 +31,8 @@ nothing_written v run is_run bad = by (effect_by (command_of run.words)) refl
 
     by : (effect : Effect) → effect_by (command_of run.words) ≡ effect → run.now ≡ run.old
     by Computes is = is_run.same (only_reads (command_of run.words) Computes is refl)
-    by Reads is = is_run.same (only_reads (command_of run.words) Reads is refl)
-    by Tells is = fault Tells is (fault_is_found (files_of v) bad)
+    by OnlyReadsFiles is = is_run.same (only_reads (command_of run.words) OnlyReadsFiles is refl)
+    by AsksRoot is = fault AsksRoot is (fault_is_found (files_of v) bad)
     by Makes is = fault Makes is (fault_is_found (files_of v) bad)
     by Changes is = fault Changes is (fault_is_found (files_of v) bad)
 

@@ -20,7 +20,7 @@ use Rattle.apk_front.specs.journal_core.Replacing.{replaced_files, scratch_of}
 use Rattle.apk_front.specs.journal_core.Staged.{unstaged_files}
 use Rattle.apk_front.specs.make_index.Index.{made_index}
 use Rattle.apk_front.specs.make_info.Output.{output_name}
-use Rattle.apk_front.specs.make_info.Reads.{Reads as Reading}
+use Rattle.apk_front.specs.make_info.Reads.{Reads}
 use Rattle.apk_front.specs.make_info.declared.fault.MakeFault.{MakeFault}
 use Rattle.apk_front.specs.make_info.declared.fault.MakeFault.TheVariants.{FileMissing as NoFile, FileBad as BadFile, InfoBad as BadInfo, TooLarge, Disk, Memory}
 use Rattle.apk_front.specs.make_package.Making.{made_package}
@@ -34,7 +34,7 @@ use Rattle.apk_front.proofs.outcome.NextRoom.{intent_gone}
 use Rattle.apk_front.proofs.outcome.Recovered.{ReadSound}
 use Rattle.apk_front.specs.outcome.Changing.{change_outcome}
 use Rattle.apk_front.specs.outcome.Commands.{IsOutcomeOf, IsOutcomeUnlessBadIntent, effect_outcome, reads_in}
-use Rattle.apk_front.specs.outcome.Effect.{Effect, Computes, Reads, Tells, Makes, Changes, effect_by, effect_of, reads_only}
+use Rattle.apk_front.specs.outcome.Effect.{Effect, Computes, OnlyReadsFiles, AsksRoot, Makes, Changes, effect_by, effect_of, reads_only}
 use Rattle.apk_front.specs.outcome.Given.{Given}
 use Rattle.apk_front.specs.outcome.Make.{files_with_output, index_line, make_outcome, unless_reserved}
 use Rattle.apk_front.specs.outcome.Outcome.{Outcome, commit_report, just_refusal}
@@ -44,7 +44,7 @@ use Rattle.run_lists.proofs.BadIntent.{only_reads}
 use Rattle.apk_front.proofs.file_replacement.Suffix.{intent_is_no_scratch}
 
 abbrev pub BringsNoIntent : Type 0
-BringsNoIntent = (inputs : Inputs) (r : Replacement) (wishes : ChangeWishes) (read : Reading) (clash : Option NamePair) (files : Files) (done : ChangeDone)
+BringsNoIntent = (inputs : Inputs) (r : Replacement) (wishes : ChangeWishes) (read : Reads) (clash : Option NamePair) (files : Files) (done : ChangeDone)
     → change_or_refusal inputs r wishes read clash files ≡ Ok done → files intent_name ≡ None → done.files intent_name ≡ None
 
 abbrev Brings : Outcome → Type 0
@@ -53,7 +53,7 @@ Brings o = o.commits ≡ true → o.files intent_name ≡ None
 -- ---- a change
 
 module _ (gone : BringsNoIntent) where
-  selected_none : (command : CommandLine) (read : Reading) (files : Files) (clash : Option NamePair) (s : Selected) (done : ChangeDone)
+  selected_none : (command : CommandLine) (read : Reads) (files : Files) (clash : Option NamePair) (s : Selected) (done : ChangeDone)
       → (simulate : Bool) → (if simulate then Ok (simulated_change s.replacement (wishes_of command) files) else change_or_refusal s.inputs s.replacement (wishes_of command) read clash files) ≡ Ok done
       → files intent_name ≡ None → done.files intent_name ≡ None
   selected_none command read files clash s done true is absent = subst (λ (f : Files). f intent_name ≡ None) (ap (λ (r : Result ChangeDone Refusal). files_or r) is) absent
@@ -63,12 +63,12 @@ module _ (gone : BringsNoIntent) where
       files_or (Err refusal) = files
   selected_none command read files clash s done false is absent = gone s.inputs s.replacement (wishes_of command) read clash files done is absent
 
-  by_selected : (command : CommandLine) (read : Reading) (files : Files) (clash : Option NamePair) (selected : Result Selected Refusal) (done : ChangeDone)
+  by_selected : (command : CommandLine) (read : Reads) (files : Files) (clash : Option NamePair) (selected : Result Selected Refusal) (done : ChangeDone)
       → and_then selected (change_of_selected command read files clash) ≡ Ok done → files intent_name ≡ None → done.files intent_name ≡ None
   by_selected command read files clash (Ok s) done is absent = selected_none command read files clash s done command.flags.simulate is absent
   by_selected command read files clash (Err refusal) done is absent = cc
 
-  changed_none : (command : CommandLine) (read : Reading) (files : Files) (chosen : Option (List ℕ)) (clash : Option NamePair) (done : ChangeDone)
+  changed_none : (command : CommandLine) (read : Reads) (files : Files) (chosen : Option (List ℕ)) (clash : Option NamePair) (done : ChangeDone)
       → change_of_command command read files chosen clash ≡ Ok done → files intent_name ≡ None → done.files intent_name ≡ None
   unfolding change_of_command
   changed_none command read files chosen clash done is absent = by_selected command read files clash (selected_for command read chosen) done is absent
@@ -148,24 +148,24 @@ module _ (gone : BringsNoIntent) (sound : ReadSound) where
       subst Brings (change_is command.applet command given (reads_in here) here changes ∙ sym is)
       (change_none gone command here given.chosen given.clash (change_of_command command (reads_in here) here given.chosen given.clash) refl absent) commits
 
-  by_command : (read : Result CommandLine ℕ) (files : Files) (o : Outcome) (effect : Effect) → effect_by read ≡ effect → (effect ≡ Computes → ⊥) → (effect ≡ Reads → ⊥) → (effect ≡ Tells → ⊥) → IsOutcome read files o → Brings o
+  by_command : (read : Result CommandLine ℕ) (files : Files) (o : Outcome) (effect : Effect) → effect_by read ≡ effect → (effect ≡ Computes → ⊥) → (effect ≡ OnlyReadsFiles → ⊥) → (effect ≡ AsksRoot → ⊥) → IsOutcome read files o → Brings o
   by_command (Err place) files o effect is works reads tells one = absurd (works (sym is))
   by_command (Ok command) files o Computes is works reads tells one = absurd (works refl)
-  by_command (Ok command) files o Reads is works reads tells one = absurd (reads refl)
-  by_command (Ok command) files o Tells is works reads tells one = absurd (tells refl)
+  by_command (Ok command) files o OnlyReadsFiles is works reads tells one = absurd (reads refl)
+  by_command (Ok command) files o AsksRoot is works reads tells one = absurd (tells refl)
   by_command (Ok command) files o Makes is works reads tells one =
       makes_none (recovery_fault (effect_of command.applet) files) command files o is refl (no_demo command.applet command files o (λ computes. works (sym is ∙ computes)) one)
   by_command (Ok command) files o Changes is works reads tells one =
       changes_none (recovery_fault (effect_of command.applet) files) command files o is refl (no_demo command.applet command files o (λ computes. works (sym is ∙ computes)) one)
 
   module _ (reading : (words : List (List ℕ)) (files : Files) (o : Outcome) → IsTrue (reads_only (command_of words)) → IsOutcome (command_of words) files o → o.commits ≡ false)
-      (telling : (words : List (List ℕ)) (files : Files) (o : Outcome) → effect_by (command_of words) ≡ Tells → IsOutcome (command_of words) files o → o.commits ≡ false) where
+      (telling : (words : List (List ℕ)) (files : Files) (o : Outcome) → effect_by (command_of words) ≡ AsksRoot → IsOutcome (command_of words) files o → o.commits ≡ false) where
     pub committed_none : CommitsNoIntent
     committed_none words files o one commits = by (effect_by (command_of words)) refl
       where
         by : (effect : Effect) → effect_by (command_of words) ≡ effect → o.files intent_name ≡ None
         by Computes is = absurd (false≢true (sym (reading words files o (only_reads (command_of words) Computes is refl) one) ∙ commits))
-        by Reads is = absurd (false≢true (sym (reading words files o (only_reads (command_of words) Reads is refl) one) ∙ commits))
-        by Tells is = absurd (false≢true (sym (telling words files o is one) ∙ commits))
+        by OnlyReadsFiles is = absurd (false≢true (sym (reading words files o (only_reads (command_of words) OnlyReadsFiles is refl) one) ∙ commits))
+        by AsksRoot is = absurd (false≢true (sym (telling words files o is one) ∙ commits))
         by Makes is = by_command (command_of words) files o Makes is (λ e. cc (e)) (λ e. cc (e)) (λ e. cc (e)) one commits
         by Changes is = by_command (command_of words) files o Changes is (λ e. cc (e)) (λ e. cc (e)) (λ e. cc (e)) one commits

@@ -16,7 +16,7 @@ use Rattle.apk_front.specs.journal_core.Replacing.{scratch_of}
 use Rattle.apk_front.specs.journal_core.Staged.{unstaged_files}
 use Rattle.apk_front.proofs.journal_core.Lasting.{some_none}
 use Rattle.apk_front.specs.journal_intent.FreeNames.{IsNoneOf}
-use Rattle.apk_front.specs.outcome.Effect.{Effect, Computes, Reads, Tells, Makes, Changes, does_recover, effect_by, output}
+use Rattle.apk_front.specs.outcome.Effect.{Effect, Computes, OnlyReadsFiles, AsksRoot, Makes, Changes, does_recover, effect_by, output}
 use Rattle.apk_front.specs.outcome.Outcome.{Outcome}
 use Rattle.apk_front.specs.outcome.Work.{work_files}
 use Rattle.apk_front.specs.words_core.Grammar.{command_of}
@@ -36,8 +36,8 @@ use Rattle.run_lists.proofs.Unstaged.{none_found, not_staged, plain_at}
 -- the intent is no draft
 intent_no_draft : (effect : Effect) (o : Option (List ℕ)) → is_draft_name effect o intent_name ≡ false
 intent_no_draft Computes o = refl
-intent_no_draft Reads o = refl
-intent_no_draft Tells o = refl
+intent_no_draft OnlyReadsFiles o = refl
+intent_no_draft AsksRoot o = refl
 intent_no_draft Makes None = refl
 intent_no_draft Makes (Some name) = other_bytes intent_name (scratch_of name) (intent_is_no_scratch name)
 intent_no_draft Changes o = refl
@@ -70,8 +70,8 @@ module _ (v : TreeState) (run : Run) (m : TreeState) where
   worked : (effect : Effect) (q : List ℕ) → files_of m q ≡ work_files effect (files_of v) q
       → (files_of m q ≡ files_of v q) ⊎ ((does_recover effect ≡ true) × (files_of m q ≡ unstaged_files (files_of v) q))
   worked Computes q is = inl is
-  worked Reads q is = inl is
-  worked Tells q is = inr (refl, is)
+  worked OnlyReadsFiles q is = inl is
+  worked AsksRoot q is = inr (refl, is)
   worked Makes q is = inr (refl, is)
   worked Changes q is = inr (refl, is)
 
@@ -113,8 +113,8 @@ module _ (no_intent : CommitsNoIntent) (test : Option (List ℕ) → Bool) (q : 
 
   work_true : (effect : Effect) (files : Files) → At files → At (work_files effect files)
   work_true Computes files at = at
-  work_true Reads files at = at
-  work_true Tells files at = unstaged_true files at
+  work_true OnlyReadsFiles files at = at
+  work_true AsksRoot files at = unstaged_true files at
   work_true Makes files at = unstaged_true files at
   work_true Changes files at = unstaged_true files at
 
@@ -124,8 +124,8 @@ module _ (no_intent : CommitsNoIntent) (test : Option (List ℕ) → Bool) (q : 
 
   draft_true : (effect : Effect) (o : Option (List ℕ)) (files : Files) (m : TreeState) → IsReadExceptDrafts effect o (work_files effect files) m → is_draft_name effect o q ≡ false → At files → At (files_of m)
   draft_true Computes o files m drafting no_draft at = subst At (λ i p. sym (drafting p refl) i) at
-  draft_true Reads o files m drafting no_draft at = subst At (λ i p. sym (drafting p refl) i) at
-  draft_true Tells o files m drafting no_draft at = drafted Tells o files m drafting no_draft at
+  draft_true OnlyReadsFiles o files m drafting no_draft at = subst At (λ i p. sym (drafting p refl) i) at
+  draft_true AsksRoot o files m drafting no_draft at = drafted AsksRoot o files m drafting no_draft at
   draft_true Makes o files m drafting no_draft at = drafted Makes o files m drafting no_draft at
   draft_true Changes o files m drafting no_draft at = drafted Changes o files m drafting no_draft at
 
@@ -197,8 +197,8 @@ counts_in (Some name) ignored q none counts = or_from (bytes_eq q (scratch_of na
 
 no_draft_by : (effect : Effect) (o : Option (List ℕ)) (q : List ℕ) → IsNoneOf q (output_names o) → is_staged q ≡ false → is_draft_name effect o q ≡ false
 no_draft_by Computes o q none unstaged = refl
-no_draft_by Reads o q none unstaged = refl
-no_draft_by Tells o q none unstaged = refl
+no_draft_by OnlyReadsFiles o q none unstaged = refl
+no_draft_by AsksRoot o q none unstaged = refl
 no_draft_by Makes None q none unstaged = refl
 no_draft_by Makes (Some name) q none unstaged = no_scratch_name name q none
 no_draft_by Changes o q none unstaged = unstaged
@@ -229,8 +229,8 @@ module _ (v : TreeState) (run : Run) (m : TreeState) (there : IsSome (v.names in
 
     work_here : (effect : Effect) → files_of m intent_name ≡ work_files effect (files_of v) intent_name → files_of m q ≡ work_files effect (files_of v) q → Done
     work_here Computes at is = absurd (stood at)
-    work_here Reads at is = absurd (stood at)
-    work_here Tells at is = inl is
+    work_here OnlyReadsFiles at is = absurd (stood at)
+    work_here AsksRoot at is = inl is
     work_here Makes at is = inl is
     work_here Changes at is = inl is
 

@@ -11,7 +11,7 @@ use Rattle.apk_front.proofs.file_replacement.Suffix.{intent_is_no_scratch}
 use Rattle.command_core.specs.Command.{CommandLine}
 use Rattle.apk_front.specs.journal_core.Recovery.{intent_name}
 use Rattle.apk_front.specs.journal_core.Replacing.{scratch_of}
-use Rattle.apk_front.specs.outcome.Effect.{Effect, Computes, Reads, Tells, Makes, Changes, does_only_read, effect_by, effect_of, output, output_by, output_if, reads_only}
+use Rattle.apk_front.specs.outcome.Effect.{Effect, Computes, OnlyReadsFiles, AsksRoot, Makes, Changes, does_only_read, effect_by, effect_of, output, output_by, output_if, reads_only}
 use Rattle.run_lists.specs.Events.{Crashes, Edits, Ends, Event, HasNoPendingOutput, Run, Stops, Touches, ignored_after, ignored_by, names_of_others, nothing_ignored, with_all_touched, with_scratch, with_touched}
 use Rattle.run_lists.proofs.Facts.{AreMore, Ignored}
 use Rattle.run_lists.proofs.Touched.{intent_off}
@@ -130,8 +130,8 @@ none_ignored (Touches theirs ∷ earlier) q none = absurd none
 
 effect_makes : (effect : Effect) (command : CommandLine) (name : List ℕ) → output_if effect command ≡ Some name → effect ≡ Makes
 effect_makes Computes command name is = cc
-effect_makes Reads command name is = cc
-effect_makes Tells command name is = cc
+effect_makes OnlyReadsFiles command name is = cc
+effect_makes AsksRoot command name is = cc
 effect_makes Makes command name is = refl
 effect_makes Changes command name is = cc
 
@@ -141,8 +141,8 @@ output_makes (Err place) name is = cc
 
 reader_effect : (effect : Effect) (command : CommandLine) → IsTrue (does_only_read effect) → output_if effect command ≡ None
 reader_effect Computes command reads = refl
-reader_effect Reads command reads = refl
-reader_effect Tells command reads = absurd (false≢true reads)
+reader_effect OnlyReadsFiles command reads = refl
+reader_effect AsksRoot command reads = absurd (false≢true reads)
 reader_effect Makes command reads = absurd (false≢true reads)
 reader_effect Changes command reads = absurd (false≢true reads)
 

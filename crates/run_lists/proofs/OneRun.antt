@@ -2,7 +2,7 @@
 use Rattle.std.proofs.Common.{◌≡◌, ◌⊎◌, inl, inr, ⊎_elim, ℕ, true, false, List, Option, refl, sym, subst, ◌∙◌, arith}
 use Rattle.std.specs.Prelude.{is_some}
 use Rattle.apk_front.specs.Answers.{IsAnswerOf, answer_of}
-use Rattle.apk_front.specs.Moments.{AnswersOutcome, AreOldOrLeadToOutcome, IgnoresScratchOf, IsDurableState, LeavesDurableState, LeavesDurableOnceAnswered, MakesDurable, ignored_but}
+use Rattle.apk_front.specs.Moments.{AnswersOutcome, AreOldOrLeadToOutcome, IgnoresScratchOf, IsDurableState, LeavesDurableState, LeavesDurableOnceAnswered, MustLast, ignored_but}
 use Rattle.apk_front.specs.declared.answer.Answer.{Answer}
 use Rattle.apk_front.specs.declared.answer.Answer.TheVariants.{Ok as Done, Refused, TreeFault, OutFault, Memory}
 use Rattle.base_core.specs.Calls.{HoldsNow}
@@ -75,10 +75,10 @@ module _ (IsOne : Outcome → Type 0) (unique : (a b : Outcome) → IsOne a → 
   told Leaves failed Memory out err is answers = absurd answers
 
   module _ (effect : Effect) (ignored : Ignored) (v : TreeState) (now : History) where
-    lasts_for : (o p : Outcome) → o ≡ p → (MakesDurable effect ignored v o → HoldsNow now (EachCrashLeaves ignored o.files)) → MakesDurable effect ignored v p → HoldsNow now (EachCrashLeaves ignored p.files)
-    lasts_for o p same last = subst (λ (x : Outcome). (MakesDurable effect ignored v x → HoldsNow now (EachCrashLeaves ignored x.files))) same last
+    lasts_for : (o p : Outcome) → o ≡ p → (MustLast effect ignored v o → HoldsNow now (EachCrashLeaves ignored o.files)) → MustLast effect ignored v p → HoldsNow now (EachCrashLeaves ignored p.files)
+    lasts_for o p same last = subst (λ (x : Outcome). (MustLast effect ignored v x → HoldsNow now (EachCrashLeaves ignored x.files))) same last
 
-    pub lasts : (answer : Answer) → LeavesDurableOnceAnswered IsOne effect ignored v now answer → AnswersOutcome answer → (p : Outcome) → IsOne p → MakesDurable effect ignored v p → HoldsNow now (EachCrashLeaves ignored p.files)
+    pub lasts : (answer : Answer) → LeavesDurableOnceAnswered IsOne effect ignored v now answer → AnswersOutcome answer → (p : Outcome) → IsOne p → MustLast effect ignored v p → HoldsNow now (EachCrashLeaves ignored p.files)
     lasts Done is answers p one = lasts_for is.0 p (unique is.0 p is.1 one) is.3
     lasts (Refused r) is answers p one = lasts_for is.0 p (unique is.0 p is.1 one) is.3
     lasts OutFault is answers p one = lasts_for is.0 p (unique is.0 p is.1 one) is.2
@@ -129,16 +129,16 @@ module _ (facts : Facts) (ignored : Ignored) (v : TreeState) (run : Run) (is_run
       with_outcome : (o : Outcome) → IsOutcomeFrom v run o → Told run.answer o → HoldsNow run.now (λ w. files_of w ≡ o.files) → AnswersOutcome run.answer → HoldsNow run.now (LeavesOutcome ignored v run)
       with_outcome o one was reads answers =
           now_with run.now (λ w. files_of w ≡ o.files)
-          (λ w. (MakesDurable (effect_by (command_of run.words)) Now v o → EachCrashLeaves Now o.files w) × (o.commits ≡ true → IsDurableState (ignored_but (output run.words) ignored) o.files w))
+          (λ w. (MustLast (effect_by (command_of run.words)) Now v o → EachCrashLeaves Now o.files w) × (o.commits ≡ true → IsDurableState (ignored_but (output run.words) ignored) o.files w))
           (LeavesOutcome ignored v run)
           (λ w read last. record { outcome = o; is_outcome = one; answered = was; reads = read; settled = last.0; durable_state = last.1 })
           reads
           (now_with run.now
-          (λ w. MakesDurable (effect_by (command_of run.words)) Now v o → EachCrashLeaves Now o.files w)
+          (λ w. MustLast (effect_by (command_of run.words)) Now v o → EachCrashLeaves Now o.files w)
           (λ w. o.commits ≡ true → IsDurableState (ignored_but (output run.words) ignored) o.files w)
-          (λ w. (MakesDurable (effect_by (command_of run.words)) Now v o → EachCrashLeaves Now o.files w) × (o.commits ≡ true → IsDurableState (ignored_but (output run.words) ignored) o.files w))
+          (λ w. (MustLast (effect_by (command_of run.words)) Now v o → EachCrashLeaves Now o.files w) × (o.commits ≡ true → IsDurableState (ignored_but (output run.words) ignored) o.files w))
           (λ w a b. (a, b))
-          (now_under run.now (MakesDurable (effect_by (command_of run.words)) Now v o) (EachCrashLeaves Now o.files) (λ w. files_of w ≡ o.files) reads
+          (now_under run.now (MustLast (effect_by (command_of run.words)) Now v o) (EachCrashLeaves Now o.files) (λ w. files_of w ≡ o.files) reads
           (lasts (IsOutcomeFrom v run) ones (effect_by (command_of run.words)) Now v run.now run.answer (is_run.settled Now now_durable now_hides) answers o one))
           (now_under run.now (o.commits ≡ true) (IsDurableState (ignored_but (output run.words) ignored) o.files) (λ w. files_of w ≡ o.files) reads
           (λ commits. now_map run.now (IsDurableState (ignored_but (output run.words) Now) o.files) (IsDurableState (ignored_but (output run.words) ignored) o.files)

@@ -16,7 +16,7 @@ use Rattle.apk_front.specs.journal_core.Quiet.{EachCrashLeavesOld}
 use Rattle.apk_front.specs.journal_core.Recovery.{EachCrashLeaves, StateDependsOn, intent_name, is_staged, recovered_files, state_of}
 use Rattle.apk_front.specs.journal_core.Staged.{IsIntentFault, unstaged_files}
 use Rattle.apk_front.proofs.journal_core.More.{quiet_more, states_same}
-use Rattle.apk_front.specs.outcome.Effect.{Effect, Computes, Reads, Tells, Makes, Changes, does_recover, effect_by, output}
+use Rattle.apk_front.specs.outcome.Effect.{Effect, Computes, OnlyReadsFiles, AsksRoot, Makes, Changes, does_recover, effect_by, output}
 use Rattle.apk_front.specs.outcome.Outcome.{Outcome}
 use Rattle.apk_front.specs.outcome.Words.{IsOutcome}
 use Rattle.apk_front.specs.outcome.Work.{fault_of_intent, recovery_fault}
@@ -67,8 +67,8 @@ good_fault files good = by (files intent_name) refl
 
 no_fault : (effect : Effect) (files : Files) → (HasBadIntent files → ⊥) → recovery_fault effect files ≡ None
 no_fault Computes files good = refl
-no_fault Reads files good = refl
-no_fault Tells files good = good_fault files good
+no_fault OnlyReadsFiles files good = refl
+no_fault AsksRoot files good = good_fault files good
 no_fault Makes files good = good_fault files good
 no_fault Changes files good = good_fault files good
 

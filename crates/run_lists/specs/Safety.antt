@@ -2,7 +2,7 @@
 -- "Recovery": the table of what a run may leave, and its last part.
 use Rattle.std.specs.Prelude.{◌≡◌, ◌⊎◌, ℕ, Bool, true, false, List}
 use Rattle.apk_front.specs.Answers.{answer_of}
-use Rattle.apk_front.specs.Moments.{AnswersOutcome, IsDurableState, MakesDurable, ignored_but}
+use Rattle.apk_front.specs.Moments.{AnswersOutcome, IsDurableState, MustLast, ignored_but}
 use Rattle.apk_front.specs.declared.answer.Answer.TheVariants.{OutFault}
 use Rattle.base_core.specs.Calls.{HoldsNow}
 use Rattle.base_core.specs.Undone.{IsDurable, IsCrashImage}
@@ -41,7 +41,7 @@ pub record LeavesOutcome (ignored : List ℕ → Bool) (v : TreeState) (run : Ru
   pub reads : files_of w ≡ outcome.files
   -- each crash leaves them, if it commits, if each left the old ones before, or if an intent was found
   -- and completed
-  pub settled : MakesDurable (effect_by (command_of run.words)) (ignored_in run ignored) v outcome
+  pub settled : MustLast (effect_by (command_of run.words)) (ignored_in run ignored) v outcome
       → EachCrashLeaves (ignored_in run ignored) outcome.files w
   -- if it commits, under its output and the scratch name too
   pub durable_state : outcome.commits ≡ true

@@ -14,9 +14,9 @@ use Rattle.search_tables.specs.candidate_core.Options.{IsIn, options_for}
 use Rattle.search_tables.specs.Selection.{AreMembers, names_by_install_if, depends_at, is_met, is_unmet, needs, positive_needs, next_need, raised_needs}
 use Rattle.search_tables.specs.Reasons.{FrameValue, IsFrameOf}
 use Rattle.search_tables.specs.InstallIf.{AreInstallIfs, AreUnasked}
-use Rattle.search_tables.specs.Queue.{AreMet, RaisedDepValue, is_unmet_dep, queue_of, raised_deps_at, raised_deps, raised_from}
+use Rattle.search_tables.specs.Queue.{AreFirstMet, RaisedDepValue, is_unmet_dep, queue_of, raised_deps_at, raised_deps, raised_from}
 use Rattle.search_tables.specs.Conflicts.{AreConflictsOf, HasDepends, ListedValue, conflicts_among, conflicts_in, conflicts_named}
-use Rattle.search_tables.specs.Excluders.{AreListed}
+use Rattle.search_tables.specs.Excluders.{IsConflictTable}
 use Rattle.search_tables.specs.NameTable.{items_of}
 use Rattle.search_tables.specs.Reasons.{HasOptions}
 use Rattle.search_choices.specs.Choices.{AreCheckpoints, IsConsistent, choices_of, install_ifs_of, pool_of}
@@ -31,7 +31,7 @@ use Rattle.search_tables.proofs.Queued.{find_here, past_end, met_more, met_next,
 
 module _ (pool : SealedPool) (install_ifs : List ℕ) where
   abbrev pub IsBefore : List ℕ → Checkpoint → Type 0
-  IsBefore u b = (b.queue_len ≡ length (queue_of pool u)) × AreMet pool u b.cursor × AreUnasked pool u install_ifs b.asking_cursor
+  IsBefore u b = (b.queue_len ≡ length (queue_of pool u)) × AreFirstMet pool u b.cursor × AreUnasked pool u install_ifs b.asking_cursor
 
   pub checkpoints_more : (u cs : List ℕ) (bs : List Checkpoint) (c : ℕ) (b : Checkpoint) → AreCheckpoints pool install_ifs u cs bs → IsBefore (u ++ cs) b → AreCheckpoints pool install_ifs u (cs ++ c ∷ []) (bs ++ b ∷ [])
   checkpoints_more u [] [] c b checkpoints last =
@@ -83,9 +83,9 @@ pub consistent_by : (old new : Choices) (t : List ℕ) → IsStep old new t
     → AreInstallIfs (pool_of old) (install_ifs_of old) old.install_ifs.waiting
     → ((c : ℕ) → IsIn c t → c < length (pool_of old).candidates)
     → new.queue.items ≡ queue_of (pool_of old) t
-    → AreMet (pool_of old) t new.cursor
+    → AreFirstMet (pool_of old) t new.cursor
     → AreUnasked (pool_of old) t (install_ifs_of old) new.asking_cursor
-    → AreListed (pool_of old) t new.conflicts
+    → IsConflictTable (pool_of old) t new.conflicts
     → AreConflictsOf (pool_of old).candidates new.conflicts.by_name
     → AreCheckpoints (pool_of old) (install_ifs_of old) [] t new.checkpoints.items
     → IsConsistent new
@@ -98,12 +98,12 @@ consistent_by old new t step are within queue met unasked listed conflicts check
     record {
       within = λ k h. subst (λ (q : SealedPool). k < length q.candidates) p (within k (subst (λ (z : List ℕ). IsIn k z) step.choices h));
       queue = queue ∙ (ap (queue_of (pool_of old)) s ∙ ap (λ (q : SealedPool). queue_of q (choices_of new)) p);
-      met = subst (λ (q : SealedPool). AreMet q (choices_of new) new.cursor) p (subst (λ (z : List ℕ). AreMet (pool_of old) z new.cursor) s met);
+      met = subst (λ (q : SealedPool). AreFirstMet q (choices_of new) new.cursor) p (subst (λ (z : List ℕ). AreFirstMet (pool_of old) z new.cursor) s met);
       install_ifs = subst (λ (q : SealedPool). AreInstallIfs q (install_ifs_of new) new.install_ifs.waiting) p
           (subst (λ (z : List ℕ). AreInstallIfs (pool_of old) z new.install_ifs.waiting) i (subst (λ (z : List (List ℕ × List ℕ)). AreInstallIfs (pool_of old) (install_ifs_of old) z) same_waiting are));
       unasked = subst (λ (q : SealedPool). AreUnasked q (choices_of new) (install_ifs_of new) new.asking_cursor) p
           (subst (λ (z : List ℕ). AreUnasked (pool_of old) z (install_ifs_of new) new.asking_cursor) s (subst (λ (z : List ℕ). AreUnasked (pool_of old) t z new.asking_cursor) i unasked));
-      listed = subst (λ (q : SealedPool). AreListed q (choices_of new) new.conflicts) p (subst (λ (z : List ℕ). AreListed (pool_of old) z new.conflicts) s listed);
+      listed = subst (λ (q : SealedPool). IsConflictTable q (choices_of new) new.conflicts) p (subst (λ (z : List ℕ). IsConflictTable (pool_of old) z new.conflicts) s listed);
       conflicts = subst (λ (q : SealedPool). AreConflictsOf q.candidates new.conflicts.by_name) p conflicts;
       checkpoints = subst (λ (q : SealedPool). AreCheckpoints q (install_ifs_of new) [] (choices_of new) new.checkpoints.items) p
           (subst (λ (z : List ℕ). AreCheckpoints (pool_of old) (install_ifs_of new) [] z new.checkpoints.items) s (subst (λ (z : List ℕ). AreCheckpoints (pool_of old) z [] t new.checkpoints.items) i checkpoints));
@@ -117,10 +117,10 @@ consistent_more old new c deps b consistent small is step queue at checkpoints b
     let t = choices_of old in
     let t' = t ++ c ∷ [] in
     let before : IsBefore p (install_ifs_of old) t b =
-    (b_queue ∙ ap length consistent.queue, subst (λ (k : ℕ). AreMet p t k) (sym b_at) consistent.met, subst (λ (k : ℕ). AreUnasked p t (install_ifs_of old) k) (sym b_asking) consistent.unasked) in
+    (b_queue ∙ ap length consistent.queue, subst (λ (k : ℕ). AreFirstMet p t k) (sym b_at) consistent.met, subst (λ (k : ℕ). AreUnasked p t (install_ifs_of old) k) (sym b_asking) consistent.unasked) in
     let all_queue : new.queue.items ≡ queue_of p t' =
     queue ∙ (ap (λ (z : List RaisedDepValue). z ++ raised_deps (Some c) deps) consistent.queue ∙ (ap (λ (z : List Dependency). queue_of p t ++ raised_deps (Some c) z) is ∙ sym (queue_more p t c))) in
-    let all_met : AreMet p t' new.cursor = subst (λ (k : ℕ). AreMet p t' k) (sym at) (met_more p t c old.cursor consistent.met) in
+    let all_met : AreFirstMet p t' new.cursor = subst (λ (k : ℕ). AreFirstMet p t' k) (sym at) (met_more p t c old.cursor consistent.met) in
     let all_saved : AreCheckpoints p (install_ifs_of old) [] t' new.checkpoints.items =
     subst (λ (z : List Checkpoint). AreCheckpoints p (install_ifs_of old) [] t' z) (sym checkpoints) (checkpoints_more p (install_ifs_of old) [] t old.checkpoints.items c b consistent.checkpoints before) in
     let all_within : (k : ℕ) → IsIn k t' → k < length p.candidates = λ k h. elim (in_append k t (c ∷ []) h) [
@@ -134,7 +134,7 @@ take_none : {X : Type 0} (xs : List X) → take 0 xs ≡ []
 take_none [] = refl
 take_none (x ∷ xs) = refl
 
-pub met_start : (pool : SealedPool) (t : List ℕ) → AreMet pool t 0
+pub met_start : (pool : SealedPool) (t : List ℕ) → AreFirstMet pool t 0
 met_start pool t = (omega arith, ap (find (is_unmet_dep pool t)) (take_none (queue_of pool t)))
 
 -- ---- no choices
@@ -149,7 +149,7 @@ consistent_start chosen none queue at asking are conflicts checkpoints =
     record {
       within = λ k h. absurd (subst (λ (z : List ℕ). IsIn k z) none h);
       queue = queue ∙ (all ∙ ap (queue_of p) (sym none));
-      met = subst (λ (k : ℕ). AreMet p (choices_of chosen) k) (sym at) (met_start p (choices_of chosen));
+      met = subst (λ (k : ℕ). AreFirstMet p (choices_of chosen) k) (sym at) (met_start p (choices_of chosen));
       install_ifs = are;
       unasked = subst (λ (k : ℕ). AreUnasked p (choices_of chosen) (install_ifs_of chosen) k) (sym asking) (λ rank low. absurd (none_below rank low));
       listed = λ name. ap (λ (z : List (List ℕ × List ListedValue)). conflicts_in z name) conflicts ∙ ap (λ (z : List ℕ). conflicts_among p z name) (sym none);
@@ -159,10 +159,10 @@ consistent_start chosen none queue at asking are conflicts checkpoints =
 
 -- ---- the cursors
 
-pub consistent_on : (old new : Choices) → IsConsistent old → IsStep old new (choices_of old) → new.queue.items ≡ old.queue.items → new.conflicts ≡ old.conflicts → new.checkpoints.items ≡ old.checkpoints.items → AreMet (pool_of old) (choices_of old) new.cursor → AreUnasked (pool_of old) (choices_of old) (install_ifs_of old) new.asking_cursor → IsConsistent new
+pub consistent_on : (old new : Choices) → IsConsistent old → IsStep old new (choices_of old) → new.queue.items ≡ old.queue.items → new.conflicts ≡ old.conflicts → new.checkpoints.items ≡ old.checkpoints.items → AreFirstMet (pool_of old) (choices_of old) new.cursor → AreUnasked (pool_of old) (choices_of old) (install_ifs_of old) new.asking_cursor → IsConsistent new
 consistent_on old new consistent step queue conflicts checkpoints met unasked =
     consistent_by old new (choices_of old) step consistent.install_ifs consistent.within (queue ∙ consistent.queue) met unasked
-    (subst (λ (z : Conflicts). AreListed (pool_of old) (choices_of old) z) (sym conflicts) consistent.listed)
+    (subst (λ (z : Conflicts). IsConflictTable (pool_of old) (choices_of old) z) (sym conflicts) consistent.listed)
     (subst (λ (z : Conflicts). AreConflictsOf (pool_of old).candidates z.by_name) (sym conflicts) consistent.conflicts)
     (subst (λ (z : List Checkpoint). AreCheckpoints (pool_of old) (install_ifs_of old) [] (choices_of old) z) (sym checkpoints) consistent.checkpoints)
 
@@ -172,7 +172,7 @@ get_within [] (suc i) x h = absurd (cc)
 get_within (y ∷ xs) zero x h = omega arith
 get_within (y ∷ xs) (suc i) x h = let r = get_within xs i x h in omega arith
 
-pub met_by : (pool : SealedPool) (t : List ℕ) (queue : List RaisedDepValue) (at : ℕ) (r : RaisedDepValue) (b : Bool) → queue ≡ queue_of pool t → AreMet pool t at → slice_get queue at ≡ Some r → b ≡ is_met pool t (entry r.0) → MatchBool b (AreMet pool t (at + 1)) (slice_get queue at ≡ find (is_unmet_dep pool t) (queue_of pool t))
+pub met_by : (pool : SealedPool) (t : List ℕ) (queue : List RaisedDepValue) (at : ℕ) (r : RaisedDepValue) (b : Bool) → queue ≡ queue_of pool t → AreFirstMet pool t at → slice_get queue at ≡ Some r → b ≡ is_met pool t (entry r.0) → MatchBool b (AreFirstMet pool t (at + 1)) (slice_get queue at ≡ find (is_unmet_dep pool t) (queue_of pool t))
 met_by pool t queue at r false is met here m =
     subst (λ (z : List RaisedDepValue). slice_get z at ≡ find (is_unmet_dep pool t) (queue_of pool t)) (sym is)
     (find_here (is_unmet_dep pool t) (queue_of pool t) at r met.1 (subst (λ (z : List RaisedDepValue). slice_get z at ≡ Some r) is here) (ap not (sym m)))
@@ -316,7 +316,7 @@ open_raised pool t r frame found is =
 pub none_raised : (pool : SealedPool) (t : List ℕ) → find (is_unmet_dep pool t) (queue_of pool t) ≡ None → find (is_unmet pool t) (raised_needs pool t) ≡ None
 none_raised pool t h = ap (find (is_unmet pool t)) (raised_queue pool t) ∙ find_map (is_unmet pool t) (queue_of pool t) None h
 
-pub past_by : (pool : SealedPool) (t : List ℕ) (queue : List RaisedDepValue) (at : ℕ) → queue ≡ queue_of pool t → AreMet pool t at → slice_get queue at ≡ None → slice_get queue at ≡ find (is_unmet_dep pool t) (queue_of pool t)
+pub past_by : (pool : SealedPool) (t : List ℕ) (queue : List RaisedDepValue) (at : ℕ) → queue ≡ queue_of pool t → AreFirstMet pool t at → slice_get queue at ≡ None → slice_get queue at ≡ find (is_unmet_dep pool t) (queue_of pool t)
 past_by pool t queue at is met none =
     let past = get_none queue at none in
     subst (λ (z : List RaisedDepValue). slice_get z at ≡ find (is_unmet_dep pool t) (queue_of pool t)) (sym is)

@@ -5,9 +5,9 @@ use Rattle.std.specs.Prelude.{◌≡◌, ◌<◌, length, ℕ, List, [], ◌∷�
 use Rattle.search_tables.specs.candidate_core.Rank.{SealedPool}
 use Rattle.search_tables.specs.candidate_core.Options.{IsIn}
 use Rattle.search_tables.specs.Conflicts.{AreConflictsOf}
-use Rattle.search_tables.specs.Excluders.{AreListed}
+use Rattle.search_tables.specs.Excluders.{IsConflictTable}
 use Rattle.search_tables.specs.InstallIf.{AreInstallIfs, AreUnasked}
-use Rattle.search_tables.specs.Queue.{AreMet, queue_of}
+use Rattle.search_tables.specs.Queue.{AreFirstMet, queue_of}
 use Rattle.search_tables.specs.declared.queue.Checkpoint.{Checkpoint}
 use Rattle.search_tables.specs.Reasons.{FrameValue, AreCompatible, AreTurnsFrom, choices_in}
 use Rattle.search_choices.specs.declared.choices.Choices.{Choices}
@@ -31,7 +31,7 @@ AreCheckpoints pool install_ifs u [] [] = Unit {0}
 AreCheckpoints pool install_ifs u [] (b ∷ bs) = ⊥
 AreCheckpoints pool install_ifs u (c ∷ cs) [] = ⊥
 AreCheckpoints pool install_ifs u (c ∷ cs) (b ∷ bs) =
-    (b.queue_len ≡ length (queue_of pool u)) × AreMet pool u b.cursor
+    (b.queue_len ≡ length (queue_of pool u)) × AreFirstMet pool u b.cursor
     × AreUnasked pool u install_ifs b.asking_cursor
     × AreCheckpoints pool install_ifs (u ++ c ∷ []) cs bs
 
@@ -41,12 +41,12 @@ AreCheckpoints pool install_ifs u (c ∷ cs) (b ∷ bs) =
 pub record IsConsistent (chosen : Choices) : Type 0 where
   pub within : (c : ℕ) → IsIn c (choices_of chosen) → c < length (pool_of chosen).candidates
   pub queue : chosen.queue.items ≡ queue_of (pool_of chosen) (choices_of chosen)
-  pub met : AreMet (pool_of chosen) (choices_of chosen) chosen.cursor
+  pub met : AreFirstMet (pool_of chosen) (choices_of chosen) chosen.cursor
   pub install_ifs :
       AreInstallIfs (pool_of chosen) (install_ifs_of chosen) chosen.install_ifs.waiting
   pub unasked :
       AreUnasked (pool_of chosen) (choices_of chosen) (install_ifs_of chosen) chosen.asking_cursor
-  pub listed : AreListed (pool_of chosen) (choices_of chosen) chosen.conflicts
+  pub listed : IsConflictTable (pool_of chosen) (choices_of chosen) chosen.conflicts
   pub conflicts : AreConflictsOf (pool_of chosen).candidates chosen.conflicts.by_name
   pub checkpoints :
       AreCheckpoints (pool_of chosen) (install_ifs_of chosen) [] (choices_of chosen)

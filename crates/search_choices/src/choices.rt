@@ -11,12 +11,12 @@ ghost use Rattle.search_tables.specs.candidate_core.Options.{IsIn, options_for};
 ghost use Rattle.search_tables.specs.candidate_core.PackageMatches.{AreMatchesAmong};
 ghost use Rattle.search_tables.specs.InstallIf.{AreUnasked, IsLeastAsking, IsNoneAsking, rank_asks};
 ghost use Rattle.search_tables.specs.NameTable.{items_of};
-ghost use Rattle.search_tables.specs.Queue.{AreMet, is_unmet_dep, queue_of};
+ghost use Rattle.search_tables.specs.Queue.{AreFirstMet, is_unmet_dep, queue_of};
 ghost use Rattle.search_tables.specs.Selection.{depends_at, is_met, next_need};
 ghost use Rattle.search_tables.specs.Reasons.{IsFrameOf};
 ghost use Rattle.search_choices.specs.Choices.{IsConsistent, choices_of, install_ifs_of, pool_of};
 ghost use Rattle.search_tables.specs.Conflicts.{AreConflictsOf};
-ghost use Rattle.search_tables.specs.Excluders.{AreListed};
+ghost use Rattle.search_tables.specs.Excluders.{IsConflictTable};
 
 mod excluders;
 
@@ -133,10 +133,10 @@ impl<'p> Choices<'p> {
 
     // Takes the conflicts of the latest choice out of the list of conflicts.
     fn take_conflicts_away(&mut self)
-        requires { AreListed (pool_of self.old) (choices_of self.old) self.old.conflicts }
+        requires { IsConflictTable (pool_of self.old) (choices_of self.old) self.old.conflicts }
         ensures others { self.new ≡ record self.old { conflicts = self.new.conflicts } }
         ensures listed { (rest : List ℕ) (last : ℕ) → choices_of self.old ≡ rest ++ last ∷ [] →
-            AreListed (pool_of self.old) rest self.new.conflicts }
+            IsConflictTable (pool_of self.old) rest self.new.conflicts }
         ensures conflicts { (candidates : List Candidate)
             → AreConflictsOf candidates self.old.conflicts.by_name
             → AreConflictsOf candidates self.new.conflicts.by_name }
@@ -203,7 +203,7 @@ impl<'p> Choices<'p> {
     fn is_front_met(&self, matches: &mut PackageMatches<'_>) -> Result<bool, AllocError>
         requires consistent { IsConsistent self.now }
         requires matches { AreMatchesAmong (pool_of self.now).candidates matches.old }
-        ensures met { IfOk result (λ met. MatchBool met (AreMet (pool_of self.now)
+        ensures met { IfOk result (λ met. MatchBool met (AreFirstMet (pool_of self.now)
             (choices_of self.now) (self.now.cursor + 1))
             (slice_get self.now.queue.items self.now.cursor
             ≡ find (is_unmet_dep (pool_of self.now) (choices_of self.now)) (queue_of

@@ -11,7 +11,7 @@ use Rattle.pool_core.specs.candidate_core.Options.{IsIn}
 use Rattle.pool_core.specs.candidate_core.Rank.{SealedPool}
 use Rattle.pool_core.proofs.candidate_core.Steps.{take_one_more}
 use Rattle.search_tables.specs.Conflicts.{AreConflictsOf, IsConflictOf, ListedValue, conflicts_among, conflicts_in, conflicts_named, without_index}
-use Rattle.search_tables.specs.Excluders.{AreListed}
+use Rattle.search_tables.specs.Excluders.{IsConflictTable}
 use Rattle.search_tables.specs.NameTable.{items_of, without_last}
 use Rattle.search_tables.specs.Selection.{depends_at}
 use Rattle.search_tables.specs.declared.conflicts.Conflicts.{Conflicts}
@@ -134,7 +134,7 @@ nothing_left name by deps i start items none is =
 pub among_more : (pool : SealedPool) (t : List ℕ) (c : ℕ) (name : List ℕ) → conflicts_among pool (t ++ c ∷ []) name ≡ conflicts_among pool t name ++ conflicts_named name c (depends_at pool c)
 among_more pool t c name = flat_more (λ k. conflicts_named name k (depends_at pool k)) t c
 
-pub listed_more : (pool : SealedPool) (t : List ℕ) (c : ℕ) (deps : List Dependency) (old new : Conflicts) → deps ≡ depends_at pool c → AreListed pool t old → ((name : List ℕ) → conflicts_in new.by_name name ≡ conflicts_in old.by_name name ++ conflicts_named name c deps) → AreListed pool (t ++ c ∷ []) new
+pub listed_more : (pool : SealedPool) (t : List ℕ) (c : ℕ) (deps : List Dependency) (old new : Conflicts) → deps ≡ depends_at pool c → IsConflictTable pool t old → ((name : List ℕ) → conflicts_in new.by_name name ≡ conflicts_in old.by_name name ++ conflicts_named name c deps) → IsConflictTable pool (t ++ c ∷ []) new
 listed_more pool t c deps old new same was is name =
     is name ∙ (ap (λ (z : List Listed). z ++ conflicts_named name c deps) (was name)
     ∙ (ap (λ (z : List Dependency). conflicts_among pool t name ++ conflicts_named name c z) same ∙ sym (among_more pool t c name)))

@@ -15,7 +15,7 @@ use Rattle.pool_core.specs.candidate_core.Rank.{SealedPool, candidate_at, is_at,
 use Rattle.pool_core.specs.candidate_core.Options.{IsIn}
 use Rattle.search_tables.specs.Selection.{exclude_each_other, depends_at, conflicts_with, is_met, occupied_names_at, occupied_names, does_exclude, share_a_name}
 use Rattle.search_tables.specs.Conflicts.{conflicts_in, conflicts_named}
-use Rattle.search_tables.specs.Excluders.{AreListed, IsExcluder, IsFreeAt}
+use Rattle.search_tables.specs.Excluders.{IsConflictTable, IsExcluder, IsNotExcludedAt}
 use Rattle.search_tables.specs.declared.conflicts.Conflicts.{Conflicts}
 use Rattle.search_tables.proofs.Theory.{in_append, in_left, in_right}
 use Rattle.search_tables.proofs.PoolFacts.{filter_in, in_filter, in_map, map_in}
@@ -82,7 +82,7 @@ module _ (pool : SealedPool) (t : List ℕ) (id : ℕ) (details : Candidate) whe
   names_of_id here = ap (λ (o : Option Candidate). option_map_or occupied_names o []) here
 
   -- a choice whose conflict is found excludes it
-  pub found_against : (conflicts : Conflicts) (name : List ℕ) (k : ℕ) → AreListed pool t conflicts → candidate_at pool id ≡ Some details → (IsIn id t → ⊥) → Some k ≡ option_map (λ (c : Listed). c.0) (find (λ (c : Listed). meets_dependency c.1 details) (conflicts_in conflicts.by_name name)) → IsExcluder pool t id k
+  pub found_against : (conflicts : Conflicts) (name : List ℕ) (k : ℕ) → IsConflictTable pool t conflicts → candidate_at pool id ≡ Some details → (IsIn id t → ⊥) → Some k ≡ option_map (λ (c : Listed). c.0) (find (λ (c : Listed). meets_dependency c.1 details) (conflicts_in conflicts.by_name name)) → IsExcluder pool t id k
   found_against conflicts name k listed here once found =
       let items = conflicts_in conflicts.by_name name in
       let one = some_of (find (λ (c : Listed). meets_dependency c.1 details) items) found in
@@ -102,7 +102,7 @@ module _ (pool : SealedPool) (t : List ℕ) (id : ℕ) (details : Candidate) whe
       some_of (Some c) e = (c, refl, cc)
 
   -- if none is found, it meets no conflict of this name
-  pub none_against : (conflicts : Conflicts) (name : List ℕ) → AreListed pool t conflicts → ((k : ℕ) → option_map (λ (c : Listed). c.0) (find (λ (c : Listed). meets_dependency c.1 details) (conflicts_in conflicts.by_name name)) ≡ Some k → ⊥) → (k : ℕ) (d : Dependency) → IsIn k t → IsIn d (depends_at pool k) → d.conflict ≡ true → d.name ≡ name → meets_dependency d details ≡ false
+  pub none_against : (conflicts : Conflicts) (name : List ℕ) → IsConflictTable pool t conflicts → ((k : ℕ) → option_map (λ (c : Listed). c.0) (find (λ (c : Listed). meets_dependency c.1 details) (conflicts_in conflicts.by_name name)) ≡ Some k → ⊥) → (k : ℕ) (d : Dependency) → IsIn k t → IsIn d (depends_at pool k) → d.conflict ≡ true → d.name ≡ name → meets_dependency d details ≡ false
   none_against conflicts name listed never k d there has conflict is =
       let items = conflicts_in conflicts.by_name name in
       let same : bytes_eq name d.name ≡ true = (bytes_decides name d.name).1 (sym is) in
@@ -131,8 +131,8 @@ module _ (pool : SealedPool) (t : List ℕ) (id : ℕ) (details : Candidate) whe
 
   -- no choice excludes it if all its names are free, and no choice meets a conflict of it
   pub no_excluder : candidate_at pool id ≡ Some details
-      → IsFreeAt pool t details details.name true
-      → ((p : Dependency) → IsIn p details.provides → p.conflict ≡ false → IsFreeAt pool t details p.name (is_some p.version))
+      → IsNotExcludedAt pool t details details.name true
+      → ((p : Dependency) → IsIn p details.provides → p.conflict ≡ false → IsNotExcludedAt pool t details p.name (is_some p.version))
       → ((d : Dependency) → IsIn d details.depends → d.conflict ≡ true → is_met pool t (entry d) ≡ false)
       → (k : ℕ) → IsIn k t → exclude_each_other pool k id ≡ false
   no_excluder here own provides conflicts k there = elim (cases_Bool (exclude_each_other pool k id)) [

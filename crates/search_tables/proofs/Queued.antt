@@ -7,7 +7,7 @@ use Rattle.dep_core.specs.Dependency.{Dependency}
 use Rattle.pool_core.specs.candidate_core.Candidates.{entry}
 use Rattle.pool_core.specs.candidate_core.Rank.{SealedPool, meets_at}
 use Rattle.search_tables.specs.Selection.{is_met}
-use Rattle.search_tables.specs.Queue.{AreMet, RaisedDepValue, is_unmet_dep, queue_of, raised_deps_at, raised_deps, raised_from}
+use Rattle.search_tables.specs.Queue.{AreFirstMet, RaisedDepValue, is_unmet_dep, queue_of, raised_deps_at, raised_deps, raised_from}
 
 pub any_map : {X Y : Type 0} (p : Y → Bool) (f : X → Y) (xs : List X) → list_any p (map f xs) ≡ list_any (λ x. p (f x)) xs
 any_map p f [] = refl
@@ -85,7 +85,7 @@ none_still {X} p q (x ∷ xs) to h = elim (cases_Bool (p x)) [
 still_met : (pool : SealedPool) (t us : List ℕ) (r : RaisedDepValue) → is_unmet_dep pool t r ≡ false → is_unmet_dep pool (t ++ us) r ≡ false
 still_met pool t us r h = ap not (any_append (λ c. meets_at pool c (entry r.0)) t us (not-false (is_met pool t (entry r.0)) h))
 
-pub met_more : (pool : SealedPool) (t : List ℕ) (c at : ℕ) → AreMet pool t at → AreMet pool (t ++ c ∷ []) at
+pub met_more : (pool : SealedPool) (t : List ℕ) (c at : ℕ) → AreFirstMet pool t at → AreFirstMet pool (t ++ c ∷ []) at
 met_more pool t c at met =
     let e = queue_more pool t c in (
       subst (λ (z : List RaisedDepValue). at ≤ length z) (sym e) (omega (arith, met.0, length-append (queue_of pool t) (raised_deps_at pool c))),
@@ -130,7 +130,7 @@ past_end p (x ∷ xs) (suc i) h n = elim (cases_Bool (p x)) [
   | inr t ↦ rw t (past_end p xs i (omega arith) (rw t at n))
 ]
 
-pub met_next : (pool : SealedPool) (t : List ℕ) (at : ℕ) (r : RaisedDepValue) → AreMet pool t at → at < length (queue_of pool t) → slice_get (queue_of pool t) at ≡ Some r → is_unmet_dep pool t r ≡ false → AreMet pool t (at + 1)
+pub met_next : (pool : SealedPool) (t : List ℕ) (at : ℕ) (r : RaisedDepValue) → AreFirstMet pool t at → at < length (queue_of pool t) → slice_get (queue_of pool t) at ≡ Some r → is_unmet_dep pool t r ≡ false → AreFirstMet pool t (at + 1)
 met_next pool t at r met h g e =
     let z : at + 1 ≡ suc at = omega arith in
     (omega arith, subst (λ (k : ℕ). find (is_unmet_dep pool t) (take k (queue_of pool t)) ≡ None) (sym z) (none_at (is_unmet_dep pool t) (queue_of pool t) at r met.1 g e))

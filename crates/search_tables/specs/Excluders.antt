@@ -11,8 +11,8 @@ use Rattle.search_tables.specs.Selection.{depends_at, exclude_each_other}
 use Rattle.search_tables.specs.declared.conflicts.Conflicts.{Conflicts}
 
 -- the table has for each name exactly the conflicts of the choices
-abbrev pub AreListed : SealedPool → List ℕ → Conflicts → Type 0
-AreListed pool chosen conflicts =
+abbrev pub IsConflictTable : SealedPool → List ℕ → Conflicts → Type 0
+IsConflictTable pool chosen conflicts =
     (name : List ℕ) → conflicts_in conflicts.by_name name ≡ conflicts_among pool chosen name
 
 -- the candidate at place `k` is a choice, and it and the candidate at place `id` exclude each other
@@ -21,8 +21,8 @@ IsExcluder pool chosen id k = IsIn k chosen × (exclude_each_other pool k id ≡
 
 -- no choice excludes a candidate by a name: the candidate meets no conflict of that name that a choice
 -- has, and, if `is_occupied`, no choice occupies the name
-abbrev pub IsFreeAt : SealedPool → List ℕ → Candidate → List ℕ → Bool → Type 0
-IsFreeAt pool chosen details name is_occupied =
+abbrev pub IsNotExcludedAt : SealedPool → List ℕ → Candidate → List ℕ → Bool → Type 0
+IsNotExcludedAt pool chosen details name is_occupied =
     ((k : ℕ) (d : Dependency) → IsIn k chosen → IsIn d (depends_at pool k) →
     d.conflict ≡ true → d.name ≡ name → meets_dependency d details ≡ false)
     × (is_occupied ≡ true → (k : ℕ) → IsIn k chosen → is_at pool (occupies_name name) k ≡ false)

@@ -38,6 +38,6 @@ abbrev pub is_unmet_dep : SealedPool → List ℕ → RaisedDepValue → Bool
 is_unmet_dep pool chosen r = is_unmet pool chosen (entry r.0)
 
 -- the queue has at least `at` dependencies, and the first `at` of them are met
-abbrev pub AreMet : SealedPool → List ℕ → ℕ → Type 0
-AreMet pool chosen at = (at ≤ length (queue_of pool chosen))
+abbrev pub AreFirstMet : SealedPool → List ℕ → ℕ → Type 0
+AreFirstMet pool chosen at = (at ≤ length (queue_of pool chosen))
     × (find (is_unmet_dep pool chosen) (take at (queue_of pool chosen)) ≡ None)

@@ -11,7 +11,7 @@ use Rattle.base_core.specs.Tree.{TreeState, File, CanRename, HasName, set_file, 
 use Rattle.base_core.proofs.AtName.{name_cases, off_name}
 use Rattle.tree_memory.specs.Table.{lookup}
 use Rattle.tree_memory.specs.Changes.{empty_state, step, state_on, earlier_on, contents_of, can_step, is_record}
-use Rattle.tree_memory.specs.Kept.{IsKept, IsSoundState, IsStore}
+use Rattle.tree_memory.specs.Kept.{HoldsState, IsSoundState, IsStore}
 use Rattle.tree_memory.proofs.AtName.{drop_name-off, put-at, put-off}
 use Rattle.tree_memory.proofs.Folders.{folder_like_fewer, folder_like_number, fewer_dropped}
 use Rattle.tree_memory.proofs.Growing.{front_is, Grows, grows_not, grows_set, IsPushed}
@@ -48,10 +48,10 @@ module _ (name : List ℕ) (n : ℕ) (cs ds : List Change) (es : List NameAndFil
   set_contents : contents_of more ≡ set (contents_of files) n s.bytes.items
   set_contents = ap contents_of m.stored ∙ map-set (λ (f : Stored). f.bytes.items) files n s
 
-  changed_kept : (change : File → File) → (change (was.files n)).bytes ≡ s.bytes.items → (change (was.files n)).synced ≡ s.synced → IsKept (change_at change was (was.names name)) es more
+  changed_kept : (change : File → File) → (change (was.files n)).bytes ≡ s.bytes.items → (change (was.files n)).synced ≡ s.synced → HoldsState (change_at change was (was.names name)) es more
   changed_kept change bytes synced =
-      subst (λ (l : List Stored). IsKept (change_at change was (was.names name)) es l) (sym m.stored)
-      (subst (λ (o : Option ℕ). IsKept (change_at change was o) es (set files n s)) (sym leads) (kept_set was es files n change s store.kept within bytes synced))
+      subst (λ (l : List Stored). HoldsState (change_at change was (was.names name)) es l) (sym m.stored)
+      (subst (λ (o : Option ℕ). HoldsState (change_at change was o) es (set files n s)) (sym leads) (kept_set was es files n change s store.kept within bytes synced))
 
   was_sound : IsSoundState was
   was_sound = store_sound cs es files store
@@ -126,7 +126,7 @@ store_same n cs es files more s d store is inside bytes synced at =
     let same_bytes : contents_of more ≡ contents_of files = ap contents_of is ∙ map-set_same (λ (f : Stored). f.bytes.items) files n s d (bytes ∙ ap (λ (f : Stored). f.bytes.items) at) in
     let same_flags = ap (λ (l : List Stored). map (λ (f : Stored). f.synced) l) is ∙ map-set_same (λ (f : Stored). f.synced) files n s d (synced ∙ ap (λ (f : Stored). f.synced) at) in record {
       recorded = ap (λ (l : List (List ℕ)). is_record l empty_state cs) same_bytes ∙ store.recorded;
-      kept = subst (λ (v : TreeState). IsKept v es more) (sym (ap (λ (l : List (List ℕ)). state_on l empty_state cs) same_bytes)) (record {
+      kept = subst (λ (v : TreeState). HoldsState v es more) (sym (ap (λ (l : List (List ℕ)). state_on l empty_state cs) same_bytes)) (record {
         names = store.kept.names;
         made = store.kept.made ∙ sym (ap length is ∙ length-set files n s);
         bytes = λ k. store.kept.bytes k ∙ sym (ap (λ (l : List (List ℕ)). get_or l k []) same_bytes);
@@ -166,9 +166,9 @@ module _ (cs ds : List Change) (es fs : List NameAndFile) (files : List Stored) 
         ∙ sym (second q))
         (name_cases q to)
 
-    renamed_kept : ((q : List ℕ) → move_name now.names from to n q ≡ lookup fs q) → IsKept (after_rename from to now) fs files
+    renamed_kept : ((q : List ℕ) → move_name now.names from to n q ≡ lookup fs q) → HoldsState (after_rename from to now) fs files
     renamed_kept names =
-        subst (λ (o : Option ℕ). IsKept (move_at from to now o) fs files) (sym (store.kept.names from ∙ there)) (record { names = names; made = store.kept.made; bytes = store.kept.bytes; synced = store.kept.synced })
+        subst (λ (o : Option ℕ). HoldsState (move_at from to now o) fs files) (sym (store.kept.names from ∙ there)) (record { names = names; made = store.kept.made; bytes = store.kept.bytes; synced = store.kept.synced })
 
     renamed_sound : IsName to → CanRename from to now → IsSoundState (after_rename from to now)
     renamed_sound named can =
@@ -184,7 +184,7 @@ module _ (cs ds : List Change) (es fs : List NameAndFile) (files : List Stored) 
 
   -- a name less
   module _ (name : List ℕ) where
-    removed_kept : (o : Option ℕ) → IsSome o → ((q : List ℕ) → lookup fs q ≡ drop_name (lookup es) name q) → IsKept (remove_at name now o) fs files
+    removed_kept : (o : Option ℕ) → IsSome o → ((q : List ℕ) → lookup fs q ≡ drop_name (lookup es) name q) → HoldsState (remove_at name now o) fs files
     removed_kept None some gone = absurd (cc (some))
     removed_kept (Some n) some gone = record { names = λ q. ap (cond (bytes_eq q name) None) (store.kept.names q) ∙ sym (gone q); made = store.kept.made; bytes = store.kept.bytes; synced = store.kept.synced }
 

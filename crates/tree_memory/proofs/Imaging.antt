@@ -13,7 +13,7 @@ use Rattle.std.proofs.lemmas.Nat.{mod_below}
 use Rattle.base_core.proofs.AtName.{name_cases, off_name}
 use Rattle.tree_memory.specs.Changes.{empty_state, after_put, state_on, is_record}
 use Rattle.tree_memory.specs.Images.{picked_map, picks_of, crash_bytes, stored_file, IsImageMap, IsImageOf, HasImageNames}
-use Rattle.tree_memory.specs.Kept.{IsKept, CanPut}
+use Rattle.tree_memory.specs.Kept.{HoldsState, CanPut}
 use Rattle.tree_memory.specs.Table.{IsTable, lookup}
 use Rattle.tree_memory.specs.WellFormedLaw.{AreBounded}
 use Rattle.tree_memory.proofs.AtName.{put-at, put-off}
@@ -158,7 +158,7 @@ module _ (pick : ℕ) (v : TreeState) (es : List NameAndFile) where
       }
 
 -- a file as it is stored
-pub file_at : (v : TreeState) (es : List NameAndFile) (files : List Stored) (n : ℕ) (s : Stored) → IsKept v es files → n < length files → s ≡ get_or files n s → stored_file s ≡ v.files n
+pub file_at : (v : TreeState) (es : List NameAndFile) (files : List Stored) (n : ℕ) (s : Stored) → HoldsState v es files → n < length files → s ≡ get_or files n s → stored_file s ≡ v.files n
 file_at v es files n s kept within is =
     let bytes = sym (kept.bytes n ∙ stored_bytes files n s within is) in
     let synced = sym (kept.synced n ∙ get_or-map (λ (f : Stored). f.synced) files n s false within ∙ ap (λ (f : Stored). f.synced) (sym is)) in

@@ -17,7 +17,7 @@ use Rattle.base_core.specs.Tree.{TreeState, File, IsMapOf, CanCreate, bytes_at, 
 use Rattle.base_core.proofs.AtName.{name_cases, off_name}
 use Rattle.tree_memory.specs.Table.{IsTable, lookup, names_of}
 use Rattle.tree_memory.specs.Changes.{empty_state, after_put, step, state_on, earlier_on, contents_of, synced_flags}
-use Rattle.tree_memory.specs.Kept.{IsKept, IsSoundState, IsStore, CanPut}
+use Rattle.tree_memory.specs.Kept.{HoldsState, IsSoundState, IsStore, CanPut}
 use Rattle.tree_memory.specs.WellFormedLaw.{AreBounded, bounded_state}
 use Rattle.tree_memory.proofs.AtName.{put-at, put-off}
 use Rattle.tree_memory.proofs.Growing.{front_is, Grows, grows_push, IsPushed, pushed_state, pushed_record, pushed_history}
@@ -64,8 +64,8 @@ part_set part files n f xs x d within is was k =
 -- ---- what is kept
 
 -- one file more
-pub kept_push : (v w : TreeState) (es fs : List NameAndFile) (files : List Stored) (f : File) (s : Stored) → IsKept v es files → f.bytes ≡ s.bytes.items → f.synced ≡ s.synced
-    → w.files ≡ set_file v.files v.made f → w.made ≡ v.made + 1 → ((q : List ℕ) → w.names q ≡ lookup fs q) → IsKept w fs (files ++ s ∷ [])
+pub kept_push : (v w : TreeState) (es fs : List NameAndFile) (files : List Stored) (f : File) (s : Stored) → HoldsState v es files → f.bytes ≡ s.bytes.items → f.synced ≡ s.synced
+    → w.files ≡ set_file v.files v.made f → w.made ≡ v.made + 1 → ((q : List ℕ) → w.names q ≡ lookup fs q) → HoldsState w fs (files ++ s ∷ [])
 kept_push v w es fs files f s kept bytes synced files_are made names = record {
   names = names;
   made = omega (arith, made, kept.made, length-append files (s ∷ []));
@@ -76,8 +76,8 @@ kept_push v w es fs files f s kept bytes synced files_are made names = record {
 }
 
 -- another one
-pub kept_set : (v : TreeState) (es : List NameAndFile) (files : List Stored) (n : ℕ) (change : File → File) (s : Stored) → IsKept v es files → n < length files → (change (v.files n)).bytes ≡ s.bytes.items → (change (v.files n)).synced ≡ s.synced
-    → IsKept (change_at change v (Some n)) es (set files n s)
+pub kept_set : (v : TreeState) (es : List NameAndFile) (files : List Stored) (n : ℕ) (change : File → File) (s : Stored) → HoldsState v es files → n < length files → (change (v.files n)).bytes ≡ s.bytes.items → (change (v.files n)).synced ≡ s.synced
+    → HoldsState (change_at change v (Some n)) es (set files n s)
 kept_set v es files n change s kept within bytes synced = record {
   names = kept.names;
   made = kept.made ∙ sym (length-set files n s);
@@ -163,11 +163,11 @@ history_pushed c cs ds contents more w p is = pushed_history c cs ds contents mo
 
 -- and such a store
 pub store_pushed : (c : Change) (cs ds : List Change) (es : List NameAndFile) (contents : List (List ℕ)) (files : List Stored) (w : TreeState) → IsPushed c cs ds contents (contents_of files) → step (contents_of files) c (state_on contents empty_state cs) ≡ w
-    → IsKept w es files → IsSoundState w → All IsSoundState (state_on contents empty_state cs ∷ earlier_on contents empty_state [] cs) → IsStore ds es files
+    → HoldsState w es files → IsSoundState w → All IsSoundState (state_on contents empty_state cs ∷ earlier_on contents empty_state [] cs) → IsStore ds es files
 store_pushed c cs ds es contents files w p is kept sound earlier =
     let same = sym (pushed_state c cs ds contents (contents_of files) p ∙ is) in record {
       recorded = pushed_record c cs ds contents (contents_of files) p;
-      kept = subst (λ (v : TreeState). IsKept v es files) same kept;
+      kept = subst (λ (v : TreeState). HoldsState v es files) same kept;
       sound = subst (All IsSoundState) (sym (history_pushed c cs ds contents (contents_of files) w p is)) (All-cons IsSoundState w (state_on contents empty_state cs ∷ earlier_on contents empty_state [] cs) sound earlier);
     }
 
@@ -182,7 +182,7 @@ more_contents name es fs files more s m = ap contents_of m.stored ∙ contents-p
 more_grows : (name : List ℕ) (es fs : List NameAndFile) (files more : List Stored) (s : Stored) → IsMore name es fs files more s → Grows (contents_of files) (contents_of more)
 more_grows name es fs files more s m = subst (Grows (contents_of files)) (sym (more_contents name es fs files more s m)) (grows_push (contents_of files) s.bytes.items)
 
-more_names : (v : TreeState) (name : List ℕ) (es fs : List NameAndFile) (files more : List Stored) (s : Stored) → IsMore name es fs files more s → IsKept v es files → (q : List ℕ) → put_name v.names name v.made q ≡ lookup fs q
+more_names : (v : TreeState) (name : List ℕ) (es fs : List NameAndFile) (files more : List Stored) (s : Stored) → IsMore name es fs files more s → HoldsState v es files → (q : List ℕ) → put_name v.names name v.made q ≡ lookup fs q
 more_names v name es fs files more s m kept q = ap (λ (n : ℕ). cond (bytes_eq q name) (Some n) (v.names q)) kept.made ∙ ap (cond (bytes_eq q name) (Some (length files))) (kept.names q) ∙ sym (m.named q)
 
 module _ (name : List ℕ) (cs ds : List Change) (es fs : List NameAndFile) (files more : List Stored) (s : Stored) (store : IsStore cs es files) (m : IsMore name es fs files more s) where
@@ -214,8 +214,8 @@ module _ (name : List ℕ) (cs ds : List Change) (es fs : List NameAndFile) (fil
       ∙ get_or-append_seam (contents_of files) s.bytes.items [] [])
       ∙ take-length s.bytes.items)
 
-  pub put_kept : s.synced ≡ true → IsKept (after_put name s.bytes.items was) fs more
-  put_kept synced = subst (IsKept (after_put name s.bytes.items was) fs) (sym m.stored)
+  pub put_kept : s.synced ≡ true → HoldsState (after_put name s.bytes.items was) fs more
+  put_kept synced = subst (HoldsState (after_put name s.bytes.items was) fs) (sym m.stored)
       (kept_push was (after_put name s.bytes.items was) es fs files (record { bytes = s.bytes.items; synced = true }) s store.kept refl (sym synced) refl refl (more_names was name es fs files more s m store.kept))
 
   pub was_sound : IsSoundState was
@@ -234,8 +234,8 @@ module _ (name : List ℕ) (cs ds : List Change) (es fs : List NameAndFile) (fil
   pub create_pushed : ds ≡ cs ++ Create name ∷ [] → IsPushed (Create name) cs ds (contents_of files) (contents_of more)
   create_pushed is = record { recorded = store.recorded; grows = more_grows name es fs files more s m; pushed = is; can = refl }
 
-  pub create_kept : s.bytes.items ≡ [] → s.synced ≡ false → IsKept (after_create name was) fs more
-  create_kept empty unsynced = subst (IsKept (after_create name was) fs) (sym m.stored)
+  pub create_kept : s.bytes.items ≡ [] → s.synced ≡ false → HoldsState (after_create name was) fs more
+  create_kept empty unsynced = subst (HoldsState (after_create name was) fs) (sym m.stored)
       (kept_push was (after_create name was) es fs files (record { bytes = []; synced = false }) s store.kept (sym empty) (sym unsynced) refl refl (more_names was name es fs files more s m store.kept))
 
   pub create_sound : IsName name → CanCreate name was → IsSoundState (after_create name was)
@@ -257,10 +257,10 @@ module _ (name : List ℕ) (cs ds : List Change) (es fs : List NameAndFile) (fil
 
 -- ---- what is read
 
-pub read_absent : (v : TreeState) (es : List NameAndFile) (files : List Stored) (name : List ℕ) → IsKept v es files → lookup es name ≡ None → files_of v name ≡ None
+pub read_absent : (v : TreeState) (es : List NameAndFile) (files : List Stored) (name : List ℕ) → HoldsState v es files → lookup es name ≡ None → files_of v name ≡ None
 read_absent v es files name kept absent = ap (bytes_at v.files) (kept.names name ∙ absent)
 
-pub read_present : (v : TreeState) (es : List NameAndFile) (files : List Stored) (name : List ℕ) (n : ℕ) → IsKept v es files → lookup es name ≡ Some n → files_of v name ≡ Some (get_or (contents_of files) n [])
+pub read_present : (v : TreeState) (es : List NameAndFile) (files : List Stored) (name : List ℕ) (n : ℕ) → HoldsState v es files → lookup es name ≡ Some n → files_of v name ≡ Some (get_or (contents_of files) n [])
 read_present v es files name n kept present = ap (bytes_at v.files) (kept.names name ∙ present) ∙ ap Some (kept.bytes n)
 
 -- a name leads to a file that is stored

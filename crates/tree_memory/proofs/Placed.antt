@@ -16,7 +16,7 @@ use Rattle.std.proofs.lemmas.Bool.{cases_lt, cases_eq}
 use Rattle.base_core.specs.Files.{put_name, drop_name}
 use Rattle.base_core.proofs.AtName.{other_name, same_name, name_cases}
 use Rattle.base_core.proofs.Options.{none_at}
-use Rattle.tree_memory.specs.Table.{IsTable, lookup, IsNamed, IsPlace}
+use Rattle.tree_memory.specs.Table.{IsTable, lookup, IsNamed, IsInsertionPlace}
 use Rattle.tree_memory.proofs.AtName.{is_name}
 use Rattle.tree_memory.specs.declared.table.NameAndFile.{NameAndFile}
 
@@ -32,7 +32,7 @@ pub named_from : (es : List NameAndFile) (name : List ℕ) (r : Result ℕ ℕ) 
 named_from es name (Ok i) within found = record { within = within; here = λ d. exact_bytes _ _ (found d) }
 named_from es name (Err i) within found = tt
 
-pub place_from : (es : List NameAndFile) (name : List ℕ) (r : Result ℕ ℕ) → IsTable es → IsSearchInRange r (length es) → IsBinarySearchResult (λ (e : NameAndFile). slice_cmp nat_cmp e.name name) es r → IfErr r (λ i. IsPlace es i name)
+pub place_from : (es : List NameAndFile) (name : List ℕ) (r : Result ℕ ℕ) → IsTable es → IsSearchInRange r (length es) → IsBinarySearchResult (λ (e : NameAndFile). slice_cmp nat_cmp e.name name) es r → IfErr r (λ i. IsInsertionPlace es i name)
 place_from es name (Ok i) table within found = tt
 place_from es name (Err i) table within found = let point = found (searchable es name table) in record { within = within; before = point.0; behind = point.1 }
 
@@ -63,12 +63,12 @@ pub lookup_named : (es : List NameAndFile) (i : ℕ) (q : List ℕ) (d : NameAnd
 lookup_named es i q d table named =
     lookup_at es i q d named.within (named.here d) (λ j below is. apart es table j i d below named.within (is ∙ sym (named.here d)))
 
-off_place : (es : List NameAndFile) (i : ℕ) (q : List ℕ) (d : NameAndFile) → IsPlace es i q → (j : ℕ) → j < length es → (get_or es j d).name ≡ q → ⊥
+off_place : (es : List NameAndFile) (i : ℕ) (q : List ℕ) (d : NameAndFile) → IsInsertionPlace es i q → (j : ℕ) → j < length es → (get_or es j d).name ≡ q → ⊥
 off_place es i q d place j within is =
     let tied : slice_cmp nat_cmp (get_or es j d).name q ≡ Equal = ap (λ (p : List ℕ). slice_cmp nat_cmp p q) is ∙ tied_itself nat_list_cmp_total q in
     ⊎_elim (λ below. let less = place.before j d (omega arith) below in cc (tied, less)) (λ above. let greater = place.behind j d above within in cc (tied, greater)) (cases_lt j i)
 
-pub lookup_placed : (es : List NameAndFile) (i : ℕ) (q : List ℕ) → IsPlace es i q → lookup es q ≡ None
+pub lookup_placed : (es : List NameAndFile) (i : ℕ) (q : List ℕ) → IsInsertionPlace es i q → lookup es q ≡ None
 lookup_placed es i q place = let d : NameAndFile = record { name = q; file = 0 } in lookup_off es q d (off_place es i q d place)
 
 -- a name that is looked up stands somewhere
@@ -126,11 +126,11 @@ lookup_insert (f ∷ es) (suc i) e none q =
     after_other f e q (lookup (take i es ++ e ∷ drop i es) q) (lookup es q) (λ is. let at = same_name e.name f.name (sym is) in cc (at, rest.0)) (lookup_insert es i e rest.1 q)
 
 -- a name that was absent
-pub lookup-insert : (es : List NameAndFile) (i : ℕ) (e : NameAndFile) → IsPlace es i e.name → (q : List ℕ) → lookup (insert es i e) q ≡ put_name (lookup es) e.name e.file q
+pub lookup-insert : (es : List NameAndFile) (i : ℕ) (e : NameAndFile) → IsInsertionPlace es i e.name → (q : List ℕ) → lookup (insert es i e) q ≡ put_name (lookup es) e.name e.file q
 lookup-insert es i e place = lookup_insert es i e (lookup_placed es i e.name place)
 
 -- a table stays one
-pub table-insert : (es : List NameAndFile) (i : ℕ) (e : NameAndFile) → IsTable es → IsPlace es i e.name → IsTable (insert es i e)
+pub table-insert : (es : List NameAndFile) (i : ℕ) (e : NameAndFile) → IsTable es → IsInsertionPlace es i e.name → IsTable (insert es i e)
 table-insert es i e table place a b d below within =
     ⊎_elim (λ b_below. ordered _ _ _ _ (at_below a (omega arith)) (at_below b b_below) (table a b d below (omega arith)))
     (λ b_above. ⊎_elim (λ b_here. ordered _ _ _ _ (at_below a (omega arith)) (at_here b b_here) (place.before a d (omega arith) (omega arith)))

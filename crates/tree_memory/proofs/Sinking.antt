@@ -1,9 +1,9 @@
 -- What the counts of a sink in memory say of each refused write.
 use Rattle.std.proofs.Common.{◌≡◌, inl, inr, ℕ, ◌≤◌, List, Err, ap, arith, is_some, refl}
 use Rattle.base_core.specs.Faults.{FailsWithCause, next_count}
-use Rattle.tree_memory.specs.Sink.{SinkState, sink_counts, IsFull, IsOutOfMemory}
+use Rattle.tree_memory.specs.Sink.{SinkState, sink_counts, WritesToFullSink, IsOutOfMemory}
 
-pub full_cause : {T E : Type 0} (old new : SinkState) (piece : List ℕ) (e : E) → IsFull old piece new → old.faults ≤ new.faults → FailsWithCause {T = T} (sink_counts old) (sink_counts new) (Err e)
+pub full_cause : {T E : Type 0} (old new : SinkState) (piece : List ℕ) (e : E) → WritesToFullSink old piece new → old.faults ≤ new.faults → FailsWithCause {T = T} (sink_counts old) (sink_counts new) (Err e)
 full_cause old new piece e full later =
     let room : new.room ≡ old.room = ap (λ (s : SinkState). s.room) full.counted in
     let faults : new.faults ≡ next_count old.faults = ap (λ (s : SinkState). s.faults) full.counted in

@@ -11,7 +11,7 @@ use Rattle.tree_memory.specs.declared.store.Stored.{Stored}
 use Rattle.tree_memory.specs.declared.table.NameAndFile.{NameAndFile}
 
 -- a table of names and the files by number are those of this state
-pub record IsKept (v : TreeState) (entries : List NameAndFile) (files : List Stored) : Type 0 where
+pub record HoldsState (v : TreeState) (entries : List NameAndFile) (files : List Stored) : Type 0 where
   pub names : (q : List ℕ) → v.names q ≡ lookup entries q
   pub made : v.made ≡ length files
   pub bytes : (n : ℕ) → (v.files n).bytes ≡ slice_index_or (contents_of files) n []
@@ -29,7 +29,7 @@ pub record IsSoundState (v : TreeState) : Type 0 where
 pub record IsStore (changes : List Change) (entries : List NameAndFile)
     (files : List Stored) : Type 0 where
   pub recorded : is_record (contents_of files) empty_state changes ≡ true
-  pub kept : IsKept (state_on (contents_of files) empty_state changes) entries files
+  pub kept : HoldsState (state_on (contents_of files) empty_state changes) entries files
   pub sound : All IsSoundState (state_on (contents_of files) empty_state changes ∷ earlier_on
       (contents_of files) empty_state [] changes)
 

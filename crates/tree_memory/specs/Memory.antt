@@ -55,7 +55,7 @@ longest_of tree = tree.longest
 
 -- a call that reads: it is counted, the plan is one call nearer, and an error is a fault, but never
 -- means out of memory
-pub record IsRead {T E : Type 0} (old new : MemoryTree) (result : Result T E) : Type 0 where
+pub record IsReadCall {T E : Type 0} (old new : MemoryTree) (result : Result T E) : Type 0 where
   pub calls : calls_of new ≡ next_count (calls_of old)
   pub writes : writes_of new ≡ writes_of old
   pub plan : plan_of new ≡ one_on (plan_of old)
@@ -82,7 +82,7 @@ pub record FailedForMemory (can : TreeState → Type 0) (old new : MemoryTree) :
 
 -- a call that writes: it is counted, and the plan is one call nearer; an error is a fault, has one of
 -- these reasons, and changes nothing else
-pub record IsWrite {T E : Type 0} (can : TreeState → Type 0) (old new : MemoryTree)
+pub record IsWriteCall {T E : Type 0} (can : TreeState → Type 0) (old new : MemoryTree)
     (result : Result T E) : Type 0 where
   pub calls : calls_of new ≡ next_count (calls_of old)
   pub writes : writes_of new ≡ next_count (writes_of old)

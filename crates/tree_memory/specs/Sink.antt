@@ -34,13 +34,13 @@ len_that_fits None len = len
 len_that_fits (Some room) len = min len room
 
 -- how many of these bytes a write takes, by the planned limit: at least one, if there is one
-abbrev pub part : Option ℕ → ℕ → ℕ
-part None len = len
-part (Some n) len = min len (max n 1)
+abbrev pub taken_len : Option ℕ → ℕ → ℕ
+taken_len None len = len
+taken_len (Some n) len = min len (max n 1)
 
 -- how many bytes of a piece are taken: all that fit, or the most that a write takes
 abbrev pub share_of : SinkState → List ℕ → ℕ
-share_of sink piece = part sink.most (len_that_fits sink.room (length piece))
+share_of sink piece = taken_len sink.most (len_that_fits sink.room (length piece))
 
 -- a write takes this many bytes of the piece: as many as it can
 pub record Takes (old : SinkState) (piece : List ℕ) (n : ℕ) (new : SinkState) : Type 0 where
@@ -52,7 +52,7 @@ pub record Takes (old : SinkState) (piece : List ℕ) (n : ℕ) (new : SinkState
   }
 
 -- a write of some bytes if no room is left
-pub record IsFull (old : SinkState) (piece : List ℕ) (new : SinkState) : Type 0 where
+pub record WritesToFullSink (old : SinkState) (piece : List ℕ) (new : SinkState) : Type 0 where
   pub some : 0 < length piece
   pub full : old.room ≡ Some 0
   pub counted : new ≡ record old { faults = next_count old.faults }
@@ -68,4 +68,4 @@ pub record IsOutOfMemory (old : SinkState) (piece : List ℕ) (new : SinkState) 
 
 -- a write that fails: there is no room, or the sink is out of memory
 abbrev pub Refuses : SinkState → List ℕ → SinkState → Type 0
-Refuses old piece new = IsFull old piece new ⊎ IsOutOfMemory old piece new
+Refuses old piece new = WritesToFullSink old piece new ⊎ IsOutOfMemory old piece new

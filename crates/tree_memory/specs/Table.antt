@@ -30,7 +30,7 @@ pub record IsNamed (entries : List NameAndFile) (i : ℕ) (name : List ℕ) : Ty
   pub here : HoldsAt (λ e. e.name ≡ name) entries i
 
 -- this name is absent from a table, and would be inserted at this place, counted from 0
-pub record IsPlace (entries : List NameAndFile) (i : ℕ) (name : List ℕ) : Type 0 where
+pub record IsInsertionPlace (entries : List NameAndFile) (i : ℕ) (name : List ℕ) : Type 0 where
   pub within : i ≤ length entries
   pub before : AllWithin (λ e. slice_cmp nat_cmp e.name name ≡ Less) entries 0 i
   pub behind : AllWithin (λ e. slice_cmp nat_cmp e.name name ≡ Greater) entries i (length entries)

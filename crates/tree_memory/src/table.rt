@@ -6,7 +6,7 @@ ghost use Rattle.std.specs.Ordering.{nat_cmp, is_lt};
 ghost use Rattle.std.specs.Str.{bytes_eq};
 ghost use Rattle.std.specs.Cmp.Lexicographic.{slice_cmp};
 ghost use Rattle.base_core.specs.Files.{put_name, drop_name, HasNoFileAsFolder};
-ghost use Rattle.tree_memory.specs.Table.{IsTable, MakesNoFolderOfAnother, lookup, names_of, IsNamed, IsPlace, IsStart, IsBelow, HasFolderBut, HasBelowBut};
+ghost use Rattle.tree_memory.specs.Table.{IsTable, MakesNoFolderOfAnother, lookup, names_of, IsNamed, IsInsertionPlace, IsStart, IsBelow, HasFolderBut, HasBelowBut};
 
 use base_core::{Name, Names, is_folder_of};
 use std::alloc::{AllocError, Global};
@@ -52,7 +52,7 @@ impl NameTable {
     // The place of the name, or else the place where it would be inserted.
     fn place(&self, name: &[u8]) -> Result<usize, usize>
         ensures found { IfOk result (λ i. IsNamed self.now.entries.items i name.now) }
-        ensures absent { IfErr result (λ i. IsPlace self.now.entries.items i name.now) }
+        ensures absent { IfErr result (λ i. IsInsertionPlace self.now.entries.items i name.now) }
     {
         self.entries
             .binary_search_by(|entry| entry.name.as_bytes().cmp(name))

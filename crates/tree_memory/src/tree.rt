@@ -198,7 +198,7 @@ impl MemoryTree {
 }
 
 impl Tree for MemoryTree {
-    ghost use Rattle.tree_memory.specs.Memory.{tree_state, history_of, counts_of, calls_of, writes_of, plan_of, longest_of, IsRead, IsWrite};
+    ghost use Rattle.tree_memory.specs.Memory.{tree_state, history_of, counts_of, calls_of, writes_of, plan_of, longest_of, IsReadCall, IsWriteCall};
     ghost use Rattle.tree_memory.specs.WellFormedLaw.{well_formed_history};
 
     ghost history = { λ tree. history_of tree };
@@ -221,7 +221,7 @@ impl Tree for MemoryTree {
 
         // It fails exactly if that is planned.
         ensures when { IsOk result ↔ (is_next (plan_of self.old) ≡ false) }
-        ensures call { IsRead self.old self.new result }
+        ensures call { IsReadCall self.old self.new result }
         ensures longest { longest_of self.new ≡ longest_of self.old }
     {
         self.calls.begin(true)?;
@@ -244,7 +244,7 @@ impl Tree for MemoryTree {
         ensures when { IsOk result ↔ ((is_next (plan_of self.old) ≡ false)
             × CanRead name.now at (length into.old) (tree_state self.old)) }
         ensures after_failed_call { OnErr result (into.new ≡ into.old) }
-        ensures call { IsRead self.old self.new result }
+        ensures call { IsReadCall self.old self.new result }
         ensures longest { longest_of self.new ≡ max (longest_of self.old) (length into.old) }
     {
         self.longest = self.longest.max(into.len() as u64);
@@ -264,7 +264,7 @@ impl Tree for MemoryTree {
 
         // It fails exactly if it is a misuse, if that is planned, or if the tree is out of memory,
         // and then changes nothing.
-        ensures call { IsWrite (CanCreate name.now) self.old self.new result }
+        ensures call { IsWriteCall (CanCreate name.now) self.old self.new result }
     {
         let can = self.store.can_create(name);
         self.calls.begin_write(can)?;
@@ -278,7 +278,7 @@ impl Tree for MemoryTree {
             (after_failed_append name.now) (history_of self.old) (history_of self.new) result }
         ensures counts { IsCounted (HasName name.now) (history_of self.old) (counts_of self.old)
             (counts_of self.new) result }
-        ensures call { IsWrite (HasName name.now) self.old self.new result }
+        ensures call { IsWriteCall (HasName name.now) self.old self.new result }
     {
         let can = self.store.has(name);
         self.calls.begin_write(can)?;
@@ -292,7 +292,7 @@ impl Tree for MemoryTree {
             (history_of self.old) (history_of self.new) result }
         ensures counts { IsCounted (HasName name.now) (history_of self.old) (counts_of self.old)
             (counts_of self.new) result }
-        ensures call { IsWrite (HasName name.now) self.old self.new result }
+        ensures call { IsWriteCall (HasName name.now) self.old self.new result }
     {
         let can = self.store.has(name);
         self.calls.begin_write(can)?;
@@ -306,7 +306,7 @@ impl Tree for MemoryTree {
             (after_rename from.now to.now) (history_of self.old) (history_of self.new) result }
         ensures counts { IsCounted (CanRename from.now to.now) (history_of self.old)
             (counts_of self.old) (counts_of self.new) result }
-        ensures call { IsWrite (CanRename from.now to.now) self.old self.new result }
+        ensures call { IsWriteCall (CanRename from.now to.now) self.old self.new result }
     {
         let can = self.store.can_rename(from, to);
         self.calls.begin_write(can)?;
@@ -321,7 +321,7 @@ impl Tree for MemoryTree {
             (history_of self.old) (history_of self.new) result }
         ensures counts { IsCounted IsAlwaysAllowed (history_of self.old) (counts_of self.old)
             (counts_of self.new) result }
-        ensures call { IsWrite IsAlwaysAllowed self.old self.new result }
+        ensures call { IsWriteCall IsAlwaysAllowed self.old self.new result }
     {
         self.calls.begin_write(true)?;
         let done = self.store.remove(name);
@@ -334,7 +334,7 @@ impl Tree for MemoryTree {
             (history_of self.old) (history_of self.new) result }
         ensures counts { IsCounted IsAlwaysAllowed (history_of self.old) (counts_of self.old)
             (counts_of self.new) result }
-        ensures call { IsWrite IsAlwaysAllowed self.old self.new result }
+        ensures call { IsWriteCall IsAlwaysAllowed self.old self.new result }
     {
         self.calls.begin_write(true)?;
         let done = self.store.sync_names();
@@ -383,7 +383,7 @@ impl Tree for MemoryTree {
 
         // It fails exactly if that is planned.
         ensures when { IsOk result ↔ (is_next (plan_of self.old) ≡ false) }
-        ensures call { IsRead self.old self.new result }
+        ensures call { IsReadCall self.old self.new result }
         ensures longest { longest_of self.new ≡ longest_of self.old }
     {
         self.calls.begin(true)?;

@@ -15,8 +15,8 @@ use std::io;
 use std::process::ExitCode;
 use tree_memory::{MemorySink, MemoryTree};
 use trees::{
-    add_counts, add_file, add_image, add_is_name, add_list, add_names, add_put, add_sink_bytes,
-    add_size, add_write, plan_failures, set_sink,
+    add_counts, add_file, add_image, add_is_name, add_list, add_names, add_put,
+    add_sink_bytes_and_wants, add_size, add_write, plan_failures, set_sink,
 };
 
 /// What is asked; the README of this crate says what each question answers.
@@ -33,7 +33,7 @@ enum Question {
     /// `write BYTES`, `write_all BYTES`.
     Write,
     /// `sink_bytes`.
-    SinkBytes,
+    SinkBytesAndWants,
     /// `new_tree`.
     NewTree,
     /// `put NAME BYTES`, `can_put NAME`.
@@ -70,7 +70,7 @@ const QUESTIONS: [(&[u8], Question); 26] = [
     (b"take_at_most", Question::SetSink),
     (b"write", Question::Write),
     (b"write_all", Question::Write),
-    (b"sink_bytes", Question::SinkBytes),
+    (b"sink_bytes", Question::SinkBytesAndWants),
     (b"new_tree", Question::NewTree),
     (b"put", Question::Put),
     (b"can_put", Question::Put),
@@ -124,7 +124,7 @@ impl Subject for InMemory {
                 Ok(())
             }
             Question::Write => add_write(alloc, &mut self.sink, words, answer),
-            Question::SinkBytes => add_sink_bytes(alloc, &self.sink, answer),
+            Question::SinkBytesAndWants => add_sink_bytes_and_wants(alloc, &self.sink, answer),
             Question::NewTree => {
                 self.tree = MemoryTree::new(alloc);
                 Ok(())

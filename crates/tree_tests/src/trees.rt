@@ -178,7 +178,7 @@ pub(crate) fn add_write(
 }
 
 /// Adds what the sink took, and how often it had no memory.
-pub(crate) fn add_sink_bytes(
+pub(crate) fn add_sink_bytes_and_wants(
     alloc: Global,
     sink: &MemorySink,
     answer: &mut Vec<u8>,

@@ -6,7 +6,7 @@ use Rattle.std.proofs.lemmas.List.{at_drop_more, at_drop_all}
 use Rattle.dep_core.specs.Dependency.{Dependency}
 use Rattle.dep_core.specs.declared.dep.Dep.{Dep}
 use Rattle.dep_core.specs.Meets.{dependency}
-use Rattle.make_info.specs.Fields.{FieldValue, need, is_nonempty, need_in, needs_in, and_needs}
+use Rattle.make_info.specs.Fields.{FieldValue, need, is_nonempty, untagged_dependency_in, needs_in, and_needs}
 use Rattle.make_info.specs.Reading.{nonempty_part}
 use Rattle.v2_lines.specs.InfoValues.{with_needs}
 use Rattle.v2_lines.specs.Views.{needs_view}
@@ -40,7 +40,7 @@ needs_left parts = needs_in (filter is_nonempty parts)
 good_need : (old new : List FieldValue) (p : List ℕ) (rest : List (List ℕ)) → Some new ≡ with_needs old (needs_in (nonempty_part p)) → with_needs new (needs_left rest) ≡ with_needs old (needs_left (p ∷ rest))
 good_need old new p rest =
     elim (is_nonempty p) as (λ b. Some new ≡ with_needs old (needs_in (cond b (p ∷ []) [])) → with_needs new (needs_left rest) ≡ with_needs old (needs_in (cond b (p ∷ filter is_nonempty rest) (filter is_nonempty rest)))) [
-      | true ↦ by_need old new (need_in p) (needs_left rest)
+      | true ↦ by_need old new (untagged_dependency_in p) (needs_left rest)
       | false ↦ same_by_nil old new (needs_left rest)
     ]
 
@@ -51,7 +51,7 @@ no_need old (Some d) xs h = cc
 bad_need : (old : List FieldValue) (p : List ℕ) (rest : List (List ℕ)) → None ≡ with_needs old (needs_in (nonempty_part p)) → None ≡ with_needs old (needs_left (p ∷ rest))
 bad_need old p rest =
     elim (is_nonempty p) as (λ b. None ≡ with_needs old (needs_in (cond b (p ∷ []) [])) → None ≡ with_needs old (needs_in (cond b (p ∷ filter is_nonempty rest) (filter is_nonempty rest)))) [
-      | true ↦ no_need old (need_in p) (needs_left rest)
+      | true ↦ no_need old (untagged_dependency_in p) (needs_left rest)
       | false ↦ λ h. cc
     ]
 

@@ -32,8 +32,8 @@ abbrev pub after_colon : List ℕ → List ℕ
 after_colon text = after_first (λ b. b == COLON) text
 
 -- whether a text is the number of a user or a group: one or more decimal digits
-abbrev pub is_id : List ℕ → Bool
-is_id text = not (length text == 0) && list_all is_ascii_digit text
+abbrev pub is_uid_or_gid : List ℕ → Bool
+is_uid_or_gid text = not (length text == 0) && list_all is_ascii_digit text
 
 -- whether a byte is an octal digit: `0` (48) to `7` (55)
 abbrev pub is_octal_digit : ℕ → Bool
@@ -55,5 +55,5 @@ access_in text =
     let user = before_colon text in
     let group = before_colon (after_colon text) in
     let mode = before_colon (after_colon (after_colon text)) in
-    if is_id user && is_id group then option_map (access_by user group) (octal_number mode)
+    if is_uid_or_gid user && is_uid_or_gid group then option_map (access_by user group) (octal_number mode)
     else None

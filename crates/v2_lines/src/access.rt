@@ -5,7 +5,7 @@ ghost use Rattle.std.specs.List.{list_all};
 ghost use Rattle.std.specs.Option.{option_map};
 ghost use Rattle.std.specs.Prelude.{◌≡◌, ◌==◌, ◌<◌, IfSome, length, position, true};
 ghost use Rattle.std.specs.Char.{is_ascii_digit};
-ghost use Rattle.v2_lines.specs.Accesses.{access_in, access_view, before_colon, after_colon, is_id, is_octal, is_octal_digit, octal_number};
+ghost use Rattle.v2_lines.specs.Accesses.{access_in, access_view, before_colon, after_colon, is_uid_or_gid, is_octal, is_octal_digit, octal_number};
 
 use std::str;
 
@@ -31,7 +31,7 @@ pub(crate) fn read_access(text: &[u8]) -> Option<Access<'_>>
     let user = before_colon(text);
     let rest = after_colon(text);
     let group = before_colon(rest);
-    if !is_id(user) || !is_id(group) {
+    if !is_uid_or_gid(user) || !is_uid_or_gid(group) {
         return None;
     }
     let mode = read_octal(before_colon(after_colon(rest)))?;
@@ -67,8 +67,8 @@ fn after_colon(text: &[u8]) -> &[u8]
 }
 
 // Whether a text is the number of a user or a group: one or more decimal digits.
-fn is_id(text: &[u8]) -> bool
-    ensures { result ≡ is_id text.now }
+fn is_uid_or_gid(text: &[u8]) -> bool
+    ensures { result ≡ is_uid_or_gid text.now }
 {
     !text.is_empty() && are_digits(text)
 }

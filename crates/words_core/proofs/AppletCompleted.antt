@@ -16,7 +16,7 @@ use Rattle.words_core.specs.declared.options.Meaning.TheVariants.{Flag as Plain}
 use Rattle.words_core.specs.declared.reading.AppletSite.{AppletSite}
 use Rattle.words_core.specs.declared.reading.OptionState.{OptionState}
 use Rattle.words_core.specs.declared.reading.Start.{Start}
-use Rattle.words_core.specs.Grammar.{applet_site, command_from, line_command, command_read, early_flags, first_state, is_double_dash, is_option, line_start, operands_of, option_reading, reading_after_applet, reading_by, site_at, site_after_end, site_by, start_by, start_from, start_with, verdict, with_meaning, with_option, with_spec}
+use Rattle.words_core.specs.Grammar.{applet_site, command_from, line_command, command_read, early_flags, first_state, is_double_dash, is_option, line_start, operands_of, option_reading, reading_after_applet, reading_by, site_at, site_after_end, site_by, start_by, start_from, start_with, command_of_reading, with_meaning, with_option, with_spec}
 use Rattle.words_core.specs.Kinds.{can_get_kind}
 use Rattle.words_core.specs.Options.{OptionSpec, applets, common_options, early_words, is_early, option_spelled, options_of}
 use Rattle.words_core.specs.Stuck.{is_stuck_by, are_options_of}
@@ -184,7 +184,7 @@ module _ (applet : Applet) (named : List ℕ) (operands : List (List ℕ))
       let is : line_start (words ++ more) ≡ Ok start = ap (start_from (words ++ more)) found.1 ∙ ap (start_with site) early in (
         more,
         command_read (length (words ++ more) + 1) applet reading,
-        ap (command_from (words ++ more)) is ∙ (ap (verdict (length (words ++ more) + 1) applet) (from_named start words refl refl) ∙ good (first_state flags.0) (1 + length words + 1) (length (words ++ more) + 1)),
+        ap (command_from (words ++ more)) is ∙ (ap (command_of_reading (length (words ++ more) + 1) applet) (from_named start words refl refl) ∙ good (first_state flags.0) (1 + length words + 1) (length (words ++ more) + 1)),
       )
 
 add_here : (place : ℕ) → applet_site place (codes "add" ∷ []) ≡ Ok (site_by false place Add)

@@ -19,7 +19,7 @@ use Rattle.command_core.specs.Flags.{has_kind, with_flag}
 use Rattle.command_core.specs.Operands.{at_least, exactly, first_refused, is_of_kind}
 use Rattle.words_core.specs.declared.reading.Reading.{Reading}
 use Rattle.words_core.specs.declared.reading.Start.{Start}
-use Rattle.words_core.specs.Grammar.{command_from, line_command, command_read, attached_value, line_start, option_name, option_reading, reading_after_applet, reading_by, refused_operand, state_by, verdict}
+use Rattle.words_core.specs.Grammar.{command_from, line_command, command_read, attached_value, line_start, option_name, option_reading, reading_after_applet, reading_by, refused_operand, state_by, command_of_reading}
 use Rattle.words_core.specs.Kinds.{can_get_kind, can_get_kind_by, can_get_kind_from, is_info}
 use Rattle.words_core.specs.Options.{common_options, options_of}
 use Rattle.words_core.specs.Stuck.{have_ended}
@@ -111,8 +111,8 @@ none_before rule low end last place operands new unread placed far behind judged
     ] refl
 
 module _ (words rest : List (List ℕ)) (start : Start) (at place : ℕ) (known : IsPlain start (1 + length words)) (can : can_get_kind_from words start ≡ true) (found : line_start words ≡ Ok start)
-    (bad : verdict (length words + 1) start.applet (reading_after_applet start words) ≡ Err at) (before : at ≤ length words)
-    (later : verdict (length (words ++ rest) + 1) start.applet (reading_after_applet start (words ++ rest)) ≡ Err place) (far : length words + 1 ≤ place) (all : length words ≤ length (words ++ rest)) where
+    (bad : command_of_reading (length words + 1) start.applet (reading_after_applet start words) ≡ Err at) (before : at ≤ length words)
+    (later : command_of_reading (length (words ++ rest) + 1) start.applet (reading_after_applet start (words ++ rest)) ≡ Err place) (far : length words + 1 ≤ place) (all : length words ≤ length (words ++ rest)) where
   abbrev end : ℕ
   end = length words + 1
 
@@ -149,7 +149,7 @@ module _ (words rest : List (List ℕ)) (start : Start) (at place : ℕ) (known 
 
   refused : first_refused (at_least 0 PackageName) 0 reading.operands ≡ Some at
   refused =
-      let judged : IsJudgedAt end (option_or (refused_operand (operand_rule Info reading.state.flags) reading.operands) reading.unread) at = judged_at Info reading end at (ap (λ (a : Applet). verdict end a reading) (sym is) ∙ bad) in
+      let judged : IsJudgedAt end (option_or (refused_operand (operand_rule Info reading.state.flags) reading.operands) reading.unread) at = judged_at Info reading end at (ap (λ (a : Applet). command_of_reading end a reading) (sym is) ∙ bad) in
       elim judged as (λ _. first_refused (at_least 0 PackageName) 0 reading.operands ≡ Some at) [
         | inl first ↦ by_first (first_refused (at_least 0 PackageName) 0 reading.operands) (ap (λ o. option_or (first_refused (at_least 0 PackageName) 0 reading.operands) o) (sym unread) ∙ (ap (λ (r : OperandRule). option_or (first_refused r 0 reading.operands) reading.unread) (sym rule_is) ∙ first))
         | inr none ↦ absurd (omega (arith, none.1))
@@ -166,7 +166,7 @@ module _ (words rest : List (List ℕ)) (start : Start) (at place : ℕ) (known 
     path : first_refused (exactly 1 Path) 0 reading.operands ≡ None
     path =
         let last : ℕ = length (words ++ rest) + 1 in
-        let judged : IsJudgedAt last (option_or (refused_operand (operand_rule Info longer.state.flags) longer.operands) longer.unread) place = judged_at Info longer last place (ap (λ (a : Applet). verdict last a longer) (sym is) ∙ (ap (verdict last start.applet) (sym (goes_on rest)) ∙ later)) in
+        let judged : IsJudgedAt last (option_or (refused_operand (operand_rule Info longer.state.flags) longer.operands) longer.unread) place = judged_at Info longer last place (ap (λ (a : Applet). command_of_reading last a longer) (sym is) ∙ (ap (command_of_reading last start.applet) (sym (goes_on rest)) ∙ later)) in
         path_of longer.state.flags reading.operands at refused
         (none_before (info_operands longer.state.flags) (start.read + 1) end last place reading.operands (option_reading (options_of start.applet) reading.state end rest).operands longer.unread (from_placed start words low).operands far (omega (arith, all)) judged)
 
@@ -185,8 +185,8 @@ module _ (words rest : List (List ℕ)) (start : Start) (at place : ℕ) (known 
           codes "-W" ∷ [],
           command_read last Info read,
           ap (command_from (words ++ (codes "-W" ∷ []))) (start_stays words (codes "-W" ∷ []) start found)
-              ∙ (ap (verdict last start.applet) owner
-              ∙ (ap (λ (a : Applet). verdict last a read) is
+              ∙ (ap (command_of_reading last start.applet) owner
+              ∙ (ap (λ (a : Applet). command_of_reading last a read) is
               ∙ owner_good reading.state.flags reading.state.values reading.operands at refused path last)),
         )
 

@@ -12,7 +12,7 @@ use Rattle.command_core.specs.Command.{CommandLine}
 use Rattle.command_core.specs.Operands.{first_refused, allows_one_more, is_of_kind}
 use Rattle.command_core.specs.Values.{lacks_value}
 use Rattle.words_core.specs.declared.reading.Reading.{Reading}
-use Rattle.words_core.specs.Grammar.{command_read, lacks_operand, refused_operand, verdict}
+use Rattle.words_core.specs.Grammar.{command_of_reading, command_read, lacks_operand, refused_operand}
 
 -- there is room for one more where as many more fit
 pub room_by : (most : Option ℕ) (before more : ℕ) → is_at_most most (before + (more + 1)) ≡ true → allows_one_more most before ≡ true
@@ -59,8 +59,8 @@ operands_taken (Some rule) operands h =
       enough = le-ltb (length operands) rule.least (leb-true rule.least (length operands) count.0);
     }
 
-pub sound_judged : (behind : ℕ) (applet : Applet) (reading : Reading) → reading.unread ≡ None → is_command (command_read behind applet reading) ≡ true → verdict behind applet reading ≡ Ok (command_read behind applet reading)
-unfolding verdict
+pub sound_judged : (behind : ℕ) (applet : Applet) (reading : Reading) → reading.unread ≡ None → is_command (command_read behind applet reading) ≡ true → command_of_reading behind applet reading ≡ Ok (command_read behind applet reading)
+unfolding command_of_reading
 sound_judged behind applet reading u s =
     let parts = has_parts (command_read behind applet reading) s in
     let taken = operands_taken (operand_rule applet reading.state.flags) reading.operands parts.operands in

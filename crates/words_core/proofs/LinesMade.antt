@@ -23,7 +23,7 @@ use Rattle.words_core.specs.declared.reading.AppletSite.{AppletSite}
 use Rattle.words_core.specs.declared.reading.OptionState.{OptionState}
 use Rattle.words_core.specs.declared.reading.Reading.{Reading}
 use Rattle.words_core.specs.declared.reading.Start.{Start}
-use Rattle.words_core.specs.Grammar.{applet_site, command_from, command_read, early_flags, first_state, attached_value, is_double_dash, is_option, line_command, line_start, operands_of, option_name, option_reading, or_at, reading_after_applet, reading_by, awaited_rule, rule_in, rule_unless, site_at, site_after_end, site_by, start_by, start_from, start_with, state_by, verdict, with_meaning, with_meaning_at, with_option, with_spec, with_spelled, with_word_by}
+use Rattle.words_core.specs.Grammar.{applet_site, command_from, command_read, early_flags, first_state, attached_value, is_double_dash, is_option, line_command, line_start, operands_of, option_name, option_reading, or_at, reading_after_applet, reading_by, awaited_rule, rule_in, rule_unless, site_at, site_after_end, site_by, start_by, start_from, start_with, state_by, command_of_reading, with_meaning, with_meaning_at, with_option, with_spec, with_spelled, with_word_by}
 use Rattle.words_core.specs.Lines.{IsLineOf, flags_after, flags_with, free_words, attached_at, words_that_are_options, may_precede_applet, values_of}
 use Rattle.words_core.specs.Options.{OptionSpec, applet_of, common_options, early_words, is_early, option_spelled, options_of}
 use Rattle.words_core.proofs.GivenKept.{IsOwn, all_own, found_own}
@@ -391,7 +391,7 @@ made_line words command line =
         let parts = has_parts (command_read (length words + 1) start.applet whole) sound in
         let read : reading_after_applet start words ≡ whole = from_made start command.flags command.values words flags values parts.flags parts.values ∙ ap (λ os. reading_by (state_by command.flags command.values None) os None) operands in
         ap (command_from words) s
-        ∙ (ap (verdict (length words + 1) start.applet) read
+        ∙ (ap (command_of_reading (length words + 1) start.applet) read
         ∙ (sound_judged (length words + 1) start.applet whole refl sound
         ∙ (ap (λ a. Ok (command_read (length words + 1) a whole)) applet
         ∙ ap (λ n. Ok (command_read n command.applet whole)) (sym line.behind))))

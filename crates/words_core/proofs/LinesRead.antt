@@ -26,7 +26,7 @@ use Rattle.words_core.specs.declared.reading.AppletSite.{AppletSite}
 use Rattle.words_core.specs.declared.reading.OptionState.{OptionState}
 use Rattle.words_core.specs.declared.reading.Reading.{Reading}
 use Rattle.words_core.specs.declared.reading.Start.{Start}
-use Rattle.words_core.specs.Grammar.{applet_site, command_from, command_read, early_flags, first_state, attached_value, is_double_dash, is_option, is_option_or_value, lacks_operand, lacks_word, line_command, line_start, operands_of, option_name, option_reading, or_at, or_unread, reading_after_applet, reading_by, refused_operand, rule_at, awaited_rule, rule_in, rule_unless, site_at, site_after_end, site_by, start_by, state_by, unless_at, verdict, with_flags, with_attached, with_meaning, with_meaning_at, with_operand, with_option, with_spec, with_spelled, with_value, with_word, with_word_by}
+use Rattle.words_core.specs.Grammar.{applet_site, command_from, command_read, early_flags, first_state, attached_value, is_double_dash, is_option, is_option_or_value, lacks_operand, lacks_word, line_command, line_start, operands_of, option_name, option_reading, or_at, or_unread, reading_after_applet, reading_by, refused_operand, rule_at, awaited_rule, rule_in, rule_unless, site_at, site_after_end, site_by, start_by, state_by, unless_at, command_of_reading, with_flags, with_attached, with_meaning, with_meaning_at, with_operand, with_option, with_spec, with_spelled, with_value, with_word, with_word_by}
 use Rattle.words_core.specs.Lines.{IsLineOf, flags_after, flags_with, free_words, attached_at, words_that_are_options, may_precede_applet, values_of}
 use Rattle.words_core.specs.Options.{OptionSpec, applet_of, early_words, is_early, option_spelled, options_of}
 use Rattle.words_core.specs.Steps.{IsSoundReading}
@@ -521,8 +521,8 @@ pub record IsJudged (behind : ℕ) (applet : Applet) (reading : Reading) (comman
   pub same : command_read behind applet reading ≡ command
   pub sound : is_command (command_read behind applet reading) ≡ true
 
-pub judged_good : (behind : ℕ) (applet : Applet) (reading : Reading) (command : CommandLine) → IsSoundReading applet reading → verdict behind applet reading ≡ Ok command → IsJudged behind applet reading command
-unfolding verdict
+pub judged_good : (behind : ℕ) (applet : Applet) (reading : Reading) (command : CommandLine) → IsSoundReading applet reading → command_of_reading behind applet reading ≡ Ok command → IsJudged behind applet reading command
+unfolding command_of_reading
 judged_good behind applet reading command m j =
     elim (operand_rule applet reading.state.flags) as (λ r. operand_rule applet reading.state.flags ≡ r → unless_at (option_or (refused_operand r reading.operands) reading.unread) (if lacks_word applet r reading then Err behind else Ok (command_read behind applet reading)) ≡ Ok command → IsJudged behind applet reading command) [
       | None ↦ λ r h. absurd (no_kind reading.unread h)
@@ -554,7 +554,7 @@ read_line words command c =
       | Ok start ↦ λ s h. by_start start s h
     ] refl c
   where
-    by_start : (start : Start) → line_start words ≡ Ok start → verdict (length words + 1) start.applet (reading_after_applet start words) ≡ Ok command → IsLineOf words command
+    by_start : (start : Start) → line_start words ≡ Ok start → command_of_reading (length words + 1) start.applet (reading_after_applet start words) ≡ Ok command → IsLineOf words command
     by_start start s h =
         let options = options_of start.applet in
         let from : IsFrom no_flags 1 words start = line_from words start s in

@@ -12,7 +12,7 @@ use Rattle.words_core.specs.declared.reading.AppletSite.{AppletSite}
 use Rattle.words_core.specs.declared.reading.OptionState.{OptionState}
 use Rattle.words_core.specs.declared.reading.Reading.{Reading}
 use Rattle.words_core.specs.declared.reading.Start.{Start}
-use Rattle.words_core.specs.Grammar.{applet_site, command_from, line_command, command_read, first_state, is_double_dash, is_option, is_option_or_value, lacks_word, line_start, operands_of, option_reading, or_at, or_unread, reading_after_applet, reading_by, reading_end, refused_operand, site_at, site_after_end, site_by, unless_at, verdict, with_operand, with_word}
+use Rattle.words_core.specs.Grammar.{applet_site, command_from, line_command, command_read, first_state, is_double_dash, is_option, is_option_or_value, lacks_word, line_start, operands_of, option_reading, or_at, or_unread, reading_after_applet, reading_by, reading_end, refused_operand, site_at, site_after_end, site_by, unless_at, command_of_reading, with_operand, with_word}
 use Rattle.words_core.specs.Options.{OptionSpec, applet_of, is_early, options_of}
 use Rattle.words_core.proofs.KindsKept.{IsPlain, start_known}
 use Rattle.words_core.proofs.Sites.{IsForeign, foreign_between, no_start}
@@ -108,8 +108,8 @@ first_between (Some rule) low behind place reading p h =
 abbrev pub IsJudgedAt : ℕ → Option ℕ → ℕ → Type 0
 IsJudgedAt behind first place = (first ≡ Some place) ⊎ ((first ≡ None) × (place ≡ behind))
 
-pub judged_at : (applet : Applet) (reading : Reading) (behind place : ℕ) → verdict behind applet reading ≡ Err place → IsJudgedAt behind (option_or (refused_operand (operand_rule applet reading.state.flags) reading.operands) reading.unread) place
-unfolding verdict
+pub judged_at : (applet : Applet) (reading : Reading) (behind place : ℕ) → command_of_reading behind applet reading ≡ Err place → IsJudgedAt behind (option_or (refused_operand (operand_rule applet reading.state.flags) reading.operands) reading.unread) place
+unfolding command_of_reading
 judged_at applet reading behind place h =
     let rule = operand_rule applet reading.state.flags in
     elim (option_or (refused_operand rule reading.operands) reading.unread) as (λ o. unless_at o (if lacks_word applet rule reading then Err behind else Ok (command_read behind applet reading)) ≡ Err place → IsJudgedAt behind o place) [
@@ -120,8 +120,8 @@ judged_at applet reading behind place h =
       | Some at ↦ λ (e : Err at ≡ Err place). inl cc
     ] h
 
-pub judged_bad : (applet : Applet) (reading : Reading) (behind place : ℕ) → option_or (refused_operand (operand_rule applet reading.state.flags) reading.operands) reading.unread ≡ Some place → verdict behind applet reading ≡ Err place
-unfolding verdict
+pub judged_bad : (applet : Applet) (reading : Reading) (behind place : ℕ) → option_or (refused_operand (operand_rule applet reading.state.flags) reading.operands) reading.unread ≡ Some place → command_of_reading behind applet reading ≡ Err place
+unfolding command_of_reading
 judged_bad applet reading behind place h =
     ap (λ o. unless_at o (if lacks_word applet (operand_rule applet reading.state.flags) reading then Err behind else Ok (command_read behind applet reading))) h
 
@@ -174,7 +174,7 @@ usage_between words place c =
         (omega (arith, is.0), omega (arith, is.1))
     by_place at place e (inr f) = (let is = foreign_between words at f in (omega (arith, is.0), omega (arith, is.1)))
 
-    by_start : (start : Start) → line_start words ≡ Ok start → verdict (length words + 1) start.applet (reading_after_applet start words) ≡ Err place → (1 ≤ place) × (place ≤ length words + 1)
+    by_start : (start : Start) → line_start words ≡ Ok start → command_of_reading (length words + 1) start.applet (reading_after_applet start words) ≡ Err place → (1 ≤ place) × (place ≤ length words + 1)
     by_start start s e =
         let known : IsPlain start (1 + length words) = start_known words start s in
         let placed : IsPlaced (start.read + 1) (length words + 1) (reading_after_applet start words) = from_placed start words (omega (arith, known.read)) in

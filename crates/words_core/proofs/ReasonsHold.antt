@@ -27,7 +27,7 @@ use Rattle.words_core.specs.declared.reading.Reading.{Reading}
 use Rattle.words_core.specs.declared.reading.Start.{Start}
 use Rattle.words_core.specs.declared.usage.UsageReason.{UsageReason}
 use Rattle.words_core.specs.declared.usage.UsageReason.TheVariants.{OptionRepeated, OperandBad, ScriptRepeated, SecondKind, TooManyOperands, ValueBad}
-use Rattle.words_core.specs.Grammar.{applet_site, command_from, command_of, command_read, first_state, attached_value, is_double_dash, is_option, lacks_operand, lacks_word, line_command, line_start, next_after, next_by_rule, next_words, operands_of, option_name, option_reading, reading_after_applet, reading_by, refused_operand, rule_in, state_by, verdict, with_flags, with_meaning_at, with_value, with_word_by}
+use Rattle.words_core.specs.Grammar.{applet_site, command_from, command_of, command_read, first_state, attached_value, is_double_dash, is_option, lacks_operand, lacks_word, line_command, line_start, next_after, next_by_rule, next_words, operands_of, option_name, option_reading, reading_after_applet, reading_by, refused_operand, rule_in, state_by, command_of_reading, with_flags, with_meaning_at, with_value, with_word_by}
 use Rattle.words_core.specs.Options.{OptionSpec, option_spelled, options_of}
 use Rattle.words_core.specs.Reasons.{IsUsageReason, IsRuleAt, HasValue}
 use Rattle.words_core.specs.Usage.{early_reason, end_reason, line_reason, line_rule, meaning_reason, missing_reason, operand_reason, option_reason, reason_from, repeated_by, usage_reason, value_reason, word_reason}
@@ -351,7 +351,7 @@ module _ (words : List (List ℕ)) (start : Start) (s : line_start words ≡ Ok 
       ]
 
   -- all that can be judged bad
-  judged_why : (place : ℕ) → verdict (length words + 1) start.applet (reading_after_applet start words) ≡ Err place → IsUsageReason (usage_reason words place) words place
+  judged_why : (place : ℕ) → command_of_reading (length words + 1) start.applet (reading_after_applet start words) ≡ Err place → IsUsageReason (usage_reason words place) words place
   judged_why place h = elim (judged_at start.applet (reading_after_applet start words) (length words + 1) place h) as (λ _. IsUsageReason (usage_reason words place) words place) [
     | inl first ↦ by_refused (refused_operand (line_rule words start) (reading_after_applet start words).operands) refl first
     | inr last ↦ (let none = both_none (refused_operand (line_rule words start) (reading_after_applet start words).operands) (reading_after_applet start words).unread last.0 in

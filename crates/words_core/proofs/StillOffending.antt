@@ -16,7 +16,7 @@ use Rattle.command_core.specs.Flags.{has_kind}
 use Rattle.command_core.specs.Operands.{first_refused}
 use Rattle.words_core.specs.declared.reading.Reading.{Reading}
 use Rattle.words_core.specs.declared.reading.Start.{Start}
-use Rattle.words_core.specs.Grammar.{command_from, line_command, line_start, operands_of, option_reading, reading_after_applet, refused_operand, verdict}
+use Rattle.words_core.specs.Grammar.{command_from, command_of_reading, line_command, line_start, operands_of, option_reading, reading_after_applet, refused_operand}
 use Rattle.words_core.specs.Kinds.{can_get_kind, can_get_kind_by, can_get_kind_from, is_info}
 use Rattle.words_core.specs.Options.{OptionSpec, options_of}
 use Rattle.words_core.specs.Stuck.{have_ended}
@@ -142,10 +142,10 @@ usage_stays words more place k c l =
       | Ok start ↦ λ s e. ap (command_from (words ++ more)) (start_stays words more start s) ∙ by_start start s e
     ] refl c
   where
-    by_start : (start : Start) → line_start words ≡ Ok start → verdict (length words + 1) start.applet (reading_after_applet start words) ≡ Err place → verdict (length (words ++ more) + 1) start.applet (reading_after_applet start (words ++ more)) ≡ Err place
+    by_start : (start : Start) → line_start words ≡ Ok start → command_of_reading (length words + 1) start.applet (reading_after_applet start words) ≡ Err place → command_of_reading (length (words ++ more) + 1) start.applet (reading_after_applet start (words ++ more)) ≡ Err place
     by_start start s e =
         let less : place < length words + 1 = omega arith in
-        elim (judged_at start.applet (reading_after_applet start words) (length words + 1) place e) as (λ _. verdict (length (words ++ more) + 1) start.applet (reading_after_applet start (words ++ more)) ≡ Err place) [
+        elim (judged_at start.applet (reading_after_applet start words) (length words + 1) place e) as (λ _. command_of_reading (length (words ++ more) + 1) start.applet (reading_after_applet start (words ++ more)) ≡ Err place) [
           | inl first ↦ judged_bad start.applet (reading_after_applet start (words ++ more)) (length (words ++ more) + 1) place
               (elim (longer_or_same words more start (start_known words start s) (cannot_from words start k s)) as (λ _. first_of start.applet (reading_after_applet start (words ++ more)) ≡ Some place) [
                 | inl same ↦ ap (first_of start.applet) same.0 ∙ first

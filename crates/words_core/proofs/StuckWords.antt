@@ -23,7 +23,7 @@ use Rattle.words_core.specs.declared.reading.AppletSite.{AppletSite}
 use Rattle.words_core.specs.declared.reading.OptionState.{OptionState}
 use Rattle.words_core.specs.declared.reading.Reading.{Reading}
 use Rattle.words_core.specs.declared.reading.Start.{Start}
-use Rattle.words_core.specs.Grammar.{applet_site, command_from, line_command, command_read, early_flags, is_double_dash, is_option, lacks_operand, lacks_word, line_start, option_reading, or_at, reading_after_applet, reading_by, refused_operand, site_at, site_after_end, site_by, start_from, start_with, state_by, unless_at, verdict, with_word_by}
+use Rattle.words_core.specs.Grammar.{applet_site, command_from, line_command, command_read, early_flags, is_double_dash, is_option, lacks_operand, lacks_word, line_start, option_reading, or_at, reading_after_applet, reading_by, refused_operand, site_at, site_after_end, site_by, start_from, start_with, state_by, unless_at, command_of_reading, with_word_by}
 use Rattle.words_core.specs.Options.{OptionSpec, applet_of, applet_word, applets, is_early, options_of}
 use Rattle.words_core.specs.Stuck.{are_stuck_by, awaits_none, has_script, have_ended, is_full, is_stuck, is_stuck_by, lacks_option, are_options_of}
 use Rattle.words_core.proofs.GoneOn.{IsRemovedPackage, from_going}
@@ -35,11 +35,11 @@ use Rattle.words_core.proofs.Sites.{err_here, IsKnown, flags_offend, seek_early,
 use Rattle.words_core.proofs.WordsCompleted.{rule_by}
 
 abbrev pub IsBad : Applet → Reading → Type 0
-IsBad applet reading = (end : ℕ) → (place : ℕ) × (verdict end applet reading ≡ Err place)
+IsBad applet reading = (end : ℕ) → (place : ℕ) × (command_of_reading end applet reading ≡ Err place)
 
 -- what cannot be read is no command
 pub unread_bad : (applet : Applet) (reading : Reading) (at : ℕ) → reading.unread ≡ Some at → IsBad applet reading
-unfolding verdict
+unfolding command_of_reading
 unread_bad applet reading at u end =
     let rest = if lacks_word applet (operand_rule applet reading.state.flags) reading then Err end else Ok (command_read end applet reading) in
     elim (refused_operand (operand_rule applet reading.state.flags) reading.operands) as (λ o. (place : ℕ) × (unless_at (option_or o reading.unread) rest ≡ Err place)) [
@@ -61,7 +61,7 @@ bad_by None lacking end command e = (end, ap (λ b. if b then Err end else Ok co
 bad_by (Some at) lacking end command e = (at, refl)
 
 pub lacking_bad : (applet : Applet) (reading : Reading) → lacks_option applet reading.state ≡ true → IsBad applet reading
-unfolding verdict
+unfolding command_of_reading
 lacking_bad applet reading h end =
     bad_by (option_or (refused_operand (operand_rule applet reading.state.flags) reading.operands) reading.unread) (lacks_word applet (operand_rule applet reading.state.flags) reading) end (command_read end applet reading) (lacks_by_option applet reading h)
 

@@ -11,7 +11,7 @@ use Rattle.command_core.specs.Operands.{first_refused, operand_at}
 use Rattle.words_core.specs.declared.reading.OptionState.{OptionState}
 use Rattle.words_core.specs.declared.reading.Reading.{Reading}
 use Rattle.words_core.specs.declared.reading.Start.{Start}
-use Rattle.words_core.specs.Grammar.{command_from, line_command, command_read, first_state, is_double_dash, is_option_or_value, lacks_word, line_start, operands_of, option_reading, or_unread, reading_after_applet, reading_by, refused_operand, unless_at, verdict, with_operand, with_word}
+use Rattle.words_core.specs.Grammar.{command_from, line_command, command_read, first_state, is_double_dash, is_option_or_value, lacks_word, line_start, operands_of, option_reading, or_unread, reading_after_applet, reading_by, refused_operand, unless_at, command_of_reading, with_operand, with_word}
 use Rattle.words_core.specs.Kinds.{can_get_kind, can_get_kind_from}
 use Rattle.words_core.specs.Options.{OptionSpec, options_of}
 use Rattle.words_core.proofs.KindsKept.{IsPlain, start_known}
@@ -81,8 +81,8 @@ from_added start words more l =
 abbrev pub IsGood : Applet → Reading → Type 0
 IsGood applet reading = (rule : OperandRule) × (operand_rule applet reading.state.flags ≡ Some rule) × (first_refused rule 0 reading.operands ≡ None) × (reading.unread ≡ None)
 
-pub good_of : (applet : Applet) (reading : Reading) (behind : ℕ) (command : CommandLine) → verdict behind applet reading ≡ Ok command → IsGood applet reading
-unfolding verdict
+pub good_of : (applet : Applet) (reading : Reading) (behind : ℕ) (command : CommandLine) → command_of_reading behind applet reading ≡ Ok command → IsGood applet reading
+unfolding command_of_reading
 good_of applet reading behind command h =
     elim (operand_rule applet reading.state.flags) as (λ r. operand_rule applet reading.state.flags ≡ r → unless_at (option_or (refused_operand r reading.operands) reading.unread) (if lacks_word applet r reading then Err behind else Ok (command_read behind applet reading)) ≡ Ok command → IsGood applet reading) [
       | None ↦ λ r. elim reading.unread as (λ u. unless_at (option_or None u) (Err behind) ≡ Ok command → IsGood applet reading) [
@@ -124,10 +124,10 @@ offends_after words more command place k c h =
           | Some at ↦ λ f (e : Some at ≡ Some place). (let is = refused_between good.0 (0 + length (reading_after_applet start words).operands) (length words + 1) (length words + 1 + length more) place add.new add.placed (f ∙ e) in omega (arith, is.0))
         ] refl (ap (λ o. option_or o longer.unread) (sym refused) ∙ (ap (λ r. option_or (refused_operand r longer.operands) longer.unread) (sym rule_is) ∙ first))
 
-    by_start : (start : Start) → line_start words ≡ Ok start → verdict (length words + 1) start.applet (reading_after_applet start words) ≡ Ok command → length words < place
+    by_start : (start : Start) → line_start words ≡ Ok start → command_of_reading (length words + 1) start.applet (reading_after_applet start words) ≡ Ok command → length words < place
     by_start start s e =
         let last : ℕ = length (words ++ more) + 1 in
-        let longer : verdict last start.applet (reading_after_applet start (words ++ more)) ≡ Err place =
+        let longer : command_of_reading last start.applet (reading_after_applet start (words ++ more)) ≡ Err place =
         sym (ap (command_from (words ++ more)) (start_stays words more start s)) ∙ h in
         elim (judged_at start.applet (reading_after_applet start (words ++ more)) last place longer) as (λ _. length words < place) [
           | inl first ↦ by_first start (start_known words start s) (cannot_from words start k s) (good_of start.applet (reading_after_applet start words) (length words + 1) command e) first

@@ -33,7 +33,7 @@ use Rattle.command_core.specs.Values.{excludes, is_excluded, is_given, is_script
 use Rattle.words_core.specs.declared.reading.OptionState.{OptionState}
 use Rattle.words_core.specs.declared.reading.Reading.{Reading}
 use Rattle.words_core.specs.declared.reading.Start.{Start}
-use Rattle.words_core.specs.Grammar.{command_from, line_command, command_read, attached_value, lacks_word, line_start, operands_of, option_name, option_reading, reading_after_applet, reading_by, refused_operand, state_by, verdict, with_operand, with_word_by}
+use Rattle.words_core.specs.Grammar.{command_from, line_command, command_read, attached_value, lacks_word, line_start, operands_of, option_name, option_reading, reading_after_applet, reading_by, refused_operand, state_by, command_of_reading, with_operand, with_word_by}
 use Rattle.words_core.specs.Options.{OptionSpec, common_options, options_of}
 use Rattle.words_core.specs.Stuck.{awaits_none, has_script, have_ended, is_full, is_stuck, lacks_option}
 use Rattle.words_core.proofs.GivenKept.{from_kept}
@@ -60,12 +60,12 @@ pub one_more : (os : List Operand) (o : Operand) → nat_lt (length (os ++ (o �
 one_more [] o = refl
 one_more (p ∷ os) o = le-ltb (length (p ∷ (os ++ (o ∷ [])))) 1 (omega arith)
 
-pub judged_good : (applet : Applet) (reading : Reading) (end : ℕ) → refused_operand (operand_rule applet reading.state.flags) reading.operands ≡ None → reading.unread ≡ None → lacks_word applet (operand_rule applet reading.state.flags) reading ≡ false → verdict end applet reading ≡ Ok (command_read end applet reading)
-unfolding verdict
+pub judged_good : (applet : Applet) (reading : Reading) (end : ℕ) → refused_operand (operand_rule applet reading.state.flags) reading.operands ≡ None → reading.unread ≡ None → lacks_word applet (operand_rule applet reading.state.flags) reading ≡ false → command_of_reading end applet reading ≡ Ok (command_read end applet reading)
+unfolding command_of_reading
 judged_good applet reading end taken u enough = rw taken (rw u (rw enough refl))
 
 abbrev pub IsJudgedGood : Applet → Reading → Type 0
-IsJudgedGood applet reading = (end : ℕ) → verdict end applet reading ≡ Ok (command_read end applet reading)
+IsJudgedGood applet reading = (end : ℕ) → command_of_reading end applet reading ≡ Ok (command_read end applet reading)
 
 -- ---- operands that can follow
 
@@ -384,7 +384,7 @@ pub both_none : (o unread : Option ℕ) → option_or o unread ≡ None → (o �
 both_none None unread h = (refl, h)
 both_none (Some at) unread h = absurd (none-some at (sym h))
 
-pub completed_from : (words : List (List ℕ)) (start : Start) → is_stuck words start ≡ false → line_start words ≡ Ok start → verdict (length words + 1) start.applet (reading_after_applet start words) ≡ Err (length words + 1) → CanBeCompleted words
+pub completed_from : (words : List (List ℕ)) (start : Start) → is_stuck words start ≡ false → line_start words ≡ Ok start → command_of_reading (length words + 1) start.applet (reading_after_applet start words) ≡ Err (length words + 1) → CanBeCompleted words
 unfolding line_command
 completed_from words start k s h = by_going (from_going start words low)
   where

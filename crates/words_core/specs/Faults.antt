@@ -14,6 +14,6 @@ IsWordsFault (Usage place) command = command ≡ Err place
 IsWordsFault Memory command = Unit {0}
 
 -- out of memory is answered only if the applet was found, with its own options before it
-abbrev pub IsAfterApplet : WordsFault → Result Start ℕ → Type 0
-IsAfterApplet (Usage place) start = Unit {0}
-IsAfterApplet Memory start = IsTrue (is_ok start)
+abbrev pub HasStartIfOutOfMemory : WordsFault → Result Start ℕ → Type 0
+HasStartIfOutOfMemory (Usage place) start = Unit {0}
+HasStartIfOutOfMemory Memory start = IsTrue (is_ok start)

@@ -271,8 +271,8 @@ unless_at (Some place) otherwise = Err place
 
 -- the command that was read, or the first of: an operand that is not taken, the word that cannot be
 -- read, the end of the words if a word is missing
-unfoldable pub verdict : ℕ → Applet → Reading → Result CommandLine ℕ
-verdict behind applet reading =
+unfoldable pub command_of_reading : ℕ → Applet → Reading → Result CommandLine ℕ
+command_of_reading behind applet reading =
     let rule = operand_rule applet reading.state.flags in
     unless_at (option_or (refused_operand rule reading.operands) reading.unread)
     (if lacks_word applet rule reading then Err behind else Ok (command_read behind applet reading))
@@ -280,7 +280,7 @@ verdict behind applet reading =
 -- the command of the words, by the start that was found in them; or the first place that offends
 abbrev pub command_from : List (List ℕ) → Result Start ℕ → Result CommandLine ℕ
 command_from words (Err place) = Err place
-command_from words (Ok start) = verdict (length words + 1) start.applet (reading_after_applet start
+command_from words (Ok start) = command_of_reading (length words + 1) start.applet (reading_after_applet start
     words)
 
 -- the command that the words spell, or the first place that offends

@@ -3,8 +3,8 @@
 ghost use Rattle.std.specs.Prelude.{◌≡◌, IfOk, IfErr, IsTrue, OnErr};
 ghost use Rattle.std.specs.Result.{is_ok};
 ghost use Rattle.command_core.specs.Sound.{is_command};
-ghost use Rattle.words_core.specs.Faults.{IsAfterApplet, IsWordsFault};
-ghost use Rattle.words_core.specs.Grammar.{applet_site, asked_command, command_of, line_command, line_start, topic_at, verdict};
+ghost use Rattle.words_core.specs.Faults.{HasStartIfOutOfMemory, IsWordsFault};
+ghost use Rattle.words_core.specs.Grammar.{applet_site, asked_command, command_of, command_of_reading, line_command, line_start, topic_at};
 ghost use Rattle.words_core.specs.Steps.{IsSoundReading};
 
 use crate::next::asked_at;
@@ -47,7 +47,7 @@ impl From<AllocError> for WordsFault {
 pub fn read_words(alloc: Global, words: &Words) -> Result<Command, WordsFault>
     ensures ok { IfOk result (λ command. command_of words.now ≡ Ok command) }
     ensures usage { IfErr result (λ fault. IsWordsFault fault (command_of words.now)) }
-    ensures memory { IfErr result (λ fault. IsAfterApplet fault (line_start words.now)) }
+    ensures memory { IfErr result (λ fault. HasStartIfOutOfMemory fault (line_start words.now)) }
 {
     match read_line(alloc, words) {
         Ok(command) => Ok(command),
@@ -62,7 +62,7 @@ fn read_asked(alloc: Global, words: &Words, place: u32) -> Result<Command, Words
     requires { line_command words.now ≡ Err place }
     ensures ok { IfOk result (λ command. command_of words.now ≡ Ok command) }
     ensures usage { IfErr result (λ fault. IsWordsFault fault (command_of words.now)) }
-    ensures memory { IfErr result (λ fault. IsAfterApplet fault (line_start words.now)) }
+    ensures memory { IfErr result (λ fault. HasStartIfOutOfMemory fault (line_start words.now)) }
 {
     let Some(applet) = asked_at(words, place) else {
         return Err(WordsFault::Usage { place });
@@ -110,7 +110,7 @@ fn topic(alloc: Global, words: &Words) -> Result<Operands, AllocError>
 fn read_line(alloc: Global, words: &Words) -> Result<Command, WordsFault>
     ensures ok { IfOk result (λ command. line_command words.now ≡ Ok command) }
     ensures usage { IfErr result (λ fault. IsWordsFault fault (line_command words.now)) }
-    ensures memory { IfErr result (λ fault. IsAfterApplet fault (line_start words.now)) }
+    ensures memory { IfErr result (λ fault. HasStartIfOutOfMemory fault (line_start words.now)) }
 {
     let start = match read_start(words) {
         Ok(start) => start,
@@ -122,11 +122,11 @@ fn read_line(alloc: Global, words: &Words) -> Result<Command, WordsFault>
 
 // The command that was read, or the first wrong place: an operand that is not taken, the word that
 // cannot be read, or the place after the last word if a word is missing.
-#[tactic(auto, unfolding(crate::specs::Grammar::verdict))]
+#[tactic(auto, unfolding(crate::specs::Grammar::command_of_reading))]
 fn judge(applet: Applet, reading: Reading, behind: u32) -> Result<Command, WordsFault>
     requires { IsSoundReading applet reading }
-    ensures ok { IfOk result (λ command. verdict behind applet reading ≡ Ok command) }
-    ensures usage { IfErr result (λ fault. IsWordsFault fault (verdict behind applet reading)) }
+    ensures ok { IfOk result (λ command. command_of_reading behind applet reading ≡ Ok command) }
+    ensures usage { IfErr result (λ fault. IsWordsFault fault (command_of_reading behind applet reading)) }
 {
     // Without the flag that selects its kind a command has no rule for its operands.
     let Some(rule) = applet.operands(reading.state.flags) else {

@@ -12,7 +12,7 @@ ghost use Rattle.search_tables.specs.candidate_core.PackageMatches.{AreMatchesAm
 ghost use Rattle.search_tables.specs.candidate_core.Rank.{candidate_at, is_at};
 ghost use Rattle.search_choices.specs.Choices.{IsConsistent, choices_of, pool_of};
 ghost use Rattle.search_tables.specs.Conflicts.{AreConflictsOf};
-ghost use Rattle.search_tables.specs.Excluders.{AreListed, IsExcluder, IsFreeAt};
+ghost use Rattle.search_tables.specs.Excluders.{IsConflictTable, IsExcluder, IsNotExcludedAt};
 ghost use Rattle.search_tables.specs.Selection.{exclude_each_other, is_met, occupied_names};
 
 use super::Choices;
@@ -58,7 +58,7 @@ impl<'p> Choices<'p> {
         id: CandId,
         matches: &mut PackageMatches<'_>,
     ) -> Result<Option<CandId>, AllocError>
-        requires listed { AreListed (pool_of self.now) (choices_of self.now) self.now.conflicts }
+        requires listed { IsConflictTable (pool_of self.now) (choices_of self.now) self.now.conflicts }
         requires conflicts { AreConflictsOf (pool_of self.now).candidates
             self.now.conflicts.by_name }
         requires here { candidate_at (pool_of self.now) id ≡ Some details.now }
@@ -66,7 +66,7 @@ impl<'p> Choices<'p> {
         requires matches { AreMatchesAmong (pool_of self.now).candidates matches.old }
         ensures found { IfOk result (λ found. MatchOption found
             (((p : Dependency) → IsIn p details.now.provides →
-            p.conflict ≡ false → IsFreeAt (pool_of self.now) (choices_of self.now) details.now
+            p.conflict ≡ false → IsNotExcludedAt (pool_of self.now) (choices_of self.now) details.now
             p.name (is_some p.version))
             × ((d : Dependency) → IsIn d details.now.depends →
             d.conflict ≡ true → is_met (pool_of self.now) (choices_of self.now) (entry d) ≡ false))
@@ -90,7 +90,7 @@ impl<'p> Choices<'p> {
         id: CandId,
         matches: &mut PackageMatches<'_>,
     ) -> Result<Option<CandId>, AllocError>
-        requires listed { AreListed (pool_of self.now) (choices_of self.now) self.now.conflicts }
+        requires listed { IsConflictTable (pool_of self.now) (choices_of self.now) self.now.conflicts }
         requires conflicts { AreConflictsOf (pool_of self.now).candidates
             self.now.conflicts.by_name }
         requires here { candidate_at (pool_of self.now) id ≡ Some details.now }
@@ -98,7 +98,7 @@ impl<'p> Choices<'p> {
         requires occupied { is_occupied ≡ true → IsIn name.now (occupied_names details.now) }
         requires matches { AreMatchesAmong (pool_of self.now).candidates matches.old }
         ensures found { IfOk result (λ found. MatchOption found
-            (IsFreeAt (pool_of self.now) (choices_of self.now) details.now name.now is_occupied)
+            (IsNotExcludedAt (pool_of self.now) (choices_of self.now) details.now name.now is_occupied)
             (λ k. IsExcluder (pool_of self.now) (choices_of self.now) id k)) }
         ensures matches { OnOk result (AreMatchesAmong (pool_of self.now).candidates matches.new) }
     {
@@ -130,7 +130,7 @@ impl<'p> Choices<'p> {
         id: CandId,
         matches: &mut PackageMatches<'_>,
     ) -> Result<Option<CandId>, AllocError>
-        requires listed { AreListed (pool_of self.now) (choices_of self.now) self.now.conflicts }
+        requires listed { IsConflictTable (pool_of self.now) (choices_of self.now) self.now.conflicts }
         requires conflicts { AreConflictsOf (pool_of self.now).candidates
             self.now.conflicts.by_name }
         requires here { candidate_at (pool_of self.now) id ≡ Some details.now }
@@ -138,7 +138,7 @@ impl<'p> Choices<'p> {
         requires matches { AreMatchesAmong (pool_of self.now).candidates matches.old }
         ensures found { IfOk result (λ found. MatchOption found
             ((p : Dependency) → IsIn p details.now.provides →
-            p.conflict ≡ false → IsFreeAt (pool_of self.now) (choices_of self.now) details.now
+            p.conflict ≡ false → IsNotExcludedAt (pool_of self.now) (choices_of self.now) details.now
             p.name (is_some p.version))
             (λ k. IsExcluder (pool_of self.now) (choices_of self.now) id k)) }
         ensures matches { OnOk result (AreMatchesAmong (pool_of self.now).candidates matches.new) }
@@ -163,7 +163,7 @@ impl<'p> Choices<'p> {
         id: CandId,
         matches: &mut PackageMatches<'_>,
     ) -> Result<Option<CandId>, AllocError>
-        requires listed { AreListed (pool_of self.now) (choices_of self.now) self.now.conflicts }
+        requires listed { IsConflictTable (pool_of self.now) (choices_of self.now) self.now.conflicts }
         requires conflicts { AreConflictsOf (pool_of self.now).candidates
             self.now.conflicts.by_name }
         requires here { candidate_at (pool_of self.now) id ≡ Some details.now }
@@ -172,7 +172,7 @@ impl<'p> Choices<'p> {
         requires matches { AreMatchesAmong (pool_of self.now).candidates matches.old }
         ensures found { IfOk result (λ found. MatchOption found
             ((dependency entry.now).conflict ≡ false →
-            IsFreeAt (pool_of self.now) (choices_of self.now) details.now
+            IsNotExcludedAt (pool_of self.now) (choices_of self.now) details.now
             (dependency entry.now).name (is_some (dependency entry.now).version))
             (λ k. IsExcluder (pool_of self.now) (choices_of self.now) id k)) }
         ensures matches { OnOk result (AreMatchesAmong (pool_of self.now).candidates matches.new) }

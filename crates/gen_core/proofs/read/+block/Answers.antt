@@ -11,9 +11,9 @@ use Rattle.adb_view.specs.declared.tables.Kind.{Kind}
 use Rattle.adb_view.specs.declared.tables.Kind.TheVariants.{Int, Text, Obj, TextArr, ObjArr}
 use Rattle.adb_values.specs.Drafts.{DraftState, draft_with, draft_with_open_list}
 use Rattle.adb_dump.specs.Dump.{Line}
-use Rattle.adb_dump.specs.ReadBack.{LinesRead, strip_prefix, arr_read, block_read, entries_read, fields_read, named_read, obj_read}
+use Rattle.adb_dump.specs.ReadBack.{ResultOrBadLine, strip_prefix, arr_read, block_read, entries_read, fields_read, named_read, obj_read}
 use Rattle.gen_core.specs.Cursors.{CursorState, after_line, block_at, line_of_block}
-use Rattle.gen_core.specs.Reads.{IsTextFault, Read, block_taken, end_read, entry_block_read, line_read, line_taken, values_taken}
+use Rattle.gen_core.specs.Reads.{DraftOrBadLine, IsTextFault, block_taken, end_read, entry_block_read, line_read, line_taken, values_taken}
 use Rattle.gen_core.specs.declared.generate.GenFault.{GenFault}
 use Rattle.gen_core.proofs.Blocks.{Split}
 use Rattle.gen_core.proofs.Escapes.{empty_line, some_line}
@@ -37,7 +37,7 @@ read_array-returns-in_err-read_entries-clause-err t c =
     let whole = block_taken (block_read (array s) block.0) block c.args.draft.now c.args.cursor.now in
     handed_on c.from_residual-in_err-read_entries.result c.in_err-read_entries.field-0.0 (λ (fault : GenFault). IsTextFault fault whole) (err_from_is_err_and c.from_residual-in_err-read_entries.result c.from_residual-in_err-read_entries.ensures.1)
     (same_fault c.in_err-read_entries.field-0.0 (values_taken read block c.open_list.new.self c.args.cursor.now) whole
-    (λ n e. ap (λ (r : LinesRead Plain). block_taken r block c.args.draft.now c.args.cursor.now) (array_read s block.0) ∙ list_bad read arr_read block c.args.draft.now c.open_list.new.self c.args.cursor.now n e)
+    (λ n e. ap (λ (r : ResultOrBadLine Plain). block_taken r block c.args.draft.now c.args.cursor.now) (array_read s block.0) ∙ list_bad read arr_read block c.args.draft.now c.open_list.new.self c.args.cursor.now n e)
     c.in_err-read_entries.ensures.err)
 
 pub read_array-returns-clause-ok : goal.read_array-returns-clause-ok
@@ -45,7 +45,7 @@ read_array-returns-clause-ok t c =
     let s = shape_of c.args.kind in
     let block = block_at c.args.depth c.args.cursor.now.lines in
     let read = entries_read (block_read s) (length block.0) block.0 in
-    ap (λ (r : LinesRead Plain). block_taken r block c.args.draft.now c.args.cursor.now) (array_read s block.0)
+    ap (λ (r : ResultOrBadLine Plain). block_taken r block c.args.draft.now c.args.cursor.now) (array_read s block.0)
     ∙ list_closed read arr_read arr_value block c.args.draft.now c.args.cursor.now (array_made (block_read s) block.0 c.in-Some._line.now c.in-Some.ensures) (c.read_entries.new.draft, c.read_entries.new.cursor)
     (subst (λ (d : DraftState). values_taken read block d c.args.cursor.now ≡ taken c.read_entries.new.draft c.read_entries.new.cursor) c.in_ok-open_list.ensures.ok c.in_ok-read_entries.ensures.ok) c.close_array.new.self c.in_ok-close_array.ensures.ok
 
@@ -136,7 +136,7 @@ there : (fs : List Field) (i depth : ℕ) (line value : Line) (d : DraftState) (
     ≡ values_taken (named_read (shape_of (get_or fs i first).kind) (fields_read (shapes_of (drop (i + 1) fs))) (drop 1 (block_at depth c.lines).0) value) (block_at depth c.lines) d c
 there fs i depth line value d c lt e named =
     ap (λ (x : Fields). values_taken (fields_read x (block_at depth c.lines).0) (block_at depth c.lines) d c) (next_fields fs i lt)
-    ∙ ap (λ (r : LinesRead Plains). values_taken r (block_at depth c.lines) d c) (field_there (field_name_text (get_or fs i first).name) (shape_of (get_or fs i first).kind) (shapes_of (drop (i + 1) fs)) depth line value c e named)
+    ∙ ap (λ (r : ResultOrBadLine Plains). values_taken r (block_at depth c.lines) d c) (field_there (field_name_text (get_or fs i first).name) (shape_of (get_or fs i first).kind) (shapes_of (drop (i + 1) fs)) depth line value c e named)
 
 -- a field that does not
 absent : (fs : List Field) (i depth : ℕ) (line : Line) (d : DraftState) (c : CursorState) → i < length fs → Some line ≡ line_of_block (block_at depth c.lines).0 → None ≡ strip_prefix (field_name_text (get_or fs i first).name ++ codes ":") line
@@ -191,14 +191,14 @@ read_fields-returns-clause-ok t c =
     let block = block_at c.args.depth c.loop-field.cursor.lines in
     let over : shapes_of (drop c.loop-field.field-index c.args.fields.now) ≡ shapes_of [] = ap shapes_of (drop_all c.loop-field.field-index c.args.fields.now c.loop-field-test.false) in
     let whole = sym c.loop-field.invariant.so_far ∙ ap (λ (fs : Fields). values_taken (fields_read fs block.0) block c.loop-field.draft c.loop-field.cursor) over in
-    subst (λ (read : Read). OnOk c.end_block.result (read ≡ taken c.loop-field.draft c.loop-field.cursor)) (sym whole) (fields_end c.args.depth c.loop-field.draft c.loop-field.cursor c.end_block.result c.end_block.ensures).ok
+    subst (λ (read : DraftOrBadLine). OnOk c.end_block.result (read ≡ taken c.loop-field.draft c.loop-field.cursor)) (sym whole) (fields_end c.args.depth c.loop-field.draft c.loop-field.cursor c.end_block.result c.end_block.ensures).ok
 
 pub read_fields-returns-clause-err : goal.read_fields-returns-clause-err
 read_fields-returns-clause-err t c =
     let block = block_at c.args.depth c.loop-field.cursor.lines in
     let over : shapes_of (drop c.loop-field.field-index c.args.fields.now) ≡ shapes_of [] = ap shapes_of (drop_all c.loop-field.field-index c.args.fields.now c.loop-field-test.false) in
     let whole = sym c.loop-field.invariant.so_far ∙ ap (λ (fs : Fields). values_taken (fields_read fs block.0) block c.loop-field.draft c.loop-field.cursor) over in
-    subst (λ (read : Read). IfErr c.end_block.result (λ fault. IsTextFault fault read)) (sym whole) (fields_end c.args.depth c.loop-field.draft c.loop-field.cursor c.end_block.result c.end_block.ensures).err
+    subst (λ (read : DraftOrBadLine). IfErr c.end_block.result (λ fault. IsTextFault fault read)) (sym whole) (fields_end c.args.depth c.loop-field.draft c.loop-field.cursor c.end_block.result c.end_block.ensures).err
 
 -- ---- the value of a field
 
@@ -223,7 +223,7 @@ read_named-returns-then-has_one_line-clause-err t c =
     let h = on_line c.args.kind (sym c.has_one_line.ensures ∙ c.if-has_one_line.true) in
     let block = block_at c.args.depth c.args.cursor.now.lines in
     let line = line_taken (line_read s c.in-Some.line.now) c.args.draft.now c.args.cursor.now in
-    if_err c.read_line.result (λ fault. IsTextFault fault line) (λ fault. (others : List Line → LinesRead Plains) → IsTextFault fault (values_taken (named_read s others (drop 1 block.0) c.args.value.now) block c.args.draft.now c.args.cursor.now))
+    if_err c.read_line.result (λ fault. IsTextFault fault line) (λ fault. (others : List Line → ResultOrBadLine Plains) → IsTextFault fault (values_taken (named_read s others (drop 1 block.0) c.args.value.now) block c.args.draft.now c.args.cursor.now))
     (λ fault bad others. same_fault fault line (values_taken (named_read s others (drop 1 block.0) c.args.value.now) block c.args.draft.now c.args.cursor.now)
     (λ n e. line_bad s h others (drop 1 block.0) c.args.value.now c.in-Some.line.now block c.args.draft.now c.args.cursor.now n c.in-Some.ensures e) bad) c.read_line.ensures.err
 
@@ -246,7 +246,7 @@ read_named-returns-clause-err t c =
     let block = block_at c.args.depth c.args.cursor.now.lines in
     let inner = block_at (c.args.depth + 1) c.turn.new.self.lines in
     let read = block_taken (block_read s inner.0) inner c.args.draft.now c.turn.new.self in
-    if_err c.read_block.result (λ fault. IsTextFault fault read) (λ fault. (others : List Line → LinesRead Plains) → IsTextFault fault (values_taken (named_read s others (drop 1 block.0) c.args.value.now) block c.args.draft.now c.args.cursor.now))
+    if_err c.read_block.result (λ fault. IsTextFault fault read) (λ fault. (others : List Line → ResultOrBadLine Plains) → IsTextFault fault (values_taken (named_read s others (drop 1 block.0) c.args.value.now) block c.args.draft.now c.args.cursor.now))
     (λ fault bad others. same_fault fault read (values_taken (named_read s others (drop 1 block.0) c.args.value.now) block c.args.draft.now c.args.cursor.now)
     (λ n e. below_bad s h c.args.depth c.args.value.now c.args.draft.now c.args.cursor.now c.requires.some (empty_line c.args.value.now c.if-not-is_empty.ensures) n
     (subst (λ (p : CursorState). block_taken (block_read s (block_at (c.args.depth + 1) p.lines).0) (block_at (c.args.depth + 1) p.lines) c.args.draft.now p ≡ Err n) c.turn.ensures e) others) bad) c.read_block.ensures.err
@@ -264,7 +264,7 @@ read_object-returns-in_err-read_fields-clause-err t c =
     let read = fields_read (shapes_of c.fields_of.result.now) block.0 in
     handed_on c.from_residual-in_err-read_fields.result c.in_err-read_fields.field-0.0 (λ (fault : GenFault). IsTextFault fault whole) (err_from_is_err_and c.from_residual-in_err-read_fields.result c.from_residual-in_err-read_fields.ensures.1)
     (same_fault c.in_err-read_fields.field-0.0 (values_taken read block c.open_list.new.self c.args.cursor.now) whole
-    (λ n e. ap (λ (r : LinesRead Plain). block_taken r block c.args.draft.now c.args.cursor.now) (table_read c.args.which block.0)
+    (λ n e. ap (λ (r : ResultOrBadLine Plain). block_taken r block c.args.draft.now c.args.cursor.now) (table_read c.args.which block.0)
     ∙ list_bad (fields_read (shapes_of (table c.args.which)) block.0) obj_read block c.args.draft.now c.open_list.new.self c.args.cursor.now n (subst (λ (fs : List Field). values_taken (fields_read (shapes_of fs) block.0) block c.open_list.new.self c.args.cursor.now ≡ Err n) c.fields_of.ensures e))
     c.in_err-read_fields.ensures.err)
 
@@ -272,7 +272,7 @@ pub read_object-returns-clause-ok : goal.read_object-returns-clause-ok
 read_object-returns-clause-ok t c =
     let block = block_at c.args.depth c.args.cursor.now.lines in
     let read = fields_read (shapes_of (table c.args.which)) block.0 in
-    ap (λ (r : LinesRead Plain). block_taken r block c.args.draft.now c.args.cursor.now) (table_read c.args.which block.0)
+    ap (λ (r : ResultOrBadLine Plain). block_taken r block c.args.draft.now c.args.cursor.now) (table_read c.args.which block.0)
     ∙ list_closed read obj_read obj_value block c.args.draft.now c.args.cursor.now (object_made (shapes_of (table c.args.which)) block.0 c.in-Some._line.now c.in-Some.ensures) (c.read_fields.new.draft, c.read_fields.new.cursor)
     (subst (λ (d : DraftState). values_taken read block d c.args.cursor.now ≡ taken c.read_fields.new.draft c.read_fields.new.cursor) c.in_ok-open_list.ensures.ok
     (subst (λ (fs : List Field). values_taken (fields_read (shapes_of fs) block.0) block c.open_list.new.self c.args.cursor.now ≡ taken c.read_fields.new.draft c.read_fields.new.cursor) c.fields_of.ensures c.in_ok-read_fields.ensures.ok))

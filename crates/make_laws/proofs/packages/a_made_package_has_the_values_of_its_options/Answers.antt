@@ -8,7 +8,7 @@ use Rattle.make_core.specs.make_info.declared.field.Field.{Field}
 use Rattle.make_core.specs.make_info.declared.field.Field.TheVariants as Fields
 use Rattle.make_core.specs.make_info.FieldTexts.{is_too_long, values_of_info}
 use Rattle.make_core.specs.make_info.Fields.{field_word}
-use Rattle.make_core.specs.make_info.Information.{InfoItem, information}
+use Rattle.make_core.specs.make_info.Information.{FieldWithValue, information}
 use Rattle.make_core.specs.make_info.Reads.{Reads}
 use Rattle.make_core.specs.package_files.Package.{installed_size}
 use Rattle.make_laws.proofs.MadeFrom.{IsMadeFrom, info_is, made_from, priority_is}
@@ -52,6 +52,6 @@ returns c = λ command names read bytes f made.
     let m = made_from c.a_made_package_is_read_back.ensures command names read bytes made in
     let are = items_of command.values command.behind m.items (info_ok (information command) m.items m.items_read) in
     let say : (g : Field) → SayOfField g (values_of_info command.values) (values_for g m.items) =
-    λ g. subst (λ (items : List InfoItem). SayOfField g (values_of_info command.values) (values_for g items)) (sym are.all)
+    λ g. subst (λ (items : List FieldWithValue). SayOfField g (values_of_info command.values) (values_for g items)) (sym are.all)
     (say_of_field c.read_texts_are_spelled.ensures c.spelled_texts_are_read.ensures g (is_too_long command.values) [] (values_of_info command.values) are.none) in
     record { said = values_for f m.items; say = say f; tells = tells command names read pkg m f (say Fields.ReplacesPriority) }

@@ -6,7 +6,7 @@ use Rattle.make_package.specs.Answers.{IsBytes}
 use Rattle.make_package.specs.Making.{package_container}
 use Rattle.package_files.specs.Package.{contents_of_folders}
 use Rattle.package_files.specs.Packed.{packed_size}
-use Rattle.package_files.specs.Runs.{IsAnswer}
+use Rattle.package_files.specs.Runs.{AgreesOrIsFault}
 use Rattle.make_package.specs.Scripts.{scripts_view}
 use Rattle.make_package.proofs.MadeParts.{large_answer, memory_answer, package_err, package_ok, value_is}
 use Rattle.package_files.proofs.ReadLemmas.{memory_fault, same_fault}
@@ -21,7 +21,7 @@ pub returns-in_err-payload-clause-made : goal.returns-in_err-payload-clause-made
 returns-in_err-payload-clause-made c = λ sources packed.
     let is = value_is c.args.about.now c.installed_size-size.result c.deref-2.result.now c.args.packing.folders.items sources (scripts_view c.args.scripts.now) c.values.result.now c.args.command.now.values
     (c.installed_size-size.ensures ∙ ap packed_size c.deref.ensures.value) c.deref-2.ensures.value packed.are c.values.ensures.value in
-    let P : Plain → Type 0 = λ u. IsAnswer IsBytes (Err c.in_err-payload.field-0.0) (package_container u (contents_of_folders 1 sources)) in
+    let P : Plain → Type 0 = λ u. AgreesOrIsFault IsBytes (Err c.in_err-payload.field-0.0) (package_container u (contents_of_folders 1 sources)) in
     same_fault _ _ c.from_residual.result _ c.from_residual.ensures.1 (subst P is (package_err _ (contents_of_folders 1 sources) c.in_err-payload.field-0.0 c.in_err-payload.ensures.err))
 
 pub returns-in_err-file-clause-made : goal.returns-in_err-file-clause-made

@@ -13,7 +13,7 @@ use Rattle.own_core.specs.Found.{AreAnswersByFiles}
 use Rattle.own_core.specs.Going.{is_file_kept, is_path_left_over}
 use Rattle.own_core.specs.Parts.{left_over_claims_by}
 use Rattle.own_core.specs.Sides.{claims_before, file_change_of}
-use Rattle.own_core.specs.declared.fate.Fate.{Fate}
+use Rattle.own_core.specs.declared.fate.AddedFileFate.{AddedFileFate}
 use Rattle.path_claim_lists.specs.path_claims.declared.claim.Claim.{Claim}
 use Rattle.own_core.proofs.MarkedClaims.{files_kept, flags_len, marked_sorted, marks_len}
 use Rattle.own_core.proofs.parts.parts_of.Goals as goal
@@ -54,8 +54,8 @@ returns-clause-parts g c =
       fates_found = c.in_ok-fates.ensures.fates;
       stays_found = subst (λ (cs : List PathClaim). AreAnswersByFiles (is_file_kept (file_change_of c.args.change.now)) (g.T.Tree.history c.args.tree.now) cs c.in_ok-stays.stays.items) (ap (map claim_seen) c.deref-4.ensures.value ∙ left)
           (subst (λ (h : List TreeState). AreAnswersByFiles (is_file_kept (file_change_of c.args.change.now)) h (map claim_seen c.deref-4.result.now) c.in_ok-stays.stays.items) c.in_ok-fates.ensures.tree.same c.in_ok-stays.ensures.stays);
-      ins = c.in_ok-ins.ensures ∙ ap (λ (fs : List Fate). marked_claims (is_fate goes_in) (map claim_seen c.args.coming.now) (map fate_seen fs)) c.deref.ensures.value;
-      asides = c.in_ok-asides.ensures ∙ ap (λ (fs : List Fate). marked_claims (is_fate goes_aside) (map claim_seen c.args.coming.now) (map fate_seen fs)) c.deref-2.ensures.value;
+      ins = c.in_ok-ins.ensures ∙ ap (λ (fs : List AddedFileFate). marked_claims (is_fate goes_in) (map claim_seen c.args.coming.now) (map fate_seen fs)) c.deref.ensures.value;
+      asides = c.in_ok-asides.ensures ∙ ap (λ (fs : List AddedFileFate). marked_claims (is_fate goes_aside) (map claim_seen c.args.coming.now) (map fate_seen fs)) c.deref-2.ensures.value;
       removed = c.in_ok-removed.ensures ∙ (λ j. marked_claims (is_flag false) ((ap (map claim_seen) c.deref-5.ensures.value ∙ left) j) (c.deref-6.ensures.value j));
       kept = c.in_ok-kept.ensures ∙ (λ j. marked_claims (is_flag true) ((ap (map claim_seen) c.deref-7.ensures.value ∙ left) j) (c.deref-8.ensures.value j));
     }

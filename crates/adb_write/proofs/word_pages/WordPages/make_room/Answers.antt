@@ -1,6 +1,6 @@
 use Rattle.std.proofs.Common.{◌≡◌, ◌<◌, length, sym, ap, subst, ◌∙◌, arith}
 use Rattle.std.proofs.lemmas.List.{length-map}
-use Rattle.adb_write.specs.WordPages.{AreFilled, HALF, page_at, pages_of}
+use Rattle.adb_write.specs.WordPages.{HALF, HaveNoEmptyPage, page_at, pages_of}
 use Rattle.adb_write.proofs.Pages.{slot_page, slot_index, page_of_map, split_filled, lower_slot, upper_slot}
 use Rattle.adb_write.proofs.word_pages.WordPages.make_room.Goals as goal
 
@@ -27,7 +27,7 @@ returns-then-slot-le-HALF-clause-filled c =
     let here : page_at (pages_of c.args.self.now) c.args.slot.page ≡ c.index.result.now.items =
     page_of_map (λ page. page.items) c.args.self.now.pages.items c.args.slot.page c.index.result.now within ∙ ap (λ page. page.items) (sym c.index.ensures) in
     let full : HALF < length (page_at (pages_of c.args.self.now) c.args.slot.page) = omega (arith, ap length here, c.if-len-lt-FULL.false, c.len.ensures, c.index.result.now.ok.0) in
-    subst AreFilled (sym c.in_ok-split.ensures.ok) (split_filled (pages_of c.args.self.now) c.args.slot.page c.requires.filled full)
+    subst HaveNoEmptyPage (sym c.in_ok-split.ensures.ok) (split_filled (pages_of c.args.self.now) c.args.slot.page c.requires.filled full)
 
 pub returns-then-slot-le-HALF-clause-ok : goal.returns-then-slot-le-HALF-clause-ok
 returns-then-slot-le-HALF-clause-ok c =
@@ -51,7 +51,7 @@ returns-clause-filled c =
     let here : page_at (pages_of c.args.self.now) c.args.slot.page ≡ c.index.result.now.items =
     page_of_map (λ page. page.items) c.args.self.now.pages.items c.args.slot.page c.index.result.now within ∙ ap (λ page. page.items) (sym c.index.ensures) in
     let full : HALF < length (page_at (pages_of c.args.self.now) c.args.slot.page) = omega (arith, ap length here, c.if-len-lt-FULL.false, c.len.ensures, c.index.result.now.ok.0) in
-    subst AreFilled (sym c.in_ok-split.ensures.ok) (split_filled (pages_of c.args.self.now) c.args.slot.page c.requires.filled full)
+    subst HaveNoEmptyPage (sym c.in_ok-split.ensures.ok) (split_filled (pages_of c.args.self.now) c.args.slot.page c.requires.filled full)
 
 pub returns-clause-ok : goal.returns-clause-ok
 returns-clause-ok c =

@@ -4,7 +4,7 @@ use Rattle.std.specs.List.{concat}
 use Rattle.std.proofs.lemmas.List.Sorted.{IsPartitionPoint-from_clause}
 use Rattle.adb_view.specs.Adb.{payload_of}
 use Rattle.adb_write.specs.Keys.{key_with, HaveRisingKeys}
-use Rattle.adb_write.specs.WordPages.{AreFilled, IsPageFor, begins_above, pages_of}
+use Rattle.adb_write.specs.WordPages.{HaveNoEmptyPage, IsPageFor, begins_above, pages_of}
 use Rattle.adb_write.proofs.Pages.{parted, page_for, page_for_at}
 use Rattle.adb_write.proofs.word_pages.WordPages.page_of.Goals as goal
 
@@ -12,7 +12,7 @@ pub returns : goal.returns
 returns c =
     let p : List ℕ = payload_of c.args.adb.now in
     let key : List ℕ = key_with c.args.fingerprint c.args.parts.now in
-    let filled = subst (λ vs. AreFilled (map (λ page. page.items) vs)) (sym c.deref.ensures.value) c.requires.filled in
+    let filled = subst (λ vs. HaveNoEmptyPage (map (λ page. page.items) vs)) (sym c.deref.ensures.value) c.requires.filled in
     let rising = subst (λ vs. HaveRisingKeys p (concat (map (λ page. page.items) vs))) (sym c.deref.ensures.value) c.requires.rising in
     let point =
     IsPartitionPoint-from_clause (λ page. not (begins_above p key page.items)) _ _ c.partition_point.ensures.partitioned (parted (λ page. page.items) p key c.deref.result.now filled rising)

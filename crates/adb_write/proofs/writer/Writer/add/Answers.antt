@@ -2,7 +2,7 @@ use Rattle.std.proofs.Common.{◌≡◌, ◌<◌, ◌≤◌, ℕ, ◌+◌, ◌*�
 use Rattle.std.specs.Prelude.{find, option_map}
 use Rattle.std.specs.List.{concat}
 use Rattle.std.proofs.lemmas.List.{length-drop}
-use Rattle.adb_write.specs.Canonical.{gap, Item, WrittenItem, is_equal_item, word_of_item, apart, passes, MOST_BYTES}
+use Rattle.adb_write.specs.Canonical.{gap, Item, WrittenItem, is_equal_item, word_of_item, apart, exceeds_a_limit, MOST_BYTES}
 use Rattle.adb_write.specs.Writing.{Writing, Grows, call, writing_by}
 use Rattle.adb_write.specs.Items.{item_of}
 use Rattle.adb_write.specs.Keys.{fingerprint_of, key_of, locator_of}
@@ -16,15 +16,15 @@ use Rattle.adb_write.proofs.Held.{not_found, found_item, found_word}
 use Rattle.adb_write.proofs.Appended.{Appended, appended, locator_fingerprint, locator_word}
 use Rattle.adb_write.proofs.writer.Writer.add.Goals as goal
 
-pub returns-then-passes-clause-ok : goal.returns-then-passes-clause-ok
-returns-then-passes-clause-ok c =
+pub returns-then-exceeds_a_limit-clause-ok : goal.returns-then-exceeds_a_limit-clause-ok
+returns-then-exceeds_a_limit-clause-ok c =
     let s = c.self.inside in
     let i : Item = item_of c.args.parts.now in
     let p : List ℕ = s.store.payload.items in
     let body : List ℕ = drop 8 p in
     let pages : List (List ℕ) = pages_of s.store.words in
     let items : List WrittenItem = items_of_locators (concat pages) in
-    let past : passes (s.counts.bytes, s.counts.values) ≡ true = sym c.passes.ensures ∙ c.if-passes.true in
+    let past : exceeds_a_limit (s.counts.bytes, s.counts.values) ≡ true = sym c.exceeds_a_limit.ensures ∙ c.if-exceeds_a_limit.true in
     rw c.of.ensures (subst (λ (x : Writing). ◌≡◌ {A = ℕ × Writing} (0, x) (call (apart i) x)) c.self.view_is (sym (call_past i body items s.counts.bytes s.counts.values past)))
 
 pub repeat-requires-clause-found : goal.repeat-requires-clause-found
@@ -35,22 +35,22 @@ repeat-requires-clause-found c =
     let body : List ℕ = drop 8 p in
     let pages : List (List ℕ) = pages_of s.store.words in
     let items : List WrittenItem = items_of_locators (concat pages) in
-    let fine : passes (s.counts.bytes, s.counts.values) ≡ false = sym c.passes.ensures ∙ c.if-passes.false in
+    let fine : exceeds_a_limit (s.counts.bytes, s.counts.values) ≡ false = sym c.exceeds_a_limit.ensures ∙ c.if-exceeds_a_limit.false in
     let agree : s.counts.bytes ≡ 8 + length body = c.self.invariant.agree fine in
     let few : length p ≤ MOST_BYTES = omega (arith, fits_of (s.counts.bytes, s.counts.values) fine, length-drop 8 p) in
     let found : find (is_equal_item body i) items ≡ Some (written_item c.in-Ok.locator) = found_item p c.args.parts.now (concat pages) c.in-Ok.locator c.self.invariant.stored c.self.invariant.rising c.requires few c.in-Ok.ensures in
     subst (λ (x : Writing). FindsWord i x c.word_of_locator.result) c.self.view_is
     (ap (option_map word_of_item) found ∙ ap Some (found_word p (concat pages) (key_of c.args.parts.now) c.in-Ok.locator c.self.invariant.stored c.in-Ok.ensures ∙ sym c.word_of_locator.ensures))
 
-pub returns-then-passes-2-clause-ok : goal.returns-then-passes-2-clause-ok
-returns-then-passes-2-clause-ok c =
+pub returns-then-exceeds_a_limit-2-clause-ok : goal.returns-then-exceeds_a_limit-2-clause-ok
+returns-then-exceeds_a_limit-2-clause-ok c =
     let s = c.self.inside in
     let i : Item = item_of c.args.parts.now in
     let p : List ℕ = s.store.payload.items in
     let body : List ℕ = drop 8 p in
     let pages : List (List ℕ) = pages_of s.store.words in
     let items : List WrittenItem = items_of_locators (concat pages) in
-    let fine : passes (s.counts.bytes, s.counts.values) ≡ false = sym c.passes.ensures ∙ c.if-passes.false in
+    let fine : exceeds_a_limit (s.counts.bytes, s.counts.values) ≡ false = sym c.exceeds_a_limit.ensures ∙ c.if-exceeds_a_limit.false in
     let agree : s.counts.bytes ≡ 8 + length body = c.self.invariant.agree fine in
     let few : length p ≤ MOST_BYTES = omega (arith, fits_of (s.counts.bytes, s.counts.values) fine, length-drop 8 p) in
     let none : find (is_equal_item body i) items ≡ None =
@@ -58,8 +58,8 @@ returns-then-passes-2-clause-ok c =
     let zeros : c.gap.result ≡ gap i.align s.counts.bytes = rw (c.gap.ensures.value, c.len.ensures.value, c.width.ensures) refl in
     let end : s.counts.bytes + c.gap.result + c.len-2.result ≡ end_of i s.counts.bytes = rw (c.len-2.ensures.value, zeros) refl in
     let count : s.counts.values + c.entries.result ≡ s.counts.values + i.entries = ap (λ (k : ℕ). s.counts.values + k) c.entries.ensures.value in
-    let past : passes (end_of i s.counts.bytes, s.counts.values + i.entries) ≡ true = rw (sym end, sym count) (sym c.passes-2.ensures ∙ c.if-passes-2.true) in
-    rw (c.of-then-passes-2.ensures, end, count) (subst (λ (x : Writing). ◌≡◌ {A = ℕ × Writing} (0, writing_by body items (end_of i s.counts.bytes) (s.counts.values + i.entries)) (call (apart i) x)) c.self.view_is (sym (call_stops i body items s.counts.bytes s.counts.values fine agree none past)))
+    let past : exceeds_a_limit (end_of i s.counts.bytes, s.counts.values + i.entries) ≡ true = rw (sym end, sym count) (sym c.exceeds_a_limit-2.ensures ∙ c.if-exceeds_a_limit-2.true) in
+    rw (c.of-then-exceeds_a_limit-2.ensures, end, count) (subst (λ (x : Writing). ◌≡◌ {A = ℕ × Writing} (0, writing_by body items (end_of i s.counts.bytes) (s.counts.values + i.entries)) (call (apart i) x)) c.self.view_is (sym (call_stops i body items s.counts.bytes s.counts.values fine agree none past)))
 
 pub returns-in_err-append-clause-wants : goal.returns-in_err-append-clause-wants
 returns-in_err-append-clause-wants c =
@@ -69,7 +69,7 @@ returns-in_err-append-clause-wants c =
     let body : List ℕ = drop 8 p in
     let pages : List (List ℕ) = pages_of s.store.words in
     let items : List WrittenItem = items_of_locators (concat pages) in
-    let fine : passes (s.counts.bytes, s.counts.values) ≡ false = sym c.passes.ensures ∙ c.if-passes.false in
+    let fine : exceeds_a_limit (s.counts.bytes, s.counts.values) ≡ false = sym c.exceeds_a_limit.ensures ∙ c.if-exceeds_a_limit.false in
     let agree : s.counts.bytes ≡ 8 + length body = c.self.invariant.agree fine in
     let few : length p ≤ MOST_BYTES = omega (arith, fits_of (s.counts.bytes, s.counts.values) fine, length-drop 8 p) in
     let none : find (is_equal_item body i) items ≡ None =
@@ -77,7 +77,7 @@ returns-in_err-append-clause-wants c =
     let zeros : c.gap.result ≡ gap i.align s.counts.bytes = rw (c.gap.ensures.value, c.len.ensures.value, c.width.ensures) refl in
     let end : s.counts.bytes + c.gap.result + c.len-2.result ≡ end_of i s.counts.bytes = rw (c.len-2.ensures.value, zeros) refl in
     let count : s.counts.values + c.entries.result ≡ s.counts.values + i.entries = ap (λ (k : ℕ). s.counts.values + k) c.entries.ensures.value in
-    let fits : passes (end_of i s.counts.bytes, s.counts.values + i.entries) ≡ false = rw (sym end, sym count) (sym c.passes-2.ensures ∙ c.if-passes-2.false) in
+    let fits : exceeds_a_limit (end_of i s.counts.bytes, s.counts.values + i.entries) ≡ false = rw (sym end, sym count) (sym c.exceeds_a_limit-2.ensures ∙ c.if-exceeds_a_limit-2.false) in
     let some : 0 < length i.bytes = subst (λ (k : ℕ). 0 < k) c.len-2.ensures.value c.len-2.ensures.some in
     on_err c.from_residual.result _ (subst (λ (x : Writing). Grows x (call (apart i) x).1) c.self.view_is (call_grows i body items s.counts.bytes s.counts.values fine agree none fits some))
 
@@ -89,7 +89,7 @@ invariant_of-self-2 c =
     let body : List ℕ = drop 8 p in
     let pages : List (List ℕ) = pages_of s.store.words in
     let items : List WrittenItem = items_of_locators (concat pages) in
-    let fine : passes (s.counts.bytes, s.counts.values) ≡ false = sym c.passes.ensures ∙ c.if-passes.false in
+    let fine : exceeds_a_limit (s.counts.bytes, s.counts.values) ≡ false = sym c.exceeds_a_limit.ensures ∙ c.if-exceeds_a_limit.false in
     let agree : s.counts.bytes ≡ 8 + length body = c.self.invariant.agree fine in
     let few : length p ≤ MOST_BYTES = omega (arith, fits_of (s.counts.bytes, s.counts.values) fine, length-drop 8 p) in
     let none : find (is_equal_item body i) items ≡ None =
@@ -97,7 +97,7 @@ invariant_of-self-2 c =
     let zeros : c.gap.result ≡ gap i.align s.counts.bytes = rw (c.gap.ensures.value, c.len.ensures.value, c.width.ensures) refl in
     let end : s.counts.bytes + c.gap.result + c.len-2.result ≡ end_of i s.counts.bytes = rw (c.len-2.ensures.value, zeros) refl in
     let count : s.counts.values + c.entries.result ≡ s.counts.values + i.entries = ap (λ (k : ℕ). s.counts.values + k) c.entries.ensures.value in
-    let fits : passes (end_of i s.counts.bytes, s.counts.values + i.entries) ≡ false = rw (sym end, sym count) (sym c.passes-2.ensures ∙ c.if-passes-2.false) in
+    let fits : exceeds_a_limit (end_of i s.counts.bytes, s.counts.values + i.entries) ≡ false = rw (sym end, sym count) (sym c.exceeds_a_limit-2.ensures ∙ c.if-exceeds_a_limit-2.false) in
     let word : c.of-word.result ≡ i.kind * 2 ^ 28 + (s.counts.bytes + c.gap.result) = c.of-word.ensures ∙ ap (λ (k : ℕ). k * 2 ^ 28 + (s.counts.bytes + c.gap.result)) c.kind.ensures.value in
     let room : s.counts.bytes + c.gap.result + length i.bytes ≤ MOST_BYTES = omega (arith, fits_of (end_of i s.counts.bytes, s.counts.values + i.entries) fits, zeros) in
     let g : Grown p c.append.new.self.payload.items c.gap.result i.bytes = subst (λ (x : List ℕ). Grown p x c.gap.result i.bytes) (sym c.in_ok-append.ensures.bytes) (grown p s.counts.bytes c.gap.result i.bytes c.self.invariant.head agree) in
@@ -121,7 +121,7 @@ returns-clause-ok c =
     let body : List ℕ = drop 8 p in
     let pages : List (List ℕ) = pages_of s.store.words in
     let items : List WrittenItem = items_of_locators (concat pages) in
-    let fine : passes (s.counts.bytes, s.counts.values) ≡ false = sym c.passes.ensures ∙ c.if-passes.false in
+    let fine : exceeds_a_limit (s.counts.bytes, s.counts.values) ≡ false = sym c.exceeds_a_limit.ensures ∙ c.if-exceeds_a_limit.false in
     let agree : s.counts.bytes ≡ 8 + length body = c.self.invariant.agree fine in
     let few : length p ≤ MOST_BYTES = omega (arith, fits_of (s.counts.bytes, s.counts.values) fine, length-drop 8 p) in
     let none : find (is_equal_item body i) items ≡ None =
@@ -129,7 +129,7 @@ returns-clause-ok c =
     let zeros : c.gap.result ≡ gap i.align s.counts.bytes = rw (c.gap.ensures.value, c.len.ensures.value, c.width.ensures) refl in
     let end : s.counts.bytes + c.gap.result + c.len-2.result ≡ end_of i s.counts.bytes = rw (c.len-2.ensures.value, zeros) refl in
     let count : s.counts.values + c.entries.result ≡ s.counts.values + i.entries = ap (λ (k : ℕ). s.counts.values + k) c.entries.ensures.value in
-    let fits : passes (end_of i s.counts.bytes, s.counts.values + i.entries) ≡ false = rw (sym end, sym count) (sym c.passes-2.ensures ∙ c.if-passes-2.false) in
+    let fits : exceeds_a_limit (end_of i s.counts.bytes, s.counts.values + i.entries) ≡ false = rw (sym end, sym count) (sym c.exceeds_a_limit-2.ensures ∙ c.if-exceeds_a_limit-2.false) in
     let word : c.of-word.result ≡ i.kind * 2 ^ 28 + (s.counts.bytes + c.gap.result) = c.of-word.ensures ∙ ap (λ (k : ℕ). k * 2 ^ 28 + (s.counts.bytes + c.gap.result)) c.kind.ensures.value in
     let room : s.counts.bytes + c.gap.result + length i.bytes ≤ MOST_BYTES = omega (arith, fits_of (end_of i s.counts.bytes, s.counts.values + i.entries) fits, zeros) in
     let g : Grown p c.append.new.self.payload.items c.gap.result i.bytes = subst (λ (x : List ℕ). Grown p x c.gap.result i.bytes) (sym c.in_ok-append.ensures.bytes) (grown p s.counts.bytes c.gap.result i.bytes c.self.invariant.head agree) in

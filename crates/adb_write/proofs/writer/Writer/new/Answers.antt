@@ -1,7 +1,7 @@
 use Rattle.std.proofs.Common.{ℕ, List, length, drop, sym, ap, subst, arith, inl}
 use Rattle.std.specs.List.{concat}
 use Rattle.adb_write.specs.Keys.{HaveRisingKeys}
-use Rattle.adb_write.specs.WordPages.{AreFilled}
+use Rattle.adb_write.specs.WordPages.{HaveNoEmptyPage}
 use Rattle.adb_write.specs.WriterState.{AreStored}
 use Rattle.adb_write.proofs.Rising.{rising_none}
 use Rattle.adb_write.proofs.writer.Writer.new.Goals as goal
@@ -12,7 +12,7 @@ invariant_of-result c =
     record {
       head = inl c.new.ensures.payload;
       agree = λ below. omega (arith, ap (λ (x : List ℕ). length (drop 8 x)) c.new.ensures.payload);
-      filled = subst AreFilled (sym c.new.ensures.words) tt;
+      filled = subst HaveNoEmptyPage (sym c.new.ensures.words) tt;
       rising = subst (λ (ps : List (List ℕ)). HaveRisingKeys p (concat ps)) (sym c.new.ensures.words) (rising_none p);
       stored = subst (λ (ps : List (List ℕ)). AreStored p (concat ps)) (sym c.new.ensures.words) tt;
     }

@@ -4,7 +4,7 @@ use Rattle.dep_core.specs.Dependency.{Dependency}
 use Rattle.dep_core.specs.Meets.{dependency}
 use Rattle.search_tables.specs.candidate_core.Options.{IsIn}
 use Rattle.search_choices.specs.Choices.{choices_of, pool_of}
-use Rattle.search_tables.specs.Excluders.{IsFreeAt}
+use Rattle.search_tables.specs.Excluders.{IsNotExcludedAt}
 use Rattle.search_tables.proofs.Places.{there_is}
 use Rattle.search_tables.proofs.Offered.{each_all, each_on}
 use Rattle.search_choices.proofs.choices.Choices.excluder_by_provides.Goals as goal
@@ -21,7 +21,7 @@ excluder_of_entry-requires-clause-provided c =
 
 pub loop-i-preserved : goal.loop-i-preserved
 loop-i-preserved c =
-    let P : Dependency → Type 0 = λ p. p.conflict ≡ false → IsFreeAt (pool_of c.args.self.now) (choices_of c.args.self.now) c.args.details.now p.name (is_some p.version) in
+    let P : Dependency → Type 0 = λ p. p.conflict ≡ false → IsNotExcludedAt (pool_of c.args.self.now) (choices_of c.args.self.now) c.args.details.now p.name (is_some p.version) in
     let one : P (dependency c.get.result) = rw c.in-None.is at c.in_ok-found.ensures.found in
     record {
       free = each_on P c.provides-provides.result c.loop-i.i (dependency c.get.result) c.get.ensures c.loop-i.invariant.free one;
@@ -33,7 +33,7 @@ returns-in-Some-clause-found c = rw c.in-Some.is at c.in_ok-found.ensures.found
 
 pub returns-clause-found : goal.returns-clause-found
 returns-clause-found c =
-    let P : Dependency → Type 0 = λ p. p.conflict ≡ false → IsFreeAt (pool_of c.args.self.now) (choices_of c.args.self.now) c.args.details.now p.name (is_some p.version) in
+    let P : Dependency → Type 0 = λ p. p.conflict ≡ false → IsNotExcludedAt (pool_of c.args.self.now) (choices_of c.args.self.now) c.args.details.now p.name (is_some p.version) in
     let deps : List Dependency = c.provides-provides.result in
     let past : length deps ≤ c.loop-i.i = omega arith in
     λ p h. each_all P deps c.loop-i.i past c.loop-i.invariant.free p (subst (λ (z : List Dependency). IsIn p z) (sym c.provides-provides.ensures) h)

@@ -4,7 +4,7 @@ use Rattle.dep_core.specs.Dependency.{Dependency}
 use Rattle.search_tables.specs.candidate_core.Options.{IsIn}
 use Rattle.search_tables.proofs.candidate_core.WantedVersions.{if_ok_map}
 use Rattle.search_choices.specs.Choices.{choices_of, pool_of}
-use Rattle.search_tables.specs.Excluders.{IsFreeAt}
+use Rattle.search_tables.specs.Excluders.{IsNotExcludedAt}
 use Rattle.search_tables.proofs.Excluders.{match_none}
 use Rattle.search_choices.proofs.choices.Choices.other_excluder.Goals as goal
 
@@ -13,6 +13,6 @@ returns-in-Some-clause-found c = rw c.in-Some.is at c.in_ok-provided.ensures.fou
 
 pub returns-in-None-clause-found : goal.returns-in-None-clause-found
 returns-in-None-clause-found c =
-    let free : (p : Dependency) → IsIn p c.args.details.now.provides → p.conflict ≡ false → IsFreeAt (pool_of c.args.self.now) (choices_of c.args.self.now) c.args.details.now p.name (is_some p.version) =
+    let free : (p : Dependency) → IsIn p c.args.details.now.provides → p.conflict ≡ false → IsNotExcludedAt (pool_of c.args.self.now) (choices_of c.args.self.now) c.args.details.now p.name (is_some p.version) =
     rw c.in-None.is at c.in_ok-provided.ensures.found in
     if_ok_map _ _ (λ found h. match_none found _ _ _ (λ conflicts. (free, conflicts)) h) c.excluder_by_conflicts.result c.excluder_by_conflicts.ensures.found

@@ -1,6 +1,6 @@
 use Rattle.std.proofs.Common.{◌≡◌, Bool, true, false, cond, List, ℕ, is_ok, sym, ap, subst, ◌∙◌}
 use Rattle.base_core.specs.Files.{put_name}
-use Rattle.tree_memory.specs.Table.{IsTable, IsNamed, IsPlace, lookup}
+use Rattle.tree_memory.specs.Table.{IsTable, IsNamed, IsInsertionPlace, lookup}
 use Rattle.tree_memory.specs.declared.table.NameAndFile.{NameAndFile}
 use Rattle.tree_memory.proofs.Placed.{lookup-set, lookup-insert, table-insert}
 use Rattle.tree_memory.proofs.table.NameTable.set.Goals as goal
@@ -12,7 +12,7 @@ either_table false xs ys one other = other
 pub invariant_of-self-in-Err : goal.invariant_of-self-in-Err
 invariant_of-self-in-Err c =
     let e : NameAndFile = record { name = c.args.name; file = c.args.file } in
-    let place = subst (IsPlace c.args.self.now.entries.items c.in-Err.i) c.as_bytes.ensures.value c.in-Err.ensures.absent in
+    let place = subst (IsInsertionPlace c.args.self.now.entries.items c.in-Err.i) c.as_bytes.ensures.value c.in-Err.ensures.absent in
     let table = table-insert c.args.self.now.entries.items c.in-Err.i e c.args.self.now.rising place in
     record { rising = subst IsTable (sym c.insert.ensures.items) (either_table (is_ok c.insert.result) _ _ table c.args.self.now.rising) }
 
@@ -27,5 +27,5 @@ returns-in-Ok-clause-ok c q =
 pub returns-in_ok-insert-in-Err-clause-ok : goal.returns-in_ok-insert-in-Err-clause-ok
 returns-in_ok-insert-in-Err-clause-ok c q =
     let e : NameAndFile = record { name = c.args.name; file = c.args.file } in
-    let place = subst (IsPlace c.args.self.now.entries.items c.in-Err.i) c.as_bytes.ensures.value c.in-Err.ensures.absent in
+    let place = subst (IsInsertionPlace c.args.self.now.entries.items c.in-Err.i) c.as_bytes.ensures.value c.in-Err.ensures.absent in
     ap (λ (l : List NameAndFile). lookup l q) c.in_ok-insert-in-Err.ensures.items ∙ lookup-insert c.args.self.now.entries.items c.in-Err.i e place q

@@ -1,5 +1,5 @@
 use Rattle.std.proofs.Common.{◌≡◌, ◌≤◌, ◌+◌, ◌∙◌, take, ap, sym, arith}
-use Rattle.change_outcome.specs.PackageFiles.{folder_prefix}
+use Rattle.change_outcome.specs.PackageFiles.{folder_prefix_of}
 use Rattle.added_packages.proofs.Prefixes.{prefix_at_other, prefix_at_slash}
 use Rattle.added_packages.proofs.path.folder_prefix.Goals as goal
 use Rattle.added_packages.proofs.path.folder_prefix.Goals.{then-byte-eq47, else-byte-eq47}
