@@ -57,9 +57,23 @@ blob_hash b =
     if nat_le (length b) (2 * END) then finish (write initial b)
     else finish (write (write initial (take END b)) (drop (length b - END) b))
 
--- the fingerprint of a blob: its hash plus its length; another function of its bytes would serve as well
+-- the low four bits of the four bytes from index i on, as a number of base 16, the first byte's highest;
+-- bytes after the end count as 0
+abbrev pub low_nibbles : List ℕ → ℕ → ℕ
+low_nibbles b i =
+    get_or b i 0 % 16 * 2 ^ 12 + get_or b (i + 1) 0 % 16 * 2 ^ 8
+    + get_or b (i + 2) 0 % 16 * 2 ^ 4 + get_or b (i + 3) 0 % 16
+
+-- where a blob is among others: the first four bytes, and the four before the last two, so that the
+-- neighbours in a sorted list of texts are close together
+abbrev pub neighbourhood : List ℕ → ℕ
+neighbourhood b = low_nibbles b 0 + low_nibbles b (length b - 6)
+
+-- the fingerprint of a blob: its neighbourhood, and 22 bits of its hash plus its length; another function
+-- of its bytes would serve as well
 unfoldable pub blob_fingerprint : List ℕ → ℕ
-blob_fingerprint b = (blob_hash b + length b) % 2 ^ 32
+blob_fingerprint b =
+    (neighbourhood b * 2 ^ 16 + (blob_hash b + length b) % 2 ^ 22) % 2 ^ 32
 
 -- the fingerprint of a list: its last word. Entries are written before their list, so a new list is
 -- near the last one

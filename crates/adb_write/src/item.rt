@@ -2,7 +2,7 @@
 //! layout of an item is in `docs/formats.md`, "Canonical layout" ("Values are written depth
 //! first"); that equal ones are stored once is stated below it. In the clauses `some`, `few` and
 //! `small` bound the returned number, and `kept` says that the bytes before the item are unchanged.
-ghost use Rattle.std.specs.Prelude.{◌≡◌, ◌≤◌, ◌<◌, ◌+◌, ◌-◌, ◌^◌, ◌++◌, length, replicate, reverse, take, OnOk, OnErr};
+ghost use Rattle.std.specs.Prelude.{◌≡◌, ◌≤◌, ◌<◌, ◌+◌, ◌-◌, ◌^◌, ◌++◌, get_or, length, replicate, reverse, take, OnOk, OnErr};
 ghost use Rattle.std.specs.List.{flat_map};
 ghost use Rattle.std.specs.Int.{w32, w64, to_le_bytes};
 ghost use Rattle.std.specs.Ordering.{nat_cmp};
@@ -13,7 +13,7 @@ ghost use Rattle.adb_view.specs.Gives.{Gives};
 ghost use Rattle.adb_view.specs.Readers.{run_of};
 ghost use Rattle.adb_view.specs.Visits.{or_empty};
 ghost use Rattle.adb_write.specs.Items.{width_len, list_kind, content_bytes, item_of};
-ghost use Rattle.adb_write.specs.Keys.{low_words, content_key_of, content_key_at, blob_fingerprint, blob_hash, fingerprint_of, key_at, key_with, list_fingerprint};
+ghost use Rattle.adb_write.specs.Keys.{low_words, content_key_of, content_key_at, blob_fingerprint, blob_hash, fingerprint_of, key_at, key_with, list_fingerprint, low_nibbles};
 
 use crate::locator::{fingerprint_of_locator, word_of_locator};
 use adb_view::{Adb, Arr, Val};
@@ -255,14 +255,42 @@ impl Parts<'_> {
     }
 }
 
-/// The fingerprint of a blob: its hash plus its length. The length distinguishes long blobs with
-/// equal ends. With any fingerprint equal items are found.
+/// The byte at an index, or 0 past the end.
+fn byte_at(bytes: &[u8], i: usize) -> u64
+    ensures value { result ≡ get_or bytes.now i 0 }
+    ensures small { result < 2 ^ 8 }
+{
+    match bytes.get(i) {
+        Some(byte) => *byte as u64,
+        None => 0,
+    }
+}
+
+/// The low four bits of four bytes, as a number of base 16. The bits of digits are in the order of
+/// the digits, and those of letters mostly are.
+fn low_nibbles(bytes: &[u8], i: usize) -> u64
+    requires { i ≤ length bytes.now }
+    ensures value { result ≡ low_nibbles bytes.now i }
+    ensures small { result < 2 ^ 16 }
+{
+    byte_at(bytes, i) % 16 * (1 << 12)
+        + byte_at(bytes, i + 1) % 16 * (1 << 8)
+        + byte_at(bytes, i + 2) % 16 * (1 << 4)
+        + byte_at(bytes, i + 3) % 16
+}
+
+/// The fingerprint of a blob: its neighbourhood, and above all a hash. Sorted texts come in runs of
+/// close neighbourhoods, so their locators are inserted near the last ones, which are cached. Six
+/// bytes before the end some hundred numbered texts have the same. The length distinguishes long
+/// blobs with equal ends. With any fingerprint equal items are found.
 #[tactic(auto, unfolding(crate::specs::Keys::blob_fingerprint))]
 fn blob_fingerprint(bytes: &[u8]) -> u64
     ensures value { result ≡ blob_fingerprint bytes.now }
     ensures small { result < 2 ^ 32 }
 {
-    blob_hash(bytes).wrapping_add(bytes.len() as u64) % (1 << 32)
+    let neighbourhood = low_nibbles(bytes, 0) + low_nibbles(bytes, bytes.len().saturating_sub(6));
+    let hash = blob_hash(bytes).wrapping_add(bytes.len() as u64) % (1 << 22);
+    (neighbourhood * (1 << 16) + hash) % (1 << 32)
 }
 
 /// The hash of a blob. All bytes count, since names, versions and paths often differ only in the
