@@ -145,7 +145,8 @@ obj_read none = Err 0
 obj_read (more v vs) = Ok (obj (more v vs))
 
 -- a field whose value follows `name:` on its line, and then the other fields
-abbrev pub field_on_line : (Line → ResultOrBadLine Plain) → (List Line → ResultOrBadLine Plains) → List Line
+abbrev pub field_on_line :
+    (Line → ResultOrBadLine Plain) → (List Line → ResultOrBadLine Plains) → List Line
     → Option Line → ResultOrBadLine Plains
 field_on_line f g ls None = Err 0
 field_on_line f g ls (Some l) = and_then (f l) (λ v. after_lines 1 (more v) (g ls))
@@ -159,7 +160,8 @@ field_below f g r (c ∷ cs) = Err 0
 
 -- the fields from a line on: if the line does not have the name of this field, those after it
 -- (`other`), else this one (`this`, of the text after `name:`)
-abbrev pub if_named : ResultOrBadLine Plains → (Line → ResultOrBadLine Plains) → Option Line → ResultOrBadLine Plains
+abbrev pub if_named :
+    ResultOrBadLine Plains → (Line → ResultOrBadLine Plains) → Option Line → ResultOrBadLine Plains
 if_named other this None = other
 if_named other this (Some rest) = this rest
 
@@ -173,7 +175,8 @@ unfoldable mutual
   block_read (object schema fs) ls = and_then (fields_read fs ls) obj_read
 
   -- the value of a field, from after `name:` on (`l`), and then the other fields (`g`)
-  pub named_read : Shape → (List Line → ResultOrBadLine Plains) → List Line → Line → ResultOrBadLine Plains
+  pub named_read :
+      Shape → (List Line → ResultOrBadLine Plains) → List Line → Line → ResultOrBadLine Plains
   named_read number g ls l = field_on_line (λ l. if_form int_line l (int_read l)) g ls
       (strip_prefix (codes " ") l)
   named_read text g ls l = field_on_line (λ l. if_form text_line l (text_read l)) g ls

@@ -70,6 +70,7 @@ fn test_own_scripts(
 {
     let contents = pkg.contents();
     let view = contents.view();
+    // The last argument only names the view's lifetime.
     test_scripts(alloc, no_scripts, name, change, &view, PhantomData)
 }
 

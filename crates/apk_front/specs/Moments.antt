@@ -167,12 +167,13 @@ AreOldOrLeadToOutcome IsOne makes ignored v old now =
     × (outcome.commits ≡ true)
     × MomentsLeadTo makes ignored outcome.files v old now)
 
--- an outcome's files are durable if it commits, or if each crash left the old ones before
+-- an outcome's files last after the run if it commits, or if each crash left the old ones before
 abbrev pub MustLastWithoutRecovery : (List ℕ → Bool) → TreeState → Outcome → Type 0
 MustLastWithoutRecovery ignored v outcome =
     (outcome.commits ≡ true) ⊎ EachCrashLeaves ignored (files_of v) v
 
--- an outcome's files last, by *MustLastWithoutRecovery* or since an intent was found and done
+-- an outcome's files last after the run, by *MustLastWithoutRecovery* or if an intent can be
+-- recovered
 abbrev pub MustLast : Effect → (List ℕ → Bool) → TreeState → Outcome → Type 0
 MustLast effect ignored v outcome = MustLastWithoutRecovery ignored v outcome
     ⊎ CanRecover effect v

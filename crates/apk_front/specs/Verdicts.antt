@@ -22,7 +22,7 @@ use Rattle.apk_front.specs.declared.answer.Verdict.{Verdict}
 abbrev pub as_outcome : Files → Verdict → Outcome
 as_outcome files verdict = outcome_of verdict.refusal verdict.report files
 
--- the outcome of a command that only reads: it lists and chooses nothing
+-- the outcome of a command that only reads: it needs no listing of a folder, and no selection
 abbrev pub looked_outcome : CommandLine → Reads → Files → Outcome
 looked_outcome command read files =
     effect_outcome (effect_of command.applet) command.applet command nothing_given read files

@@ -94,7 +94,8 @@ pub fn what_is_written_is_not_reserved()
     ensures written { (change : FileChange) (files : Files) (name : List ℕ) (l : Listing)
         → first_reserved change.members ≡ None → written_as change files name ≡ Some l
         → is_reserved name ≡ false }
-    ensures records { (records : RootFilesAfter) (name : List ℕ) → is_record_name records name ≡ true
+    ensures records { (records : RootFilesAfter) (name : List ℕ) →
+        is_record_name records name ≡ true
         → is_reserved name ≡ true }
 {}
 
@@ -206,14 +207,16 @@ pub fn the_names_after_a_change_are_those_of_its_files()
 /// The new database and the new world are under their names. An absent world that would be empty
 /// stays absent, and a converted text database is absent.
 pub fn the_records_of_a_change_are_under_their_names()
-    ensures database { (change : FileChange) (bytes_of : Listing → List ℕ) (records : RootFilesAfter)
+    ensures database { (change : FileChange) (bytes_of : Listing → List ℕ)
+        (records : RootFilesAfter)
         (files : Files)
         → changed_files change bytes_of records files database_name ≡ Some records.database }
     ensures world { (change : FileChange) (bytes_of : Listing → List ℕ) (records : RootFilesAfter)
         (files : Files) → (records.world ≢ []) ⊎ IsSome (files world_name)
         → changed_files change bytes_of records files world_name ≡ Some records.world }
     // An absent world that would be empty stays absent.
-    ensures no_world { (change : FileChange) (bytes_of : Listing → List ℕ) (records : RootFilesAfter)
+    ensures no_world { (change : FileChange) (bytes_of : Listing → List ℕ)
+        (records : RootFilesAfter)
         (files : Files) → records.world ≡ [] → files world_name ≡ None
         → changed_files change bytes_of records files world_name ≡ None }
     // A converted text database is absent.

@@ -2,7 +2,7 @@
 //! change does with files".
 //!
 //! This crate consists of definitions. Of `specs/`, `FileChange` says which packages list a path
-//! before and after; `AddedFileFate` what is done with an added file if the user changed the one under its
+//! before and after; `Fate` what is done with an added file if the user changed the one under its
 //! path; `FilesAfter` which file each name has after the change; `NamesAfter` which names are
 //! present then; and `PlanLists` the same as lists of what is removed, written and kept. The
 //! functions are laws.

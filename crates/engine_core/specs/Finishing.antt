@@ -51,6 +51,7 @@ abbrev pub arrived_members : Arrived → List Member
 arrived_members a = members_of a.members.now
 
 -- the added packages were read, and with the kept ones they are those that are found
+-- found: the packages after the change, with the file of each added one
 pub record HasReadArrivals (history : List TreeState) (s : Selection) (names : PlacedNames)
     (arrivals : Arrivals) (found : List MemberFound) : Type 0 where
   pub database : HasItsDatabase s

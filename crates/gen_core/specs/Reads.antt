@@ -49,7 +49,8 @@ line_taken (Ok v) d c = Ok (draft_with v d, after_line c.lines c)
 line_taken (Err k) d c = Err (c.number + k)
 
 -- a block is read as a value
-abbrev pub block_taken : ResultOrBadLine Plain → List Line × List Line → DraftState → CursorState → DraftOrBadLine
+abbrev pub block_taken :
+    ResultOrBadLine Plain → List Line × List Line → DraftState → CursorState → DraftOrBadLine
 block_taken (Ok v) block d c = Ok (draft_with v d, after_block block c)
 block_taken (Err k) block d c = Err (c.number + k)
 

@@ -18,7 +18,8 @@ has_item_for given before = is_some (find (is_item_for given.field) before)
 
 -- The items so far, and those of one more value; None if it offends. A version also offends if the
 -- output's name is too long (`too_long`).
-abbrev pub items_with_text : Bool → List FieldWithValue → Option FieldText → Option (List FieldWithValue)
+abbrev pub items_with_text :
+    Bool → List FieldWithValue → Option FieldText → Option (List FieldWithValue)
 items_with_text too_long before None = None
 items_with_text too_long before (Some given) =
     if too_long && is_same given.field Fields.Version then None else

@@ -61,7 +61,8 @@ pub(crate) fn pack_below<'a, T: Tree>(
     ensures tree { OnlyReads MakeFault.Disk (T.history tree.old) (T.history tree.new)
         (T.counts tree.old) (T.counts tree.new) result }
     ensures read { (n : ℕ) → Explains (T.history tree.old) (λ read.
-        AgreesOrIsFault IsPacking result (folders_below read n (values_with FILES values.now) names.now)) }
+        AgreesOrIsFault IsPacking result (folders_below read n
+        (values_with FILES values.now) names.now)) }
 {
     match first_folder(values) {
         Some(value) => {
@@ -92,7 +93,8 @@ pub(crate) fn read_scripts<'a, T: Tree>(
     ensures tree { OnlyReads MakeFault.Disk (T.history tree.old) (T.history tree.new)
         (T.counts tree.old) (T.counts tree.new) result }
     ensures read { (n : ℕ) → Explains (T.history tree.old) (λ read.
-        AgreesOrIsFault AreScripts result (scripts_from read n (values_with SCRIPT values.entry.now))) }
+        AgreesOrIsFault AreScripts result (scripts_from read n
+        (values_with SCRIPT values.entry.now))) }
 {
     let mut scripts = Vec::new(alloc);
     for i in 0..values.len() {

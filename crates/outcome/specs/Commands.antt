@@ -55,7 +55,8 @@ making_outcome other command names read files = just_report files []
 -- definition, and so have all changes.
 abbrev pub effect_outcome : Effect → Applet → CommandLine → Given → Reads → Files → Outcome
 effect_outcome Computes applet command given read files = computing_outcome applet command files
-effect_outcome OnlyReadsFiles applet command given read files = reading_outcome applet command read files
+effect_outcome OnlyReadsFiles applet command given read files =
+    reading_outcome applet command read files
 effect_outcome AsksRoot applet command given read files = outcome_of_report files (report_for_command
     command read)
 effect_outcome Makes applet command given read files =

@@ -42,7 +42,8 @@ IsChosenFor other command read chosen = chosen ≡ None
 
 -- the names that an applet lists: `mkpkg` those below its folder, the others none
 abbrev pub IsListingFor : Applet → CommandLine → Files → List (List ℕ) → Type 0
-IsListingFor Mkpkg command files names = AreNamesBelowOption (values_with FILES command.values) files names
+IsListingFor Mkpkg command files names =
+    AreNamesBelowOption (values_with FILES command.values) files names
 IsListingFor other command files names = names ≡ []
 
 -- the first clash of the names after a command, which only a change has

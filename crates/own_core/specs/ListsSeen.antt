@@ -13,7 +13,8 @@ use Rattle.own_core.specs.declared.parts.Parts.{Parts}
 pub record AreListsOfParts (parts : Parts) (flags : List Bool) (plan : FilePlan) : Type 0 where
   pub removals : plan.removals ≡ map (λ c. c.path) (removed_of parts)
   pub writes : writes_in plan.writes
-      ≡ sorted_by write_cmp (map claim_write (written_claims_of parts) ++ map aside_write (asides_of parts))
+      ≡ sorted_by write_cmp (map claim_write (written_claims_of parts)
+          ++ map aside_write (asides_of parts))
   pub owned : plan.owned ≡ flags
   pub aside : plan.aside ≡ map (λ c. c.path) (asides_of parts)
   pub kept : plan.kept ≡ map (λ c. c.path) (kept_of_parts parts)

@@ -221,7 +221,8 @@ fn pack_file<'a, T: Tree>(
     ensures tree { OnlyReads MakeFault.Disk (T.history tree.old) (T.history tree.new)
         (T.counts tree.old) (T.counts tree.new) result }
     ensures read { (n : ℕ) → Explains (T.history tree.old) (λ read.
-        AgreesOrIsFault (IsPackedFile position.0 position.1 blocks.old.items blocks.new.items) result
+        AgreesOrIsFault
+        (IsPackedFile position.0 position.1 blocks.old.items blocks.new.items) result
         (file_at place read n name.now)) }
 {
     let start = blocks.len();
@@ -290,7 +291,8 @@ pub fn read_file<T: Tree>(
     ensures tree { OnlyReads MakeFault.Disk (T.history tree.old) (T.history tree.new)
         (T.counts tree.old) (T.counts tree.new) result }
     ensures read { (n : ℕ) → Explains (T.history tree.old) (λ read.
-        AgreesOrIsFault (λ bytes found. found ≡ bytes.items) result (found_at place (read n name.now))) }
+        AgreesOrIsFault (λ bytes found. found ≡ bytes.items) result
+        (found_at place (read n name.now))) }
 {
     match read_all(alloc, tree, name)? {
         Some(bytes) => Ok(bytes),

@@ -32,4 +32,5 @@ pub record HasFirstSelection (command : CommandLine) (files : Files) : Type 0 wh
   pub are_selected :
       AreSelectedOnes selected.inputs selected.replacement (reads_in files) found
   pub no_fault :
-      PassesChangeTests (wishes_of command) (file_change selected.inputs (wishes_of command) found) files
+      PassesChangeTests (wishes_of command) (file_change selected.inputs (wishes_of command) found)
+          files

@@ -52,5 +52,6 @@ abbrev pub HasPassedBefore : ChangeWishes → FileChange → Files → Refusal �
 HasPassedBefore wishes change files (PathClash path other) = AreUnreserved change.members
 HasPassedBefore wishes change files (Owned path first second) = PassesNameTests change files
 HasPassedBefore wishes change files (TriggerNeeded name) = PassesFileTests change files
-HasPassedBefore wishes change files (ResultTooLarge bytes values) = PassesChangeTests wishes change files
+HasPassedBefore wishes change files (ResultTooLarge bytes values) =
+    PassesChangeTests wishes change files
 HasPassedBefore wishes change files other = Unit {0}

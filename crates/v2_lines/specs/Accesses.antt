@@ -55,5 +55,6 @@ access_in text =
     let user = before_colon text in
     let group = before_colon (after_colon text) in
     let mode = before_colon (after_colon (after_colon text)) in
-    if is_uid_or_gid user && is_uid_or_gid group then option_map (access_by user group) (octal_number mode)
+    if is_uid_or_gid user && is_uid_or_gid group
+        then option_map (access_by user group) (octal_number mode)
     else None

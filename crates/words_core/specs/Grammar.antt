@@ -280,8 +280,8 @@ command_of_reading behind applet reading =
 -- the command of the words, by the start that was found in them; or the first place that offends
 abbrev pub command_from : List (List ℕ) → Result Start ℕ → Result CommandLine ℕ
 command_from words (Err place) = Err place
-command_from words (Ok start) = command_of_reading (length words + 1) start.applet (reading_after_applet start
-    words)
+command_from words (Ok start) =
+    command_of_reading (length words + 1) start.applet (reading_after_applet start words)
 
 -- the command that the words spell, or the first place that offends
 unfoldable pub line_command : List (List ℕ) → Result CommandLine ℕ

@@ -126,7 +126,8 @@ fn read_line(alloc: Global, words: &Words) -> Result<Command, WordsFault>
 fn judge(applet: Applet, reading: Reading, behind: u32) -> Result<Command, WordsFault>
     requires { IsSoundReading applet reading }
     ensures ok { IfOk result (λ command. command_of_reading behind applet reading ≡ Ok command) }
-    ensures usage { IfErr result (λ fault. IsWordsFault fault (command_of_reading behind applet reading)) }
+    ensures usage { IfErr result (λ fault. IsWordsFault fault
+        (command_of_reading behind applet reading)) }
 {
     // Without the flag that selects its kind a command has no rule for its operands.
     let Some(rule) = applet.operands(reading.state.flags) else {

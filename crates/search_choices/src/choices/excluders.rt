@@ -58,7 +58,8 @@ impl<'p> Choices<'p> {
         id: CandId,
         matches: &mut PackageMatches<'_>,
     ) -> Result<Option<CandId>, AllocError>
-        requires listed { IsConflictTable (pool_of self.now) (choices_of self.now) self.now.conflicts }
+        requires listed { IsConflictTable (pool_of self.now)
+            (choices_of self.now) self.now.conflicts }
         requires conflicts { AreConflictsOf (pool_of self.now).candidates
             self.now.conflicts.by_name }
         requires here { candidate_at (pool_of self.now) id ≡ Some details.now }
@@ -66,7 +67,8 @@ impl<'p> Choices<'p> {
         requires matches { AreMatchesAmong (pool_of self.now).candidates matches.old }
         ensures found { IfOk result (λ found. MatchOption found
             (((p : Dependency) → IsIn p details.now.provides →
-            p.conflict ≡ false → IsNotExcludedAt (pool_of self.now) (choices_of self.now) details.now
+            p.conflict ≡ false → IsNotExcludedAt (pool_of self.now)
+            (choices_of self.now) details.now
             p.name (is_some p.version))
             × ((d : Dependency) → IsIn d details.now.depends →
             d.conflict ≡ true → is_met (pool_of self.now) (choices_of self.now) (entry d) ≡ false))
@@ -90,7 +92,8 @@ impl<'p> Choices<'p> {
         id: CandId,
         matches: &mut PackageMatches<'_>,
     ) -> Result<Option<CandId>, AllocError>
-        requires listed { IsConflictTable (pool_of self.now) (choices_of self.now) self.now.conflicts }
+        requires listed { IsConflictTable (pool_of self.now)
+            (choices_of self.now) self.now.conflicts }
         requires conflicts { AreConflictsOf (pool_of self.now).candidates
             self.now.conflicts.by_name }
         requires here { candidate_at (pool_of self.now) id ≡ Some details.now }
@@ -98,7 +101,8 @@ impl<'p> Choices<'p> {
         requires occupied { is_occupied ≡ true → IsIn name.now (occupied_names details.now) }
         requires matches { AreMatchesAmong (pool_of self.now).candidates matches.old }
         ensures found { IfOk result (λ found. MatchOption found
-            (IsNotExcludedAt (pool_of self.now) (choices_of self.now) details.now name.now is_occupied)
+            (IsNotExcludedAt (pool_of self.now)
+            (choices_of self.now) details.now name.now is_occupied)
             (λ k. IsExcluder (pool_of self.now) (choices_of self.now) id k)) }
         ensures matches { OnOk result (AreMatchesAmong (pool_of self.now).candidates matches.new) }
     {
@@ -130,7 +134,8 @@ impl<'p> Choices<'p> {
         id: CandId,
         matches: &mut PackageMatches<'_>,
     ) -> Result<Option<CandId>, AllocError>
-        requires listed { IsConflictTable (pool_of self.now) (choices_of self.now) self.now.conflicts }
+        requires listed { IsConflictTable (pool_of self.now)
+            (choices_of self.now) self.now.conflicts }
         requires conflicts { AreConflictsOf (pool_of self.now).candidates
             self.now.conflicts.by_name }
         requires here { candidate_at (pool_of self.now) id ≡ Some details.now }
@@ -138,7 +143,8 @@ impl<'p> Choices<'p> {
         requires matches { AreMatchesAmong (pool_of self.now).candidates matches.old }
         ensures found { IfOk result (λ found. MatchOption found
             ((p : Dependency) → IsIn p details.now.provides →
-            p.conflict ≡ false → IsNotExcludedAt (pool_of self.now) (choices_of self.now) details.now
+            p.conflict ≡ false → IsNotExcludedAt (pool_of self.now)
+            (choices_of self.now) details.now
             p.name (is_some p.version))
             (λ k. IsExcluder (pool_of self.now) (choices_of self.now) id k)) }
         ensures matches { OnOk result (AreMatchesAmong (pool_of self.now).candidates matches.new) }
@@ -163,7 +169,8 @@ impl<'p> Choices<'p> {
         id: CandId,
         matches: &mut PackageMatches<'_>,
     ) -> Result<Option<CandId>, AllocError>
-        requires listed { IsConflictTable (pool_of self.now) (choices_of self.now) self.now.conflicts }
+        requires listed { IsConflictTable (pool_of self.now)
+            (choices_of self.now) self.now.conflicts }
         requires conflicts { AreConflictsOf (pool_of self.now).candidates
             self.now.conflicts.by_name }
         requires here { candidate_at (pool_of self.now) id ≡ Some details.now }
