@@ -73,7 +73,9 @@ pub fn take_stack(alloc: Global, seed: usize) -> Result<(), AllocError> {
     Ok(())
 }
 
-/// Fills a part of the stack with zeros and one mark, and returns one of these bytes.
+/// Fills a part of the stack with zeros and one mark, and returns one of these bytes. The call must
+/// not be inlined: the frame of its caller would keep the bytes for the whole run, and later calls
+/// would need more stack than was taken.
 #[inline(never)]
 fn touch_stack(seed: usize, mark: u8) -> u8 {
     let mut stack = [0u8; STACK];

@@ -8,7 +8,7 @@ pub use Rattle.path_clashes.specs as path_clashes
 pub use Rattle.path_clashes.specs.adb_fields as adb_fields
 -- what the contract of `apk` says
 pub mod FileChange
-pub mod AddedFileFate
+pub mod Fate
 pub mod FilesAfter
 pub mod NamesAfter
 pub mod PlanLists

@@ -14,7 +14,7 @@ pub record AreListsOfParts (parts : Parts) (flags : List Bool) (plan : FilePlan)
   pub removals : plan.removals ≡ map (λ c. c.path) (removed_of parts)
   pub writes : writes_in plan.writes
       ≡ sorted_by write_cmp (map claim_write (written_claims_of parts)
-          ++ map aside_write (asides_of parts))
+      ++ map aside_write (asides_of parts))
   pub owned : plan.owned ≡ flags
   pub aside : plan.aside ≡ map (λ c. c.path) (asides_of parts)
   pub kept : plan.kept ≡ map (λ c. c.path) (kept_of_parts parts)

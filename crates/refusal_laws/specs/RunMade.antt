@@ -33,4 +33,4 @@ pub record HasFirstSelection (command : CommandLine) (files : Files) : Type 0 wh
       AreSelectedOnes selected.inputs selected.replacement (reads_in files) found
   pub no_fault :
       PassesChangeTests (wishes_of command) (file_change selected.inputs (wishes_of command) found)
-          files
+      files

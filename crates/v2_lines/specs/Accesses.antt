@@ -56,5 +56,5 @@ access_in text =
     let group = before_colon (after_colon text) in
     let mode = before_colon (after_colon (after_colon text)) in
     if is_uid_or_gid user && is_uid_or_gid group
-        then option_map (access_by user group) (octal_number mode)
+    then option_map (access_by user group) (octal_number mode)
     else None
