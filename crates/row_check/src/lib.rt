@@ -11,7 +11,7 @@ mod start;
 
 pub use check::{Program, Run, check_images, check_run, check_streams};
 pub use differences::{RowFault, add_number, compare, compare_numbers, differs, digits};
-pub use recovery::{Found, Sides, images_of};
+pub use recovery::{Found, Sides, images_of, new_image};
 pub use row_text::{Fault, Row, SinkPlan, Step, TreePlan, read_rows};
 pub use start::{are_alike, bytes_of, copy_of, tree_of};
 pub use tree_memory::{MemorySink, MemoryTree};

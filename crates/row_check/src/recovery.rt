@@ -3,9 +3,9 @@
 //! and on the two sides.
 use crate::check::Program;
 use crate::differences::{RowFault, differs, digits};
-use crate::start::{are_alike, copy_of};
+use crate::start::{are_alike, are_equal, copy_of};
 use row_text::Step;
-use std::alloc::Global;
+use std::alloc::{AllocError, Global};
 use tree_memory::MemoryTree;
 
 /// The two sides of a command line: the files that it finds and those that it leaves, both
@@ -80,7 +80,9 @@ impl Sides {
         tree: &MemoryTree,
     ) -> Result<(), RowFault> {
         for choice in 0..images_of(tree) {
-            let image = tree.pick_image(alloc, choice)?;
+            let Some(image) = new_image(alloc, tree, choice)? else {
+                continue;
+            };
             let image = recovered(alloc, program, step, image)?;
             if !are_alike(alloc, &image, &self.after)? {
                 let choice = digits(alloc, choice)?;
@@ -97,6 +99,25 @@ impl Sides {
 /// "Images of the tree in memory": as read, nothing, or bytes of value 255).
 pub fn images_of(tree: &MemoryTree) -> u64 {
     tree.picks().saturating_mul(3)
+}
+
+/// The image of a tree that a number picks, or None if it is the image of the same map of names with
+/// all files as read, which a smaller number picks.
+pub fn new_image(
+    alloc: Global,
+    tree: &MemoryTree,
+    choice: u64,
+) -> Result<Option<MemoryTree>, AllocError> {
+    let image = tree.pick_image(alloc, choice)?;
+    let picks = tree.picks();
+    if picks == 0 || choice < picks {
+        return Ok(Some(image));
+    }
+    let as_read = tree.pick_image(alloc, choice % picks)?;
+    if are_equal(alloc, &image, &as_read)? {
+        return Ok(None);
+    }
+    Ok(Some(image))
 }
 
 /// A tree that is recovered, which leaves nothing for a second recovery to do.

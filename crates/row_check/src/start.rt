@@ -85,15 +85,26 @@ fn is_scratch(name: &Name) -> bool {
 
 /// Whether two trees have the same files, apart from those that are being made.
 pub fn are_alike(alloc: Global, one: &MemoryTree, other: &MemoryTree) -> Result<bool, AllocError> {
-    Ok(has_all_of(alloc, one, other)? && has_all_of(alloc, other, one)?)
+    Ok(has_all_of(alloc, one, other, false)? && has_all_of(alloc, other, one, false)?)
 }
 
-/// Whether a tree has all files of another, apart from those that are being made.
-fn has_all_of(alloc: Global, tree: &MemoryTree, other: &MemoryTree) -> Result<bool, AllocError> {
+/// Whether two trees have the same files, those that are being made included.
+pub fn are_equal(alloc: Global, one: &MemoryTree, other: &MemoryTree) -> Result<bool, AllocError> {
+    Ok(has_all_of(alloc, one, other, true)? && has_all_of(alloc, other, one, true)?)
+}
+
+/// Whether a tree has all files of another, with those that are being made or without.
+fn has_all_of(
+    alloc: Global,
+    tree: &MemoryTree,
+    other: &MemoryTree,
+    with_scratch: bool,
+) -> Result<bool, AllocError> {
     let names = other.names(alloc)?;
     for i in 0..names.len() {
         let name = names.get(i);
-        if !is_scratch(name) && tree.file(name) != other.file(name) {
+        let counts = with_scratch || !is_scratch(name);
+        if counts && tree.file(name) != other.file(name) {
             return Ok(false);
         }
     }

@@ -4,7 +4,7 @@
 use crate::run::{StreamEnds, run_once};
 use row_check::{
     Found, MemoryTree, Program, RowFault, Run, Sides, Step, TreePlan, add_number, bytes_of,
-    check_run, check_streams, compare, compare_numbers, copy_of, differs, images_of,
+    check_run, check_streams, compare, compare_numbers, copy_of, differs, images_of, new_image,
 };
 use std::alloc::{AllocError, Global};
 
@@ -180,8 +180,10 @@ impl<'a, P: Program> Swept<'a, P> {
     fn look(&self, alloc: Global, call: u64, tree: &MemoryTree) -> Result<bool, RowFault> {
         let mut new_seen = false;
         for choice in 0..images_of(tree) {
+            let Some(image) = new_image(alloc, tree, choice)? else {
+                continue;
+            };
             let place = at_image(alloc, call, choice)?;
-            let image = tree.pick_image(alloc, choice)?;
             let found = self.follow(alloc, call, image, &place)?;
             new_seen = new_seen || found.after;
         }
