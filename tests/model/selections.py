@@ -17,6 +17,9 @@ from changes import Candidate, Search, TooLong
 from packages import Package
 from versions import dependencies
 
+# The most steps that the search of changes.py takes for a row.
+MOST_STEPS = 400
+
 OPERATORS = ["=", "<", "<=", ">", ">=", "~"]
 
 
@@ -108,7 +111,9 @@ def row(number, maker):
     """The lines of a row."""
     packages, world = maker.drawn()
     candidates = [Candidate(package, 1, None, False, place) for place, package in enumerate(packages)]
-    found = Search(candidates, sorted(world, key=lambda each: each.name), lambda name: False).walk()
+    search = Search(candidates, sorted(world, key=lambda each: each.name), lambda name: False)
+    search.steps = 20_000 - MOST_STEPS
+    found = search.walk()
     answer = "none" if found is None else " ".join(f"{each.package.name}-{each.package.version}" for each in found)
     return [f"row r{number}: ", "repository " + ";".join(map(shown, packages)), "world " + " ".join(each.text() for each in world), "$ select", f"> {answer}"]
 

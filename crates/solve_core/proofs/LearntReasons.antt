@@ -1,6 +1,6 @@
 -- What is learnt stays a reason, and rules a candidate out if its other members are choices.
 use Rattle.std.proofs.Common.{◌≡◌, ◌⊎◌, inl, inr, ℕ, zero, suc, List, [], ◌∷◌, ◌++◌, subst}
-use Rattle.std.specs.Prelude.{not, filter, ◌==◌, Some, slice_get}
+use Rattle.std.specs.Prelude.{Some, slice_get}
 use Rattle.search_choices.specs.candidate_core.Rank.{SealedPool}
 use Rattle.search_choices.specs.candidate_core.Options.{IsIn}
 use Rattle.search_choices.specs.search_tables.Reasons.{IsReason}

@@ -1,7 +1,7 @@
 //! The reasons that the search has learnt from its conflicts, as a SAT solver learns clauses. A
 //! reason is a fact about the pool: it holds whatever is chosen, so none is ever taken back. The
 //! rule is in `docs/selection.md`, "How the search works".
-ghost use Rattle.std.specs.Prelude.{◌≡◌, ◌⊎◌, true, IfOk, IfSome};
+ghost use Rattle.std.specs.Prelude.{◌≡◌, ◌⊎◌, true, IfOk, IfSome, Some, slice_get};
 ghost use Rattle.search_choices.specs.candidate_core.Options.{IsIn};
 ghost use Rattle.search_choices.specs.search_tables.Reasons.{IsReason};
 ghost use Rattle.solve_core.specs.Learnt.{AreMembersOr};
@@ -56,10 +56,14 @@ pub(crate) struct LearntReasons<'p> {
 }
 
 impl<'p> Model for LearntReasons<'p> {
+    ghost use Rattle.std.specs.Coded.{codes};
+    ghost use Rattle.search_choices.specs.candidate_core.PlainCode.{plain_code};
     ghost use Rattle.search_choices.specs.candidate_core.Rank.{SealedPool};
     ghost use Rattle.solve_core.specs.Learnt.{AreReasons};
 
     ghost Value = { SealedPool };
+
+    ghost coded = { Prim.hlevel (codes, plain_code) };
 
     ghost view = { λ learnt. learnt.pool.now };
 
@@ -104,10 +108,19 @@ impl<'p> LearntReasons<'p> {
     pub(crate) fn members_at(&self, index: usize) -> Option<&[CandId]>
         ensures { IfSome result (λ members. IsReason self.now members.now) }
     {
-        match self.reasons.get(index) {
-            Some(reason) => Some(reason.members()),
-            None => None,
-        }
+        let members = members_in(self.reasons.as_slice(), index)?;
+        Some(members)
+    }
+}
+
+// The members of the reason at an index, if there is one.
+fn members_in(reasons: &[Reason], index: usize) -> Option<&[CandId]>
+    ensures { IfSome result (λ members. slice_get reasons.now index ≡ Some members.now) }
+{
+    if index < reasons.len() {
+        Some(reasons[index].members())
+    } else {
+        None
     }
 }
 

@@ -1,6 +1,8 @@
 //! Which learnt reasons to look at, by two watched members of each, as in a SAT solver: a reason
 //! can rule a candidate out only once one of its watched members is chosen. No contract mentions
 //! watches: what they name is checked before it is used, so a wrong one only costs time.
+ghost use Rattle.std.specs.Prelude.{◌<◌, OnOk, vec_len};
+
 use crate::learnt::{LearntReasons, are_others_choices};
 use search_choices::{CandId, Choices};
 use std::alloc::{AllocError, Global};
@@ -122,10 +124,7 @@ impl Watches {
     // Adds a reason to those that watch a candidate.
     fn add(&mut self, id: CandId, index: usize) -> Result<(), AllocError> {
         let place = id.place as usize;
-        while self.watched.len() <= place {
-            let by = Vec::new(self.alloc);
-            self.watched.push(Watched { by, against: None })?;
-        }
+        grow(self.alloc, &mut self.watched, place)?;
         self.watched[place].by.push(index)?;
         Ok(())
     }
@@ -146,10 +145,7 @@ impl Watches {
         chosen: &Choices<'_>,
     ) -> Result<(), AllocError> {
         let place = choice.place as usize;
-        while self.turns.len() <= place {
-            self.turns.push(0)?;
-        }
-        self.turns[place] = turn;
+        note(&mut self.turns, place, turn)?;
         let by = self.take(place);
         let left = self.still_watching(by, choice, learnt, chosen)?;
         if let Some(watched) = self.watched.get_mut(place) {
@@ -209,7 +205,10 @@ impl Watches {
         };
         match member_not_chosen(members, other, chosen) {
             Some(free) => {
-                self.watches[index] = Watch { one: other, other: free };
+                self.watches[index] = Watch {
+                    one: other,
+                    other: free,
+                };
                 self.add(free, index)?;
                 Ok(false)
             }
@@ -232,6 +231,26 @@ impl Watches {
             None => false,
         }
     }
+}
+
+// Adds entries that no reason watches, until there is one at the place.
+fn grow(alloc: Global, watched: &mut Vec<Watched>, place: usize) -> Result<(), AllocError>
+    ensures { OnOk result (place < vec_len watched.new) }
+{
+    while watched.len() <= place {
+        let by = Vec::new(alloc);
+        watched.push(Watched { by, against: None })?;
+    }
+    Ok(())
+}
+
+// Notes the turn at which the candidate at a place was chosen.
+fn note(turns: &mut Vec<usize>, place: usize, turn: usize) -> Result<(), AllocError> {
+    while turns.len() <= place {
+        turns.push(0)?;
+    }
+    turns[place] = turn;
+    Ok(())
 }
 
 // A member of a reason that is no choice, except for one.
