@@ -1,15 +1,13 @@
 -- What `manifest` prints.
-use Rattle.std.proofs.Common.{◌≡◌, ◌↔◌, ◌∙◌, ℕ, List, [], ◌∷◌, ◌++◌, map, Option, Some, None, Result, Ok, Err, refl, ap, sym}
-use Rattle.std.specs.List.{find, flat_map}
+use Rattle.std.proofs.Common.{ℕ, ◌≡◌, ◌↔◌, ◌∙◌, List, [], ◌∷◌, ◌++◌, map, Option, Some, None, Result, Ok, Err, refl, ap, sym}
+use Rattle.std.specs.List.{flat_map}
 use Rattle.std.proofs.lemmas.Grind.{flat_map-append}
 use Rattle.adb_view.specs.Plain.{Plain}
 use Rattle.audit_core.specs.Manifest.{manifest_after, manifest_line, manifest_of, manifest_with, operand_package, package_manifest}
-use Rattle.audit_core.specs.Records.{file_record, folder_records, package_records}
+use Rattle.audit_core.specs.Records.{file_record, folder_records}
 use Rattle.audit_core.specs.adb_fields.Repeated.{files_in, folders_in, name_of}
-use Rattle.audit_core.specs.db_core.Packages.{is_package_named}
 use Rattle.command_core.specs.declared.operands.Operand.{Operand}
 use Rattle.report_core.specs.declared.refusal.Refusal.{Refusal}
-use Rattle.report_core.specs.declared.refusal.Refusal.TheVariants.{NotInstalled}
 use Rattle.answer_laws.specs.ManifestLines.{HasLinesOfOperands, line_of_file, lines_of_package, package_of_operand}
 
 -- ---- the lines of a package

@@ -1,12 +1,12 @@
 -- What `list`, `search` and `policy` print.
-use Rattle.std.proofs.Common.{◌≡◌, ◌↔◌, ◌⊎◌, ◌∙◌, inl, inr, ℕ, zero, suc, ◌+◌, ◌<◌, ◌≤◌, Bool, true, false, List, [], ◌∷◌, ◌++◌, Option, Some, None, refl, ap, sym, subst, append_assoc, arith}
-use Rattle.std.specs.Prelude.{if◌then◌else◌, ◌&&◌, ◌==◌, is_some, slice_get}
+use Rattle.std.proofs.Common.{ℕ, ◌≡◌, ◌↔◌, ◌⊎◌, ◌∙◌, inl, inr, zero, suc, ◌+◌, Bool, true, false, List, [], ◌∷◌, ◌++◌, Option, Some, None, refl, ap, sym, subst, append_assoc, arith}
+use Rattle.std.specs.Prelude.{if◌then◌else◌, ◌&&◌, ◌||◌, ◌==◌, is_some, slice_get}
 use Rattle.std.specs.List.{cons_option, filter, filter_map, flat_map, list_any}
 use Rattle.std.specs.Option.{option_map_or}
 use Rattle.std.specs.Ordering.{nat_cmp}
 use Rattle.std.specs.Str.{bytes_eq}
 use Rattle.std.specs.declared.cmp.Ordering.TheVariants.{Less}
-use Rattle.std.proofs.lemmas.Bool.{and_parts, cases_Bool, lt-ltb}
+use Rattle.std.proofs.lemmas.Bool.{and_parts, cases_Bool, lt-ltb, or_cases}
 use Rattle.std.proofs.lemmas.Bool.Decides.{Decides-eqb}
 use Rattle.std.proofs.lemmas.Slice.Eq.{bytes_eq-Decides}
 use Rattle.installed_info.specs.candidate_core.Candidates.{Candidate, is_same_version}
@@ -16,7 +16,7 @@ use Rattle.dep_core.specs.Repositories.{Repository}
 use Rattle.query_core.specs.Asked.{AreInOrderBy}
 use Rattle.query_core.specs.List.{candidate_line, is_list_candidate, list_report}
 use Rattle.query_core.specs.Order.{printed_version, query_cmp, selected_candidates, selected_places}
-use Rattle.query_core.specs.Policy.{has_name_and_version, has_own_name, is_of_repository, place_lines, policy_report, repository_lines, version_policy, versions_of_name}
+use Rattle.query_core.specs.Policy.{has_name_and_version, has_own_name, is_of_repository, policy_report, repository_lines, version_policy, versions_of_name}
 use Rattle.query_core.specs.Search.{is_search_candidate, search_report}
 use Rattle.report_core.specs.QueryReports.{database_line, policy_heading, repository_line, search_line, version_heading}
 use Rattle.answer_laws.specs.QueryLines.{HasLinesOfAsked, HasNameAndVersion, HasPlacesOfVersion, IsListAsked, IsSearchAsked, IsVersionInRepository, IsVersionInstalled, line_at, repository_line_at}
@@ -73,10 +73,6 @@ pub policy_named : (cs : List Candidate) (repositories : List Repository) (names
 policy_named cs repositories names = refl
 
 -- a test holds of one of those of a list that pass another test
-either_true : (a b : Bool) → (if a then true else b) ≡ true → (a ≡ true) ⊎ (b ≡ true)
-either_true true b e = inl refl
-either_true false b e = inr e
-
 abbrev HasPassing : (p q : Candidate → Bool) → List Candidate → Type 0
 HasPassing p q cs = (c : Candidate) × IsIn c cs × (p c ≡ true) × (q c ≡ true)
 
@@ -86,8 +82,8 @@ pass_later p q c cs (d, here, first, second) = (d, inr here, first, second)
 pass_next : (p q : Candidate → Bool) (c : Candidate) (cs : List Candidate) → (list_any q (filter p cs) ≡ true → HasPassing p q cs) → list_any q (filter p (c ∷ cs)) ≡ true
     → (b : Bool) → p c ≡ b → HasPassing p q (c ∷ cs)
 pass_next p q c cs further e true is =
-    let any : (if q c then true else list_any q (filter p cs)) ≡ true = rw is at e in
-    elim (either_true (q c) (list_any q (filter p cs)) any) [
+    let any : (q c || list_any q (filter p cs)) ≡ true = rw is at e in
+    elim (or_cases (q c) (list_any q (filter p cs)) any) [
       | inl holds ↦ (c, inl refl, is, holds)
       | inr h ↦ pass_later p q c cs (further h)
     ]

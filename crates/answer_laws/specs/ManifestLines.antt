@@ -1,6 +1,6 @@
 -- What `manifest` prints, in a reader's words. The rules are in `docs/commands.md`, "`manifest`". Serves
 -- the laws of `src/manifest.rt`.
-use Rattle.std.specs.Prelude.{◌≡◌, ℕ, List, [], map, Option, Some}
+use Rattle.std.specs.Prelude.{ℕ, ◌≡◌, List, map, Option, Some}
 use Rattle.std.specs.List.{find, flat_map}
 use Rattle.adb_view.specs.Plain.{Plain}
 use Rattle.audit_core.specs.adb_fields.Paths.{path_of}

@@ -1,6 +1,6 @@
 -- What `list`, `search` and `policy` print, in a reader's words. The rules are in `docs/commands.md`,
 -- "Queries", "`list`", "`search`" and "`policy`". Serves the laws of `src/queries.rt`.
-use Rattle.std.specs.Prelude.{◌≡◌, ◌⊎◌, ◌↔◌, ℕ, suc, Bool, true, List, [], ◌∷◌, ◌++◌, Option, Some, is_some, slice_get}
+use Rattle.std.specs.Prelude.{ℕ, ◌≡◌, ◌⊎◌, ◌↔◌, suc, Bool, true, List, [], ◌++◌, Option, Some, is_some, slice_get}
 use Rattle.std.specs.List.{flat_map}
 use Rattle.std.specs.Option.{option_map_or}
 use Rattle.std.specs.Ordering.{nat_cmp}

@@ -1,7 +1,7 @@
 //! What `manifest` prints.
 //! The rules are in `docs/commands.md`, "`manifest`".
 
-ghost use Rattle.std.specs.Prelude.{◌≡◌, ◌↔◌, ℕ, List, Ok};
+ghost use Rattle.std.specs.Prelude.{ℕ, ◌≡◌, ◌↔◌, List, Ok};
 ghost use Rattle.adb_view.specs.Plain.{Plain};
 ghost use Rattle.answer_laws.specs.ManifestLines.{HasLinesOfOperands};
 ghost use Rattle.audit_core.specs.Manifest.{manifest_of};

@@ -1,7 +1,7 @@
 //! What `list`, `search` and `policy` print.
 //! The rules are in `docs/commands.md`, "Queries", "`list`", "`search`" and "`policy`".
 
-ghost use Rattle.std.specs.Prelude.{◌≡◌, ◌++◌, ℕ, Bool, List, Option};
+ghost use Rattle.std.specs.Prelude.{ℕ, ◌≡◌, ◌++◌, Bool, List, Option};
 ghost use Rattle.std.specs.List.{flat_map};
 ghost use Rattle.answer_laws.specs.QueryLines.{HasLinesOfAsked, HasPlacesOfVersion, IsListAsked, IsSearchAsked};
 ghost use Rattle.command_core.specs.declared.operands.Operand.{Operand};
@@ -41,8 +41,8 @@ pub fn search_prints_a_line_for_each_candidate_that_is_asked_for()
 }
 
 /// `policy` prints a heading for each name, in the order given, and below it each version of the
-/// name. Below a version it prints the line of the database if the version is installed, and then a
-/// line for each repository that has it, in the order of the repositories.
+/// name. Below a version it prints the line of the database if the version is installed. Then it
+/// prints a line for each repository that has the version, in the order of the repositories.
 pub fn policy_prints_where_each_version_is()
     ensures names { (candidates : List Candidate) (repositories : List Repository)
         (names : List Operand) → policy_report candidates repositories names

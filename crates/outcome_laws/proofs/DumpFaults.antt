@@ -1,5 +1,5 @@
 -- Why `adbdump` refuses a file.
-use Rattle.std.proofs.Common.{◌≡◌, ◌↔◌, ◌⊎◌, inl, inr, ◌∙◌, ℕ, zero, suc, ◌<◌, true, List, [], ◌∷◌, Option, Some, None, Result, Ok, Err, refl, ap, sym, arith}
+use Rattle.std.proofs.Common.{ℕ, ◌≡◌, ◌↔◌, inl, inr, ◌∙◌, zero, suc, ◌<◌, true, List, [], ◌∷◌, Option, Some, None, Result, Ok, Err, refl, ap, sym, arith}
 use Rattle.std.specs.Prelude.{is_some, slice_get}
 use Rattle.std.specs.Option.{option_or}
 use Rattle.adb_block.specs.Header.{header_of}
@@ -21,7 +21,7 @@ use Rattle.container_laws.specs.pkg_core.Whole.{root_of_schema}
 use Rattle.outcome.specs.Dump.{adbdump, dump_fault, dump_of, dump_outcome, dump_with_root, dump_with_schema, framing_fault, or_text, text_outcome}
 use Rattle.outcome.specs.adb_dump.Dump.{dump_text}
 use Rattle.outcome.specs.make_info.Reads.{Reads}
-use Rattle.outcome_laws.specs.DumpedFiles.{IsDumpFault, IsFaultOfPrinted, tests_of_printed}
+use Rattle.outcome_laws.specs.DumpedFiles.{IsDumpFault, IsFaultOfPrinted}
 use Rattle.report_core.specs.declared.refusal.Refusal.{Refusal}
 use Rattle.report_core.specs.declared.refusal.Refusal.TheVariants.{FileBad}
 

@@ -1,6 +1,6 @@
 -- What `demo` adds and prints. The rules are in `docs/commands.md`, "`demo N`". Serves the laws of
 -- `src/demo.rt`.
-use Rattle.std.specs.Prelude.{◌≡◌, ◌⊎◌, ◌≤◌, ◌/◌, ℕ, false, List, [], ◌++◌, codes}
+use Rattle.std.specs.Prelude.{ℕ, ◌≡◌, ◌⊎◌, ◌≤◌, ◌/◌, false, List, [], ◌++◌, codes}
 use Rattle.std.specs.List.{list_any}
 use Rattle.dep_core.specs.World.{is_line_end}
 use Rattle.outcome.specs.demo_lines.Lines.{demo_name}

@@ -1,6 +1,6 @@
 -- What `adbdump` prints of a file. The rules are in `docs/commands.md`, "`adbdump FILE`", and the text
 -- in `docs/formats.md`, "Dump text". Serves the laws of `src/dump.rt`.
-use Rattle.std.specs.Prelude.{◌≡◌, ◌⊎◌, ℕ, List, [], ◌∷◌, Option, Some, None, Ok, Err}
+use Rattle.std.specs.Prelude.{ℕ, ◌≡◌, ◌⊎◌, List, [], ◌∷◌, Option, Some, None, Ok, Err}
 use Rattle.base_core.specs.declared.cause.Cause.{Cause}
 use Rattle.base_core.specs.declared.cause.Cause.TheVariants.{WrongSchema}
 use Rattle.adb_block.specs.Header.{header_of}

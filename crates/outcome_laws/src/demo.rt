@@ -1,7 +1,7 @@
 //! What `demo` adds and prints.
 //! The rules are in `docs/commands.md`, "`demo N`".
 
-ghost use Rattle.std.specs.Prelude.{◌≡◌, ◌↔◌, ◌<◌, ◌^◌, ◌∷◌, ◌++◌, [], ℕ, List, codes};
+ghost use Rattle.std.specs.Prelude.{ℕ, ◌≡◌, ◌↔◌, ◌<◌, ◌^◌, ◌∷◌, ◌++◌, [], List, codes};
 ghost use Rattle.std.specs.Fmt.{decimal};
 ghost use Rattle.base_core.specs.Lists.{IsIn};
 ghost use Rattle.command_core.specs.declared.operands.Operand.{Operand};

@@ -1,7 +1,7 @@
 //! What `adbdump` answers.
 //! The rules are in `docs/commands.md`, "`adbdump FILE`".
 
-ghost use Rattle.std.specs.Prelude.{◌≡◌, ◌↔◌, ◌∷◌, [], ℕ, List, Some, None, is_some, true};
+ghost use Rattle.std.specs.Prelude.{ℕ, ◌≡◌, ◌↔◌, ◌∷◌, [], List, Some, None, is_some, true};
 ghost use Rattle.base_core.specs.Files.{Files};
 ghost use Rattle.base_core.specs.declared.cause.Cause.{Cause};
 ghost use Rattle.command_core.specs.Files.{without_dot};
@@ -33,10 +33,10 @@ pub fn adbdump_prints_what_passes_every_test()
         → (adbdump read files (o ∷ [])).refusal ≡ Some (FileMissing o.place) }
 {}
 
-/// The cause for which `adbdump` refuses a file is that of the first failed test, in this order: the
+/// The cause for which `adbdump` refuses a file is that of the first failed test. The order is: the
 /// header, the schema, which is one of the four, the first block, the head of its payload, the
-/// shapes of its values, and the framing of the further blocks. It is refused exactly if one of
-/// them fails, and prints nothing then. The files stay as they are.
+/// shapes of its values, the framing of the further blocks. It is refused exactly if one of them
+/// fails, and prints nothing then. The files stay as they are.
 pub fn adbdump_refuses_the_first_failed_test()
     ensures refused { (read : Reads) (files : Files) (o : Operand) (file : List ℕ) (cause : Cause)
         → read 0 (without_dot o.text) ≡ Some file
