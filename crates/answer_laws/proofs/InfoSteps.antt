@@ -4,6 +4,7 @@ use Rattle.std.specs.Prelude.{if◌then◌else◌, is_some}
 use Rattle.std.specs.List.{filter}
 use Rattle.std.specs.Option.{option_map_or}
 use Rattle.std.proofs.lemmas.Cmp.{nat_list_cmp_total}
+use Rattle.std.proofs.lemmas.Grind.{flat_map-append}
 use Rattle.change_outcome.specs.adb_fields.Repeated.{package_name}
 use Rattle.adb_view.specs.Plain.{Plain}
 use Rattle.base_core.proofs.Sorting.{sorted_same, sorted_up}
@@ -13,7 +14,7 @@ use Rattle.base_core.specs.Sorted.{sorted_by}
 use Rattle.command_core.specs.declared.command.Flags.{Flags}
 use Rattle.command_core.specs.declared.operands.Operand.{Operand}
 use Rattle.installed_info.specs.Form.{form_of}
-use Rattle.installed_info.specs.Info.{info_refusal, names_info, operands_info, package_info}
+use Rattle.installed_info.specs.Info.{info_refusal, names_info, operand_info, operands_info, package_info}
 use Rattle.installed_info.specs.Packages.{package_asked, package_named}
 use Rattle.report_core.specs.Reports.{report_line, report_lines}
 use Rattle.report_core.specs.declared.refusal.Refusal.TheVariants.{NotInstalled}
@@ -96,3 +97,22 @@ installed_operands flags packages operands no_owner asked =
     ap (λ (b : Bool). operands_info (form_of (flags_with flags b flags.installed)) packages operands) no_owner
     ∙ ap (λ (b : Bool). operands_info (form_of (flags_with flags false b)) packages operands) asked
     ∙ operands_told flags packages operands
+
+-- ---- one operand after the other
+
+pub answer_of_operand : (flags : Flags) (packages : List Plain) (front rest : List Operand) (o : Operand) (pkg : Plain) → package_asked (form_of flags) packages o.text ≡ Some pkg
+    → operands_info (form_of flags) packages (front ++ o ∷ rest)
+    ≡ operands_info (form_of flags) packages front ++ (package_info (form_of flags) o.text pkg ++ operands_info (form_of flags) packages rest)
+answer_of_operand flags packages front rest o pkg is =
+    flat_map-append (operand_info (form_of flags) packages) front (o ∷ rest)
+    ∙ ap (λ (asked : Option Plain). operands_info (form_of flags) packages front ++ (option_map_or (package_info (form_of flags) o.text) asked [] ++ operands_info (form_of flags) packages rest)) is
+
+pub no_answer : (flags : Flags) (packages : List Plain) (front rest : List Operand) (o : Operand) → package_asked (form_of flags) packages o.text ≡ None
+    → operands_info (form_of flags) packages (front ++ o ∷ rest)
+    ≡ operands_info (form_of flags) packages front ++ operands_info (form_of flags) packages rest
+no_answer flags packages front rest o is =
+    flat_map-append (operand_info (form_of flags) packages) front (o ∷ rest)
+    ∙ ap (λ (asked : Option Plain). operands_info (form_of flags) packages front ++ (option_map_or (package_info (form_of flags) o.text) asked [] ++ operands_info (form_of flags) packages rest)) is
+
+pub no_operands : (flags : Flags) (packages : List Plain) → operands_info (form_of flags) packages [] ≡ []
+no_operands flags packages = refl

@@ -21,3 +21,5 @@ mod Tests
 mod TouchedPaths
 mod Unindexed
 mod Watched
+mod ManifestLines
+mod QueryLines

@@ -9,3 +9,5 @@ pub mod FoundFiles
 pub mod ReportSections
 pub mod TextLetters
 pub mod TextFiles
+pub mod ManifestLines
+pub mod QueryLines

@@ -1,7 +1,7 @@
 //! What `info` answers.
 //! The rules are in `docs/commands.md`, "`info`".
 
-ghost use Rattle.std.specs.Prelude.{◌≡◌, ◌↔◌, ◌∷◌, [], codes, ℕ, List, Some, true, false, is_some, map};
+ghost use Rattle.std.specs.Prelude.{◌≡◌, ◌↔◌, ◌∷◌, ◌++◌, [], codes, ℕ, List, Some, None, true, false, is_some, map};
 ghost use Rattle.std.specs.List.{filter};
 ghost use Rattle.change_outcome.specs.adb_fields.Repeated.{package_name};
 ghost use Rattle.adb_view.specs.Plain.{Plain};
@@ -15,7 +15,7 @@ ghost use Rattle.dep_core.specs.LeadingSlash.{without_slash};
 ghost use Rattle.installed_info.specs.file_owners.Replaces.{version_text};
 ghost use Rattle.installed_info.specs.Form.{form_of};
 ghost use Rattle.installed_info.specs.Info.{info_refusal, names_info, operands_info, package_info};
-ghost use Rattle.installed_info.specs.Packages.{package_named};
+ghost use Rattle.installed_info.specs.Packages.{package_asked, package_named};
 ghost use Rattle.report_core.specs.Reports.{owner_text, report_line, report_lines};
 ghost use Rattle.report_core.specs.declared.refusal.Refusal.TheVariants.{NotInstalled};
 
@@ -68,4 +68,22 @@ pub fn each_question_of_info_has_its_answer()
     ensures owner { (flags : Flags) (path : List ℕ) (pkg : Plain) → flags.who_owns ≡ true
         → package_info (form_of flags) path pkg
         ≡ report_line (owner_text (without_slash path) (package_name pkg) (version_text pkg)) }
+{}
+
+/// The report of `info` on several operands is that on each of them, one after the other, in the
+/// order given, also if an operand is given twice. An operand without a package adds nothing.
+pub fn info_answers_each_operand_in_the_order_given()
+    ensures none { (flags : Flags) (packages : List Plain)
+        → operands_info (form_of flags) packages [] ≡ [] }
+    ensures found { (flags : Flags) (packages : List Plain) (front rest : List Operand)
+        (o : Operand) (pkg : Plain) → package_asked (form_of flags) packages o.text ≡ Some pkg
+        → operands_info (form_of flags) packages (front ++ o ∷ rest)
+        ≡ operands_info (form_of flags) packages front
+        ++ (package_info (form_of flags) o.text pkg
+        ++ operands_info (form_of flags) packages rest) }
+    ensures absent { (flags : Flags) (packages : List Plain) (front rest : List Operand)
+        (o : Operand) → package_asked (form_of flags) packages o.text ≡ None
+        → operands_info (form_of flags) packages (front ++ o ∷ rest)
+        ≡ operands_info (form_of flags) packages front
+        ++ operands_info (form_of flags) packages rest }
 {}

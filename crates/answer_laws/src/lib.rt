@@ -1,8 +1,8 @@
 //! Laws above the definitions of what a user is answered.
 //!
 //! Each is a function that does nothing; its contract is what it says. The rules are in
-//! `docs/commands.md`, "`add` and `del`", "`upgrade` and `fix`", "Files that several packages list"
-//! and "`info`", and in `docs/formats.md`, "Text database of version 2".
+//! `docs/commands.md`, "`add` and `del`", "`upgrade` and `fix`", "Files that several packages list",
+//! "`info`", "Queries" and "`manifest`", and in `docs/formats.md`, "Text database of version 2".
 #![tactic(auto)]
 
 pub mod changes;
@@ -11,6 +11,8 @@ pub mod info;
 pub mod kept;
 pub mod letters;
 pub mod listed;
+pub mod manifest;
+pub mod queries;
 pub mod replaces;
 pub mod report;
 pub mod scripts;

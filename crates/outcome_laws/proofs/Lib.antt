@@ -1,4 +1,6 @@
 -- Lemmas of this crate.
+mod DemoLine
 mod Dumped
+mod DumpFaults
 mod Verified
 mod Versions

@@ -1,7 +1,18 @@
 -- What `adbdump` prints of a file. The rules are in `docs/commands.md`, "`adbdump FILE`", and the text
 -- in `docs/formats.md`, "Dump text". Serves the laws of `src/dump.rt`.
-use Rattle.std.specs.Prelude.{◌≡◌, ℕ, List, Some, Ok}
+use Rattle.std.specs.Prelude.{ℕ, ◌≡◌, ◌⊎◌, List, [], ◌∷◌, Option, Some, None, Ok, Err}
+use Rattle.base_core.specs.declared.cause.Cause.{Cause}
+use Rattle.base_core.specs.declared.cause.Cause.TheVariants.{WrongSchema}
 use Rattle.adb_block.specs.Header.{header_of}
+use Rattle.adb_block.specs.Piece.{Piece}
+use Rattle.adb_block.specs.Reading.{Reading, fault, more, reading_of}
+use Rattle.adb_block.specs.ReaderPosition.{start_of}
+use Rattle.adb_view.specs.Head.{head_fault, root_of}
+use Rattle.adb_view.specs.Schema.{shape_of}
+use Rattle.adb_view.specs.Walk.{shape_fault}
+use Rattle.adb_view.specs.declared.tables.Kind.TheVariants.{Obj}
+use Rattle.container_laws.specs.TestsInOrder.{IsFirstFailing}
+use Rattle.outcome.specs.Dump.{framing_fault}
 use Rattle.outcome.specs.adb_dump.Dump.{dump_text}
 use Rattle.container_laws.specs.adb_schema.Soundness.{payload_in, root_value}
 use Rattle.adb_view.specs.declared.tables.Which.{Which}
@@ -14,3 +25,31 @@ pub record HasTextOfValue (file text : List ℕ) : Type 0 where
   pub which : Which
   pub root : root_of_schema schema ≡ Some which
   pub text_is : text ≡ dump_text which (root_value which (payload_in file))
+
+-- ---- why a file is not printed
+
+-- the tests of what is printed: the head of the first block's payload, the shapes of its values, and
+-- the framing of the further blocks
+abbrev pub tests_of_printed : Which → List ℕ → Reading → List (Option Cause)
+tests_of_printed which payload behind =
+    head_fault payload
+    ∷ (shape_fault payload (shape_of (Obj which)) (root_of payload)
+    ∷ (framing_fault behind ∷ []))
+
+-- the fault of a file's blocks: the first block is bad; or it is good, and the fault is that of the
+-- first failed test
+abbrev pub IsFaultOfPrinted : Which → Reading → Cause → Type 0
+IsFaultOfPrinted which r c =
+    (r ≡ fault c)
+    ⊎ ((b : Piece) × (at : ℕ) × (behind : Reading) × (r ≡ more b at behind)
+    × IsFirstFailing (tests_of_printed which b.payload behind) c)
+
+-- the fault for which a file is not printed: of its header, then that its schema is none of the four,
+-- then of its blocks
+abbrev pub IsDumpFault : List ℕ → Cause → Type 0
+IsDumpFault file c =
+    (header_of file ≡ Err c)
+    ⊎ ((schema : ℕ) × (header_of file ≡ Ok schema)
+    × (((root_of_schema schema ≡ None) × (c ≡ WrongSchema schema))
+    ⊎ ((which : Which) × (root_of_schema schema ≡ Some which)
+    × IsFaultOfPrinted which (reading_of (start_of schema file)) c)))

@@ -2,3 +2,4 @@
 pub mod TestedFiles
 pub mod DumpedFiles
 pub mod CheckedVersions
+pub mod DemoLines

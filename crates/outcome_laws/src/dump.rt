@@ -1,15 +1,17 @@
 //! What `adbdump` answers.
 //! The rules are in `docs/commands.md`, "`adbdump FILE`".
 
-ghost use Rattle.std.specs.Prelude.{◌≡◌, ◌∷◌, [], ℕ, List, Some, None};
+ghost use Rattle.std.specs.Prelude.{ℕ, ◌≡◌, ◌↔◌, ◌∷◌, [], List, Some, None, is_some, true};
 ghost use Rattle.base_core.specs.Files.{Files};
+ghost use Rattle.base_core.specs.declared.cause.Cause.{Cause};
 ghost use Rattle.command_core.specs.Files.{without_dot};
 ghost use Rattle.command_core.specs.declared.operands.Operand.{Operand};
 ghost use Rattle.container_laws.specs.TestsInOrder.{PassesEveryTest};
 ghost use Rattle.outcome.specs.make_info.Reads.{Reads};
 ghost use Rattle.outcome.specs.Dump.{adbdump};
-ghost use Rattle.outcome_laws.specs.DumpedFiles.{HasTextOfValue};
-ghost use Rattle.report_core.specs.declared.refusal.Refusal.TheVariants.{FileMissing};
+ghost use Rattle.outcome_laws.specs.DumpedFiles.{HasTextOfValue, IsDumpFault};
+ghost use Rattle.report_core.specs.declared.refusal.Refusal.{Refusal};
+ghost use Rattle.report_core.specs.declared.refusal.Refusal.TheVariants.{FileBad, FileMissing};
 
 /// Unless it is refused, `adbdump` prints the text of the file's value: that of its first block, by
 /// the schema of its header.
@@ -29,4 +31,24 @@ pub fn adbdump_prints_what_passes_every_test()
     ensures absent { (read : Reads) (files : Files) (o : Operand)
         → read 0 (without_dot o.text) ≡ None
         → (adbdump read files (o ∷ [])).refusal ≡ Some (FileMissing o.place) }
+{}
+
+/// The cause for which `adbdump` refuses a file is that of the first failed test. The order is: the
+/// header, the schema, which is one of the four, the first block, the head of its payload, the
+/// shapes of its values, the framing of the further blocks. It is refused exactly if one of them
+/// fails, and prints nothing then. The files stay as they are.
+pub fn adbdump_refuses_the_first_failed_test()
+    ensures refused { (read : Reads) (files : Files) (o : Operand) (file : List ℕ) (cause : Cause)
+        → read 0 (without_dot o.text) ≡ Some file
+        → ((adbdump read files (o ∷ [])).refusal ≡ Some (FileBad o.place cause))
+        ↔ IsDumpFault file cause }
+    ensures only { (read : Reads) (files : Files) (o : Operand) (file : List ℕ)
+        (refusal : Refusal) → read 0 (without_dot o.text) ≡ Some file
+        → (adbdump read files (o ∷ [])).refusal ≡ Some refusal
+        → (cause : Cause) × (refusal ≡ FileBad o.place cause) }
+    ensures nothing { (read : Reads) (files : Files) (o : Operand)
+        → is_some (adbdump read files (o ∷ [])).refusal ≡ true
+        → (adbdump read files (o ∷ [])).out ≡ [] }
+    ensures same { (read : Reads) (files : Files) (o : Operand)
+        → (adbdump read files (o ∷ [])).files ≡ files }
 {}

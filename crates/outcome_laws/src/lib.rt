@@ -1,9 +1,11 @@
-//! Laws above the outcomes of `verify`, `adbdump` and `version`.
+//! Laws above the outcomes of `verify`, `adbdump`, `version` and `demo`.
 //!
 //! Each is a function that does nothing; its contract is what it says. The rules are in
 //! `docs/commands.md`, in the section of each command.
 #![tactic(auto)]
 
+pub mod demo;
 pub mod dump;
+pub mod failures;
 pub mod verify;
 pub mod version;

@@ -60,8 +60,8 @@ ReachesByRuns Holds first (event ∷ earlier) w =
     × IsTransition v event w
 
 -- no further property of a run is required
-abbrev pub IsAnyRun : TreeState → Run → Type 0
-IsAnyRun v run = Unit {0}
+abbrev pub IsUnrestrictedRun : TreeState → Run → Type 0
+IsUnrestrictedRun v run = Unit {0}
 
 -- a test holds of the file of a name, or its absence, in the files as they are read and as they are
 -- recovered

@@ -14,7 +14,7 @@ ghost use Rattle.apk_front.specs.outcome.Outcome.{Outcome};
 ghost use Rattle.apk_front.specs.outcome.Words.{IsOutcome};
 ghost use Rattle.apk_front.specs.outcome.Work.{recovery_fault};
 ghost use Rattle.run_lists.specs.Events.{AreAmong, Event, HasNoPendingOutput, HasNoPendingRun, Reaches, ReachesWithoutCommit, ReachesOneState, IsRunWithoutCommit, IsMomentOf, IsOutcomeFrom, IsRunFrom, IsStopOf, Run, ignored_after, ignored_in, nothing_ignored, with_all_touched, with_scratch};
-ghost use Rattle.run_lists.specs.Reading.{HasBadIntent, HasBytesOfRun, ReachesByRuns, IsAnyRun, IsDurablyDone, IsOrdinaryName, IsNoDraft, IsTrueAt, LeavesTrueAt};
+ghost use Rattle.run_lists.specs.Reading.{HasBadIntent, HasBytesOfRun, ReachesByRuns, IsUnrestrictedRun, IsDurablyDone, IsOrdinaryName, IsNoDraft, IsTrueAt, LeavesTrueAt};
 ghost use Rattle.run_lists.specs.Recovered.{ReachesWithoutBadIntent, HasStateBeforeOrOutcome, HasStateOf, IsRecoveredBy, IsNotRefusedForIntent, LeavesNoBadIntent};
 ghost use Rattle.run_lists.specs.Safety.{HasOldOrOutcome, IsAtomicAfterAnyEvents, IsSafeAfterAnyEvents};
 ghost use Rattle.apk_front.specs.words_core.Grammar.{command_of};
@@ -155,7 +155,7 @@ pub fn a_bad_intent_and_all_files_are_kept()
 
     // So runs alone, ended or stopped, leave the tree as it was.
     ensures along { (first w : TreeState) (events : List Event) → HasBadIntent (files_of first)
-        → ReachesByRuns IsAnyRun first events w → w ≡ first }
+        → ReachesByRuns IsUnrestrictedRun first events w → w ≡ first }
 {}
 
 /// An intent's change is durable at each moment of the next run at which no intent is read, also if

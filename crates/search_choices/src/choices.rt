@@ -88,6 +88,14 @@ impl<'p> Choices<'p> {
         })
     }
 
+    /// Whether a candidate is a choice.
+    pub fn has(&self, id: CandId) -> bool
+        ensures { MatchBool result (IsIn id (choices_of self.now)) (IsIn id (choices_of self.now)
+            → ⊥) }
+    {
+        self.choices.has(id)
+    }
+
     /// Makes a choice. After an error the choices may only be dropped.
     pub fn push(&mut self, id: CandId) -> Result<(), AllocError>
         requires consistent { IsConsistent self.old }

@@ -9,6 +9,7 @@ use Rattle.search_choices.specs.search_tables.Reasons.{AreCompatible, IsReason, 
 use Rattle.search_choices.specs.search_tables.Reasons.{HasOptions}
 use Rattle.search_choices.specs.Choices.{IsSearch, IsConsistent, choices_of, pool_of}
 use Rattle.search_choices.specs.declared.choices.Choices.{Choices}
+use Rattle.solve_core.specs.Learnt.{AreMembersOr}
 use Rattle.search_choices.proofs.search_tables.Theory as law
 use Rattle.search_choices.proofs.search_tables.Theory.{Facts, in_left, in_right, in_append}
 use Rattle.search_choices.proofs.search_tables.Turns.{reasons_dead, turns_more, turns_less, choices-append}
@@ -135,20 +136,25 @@ sub_filter c (x ∷ xs) o h = elim (eqb_tells x c) [
   ])
 ]
 
--- a choice that is to blame is skipped at its frame, with the rest of the blame
-pub hit_reason : (pool : SealedPool) (members rest all others : List ℕ) (c : ℕ) → AreMembers members all → all ≡ rest ++ c ∷ [] → IsReason pool members → others ≡ filter (λ id. not (id == c)) members → RulesOut pool rest c others
-hit_reason pool members rest all others c sub is dead e = record {
+-- a reason whose other members are choices rules a candidate out
+pub rules_out : (pool : SealedPool) (members others chosen : List ℕ) (c : ℕ) → AreMembersOr members c chosen → IsReason pool members → others ≡ filter (λ id. not (id == c)) members → RulesOut pool chosen c others
+rules_out pool members others chosen c or dead e = record {
   within = λ o h.
       let f = filter_sub c members o (subst (λ (z : List ℕ). IsIn o z) e h) in
-      elim (in_append o rest (c ∷ []) (subst (λ (z : List ℕ). IsIn o z) is (sub o f.0))) [
-        | inl a ↦ a
-        | inr b ↦ elim b [ inl q ↦ absurd (f.1 q) | inr bad ↦ absurd bad ]
-      ];
+      elim (or o f.0) [ inl q ↦ absurd (f.1 q) | inr a ↦ a ];
   dead = λ S closed inside. dead S closed (λ o h. elim (sub_filter c members o h) [
     | inl q ↦ inside o (inl q)
     | inr r ↦ inside o (inr (subst (λ (z : List ℕ). IsIn o z) (sym e) r))
   ]);
 }
+
+-- a choice that is to blame is skipped at its frame, with the rest of the blame
+pub hit_reason : (pool : SealedPool) (members rest all others : List ℕ) (c : ℕ) → AreMembers members all → all ≡ rest ++ c ∷ [] → IsReason pool members → others ≡ filter (λ id. not (id == c)) members → RulesOut pool rest c others
+hit_reason pool members rest all others c sub is dead e =
+    rules_out pool members others rest c (λ o h. elim (in_append o rest (c ∷ []) (subst (λ (z : List ℕ). IsIn o z) is (sub o h))) [
+      | inl a ↦ inr a
+      | inr b ↦ elim b [ inl q ↦ inl q | inr bad ↦ absurd bad ]
+    ]) dead e
 
 pub dead_empty : (pool : SealedPool) (members chosen : List ℕ) → AreMembers members chosen → chosen ≡ [] → IsReason pool members → IsReason pool []
 dead_empty pool members chosen sub is dead S closed inside =

@@ -7,8 +7,10 @@
 #![tactic(auto)]
 
 mod laws;
+mod learnt;
 mod search;
 mod selection;
+mod watches;
 
 pub use laws::{
     a_first_selection_exists, each_choice_is_the_best_that_can_be_completed,

@@ -8,13 +8,21 @@ ghost use Rattle.search_choices.specs.search_tables.Reasons.{AreCompatible, Fram
 ghost use Rattle.solve_core.specs.Measure.{weight_of};
 ghost use Rattle.search_choices.specs.Choices.{IsSearch, choices_of, pool_of};
 
+use crate::learnt::{LearntReasons, are_others_choices};
 use crate::selection::options_are_as_promised;
+use crate::watches::Watches;
 use dep_core::World;
 use search_choices::{
     CandId, CandidateSet, Choices, Frame, PackageMatches, RuledOutOption, Sealed, Trace,
 };
 use std::alloc::{AllocError, Global};
 use std::marker::Model;
+
+/// The most reasons that are learnt before all are forgotten.
+const MOST_REASONS: usize = 4096;
+
+/// The most members of a learnt reason.
+const MOST_MEMBERS: usize = 64;
 
 /// A decision of the search: the frame of a need that was met, and the choice that was taken from
 /// it.
@@ -71,6 +79,10 @@ pub(crate) struct Search<'p> {
     reason: CandidateSet,
     /// The remembered results for the long versions in dependencies of candidates.
     matches: PackageMatches<'p>,
+    /// The reasons that were learnt at dead ends.
+    learnt: LearntReasons<'p>,
+    /// Which learnt reasons to look at.
+    watches: Watches,
 }
 
 impl<'p> Search<'p> {
@@ -86,6 +98,7 @@ impl<'p> Search<'p> {
         ensures none { IfOk result (λ search. search.turns.items ≡ []) }
         ensures matches { IfOk result (λ search.
             AreMatchesAmong (pool_of search.chosen).candidates search.matches) }
+        ensures learnt { IfOk result (λ search. search.learnt ≡ pool_of search.chosen) }
     {
         let chosen = Choices::new(alloc, pool, world)?;
         let matches = PackageMatches::new(alloc, pool.packages());
@@ -96,6 +109,8 @@ impl<'p> Search<'p> {
             hints: Vec::new(alloc),
             reason: CandidateSet::new(alloc),
             matches,
+            learnt: LearntReasons::new(alloc, pool),
+            watches: Watches::new(alloc),
         })
     }
 
@@ -106,6 +121,7 @@ impl<'p> Search<'p> {
         ensures search { IsSearch self.new.chosen self.new.turns.items }
         ensures pool { pool_of self.new.chosen ≡ pool_of self.old.chosen }
         ensures turns { self.new.turns.items ≡ self.old.turns.items }
+        ensures learnt { self.new.learnt ≡ self.old.learnt }
         ensures matches { OnOk result
             (AreMatchesAmong (pool_of self.old.chosen).candidates self.new.matches) }
         // The options that are left are fewer than the base of the measure's digits (*base* of
@@ -135,6 +151,7 @@ impl<'p> Search<'p> {
         requires within { id < length (pool_of self.old.chosen).candidates }
         requires once { IsIn id (choices_of self.old.chosen) → ⊥ }
         requires matches { AreMatchesAmong (pool_of self.old.chosen).candidates self.old.matches }
+        requires learnt { self.old.learnt ≡ pool_of self.old.chosen }
         ensures found { IfOk result (λ found. MatchOption found ((other : ℕ) →
             IsIn other (choices_of self.old.chosen) →
             exclude_each_other (pool_of self.old.chosen) other id ≡ false)
@@ -142,12 +159,16 @@ impl<'p> Search<'p> {
             others.items)) }
         ensures chosen { self.new.chosen ≡ self.old.chosen }
         ensures turns { self.new.turns.items ≡ self.old.turns.items }
+        ensures learnt { self.new.learnt ≡ self.old.learnt }
         ensures matches { OnOk result
             (AreMatchesAmong (pool_of self.old.chosen).candidates self.new.matches) }
     {
         if let Some(others) = self.ruled_out_with(id) {
             let copy = Vec::from_slice(self.alloc, others)?;
             return Ok(Some(copy));
+        }
+        if let Some(others) = self.learnt_against(id)? {
+            return Ok(Some(others));
         }
         let found = self.chosen.excluder(id, &mut self.matches)?;
         match found {
@@ -188,6 +209,25 @@ impl<'p> Search<'p> {
         Some(ruled_out.others())
     }
 
+    // The other members of a learnt reason that rules an option out, if one is found.
+    fn learnt_against(&self, id: CandId) -> Result<Option<Vec<CandId>>, AllocError>
+        requires { self.now.learnt ≡ pool_of self.now.chosen }
+        ensures { IfOk result (λ found. IfSome found (λ others. RulesOut (pool_of self.now.chosen)
+            (choices_of self.now.chosen) id others.items)) }
+    {
+        let Some(index) = self.watches.against(id) else {
+            return Ok(None);
+        };
+        let Some(members) = self.learnt.members_at(index) else {
+            return Ok(None);
+        };
+        if are_others_choices(members, id, &self.chosen) {
+            let others = without(self.alloc, members, id)?;
+            return Ok(Some(others));
+        }
+        Ok(None)
+    }
+
     /// Takes options of a frame and rules them out, until one is compatible with all choices, which
     /// is returned; None if no option is left.
     pub(crate) fn next_option(&mut self, top: &mut Frame) -> Result<Option<CandId>, AllocError>
@@ -195,8 +235,10 @@ impl<'p> Search<'p> {
         requires open_now { IsFrameOf (pool_of self.old.chosen)
             (choices_of self.old.chosen) top.old }
         requires matches { AreMatchesAmong (pool_of self.old.chosen).candidates self.old.matches }
+        requires learnt { self.old.learnt ≡ pool_of self.old.chosen }
         ensures chosen { self.new.chosen ≡ self.old.chosen }
         ensures turns { self.new.turns.items ≡ self.old.turns.items }
+        ensures learnt { self.new.learnt ≡ self.old.learnt }
         ensures matches { OnOk result
             (AreMatchesAmong (pool_of self.old.chosen).candidates self.new.matches) }
         ensures found { IfOk result (λ found. MatchOption found (IsExhaustedFrame
@@ -237,8 +279,11 @@ impl<'p> Search<'p> {
         ensures turns { OnOk result (self.new.turns.items ≡ self.old.turns.items
             ++ (frame, choice) ∷ []) }
         ensures matches { self.new.matches ≡ self.old.matches }
+        ensures learnt { self.new.learnt ≡ self.old.learnt }
     {
         self.chosen.push(choice)?;
+        self.watches
+            .choose(choice, self.turns.len(), &self.learnt, &self.chosen)?;
         self.turns.push(Turn { frame, choice })?;
         Ok(())
     }
@@ -250,8 +295,10 @@ impl<'p> Search<'p> {
         requires search { IsSearch self.old.chosen self.old.turns.items }
         requires spent { IsExhaustedFrame (pool_of self.old.chosen) (choices_of self.old.chosen)
             spent }
+        requires learnt { self.old.learnt ≡ pool_of self.old.chosen }
         ensures pool { pool_of self.new.chosen ≡ pool_of self.old.chosen }
         ensures matches { self.new.matches ≡ self.old.matches }
+        ensures learnt { self.new.learnt ≡ self.old.learnt }
         ensures found { IfOk result (λ found. MatchOption found (IsReason
             (pool_of self.old.chosen) [])
             (λ frame. IsSearch self.new.chosen self.new.turns.items
@@ -264,6 +311,7 @@ impl<'p> Search<'p> {
         options_are_as_promised();
         let last = std::mem::replace(&mut self.reason, CandidateSet::new(self.alloc));
         self.reason = reason_of(last, &spent)?;
+        learn(self.reason.as_slice(), &mut self.learnt, &mut self.watches)?;
         self.step_back_for_reason()
     }
 
@@ -275,6 +323,7 @@ impl<'p> Search<'p> {
         requires dead { IsReason (pool_of self.old.chosen) self.old.reason }
         ensures pool { pool_of self.new.chosen ≡ pool_of self.old.chosen }
         ensures matches { self.new.matches ≡ self.old.matches }
+        ensures learnt { self.new.learnt ≡ self.old.learnt }
         ensures found { IfOk result (λ found. MatchOption found (IsReason
             (pool_of self.old.chosen) [])
             (λ frame. IsSearch self.new.chosen self.new.turns.items
@@ -289,7 +338,7 @@ impl<'p> Search<'p> {
             let Turn { mut frame, choice } = turn;
             // This is the latest choice of the reason: the others rule it out.
             if self.reason.has(choice) {
-                let others = without(self.alloc, &self.reason, choice)?;
+                let others = without(self.alloc, self.reason.as_slice(), choice)?;
                 let hint = Hint {
                     turn: self.turns.len(),
                     place: frame.ruled_out().len(),
@@ -328,12 +377,32 @@ fn reason_of(used: CandidateSet, spent: &Frame) -> Result<CandidateSet, AllocErr
     Ok(members)
 }
 
+// Learns a reason, unless it has too many members. If there are too many reasons, the others are
+// forgotten first: each rules out what it does whether the others are known or not.
+fn learn(
+    reason: &[CandId],
+    learnt: &mut LearntReasons<'_>,
+    watches: &mut Watches,
+) -> Result<(), AllocError>
+    requires { IsReason learnt.old reason.now }
+    ensures { learnt.new ≡ learnt.old }
+{
+    if reason.is_empty() || reason.len() > MOST_MEMBERS {
+        return Ok(());
+    }
+    if learnt.len() >= MOST_REASONS {
+        learnt.clear();
+        watches.clear();
+    }
+    learnt.push(reason)?;
+    watches.learn(reason)
+}
+
 // All members of a reason but one, which the others rule out.
-fn without(alloc: Global, members: &CandidateSet, choice: CandId) -> Result<Vec<CandId>, AllocError>
+fn without(alloc: Global, members: &[CandId], choice: CandId) -> Result<Vec<CandId>, AllocError>
     ensures { IfOk result (λ others. others.items ≡ filter (λ id. not (id == choice)) members.now) }
 {
     members
-        .as_slice()
         .iter()
         .copied()
         .filter(|id| *id != choice)

@@ -1,4 +1,5 @@
 use Rattle.std.proofs.Common.{◌≡◌, ◌<◌, ◌^◌, ◌∙◌, ◌∷◌, ◌++◌, [], ℕ, List, length, subst, sym, ap, refl, arith, append_assoc, append-nil}
+use Rattle.std.specs.Prelude.{not, filter, ◌==◌}
 use Rattle.search_choices.specs.candidate_core.Options.{IsIn}
 use Rattle.search_choices.specs.candidate_core.Rank.{SealedPool}
 use Rattle.search_choices.specs.Choices.{IsSearch, choices_of, pool_of}
@@ -14,6 +15,7 @@ pub loop-turn-init : goal.loop-turn-init
 loop-turn-init c = record {
   pool = refl;
   matches = refl;
+  learnt = refl;
   search = c.requires.search;
   front = ([], sym (append-nil c.args.self.now.turns.items));
   within = c.requires.within;
@@ -30,6 +32,7 @@ loop-turn-preserved c =
     record {
       pool = c.pop-in-Some.ensures.pool ∙ c.loop-turn.invariant.pool;
       matches = c.loop-turn.invariant.matches;
+      learnt = c.loop-turn.invariant.learnt;
       search = less.0;
       front = (turn ∷ c.loop-turn.invariant.front.0, c.loop-turn.invariant.front.1 ∙ (ap (λ (z : List (FrameValue × ℕ)). z ++ c.loop-turn.invariant.front.0) items ∙ append_assoc c.pop.new.self.items (turn ∷ []) c.loop-turn.invariant.front.0));
       within = jumped c.loop-turn.self.reason (choices_of c.pop-in-Some.new.self) (choices_of c.loop-turn.self.chosen) turn.1 c.loop-turn.invariant.within less.2 (λ h. out (subst (λ (z : ℕ). IsIn z c.loop-turn.self.reason) (sym choice) h));
@@ -45,7 +48,7 @@ returns-then-has-clause-found c =
     let less = searching_less c.loop-turn.self.chosen c.pop-in-Some.new.self c.pop.new.self.items turn.0 turn.1 (subst (λ (z : List (FrameValue × ℕ)). IsSearch c.loop-turn.self.chosen z) items c.loop-turn.invariant.search) c.pop-in-Some.ensures.consistent c.pop-in-Some.ensures.pool c.pop-in-Some.ensures.choices in
     let dead : IsReason pool c.loop-turn.self.reason = subst (λ (p : SealedPool). IsReason p c.loop-turn.self.reason) (sym c.pop-in-Some.ensures.pool) c.loop-turn.invariant.dead in
     let is = less.2 ∙ ap (λ (k : ℕ). rest ++ k ∷ []) (ap (λ (z : FrameValue × ℕ). z.1) (sym c.turn.view_is)) in
-    let reason = hit_reason pool c.loop-turn.self.reason rest (choices_of c.loop-turn.self.chosen) c.in_ok-others.others.items c.turn.inside.choice c.loop-turn.invariant.within is dead c.in_ok-others.ensures in
+    let reason = hit_reason pool c.loop-turn.self.reason rest (choices_of c.loop-turn.self.chosen) c.in_ok-others.others.items c.turn.inside.choice c.loop-turn.invariant.within is dead (c.in_ok-others.ensures ∙ ap (filter (λ id. not (id == c.turn.inside.choice))) c.as_slice.ensures) in
     let taken = subst (λ (z : FrameValue × ℕ). IsFrameTaking pool rest z.0 z.1) (sym c.turn.view_is) less.1 in
     (less.0, subst (λ (z : FrameValue). IsFrameOf pool rest z) (sym c.in_ok-rule_out.ensures) (passed_over pool rest c.turn.inside.frame c.turn.inside.choice c.in_ok-others.others.items taken reason))
 

@@ -1,0 +1,85 @@
+-- What `list`, `search` and `policy` print, in a reader's words. The rules are in `docs/commands.md`,
+-- "Queries", "`list`", "`search`" and "`policy`". Serves the laws of `src/queries.rt`.
+use Rattle.std.specs.Prelude.{ℕ, ◌≡◌, ◌⊎◌, ◌↔◌, suc, Bool, true, List, [], ◌++◌, Option, Some, is_some, slice_get}
+use Rattle.std.specs.List.{flat_map}
+use Rattle.std.specs.Option.{option_map_or}
+use Rattle.std.specs.Ordering.{nat_cmp}
+use Rattle.installed_info.specs.candidate_core.Candidates.{Candidate}
+use Rattle.installed_info.specs.candidate_core.Options.{IsIn}
+use Rattle.command_core.specs.declared.operands.Operand.{Operand}
+use Rattle.dep_core.specs.Repositories.{Repository}
+use Rattle.query_core.specs.Asked.{AreInOrderBy, IsNameAsked, IsNameOf, IsPartAsked}
+use Rattle.query_core.specs.Order.{printed_version, query_cmp}
+use Rattle.report_core.specs.QueryReports.{database_line, repository_line, version_heading}
+
+-- ---- `list` and `search`
+
+-- `list` is asked for a candidate: no pattern is given, or one of them matches its name; and it is
+-- installed, if only installed packages are asked for
+abbrev pub IsListAsked : List Operand → Bool → Candidate → Type 0
+IsListAsked patterns installed_only c =
+    ((patterns ≡ []) ⊎ IsNameAsked patterns c.name) × (installed_only ≡ true → c.installed ≡ true)
+
+-- `search` is asked for a candidate: it is of a repository, and a pattern matches a part of one of its
+-- names
+abbrev pub IsSearchAsked : List Operand → Candidate → Type 0
+IsSearchAsked patterns c =
+    (is_some c.repository ≡ true)
+    × ((name : List ℕ) × (IsNameOf c name × IsPartAsked patterns name))
+
+-- the line of the candidate at a place; nothing if there is none
+abbrev pub line_at : (Candidate → List ℕ) → List Candidate → ℕ → List ℕ
+line_at line candidates place = option_map_or line (slice_get candidates place) []
+
+-- a text has one line for each candidate that is asked for, and no other, in the order of queries
+pub record HasLinesOfAsked (IsAsked : Candidate → Type 0) (line : Candidate → List ℕ)
+    (candidates : List Candidate) (text : List ℕ) : Type 0 where
+  pub places : List ℕ
+  pub each : (place : ℕ) → IsIn place places
+      ↔ ((c : Candidate) × (slice_get candidates place ≡ Some c) × IsAsked c)
+  pub order : AreInOrderBy (query_cmp candidates) places
+  pub text_is : text ≡ flat_map (line_at line candidates) places
+
+-- ---- `policy`
+
+-- a candidate has this name of its own and this version
+pub record HasNameAndVersion (name : List ℕ) (version : Option (List ℕ)) (c : Candidate) : Type 0 where
+  pub named : c.name ≡ name
+  pub versioned : c.version ≡ version
+
+-- an installed candidate has this name and version
+pub record IsVersionInstalled (candidates : List Candidate) (name : List ℕ)
+    (version : Option (List ℕ)) : Type 0 where
+  pub candidate : Candidate
+  pub listed : IsIn candidate candidates
+  pub same : HasNameAndVersion name version candidate
+  pub installed : candidate.installed ≡ true
+
+-- a candidate of the repository with this number, counted from 1, has this name and version
+pub record IsVersionInRepository (candidates : List Candidate) (name : List ℕ)
+    (version : Option (List ℕ)) (number : ℕ) : Type 0 where
+  pub candidate : Candidate
+  pub listed : IsIn candidate candidates
+  pub same : HasNameAndVersion name version candidate
+  pub numbered : candidate.repository ≡ Some number
+
+-- the line of the repository at a place of the list, counted from 0; nothing if there is none
+abbrev pub repository_line_at : List Repository → ℕ → List ℕ
+repository_line_at repositories place =
+    option_map_or (λ (r : Repository). repository_line r.tag r.path) (slice_get repositories place) []
+
+-- A text has the heading of a version, then the line of the database if the version is installed, and
+-- then a line for each repository that has it, and no other, in the order of the list
+pub record HasPlacesOfVersion (candidates : List Candidate) (repositories : List Repository)
+    (name : List ℕ) (version : Option (List ℕ)) (text : List ℕ) : Type 0 where
+  pub database : List ℕ
+  pub database_is : ((database ≡ database_line) × IsVersionInstalled candidates name version)
+      ⊎ ((database ≡ []) × (IsVersionInstalled candidates name version → ⊥))
+  pub places : List ℕ
+  pub each : (place : ℕ) → IsIn place places
+      ↔ ((is_some (slice_get repositories place) ≡ true)
+      × IsVersionInRepository candidates name version (suc place))
+  pub order : AreInOrderBy nat_cmp places
+  pub text_is : text
+      ≡ version_heading (printed_version version) ++ database
+      ++ flat_map (repository_line_at repositories) places

@@ -1,0 +1,56 @@
+//! What `list`, `search` and `policy` print.
+//! The rules are in `docs/commands.md`, "Queries", "`list`", "`search`" and "`policy`".
+
+ghost use Rattle.std.specs.Prelude.{ℕ, ◌≡◌, ◌++◌, Bool, List, Option};
+ghost use Rattle.std.specs.List.{flat_map};
+ghost use Rattle.answer_laws.specs.QueryLines.{HasLinesOfAsked, HasPlacesOfVersion, IsListAsked, IsSearchAsked};
+ghost use Rattle.command_core.specs.declared.operands.Operand.{Operand};
+ghost use Rattle.dep_core.specs.Repositories.{Repository};
+ghost use Rattle.installed_info.specs.candidate_core.Candidates.{Candidate};
+ghost use Rattle.query_core.specs.List.{candidate_line, list_report};
+ghost use Rattle.query_core.specs.Order.{printed_version};
+ghost use Rattle.query_core.specs.Policy.{policy_report, version_policy, versions_of_name};
+ghost use Rattle.query_core.specs.Search.{search_report};
+ghost use Rattle.report_core.specs.QueryReports.{policy_heading, search_line};
+
+use query_core::{
+    a_query_selects_what_passes_its_test, list_prints_what_is_asked_for,
+    search_prints_what_is_asked_for,
+};
+
+/// `list` prints a line for each candidate that is asked for, and no other, in the order of queries.
+pub fn list_prints_a_line_for_each_candidate_that_is_asked_for()
+    ensures { (candidates : List Candidate) (patterns : List Operand) (installed_only : Bool)
+        → HasLinesOfAsked (IsListAsked patterns installed_only) candidate_line candidates
+        (list_report candidates patterns installed_only) }
+{
+    a_query_selects_what_passes_its_test();
+    list_prints_what_is_asked_for();
+}
+
+/// `search` prints name and version of each candidate that is asked for, and of no other, in the
+/// order of queries.
+pub fn search_prints_a_line_for_each_candidate_that_is_asked_for()
+    ensures { (candidates : List Candidate) (patterns : List Operand)
+        → HasLinesOfAsked (IsSearchAsked patterns)
+        (λ (c : Candidate). search_line c.name (printed_version c.version)) candidates
+        (search_report candidates patterns) }
+{
+    a_query_selects_what_passes_its_test();
+    search_prints_what_is_asked_for();
+}
+
+/// `policy` prints a heading for each name, in the order given, and below it each version of the
+/// name. Below a version it prints the line of the database if the version is installed. Then it
+/// prints a line for each repository that has the version, in the order of the repositories.
+pub fn policy_prints_where_each_version_is()
+    ensures names { (candidates : List Candidate) (repositories : List Repository)
+        (names : List Operand) → policy_report candidates repositories names
+        ≡ flat_map (λ (o : Operand). policy_heading o.text
+        ++ flat_map (version_policy candidates repositories o.text)
+        (versions_of_name candidates o.text)) names }
+    ensures places { (candidates : List Candidate) (repositories : List Repository)
+        (name : List ℕ) (version : Option (List ℕ))
+        → HasPlacesOfVersion candidates repositories name version
+        (version_policy candidates repositories name version) }
+{}

@@ -1,0 +1,182 @@
+-- Why `adbdump` refuses a file.
+use Rattle.std.proofs.Common.{ℕ, ◌≡◌, ◌↔◌, inl, inr, ◌∙◌, zero, suc, ◌<◌, true, List, [], ◌∷◌, Option, Some, None, Result, Ok, Err, refl, ap, sym, arith}
+use Rattle.std.specs.Prelude.{is_some, slice_get}
+use Rattle.std.specs.Option.{option_or}
+use Rattle.adb_block.specs.Header.{header_of}
+use Rattle.adb_block.specs.Reading.{Reading, done, fault, more, reading_of}
+use Rattle.adb_block.specs.ReaderPosition.{start_of}
+use Rattle.adb_view.specs.Head.{head_fault, root_of}
+use Rattle.adb_view.specs.Schema.{shape_of}
+use Rattle.adb_view.specs.Walk.{shape_fault}
+use Rattle.adb_view.specs.declared.tables.Kind.TheVariants.{Obj}
+use Rattle.adb_view.specs.declared.tables.Which.{Which}
+use Rattle.base_core.specs.Files.{Files}
+use Rattle.base_core.specs.declared.cause.Cause.{Cause}
+use Rattle.base_core.specs.declared.cause.Cause.TheVariants.{WrongSchema}
+use Rattle.command_core.specs.Files.{without_dot}
+use Rattle.command_core.specs.declared.operands.Operand.{Operand}
+use Rattle.container_laws.specs.TestsInOrder.{IsFirstFailing}
+use Rattle.container_laws.specs.adb_schema.Soundness.{first_payload, root_value}
+use Rattle.container_laws.specs.pkg_core.Whole.{root_of_schema}
+use Rattle.outcome.specs.Dump.{adbdump, dump_fault, dump_of, dump_outcome, dump_with_root, dump_with_schema, framing_fault, or_text, text_outcome}
+use Rattle.outcome.specs.adb_dump.Dump.{dump_text}
+use Rattle.outcome.specs.make_info.Reads.{Reads}
+use Rattle.outcome_laws.specs.DumpedFiles.{IsDumpFault, IsFaultOfPrinted}
+use Rattle.report_core.specs.declared.refusal.Refusal.{Refusal}
+use Rattle.report_core.specs.declared.refusal.Refusal.TheVariants.{FileBad}
+
+-- ---- three tests, one after the other
+
+first_of : (a b d : Option Cause) (c : Cause) → option_or (option_or a b) d ≡ Some c → IsFirstFailing (a ∷ (b ∷ (d ∷ []))) c
+first_of (Some x) b d c e =
+    let same : x ≡ c = cc (e) in
+    record { place = 0; fails = ap (λ (y : Cause). Some (Some y)) same; before = λ j lt. absurd (omega arith) }
+first_of None (Some x) d c e =
+    let same : x ≡ c = cc (e) in
+    record { place = 1; fails = ap (λ (y : Cause). Some (Some y)) same; before = before_second }
+  where
+    before_second : (j : ℕ) → j < 1 → slice_get (None ∷ (Some x ∷ (d ∷ []))) j ≡ Some None
+    before_second zero lt = refl
+    before_second (suc j) lt = absurd (omega arith)
+first_of None None (Some x) c e =
+    let same : x ≡ c = cc (e) in
+    record { place = 2; fails = ap (λ (y : Cause). Some (Some y)) same; before = before_third }
+  where
+    before_third : (j : ℕ) → j < 2 → slice_get (None ∷ (None ∷ (Some x ∷ []))) j ≡ Some None
+    before_third zero lt = refl
+    before_third (suc zero) lt = refl
+    before_third (suc (suc j)) lt = absurd (omega arith)
+first_of None None None c e = absurd (cc (e))
+
+failing : (a b d : Option Cause) (c : Cause) → IsFirstFailing (a ∷ (b ∷ (d ∷ []))) c → option_or (option_or a b) d ≡ Some c
+failing a b d c f = go f.place f.fails f.before
+  where
+    go : (p : ℕ) → slice_get (a ∷ (b ∷ (d ∷ []))) p ≡ Some (Some c) → ((j : ℕ) → j < p → slice_get (a ∷ (b ∷ (d ∷ []))) j ≡ Some None)
+        → option_or (option_or a b) d ≡ Some c
+    go zero is before =
+        let first : a ≡ Some c = cc (is) in
+        ap (λ (o : Option Cause). option_or (option_or o b) d) first
+    go (suc zero) is before =
+        let earlier = before 0 (omega arith) in
+        let first : a ≡ None = cc (earlier) in
+        let second : b ≡ Some c = cc (is) in
+        ap (λ (o : Option Cause). option_or (option_or o b) d) first ∙ ap (λ (o : Option Cause). option_or o d) second
+    go (suc (suc zero)) is before =
+        let earlier = before 0 (omega arith) in
+        let later = before 1 (omega arith) in
+        let first : a ≡ None = cc (earlier) in
+        let second : b ≡ None = cc (later) in
+        let third : d ≡ Some c = cc (is) in
+        ap (λ (o : Option Cause). option_or (option_or o b) d) first ∙ ap (λ (o : Option Cause). option_or o d) second ∙ third
+    go (suc (suc (suc p))) is before = absurd (cc (is))
+
+-- ---- the blocks
+
+blocks_told : (which : Which) (r : Reading) (c : Cause) → dump_fault which r ≡ Some c → IsFaultOfPrinted which r c
+blocks_told which done c e = absurd (cc (e))
+blocks_told which (fault d) c e = let same : d ≡ c = cc (e) in inl (ap fault same)
+blocks_told which (more b at r) c e =
+    inr (b, at, r, refl, first_of (head_fault b.payload) (shape_fault b.payload (shape_of (Obj which)) (root_of b.payload)) (framing_fault r) c e)
+
+blocks_refused : (which : Which) (r : Reading) (c : Cause) → IsFaultOfPrinted which r c → dump_fault which r ≡ Some c
+blocks_refused which r c f =
+    elim f [
+      | inl e ↦ ap (dump_fault which) e
+      | inr f ↦
+          let (b, at, behind, e, first) = f in
+          ap (dump_fault which) e
+          ∙ failing (head_fault b.payload) (shape_fault b.payload (shape_of (Obj which)) (root_of b.payload)) (framing_fault behind) c first
+    ]
+
+-- ---- the file
+
+no_text : (o : Option Cause) (text : List ℕ) (c : Cause) → or_text o text ≡ Err c → o ≡ Some c
+no_text None text c e = absurd (cc (e))
+no_text (Some d) text c e = let same : d ≡ c = cc (e) in ap Some same
+
+by_root : (file : List ℕ) (c : Cause) (schema : ℕ) (root : Option Which) → header_of file ≡ Ok schema → root_of_schema schema ≡ root
+    → dump_with_root schema (reading_of (start_of schema file)) root ≡ Err c → IsDumpFault file c
+by_root file c schema None header root e =
+    let same : WrongSchema schema ≡ c = cc (e) in
+    inr (schema, header, inl (root, sym same))
+by_root file c schema (Some which) header root e =
+    let r = reading_of (start_of schema file) in
+    inr (schema, header, inr (which, root, blocks_told which r c (no_text (dump_fault which r) (dump_text which (root_value which (first_payload r))) c e)))
+
+by_header : (file : List ℕ) (c : Cause) (h : Result ℕ Cause) → header_of file ≡ h → dump_with_schema file h ≡ Err c → IsDumpFault file c
+by_header file c (Err d) header e =
+    let same : d ≡ c = cc (e) in
+    inl (header ∙ ap Err same)
+by_header file c (Ok schema) header e = by_root file c schema (root_of_schema schema) header refl e
+
+fault_told : (file : List ℕ) (c : Cause) → dump_of file ≡ Err c → IsDumpFault file c
+unfolding dump_of
+fault_told file c e = by_header file c (header_of file) refl e
+
+file_refused : (file : List ℕ) (c : Cause) → IsDumpFault file c → dump_of file ≡ Err c
+unfolding dump_of
+file_refused file c f =
+    elim f [
+      | inl e ↦ ap (dump_with_schema file) e
+      | inr f ↦
+          let (schema, header, rest) = f in
+          ap (dump_with_schema file) header
+          ∙ elim rest [
+            | inl x ↦ ap (dump_with_root schema (reading_of (start_of schema file))) x.0 ∙ ap Err (sym x.1)
+            | inr x ↦
+                let (which, root, blocks) = x in
+                let r = reading_of (start_of schema file) in
+                ap (dump_with_root schema r) root
+                ∙ ap (λ (o : Option Cause). or_text o (dump_text which (root_value which (first_payload r)))) (blocks_refused which r c blocks)
+          ]
+    ]
+
+-- ---- the outcome
+
+refused_by : (files : Files) (place : ℕ) (r : Result (List ℕ) Cause) (c : Cause) → (text_outcome files place r).refusal ≡ Some (FileBad place c) → r ≡ Err c
+refused_by files place (Ok text) c e = absurd (cc (e))
+refused_by files place (Err d) c e = let same : d ≡ c = cc (e) in ap Err same
+
+of_found : (read : Reads) (files : Files) (o : Operand) (file : List ℕ) → read 0 (without_dot o.text) ≡ Some file
+    → (adbdump read files (o ∷ [])).refusal ≡ (text_outcome files o.place (dump_of file)).refusal
+of_found read files o file found = ap (λ (f : Option (List ℕ)). (dump_outcome files o.place f).refusal) found
+
+pub fault_refused : (read : Reads) (files : Files) (o : Operand) (file : List ℕ) (c : Cause) → read 0 (without_dot o.text) ≡ Some file
+    → ((adbdump read files (o ∷ [])).refusal ≡ Some (FileBad o.place c)) ↔ IsDumpFault file c
+fault_refused read files o file c found =
+    let same = of_found read files o file found in (
+      λ e. fault_told file c (refused_by files o.place (dump_of file) c (sym same ∙ e)),
+      λ f. same ∙ ap (λ (r : Result (List ℕ) Cause). (text_outcome files o.place r).refusal) (file_refused file c f),
+    )
+
+cause_of : (files : Files) (place : ℕ) (r : Result (List ℕ) Cause) (refusal : Refusal) → (text_outcome files place r).refusal ≡ Some refusal
+    → (c : Cause) × (refusal ≡ FileBad place c)
+cause_of files place (Ok text) refusal e = absurd (cc (e))
+cause_of files place (Err d) refusal e = let same : FileBad place d ≡ refusal = cc (e) in (d, sym same)
+
+pub only_faults : (read : Reads) (files : Files) (o : Operand) (file : List ℕ) (refusal : Refusal) → read 0 (without_dot o.text) ≡ Some file
+    → (adbdump read files (o ∷ [])).refusal ≡ Some refusal → (c : Cause) × (refusal ≡ FileBad o.place c)
+only_faults read files o file refusal found e =
+    cause_of files o.place (dump_of file) refusal (sym (of_found read files o file found) ∙ e)
+
+silent_by : (files : Files) (place : ℕ) (r : Result (List ℕ) Cause) → is_some (text_outcome files place r).refusal ≡ true → (text_outcome files place r).out ≡ []
+silent_by files place (Ok text) e = absurd (cc (e))
+silent_by files place (Err d) e = refl
+
+silent_found : (files : Files) (place : ℕ) (f : Option (List ℕ)) → is_some (dump_outcome files place f).refusal ≡ true → (dump_outcome files place f).out ≡ []
+silent_found files place None e = refl
+silent_found files place (Some file) e = silent_by files place (dump_of file) e
+
+pub refused_silently : (read : Reads) (files : Files) (o : Operand) → is_some (adbdump read files (o ∷ [])).refusal ≡ true → (adbdump read files (o ∷ [])).out ≡ []
+refused_silently read files o e = silent_found files o.place (read 0 (without_dot o.text)) e
+
+same_by : (files : Files) (place : ℕ) (r : Result (List ℕ) Cause) → (text_outcome files place r).files ≡ files
+same_by files place (Ok text) = refl
+same_by files place (Err d) = refl
+
+same_found : (files : Files) (place : ℕ) (f : Option (List ℕ)) → (dump_outcome files place f).files ≡ files
+same_found files place None = refl
+same_found files place (Some file) = same_by files place (dump_of file)
+
+pub files_kept : (read : Reads) (files : Files) (o : Operand) → (adbdump read files (o ∷ [])).files ≡ files
+files_kept read files o = same_found files o.place (read 0 (without_dot o.text))

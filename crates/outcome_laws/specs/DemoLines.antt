@@ -1,0 +1,23 @@
+-- What `demo` adds and prints. The rules are in `docs/commands.md`, "`demo N`". Serves the laws of
+-- `src/demo.rt`.
+use Rattle.std.specs.Prelude.{ℕ, ◌≡◌, ◌⊎◌, ◌≤◌, ◌/◌, false, List, [], ◌++◌, codes}
+use Rattle.std.specs.List.{list_any}
+use Rattle.dep_core.specs.World.{is_line_end}
+use Rattle.outcome.specs.demo_lines.Lines.{demo_name}
+
+-- a text has no line end
+abbrev pub IsOneLine : List ℕ → Type 0
+IsOneLine text = list_any is_line_end text ≡ false
+
+-- a text consists of whole lines, or is empty
+abbrev pub AreWholeLines : List ℕ → Type 0
+AreWholeLines text = (text ≡ []) ⊎ ((before : List ℕ) × (text ≡ before ++ codes "\n"))
+
+-- the name is that of one of n packages, on which no other of them depends: from the second on, each
+-- depends on the package of half its number, rounded down
+pub record IsNeededByNone (n : ℕ) (name : List ℕ) : Type 0 where
+  pub number : ℕ
+  pub least : 1 ≤ number
+  pub most : number ≤ n
+  pub named : name ≡ demo_name number
+  pub none : (j : ℕ) → 2 ≤ j → j ≤ n → j / 2 ≡ number → ⊥

@@ -1,0 +1,30 @@
+//! What `demo` adds and prints.
+//! The rules are in `docs/commands.md`, "`demo N`".
+
+ghost use Rattle.std.specs.Prelude.{ℕ, ◌≡◌, ◌↔◌, ◌<◌, ◌^◌, ◌∷◌, ◌++◌, [], List, codes};
+ghost use Rattle.std.specs.Fmt.{decimal};
+ghost use Rattle.base_core.specs.Lists.{IsIn};
+ghost use Rattle.command_core.specs.declared.operands.Operand.{Operand};
+ghost use Rattle.outcome.specs.demo_lines.Count.{demo_count};
+ghost use Rattle.outcome.specs.demo_lines.Lines.{top_names};
+ghost use Rattle.outcome.specs.demo_lines.Report.{demo_line};
+ghost use Rattle.outcome_laws.specs.DemoLines.{AreWholeLines, IsNeededByNone, IsOneLine};
+ghost use Rattle.report_core.specs.Reports.{report_line};
+
+/// `demo` prints one line: `demo N: ` and the last line of a report, whatever whole lines precede
+/// it.
+pub fn demo_prints_the_last_line_of_a_report()
+    ensures { (n : ℕ) (front line : List ℕ) → AreWholeLines front → IsOneLine line
+        → demo_line n (front ++ report_line line)
+        ≡ report_line (codes "demo " ++ decimal n ++ codes ": " ++ line) }
+{}
+
+/// The number of packages is that of the operand.
+pub fn demo_makes_as_many_packages_as_its_operand_says()
+    ensures { (n : ℕ) (o : Operand) → n < 2 ^ 64 → o.text ≡ decimal n → demo_count (o ∷ []) ≡ n }
+{}
+
+/// Of n packages exactly those are added on which no other one depends.
+pub fn demo_adds_the_packages_on_which_no_other_depends()
+    ensures { (n : ℕ) (name : List ℕ) → IsIn name (top_names n n) ↔ IsNeededByNone n name }
+{}

@@ -1,0 +1,11 @@
+//! The lines of failures, which no row can show in full.
+//! The rules are in `docs/commands.md`, "Answers and statuses".
+
+ghost use Rattle.std.specs.Prelude.{◌≡◌, codes};
+ghost use Rattle.report_core.specs.Texts.{memory_line, tree_line};
+
+/// A failure of the tree, and out of memory, have a line of their own each.
+pub fn each_failure_has_its_line()
+    ensures tree { tree_line ≡ codes "ERROR: the tree failed\n" }
+    ensures memory { memory_line ≡ codes "ERROR: out of memory\n" }
+{}
