@@ -4,8 +4,7 @@
 
 ghost use Rattle.engine_core.specs.ChangeRun.{IsChangeRun};
 ghost use Rattle.engine_core.specs.Runs.{IsRunCounted};
-ghost use Rattle.engine_core.specs.SelectionSeen.{HasItsDatabase, replacement_seen};
-ghost use Rattle.engine_core.specs.Wishes.{names_to_remove};
+ghost use Rattle.engine_core.specs.SelectionSeen.{HasItsDatabase, replacement_seen, wishes_of_selection};
 ghost use Rattle.journal_staging.specs.journal_commit.Asked.{TargetsAreAccepted};
 ghost use Rattle.std.specs.Prelude.{◌≡◌, IfOk};
 ghost use Rattle.change_report.specs.package_changes.Report.{simulated_report};
@@ -56,19 +55,19 @@ pub fn change<T: Tree>(alloc: Global, command: &Command, tree: &mut T) -> Result
     let upgraded = names_of_upgrade(alloc, command)?;
     let selection = choose(alloc, command, &upgraded, &loaded)?;
     if command.flags().simulate {
-        let report = simulate(alloc, command, &selection)?;
+        let report = simulate(alloc, &selection)?;
         return Ok(report);
     }
-    make_change(alloc, command, &selection, tree)
+    make_change(alloc, &selection, tree)
 }
 
 // Reports what would change, as `--simulate` asks for it.
-fn simulate(alloc: Global, command: &Command, selection: &Selection<'_>) -> Result<Text, AllocError>
+fn simulate(alloc: Global, selection: &Selection<'_>) -> Result<Text, AllocError>
     requires { HasItsDatabase selection.now }
     ensures { IfOk result (λ report. report ≡ simulated_report (replacement_seen selection.now)
-        (names_to_remove command.now.applet command.now.operands)) }
+        (wishes_of_selection selection.now).to_remove) }
 {
-    let to_remove = names_to_remove(alloc, command)?;
+    let to_remove = names_to_remove(alloc, selection.command)?;
     let Selection {
         db,
         pool,
