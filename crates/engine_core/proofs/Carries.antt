@@ -1,9 +1,10 @@
 -- What a change comes to that is carried through.
 use Rattle.std.proofs.Common.{◌≡◌, inl, inr, ◌∙◌, ◌<◌, ◌^◌, ◌+◌, ℕ, zero, suc, arith, Bool, true, false, List, [], ◌∷◌, ◌++◌, length, map, All, Contains, Option, Some, None, Result, Ok, Err, refl, sym, ap, subst, true≢false, Bor}
-use Rattle.std.specs.Prelude.{not, is_some, slice_get}
+use Rattle.std.specs.Prelude.{◌==◌, ◌||◌, not, is_some, slice_get}
+use Rattle.std.proofs.lemmas.Bool.{ne_eqb}
 use Rattle.std.specs.Option.{option_copied}
 use Rattle.std.specs.Str.{bytes_eq}
-use Rattle.added_packages.specs.adb_write.Canonical.{PayloadCounts, overflow_of}
+use Rattle.added_packages.specs.adb_write.Canonical.{PayloadCounts, counts_after_values, overflow_of}
 use Rattle.journal_staging.specs.adb_schema.Reserved.{is_reserved}
 use Rattle.base_core.specs.Listed.{IsRising}
 use Rattle.base_core.specs.Name.{IsName}
@@ -68,7 +69,6 @@ use Rattle.engine_core.specs.declared.rendering.NewRecords.{NewRecords}
 use Rattle.engine_core.specs.declared.rendering.Rendered.{Rendered}
 use Rattle.engine_core.specs.declared.writes.RecordWrites.{RecordWrites}
 use Rattle.engine_core.proofs.Early.{comes_to_failure, comes_to_idle, comes_to_refusal, if_told, nothing_read}
-use Rattle.added_packages.specs.Arrivals.{IsFileOfMember}
 use Rattle.engine_core.proofs.Sources.{FilesAreRead, all_at, all_stand}
 use Rattle.engine_core.proofs.SpoiledPackages.{found_spoiled}
 
@@ -463,12 +463,20 @@ not_idle removals writes gone wrote idle b gone_is wrote_is is by =
     twice true = refl
     twice false = refl
 
+some_length : (name : List ℕ) (names : List (List ℕ)) → (length (name ∷ names) == 0) ≡ false
+some_length name names = ne_eqb (length (name ∷ names)) 0 (λ e. absurd (omega arith))
+
 -- that of a change that does nothing would fit
 pub idle_fits : (removals writes : List (List ℕ)) → does_something (record { removals = removals; writes = writes }) ≡ false
     → unless_overflow (overflow_of (value_of_intent (intent_of_lists removals writes))) true ≡ Ok true
+unfolding counts_after_values
 idle_fits [] [] is = refl
-idle_fits (name ∷ removals) writes is = absurd (true≢false is)
-idle_fits [] (name ∷ writes) is = absurd (true≢false is)
+idle_fits (name ∷ removals) writes is =
+    let some : does_something (record { removals = name ∷ removals; writes = writes }) ≡ true = ap (λ (b : Bool). not b || not (length writes == 0)) (some_length name removals) in
+    absurd (true≢false (sym some ∙ is))
+idle_fits [] (name ∷ writes) is =
+    let some : does_something (record { removals = []; writes = name ∷ writes }) ≡ true = ap (λ (b : Bool). not b) (some_length name writes) in
+    absurd (true≢false (sym some ∙ is))
 
 -- ---- a rendered change is committed
 
@@ -509,12 +517,12 @@ module _ (history : List TreeState) (p : Plan) (r : Rendered) (ready : IsReadyTo
       within_length _ member coming.0 coming.1
 
   -- the stage is carried out
-  module _ (law : (place : ℕ) (pkg : TestedPackage) → package_at p.packages.now.arrivals place ≡ Some pkg → IsFileOfMember history ready.found place pkg)
+  module _ (law : FilesAreRead history ready.found (package_at p.packages.now.arrivals))
       (stage : Staging) (staged : r.stage ≡ Some stage) (few : action_count stage.intent < 2 ^ 63) (ws : List StagedWrite) (ws_is : ws ≡ r.writes.items) (now : List TreeState) (before after : Counts) (res : Result (Unit {0}) StageFault)
       (run : IfObservable history (λ v. (contents : List (List ℕ)) → v.names intent_name ≡ None → IsEmptyStage (files_of v) → EachDenotes (files_of v) ws contents
-          → IsCarriedTo {A = Unit {0}} (after_actions stage.intent (with_staged 1 contents (files_of v))) v history now res))
+      → IsCarriedTo {A = Unit {0}} (after_actions stage.intent (with_staged 1 contents (files_of v))) v history now res))
       (proper : IfObservable history (λ v. (contents : List (List ℕ)) → v.names intent_name ≡ None → IsEmptyStage (files_of v) → EachDenotes (files_of v) ws contents → AreJournalPathsFree (files_of v)
-          → AreJournalPathsFree (after_actions stage.intent (with_staged 1 contents (files_of v))) → after.misuses ≡ before.misuses)) where
+      → AreJournalPathsFree (after_actions stage.intent (with_staged 1 contents (files_of v))) → after.misuses ≡ before.misuses)) where
     of_stage : (does_something (record { removals = removals_of_plan p; writes = map write_name r.writes.items }) ≡ true) × (stage ≡ new_stage (removals_of_plan p) (map write_name r.writes.items))
     of_stage = stage_of r.stage stage (removals_of_plan p) (map write_name r.writes.items) staged ready.rendered.stage
 
@@ -553,6 +561,14 @@ module _ (history : List TreeState) (p : Plan) (r : Rendered) (ready : IsReadyTo
         (subst (λ (x : Result (Unit {0}) StageFault). IfObservable history (λ v. v.names intent_name ≡ None → IsEmptyStage (files_of v) → IsCarriedTo {A = Unit {0}} (result_of_ready ready).files v history now x)) is carried)
         refused bad)
 
+-- a journal entry that is too large is refused
+entry_refused : (packages : Result (List MemberFound) Refusal) (overflow : Option PayloadCounts) (done : ChangeDone) (history : List TreeState) (counts : Counts) (fault : Refused)
+    → Agrees {A = Bool} {B = Bool} (λ _. true) (Err fault) (unless_overflow overflow true) → CarriesOut packages (unless_overflow overflow done) history history counts counts (Err fault)
+entry_refused packages overflow done history counts (IsRefused refusal) told =
+    comes_to_refusal packages (unless_overflow overflow done) history history counts counts (nothing_read history counts) refusal (too_large overflow done refusal told)
+entry_refused packages overflow done history counts Disk told = absurd told
+entry_refused packages overflow done history counts Memory told = comes_to_failure packages (unless_overflow overflow done) history history counts counts (nothing_read history counts) Memory tt
+
 -- ---- what is left after the tests of a plan
 
 module _ (history : List TreeState) (p : Plan) (found : List MemberFound) (files : Files) (plan : IsPlanned history p found files) where
@@ -575,16 +591,10 @@ module _ (history : List TreeState) (p : Plan) (found : List MemberFound) (files
     pub large_entry : (counts : Counts) (fault : Refused) → IsOverflowOf p records fault
         → CarriesOut (Ok found) (unless_too_large (inputs_of_plan p) (replacement_of_plan p) (wishes_of_plan p) found files) history history counts counts (Err fault)
     large_entry counts fault large =
-        subst (λ (w : Result ChangeDone Refusal). CarriesOut (Ok found) w history history counts counts (Err fault)) (sym made_database) (by fault (large history found files plan))
-      where
-        abbrev overflow : Option PayloadCounts
-        overflow = overflow_of (value_of_intent (actions_of (inputs_of_plan p) (file_change (inputs_of_plan p) (wishes_of_plan p) found) files (new_records (inputs_of_plan p) records.database.items)))
-
-        by : (fault : Refused) → Agrees {A = Bool} {B = Bool} (λ _. true) (Err fault) (unless_overflow overflow true)
-            → CarriesOut (Ok found) (ready_change (inputs_of_plan p) (replacement_of_plan p) (wishes_of_plan p) found files records.database.items) history history counts counts (Err fault)
-        by (IsRefused refusal) is = comes_to_refusal (Ok found) _ history history counts counts (nothing_read history counts) refusal (too_large overflow _ refusal is)
-        by Disk is = absurd is
-        by Memory is = comes_to_failure (Ok found) _ history history counts counts (nothing_read history counts) Memory tt
+        subst (λ (w : Result ChangeDone Refusal). CarriesOut (Ok found) w history history counts counts (Err fault)) (sym made_database)
+        (entry_refused (Ok found)
+        (overflow_of (value_of_intent (actions_of (inputs_of_plan p) (file_change (inputs_of_plan p) (wishes_of_plan p) found) files (new_records (inputs_of_plan p) records.database.items))))
+        (change_done (inputs_of_plan p) (replacement_of_plan p) (wishes_of_plan p) found files (new_records (inputs_of_plan p) records.database.items)) history counts fault (large history found files plan))
 
     -- the journal entry fits
     pub entry_fits : (own : AreRecordsOf (inputs_of_plan p) records) (r : Rendered) → IsRendered p records r

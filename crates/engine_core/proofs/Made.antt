@@ -233,9 +233,9 @@ module _ (law : HaveMembers) (old mid : List TreeState) (before between : Counts
 
 -- a part that agrees with a definition does not end by an I/O error
 pub no_disk : {A B : Type 0} (view : A → B) (wanted : Result B Refusal) (fault : Refused) → Agrees view (Err fault) wanted → fault ≡ Disk → ⊥
-no_disk view wanted (IsRefused refusal) told is = absurd (cc)
+no_disk view wanted (IsRefused refusal) told is = cc
 no_disk view wanted Disk told is = told
-no_disk view wanted Memory told is = absurd (cc)
+no_disk view wanted Memory told is = cc
 
 pub untriggered : HaveMembers → (old mid : List TreeState) (before between : Counts) → IsOnlyRead old mid before between → (p : Plan) → IsPlanFrom old (wishes_of_plan p).purge p.packages.now.selection.now.db p.members p.files
     → members_of p.members ≡ members_read (packages_of p.packages.now.selection.now.db) (arrivals_seen p.packages.now.arrivals) → (found : List MemberFound) → HasReadArrivals old p.packages.now found

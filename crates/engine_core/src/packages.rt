@@ -53,22 +53,21 @@ pub(crate) fn read_packages<'r, 'a, T: Tree>(
         (T.counts tree.old) (T.counts tree.new) result }
 {
     let Selection {
-        command,
-        loaded,
         db,
         pool,
         trace,
         again,
+        ..
     } = selection;
     let names = PlacedNames::of(alloc, db, pool, trace, again)?;
-    let no_scripts = command.flags().no_scripts;
+    let no_scripts = selection.command.flags().no_scripts;
     let arrivals = read_arrivals(
         alloc,
         tree,
         db,
         pool,
         &names,
-        loaded.repositories(),
+        selection.loaded.repositories(),
         no_scripts,
     )?;
     Ok(ReadPackages {

@@ -16,7 +16,6 @@ ghost use Rattle.engine_core.specs.Preparing.{AreFoundBy, IsPlanOfPackages, inpu
 ghost use Rattle.engine_core.specs.Runs.{IsFoundRun};
 ghost use Rattle.std.specs.Prelude.{◌≡◌, ◌<◌, true, Err, IfErr, IfOk, List, length};
 
-use crate::choosing::Selection;
 use crate::packages::ReadPackages;
 use added_packages::{members_of_change, packages_that_were_read_are_those_found};
 use base_core::{Text, Tree};
@@ -66,10 +65,10 @@ pub(crate) fn plan_change<'r, 'a, T: Tree>(
     // Laws that the proof needs; they have no effect at run time.
     a_change_has_a_first_clash_or_none();
     packages_that_were_read_are_those_found();
-    let Selection { command, db, .. } = packages.selection;
-    let flags = command.flags();
-    let members = members_of_change(alloc, db, &packages.arrivals)?;
-    let files = plan_files(alloc, flags.purge, db, &members, tree)?;
+    let selection = packages.selection;
+    let flags = selection.command.flags();
+    let members = members_of_change(alloc, &selection.db, &packages.arrivals)?;
+    let files = plan_files(alloc, flags.purge, &selection.db, &members, tree)?;
     test_triggers(alloc, flags.no_scripts, &members, &files)?;
     Ok(Plan {
         packages,

@@ -16,7 +16,7 @@ ghost use Rattle.engine_core.specs.Preparing.{AreRecordWrites, AreRecordsOf, Has
 ghost use Rattle.engine_core.specs.Rendering.{AreWritesOf, IsOverflowOf, IsRendered, IsStageOf, removals_of_plan};
 ghost use Rattle.engine_core.specs.Writing.{write_name};
 ghost use Rattle.std.specs.Option.{option_copied};
-ghost use Rattle.std.specs.Prelude.{◌≡◌, ◌<◌, List, map, not, true, length, IfErr, IfOk};
+ghost use Rattle.std.specs.Prelude.{◌≡◌, List, map, not, true, IfErr, IfOk};
 
 use crate::planning::Plan;
 use crate::records::{begin_stage, is_other_file, new_database};

@@ -16,7 +16,7 @@ use Rattle.engine_core.proofs.rendering.journal_entry.Goals as goal
 
 pub removals_of-requires : goal.removals_of-requires
 removals_of-requires c =
-    let names = c.requires.plan.1.1.1.names in
+    let names = c.requires.plan.1.2.names in
     once_reserved c.removals.result.now (name_if_needed c.is_from_text.result text_database_name)
     (subst (All IsOpenName) (sym c.removals.ensures) names.removals) (subst IsRising (sym c.removals.ensures) names.removals_rise)
     (text_once c.is_from_text.result) (text_reserved c.is_from_text.result)
@@ -36,12 +36,12 @@ pub begin_stage-requires : goal.begin_stage-requires
 begin_stage-requires c =
     let history = c.requires.plan.0 in
     let found = c.requires.plan.1.0 in
-    let files = c.requires.plan.1.1.0 in
+    let files = c.requires.plan.1.1 in
     let records = c.requires.writes.0 in
-    let written = c.requires.writes.1.1 in
+    let written = c.requires.writes.2 in
     let ready : IsMadeReady history c.args.plan.now found files records written.of_records c.args.writes.now c.in_ok-removals.removals = record {
-      plan = c.requires.plan.1.1.1;
-      own = c.requires.writes.1.0;
+      plan = c.requires.plan.1.2;
+      own = c.requires.writes.1;
       which = written.which;
       names = written.names;
       each = written.each;

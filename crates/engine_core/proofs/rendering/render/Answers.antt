@@ -14,17 +14,17 @@ use Rattle.engine_core.proofs.SelectedRuns.{with_error}
 use Rattle.engine_core.proofs.rendering.render.Goals as goal
 
 pub writes_of-requires-clause-sources : goal.writes_of-requires-clause-sources
-writes_of-requires-clause-sources c = c.requires.plan.1.1.1.sources
+writes_of-requires-clause-sources c = c.requires.plan.1.2.sources
 
 pub writes_of-requires-clause-packages : goal.writes_of-requires-clause-packages
 writes_of-requires-clause-packages c = λ place m at comes.
-    let planned = c.requires.plan.1.1.1 in
+    let planned = c.requires.plan.1.2 in
     c.a_package_that_was_read_is_that_of_its_file.ensures.comes _ _ _ c.requires.plan.1.0 planned.arrived.read.read place m
     (subst (λ (ms : List Member). slice_get ms place ≡ Some m) planned.arrived.members at) comes
 
 pub writes_of-requires-clause-once : goal.writes_of-requires-clause-once
 writes_of-requires-clause-once c =
-    written_once c.requires.plan.0 c.args.plan.now c.requires.plan.1.0 c.requires.plan.1.1.0 c.requires.plan.1.1.1 c.args.records.now c.requires.records c.record_writes_of-record_writes.result c.record_writes_of-record_writes.ensures
+    written_once c.requires.plan.0 c.args.plan.now c.requires.plan.1.0 c.requires.plan.1.1 c.requires.plan.1.2 c.args.records.now c.requires.records c.record_writes_of-record_writes.result c.record_writes_of-record_writes.ensures
 
 pub returns-in_err-writes-clause-refused : goal.returns-in_err-writes-clause-refused
 returns-in_err-writes-clause-refused c =
