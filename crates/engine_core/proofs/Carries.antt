@@ -2,6 +2,7 @@
 use Rattle.std.proofs.Common.{◌≡◌, inl, inr, ◌∙◌, ◌<◌, ◌^◌, ◌+◌, ℕ, zero, suc, arith, Bool, true, false, List, [], ◌∷◌, ◌++◌, length, map, All, Contains, Option, Some, None, Result, Ok, Err, refl, sym, ap, subst, true≢false, Bor}
 use Rattle.std.specs.Prelude.{◌==◌, ◌||◌, not, is_some, slice_get}
 use Rattle.std.proofs.lemmas.Bool.{ne_eqb}
+use Rattle.std.proofs.lemmas.List.{length-map}
 use Rattle.std.specs.Option.{option_copied}
 use Rattle.std.specs.Str.{bytes_eq}
 use Rattle.added_packages.specs.adb_write.Canonical.{PayloadCounts, counts_after_values, overflow_of}
@@ -486,6 +487,9 @@ stage_of o stage removals writes is of = subst (IsStageOf removals writes) is of
 
 pub new_stage_is : (stage : Staging) (removals writes : List (List ℕ)) → stage ≡ new_stage removals writes → stage ≡ new_stage stage.intent.removals stage.intent.writes
 new_stage_is stage removals writes is = is ∙ sym (λ i. new_stage (is i).intent.removals (is i).intent.writes)
+
+pub same_length : (stage : Staging) (removals : List (List ℕ)) (ws writes : List StagedWrite) → stage ≡ new_stage removals (map write_name writes) → ws ≡ writes → length ws ≡ length stage.intent.writes
+same_length stage removals ws writes is same = ap length same ∙ (sym (length-map writes write_name) ∙ sym (ap (λ (s : Staging). length s.intent.writes) is))
 
 module _ (history : List TreeState) (p : Plan) (r : Rendered) (ready : IsReadyToCommit history p r) where
   abbrev of_records : RecordWrites

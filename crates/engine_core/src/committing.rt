@@ -30,7 +30,7 @@ pub(crate) fn commit<T: Tree>(
     tree: &mut T,
 ) -> Result<Text, Refused>
     // The change is rendered from its plan, over the tree as it is now.
-    requires ready { IsReadyToCommit (T.history tree.old) plan.now rendered }
+    requires { IsReadyToCommit (T.history tree.old) plan.now rendered }
     // The run ends in the change.
     ensures comes { (ready : IsReadyToCommit (T.history tree.old) plan.now rendered.entry)
         → CarriesOut (Ok ready.found) (Ok (result_of_ready ready)) (T.history tree.old)

@@ -47,7 +47,7 @@ pub(crate) fn plan_change<'r, 'a, T: Tree>(
     packages: &'r ReadPackages<'r, 'a>,
     tree: &mut T,
 ) -> Result<Plan<'r, 'a>, Refused>
-    requires members { CanBeMembers (packages_of packages.now.selection.now.db)
+    requires { CanBeMembers (packages_of packages.now.selection.now.db)
         (arrivals_seen packages.now.arrivals) }
     // The plan of these packages, over the tree's files if they are observable.
     ensures plan { IfOk result (IsPlanOfPackages (T.history tree.old) packages.entry.now) }

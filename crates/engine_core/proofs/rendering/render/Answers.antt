@@ -1,7 +1,6 @@
-use Rattle.std.proofs.Common.{◌≡◌, Ok, List, map, refl, sym, subst, true}
+use Rattle.std.proofs.Common.{◌≡◌, Bool, Ok, List, ap, map, refl, sym, subst, true}
 use Rattle.std.specs.Prelude.{IfErr, slice_get, Some}
 use Rattle.added_packages.specs.adb_write.Canonical.{overflow_of}
-use Rattle.change_report.specs.change_inputs.Answers.{Agrees}
 use Rattle.change_report.specs.change_inputs.declared.root.Refused.TheVariants.{Memory}
 use Rattle.change_report.specs.change_outcome.ChangeOutcome.{unless_overflow}
 use Rattle.change_report.specs.db_core.Members.{Member}
@@ -9,7 +8,7 @@ use Rattle.change_report.specs.journal_intent.IntentValue.{intent_of_lists, valu
 use Rattle.journal_staging.specs.declared.writes.StagedWrite.{StagedWrite}
 use Rattle.engine_core.specs.Rendering.{AreWritesOf, IsOverflowOf, IsStageOf, removals_of_plan}
 use Rattle.engine_core.specs.Writing.{write_name}
-use Rattle.engine_core.proofs.Carries.{IsMadeReady, entry_large, written_once}
+use Rattle.engine_core.proofs.Carries.{IsMadeReady, entry_large, same_told, written_once}
 use Rattle.engine_core.proofs.SelectedRuns.{with_error}
 use Rattle.engine_core.proofs.rendering.render.Goals as goal
 
@@ -52,8 +51,9 @@ returns-in_err-stage-clause-refused c =
       each = c.in_ok-writes.ensures.each;
       removed = refl;
     } in
-    entry_large _ history c.args.plan.now found files c.args.records.now c.record_writes_of-record_writes.result c.in_ok-writes.writes.items (removals_of_plan c.args.plan.now) ready _
-    (subst (λ (ws : List StagedWrite). Agrees _ _ (unless_overflow (overflow_of (value_of_intent (intent_of_lists (removals_of_plan c.args.plan.now) (map write_name ws)))) true)) c.deref.ensures.value c.in_err-stage.ensures.told))
+    entry_large {A = Bool} (λ _. true) history c.args.plan.now found files c.args.records.now c.record_writes_of-record_writes.result c.in_ok-writes.writes.items (removals_of_plan c.args.plan.now) ready _
+    (same_told {B = Bool} _ (λ _. true) _ (removals_of_plan c.args.plan.now) (map write_name c.deref.result.now) (removals_of_plan c.args.plan.now) (map write_name c.in_ok-writes.writes.items) refl (ap (map write_name) c.deref.ensures.value)
+    c.in_err-stage.ensures.told))
 
 pub returns-in_err-report-clause-refused : goal.returns-in_err-report-clause-refused
 returns-in_err-report-clause-refused c =
