@@ -12,7 +12,6 @@ use Rattle.change_report.specs.change_outcome.ChangeOutcome.{actions_of, change_
 use Rattle.change_report.specs.change_outcome.MembersAfter.{MemberFound}
 use Rattle.change_report.specs.db_core.Seen.{members_of}
 use Rattle.change_report.specs.journal_core.Staged.{Staging, new_stage}
-use Rattle.change_report.specs.journal_intent.Intent.{Intent}
 use Rattle.change_report.specs.journal_intent.IntentValue.{intent_of_lists, value_of_intent}
 use Rattle.change_report.specs.own_core.Planned.{written_names}
 use Rattle.change_report.specs.own_core.WritesSeen.{writes_in}

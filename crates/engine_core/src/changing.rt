@@ -4,7 +4,8 @@
 
 ghost use Rattle.engine_core.specs.ChangeRun.{IsChangeRun};
 ghost use Rattle.engine_core.specs.Runs.{IsRunCounted};
-ghost use Rattle.engine_core.specs.SelectionSeen.{HasItsDatabase, replacement_seen, wishes_of_selection};
+ghost use Rattle.engine_core.specs.SelectionSeen.{HasItsDatabase, replacement_seen};
+ghost use Rattle.engine_core.specs.Wishes.{names_to_remove};
 ghost use Rattle.journal_staging.specs.journal_commit.Asked.{TargetsAreAccepted};
 ghost use Rattle.std.specs.Prelude.{◌≡◌, IfOk};
 ghost use Rattle.change_report.specs.package_changes.Report.{simulated_report};
@@ -65,7 +66,8 @@ pub fn change<T: Tree>(alloc: Global, command: &Command, tree: &mut T) -> Result
 fn simulate(alloc: Global, selection: &Selection<'_>) -> Result<Text, AllocError>
     requires { HasItsDatabase selection.now }
     ensures { IfOk result (λ report. report ≡ simulated_report (replacement_seen selection.now)
-        (wishes_of_selection selection.now).to_remove) }
+        (names_to_remove selection.now.command.now.applet
+        selection.now.command.now.operands)) }
 {
     let to_remove = names_to_remove(alloc, selection.command)?;
     let Selection {

@@ -9,7 +9,7 @@ use Rattle.engine_core.specs.ChangeRun.{IsChangeRun}
 use Rattle.engine_core.specs.Preparing.{IsRootRead}
 use Rattle.engine_core.specs.Runs.{IsRunCounted, IsSelectedRun}
 use Rattle.engine_core.specs.SelectionSeen.{replacement_seen, selection_seen}
-use Rattle.engine_core.specs.Wishes.{wishes_of}
+use Rattle.engine_core.specs.Wishes.{names_to_remove}
 use Rattle.engine_core.proofs.Counted.{counted_after, counted_fault, counted_report, memory_no_disk}
 use Rattle.engine_core.proofs.Early.{HaveClash, nothing_read, only_read, selected_failure}
 use Rattle.engine_core.proofs.SelectedRuns.{not_disk, run_failure, selected_run, simulated_run, unselected_run, with_error}
@@ -55,7 +55,7 @@ returns-then-flags-clause-run g c =
     (selected_run c.args.command.now (inputs_seen c.in_ok-loaded.loaded) _ _ _ _ c.in_ok-selection.selection _ c.in_ok-selection.ensures.selected
     (simulated_run have c.args.command.now (selection_seen c.in_ok-selection.selection) _ _ _ _ _ (g.met.T.Tree.whole c.read.new.tree) (nothing_read _ _)
     (sym (ap (λ (f : Flags). f.simulate) c.flags.ensures.value) ∙ c.if-flags.true)
-    (c.in_ok-report.ensures ∙ ap (λ (command : CommandLine). simulated_report (replacement_seen c.in_ok-selection.selection) (wishes_of command).to_remove) c.in_ok-selection.ensures.parts.command_is)))
+    (c.in_ok-report.ensures ∙ ap (λ (command : CommandLine). simulated_report (replacement_seen c.in_ok-selection.selection) (names_to_remove command.applet command.operands)) c.in_ok-selection.ensures.parts.command_is)))
 
 pub returns-in_err-upgraded-clause-counts : goal.returns-in_err-upgraded-clause-counts
 returns-in_err-upgraded-clause-counts g c =
