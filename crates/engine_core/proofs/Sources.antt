@@ -38,7 +38,7 @@ use Rattle.journal_staging.specs.declared.writes.Source.TheVariants.{Bytes, File
 use Rattle.journal_staging.specs.declared.writes.StagedWrite.{StagedWrite}
 use Rattle.engine_core.specs.Preparing.{AreRecordWrites, AreRecordsOf, bytes_if}
 use Rattle.engine_core.specs.Writing.{HasBytes, IsRecordOf, IsSourceOfWrite, IsWriteBy, entry_of_write, write_name}
-use Rattle.engine_core.specs.declared.finishing.NewRecords.{NewRecords}
+use Rattle.engine_core.specs.declared.rendering.NewRecords.{NewRecords}
 use Rattle.engine_core.specs.declared.writes.RecordWrites.{RecordWrites}
 
 -- ---- a file of a package

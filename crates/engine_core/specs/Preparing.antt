@@ -78,10 +78,10 @@ pub record AreFoundBy (history : List TreeState) (a : ReadPackages) (read : Read
       read ≡ Ok found
 
 -- the packages after a change have arrived: they were read, and one database can list their members
-pub record IsArrived (history : List TreeState) (a : ReadPackages) (members : Members)
+pub record IsArrived (history : List TreeState) (a : ReadPackages) (after : Members)
     (found : List MemberFound) : Type 0 where
   pub read : HasReadArrivals history a found
-  pub members : members_of members ≡ found_members found
+  pub members : members_of after ≡ found_members found
 
 -- ---- the plan
 

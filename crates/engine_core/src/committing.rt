@@ -25,7 +25,7 @@ use std::alloc::{AllocError, Global};
 /// `PackageBad` if a package is no longer what was tested; `Disk`, or `Memory` for the refusal.
 pub(crate) fn commit<T: Tree>(
     alloc: Global,
-    plan: &Plan<'_, '_>,
+    plan: &Plan<'_, '_, '_>,
     rendered: Rendered<'_>,
     tree: &mut T,
 ) -> Result<Text, Refused>

@@ -28,9 +28,9 @@ use std::alloc::{AllocError, Global};
 
 /// The plan of a change: the packages after it, and what it does with files.
 #[derive(Drop)]
-pub(crate) struct Plan<'r, 'a> {
+pub(crate) struct Plan<'r, 's, 'a> {
     /// The packages after the change, as they were read.
-    pub packages: &'r ReadPackages<'r, 'a>,
+    pub packages: &'r ReadPackages<'s, 'a>,
     /// The packages after the change, as the database is to list them.
     pub members: Members<'r>,
     /// What the change removes, writes, writes beside an old file, and keeps.
@@ -42,11 +42,11 @@ pub(crate) struct Plan<'r, 'a> {
 /// # Errors
 ///
 /// `Reserved`, `PathClash` and `Owned`; then `TriggerNeeded`; `Disk`, or `Memory`.
-pub(crate) fn plan_change<'r, 'a, T: Tree>(
+pub(crate) fn plan_change<'r, 's, 'a, T: Tree>(
     alloc: Global,
-    packages: &'r ReadPackages<'r, 'a>,
+    packages: &'r ReadPackages<'s, 'a>,
     tree: &mut T,
-) -> Result<Plan<'r, 'a>, Refused>
+) -> Result<Plan<'r, 's, 'a>, Refused>
     requires { CanBeMembers (packages_of packages.now.selection.now.db)
         (arrivals_seen packages.now.arrivals) }
     // The plan of these packages, over the tree's files if they are observable.

@@ -51,7 +51,7 @@ pub(crate) struct Rendered<'c> {
 /// `ResultTooLarge` if the journal entry exceeds a limit of the writer, or `Memory`.
 pub(crate) fn render<'c>(
     alloc: Global,
-    plan: &'c Plan<'c, '_>,
+    plan: &'c Plan<'_, '_, '_>,
     records: &'c NewRecords,
 ) -> Result<Rendered<'c>, Refused>
     requires plan { (history : List TreeState) × HasPlan history plan.now }
@@ -81,7 +81,7 @@ pub(crate) fn render<'c>(
 /// `ResultTooLarge` if the journal entry exceeds a limit of the writer, or `Memory`.
 fn journal_entry(
     alloc: Global,
-    plan: &Plan<'_, '_>,
+    plan: &Plan<'_, '_, '_>,
     writes: &[StagedWrite<'_>],
 ) -> Result<Option<Stage>, Refused>
     requires plan { (history : List TreeState) × HasPlan history plan.now }
@@ -123,7 +123,7 @@ pub(crate) struct NewRecords {
 /// # Errors
 ///
 /// `ResultTooLarge` if the database exceeds a limit of the writer, or `Memory`.
-pub(crate) fn new_records(alloc: Global, plan: &Plan<'_, '_>) -> Result<NewRecords, Refused>
+pub(crate) fn new_records(alloc: Global, plan: &Plan<'_, '_, '_>) -> Result<NewRecords, Refused>
     ensures told { Agrees (λ records. records.database.items) result
         (unless_large (database_of (members_of plan.now.members) plan.now.files.owned)) }
     ensures records { IfOk result (AreRecordsOf (inputs_of_plan plan.now)) }
@@ -167,7 +167,7 @@ fn record_writes_of<'c>(loaded: &Loaded, records: &'c NewRecords) -> RecordWrite
 
 /// The report of a change that is made: what becomes of each package, of the names to be removed,
 /// of configuration and triggers, and the total.
-fn report_of(alloc: Global, plan: &Plan<'_, '_>) -> Result<Text, AllocError>
+fn report_of(alloc: Global, plan: &Plan<'_, '_, '_>) -> Result<Text, AllocError>
     ensures { IfOk result (λ report. (history : List TreeState) (found : List MemberFound)
         (files : Files) → IsPlanned history plan.now found files
         → report ≡ change_report (replacement_of_plan plan.now) (wishes_of_plan plan.now)
