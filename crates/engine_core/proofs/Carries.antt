@@ -436,14 +436,14 @@ ready_is history p r ready =
 -- ---- the journal entry
 
 -- a journal entry that is too large, by the names that are removed and written
-pub entry_large : {A : Type 0} (view : A → Bool) (history : List TreeState) (p : Plan) (found : List MemberFound) (files : Files) (records : NewRecords) (rw : RecordWrites) (writes : List StagedWrite) (removals : List (List ℕ))
-    → IsMadeReady history p found files records rw writes removals → (fault : Refused)
+pub entry_large : {A : Type 0} (view : A → Bool) (history : List TreeState) (p : Plan) (found : List MemberFound) (files : Files) (made : NewRecords) (rw : RecordWrites) (writes : List StagedWrite) (removals : List (List ℕ))
+    → IsMadeReady history p found files made rw writes removals → (fault : Refused)
     → Agrees view (Err fault) (unless_overflow (overflow_of (value_of_intent (intent_of_lists removals (map write_name writes)))) true)
-    → Agrees {A = Bool} {B = Bool} (λ _. true) (Err fault) (unless_overflow (overflow_of (value_of_intent (actions_of (inputs_of_plan p) (file_change (inputs_of_plan p) (wishes_of_plan p) found) files (new_records (inputs_of_plan p) records.database.items)))) true)
-entry_large view history p found files records rw writes removals ready (IsRefused refusal) told =
-    ap (λ (o : Option PayloadCounts). unless_overflow o true) (sym (overflow_is history p found files records rw writes removals ready)) ∙ told
-entry_large view history p found files records rw writes removals ready Disk told = told
-entry_large view history p found files records rw writes removals ready Memory told = tt
+    → Agrees {A = Bool} {B = Bool} (λ _. true) (Err fault) (unless_overflow (overflow_of (value_of_intent (actions_of (inputs_of_plan p) (file_change (inputs_of_plan p) (wishes_of_plan p) found) files (new_records (inputs_of_plan p) made.database.items)))) true)
+entry_large view history p found files made rw writes removals ready (IsRefused refusal) told =
+    ap (λ (o : Option PayloadCounts). unless_overflow o true) (sym (overflow_is history p found files made rw writes removals ready)) ∙ told
+entry_large view history p found files made rw writes removals ready Disk told = told
+entry_large view history p found files made rw writes removals ready Memory told = tt
 
 -- the same, by names that are equal
 pub same_told : {A B : Type 0} (view : A → Bool) (other : B → Bool) (fault : Refused) (removals writes gone wrote : List (List ℕ)) → removals ≡ gone → writes ≡ wrote
@@ -566,12 +566,12 @@ module _ (history : List TreeState) (p : Plan) (r : Rendered) (ready : IsReadyTo
         refused bad)
 
 -- a journal entry that is too large is refused
-entry_refused : (packages : Result (List MemberFound) Refusal) (overflow : Option PayloadCounts) (done : ChangeDone) (history : List TreeState) (counts : Counts) (fault : Refused)
-    → Agrees {A = Bool} {B = Bool} (λ _. true) (Err fault) (unless_overflow overflow true) → CarriesOut packages (unless_overflow overflow done) history history counts counts (Err fault)
-entry_refused packages overflow done history counts (IsRefused refusal) told =
-    comes_to_refusal packages (unless_overflow overflow done) history history counts counts (nothing_read history counts) refusal (too_large overflow done refusal told)
-entry_refused packages overflow done history counts Disk told = absurd told
-entry_refused packages overflow done history counts Memory told = comes_to_failure packages (unless_overflow overflow done) history history counts counts (nothing_read history counts) Memory tt
+entry_refused : (packages : Result (List MemberFound) Refusal) (overflow : Option PayloadCounts) (ends : ChangeDone) (history : List TreeState) (counts : Counts) (fault : Refused)
+    → Agrees {A = Bool} {B = Bool} (λ _. true) (Err fault) (unless_overflow overflow true) → CarriesOut packages (unless_overflow overflow ends) history history counts counts (Err fault)
+entry_refused packages overflow ends history counts (IsRefused refusal) told =
+    comes_to_refusal packages (unless_overflow overflow ends) history history counts counts (nothing_read history counts) refusal (too_large overflow ends refusal told)
+entry_refused packages overflow ends history counts Disk told = absurd told
+entry_refused packages overflow ends history counts Memory told = comes_to_failure packages (unless_overflow overflow ends) history history counts counts (nothing_read history counts) Memory tt
 
 -- ---- what is left after the tests of a plan
 

@@ -252,4 +252,4 @@ untriggered law old mid before between quiet p files members found arrivals faul
 
 -- nor does the rendering
 pub large_no_disk : (history : List TreeState) (p : Plan) (found : List MemberFound) {files : Files} → IsPlanned history p found files → (records : NewRecords) (fault : Refused) → IsOverflowOf p records fault → fault ≡ Disk → ⊥
-large_no_disk history p found {files} planned records fault large is = no_disk _ _ fault (large history found files planned) is
+large_no_disk history p found {files} planned records fault large is = no_disk {A = Bool} (λ _. true) _ fault (large history found files planned) is

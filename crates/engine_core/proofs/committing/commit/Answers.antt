@@ -32,14 +32,14 @@ returns-in-Ok-clause-comes g c = λ ready.
 pub refused_package-requires : goal.refused_package-requires
 refused_package-requires g c =
     let has = subst (λ (ws : List StagedWrite). HasSpoiledFile c.in-Err-Bad.member c.in-Err-Bad.cause ws) c.deref.ensures.value (c.in-Err-Bad.ensures.bad c.in-Err-Bad.member c.in-Err-Bad.cause (ap Err c.in-Err-Bad.field-0-is)) in
-    bad_member (g.T.Tree.history c.args.tree.now) c.args.plan.now c.args.rendered c.requires c.in-Err-Bad.member c.in-Err-Bad.cause has
+    rw c.in-Err-Bad.field-0-is (bad_member (g.T.Tree.history c.args.tree.now) c.args.plan.now c.args.rendered c.requires c.in-Err-Bad.member c.in-Err-Bad.cause has)
 
 pub returns-in-Err-Bad-clause-comes : goal.returns-in-Err-Bad-clause-comes
 returns-in-Err-Bad-clause-comes g c = λ ready.
     let has = subst (λ (ws : List StagedWrite). HasSpoiledFile c.in-Err-Bad.member c.in-Err-Bad.cause ws) c.deref.ensures.value (c.in-Err-Bad.ensures.bad c.in-Err-Bad.member c.in-Err-Bad.cause (ap Err c.in-Err-Bad.field-0-is)) in
     ends_by_bad (g.T.Tree.history c.args.tree.now) c.args.plan.now c.args.rendered ready (λ place pkg is. c.a_package_that_was_read_is_that_of_its_file.ensures.file _ _ _ ready.found ready.planned.arrived.read.read place pkg is)
     c.in-Some.stage c.in-Some.is c.names_are_free.ensures.few c.deref.result.now c.deref.ensures.value (g.T.Tree.history c.carry_out.new.tree) (g.T.Tree.counts c.args.tree.now) (g.T.Tree.counts c.carry_out.new.tree) _ c.in-Err-Bad.ensures.run c.in-Err-Bad.ensures.proper
-    c.in-Err-Bad.member c.in-Err-Bad.cause has c.in-Err-Bad.field-0 c.in-Err-Bad.field-0-is refl c.refused_package.result c.refused_package.ensures
+    c.in-Err-Bad.member c.in-Err-Bad.cause has c.in-Err-Bad.field-0 c.in-Err-Bad.field-0-is refl c.refused_package.result (rw c.in-Err-Bad.field-0-is at c.refused_package.ensures)
 
 pub returns-clause-comes : goal.returns-clause-comes
 returns-clause-comes g c = λ ready.

@@ -4,6 +4,7 @@ use Rattle.engine_core.specs.ChangeRun.{CarriesOut}
 use Rattle.engine_core.specs.Runs.{IsRunCounted, IsSelectedRun}
 use Rattle.engine_core.specs.SelectionSeen.{selection_seen}
 use Rattle.report_core.specs.declared.refusal.Refusal.{Refusal}
+use Rattle.engine_core.specs.declared.rendering.NewRecords.{NewRecords}
 use Rattle.engine_core.proofs.Carries.{entry_fits, large_database, large_entry}
 use Rattle.engine_core.proofs.Counted.{counted_after, counted_error, counted_fault}
 use Rattle.engine_core.proofs.Early.{HaveClash, only_read}
@@ -54,7 +55,7 @@ pub returns-in_err-records-clause-counts : goal.returns-in_err-records-clause-co
 returns-in_err-records-clause-counts g c =
     with_error (IsRunCounted _ _) c.from_residual-in_err-records.result _ c.from_residual-in_err-records.ensures.1
     (counted_after _ _ _ _ c.in_ok-packages.ensures.tree.goes_on c.in_ok-packages.ensures.tree.kept c.counts_of_consecutive_calls_compose.ensures.cause_after
-    (counted_fault _ _ _ _ c.in_ok-plan.plan _ (no_disk _ _ _ c.in_err-records.ensures.told) c.in_ok-plan.ensures.tree))
+    (counted_fault _ _ _ _ c.in_ok-plan.plan _ (no_disk {A = NewRecords} (λ records. records.database.items) _ _ c.in_err-records.ensures.told) c.in_ok-plan.ensures.tree))
 
 pub returns-in_err-records-clause-promised : goal.returns-in_err-records-clause-promised
 returns-in_err-records-clause-promised g c = c.runs_with_accepted_targets_begin_with_reads.ensures.same _ _ (c.in_ok-plan.ensures.tree.same ∙ c.in_ok-packages.ensures.tree.same)
@@ -110,7 +111,7 @@ returns-clause-run g c =
     arrived_run s c.requires.real _ _ _ _ (only_read _ _ _ _ _ _ c.in_ok-packages.ensures.tree) c.requires.database c.requires.root c.in_ok-packages.packages c.in_ok-packages.ensures.found _ _ c.commit.result
     (λ are. plan_run c.packages_that_were_read_are_those_found.ensures _ _ _ _ (only_read _ _ _ _ _ _ c.in_ok-plan.ensures.tree) c.in_ok-packages.packages p c.in_ok-plan.ensures.plan c.in_ok-packages.ensures.found.read _ are _ _ c.commit.result
     (λ files planned.
-    subst (λ (w : Result ChangeDone Refusal). CarriesOut (Ok c.in_ok-packages.ensures.found.is.0) w _ _ _ _ c.commit.result)
+    subst (λ (w : Result ChangeDone Refusal). CarriesOut (Ok c.in_ok-packages.ensures.found.is.0) w (g.T.Tree.history c.plan_change.new.tree) (g.T.Tree.history c.commit.new.tree) (g.T.Tree.counts c.plan_change.new.tree) (g.T.Tree.counts c.commit.new.tree) c.commit.result)
     (sym (entry_fits _ p _ files planned c.in_ok-records.records c.in_ok-records.ensures.told c.in_ok-records.ensures.records c.in_ok-rendered.rendered c.in_ok-rendered.ensures.rendered))
     (c.commit.ensures.comes (record {
       found = c.in_ok-packages.ensures.found.is.0;

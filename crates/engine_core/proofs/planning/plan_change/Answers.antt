@@ -39,7 +39,7 @@ returns-in_err-files-clause-refused g c =
     let now = g.T.Tree.history c.plan_files.new.tree in
     let n = g.T.Tree.counts c.args.tree.now in
     let after = g.T.Tree.counts c.plan_files.new.tree in
-    let why = subst (λ (f : Flags). HasNoPlan h f.purge a.selection.now.db c.in_ok-members.members _) c.flags-flags.ensures.value c.in_err-files.ensures.refused in
+    let why = subst (λ (f : Flags). HasNoPlan h f.purge a.selection.now.db c.in_ok-members.members c.in_err-files.field-0.0) c.flags-flags.ensures.value c.in_err-files.ensures.refused in
     with_error (λ r. IfErr r (λ refused. (read : Reads) (found : List MemberFound) → AreFoundBy h a read found
     → IsFoundRun (inputs_of_packages a) (replacement_of_packages a) (wishes_of_packages a) found h now n after (Err refused))) c.from_residual-in_err-files.result _ c.from_residual-in_err-files.ensures.1
     (λ read found are. unplanned_step have h now n after a c.in_ok-members.members (wishes_of_packages a) read found _ why (g.met.T.Tree.whole c.args.tree.now)
@@ -63,12 +63,12 @@ returns-in_err-test_triggers-clause-refused g c =
     → IsFoundRun (inputs_of_packages a) (replacement_of_packages a) (wishes_of_packages a) found h now n after (Err refused))) c.from_residual-in_err-test_triggers.result _ c.from_residual-in_err-test_triggers.ensures.1
     (λ read found are.
     untriggered c.packages_that_were_read_are_those_found.ensures h now n after (only_read _ _ _ _ _ _ c.in_ok-files.ensures.tree)
-    (record { packages = c.args.packages; members = c.in_ok-members.members; files = c.in_ok-files.files }) files c.in_ok-members.ensures found are.arrivals _ c.flags-flags.result.now c.flags-flags.ensures.value c.in_err-test_triggers.ensures)
+    (record { packages = c.args.packages; members = c.in_ok-members.members; files = c.in_ok-files.files }) files c.in_ok-members.ensures found are.arrivals _ c.flags-flags.result c.flags-flags.ensures.value c.in_err-test_triggers.ensures)
 
 pub returns-in_err-test_triggers-clause-tree : goal.returns-in_err-test_triggers-clause-tree
 returns-in_err-test_triggers-clause-tree g c =
     with_error (OnlyReads Commands.Disk _ _ _ _) c.from_residual-in_err-test_triggers.result _ c.from_residual-in_err-test_triggers.ensures.1
-    (reads_end _ _ _ _ c.in_ok-files.files _ (no_disk _ _ c.in_err-test_triggers.ensures) c.in_ok-files.ensures.tree)
+    (reads_end _ _ _ _ c.in_ok-files.files _ (no_disk {A = Unit {0}} (λ _. true) _ _ c.in_err-test_triggers.ensures) c.in_ok-files.ensures.tree)
 
 pub returns-clause-plan : goal.returns-clause-plan
 returns-clause-plan g c =

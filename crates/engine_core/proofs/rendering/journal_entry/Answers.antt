@@ -1,10 +1,10 @@
 use Rattle.base_core.specs.Listed.{IsRising}
-use Rattle.std.proofs.Common.{◌≡◌, ◌∙◌, ◌++◌, All, Ok, List, map, ap, sym, subst, true, false}
+use Rattle.std.proofs.Common.{◌≡◌, ◌∙◌, ◌++◌, All, Option, Ok, List, map, ap, sym, subst, true, false}
 use Rattle.added_packages.specs.adb_write.Canonical.{overflow_of}
 use Rattle.change_report.specs.change_files.PlanLists.{names_in_order}
 use Rattle.change_report.specs.change_inputs.Answers.{Agrees}
 use Rattle.change_report.specs.change_outcome.ChangeOutcome.{name_if_needed, unless_overflow}
-use Rattle.change_report.specs.journal_core.Staged.{new_stage}
+use Rattle.change_report.specs.journal_core.Staged.{Staging, new_stage}
 use Rattle.change_report.specs.journal_intent.IntentValue.{intent_of_lists, value_of_intent}
 use Rattle.change_report.specs.own_core.Planned.{IsOpenName}
 use Rattle.root_names.specs.RootNames.{text_database_name}
@@ -53,7 +53,7 @@ pub returns-in_err-stage-clause-told : goal.returns-in_err-stage-clause-told
 returns-in_err-stage-clause-told c =
     let removed : c.in_ok-removals.removals ≡ removals_of_plan c.args.plan.now = c.in_ok-removals.ensures ∙ (λ i. names_in_order (c.removals.ensures i ++ name_if_needed (c.is_from_text.ensures i) text_database_name)) in
     with_error (λ r. Agrees (λ _. true) r (unless_overflow (overflow_of (value_of_intent (intent_of_lists (removals_of_plan c.args.plan.now) (map write_name c.args.writes.now)))) true)) c.from_residual-in_err-stage.result _ c.from_residual-in_err-stage.ensures.1
-    (same_told _ _ _ c.in_ok-removals.removals c.in_ok-names.names (removals_of_plan c.args.plan.now) (map write_name c.args.writes.now) removed c.in_ok-names.ensures c.in_err-stage.ensures.told)
+    (same_told {A = Staging} {B = Option Staging} (λ _. true) (λ _. true) _ c.in_ok-removals.removals c.in_ok-names.names (removals_of_plan c.args.plan.now) (map write_name c.args.writes.now) removed c.in_ok-names.ensures c.in_err-stage.ensures.told)
 
 pub returns-clause-stage : goal.returns-clause-stage
 returns-clause-stage c =

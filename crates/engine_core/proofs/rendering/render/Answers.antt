@@ -1,9 +1,10 @@
-use Rattle.std.proofs.Common.{◌≡◌, Bool, Ok, List, ap, map, refl, sym, subst, true}
+use Rattle.std.proofs.Common.{◌≡◌, Bool, Option, Ok, List, ap, map, refl, sym, subst, true}
 use Rattle.std.specs.Prelude.{IfErr, slice_get, Some}
 use Rattle.added_packages.specs.adb_write.Canonical.{overflow_of}
 use Rattle.change_report.specs.change_inputs.declared.root.Refused.TheVariants.{Memory}
 use Rattle.change_report.specs.change_outcome.ChangeOutcome.{unless_overflow}
 use Rattle.change_report.specs.db_core.Members.{Member}
+use Rattle.change_report.specs.journal_core.Staged.{Staging}
 use Rattle.change_report.specs.journal_intent.IntentValue.{intent_of_lists, value_of_intent}
 use Rattle.journal_staging.specs.declared.writes.StagedWrite.{StagedWrite}
 use Rattle.engine_core.specs.Rendering.{AreWritesOf, IsOverflowOf, IsStageOf, removals_of_plan}
@@ -52,7 +53,7 @@ returns-in_err-stage-clause-refused c =
       removed = refl;
     } in
     entry_large {A = Bool} (λ _. true) history c.args.plan.now found files c.args.records.now c.record_writes_of-record_writes.result c.in_ok-writes.writes.items (removals_of_plan c.args.plan.now) ready _
-    (same_told {B = Bool} _ (λ _. true) _ (removals_of_plan c.args.plan.now) (map write_name c.deref.result.now) (removals_of_plan c.args.plan.now) (map write_name c.in_ok-writes.writes.items) refl (ap (map write_name) c.deref.ensures.value)
+    (same_told {A = Option Staging} {B = Bool} (λ _. true) (λ _. true) _ (removals_of_plan c.args.plan.now) (map write_name c.deref.result.now) (removals_of_plan c.args.plan.now) (map write_name c.in_ok-writes.writes.items) refl (ap (map write_name) c.deref.ensures.value)
     c.in_err-stage.ensures.told))
 
 pub returns-in_err-report-clause-refused : goal.returns-in_err-report-clause-refused
