@@ -65,7 +65,7 @@ render-requires-clause-plan g c =
     let s = c.args.selection.now in
     let are = found_by_reads s c.requires.real _ _ _ _ (only_read _ _ _ _ _ _ c.in_ok-packages.ensures.tree) c.requires.database c.requires.root c.in_ok-packages.packages c.in_ok-packages.ensures.found in
     let planned = plan_is c.packages_that_were_read_are_those_found.ensures _ _ _ _ (only_read _ _ _ _ _ _ c.in_ok-plan.ensures.tree) c.in_ok-packages.packages c.in_ok-plan.plan c.in_ok-plan.ensures.plan c.in_ok-packages.ensures.found.read _ are in
-    (g.T.Tree.history c.plan_change.new.tree, _, c.in_ok-plan.ensures.plan.files.lists.files, planned)
+    (g.T.Tree.history c.plan_change.new.tree, (c.in_ok-packages.ensures.found.is.0, c.in_ok-plan.ensures.plan.files.lists.files, planned))
 
 pub render-requires-clause-records : goal.render-requires-clause-records
 render-requires-clause-records g c = c.in_ok-records.ensures.records
