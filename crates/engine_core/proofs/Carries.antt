@@ -1,9 +1,11 @@
 -- What a change comes to that is carried through.
 use Rattle.std.proofs.Common.{◌≡◌, inl, inr, ◌∙◌, ◌<◌, ◌^◌, ◌+◌, ℕ, zero, suc, arith, Bool, true, false, List, [], ◌∷◌, ◌++◌, length, map, All, Contains, Option, Some, None, Result, Ok, Err, refl, sym, ap, subst, true≢false, Bor}
-use Rattle.std.specs.Prelude.{not, is_some, slice_get}
+use Rattle.std.specs.Prelude.{◌==◌, ◌||◌, not, is_some, slice_get}
+use Rattle.std.proofs.lemmas.Bool.{ne_eqb}
+use Rattle.std.proofs.lemmas.List.{length-map}
 use Rattle.std.specs.Option.{option_copied}
 use Rattle.std.specs.Str.{bytes_eq}
-use Rattle.added_packages.specs.adb_write.Canonical.{PayloadCounts, overflow_of}
+use Rattle.added_packages.specs.adb_write.Canonical.{PayloadCounts, counts_after_values, overflow_of}
 use Rattle.journal_staging.specs.adb_schema.Reserved.{is_reserved}
 use Rattle.base_core.specs.Listed.{IsRising}
 use Rattle.base_core.specs.Name.{IsName}
@@ -29,17 +31,21 @@ use Rattle.change_report.specs.journal_intent.Intent.{AreChangeNames, Intent}
 use Rattle.engine_core.proofs.Once.{once_both}
 use Rattle.change_report.proofs.change_outcome.Leading.{acted_is}
 use Rattle.change_report.proofs.change_outcome.Room.{room}
-use Rattle.change_report.specs.change_outcome.ChangeOutcome.{ChangeDone, ChangeWishes, actions_of, bytes_under, change_done, does_something, file_change, is_other_file, name_if_needed, new_records, unless_overflow, written_records}
+use Rattle.change_report.specs.change_outcome.ChangeOutcome.{ChangeDone, ChangeWishes, actions_of, bytes_under, change_done, does_something, file_change, is_other_file, name_if_needed, new_records, unless_large, unless_overflow, unless_too_large, written_records}
 use Rattle.change_report.specs.change_outcome.MembersAfter.{MemberFound, found_package_contents, found_members}
 use Rattle.change_report.specs.journal_core.Recovery.{after_actions, intent_name}
 use Rattle.change_report.specs.journal_core.Staged.{AreJournalPathsFree, AreStagingPathsFree, IsEmptyStage, Staging, action_count, new_stage, with_staged}
 use Rattle.change_report.specs.journal_intent.IntentValue.{intent_of_lists, value_of_intent}
 use Rattle.change_report.specs.change_files.NamesAfter.{name_change}
 use Rattle.change_report.specs.db_core.Members.{Member, is_added, member_name}
+use Rattle.change_report.specs.db_core.Seen.{members_of}
+use Rattle.change_report.specs.db_write.NewDatabase.{database_of}
+use Rattle.change_report.specs.file_owners.Owners.{owned_of}
 use Rattle.change_report.specs.file_owners.Replaces.{version_text}
 use Rattle.change_report.specs.own_core.Planned.{IsOfAddedFile, IsOpenName, written_names}
 use Rattle.change_report.specs.path_clashes.Clash.{HasNoClash}
 use Rattle.change_report.specs.own_core.WritesSeen.{writes_in}
+use Rattle.change_report.specs.package_changes.Changes.{Replacement}
 use Rattle.base_core.specs.declared.cause.Cause.{Cause}
 use Rattle.report_core.specs.declared.refusal.Refusal.{Refusal}
 use Rattle.report_core.specs.declared.refusal.Refusal.TheVariants.{PackageBad}
@@ -54,12 +60,14 @@ use Rattle.journal_staging.specs.declared.writes.Source.TheVariants.{Bytes, File
 use Rattle.journal_staging.specs.declared.writes.StageFault.{StageFault}
 use Rattle.journal_staging.specs.declared.writes.StageFault.TheVariants as Stages
 use Rattle.journal_staging.specs.declared.writes.StagedWrite.{StagedWrite}
-use Rattle.engine_core.specs.Carrying.{IsRefusedPackage, ready_change}
+use Rattle.engine_core.specs.Committing.{IsReadyToCommit, IsRefusedPackage, result_of_ready}
+use Rattle.engine_core.specs.Rendering.{IsOverflowOf, IsRendered, IsStageOf, removals_of_plan}
 use Rattle.engine_core.specs.ChangeRun.{CarriesOut, DoesCommit, IsUnchangedOrCommit, report_of_result}
-use Rattle.engine_core.specs.Finishing.{AreRecordWrites, AreRecordsOf, IsPlanned, bytes_if, arrived_inputs, arrived_members, arrived_replacement}
+use Rattle.engine_core.specs.Preparing.{AreRecordWrites, AreRecordsOf, IsPlanned, bytes_if, inputs_of_plan, replacement_of_plan, wishes_of_plan}
 use Rattle.engine_core.specs.Writing.{HasBytes, IsRecordOf, IsSourceOfWrite, IsWriteBy, package_at, database_and_world_names, write_name}
-use Rattle.engine_core.specs.declared.planning.Planned.{Planned}
-use Rattle.engine_core.specs.declared.finishing.NewRecords.{NewRecords}
+use Rattle.engine_core.specs.declared.planning.Plan.{Plan}
+use Rattle.engine_core.specs.declared.rendering.NewRecords.{NewRecords}
+use Rattle.engine_core.specs.declared.rendering.Rendered.{Rendered}
 use Rattle.engine_core.specs.declared.writes.RecordWrites.{RecordWrites}
 use Rattle.engine_core.proofs.Early.{comes_to_failure, comes_to_idle, comes_to_refusal, if_told, nothing_read}
 use Rattle.engine_core.proofs.Sources.{FilesAreRead, all_at, all_stand}
@@ -81,16 +89,35 @@ some_copied None false bytes is = refl
 some_copied (Some x) true bytes is = refl
 some_copied (Some x) false bytes is = absurd (cc)
 
+-- the result of a change that is prepared except for the journal entry, with these bytes of the database
+abbrev pub ready_change : Inputs → Replacement → ChangeWishes → List MemberFound → Files → List ℕ → Result ChangeDone Refusal
+ready_change inputs r wishes found files database =
+    let records = new_records inputs database in
+    let actions = actions_of inputs (file_change inputs wishes found) files records in
+    unless_overflow (overflow_of (value_of_intent actions)) (change_done inputs r wishes found files records)
+
 -- ---- what is made ready
 
-pub record IsReadyToCommit (history : List TreeState) (wishes : ChangeWishes) (p : Planned) (found : List MemberFound) (files : Files) (records : NewRecords)
+pub record IsMadeReady (history : List TreeState) (p : Plan) (found : List MemberFound) (files : Files) (records : NewRecords)
     (rw : RecordWrites) (writes : List StagedWrite) (removals : List (List ℕ)) : Type 0 where
-  pub plan : IsPlanned history wishes p found files
-  pub own : AreRecordsOf (arrived_inputs p.arrived.now) records
-  pub which : AreRecordWrites (arrived_inputs p.arrived.now) records rw
-  pub names : map write_name writes ≡ names_in_order (written_names p.plan.now ++ database_and_world_names rw)
-  pub each : All (IsWriteBy (arrived_members p.arrived.now) (package_at p.arrived.now.arrivals.now) (writes_in p.plan.now.writes) rw) writes
-  pub removed : removals ≡ names_in_order (p.plan.now.removals ++ name_if_needed (arrived_inputs p.arrived.now).root.database.from_text text_database_name)
+  pub plan : IsPlanned history p found files
+  pub own : AreRecordsOf (inputs_of_plan p) records
+  pub which : AreRecordWrites (inputs_of_plan p) records rw
+  pub names : map write_name writes ≡ names_in_order (written_names p.files ++ database_and_world_names rw)
+  pub each : All (IsWriteBy (members_of p.members) (package_at p.packages.now.arrivals) (writes_in p.files.writes) rw) writes
+  pub removed : removals ≡ names_in_order (p.files.removals ++ name_if_needed (inputs_of_plan p).root.database.from_text text_database_name)
+
+-- what is rendered is made ready
+pub made_ready : (history : List TreeState) (p : Plan) (r : Rendered) (ready : IsReadyToCommit history p r)
+    → IsMadeReady history p ready.found ready.files ready.records ready.rendered.written.of_records r.writes.items (removals_of_plan p)
+made_ready history p r ready = record {
+  plan = ready.planned;
+  own = ready.own;
+  which = ready.rendered.written.which;
+  names = ready.rendered.written.names;
+  each = ready.rendered.written.each;
+  removed = refl;
+}
 
 -- ---- names stand once
 
@@ -136,36 +163,36 @@ records_are_reserved : (inputs : Inputs) (records : RootFilesAfter) (q : List �
 records_are_reserved inputs records q here = two_reserved (is_other_file inputs.root.database.file records.database) (not (bytes_eq inputs.root.world_text records.world)) q here
 
 -- of the plan alone
-module _ (history : List TreeState) (wishes : ChangeWishes) (p : Planned) (found : List MemberFound) (files : Files) (plan : IsPlanned history wishes p found files) where
-  pub no_reserved : HasNoReservedPath (file_change (arrived_inputs p.arrived.now) wishes found)
+module _ (history : List TreeState) (p : Plan) (found : List MemberFound) (files : Files) (plan : IsPlanned history p found files) where
+  pub no_reserved : HasNoReservedPath (file_change (inputs_of_plan p) (wishes_of_plan p) found)
   no_reserved = record { before = plan.unreserved; coming = sym (ap first_reserved plan.arrived.members) ∙ plan.owners.allowed }
 
-  module _ (records : NewRecords) (own : AreRecordsOf (arrived_inputs p.arrived.now) records) (rw : RecordWrites) (which : AreRecordWrites (arrived_inputs p.arrived.now) records rw) where
-    pub record_names_are : database_and_world_names rw ≡ written_records (arrived_inputs p.arrived.now) (new_records (arrived_inputs p.arrived.now) records.database.items)
+  module _ (records : NewRecords) (own : AreRecordsOf (inputs_of_plan p) records) (rw : RecordWrites) (which : AreRecordWrites (inputs_of_plan p) records rw) where
+    pub record_names_are : database_and_world_names rw ≡ written_records (inputs_of_plan p) (new_records (inputs_of_plan p) records.database.items)
     record_names_are =
-        let inputs = arrived_inputs p.arrived.now in
+        let inputs = inputs_of_plan p in
         let named = which.database_name ∙ own.database_name in
         let world_named = which.world_name ∙ own.world_name in
         let database = some_copied rw.database _ records.database.items which.database in
         let world = some_copied rw.world _ records.world which.world ∙ ap (λ (w : List ℕ). not (bytes_eq inputs.root.world_text w)) own.world in
         λ i. name_if_needed (database i) (named i) ++ name_if_needed (world i) (world_named i)
 
-    pub written_once : HaveNoRepeats (written_names p.plan.now ++ database_and_world_names rw)
+    pub written_once : HaveNoRepeats (written_names p.files ++ database_and_world_names rw)
     written_once =
-        once_reserved (written_names p.plan.now) (database_and_world_names rw) plan.names.writes plan.names.writes_rise
-        (subst HaveNoRepeats (sym record_names_are) (records_once (arrived_inputs p.arrived.now) (new_records (arrived_inputs p.arrived.now) records.database.items)))
-        (λ q here. records_are_reserved (arrived_inputs p.arrived.now) (new_records (arrived_inputs p.arrived.now) records.database.items) q (subst (λ (ns : List (List ℕ)). IsIn q ns) record_names_are here))
+        once_reserved (written_names p.files) (database_and_world_names rw) plan.names.writes plan.names.writes_rise
+        (subst HaveNoRepeats (sym record_names_are) (records_once (inputs_of_plan p) (new_records (inputs_of_plan p) records.database.items)))
+        (λ q here. records_are_reserved (inputs_of_plan p) (new_records (inputs_of_plan p) records.database.items) q (subst (λ (ns : List (List ℕ)). IsIn q ns) record_names_are here))
 
-    pub write_names_are : written_names p.plan.now ++ database_and_world_names rw
-        ≡ map (λ w. w.name) (file_writes_of (file_change (arrived_inputs p.arrived.now) wishes found) files) ++ written_records (arrived_inputs p.arrived.now) (new_records (arrived_inputs p.arrived.now) records.database.items)
+    pub write_names_are : written_names p.files ++ database_and_world_names rw
+        ≡ map (λ w. w.name) (file_writes_of (file_change (inputs_of_plan p) (wishes_of_plan p) found) files) ++ written_records (inputs_of_plan p) (new_records (inputs_of_plan p) records.database.items)
     write_names_are = let lists = plan.lists.writes in λ i. map (λ w. w.name) (lists i) ++ record_names_are i
 
 contained : {X : Type 0} (P : X → Type 0) (xs : List X) (x : X) → All P xs → Contains xs x → P x
 contained P xs x all (k, less, is) = subst P is (all k x less)
 
 -- the package of a file that is written comes, and it is the one that is spoiled
-module _ (history : List TreeState) (wishes : ChangeWishes) (p : Planned) (found : List MemberFound) (files : Files) (plan : IsPlanned history wishes p found files)
-    (writes : List StagedWrite) (rw : RecordWrites) (each : All (IsWriteBy (arrived_members p.arrived.now) (package_at p.arrived.now.arrivals.now) (writes_in p.plan.now.writes) rw) writes) (member : ℕ) (cause : Cause) where
+module _ (history : List TreeState) (p : Plan) (found : List MemberFound) (files : Files) (plan : IsPlanned history p found files)
+    (writes : List StagedWrite) (rw : RecordWrites) (each : All (IsWriteBy (members_of p.members) (package_at p.packages.now.arrivals) (writes_in p.files.writes) rw) writes) (member : ℕ) (cause : Cause) where
   given_no_file : (bytes : List ℕ) (s : Source) → HasBytes bytes s → IsSpoiledAt member cause s → ⊥
   given_no_file bytes (Bytes own) has is = is
   given_no_file bytes (Link target) has is = is
@@ -176,37 +203,37 @@ module _ (history : List TreeState) (wishes : ChangeWishes) (p : Planned) (found
   record_no_file name (Some bytes) w is at = given_no_file bytes.now w.source is.source at
 
   abbrev Spoiled : ℕ → Type 0
-  Spoiled place = (pkg : TestedPackage) × (package_at p.arrived.now.arrivals.now place ≡ Some pkg)
+  Spoiled place = (pkg : TestedPackage) × (package_at p.packages.now.arrivals place ≡ Some pkg)
       × ((name tested : List ℕ) → IsTestedOf name tested pkg → (file : List ℕ) × IsSpoiledFile tested file cause)
 
-  planned_at : (w : FileWrite) (s : Source) → IsSourceOfWrite (arrived_members p.arrived.now) (package_at p.arrived.now.arrivals.now) w s → IsSpoiledAt member cause s → (w.member ≡ member) × Spoiled w.member
+  planned_at : (w : FileWrite) (s : Source) → IsSourceOfWrite (members_of p.members) (package_at p.packages.now.arrivals) w s → IsSpoiledAt member cause s → (w.member ≡ member) × Spoiled w.member
   planned_at w (Bytes own) source at = absurd at
   planned_at w (Link target) source at = absurd at
   planned_at w (File f) source at = (sym source.1.member ∙ at.0, (f.package.now, source.1.read, at.1))
 
   abbrev ComesSpoiled : Type 0
-  ComesSpoiled = (m : Member) × (slice_get (arrived_members p.arrived.now) member ≡ Some m) × (is_added m ≡ true) × Spoiled member
+  ComesSpoiled = (m : Member) × (slice_get (members_of p.members) member ≡ Some m) × (is_added m ≡ true) × Spoiled member
 
-  by_write : (w : StagedWrite) → IsWriteBy (arrived_members p.arrived.now) (package_at p.arrived.now.arrivals.now) (writes_in p.plan.now.writes) rw w → IsSpoiledAt member cause w.source → ComesSpoiled
+  by_write : (w : StagedWrite) → IsWriteBy (members_of p.members) (package_at p.packages.now.arrivals) (writes_in p.files.writes) rw w → IsSpoiledAt member cause w.source → ComesSpoiled
   by_write w (inl f) at =
-      let of = contained (IsOfAddedFile (arrived_members p.arrived.now)) (writes_in p.plan.now.writes) f.file plan.sources f.planned_file in
+      let of = contained (IsOfAddedFile (members_of p.members)) (writes_in p.files.writes) f.file plan.sources f.planned_file in
       let (here, spoiled) = planned_at f.file w.source f.source at in
-      (of.member, subst (λ (n : ℕ). slice_get (arrived_members p.arrived.now) n ≡ Some of.member) here of.at, of.comes, subst Spoiled here spoiled)
+      (of.member, subst (λ (n : ℕ). slice_get (members_of p.members) n ≡ Some of.member) here of.at, of.comes, subst Spoiled here spoiled)
   by_write w (inr (inl r)) at = absurd (record_no_file rw.database_name.now rw.database w r at)
   by_write w (inr (inr r)) at = absurd (record_no_file rw.world_name.now rw.world w r at)
 
   pub file_comes : HasSpoiledFile member cause writes → ComesSpoiled
   file_comes has =
       by_write has.write
-      (all_at (IsWriteBy (arrived_members p.arrived.now) (package_at p.arrived.now.arrivals.now) (writes_in p.plan.now.writes) rw) writes has.number has.write each has.at) has.is
+      (all_at (IsWriteBy (members_of p.members) (package_at p.packages.now.arrivals) (writes_in p.files.writes) rw) writes has.number has.write each has.at) has.is
 
-module _ (history : List TreeState) (wishes : ChangeWishes) (p : Planned) (found : List MemberFound) (files : Files) (own : NewRecords)
-    (rw : RecordWrites) (writes : List StagedWrite) (removals : List (List ℕ)) (ready : IsReadyToCommit history wishes p found files own rw writes removals) where
+module _ (history : List TreeState) (p : Plan) (found : List MemberFound) (files : Files) (own : NewRecords)
+    (rw : RecordWrites) (writes : List StagedWrite) (removals : List (List ℕ)) (ready : IsMadeReady history p found files own rw writes removals) where
   abbrev inputs : Inputs
-  inputs = arrived_inputs p.arrived.now
+  inputs = inputs_of_plan p
 
   abbrev change : FileChange
-  change = file_change inputs wishes found
+  change = file_change inputs (wishes_of_plan p) found
 
   abbrev records : RootFilesAfter
   records = new_records inputs own.database.items
@@ -215,19 +242,19 @@ module _ (history : List TreeState) (wishes : ChangeWishes) (p : Planned) (found
   actions = actions_of inputs change files records
 
   abbrev done : ChangeDone
-  done = change_done inputs (arrived_replacement p.arrived.now) wishes found files records
+  done = change_done inputs (replacement_of_plan p) (wishes_of_plan p) found files records
 
   abbrev wanted : Result ChangeDone Refusal
-  wanted = ready_change inputs (arrived_replacement p.arrived.now) wishes found files own.database.items
+  wanted = ready_change inputs (replacement_of_plan p) (wishes_of_plan p) found files own.database.items
 
   pub written_is : map write_name writes ≡ actions.writes
-  written_is = ready.names ∙ ap names_in_order (write_names_are history wishes p found files ready.plan own ready.own rw ready.which)
+  written_is = ready.names ∙ ap names_in_order (write_names_are history p found files ready.plan own ready.own rw ready.which)
 
   pub removed_is : removals ≡ actions.removals
   removed_is = ready.removed ∙ ap (λ (names : List (List ℕ)). names_in_order (names ++ name_if_needed inputs.root.database.from_text text_database_name)) ready.plan.lists.removals
 
   free : HasNoReservedPath change
-  free = no_reserved history wishes p found files ready.plan
+  free = no_reserved history p found files ready.plan
 
   pub may_be_changed : (names : List (List ℕ)) → names ≡ map write_name writes → All IsName removals → All IsName names → AreChangeNames (removals ++ names)
   may_be_changed names names_is gone wrote =
@@ -237,14 +264,11 @@ module _ (history : List TreeState) (wishes : ChangeWishes) (p : Planned) (found
 
   -- ---- the intent
 
-  overflow_is : overflow_of (value_of_intent (intent_of_lists removals (map write_name writes))) ≡ overflow_of (value_of_intent actions)
+  pub overflow_is : overflow_of (value_of_intent (intent_of_lists removals (map write_name writes))) ≡ overflow_of (value_of_intent actions)
   overflow_is = λ i. overflow_of (value_of_intent (intent_of_lists (removed_is i) (written_is i)))
 
   pub ready_fits : unless_overflow (overflow_of (value_of_intent (intent_of_lists removals (map write_name writes)))) true ≡ Ok true → wanted ≡ Ok done
   ready_fits is = fits (overflow_of (value_of_intent actions)) done (ap (λ (o : Option PayloadCounts). unless_overflow o true) (sym overflow_is) ∙ is)
-
-  pub ready_large : (refusal : Refusal) → unless_overflow (overflow_of (value_of_intent (intent_of_lists removals (map write_name writes)))) true ≡ Err refusal → wanted ≡ Err refusal
-  ready_large refusal is = too_large (overflow_of (value_of_intent actions)) done refusal (ap (λ (o : Option PayloadCounts). unless_overflow o true) (sym overflow_is) ∙ is)
 
   pub commits_is : does_something (record { removals = removals; writes = map write_name writes }) ≡ done.commits
   commits_is = λ i. does_something (record { removals = removed_is i; writes = written_is i })
@@ -263,15 +287,15 @@ module _ (history : List TreeState) (wishes : ChangeWishes) (p : Planned) (found
         ∙ ((λ i. after_actions (intent_of_lists (removed_is i) (written_is i)) (with_staged 1 (map (bytes_under done.files) (written_is i)) files))
         ∙ of_files)
 
-    located : (v : TreeState) (earlier : List TreeState) → FilesAreRead (v ∷ earlier) found (package_at p.arrived.now.arrivals.now) → files ≡ files_of v → IsRootOfFiles (files_of v) inputs.root
+    located : (v : TreeState) (earlier : List TreeState) → FilesAreRead (v ∷ earlier) found (package_at p.packages.now.arrivals) → files ≡ files_of v → IsRootOfFiles (files_of v) inputs.root
         → EachDenotes (files_of v) writes (map (bytes_under done.files) (map write_name writes))
     located v earlier read told root =
-        all_stand inputs change found own rw (package_at p.arrived.now.arrivals.now) ready.own ready.which free v earlier read files (subst (λ (f : Files). IsRootOfFiles f inputs.root) (sym told) root) writes
-        (subst (λ (ms : List Member). All (IsWriteBy ms (package_at p.arrived.now.arrivals.now) (file_writes_of change files) rw) writes) ready.plan.arrived.members
-        (subst (λ (ws : List FileWrite). All (IsWriteBy (arrived_members p.arrived.now) (package_at p.arrived.now.arrivals.now) ws rw) writes) ready.plan.lists.writes ready.each))
+        all_stand inputs change found own rw (package_at p.packages.now.arrivals) ready.own ready.which free v earlier read files (subst (λ (f : Files). IsRootOfFiles f inputs.root) (sym told) root) writes
+        (subst (λ (ms : List Member). All (IsWriteBy ms (package_at p.packages.now.arrivals) (file_writes_of change files) rw) writes) ready.plan.arrived.members
+        (subst (λ (ws : List FileWrite). All (IsWriteBy (members_of p.members) (package_at p.packages.now.arrivals) ws rw) writes) ready.plan.lists.writes ready.each))
 
     -- what holds of the run by its contents and the files that it leads to holds by those of the change
-    pub where_shown : (ws : List StagedWrite) → ws ≡ writes → (P : TreeState → Files → Type 0) → FilesAreRead history found (package_at p.arrived.now.arrivals.now)
+    pub where_shown : (ws : List StagedWrite) → ws ≡ writes → (P : TreeState → Files → Type 0) → FilesAreRead history found (package_at p.packages.now.arrivals)
         → IfObservable history (λ v. (contents : List (List ℕ)) → v.names intent_name ≡ None → IsEmptyStage (files_of v) → EachDenotes (files_of v) ws contents → P v (after_actions stage.intent (with_staged 1 contents (files_of v))))
         → IfObservable history (λ v. v.names intent_name ≡ None → IsEmptyStage (files_of v) → P v done.files)
     where_shown ws ws_is P read run =
@@ -279,7 +303,7 @@ module _ (history : List TreeState) (wishes : ChangeWishes) (p : Planned) (found
         (subst (λ (ws : List StagedWrite). IfObservable history (λ v. (contents : List (List ℕ)) → v.names intent_name ≡ None → IsEmptyStage (files_of v) → EachDenotes (files_of v) ws contents → P v (after_actions stage.intent (with_staged 1 contents (files_of v))))) ws_is run)
         ready.plan.told ready.plan.arrived.read.root
       where
-        by : (h : List TreeState) → h ≡ history → FilesAreRead h found (package_at p.arrived.now.arrivals.now)
+        by : (h : List TreeState) → h ≡ history → FilesAreRead h found (package_at p.packages.now.arrivals)
             → IfObservable h (λ v. (contents : List (List ℕ)) → v.names intent_name ≡ None → IsEmptyStage (files_of v) → EachDenotes (files_of v) writes contents → P v (after_actions stage.intent (with_staged 1 contents (files_of v))))
             → IfObservable h (λ v. files ≡ files_of v) → IfObservable h (λ v. IsRootOfFiles (files_of v) inputs.root)
             → IfObservable h (λ v. v.names intent_name ≡ None → IsEmptyStage (files_of v) → P v done.files)
@@ -298,7 +322,7 @@ module _ (history : List TreeState) (wishes : ChangeWishes) (p : Planned) (found
             (room change (listing_bytes (found_package_contents found)) records files free.coming (subst AreStagingPathsFree (sym told) stage) apart).beside
 
     -- no call is a misuse where there is room
-    pub proper_shown : (ws : List StagedWrite) → ws ≡ writes → (before after : ℕ) → FilesAreRead history found (package_at p.arrived.now.arrivals.now)
+    pub proper_shown : (ws : List StagedWrite) → ws ≡ writes → (before after : ℕ) → FilesAreRead history found (package_at p.packages.now.arrivals)
         → IfObservable history (λ v. (contents : List (List ℕ)) → v.names intent_name ≡ None → IsEmptyStage (files_of v) → EachDenotes (files_of v) ws contents → AreJournalPathsFree (files_of v)
         → AreJournalPathsFree (after_actions stage.intent (with_staged 1 contents (files_of v))) → after ≡ before)
         → IfObservable history (λ v. v.names intent_name ≡ None → IsEmptyStage (files_of v) → AreStagingPathsFree (files_of v) → after ≡ before)
@@ -310,26 +334,6 @@ module _ (history : List TreeState) (wishes : ChangeWishes) (p : Planned) (found
         both (v ∷ earlier) proper has = λ absent empty stage. proper absent empty stage.beside (has stage)
 
   -- ---- nothing is carried through
-
-  pub large_comes : (names : List (List ℕ)) → names ≡ map write_name writes → (counts : Counts) (fault : Refused)
-      → Agrees {A = Bool} (λ _. true) (Err fault) (unless_overflow (overflow_of (value_of_intent (intent_of_lists removals names))) true) → CarriesOut (Ok found) wanted history history counts counts (Err fault)
-  large_comes names names_is counts (IsRefused refusal) told =
-      comes_to_refusal (Ok found) wanted history history counts counts (nothing_read history counts) refusal
-      (ready_large refusal (ap (λ (ns : List (List ℕ)). unless_overflow (overflow_of (value_of_intent (intent_of_lists removals ns))) true) (sym names_is) ∙ told))
-  large_comes names names_is counts Disk told = absurd told
-  large_comes names names_is counts Memory told = comes_to_failure (Ok found) wanted history history counts counts (nothing_read history counts) Memory tt
-
-  pub fits_by : (names : List (List ℕ)) → names ≡ map write_name writes → unless_overflow (overflow_of (value_of_intent (intent_of_lists removals names))) true ≡ Ok true → wanted ≡ Ok done
-  fits_by names names_is told = ready_fits (ap (λ (ns : List (List ℕ)). unless_overflow (overflow_of (value_of_intent (intent_of_lists removals ns))) true) (sym names_is) ∙ told)
-
-  pub commits_by : (names : List (List ℕ)) → names ≡ map write_name writes → (b idle : Bool) → idle ≡ not (does_something (record { removals = removals; writes = names })) → idle ≡ b → done.commits ≡ not b
-  commits_by names names_is b idle is by =
-      sym commits_is ∙ (ap (λ (ns : List (List ℕ)). does_something (record { removals = removals; writes = ns })) (sym names_is)
-      ∙ (twice (does_something (record { removals = removals; writes = names })) ∙ ap not (sym is ∙ by)))
-    where
-      twice : (t : Bool) → t ≡ not (not t)
-      twice true = refl
-      twice false = refl
 
   pub idle_comes : wanted ≡ Ok done → done.commits ≡ false → (counts : Counts) (report : List ℕ) → report ≡ done.report → CarriesOut (Ok found) wanted history history counts counts (Ok report)
   idle_comes is idle counts report told = comes_to_idle (Ok found) wanted history history counts counts (nothing_read history counts) done report is idle told
@@ -370,10 +374,10 @@ module _ (history : List TreeState) (wishes : ChangeWishes) (p : Planned) (found
       run_where : (result : Result (List ℕ) Refused) → IfObservable history (λ v. v.names intent_name ≡ None → IsEmptyStage (files_of v) → IsUnchangedOrCommit wanted v history now result)
       run_where result = if_told history _ _ unseen (λ v never absent empty. absurd (never absent empty))
 
-      pub bad_comes : (refused : Refused) → IsRefusedPackage (arrived_members p.arrived.now) member cause refused → CarriesOut (Ok found) wanted history now before after (Err refused)
+      pub bad_comes : (refused : Refused) → IsRefusedPackage (members_of p.members) member cause refused → CarriesOut (Ok found) wanted history now before after (Err refused)
       bad_comes (IsRefused refusal) bad =
           let (m, at, told) = bad in
-          let coming = file_comes history wishes p found files ready.plan writes rw ready.each member cause has in
+          let coming = file_comes history p found files ready.plan writes rw ready.each member cause has in
           let place : slice_get (found_members found) member ≡ Some m = subst (λ (ms : List Member). slice_get ms member ≡ Some m) ready.plan.arrived.members at in
           let spoiled = found_spoiled history _ _ found member m coming.3.0 cause ready.plan.arrived.read.read place coming.3.1 coming.3.2 in
           record {
@@ -422,3 +426,184 @@ part_fails {A} {B} packages part other next view history counts (IsRefused refus
     comes_to_refusal packages (and_then part next) history history counts counts (nothing_read history counts) refusal (ap (λ (p : Result B Refusal). and_then p next) (sym same ∙ told))
 part_fails packages part other next view history counts Disk same told = absurd told
 part_fails packages part other next view history counts Memory same told = comes_to_failure packages (and_then part next) history history counts counts (nothing_read history counts) Memory tt
+
+-- a rendered change is not refused any more
+pub ready_is : (history : List TreeState) (p : Plan) (r : Rendered) (ready : IsReadyToCommit history p r)
+    → ready_change (inputs_of_plan p) (replacement_of_plan p) (wishes_of_plan p) ready.found ready.files ready.records.database.items ≡ Ok (result_of_ready ready)
+ready_is history p r ready =
+    ready_fits history p ready.found ready.files ready.records ready.rendered.written.of_records r.writes.items (removals_of_plan p) (made_ready history p r ready) ready.rendered.fits
+
+-- ---- the journal entry
+
+-- a journal entry that is too large, by the names that are removed and written
+pub entry_large : {A : Type 0} (view : A → Bool) (history : List TreeState) (p : Plan) (found : List MemberFound) (files : Files) (made : NewRecords) (rw : RecordWrites) (writes : List StagedWrite) (removals : List (List ℕ))
+    → IsMadeReady history p found files made rw writes removals → (fault : Refused)
+    → Agrees view (Err fault) (unless_overflow (overflow_of (value_of_intent (intent_of_lists removals (map write_name writes)))) true)
+    → Agrees {A = Bool} {B = Bool} (λ _. true) (Err fault) (unless_overflow (overflow_of (value_of_intent (actions_of (inputs_of_plan p) (file_change (inputs_of_plan p) (wishes_of_plan p) found) files (new_records (inputs_of_plan p) made.database.items)))) true)
+entry_large view history p found files made rw writes removals ready (IsRefused refusal) told =
+    ap (λ (o : Option PayloadCounts). unless_overflow o true) (sym (overflow_is history p found files made rw writes removals ready)) ∙ told
+entry_large view history p found files made rw writes removals ready Disk told = told
+entry_large view history p found files made rw writes removals ready Memory told = tt
+
+-- the same, by names that are equal
+pub same_told : {A B : Type 0} (view : A → Bool) (other : B → Bool) (fault : Refused) (removals writes gone wrote : List (List ℕ)) → removals ≡ gone → writes ≡ wrote
+    → Agrees view (Err fault) (unless_overflow (overflow_of (value_of_intent (intent_of_lists removals writes))) true)
+    → Agrees other (Err fault) (unless_overflow (overflow_of (value_of_intent (intent_of_lists gone wrote))) true)
+same_told view other (IsRefused refusal) removals writes gone wrote gone_is wrote_is told =
+    (λ i. unless_overflow (overflow_of (value_of_intent (intent_of_lists (sym gone_is i) (sym wrote_is i)))) true) ∙ told
+same_told view other Disk removals writes gone wrote gone_is wrote_is told = told
+same_told view other Memory removals writes gone wrote gone_is wrote_is told = tt
+
+pub not_idle : (removals writes gone wrote : List (List ℕ)) (idle b : Bool) → removals ≡ gone → writes ≡ wrote → idle ≡ not (does_something (record { removals = removals; writes = writes })) → idle ≡ b
+    → does_something (record { removals = gone; writes = wrote }) ≡ not b
+not_idle removals writes gone wrote idle b gone_is wrote_is is by =
+    (λ i. does_something (record { removals = sym gone_is i; writes = sym wrote_is i }))
+    ∙ (twice (does_something (record { removals = removals; writes = writes })) ∙ ap not (sym is ∙ by))
+  where
+    twice : (t : Bool) → t ≡ not (not t)
+    twice true = refl
+    twice false = refl
+
+some_length : (name : List ℕ) (names : List (List ℕ)) → (length (name ∷ names) == 0) ≡ false
+some_length name names = ne_eqb (length (name ∷ names)) 0 (λ e. absurd (omega arith))
+
+-- that of a change that does nothing would fit
+pub idle_fits : (removals writes : List (List ℕ)) → does_something (record { removals = removals; writes = writes }) ≡ false
+    → unless_overflow (overflow_of (value_of_intent (intent_of_lists removals writes))) true ≡ Ok true
+unfolding counts_after_values
+idle_fits [] [] is = refl
+idle_fits (name ∷ removals) writes is =
+    let some : does_something (record { removals = name ∷ removals; writes = writes }) ≡ true = ap (λ (b : Bool). not b || not (length writes == 0)) (some_length name removals) in
+    absurd (true≢false (sym some ∙ is))
+idle_fits [] (name ∷ writes) is =
+    let some : does_something (record { removals = []; writes = name ∷ writes }) ≡ true = ap (λ (b : Bool). not b) (some_length name writes) in
+    absurd (true≢false (sym some ∙ is))
+
+-- ---- a rendered change is committed
+
+pub stage_of : (o : Option Staging) (stage : Staging) (removals writes : List (List ℕ)) → o ≡ Some stage → IsStageOf removals writes o
+    → (does_something (record { removals = removals; writes = writes }) ≡ true) × (stage ≡ new_stage removals writes)
+stage_of o stage removals writes is of = subst (IsStageOf removals writes) is of
+
+pub new_stage_is : (stage : Staging) (removals writes : List (List ℕ)) → stage ≡ new_stage removals writes → stage ≡ new_stage stage.intent.removals stage.intent.writes
+new_stage_is stage removals writes is = is ∙ sym (λ i. new_stage (is i).intent.removals (is i).intent.writes)
+
+pub same_length : (stage : Staging) (removals : List (List ℕ)) (ws writes : List StagedWrite) → stage ≡ new_stage removals (map write_name writes) → ws ≡ writes → length ws ≡ length stage.intent.writes
+same_length stage removals ws writes is same = ap length same ∙ (sym (length-map writes write_name) ∙ sym (ap (λ (s : Staging). length s.intent.writes) is))
+
+module _ (history : List TreeState) (p : Plan) (r : Rendered) (ready : IsReadyToCommit history p r) where
+  abbrev of_records : RecordWrites
+  of_records = ready.rendered.written.of_records
+
+  made : IsMadeReady history p ready.found ready.files ready.records of_records r.writes.items (removals_of_plan p)
+  made = made_ready history p r ready
+
+  abbrev Ends : List TreeState → Counts → Counts → Result (List ℕ) Refused → Type 0
+  Ends now before after result = CarriesOut (Ok ready.found) (Ok (result_of_ready ready)) history now before after result
+
+  ends : (now : List TreeState) (before after : Counts) (result : Result (List ℕ) Refused)
+      → CarriesOut (Ok ready.found) (ready_change (inputs_of_plan p) (replacement_of_plan p) (wishes_of_plan p) ready.found ready.files ready.records.database.items) history now before after result
+      → Ends now before after result
+  ends now before after result comes = subst (λ (w : Result ChangeDone Refusal). CarriesOut (Ok ready.found) w history now before after result) (ready_is history p r ready) comes
+
+  -- nothing is done
+  pub nothing_done : r.stage ≡ None → (counts : Counts) → Ends history counts counts (Ok r.report)
+  nothing_done is counts =
+      let idle : does_something (record { removals = removals_of_plan p; writes = map write_name r.writes.items }) ≡ false = subst (IsStageOf (removals_of_plan p) (map write_name r.writes.items)) is ready.rendered.stage in
+      ends history counts counts (Ok r.report)
+      (idle_comes history p ready.found ready.files ready.records of_records r.writes.items (removals_of_plan p) made (ready_is history p r ready)
+      (sym (commits_is history p ready.found ready.files ready.records of_records r.writes.items (removals_of_plan p) made) ∙ idle) counts r.report (ready.rendered.report history ready.found ready.files ready.planned))
+
+  -- a file of a package that comes is spoiled
+  pub bad_member : (member : ℕ) (cause : Cause) → HasSpoiledFile member cause r.writes.items → member < length (members_of p.members)
+  bad_member member cause has =
+      let coming = file_comes history p ready.found ready.files ready.planned r.writes.items of_records ready.rendered.written.each member cause has in
+      within_length _ member coming.0 coming.1
+
+  -- the stage is carried out
+  module _ (law : FilesAreRead history ready.found (package_at p.packages.now.arrivals))
+      (stage : Staging) (staged : r.stage ≡ Some stage) (few : action_count stage.intent < 2 ^ 63) (ws : List StagedWrite) (ws_is : ws ≡ r.writes.items) (now : List TreeState) (before after : Counts) (res : Result (Unit {0}) StageFault)
+      (run : IfObservable history (λ v. (contents : List (List ℕ)) → v.names intent_name ≡ None → IsEmptyStage (files_of v) → EachDenotes (files_of v) ws contents
+      → IsCarriedTo {A = Unit {0}} (after_actions stage.intent (with_staged 1 contents (files_of v))) v history now res))
+      (proper : IfObservable history (λ v. (contents : List (List ℕ)) → v.names intent_name ≡ None → IsEmptyStage (files_of v) → EachDenotes (files_of v) ws contents → AreJournalPathsFree (files_of v)
+      → AreJournalPathsFree (after_actions stage.intent (with_staged 1 contents (files_of v))) → after.misuses ≡ before.misuses)) where
+    of_stage : (does_something (record { removals = removals_of_plan p; writes = map write_name r.writes.items }) ≡ true) × (stage ≡ new_stage (removals_of_plan p) (map write_name r.writes.items))
+    of_stage = stage_of r.stage stage (removals_of_plan p) (map write_name r.writes.items) staged ready.rendered.stage
+
+    few_names : length (map write_name r.writes.items) < 2 ^ 63
+    few_names = few_writes stage (removals_of_plan p) (map write_name r.writes.items) (map write_name r.writes.items) of_stage.1 refl few
+
+    commits : (result_of_ready ready).commits ≡ true
+    commits = sym (commits_is history p ready.found ready.files ready.records of_records r.writes.items (removals_of_plan p) made) ∙ of_stage.0
+
+    carried : IfObservable history (λ v. v.names intent_name ≡ None → IsEmptyStage (files_of v) → IsCarriedTo {A = Unit {0}} (result_of_ready ready).files v history now res)
+    carried =
+        where_shown history p ready.found ready.files ready.records of_records r.writes.items (removals_of_plan p) made few_names stage of_stage.1 ws ws_is (λ v left. IsCarriedTo {A = Unit {0}} left v history now res) law run
+
+    no_misuse : IfObservable history (λ v. v.names intent_name ≡ None → IsEmptyStage (files_of v) → AreStagingPathsFree (files_of v) → after.misuses ≡ before.misuses)
+    no_misuse =
+        proper_shown history p ready.found ready.files ready.records of_records r.writes.items (removals_of_plan p) made few_names stage of_stage.1 ws ws_is before.misuses after.misuses law proper
+
+    pub ends_well : res ≡ Ok tt → Ends now before after (Ok r.report)
+    ends_well is =
+        ends now before after (Ok r.report)
+        (done_comes history p ready.found ready.files ready.records of_records r.writes.items (removals_of_plan p) made (ready_is history p r ready) commits now before after no_misuse
+        (subst (λ (x : Result (Unit {0}) StageFault). IfObservable history (λ v. v.names intent_name ≡ None → IsEmptyStage (files_of v) → IsCarriedTo {A = Unit {0}} (result_of_ready ready).files v history now x)) is carried)
+        r.report (ready.rendered.report history ready.found ready.files ready.planned))
+
+    pub ends_by_disk : (fault : StageFault) → fault ≡ Stages.Disk → res ≡ Err fault → Ends now before after (Err Disk)
+    ends_by_disk fault is_disk is =
+        ends now before after (Err Disk)
+        (disk_comes history p ready.found ready.files ready.records of_records r.writes.items (removals_of_plan p) made (ready_is history p r ready) commits now before after no_misuse fault is_disk
+        (subst (λ (x : Result (Unit {0}) StageFault). IfObservable history (λ v. v.names intent_name ≡ None → IsEmptyStage (files_of v) → IsCarriedTo {A = Unit {0}} (result_of_ready ready).files v history now x)) is carried))
+
+    pub ends_by_bad : (member : ℕ) (cause : Cause) → HasSpoiledFile member cause r.writes.items → (fault : StageFault) → fault ≡ Stages.Bad member cause → res ≡ Err fault → (refused : Refused)
+        → IsRefusedPackage (members_of p.members) member cause refused → Ends now before after (Err refused)
+    ends_by_bad member cause has fault is_bad is refused bad =
+        ends now before after (Err refused)
+        (bad_comes history p ready.found ready.files ready.records of_records r.writes.items (removals_of_plan p) made (ready_is history p r ready) commits now before after no_misuse member cause has fault is_bad
+        (subst (λ (x : Result (Unit {0}) StageFault). IfObservable history (λ v. v.names intent_name ≡ None → IsEmptyStage (files_of v) → IsCarriedTo {A = Unit {0}} (result_of_ready ready).files v history now x)) is carried)
+        refused bad)
+
+-- a journal entry that is too large is refused
+entry_refused : (packages : Result (List MemberFound) Refusal) (overflow : Option PayloadCounts) (ends : ChangeDone) (history : List TreeState) (counts : Counts) (fault : Refused)
+    → Agrees {A = Bool} {B = Bool} (λ _. true) (Err fault) (unless_overflow overflow true) → CarriesOut packages (unless_overflow overflow ends) history history counts counts (Err fault)
+entry_refused packages overflow ends history counts (IsRefused refusal) told =
+    comes_to_refusal packages (unless_overflow overflow ends) history history counts counts (nothing_read history counts) refusal (too_large overflow ends refusal told)
+entry_refused packages overflow ends history counts Disk told = absurd told
+entry_refused packages overflow ends history counts Memory told = comes_to_failure packages (unless_overflow overflow ends) history history counts counts (nothing_read history counts) Memory tt
+
+-- ---- what is left after the tests of a plan
+
+module _ (history : List TreeState) (p : Plan) (found : List MemberFound) (files : Files) (plan : IsPlanned history p found files) where
+  database_is : unless_large (database_of (members_of p.members) p.files.owned) ≡ unless_large (database_of (found_members found) (owned_of (found_members found)))
+  database_is = let owned = plan.owners.owned ∙ ap owned_of plan.arrived.members in λ i. unless_large (database_of (plan.arrived.members i) (owned i))
+
+  -- the database is too large
+  pub large_database : (counts : Counts) (fault : Refused) → Agrees {A = NewRecords} (λ r. r.database.items) (Err fault) (unless_large (database_of (members_of p.members) p.files.owned))
+      → CarriesOut (Ok found) (unless_too_large (inputs_of_plan p) (replacement_of_plan p) (wishes_of_plan p) found files) history history counts counts (Err fault)
+  large_database counts fault told =
+      part_fails {A = NewRecords} {B = List ℕ} (Ok found) (unless_large (database_of (found_members found) (owned_of (found_members found)))) (unless_large (database_of (members_of p.members) p.files.owned))
+      (ready_change (inputs_of_plan p) (replacement_of_plan p) (wishes_of_plan p) found files) (λ r. r.database.items) history counts fault database_is told
+
+  -- the database is made
+  module _ (records : NewRecords) (told : unless_large (database_of (members_of p.members) p.files.owned) ≡ Ok records.database.items) where
+    pub made_database : unless_too_large (inputs_of_plan p) (replacement_of_plan p) (wishes_of_plan p) found files ≡ ready_change (inputs_of_plan p) (replacement_of_plan p) (wishes_of_plan p) found files records.database.items
+    made_database = ap (λ (part : Result (List ℕ) Refusal). and_then part (ready_change (inputs_of_plan p) (replacement_of_plan p) (wishes_of_plan p) found files)) (sym database_is ∙ told)
+
+    -- the journal entry is too large
+    pub large_entry : (counts : Counts) (fault : Refused) → IsOverflowOf p records fault
+        → CarriesOut (Ok found) (unless_too_large (inputs_of_plan p) (replacement_of_plan p) (wishes_of_plan p) found files) history history counts counts (Err fault)
+    large_entry counts fault large =
+        subst (λ (w : Result ChangeDone Refusal). CarriesOut (Ok found) w history history counts counts (Err fault)) (sym made_database)
+        (entry_refused (Ok found)
+        (overflow_of (value_of_intent (actions_of (inputs_of_plan p) (file_change (inputs_of_plan p) (wishes_of_plan p) found) files (new_records (inputs_of_plan p) records.database.items))))
+        (change_done (inputs_of_plan p) (replacement_of_plan p) (wishes_of_plan p) found files (new_records (inputs_of_plan p) records.database.items)) history counts fault (large history found files plan))
+
+    -- the journal entry fits
+    pub entry_fits : (own : AreRecordsOf (inputs_of_plan p) records) (r : Rendered) → IsRendered p records r
+        → unless_too_large (inputs_of_plan p) (replacement_of_plan p) (wishes_of_plan p) found files
+        ≡ Ok (change_done (inputs_of_plan p) (replacement_of_plan p) (wishes_of_plan p) found files (new_records (inputs_of_plan p) records.database.items))
+    entry_fits own r rendered =
+        let ready : IsReadyToCommit history p r = record { found = found; files = files; planned = plan; records = records; own = own; rendered = rendered } in
+        made_database ∙ ready_is history p r ready

@@ -80,7 +80,7 @@ files_seen have command selected (v ∷ earlier) read whole =
     let found = clash_selected have finite.0 (files_of v) (within_files v finite.0 finite.1) command read selected in
     record { files = files_of v; there = refl; clash = found.0; is_clash = found.1 }
 
-some_reads : (old : List TreeState) → (read : Reads) × AreObserved old read
+pub some_reads : (old : List TreeState) → (read : Reads) × AreObserved old read
 some_reads [] = ((λ n name. None), tt)
 some_reads (v ∷ earlier) = ((λ n name. files_of v name), λ n name. refl)
 

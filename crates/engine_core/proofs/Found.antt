@@ -1,6 +1,6 @@
 -- Runs by the packages that are found, and by the plan of their files.
 use Rattle.std.proofs.Common.{◌≡◌, inl, ℕ, false, List, [], ◌∷◌, All, Option, Some, None, Result, Ok, Err, refl, sym, ap, subst, ◌∙◌}
-use Rattle.std.specs.Prelude.{IsSome, map, option_map, slice_get}
+use Rattle.std.specs.Prelude.{◌++◌, IsSome, map, option_map, slice_get}
 use Rattle.std.specs.Option.{option_map_or}
 use Rattle.std.proofs.lemmas.List.Elements.{All-head}
 use Rattle.std.proofs.lemmas.Option.{same_Some}
@@ -10,6 +10,7 @@ use Rattle.base_core.specs.Calls.{IfObservable}
 use Rattle.base_core.specs.Faults.{Counts}
 use Rattle.base_core.specs.Files.{Files, HasNamesAmong, no_names}
 use Rattle.base_core.specs.Tree.{IsWellFormed, TreeState, bytes_at, files_of}
+use Rattle.change_report.specs.Due.{planned_paths}
 use Rattle.change_report.specs.change_files.FileChange.{FileChange, old_listings}
 use Rattle.change_report.specs.change_files.NamesAfter.{name_change}
 use Rattle.change_report.specs.change_files.PlanLists.{first_reserved}
@@ -23,6 +24,7 @@ use Rattle.change_report.specs.change_outcome.MembersAfter.{MemberFound, found_m
 use Rattle.change_report.specs.change_outcome.Triggers.{unless_trigger}
 use Rattle.change_report.specs.db_core.Members.{Member, member_listings, member_name, member_of_kept}
 use Rattle.change_report.specs.db_core.Seen.{members_of, packages_of}
+use Rattle.change_report.specs.db_core.declared.members.Members.{Members}
 use Rattle.change_report.specs.file_owners.Owners.{contested_of}
 use Rattle.change_report.specs.make_info.Reads.{Reads}
 use Rattle.change_report.specs.own_core.Planned.{ArePlanLists, HasOwnNames, HasSources, IsClashBySome, IsPlanFor, IsPlanOf, IsRefusalFor, IsRefusalOf, MayBeRefusalOf, change_by, member_name_at}
@@ -36,11 +38,11 @@ use Rattle.change_report.specs.path_clashes.FirstClash.{IsClashOf, MayBeClashOf}
 use Rattle.report_core.specs.declared.refusal.Refusal.{Refusal}
 use Rattle.report_core.specs.declared.refusal.Refusal.TheVariants.{Owned, PathClash, Reserved}
 use Rattle.engine_core.specs.ChangeRun.{CarriesOut}
-use Rattle.engine_core.specs.Finishing.{HasReadArrivals, IsArrived, IsPlanned, arrived_inputs, arrived_replacement}
+use Rattle.engine_core.specs.Preparing.{HasReadArrivals, IsArrived, IsPlanned, inputs_of_packages, replacement_of_packages, inputs_of_plan, replacement_of_plan, wishes_of_plan}
 use Rattle.engine_core.specs.Plans.{HasNoPlan, IsPlanFrom, IsRefusedFor}
-use Rattle.engine_core.specs.declared.planning.Arrived.{Arrived}
-use Rattle.engine_core.specs.declared.planning.Planned.{Planned}
-use Rattle.engine_core.proofs.FoundRuns.{IsFoundRun}
+use Rattle.engine_core.specs.declared.packages.ReadPackages.{ReadPackages}
+use Rattle.engine_core.specs.declared.planning.Plan.{Plan}
+use Rattle.engine_core.specs.Runs.{IsFoundRun}
 use Rattle.engine_core.proofs.Early.{HaveClash, IsOnlyRead, comes_to_failure, comes_to_refusal, nothing_within}
 use Rattle.engine_core.proofs.WholeRuns.{comes_after_reads}
 
@@ -155,42 +157,42 @@ module _ (have : HaveClash) (inputs : Inputs) (r : Replacement) (wishes : Change
 
 -- ---- a plan
 
-change_is : (history : List TreeState) (a : Arrived) (wishes : ChangeWishes) (found : List MemberFound) → IsArrived history a found
-    → change_by a.selection.now.db a.members.now wishes.purge ≡ file_change (arrived_inputs a) wishes found
-change_is history a wishes found arrived = λ i. record { old = arrived.read.database i; members = arrived.members i; purge = wishes.purge }
+change_is : (history : List TreeState) (a : ReadPackages) (ms : Members) (wishes : ChangeWishes) (found : List MemberFound) → IsArrived history a ms found
+    → change_by a.selection.now.db ms wishes.purge ≡ file_change (inputs_of_packages a) wishes found
+change_is history a ms wishes found arrived = λ i. record { old = arrived.read.database i; members = arrived.members i; purge = wishes.purge }
 
 -- why there is none, of the packages that are found
-pub unplanned_run : HaveClash → (old now : List TreeState) (before after : Counts) (a : Arrived) (wishes : ChangeWishes) (read : Reads) (found : List MemberFound) (fault : PlanFault) (refused : Refused)
-    → All IsWellFormed old → IsOnlyRead old now before after → IsArrived old a found → change_members (arrived_inputs a) (arrived_replacement a) wishes read ≡ Ok found
-    → IsRefusedFor fault refused → IsRefusalFor (members_of a.members.now) fault
-    → IfObservable old (λ v. IsRefusalOf (change_by a.selection.now.db a.members.now wishes.purge) (files_of v) fault)
-    → MayBeRefusalOf (change_by a.selection.now.db a.members.now wishes.purge) old fault
-    → IsFoundRun (arrived_inputs a) (arrived_replacement a) wishes found old now before after (Err refused)
-unplanned_run have old now before after a wishes read found fault refused whole quiet arrived is_found is cause first may =
-    unplanned have (arrived_inputs a) (arrived_replacement a) wishes read found is_found old now before after whole quiet fault refused is
+pub unplanned_run : HaveClash → (old now : List TreeState) (before after : Counts) (a : ReadPackages) (ms : Members) (wishes : ChangeWishes) (read : Reads) (found : List MemberFound) (fault : PlanFault) (refused : Refused)
+    → All IsWellFormed old → IsOnlyRead old now before after → IsArrived old a ms found → change_members (inputs_of_packages a) (replacement_of_packages a) wishes read ≡ Ok found
+    → IsRefusedFor fault refused → IsRefusalFor (members_of ms) fault
+    → IfObservable old (λ v. IsRefusalOf (change_by a.selection.now.db ms wishes.purge) (files_of v) fault)
+    → MayBeRefusalOf (change_by a.selection.now.db ms wishes.purge) old fault
+    → IsFoundRun (inputs_of_packages a) (replacement_of_packages a) wishes found old now before after (Err refused)
+unplanned_run have old now before after a ms wishes read found fault refused whole quiet arrived is_found is cause first may =
+    unplanned have (inputs_of_packages a) (replacement_of_packages a) wishes read found is_found old now before after whole quiet fault refused is
     (subst (λ (ms : List Member). IsRefusalFor ms fault) arrived.members cause)
-    (subst (λ (c : FileChange). IfObservable old (λ v. IsRefusalOf c (files_of v) fault)) (change_is old a wishes found arrived) first)
-    (subst (λ (c : FileChange). MayBeRefusalOf c old fault) (change_is old a wishes found arrived) may)
+    (subst (λ (c : FileChange). IfObservable old (λ v. IsRefusalOf c (files_of v) fault)) (change_is old a ms wishes found arrived) first)
+    (subst (λ (c : FileChange). MayBeRefusalOf c old fault) (change_is old a ms wishes found arrived) may)
 
 -- the same, of the step that plans
-pub unplanned_step : HaveClash → (old now : List TreeState) (before after : Counts) (a : Arrived) (wishes : ChangeWishes) (read : Reads) (found : List MemberFound) (refused : Refused)
-    → HasNoPlan old wishes a refused → All IsWellFormed old → IsOnlyRead old now before after → IsArrived old a found → change_members (arrived_inputs a) (arrived_replacement a) wishes read ≡ Ok found
-    → IsFoundRun (arrived_inputs a) (arrived_replacement a) wishes found old now before after (Err refused)
-unplanned_step have old now before after a wishes read found refused why whole quiet arrived is_found =
-    unplanned_run have old now before after a wishes read found why.fault refused whole quiet arrived is_found why.reported why.cause why.first why.may
+pub unplanned_step : HaveClash → (old now : List TreeState) (before after : Counts) (a : ReadPackages) (ms : Members) (wishes : ChangeWishes) (read : Reads) (found : List MemberFound) (refused : Refused)
+    → HasNoPlan old wishes.purge a.selection.now.db ms refused → All IsWellFormed old → IsOnlyRead old now before after → IsArrived old a ms found → change_members (inputs_of_packages a) (replacement_of_packages a) wishes read ≡ Ok found
+    → IsFoundRun (inputs_of_packages a) (replacement_of_packages a) wishes found old now before after (Err refused)
+unplanned_step have old now before after a ms wishes read found refused why whole quiet arrived is_found =
+    unplanned_run have old now before after a ms wishes read found why.fault refused whole quiet arrived is_found why.reported why.cause why.first why.may
 
-pub planned_now : (old mid : List TreeState) → mid ≡ old → (p : Planned) (wishes : ChangeWishes) (found : List MemberFound) → IsArrived old p.arrived.now found
-    → (plan : IsPlanOf (change_by p.arrived.now.selection.now.db p.arrived.now.members.now wishes.purge) old p.plan.now)
-    → HasOwnNames p.plan.now → HasSources (members_of p.arrived.now.members.now) p.plan.now → IsPlanFor (members_of p.arrived.now.members.now) p.plan.now
-    → All (λ l. is_reserved l.path ≡ false) (member_listings (map member_of_kept (packages_of p.arrived.now.selection.now.db)))
-    → IsPlanned mid wishes p found plan.files
+pub planned_now : (old mid : List TreeState) → mid ≡ old → (p : Plan) (found : List MemberFound) → IsArrived old p.packages.now p.members found
+    → (plan : IsPlanOf (change_by p.packages.now.selection.now.db p.members (wishes_of_plan p).purge) old p.files)
+    → HasOwnNames p.files → HasSources (members_of p.members) p.files → IsPlanFor (members_of p.members) p.files
+    → All (λ l. is_reserved l.path ≡ false) (member_listings (map member_of_kept (packages_of p.packages.now.selection.now.db)))
+    → IsPlanned mid p found plan.files
 unfolding old_listings
-planned_now old mid same p wishes found arrived plan names sources owners unreserved =
-    let is = change_is old p.arrived.now wishes found arrived in
-    subst (λ (h : List TreeState). IsPlanned h wishes p found plan.files) (sym same) (record {
+planned_now old mid same p found arrived plan names sources owners unreserved =
+    let is = change_is old p.packages.now p.members (wishes_of_plan p) found arrived in
+    subst (λ (h : List TreeState). IsPlanned h p found plan.files) (sym same) (record {
       arrived = arrived;
       told = plan.told;
-      lists = subst (λ (c : FileChange). ArePlanLists c plan.files p.plan.now) is plan.lists;
+      lists = subst (λ (c : FileChange). ArePlanLists c plan.files p.files) is plan.lists;
       names = names;
       sources = sources;
       owners = owners;
@@ -198,23 +200,23 @@ planned_now old mid same p wishes found arrived plan names sources owners unrese
       unreserved = subst (λ (ps : List Plain). All (λ l. is_reserved l.path ≡ false) (member_listings (map member_of_kept ps))) arrived.read.database unreserved;
     })
 
-pub planned_run : (old mid now : List TreeState) (before between after : Counts) (a : Arrived) (p : FilePlan) (wishes : ChangeWishes) (found : List MemberFound) (result : Result (List ℕ) Refused)
-    → IsOnlyRead old mid before between → IsArrived old a found → (plan : IsPlanOf (change_by a.selection.now.db a.members.now wishes.purge) old p) → IsPlanFor (members_of a.members.now) p
+pub planned_run : (old mid now : List TreeState) (before between after : Counts) (a : ReadPackages) (ms : Members) (p : FilePlan) (wishes : ChangeWishes) (found : List MemberFound) (result : Result (List ℕ) Refused)
+    → IsOnlyRead old mid before between → IsArrived old a ms found → (plan : IsPlanOf (change_by a.selection.now.db ms wishes.purge) old p) → IsPlanFor (members_of ms) p
     → CarriesOut (Ok found)
-    (and_then (unless_trigger wishes.no_scripts (touched_paths (file_change (arrived_inputs a) wishes found) plan.files) (found_members found))
-    (λ allowed. unless_too_large (arrived_inputs a) (arrived_replacement a) wishes found plan.files)) mid now between after result
-    → IsFoundRun (arrived_inputs a) (arrived_replacement a) wishes found old now before after result
-planned_run old mid now before between after a p wishes found result quiet arrived plan owners comes =
-    let inputs = arrived_inputs a in
-    let r = arrived_replacement a in
+    (and_then (unless_trigger wishes.no_scripts (touched_paths (file_change (inputs_of_packages a) wishes found) plan.files) (found_members found))
+    (λ allowed. unless_too_large (inputs_of_packages a) (replacement_of_packages a) wishes found plan.files)) mid now between after result
+    → IsFoundRun (inputs_of_packages a) (replacement_of_packages a) wishes found old now before after result
+planned_run old mid now before between after a ms p wishes found result quiet arrived plan owners comes =
+    let inputs = inputs_of_packages a in
+    let r = replacement_of_packages a in
     let members : List Member = found_members found in
     let rest : Result ChangeDone Refusal = and_then (unless_trigger wishes.no_scripts (touched_paths (file_change inputs wishes found) plan.files) members) (λ allowed. unless_too_large inputs r wishes found plan.files) in
     let wanted_is : change_with_members inputs r wishes None plan.files found ≡ rest =
     ap (λ (o : Option (List ℕ)). unless_reserved_path o (unless_contested members (contested_of members) rest)) (sym (ap first_reserved arrived.members) ∙ owners.allowed)
     ∙ ap (λ (o : Option ContestedPath). unless_contested members o rest) (sym (ap contested_of arrived.members) ∙ owners.owners) in
     let none = none_told (file_change inputs wishes found) plan.files old plan.told
-    (subst (λ (c : FileChange). MayBeClashOf (name_change c plan.files) None) (change_is old a wishes found arrived) plan.may_have_none)
-    (subst (λ (c : FileChange). IfObservable old (λ v. HasNoClash (name_change c plan.files) plan.files)) (change_is old a wishes found arrived) plan.no_clash) in
+    (subst (λ (c : FileChange). MayBeClashOf (name_change c plan.files) None) (change_is old a ms wishes found arrived) plan.may_have_none)
+    (subst (λ (c : FileChange). IfObservable old (λ v. HasNoClash (name_change c plan.files) plan.files)) (change_is old a ms wishes found arrived) plan.no_clash) in
     record {
       files = plan.files;
       there = plan.told;
@@ -227,23 +229,30 @@ planned_run old mid now before between after a p wishes found result quiet arriv
     }
 
 -- the same two, of the step that plans
-pub planned_step : (old mid : List TreeState) (p : Planned) (wishes : ChangeWishes) (found : List MemberFound) → (plan : IsPlanFrom old wishes p.arrived.now p.plan.now) → mid ≡ old → IsArrived old p.arrived.now found
-    → IsPlanned mid wishes p found plan.lists.files
-planned_step old mid p wishes found plan same arrived =
-    planned_now old mid same p wishes found arrived plan.lists plan.names plan.sources plan.owners plan.unreserved
+pub planned_step : (old mid : List TreeState) (p : Plan) (found : List MemberFound) → (plan : IsPlanFrom old (wishes_of_plan p).purge p.packages.now.selection.now.db p.members p.files) → mid ≡ old
+    → IsArrived old p.packages.now p.members found → IsPlanned mid p found plan.lists.files
+planned_step old mid p found plan same arrived =
+    planned_now old mid same p found arrived plan.lists plan.names plan.sources plan.owners plan.unreserved
 
-pub planned_step_run : (old mid now : List TreeState) (before between after : Counts) (p : Planned) (wishes : ChangeWishes) (found : List MemberFound) (result : Result (List ℕ) Refused)
-    → ((files : Files) → IsPlanned mid wishes p found files
+pub planned_step_run : (old mid now : List TreeState) (before between after : Counts) (p : Plan) (found : List MemberFound) (result : Result (List ℕ) Refused)
+    → ((files : Files) → IsPlanned mid p found files
     → CarriesOut (Ok found)
-    (and_then (unless_trigger wishes.no_scripts (touched_paths (file_change (arrived_inputs p.arrived.now) wishes found) files) (found_members found))
-    (λ allowed. unless_too_large (arrived_inputs p.arrived.now) (arrived_replacement p.arrived.now) wishes found files)) mid now between after result)
-    → IsPlanFrom old wishes p.arrived.now p.plan.now → IsOnlyRead old mid before between → IsArrived old p.arrived.now found
-    → IsFoundRun (arrived_inputs p.arrived.now) (arrived_replacement p.arrived.now) wishes found old now before after result
-planned_step_run old mid now before between after p wishes found result comes plan quiet arrived =
-    planned_run old mid now before between after p.arrived.now p.plan.now wishes found result quiet arrived plan.lists plan.owners
-    (comes plan.lists.files (planned_step old mid p wishes found plan quiet.same arrived))
+    (and_then (unless_trigger (wishes_of_plan p).no_scripts (touched_paths (file_change (inputs_of_plan p) (wishes_of_plan p) found) files) (found_members found))
+    (λ allowed. unless_too_large (inputs_of_plan p) (replacement_of_plan p) (wishes_of_plan p) found files)) mid now between after result)
+    → IsPlanFrom old (wishes_of_plan p).purge p.packages.now.selection.now.db p.members p.files → IsOnlyRead old mid before between → IsArrived old p.packages.now p.members found
+    → IsFoundRun (inputs_of_plan p) (replacement_of_plan p) (wishes_of_plan p) found old now before after result
+planned_step_run old mid now before between after p found result comes plan quiet arrived =
+    planned_run old mid now before between after p.packages.now p.members p.files (wishes_of_plan p) found result quiet arrived plan.lists plan.owners
+    (comes plan.lists.files (planned_step old mid p found plan quiet.same arrived))
+
+-- the triggers of a planned change are those that the plan's paths have
+pub triggers_are : (history : List TreeState) (p : Plan) (found : List MemberFound) (files : Files) → IsPlanned history p found files
+    → unless_trigger (wishes_of_plan p).no_scripts (planned_paths p.files) (members_of p.members)
+    ≡ unless_trigger (wishes_of_plan p).no_scripts (touched_paths (file_change (inputs_of_plan p) (wishes_of_plan p) found) files) (found_members found)
+triggers_are history p found files planned =
+    λ i. unless_trigger (wishes_of_plan p).no_scripts (map (λ w. w.name) (planned.lists.writes i) ++ planned.lists.removals i) (planned.arrived.members i)
 
 -- the packages after a change have arrived
-pub has_arrived : (history : List TreeState) (a : Arrived) (found : List MemberFound) → members_of a.members.now ≡ found_members found → HasReadArrivals history a.selection.now a.names.now a.arrivals.now found
-    → IsArrived history a found
-has_arrived history a found members read = record { read = read; members = members }
+pub has_arrived : (history : List TreeState) (a : ReadPackages) (ms : Members) (found : List MemberFound) → members_of ms ≡ found_members found → HasReadArrivals history a found
+    → IsArrived history a ms found
+has_arrived history a ms found members read = record { read = read; members = members }

@@ -24,7 +24,6 @@ pub mod SpoiledPackages
 pub mod Carries
 pub mod Elements
 pub mod Written
-pub mod FoundRuns
 pub mod Found
 pub mod Counted
 pub mod PlanSteps

@@ -1,4 +1,4 @@
--- The step that plans only reads the tree.
+-- The steps that read packages and plan only read the tree.
 use Rattle.std.proofs.Common.{◌≡◌, List, Result, Ok, Err, refl, sym, ap, subst, ◌∙◌}
 use Rattle.base_core.specs.Faults.{Counts}
 use Rattle.base_core.specs.Read.{OnlyReads}
@@ -41,3 +41,29 @@ refused_read old now before after fault refused is reads = record {
   others = λ not. reads.others (λ failed. not (disk_of fault refused is failed));
   proper = reads.proper;
 }
+
+-- ---- the same calls as those of a step
+
+pub reads_fail : {A B : Type 0} (old now : List TreeState) (before after : Counts) (fault : Refused) → OnlyReads {A = A} Commands.Disk old now before after (Err fault) → OnlyReads {A = B} Commands.Disk old now before after (Err fault)
+reads_fail old now before after fault reads = record {
+  same = reads.same;
+  goes_on = reads.goes_on;
+  disk = λ failed. reads.disk (ap Err (same_error _ fault Commands.Disk refl failed));
+  kept = tt;
+  others = reads.others;
+  proper = reads.proper;
+}
+
+pub reads_end : {A B : Type 0} (old now : List TreeState) (before after : Counts) (x : A) (fault : Refused) → (fault ≡ Commands.Disk → ⊥) → OnlyReads Commands.Disk old now before after (Ok x)
+    → OnlyReads {A = B} Commands.Disk old now before after (Err fault)
+reads_end old now before after x fault never reads = record {
+  same = reads.same;
+  goes_on = reads.goes_on;
+  disk = λ failed. absurd (never (same_error _ fault Commands.Disk refl failed));
+  kept = tt;
+  others = λ not. reads.kept;
+  proper = reads.proper;
+}
+
+pub reads_done : {A B : Type 0} (old now : List TreeState) (before after : Counts) (x : A) (y : B) → OnlyReads Commands.Disk old now before after (Ok x) → OnlyReads Commands.Disk old now before after (Ok y)
+reads_done old now before after x y reads = record { same = reads.same; goes_on = reads.goes_on; disk = λ failed. absurd (cc); kept = reads.kept; others = tt; proper = reads.proper }

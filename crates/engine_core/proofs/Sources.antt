@@ -36,9 +36,9 @@ use Rattle.journal_staging.specs.Sources.{EachDenotes, DenotesBytes}
 use Rattle.journal_staging.specs.declared.writes.Source.{Source}
 use Rattle.journal_staging.specs.declared.writes.Source.TheVariants.{Bytes, File, Link}
 use Rattle.journal_staging.specs.declared.writes.StagedWrite.{StagedWrite}
-use Rattle.engine_core.specs.Finishing.{AreRecordWrites, AreRecordsOf, bytes_if}
+use Rattle.engine_core.specs.Preparing.{AreRecordWrites, AreRecordsOf, bytes_if}
 use Rattle.engine_core.specs.Writing.{HasBytes, IsRecordOf, IsSourceOfWrite, IsWriteBy, entry_of_write, write_name}
-use Rattle.engine_core.specs.declared.finishing.NewRecords.{NewRecords}
+use Rattle.engine_core.specs.declared.rendering.NewRecords.{NewRecords}
 use Rattle.engine_core.specs.declared.writes.RecordWrites.{RecordWrites}
 
 -- ---- a file of a package

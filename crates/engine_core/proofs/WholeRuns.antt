@@ -24,7 +24,7 @@ use Rattle.change_report.specs.path_clashes.Clash.{NamePair}
 use Rattle.change_report.specs.candidate_core.Rank.{SealedPool}
 use Rattle.report_core.specs.declared.refusal.Refusal.{Refusal}
 use Rattle.change_report.specs.change_outcome.Premises.{IsRootOfFiles}
-use Rattle.engine_core.specs.Finishing.{IsRootRead}
+use Rattle.engine_core.specs.Preparing.{IsRootRead}
 use Rattle.engine_core.specs.ChangeRun.{CarriesOut, IsChangeRun}
 use Rattle.engine_core.specs.Changed.{IsClashOfSelected, IsClashOfSelectedAmong, IsClashUnlessSimulatedAmong, Selected, change_of_selected, change_of_command, found_packages, selected_by, selected_for, selected_of_inputs, simulated_change}
 use Rattle.engine_core.specs.Choice.{IsChoiceFrom}

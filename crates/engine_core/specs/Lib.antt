@@ -31,5 +31,6 @@ pub mod Runs
 pub mod SelectionSeen
 pub mod Plans
 pub mod Writing
-pub mod Finishing
-pub mod Carrying
+pub mod Preparing
+pub mod Rendering
+pub mod Committing

@@ -1,22 +1,21 @@
 -- The plan of the files of a change, and how a missing one is reported. Serves the contracts of
 -- `src/planning.rt`; the rules are in `docs/commands.md`, "What a change does with files", the three
 -- tests.
-use Rattle.std.specs.Prelude.{◌≡◌, false, map, All, List}
+use Rattle.std.specs.Prelude.{◌≡◌, Bool, false, map, All, List}
 use Rattle.journal_staging.specs.adb_schema.Reserved.{is_reserved}
 use Rattle.base_core.specs.Calls.{IfObservable}
 use Rattle.base_core.specs.Tree.{TreeState, files_of}
-use Rattle.change_report.specs.change_files.FileChange.{FileChange}
 use Rattle.change_report.specs.change_inputs.declared.root.Refused.{Refused}
 use Rattle.change_report.specs.change_inputs.declared.root.Refused.TheVariants as Commands
-use Rattle.change_report.specs.change_outcome.ChangeOutcome.{ChangeWishes}
 use Rattle.change_report.specs.db_core.Members.{member_of_kept, member_listings}
 use Rattle.change_report.specs.db_core.Seen.{members_of, packages_of}
+use Rattle.change_report.specs.db_core.declared.db.Db.{Db}
+use Rattle.change_report.specs.db_core.declared.members.Members.{Members}
 use Rattle.change_report.specs.own_core.Planned.{HasOwnNames, HasSources, IsPlanFor, IsPlanOf, IsRefusalFor, IsRefusalOf, MayBeRefusalOf, change_by}
 use Rattle.change_report.specs.own_core.declared.fault.PlanFault.{PlanFault}
 use Rattle.change_report.specs.own_core.declared.fault.PlanFault.TheVariants as Plans
 use Rattle.change_report.specs.own_core.declared.planning.FilePlan.{FilePlan}
 use Rattle.report_core.specs.declared.refusal.Refusal.TheVariants.{Owned, PathClash, Reserved}
-use Rattle.engine_core.specs.declared.planning.Arrived.{Arrived}
 
 -- the refusal that reports why there is no plan
 abbrev pub IsRefusedFor : PlanFault → Refused → Type 0
@@ -28,29 +27,25 @@ IsRefusedFor (Plans.Owned path first second) refused =
 IsRefusedFor Plans.Disk refused = refused ≡ Commands.Disk
 IsRefusedFor Plans.Memory refused = refused ≡ Commands.Memory
 
--- the change of files that is planned, as the program has it: from the database to the packages after
--- the change
-abbrev pub planned_change : ChangeWishes → Arrived → FileChange
-planned_change wishes a = change_by a.selection.now.db a.members.now wishes.purge
-
--- a plan is that of the change, and what it lists can be written and removed
-pub record IsPlanFrom (history : List TreeState) (wishes : ChangeWishes) (a : Arrived)
+-- a plan is that of the change from a database to some packages, and what it lists can be written and
+-- removed
+pub record IsPlanFrom (history : List TreeState) (purge : Bool) (db : Db) (members : Members)
     (plan : FilePlan) : Type 0 where
-  pub lists : IsPlanOf (planned_change wishes a) history plan
+  pub lists : IsPlanOf (change_by db members purge) history plan
   pub names : HasOwnNames plan
-  pub sources : HasSources (members_of a.members.now) plan
-  pub owners : IsPlanFor (members_of a.members.now) plan
+  pub sources : HasSources (members_of members) plan
+  pub owners : IsPlanFor (members_of members) plan
   -- no path that the old database lists is reserved
   pub unreserved : All (λ l. is_reserved l.path ≡ false)
-      (member_listings (map member_of_kept (packages_of a.selection.now.db)))
+      (member_listings (map member_of_kept (packages_of db)))
 
 -- a change has no plan, for this reason
-pub record HasNoPlan (history : List TreeState) (wishes : ChangeWishes) (a : Arrived)
+pub record HasNoPlan (history : List TreeState) (purge : Bool) (db : Db) (members : Members)
     (refused : Refused) : Type 0 where
   pub fault : PlanFault
   pub reported : IsRefusedFor fault refused
   -- what the packages alone show of it
-  pub cause : IsRefusalFor (members_of a.members.now) fault
+  pub cause : IsRefusalFor (members_of members) fault
   -- what the tree's files show of it, if they are observable; and else what some files show
-  pub first : IfObservable history (λ v. IsRefusalOf (planned_change wishes a) (files_of v) fault)
-  pub may : MayBeRefusalOf (planned_change wishes a) history fault
+  pub first : IfObservable history (λ v. IsRefusalOf (change_by db members purge) (files_of v) fault)
+  pub may : MayBeRefusalOf (change_by db members purge) history fault

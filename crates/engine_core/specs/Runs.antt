@@ -1,6 +1,7 @@
--- What a run promises by what is selected, and how its counts explain its answer. Serves the contracts
--- of `src/changing.rt` and `src/making.rt`; the contract of the whole run is *IsChangeRun*.
-use Rattle.std.specs.Prelude.{◌≡◌, ℕ, List, Option, Result, OnOk, IfErr, IsErrOf}
+-- What a run promises by what is selected or by the packages that are found, and how its counts explain
+-- its answer. Serves the contracts of `src/changing.rt`, `src/making.rt` and `src/planning.rt`; the
+-- contract of the whole run is *IsChangeRun*.
+use Rattle.std.specs.Prelude.{◌≡◌, ℕ, List, Option, Result, Ok, OnOk, IfErr, IsErrOf}
 use Rattle.base_core.specs.Calls.{IfObservable}
 use Rattle.base_core.specs.Faults.{Counts, CountsOnlyRise, HasCause, IsNoFault}
 use Rattle.base_core.specs.Files.{Files}
@@ -8,9 +9,13 @@ use Rattle.base_core.specs.Tree.{TreeState, files_of}
 use Rattle.change_report.specs.change_inputs.Chains.{and_then}
 use Rattle.change_report.specs.change_inputs.declared.root.Refused.{Refused}
 use Rattle.change_report.specs.change_inputs.declared.root.Refused.TheVariants.{Disk}
+use Rattle.change_report.specs.change_inputs.Inputs.{Inputs}
+use Rattle.change_report.specs.change_outcome.ChangeOutcome.{ChangeWishes, IsClashFoundAmong, change_with_members}
+use Rattle.change_report.specs.change_outcome.MembersAfter.{MemberFound}
 use Rattle.command_core.specs.Command.{CommandLine}
 use Rattle.change_report.specs.make_info.Reads.{Reads}
 use Rattle.change_report.specs.package_files.Runs.{AreObserved}
+use Rattle.change_report.specs.package_changes.Changes.{Replacement}
 use Rattle.change_report.specs.path_clashes.Clash.{NamePair}
 use Rattle.report_core.specs.declared.refusal.Refusal.{Refusal}
 use Rattle.engine_core.specs.ChangeRun.{CarriesOut}
@@ -30,6 +35,19 @@ pub record IsSelectedRun (command : CommandLine) (selected : Result Selected Ref
   pub is_clash : IsClashOfSelectedAmong command read files present_files selected clash
   pub comes : CarriesOut (found_packages command read selected)
       (and_then selected (change_of_selected command read files clash))
+      old now before after result
+
+-- a run of a change by these packages, if reads find them
+pub record IsFoundRun (inputs : Inputs) (r : Replacement) (wishes : ChangeWishes)
+    (found : List MemberFound) (old now : List TreeState) (before after : Counts)
+    (result : Result (List ℕ) Refused) : Type 0 where
+  pub files : Files
+  pub there : IfObservable old (λ v. files ≡ files_of v)
+  pub present_files : Files
+  pub stand : IfObservable old (λ v. present_files ≡ files_of v)
+  pub clash : Option NamePair
+  pub is_clash : IsClashFoundAmong inputs wishes files present_files (Ok found) clash
+  pub comes : CarriesOut (Ok found) (change_with_members inputs r wishes clash files found)
       old now before after result
 
 -- the effect of a call on the counts of a tree that it may write

@@ -6,12 +6,14 @@ use Rattle.change_report.specs.change_inputs.Answers.{Agrees}
 use Rattle.change_report.specs.change_inputs.Inputs.{Inputs}
 use Rattle.change_report.specs.change_inputs.Seen.{inputs_seen}
 use Rattle.change_report.specs.change_inputs.declared.root.Refused.{Refused}
+use Rattle.change_report.specs.change_outcome.ChangeOutcome.{ChangeWishes}
 use Rattle.command_core.specs.Command.{CommandLine}
 use Rattle.change_report.specs.db_core.Seen.{packages_of}
 use Rattle.change_report.specs.package_changes.Changes.{Replacement}
 use Rattle.engine_core.specs.Changed.{Selected, selected_of_inputs}
 use Rattle.engine_core.specs.Choice.{IsChoiceFrom}
 use Rattle.engine_core.specs.Selecting.{pool_by, replacement_of_choice}
+use Rattle.engine_core.specs.Wishes.{wishes_of}
 use Rattle.engine_core.specs.declared.choosing.Selection.{Selection}
 
 -- what was read of the root for a selection
@@ -32,6 +34,14 @@ selection_seen s =
 abbrev pub HasItsDatabase : Selection → Type 0
 HasItsDatabase s = packages_of s.db ≡ (inputs_of_selection s).root.database.packages
 
+-- the candidates of a selection are those of its command and inputs
+abbrev pub HasItsPool : Selection → Type 0
+HasItsPool s = pool_by s.command.now (inputs_of_selection s) ≡ Ok s.pool
+
+-- what the command of a selection asks for besides its world
+abbrev pub wishes_of_selection : Selection → ChangeWishes
+wishes_of_selection s = wishes_of s.command.now
+
 -- ---- a choice is made
 
 -- what a command selects by the choice among its candidates; or its refusal
@@ -41,8 +51,9 @@ IsSelectedFrom command inputs result =
     × IsChoiceFrom (pool_by command inputs) chosen
     × Agrees selection_seen result (selected_of_inputs command chosen inputs)
 
--- a selection has these inputs, their database, and the command's candidates
+-- a selection has this command, these inputs, their database, and the command's candidates
 pub record IsSelectionFor (command : CommandLine) (inputs : Inputs) (s : Selection) : Type 0 where
+  pub command_is : s.command.now ≡ command
   pub inputs_are : inputs_of_selection s ≡ inputs
   pub database : HasItsDatabase s
-  pub pool : pool_by command (inputs_of_selection s) ≡ Ok s.pool
+  pub pool : HasItsPool s

@@ -56,19 +56,20 @@ pub fn change<T: Tree>(alloc: Global, command: &Command, tree: &mut T) -> Result
     let upgraded = names_of_upgrade(alloc, command)?;
     let selection = choose(alloc, command, &upgraded, &loaded)?;
     if command.flags().simulate {
-        let report = simulate(alloc, command, &selection)?;
+        let report = simulate(alloc, &selection)?;
         return Ok(report);
     }
-    make_change(alloc, command, &selection, tree)
+    make_change(alloc, &selection, tree)
 }
 
 // Reports what would change, as `--simulate` asks for it.
-fn simulate(alloc: Global, command: &Command, selection: &Selection<'_>) -> Result<Text, AllocError>
+fn simulate(alloc: Global, selection: &Selection<'_>) -> Result<Text, AllocError>
     requires { HasItsDatabase selection.now }
     ensures { IfOk result (λ report. report ≡ simulated_report (replacement_seen selection.now)
-        (names_to_remove command.now.applet command.now.operands)) }
+        (names_to_remove selection.now.command.now.applet
+        selection.now.command.now.operands)) }
 {
-    let to_remove = names_to_remove(alloc, command)?;
+    let to_remove = names_to_remove(alloc, selection.command)?;
     let Selection {
         db,
         pool,

@@ -25,6 +25,8 @@ use std::alloc::{AllocError, Global};
 /// chosen from.
 #[derive(Drop)]
 pub(crate) struct Selection<'a> {
+    /// The command.
+    pub command: &'a Command,
     /// What was read of the root.
     pub loaded: &'a Loaded,
     /// The database of the root, opened.
@@ -46,15 +48,16 @@ pub(crate) struct Selection<'a> {
 /// or `Memory`.
 pub(crate) fn choose<'a>(
     alloc: Global,
-    command: &Command,
+    command: &'a Command,
     upgraded: &'a Words,
     loaded: &'a Loaded,
 ) -> Result<Selection<'a>, Refused>
     requires { upgraded.now ≡ names_of_upgrade command.now.applet command.now.operands }
     // The selection by the choice among the command's candidates, or the refusal instead.
-    ensures selected { IsSelectedFrom command.now (inputs_seen loaded.entry.now) result }
+    ensures selected { IsSelectedFrom command.entry.now (inputs_seen loaded.entry.now) result }
     // Its parts are those of the command and of what was read.
-    ensures parts { IfOk result (IsSelectionFor command.now (inputs_seen loaded.entry.now)) }
+    ensures parts { IfOk result
+        (IsSelectionFor command.entry.now (inputs_seen loaded.entry.now)) }
 {
     // A law that the proof needs; it has no effect at run time.
     a_choice_exists();
@@ -66,6 +69,7 @@ pub(crate) fn choose<'a>(
     }
     let trace = first_selection(alloc, loaded, &pool)?;
     Ok(Selection {
+        command,
         loaded,
         db,
         pool,

@@ -7,14 +7,15 @@
 //! choice. Each command's rules are in `docs/commands.md`, under its name.
 #![tactic(auto)]
 
-mod carrying;
 mod changing;
 mod choosing;
-mod finishing;
+mod committing;
 mod making;
+mod packages;
 mod planning;
 mod records;
 mod removals;
+mod rendering;
 mod targets;
 mod wishes;
 mod writes;

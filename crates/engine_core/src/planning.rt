@@ -1,52 +1,104 @@
-//! The packages after a change, and the plan of its files, by which its triggers are tested. The
-//! rules are in `docs/commands.md`, "What a change does with files", and for triggers in "`add` and
-//! `del`", which triggers are due.
+//! The plan of a change: the packages after it, what it does with files, and the tests by which a
+//! change is refused before anything is made. The rules are in `docs/commands.md`, "What a change
+//! does with files", and for triggers in "`add` and `del`", which triggers are due.
 
+ghost use Rattle.added_packages.specs.Arrivals.{CanBeMembers, arrivals_seen};
+ghost use Rattle.base_core.specs.Read.{OnlyReads};
 ghost use Rattle.change_report.specs.change_inputs.Answers.{Agrees};
 ghost use Rattle.change_report.specs.change_outcome.ChangeOutcome.{name_at_place};
+ghost use Rattle.change_report.specs.change_outcome.MembersAfter.{MemberFound};
 ghost use Rattle.change_report.specs.change_outcome.Triggers.{unless_trigger};
-ghost use Rattle.change_report.specs.db_core.Seen.{members_of};
+ghost use Rattle.change_report.specs.db_core.Seen.{members_of, packages_of};
 ghost use Rattle.change_report.specs.Due.{planned_paths};
-ghost use Rattle.base_core.specs.Read.{OnlyReads};
+ghost use Rattle.change_report.specs.make_info.Reads.{Reads};
 ghost use Rattle.engine_core.specs.Plans.{HasNoPlan, IsPlanFrom, IsRefusedFor};
-ghost use Rattle.engine_core.specs.Wishes.{wishes_of};
-ghost use Rattle.std.specs.Prelude.{◌≡◌, ◌<◌, IfErr, IfOk, length};
+ghost use Rattle.engine_core.specs.Preparing.{AreFoundBy, IsPlanOfPackages, inputs_of_packages, replacement_of_packages, wishes_of_packages};
+ghost use Rattle.engine_core.specs.Runs.{IsFoundRun};
+ghost use Rattle.std.specs.Prelude.{◌≡◌, ◌<◌, true, Err, IfErr, IfOk, List, length};
 
-use crate::choosing::Selection;
-use added_packages::Arrivals;
+use crate::packages::ReadPackages;
+use added_packages::{members_of_change, packages_that_were_read_are_those_found};
 use base_core::{Text, Tree};
 use change_report::{
-    FilePlan, Members, PlacedNames, PlanFault, Refused, first_due, plan, touched_folders,
+    Db, FilePlan, Members, PlanFault, Refused, a_change_has_a_first_clash_or_none, first_due, plan,
+    touched_folders,
 };
-use command_core::Command;
 use report_core::Refusal;
 use std::alloc::{AllocError, Global};
+
+/// The plan of a change: the packages after it, and what it does with files.
+#[derive(Drop)]
+pub(crate) struct Plan<'r, 's, 'a> {
+    /// The packages after the change, as they were read.
+    pub packages: &'r ReadPackages<'s, 'a>,
+    /// The packages after the change, as the database is to list them.
+    pub members: Members<'r>,
+    /// What the change removes, writes, writes beside an old file, and keeps.
+    pub files: FilePlan,
+}
+
+/// Plans a change of packages that were read, and tests its files and triggers.
+///
+/// # Errors
+///
+/// `Reserved`, `PathClash` and `Owned`; then `TriggerNeeded`; `Disk`, or `Memory`.
+pub(crate) fn plan_change<'r, 's, 'a, T: Tree>(
+    alloc: Global,
+    packages: &'r ReadPackages<'s, 'a>,
+    tree: &mut T,
+) -> Result<Plan<'r, 's, 'a>, Refused>
+    requires { CanBeMembers (packages_of packages.now.selection.now.db)
+        (arrivals_seen packages.now.arrivals) }
+    // The plan of these packages, over the tree's files if they are observable.
+    ensures plan { IfOk result (IsPlanOfPackages (T.history tree.old) packages.entry.now) }
+    // Or the first test of the change that refuses it, whatever reads find these packages.
+    ensures refused { IfErr result (λ refused. (read : Reads) (found : List MemberFound)
+        → AreFoundBy (T.history tree.old) packages.entry.now read found
+        → IsFoundRun (inputs_of_packages packages.entry.now)
+        (replacement_of_packages packages.entry.now) (wishes_of_packages packages.entry.now) found
+        (T.history tree.old) (T.history tree.new) (T.counts tree.old) (T.counts tree.new)
+        (Err refused)) }
+    // The tree is only read, and an I/O error has its cause there.
+    ensures tree { OnlyReads Refused.Disk (T.history tree.old) (T.history tree.new)
+        (T.counts tree.old) (T.counts tree.new) result }
+{
+    // Laws that the proof needs; they have no effect at run time.
+    a_change_has_a_first_clash_or_none();
+    packages_that_were_read_are_those_found();
+    let selection = packages.selection;
+    let flags = selection.command.flags();
+    let members = members_of_change(alloc, &selection.db, &packages.arrivals)?;
+    let files = plan_files(alloc, flags.purge, &selection.db, &members, tree)?;
+    test_triggers(alloc, flags.no_scripts, &members, &files)?;
+    Ok(Plan {
+        packages,
+        members,
+        files,
+    })
+}
 
 /// Plans the files of a change, or refuses it.
 ///
 /// # Errors
 ///
 /// `Reserved`, `PathClash` and `Owned`; `Disk`, or `Memory`.
-pub(crate) fn plan_files<T: Tree>(
+fn plan_files<T: Tree>(
     alloc: Global,
-    command: &Command,
-    arrived: &Arrived<'_, '_, '_, '_>,
+    purge: bool,
+    db: &Db<'_>,
+    members: &Members<'_>,
     tree: &mut T,
 ) -> Result<FilePlan, Refused>
     // The plan is that of the change, over the tree's files if they are observable.
-    ensures plan { IfOk result
-        (IsPlanFrom (T.history tree.old) (wishes_of command.now) arrived.now) }
+    ensures plan { IfOk result (IsPlanFrom (T.history tree.old) purge db.now members.now) }
     // Or the change has no plan, and this says why.
-    ensures refused { IfErr result
-        (HasNoPlan (T.history tree.old) (wishes_of command.now) arrived.now) }
+    ensures refused { IfErr result (HasNoPlan (T.history tree.old) purge db.now members.now) }
     // The tree is only read, and an I/O error has its cause there.
     ensures tree { OnlyReads Refused.Disk (T.history tree.old) (T.history tree.new)
         (T.counts tree.old) (T.counts tree.new) result }
 {
-    let purge = command.flags().purge;
-    let selection = arrived.selection;
-    selection.db.no_listed_path_is_reserved();
-    match plan(alloc, &selection.db, arrived.members, tree, purge) {
+    db.no_listed_path_is_reserved();
+    match plan(alloc, db, members, tree, purge) {
         Ok(plan) => Ok(plan),
         Err(fault) => Err(refused_plan(fault)),
     }
@@ -80,17 +132,17 @@ fn refused_plan(fault: PlanFault) -> Refused
 /// # Errors
 ///
 /// `TriggerNeeded` of the first package whose trigger is due, or `Memory`.
-pub(crate) fn test_triggers(
+fn test_triggers(
     alloc: Global,
     no_scripts: bool,
     members: &Members<'_>,
     plan: &FilePlan,
-) -> Result<bool, Refused>
-    ensures { Agrees (λ allowed. allowed) result
+) -> Result<(), Refused>
+    ensures { Agrees (λ _. true) result
         (unless_trigger no_scripts (planned_paths plan.now) (members_of members.now)) }
 {
     if no_scripts {
-        return Ok(true);
+        return Ok(());
     }
     let folders = touched_folders(alloc, plan)?;
     match first_due(members, &folders) {
@@ -98,7 +150,7 @@ pub(crate) fn test_triggers(
             let name = member_name(alloc, members, place)?;
             Err(Refused::Refusal(Refusal::TriggerNeeded { name }))
         }
-        None => Ok(true),
+        None => Ok(()),
     }
 }
 
@@ -109,26 +161,4 @@ fn member_name(alloc: Global, members: &Members<'_>, place: usize) -> Result<Tex
 {
     let view = members.view(place);
     Text::of(alloc, view.info().name())
-}
-
-/// The packages after a change, with what they were selected from and what was read of them.
-#[derive(Clone, Copy)]
-pub(crate) struct Arrived<'r, 'a, 'm, 'x> {
-    /// The candidates that were selected, and what was read of the root.
-    pub selection: &'r Selection<'a>,
-    /// The names of the packages before and of the candidates, each with its place.
-    pub names: &'r PlacedNames<'a>,
-    /// The added packages, read and tested, among the kept ones.
-    pub arrivals: &'m Arrivals,
-    /// The packages after the change, as the database is to list them.
-    pub members: &'r Members<'x>,
-}
-
-/// The packages after a change, with the plan of its files.
-#[derive(Clone, Copy)]
-pub(crate) struct Planned<'r, 'a, 'm, 'x> {
-    /// The packages after the change.
-    pub arrived: &'r Arrived<'r, 'a, 'm, 'x>,
-    /// What the change removes, writes, writes beside an old file, and keeps.
-    pub plan: &'m FilePlan,
 }

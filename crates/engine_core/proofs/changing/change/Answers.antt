@@ -1,12 +1,15 @@
-use Rattle.std.proofs.Common.{◌∙◌, sym, ap, subst}
+use Rattle.std.proofs.Common.{◌∙◌, Ok, sym, ap, subst}
 use Rattle.change_report.specs.change_inputs.Inputs.{Inputs}
 use Rattle.change_report.specs.change_inputs.Seen.{inputs_seen}
 use Rattle.change_report.specs.change_inputs.declared.root.Refused.TheVariants.{Memory}
+use Rattle.change_report.specs.package_changes.Report.{simulated_report}
+use Rattle.command_core.specs.Command.{CommandLine}
 use Rattle.command_core.specs.declared.command.Flags.{Flags}
 use Rattle.engine_core.specs.ChangeRun.{IsChangeRun}
-use Rattle.engine_core.specs.Finishing.{IsRootRead}
-use Rattle.engine_core.specs.Runs.{IsRunCounted}
-use Rattle.engine_core.specs.SelectionSeen.{selection_seen}
+use Rattle.engine_core.specs.Preparing.{IsRootRead}
+use Rattle.engine_core.specs.Runs.{IsRunCounted, IsSelectedRun}
+use Rattle.engine_core.specs.SelectionSeen.{replacement_seen, selection_seen}
+use Rattle.engine_core.specs.Wishes.{names_to_remove}
 use Rattle.engine_core.proofs.Counted.{counted_after, counted_fault, counted_report, memory_no_disk}
 use Rattle.engine_core.proofs.Early.{HaveClash, nothing_read, only_read, selected_failure}
 use Rattle.engine_core.proofs.SelectedRuns.{not_disk, run_failure, selected_run, simulated_run, unselected_run, with_error}
@@ -51,7 +54,8 @@ returns-then-flags-clause-run g c =
     joined own c.args.command.now c.in_ok-loaded.loaded _ _ _ _ _ _ _ (only_read _ _ _ _ _ _ c.in_ok-loaded.ensures.tree) c.in_ok-loaded.ensures.found
     (selected_run c.args.command.now (inputs_seen c.in_ok-loaded.loaded) _ _ _ _ c.in_ok-selection.selection _ c.in_ok-selection.ensures.selected
     (simulated_run have c.args.command.now (selection_seen c.in_ok-selection.selection) _ _ _ _ _ (g.met.T.Tree.whole c.read.new.tree) (nothing_read _ _)
-    (sym (ap (λ (f : Flags). f.simulate) c.flags.ensures.value) ∙ c.if-flags.true) c.in_ok-report.ensures))
+    (sym (ap (λ (f : Flags). f.simulate) c.flags.ensures.value) ∙ c.if-flags.true)
+    (c.in_ok-report.ensures ∙ ap (λ (command : CommandLine). simulated_report (replacement_seen c.in_ok-selection.selection) (names_to_remove command.applet command.operands)) c.in_ok-selection.ensures.parts.command_is)))
 
 pub returns-in_err-upgraded-clause-counts : goal.returns-in_err-upgraded-clause-counts
 returns-in_err-upgraded-clause-counts g c =
@@ -71,6 +75,10 @@ returns-in_err-report-clause-counts g c =
 pub returns-then-flags-clause-counts : goal.returns-then-flags-clause-counts
 returns-then-flags-clause-counts g c = counted_report _ _ _ _ c.in_ok-loaded.loaded _ c.in_ok-loaded.ensures.tree
 
+pub make_change-requires-clause-real : goal.make_change-requires-clause-real
+make_change-requires-clause-real g c =
+    ap (λ (command : CommandLine). command.flags.simulate) c.in_ok-selection.ensures.parts.command_is ∙ (sym (ap (λ (f : Flags). f.simulate) c.flags.ensures.value) ∙ c.if-flags.false)
+
 pub make_change-requires-clause-root : goal.make_change-requires-clause-root
 make_change-requires-clause-root g c =
     subst (λ (i : Inputs). IsRootRead (g.T.Tree.history c.read.new.tree) i) (sym c.in_ok-selection.ensures.parts.inputs_are)
@@ -80,7 +88,8 @@ pub returns-clause-run : goal.returns-clause-run
 returns-clause-run g c =
     let own : HaveOwnReads = record { inputs = c.inputs_depend_on_their_own_reads.ensures; members = c.packages_after_a_change_depend_on_their_reads.ensures } in
     joined own c.args.command.now c.in_ok-loaded.loaded _ _ _ _ _ _ c.make_change.result (only_read _ _ _ _ _ _ c.in_ok-loaded.ensures.tree) c.in_ok-loaded.ensures.found
-    (selected_run c.args.command.now (inputs_seen c.in_ok-loaded.loaded) _ _ _ _ c.in_ok-selection.selection c.make_change.result c.in_ok-selection.ensures.selected c.make_change.ensures.run)
+    (selected_run c.args.command.now (inputs_seen c.in_ok-loaded.loaded) _ _ _ _ c.in_ok-selection.selection c.make_change.result c.in_ok-selection.ensures.selected
+    (subst (λ (command : CommandLine). IsSelectedRun command (Ok (selection_seen c.in_ok-selection.selection)) (g.T.Tree.history c.read.new.tree) (g.T.Tree.history c.make_change.new.tree) (g.T.Tree.counts c.read.new.tree) (g.T.Tree.counts c.make_change.new.tree) c.make_change.result) c.in_ok-selection.ensures.parts.command_is c.make_change.ensures.run))
 
 pub returns-clause-counts : goal.returns-clause-counts
 returns-clause-counts g c = counted_after _ _ _ c.make_change.result c.in_ok-loaded.ensures.tree.goes_on c.in_ok-loaded.ensures.tree.kept c.counts_of_consecutive_calls_compose.ensures.cause_after c.make_change.ensures.counts

@@ -43,11 +43,12 @@ pub returns-clause-selected : goal.returns-clause-selected
 returns-clause-selected c =
     let pool_is = ap (root_pool (inputs_seen c.args.loaded.now)) (sym c.names_to_upgrade.ensures) ∙ c.in_ok-pool.ensures in
     selection_by c.args.command.now (inputs_seen c.args.loaded.now) c.in_ok-pool.pool pool_is (sym c.unknown_operand.ensures ∙ c.in_default.is) c.in_ok-trace.ensures.0 c.in_ok-trace.ensures.1
-    (record { loaded = c.args.loaded; db = c.in_ok-db.db; pool = c.in_ok-pool.pool; trace = c.in_ok-trace.trace; again = c.in_ok-again.again }) c.in_ok-trace.trace c.in_ok-trace.ensures.2
+    (record { command = c.args.command; loaded = c.args.loaded; db = c.in_ok-db.db; pool = c.in_ok-pool.pool; trace = c.in_ok-trace.trace; again = c.in_ok-again.again }) c.in_ok-trace.trace c.in_ok-trace.ensures.2
     (λ i. record { inputs = inputs_seen c.args.loaded.now; replacement = replacement_of_choice (sym c.in_ok-again.ensures i) (inputs_seen c.args.loaded.now) c.in_ok-pool.pool c.in_ok-trace.trace })
 
 pub returns-clause-parts : goal.returns-clause-parts
 returns-clause-parts c = record {
+  command_is = refl;
   inputs_are = refl;
   database = c.in_ok-db.ensures;
   pool = ap (root_pool (inputs_seen c.args.loaded.now)) (sym c.names_to_upgrade.ensures) ∙ c.in_ok-pool.ensures;

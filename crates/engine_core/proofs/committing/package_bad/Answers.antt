@@ -3,7 +3,7 @@ use Rattle.adb_view.specs.Values.{entry_in, text_in}
 use Rattle.change_report.specs.db_core.Seen.{members_of}
 use Rattle.report_core.specs.declared.refusal.Refusal.TheVariants.{PackageBad}
 use Rattle.engine_core.proofs.Members.{at_place}
-use Rattle.engine_core.proofs.finishing.package_bad.Goals as goal
+use Rattle.engine_core.proofs.committing.package_bad.Goals as goal
 
 pub returns : goal.returns
 returns c =

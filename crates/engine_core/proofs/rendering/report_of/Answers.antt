@@ -6,10 +6,9 @@ use Rattle.adb_view.specs.Plain.{Plain}
 use Rattle.change_report.specs.change_outcome.ChangeOutcome.{change_report, file_change}
 use Rattle.change_report.specs.package_changes.Placed.{PlacedChange, candidates_at, change_in}
 use Rattle.change_report.specs.package_changes.Seen.{replacement_by}
-use Rattle.engine_core.specs.Finishing.{arrived_inputs}
-use Rattle.engine_core.specs.Wishes.{wishes_of}
+use Rattle.engine_core.specs.Preparing.{inputs_of_plan, wishes_of_plan}
 use Rattle.engine_core.proofs.Reporting.{changes_named}
-use Rattle.engine_core.proofs.finishing.report_of.Goals as goal
+use Rattle.engine_core.proofs.rendering.report_of.Goals as goal
 
 copied : (r : Result (List ℕ) AllocError) (bytes : List ℕ) (Q : List ℕ → Type 0) → Q bytes → IfOk r (λ t. t ≡ bytes) → IfOk r Q
 copied (Ok t) bytes Q q is = subst Q (sym is) q
@@ -17,11 +16,11 @@ copied (Err e) bytes Q q is = tt
 
 pub returns : goal.returns
 returns c =
-    let a = c.args.planned.now.arrived.now in
-    let s = a.selection.now in
-    let wishes = wishes_of c.args.command.now in
+    let p = c.args.plan.now in
+    let s = p.packages.now.selection.now in
+    let wishes = wishes_of_plan p in
     copied c.of.result c.bytes.result.now _ (λ history found files planned.
-    let change = file_change (arrived_inputs a) wishes found in
+    let change = file_change (inputs_of_plan p) wishes found in
     c.bytes.ensures
     ∙ (c.in_ok-report.ensures s.again wishes change files (record {
       changes = ap (map (λ (p : PlacedChange). p.change)) (c.in_ok-changes.ensures ∙ ap (filter_map change_in) planned.arrived.read.placed)

@@ -1,0 +1,52 @@
+-- How a rendered change is committed. Serves the contracts of `src/committing.rt`; the rules are in
+-- `docs/commands.md`, "`add` and `del`", and in `docs/crash-safety.md`, "A change of several files".
+use Rattle.std.specs.Prelude.{◌≡◌, ℕ, List, Some, slice_get}
+use Rattle.base_core.specs.Files.{Files}
+use Rattle.base_core.specs.Tree.{TreeState}
+use Rattle.base_core.specs.declared.cause.Cause.{Cause}
+use Rattle.change_report.specs.change_inputs.declared.root.Refused.{Refused}
+use Rattle.change_report.specs.change_inputs.declared.root.Refused.TheVariants.{Disk, Memory, Refusal as IsRefused}
+use Rattle.change_report.specs.change_outcome.ChangeOutcome.{ChangeDone, change_done, new_records}
+use Rattle.change_report.specs.change_outcome.MembersAfter.{MemberFound}
+use Rattle.change_report.specs.db_core.Members.{Member, member_name}
+use Rattle.change_report.specs.file_owners.Replaces.{version_text}
+use Rattle.report_core.specs.declared.refusal.Refusal.{Refusal}
+use Rattle.report_core.specs.declared.refusal.Refusal.TheVariants.{PackageBad}
+use Rattle.engine_core.specs.Preparing.{AreRecordsOf, IsPlanned, inputs_of_plan, replacement_of_plan, wishes_of_plan}
+use Rattle.engine_core.specs.Rendering.{IsRendered}
+use Rattle.engine_core.specs.declared.planning.Plan.{Plan}
+use Rattle.engine_core.specs.declared.rendering.NewRecords.{NewRecords}
+use Rattle.engine_core.specs.declared.rendering.Rendered.{Rendered}
+
+-- ---- the result
+
+-- a change is ready to be committed: its files are planned over the tree as it is, and it is rendered
+pub record IsReadyToCommit (history : List TreeState) (p : Plan) (r : Rendered) : Type 0 where
+  pub found : List MemberFound
+  pub files : Files
+  pub planned : IsPlanned history p found files
+  pub records : NewRecords
+  pub own : AreRecordsOf (inputs_of_plan p) records
+  pub rendered : IsRendered p records r
+
+-- the result of a change that is committed
+abbrev pub result_of_ready :
+    {history : List TreeState} {p : Plan} {r : Rendered} → IsReadyToCommit history p r → ChangeDone
+result_of_ready {history} {p} {r} ready =
+    change_done (inputs_of_plan p) (replacement_of_plan p) (wishes_of_plan p) ready.found ready.files
+    (new_records (inputs_of_plan p) ready.records.database.items)
+
+-- ---- a package that was changed
+
+-- the refusal names the member at a place, whose file is bad, and reports the test that failed
+abbrev pub IsPackageBad : List Member → ℕ → Cause → Refusal → Type 0
+IsPackageBad members place cause refusal =
+    (m : Member)
+    × (slice_get members place ≡ Some m)
+    × (refusal ≡ PackageBad (member_name m) (version_text m.pkg) cause)
+
+-- how carrying out fails if the package of the member at a place was changed since it was tested
+abbrev pub IsRefusedPackage : List Member → ℕ → Cause → Refused → Type 0
+IsRefusedPackage members place cause (IsRefused refusal) = IsPackageBad members place cause refusal
+IsRefusedPackage members place cause Disk = ⊥
+IsRefusedPackage members place cause Memory = Unit {0}

@@ -1,0 +1,150 @@
+-- What is known of a change while it is prepared. Serves the contracts of the steps of a change, from
+-- `read_packages` to `render`; the rules are in `docs/commands.md`, "What a change does with files" and
+-- "`add` and `del`".
+use Rattle.std.specs.Prelude.{◌≡◌, ℕ, Bool, true, false, not, List, All, Option, Some, None, Ok, bytes_eq}
+use Rattle.std.specs.Option.{option_copied}
+use Rattle.journal_staging.specs.adb_schema.Reserved.{is_reserved}
+use Rattle.added_packages.specs.Arrivals.{AreMembersRead, arrivals_seen, members_read}
+use Rattle.base_core.specs.Calls.{IfObservable}
+use Rattle.base_core.specs.Files.{Files}
+use Rattle.base_core.specs.Tree.{TreeState, files_of}
+use Rattle.change_report.specs.Due.{planned_paths}
+use Rattle.change_report.specs.change_files.FileChange.{old_listings}
+use Rattle.change_report.specs.change_files.NamesAfter.{name_change}
+use Rattle.change_report.specs.path_clashes.Clash.{HasNoClash}
+use Rattle.change_report.specs.change_inputs.Inputs.{Inputs}
+use Rattle.change_report.specs.change_outcome.Premises.{IsRootOfFiles}
+use Rattle.change_report.specs.change_outcome.ChangeOutcome.{ChangeWishes, change_members, file_change, is_other_file}
+use Rattle.change_report.specs.change_outcome.MembersAfter.{MemberFound, found_members}
+use Rattle.change_report.specs.change_outcome.Triggers.{unless_trigger}
+use Rattle.change_report.specs.db_core.Seen.{members_of, packages_of}
+use Rattle.change_report.specs.db_core.declared.members.Members.{Members}
+use Rattle.change_report.specs.make_info.Reads.{Reads}
+use Rattle.dep_core.specs.World.{world_text}
+use Rattle.change_report.specs.own_core.Planned.{ArePlanLists, HasOwnNames, HasSources, IsPlanFor}
+use Rattle.change_report.specs.package_changes.Changes.{Replacement}
+use Rattle.change_report.specs.package_changes.Placed.{placed_names_of}
+use Rattle.change_report.specs.package_changes.Seen.{placed_names_seen, replacement_by}
+use Rattle.root_names.specs.RootNames as Names
+use Rattle.engine_core.specs.Plans.{IsPlanFrom}
+use Rattle.engine_core.specs.SelectionSeen.{HasItsDatabase, inputs_of_selection, replacement_seen, wishes_of_selection}
+use Rattle.engine_core.specs.declared.choosing.Selection.{Selection}
+use Rattle.engine_core.specs.declared.packages.ReadPackages.{ReadPackages}
+use Rattle.engine_core.specs.declared.planning.Plan.{Plan}
+use Rattle.engine_core.specs.declared.rendering.NewRecords.{NewRecords}
+use Rattle.engine_core.specs.declared.writes.RecordWrites.{RecordWrites}
+
+-- on an observable tree, the database and world were read from its files
+abbrev pub IsRootRead : List TreeState → Inputs → Type 0
+IsRootRead history inputs = IfObservable history (λ v. IsRootOfFiles (files_of v) inputs.root)
+
+-- ---- the packages
+
+-- what was read of the root for these packages
+abbrev pub inputs_of_packages : ReadPackages → Inputs
+inputs_of_packages a = inputs_of_selection a.selection.now
+
+-- which packages replace which
+abbrev pub replacement_of_packages : ReadPackages → Replacement
+replacement_of_packages a = replacement_seen a.selection.now
+
+-- what the command asks for besides its world
+abbrev pub wishes_of_packages : ReadPackages → ChangeWishes
+wishes_of_packages a = wishes_of_selection a.selection.now
+
+-- packages were read for a selection, and are those that are found
+pub record AreReadFor (history : List TreeState) (s : Selection) (a : ReadPackages)
+    (found : List MemberFound) : Type 0 where
+  pub selection : a.selection.now ≡ s
+  pub placed : placed_names_seen a.names ≡ placed_names_of (replacement_by
+      a.selection.now.db a.selection.now.pool a.selection.now.trace a.selection.now.again)
+  pub read : AreMembersRead history (packages_of a.selection.now.db) (arrivals_seen a.arrivals) found
+
+-- the added packages were read, and with the kept ones they are those that are found
+-- found: the packages after the change, with the file of each added one
+pub record HasReadArrivals (history : List TreeState) (a : ReadPackages) (found : List MemberFound)
+    : Type 0 where
+  pub database : HasItsDatabase a.selection.now
+  pub placed : placed_names_seen a.names ≡ placed_names_of (replacement_by
+      a.selection.now.db a.selection.now.pool a.selection.now.trace a.selection.now.again)
+  pub read : AreMembersRead history (packages_of a.selection.now.db) (arrivals_seen a.arrivals) found
+  pub root : IsRootRead history (inputs_of_packages a)
+
+-- reads find these packages after the change
+pub record AreFoundBy (history : List TreeState) (a : ReadPackages) (read : Reads)
+    (found : List MemberFound) : Type 0 where
+  pub arrivals : HasReadArrivals history a found
+  pub is : change_members (inputs_of_packages a) (replacement_of_packages a) (wishes_of_packages a)
+      read ≡ Ok found
+
+-- the packages after a change have arrived: they were read, and one database can list their members
+pub record IsArrived (history : List TreeState) (a : ReadPackages) (after : Members)
+    (found : List MemberFound) : Type 0 where
+  pub read : HasReadArrivals history a found
+  pub members : members_of after ≡ found_members found
+
+-- ---- the plan
+
+-- what was read of the root, as it is known of a plan
+abbrev pub inputs_of_plan : Plan → Inputs
+inputs_of_plan p = inputs_of_packages p.packages.now
+
+-- which packages replace which, as it is known of a plan
+abbrev pub replacement_of_plan : Plan → Replacement
+replacement_of_plan p = replacement_of_packages p.packages.now
+
+-- what the command asks for besides its world, as it is known of a plan
+abbrev pub wishes_of_plan : Plan → ChangeWishes
+wishes_of_plan p = wishes_of_packages p.packages.now
+
+-- a plan is that of some packages, over these files if the tree is observable, and its triggers allow it
+pub record IsPlanOfPackages (history : List TreeState) (a : ReadPackages) (p : Plan) : Type 0 where
+  pub packages : p.packages.now ≡ a
+  pub members : members_of p.members
+      ≡ members_read (packages_of p.packages.now.selection.now.db) (arrivals_seen p.packages.now.arrivals)
+  pub files : IsPlanFrom history (wishes_of_plan p).purge p.packages.now.selection.now.db p.members
+      p.files
+  pub triggers : unless_trigger (wishes_of_plan p).no_scripts (planned_paths p.files)
+      (members_of p.members) ≡ Ok true
+
+-- the files of a change are planned, over these files if the tree is observable
+pub record IsPlanned (history : List TreeState) (p : Plan) (found : List MemberFound) (files : Files)
+    : Type 0 where
+  pub arrived : IsArrived history p.packages.now p.members found
+  pub told : IfObservable history (λ v. files ≡ files_of v)
+  pub lists : ArePlanLists (file_change (inputs_of_plan p) (wishes_of_plan p) found) files p.files
+  pub names : HasOwnNames p.files
+  pub sources : HasSources (members_of p.members) p.files
+  pub owners : IsPlanFor (members_of p.members) p.files
+  pub no_clash : IfObservable history (λ v.
+      HasNoClash (name_change (file_change (inputs_of_plan p) (wishes_of_plan p) found) files) files)
+  pub unreserved : All (λ l. is_reserved l.path ≡ false)
+      (old_listings (file_change (inputs_of_plan p) (wishes_of_plan p) found))
+
+-- the files of a change are planned, by some packages that are found and over some files
+abbrev pub HasPlan : List TreeState → Plan → Type 0
+HasPlan history p = (found : List MemberFound) × (files : Files) × IsPlanned history p found files
+
+-- ---- the database and world
+
+-- the new database and world of a change: the text is that of the new world, and both have the names of
+-- their files
+pub record AreRecordsOf (inputs : Inputs) (records : NewRecords) : Type 0 where
+  pub world : records.world ≡ world_text inputs.root.new_world
+  pub database_name : records.database_name ≡ Names.database_name
+  pub world_name : records.world_name ≡ Names.world_name
+
+-- the bytes that are to be written of a file: only one that differs is written
+abbrev pub bytes_if : Bool → List ℕ → Option (List ℕ)
+bytes_if true bytes = Some bytes
+bytes_if false bytes = None
+
+-- what of the database and world is written
+pub record AreRecordWrites (inputs : Inputs) (records : NewRecords) (writes : RecordWrites)
+    : Type 0 where
+  pub database_name : writes.database_name.now ≡ records.database_name
+  pub database : option_copied writes.database
+      ≡ bytes_if (is_other_file inputs.root.database.file records.database.items) records.database.items
+  pub world_name : writes.world_name.now ≡ records.world_name
+  pub world : option_copied writes.world
+      ≡ bytes_if (not (bytes_eq inputs.root.world_text records.world)) records.world

@@ -1,0 +1,78 @@
+//! The packages after a change: each added one is read and tested. The rules are in
+//! `docs/commands.md`, "`add` and `del`", what is read, and the refusals of a package.
+
+ghost use Rattle.added_packages.specs.Answered.{DenotesUnlessDisk};
+ghost use Rattle.added_packages.specs.Arrivals.{CanBeMembers, arrivals_seen};
+ghost use Rattle.base_core.specs.Read.{OnlyReads};
+ghost use Rattle.change_report.specs.change_outcome.ChangeOutcome.{change_members};
+ghost use Rattle.change_report.specs.db_core.Seen.{packages_of};
+ghost use Rattle.change_report.specs.package_files.Runs.{Explains};
+ghost use Rattle.engine_core.specs.Preparing.{AreReadFor};
+ghost use Rattle.engine_core.specs.SelectionSeen.{HasItsDatabase, HasItsPool, inputs_of_selection, replacement_seen, wishes_of_selection};
+ghost use Rattle.std.specs.Prelude.{IfOk};
+
+use crate::choosing::Selection;
+use added_packages::{Arrivals, read_arrivals};
+use base_core::Tree;
+use change_report::{PlacedNames, Refused};
+use std::alloc::Global;
+
+/// The packages after a change, as they were read, and what they were selected from.
+#[derive(Drop)]
+pub(crate) struct ReadPackages<'r, 'a> {
+    /// The candidates that were selected, and what was read of the root.
+    pub selection: &'r Selection<'a>,
+    /// The names of the packages before and of the candidates, each with its place.
+    pub names: PlacedNames<'a>,
+    /// The added packages, read and tested, among the kept ones.
+    pub arrivals: Arrivals,
+}
+
+/// Reads and tests the added packages of a selection.
+///
+/// # Errors
+///
+/// `PackageMissing`, `PackageBad`, `PackageDiffers` and `ScriptNeeded` of the first package that
+/// has one; `Disk`, or `Memory`.
+pub(crate) fn read_packages<'r, 'a, T: Tree>(
+    alloc: Global,
+    selection: &'r Selection<'a>,
+    tree: &mut T,
+) -> Result<ReadPackages<'r, 'a>, Refused>
+    requires database { HasItsDatabase selection.now }
+    requires pool { HasItsPool selection.now }
+    // They are the packages that reads of the tree find; or one of them is refused, the first.
+    ensures found { Explains (T.history tree.old) (λ read.
+        DenotesUnlessDisk (AreReadFor (T.history tree.old) selection.entry.now) result
+        (change_members (inputs_of_selection selection.entry.now)
+        (replacement_seen selection.entry.now) (wishes_of_selection selection.entry.now) read)) }
+    // One database can list them.
+    ensures members { IfOk result (λ packages. CanBeMembers
+        (packages_of packages.selection.now.db) (arrivals_seen packages.arrivals)) }
+    ensures tree { OnlyReads Refused.Disk (T.history tree.old) (T.history tree.new)
+        (T.counts tree.old) (T.counts tree.new) result }
+{
+    let Selection {
+        db,
+        pool,
+        trace,
+        again,
+        ..
+    } = selection;
+    let names = PlacedNames::of(alloc, db, pool, trace, again)?;
+    let no_scripts = selection.command.flags().no_scripts;
+    let arrivals = read_arrivals(
+        alloc,
+        tree,
+        db,
+        pool,
+        &names,
+        selection.loaded.repositories(),
+        no_scripts,
+    )?;
+    Ok(ReadPackages {
+        selection,
+        names,
+        arrivals,
+    })
+}

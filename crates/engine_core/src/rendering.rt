@@ -1,0 +1,206 @@
+//! A change is rendered: the bytes of the database and of world, what is written, the journal entry
+//! and the report are made in memory. The rules are in `docs/commands.md`, "`add` and `del`" (what
+//! is written, reported and refused), in `docs/formats.md`, "The database after a change", and in
+//! `docs/crash-safety.md`, "A change of several files".
+ghost use Rattle.added_packages.specs.adb_write.Canonical.{overflow_of};
+ghost use Rattle.base_core.specs.Files.{Files};
+ghost use Rattle.base_core.specs.Tree.{TreeState};
+ghost use Rattle.change_report.specs.change_inputs.Answers.{Agrees};
+ghost use Rattle.change_report.specs.change_inputs.Seen.{inputs_seen};
+ghost use Rattle.change_report.specs.change_outcome.ChangeOutcome.{change_report, does_something, file_change, unless_large, unless_overflow};
+ghost use Rattle.change_report.specs.change_outcome.MembersAfter.{MemberFound};
+ghost use Rattle.change_report.specs.db_core.Seen.{members_of};
+ghost use Rattle.change_report.specs.db_write.NewDatabase.{database_of};
+ghost use Rattle.change_report.specs.journal_intent.IntentValue.{intent_of_lists, value_of_intent};
+ghost use Rattle.engine_core.specs.Preparing.{AreRecordWrites, AreRecordsOf, HasPlan, IsPlanned, bytes_if, inputs_of_plan, replacement_of_plan, wishes_of_plan};
+ghost use Rattle.engine_core.specs.Rendering.{AreWritesOf, IsOverflowOf, IsRendered, IsStageOf, removals_of_plan};
+ghost use Rattle.engine_core.specs.Writing.{write_name};
+ghost use Rattle.std.specs.Option.{option_copied};
+ghost use Rattle.std.specs.Prelude.{◌≡◌, List, map, not, true, IfErr, IfOk};
+
+use crate::planning::Plan;
+use crate::records::{begin_stage, is_other_file, new_database};
+use crate::removals::removals_of;
+use crate::wishes::names_to_remove;
+use crate::writes::{RecordWrites, names_of, writes_of};
+use added_packages::a_package_that_was_read_is_that_of_its_file;
+use base_core::{Name, Names, Text};
+use change_report::{
+    Changes, Loaded, Refused, ReportedChange, Stage, change_report,
+    places_lead_to_packages_and_candidates,
+};
+use journal_staging::StagedWrite;
+use root_names::{database_name, world_name};
+use std::alloc::{AllocError, Global};
+
+/// A change as it is to be carried out: what is written, the journal entry, and the report.
+#[derive(Drop)]
+pub(crate) struct Rendered<'c> {
+    /// What is written, in byte order of the names: files of packages, the database and world.
+    pub writes: Vec<StagedWrite<'c>>,
+    /// The journal entry, with the stage of the writes; none if nothing is written or removed.
+    pub stage: Option<Stage>,
+    /// The report.
+    pub report: Text,
+}
+
+/// Renders a change, given its database and world. All memory that its commit needs is allocated.
+///
+/// # Errors
+///
+/// `ResultTooLarge` if the journal entry exceeds a limit of the writer, or `Memory`.
+pub(crate) fn render<'c>(
+    alloc: Global,
+    plan: &'c Plan<'_, '_, '_>,
+    records: &'c NewRecords,
+) -> Result<Rendered<'c>, Refused>
+    requires plan { (history : List TreeState) × HasPlan history plan.now }
+    requires records { AreRecordsOf (inputs_of_plan plan.now) records.now }
+    ensures rendered { IfOk result (IsRendered plan.entry.now records.entry.now) }
+    // Or the journal entry of the change is too large.
+    ensures refused { IfErr result (IsOverflowOf plan.entry.now records.entry.now) }
+{
+    // A law that the proof needs; it has no effect at run time.
+    a_package_that_was_read_is_that_of_its_file();
+    let record_writes = record_writes_of(plan.packages.selection.loaded, records);
+    let arrivals = &plan.packages.arrivals;
+    let writes = writes_of(alloc, &plan.members, arrivals, &plan.files, &record_writes)?;
+    let stage = journal_entry(alloc, plan, &writes)?;
+    let report = report_of(alloc, plan)?;
+    Ok(Rendered {
+        writes,
+        stage,
+        report,
+    })
+}
+
+/// The journal entry of a change that has these writes; none if it removes and writes nothing.
+///
+/// # Errors
+///
+/// `ResultTooLarge` if the journal entry exceeds a limit of the writer, or `Memory`.
+fn journal_entry(
+    alloc: Global,
+    plan: &Plan<'_, '_, '_>,
+    writes: &[StagedWrite<'_>],
+) -> Result<Option<Stage>, Refused>
+    requires plan { (history : List TreeState) × HasPlan history plan.now }
+    requires writes { (records : NewRecords) × AreRecordsOf (inputs_of_plan plan.now) records
+        × AreWritesOf plan.now records writes.now }
+    ensures stage { IfOk result
+        (IsStageOf (removals_of_plan plan.now) (map write_name writes.now)) }
+    ensures told { Agrees (λ _. true) result (unless_overflow (overflow_of (value_of_intent
+        (intent_of_lists (removals_of_plan plan.now) (map write_name writes.now)))) true) }
+{
+    let loaded = plan.packages.selection.loaded;
+    let removals = removals_of(alloc, plan.files.removals(), loaded.is_from_text())?;
+    let names = names_of(alloc, writes)?;
+    if is_idle(&removals, &names) {
+        return Ok(None);
+    }
+    // Two laws: the elements of a list of names are names, so both lists give one intent.
+    removals.are_names();
+    names.are_names();
+    let stage = begin_stage(alloc, &removals, &names)?;
+    Ok(Some(stage))
+}
+
+/// The database and world after a change, and their names.
+#[derive(Drop)]
+pub(crate) struct NewRecords {
+    /// The bytes of the new database.
+    pub database: Vec<u8>,
+    /// The text of the new world.
+    pub world: Text,
+    /// The name of the database's file.
+    pub database_name: Name,
+    /// The name of world's file.
+    pub world_name: Name,
+}
+
+/// The database that lists the packages after a change, and world as the command asks for it.
+///
+/// # Errors
+///
+/// `ResultTooLarge` if the database exceeds a limit of the writer, or `Memory`.
+pub(crate) fn new_records(alloc: Global, plan: &Plan<'_, '_, '_>) -> Result<NewRecords, Refused>
+    ensures told { Agrees (λ records. records.database.items) result
+        (unless_large (database_of (members_of plan.now.members) plan.now.files.owned)) }
+    ensures records { IfOk result (AreRecordsOf (inputs_of_plan plan.now)) }
+{
+    let database = new_database(alloc, &plan.members, plan.files.owned())?;
+    let world = plan.packages.selection.loaded.new_world().text(alloc)?;
+    let database_name = database_name(alloc)?;
+    let world_name = world_name(alloc)?;
+    Ok(NewRecords {
+        database,
+        world,
+        database_name,
+        world_name,
+    })
+}
+
+/// The bytes of a file, if they differ from its old ones and so are to be written.
+fn bytes_if(is_other: bool, bytes: &[u8]) -> Option<&[u8]>
+    ensures { option_copied result ≡ bytes_if is_other bytes.now }
+{
+    if !is_other {
+        return None;
+    }
+    Some(bytes)
+}
+
+/// What of the database and world is written: the database if its file is absent or has other
+/// bytes, and world if it differs.
+fn record_writes_of<'c>(loaded: &Loaded, records: &'c NewRecords) -> RecordWrites<'c>
+    ensures { AreRecordWrites (inputs_seen loaded.now) records.now result }
+{
+    let is_other_database = is_other_file(loaded.database_file(), &records.database);
+    let is_other_world = loaded.world_text() != records.world.as_bytes();
+    RecordWrites {
+        database_name: &records.database_name,
+        database: bytes_if(is_other_database, &records.database),
+        world_name: &records.world_name,
+        world: bytes_if(is_other_world, records.world.as_bytes()),
+    }
+}
+
+/// The report of a change that is made: what becomes of each package, of the names to be removed,
+/// of configuration and triggers, and the total.
+fn report_of(alloc: Global, plan: &Plan<'_, '_, '_>) -> Result<Text, AllocError>
+    ensures { IfOk result (λ report. (history : List TreeState) (found : List MemberFound)
+        (files : Files) → IsPlanned history plan.now found files
+        → report ≡ change_report (replacement_of_plan plan.now) (wishes_of_plan plan.now)
+        (file_change (inputs_of_plan plan.now) (wishes_of_plan plan.now) found) files) }
+{
+    // A law that the proof needs; it has no effect at run time.
+    places_lead_to_packages_and_candidates();
+    let packages = plan.packages;
+    let selection = packages.selection;
+    let to_remove = names_to_remove(alloc, selection.command)?;
+    let changes = Changes::of_names(alloc, &packages.names)?;
+    let report = change_report(
+        alloc,
+        &ReportedChange {
+            db: &selection.db,
+            pool: &selection.pool,
+            trace: &selection.trace,
+            changes: &changes,
+            to_remove: &to_remove,
+            members: &plan.members,
+            plan: &plan.files,
+        },
+    )?;
+    Text::of(alloc, report.bytes())
+}
+
+/// Whether a change removes and writes nothing.
+fn is_idle(removals: &Names, writes: &Names) -> bool
+    ensures { result ≡ not (does_something
+        (record { removals = removals.now; writes = writes.now })) }
+{
+    if !removals.is_empty() {
+        return false;
+    }
+    writes.is_empty()
+}
