@@ -9,7 +9,7 @@ mod process;
 
 use apk_front::{Answer, Refusal, RootAccess, access_for, status};
 use headline::apk_as_promised;
-use hint_core::{explain, warn};
+use hint_core::{explain, explain_contents, warn};
 use host_files::{Lock, write_path};
 use host_tree::HostTree;
 use process::{HostSink, WordsFault, take_stack, words_of};
@@ -64,6 +64,7 @@ fn main(rt: HostRuntime) -> ExitCode {
         }
         Answer::Refused(refusal) => {
             let _ = explain(rt.alloc(), &words, refusal, &mut tree, &mut err);
+            let _ = explain_contents(rt.alloc(), &words, refusal, &mut tree, &mut err);
         }
         Answer::Ok => {
             let _ = warn(rt.alloc(), &words, &mut tree, &mut err);

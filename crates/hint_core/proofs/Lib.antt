@@ -2,3 +2,4 @@ pub mod Steps
 pub mod LinesFound
 pub mod So
 pub mod WarningSteps
+pub mod Mixed

@@ -74,3 +74,18 @@ behind_reading old new a b value (Ok done) kind h = record { same = h.same; goes
 behind_reading old new a b value (Err Disk) kind h = absurd kind
 behind_reading old new a b value (Err Memory) kind h = record { same = h.same; goes_on = h.goes_on; disk = λ is. absurd (memory_is_no_disk is); kept = tt; others = λ other. h.kept; proper = h.proper }
 behind_reading old new a b value (Err Sink) kind h = record { same = h.same; goes_on = h.goes_on; disk = λ is. absurd (sink_is_no_disk is); kept = tt; others = λ other. h.kept; proper = h.proper }
+
+-- ---- a read that fails in other words
+
+ok_is_no_err : {A E : Type 0} (x : A) (fault : E) → ◌≡◌ {A = Result A E} (Ok x) (Err fault) → ⊥
+ok_is_no_err x fault is = cc
+
+same_err : {A E : Type 0} (fault other : E) → ◌≡◌ {A = Result A E} (Err fault) (Err other) → fault ≡ other
+same_err fault other is = cc
+
+-- a result after a read is a fault of the tree exactly if the read was
+pub read_on : {A B E F : Type 0} (disk : E) (other_disk : F) (old new : List TreeState) (a b : Counts) (read : Result A E) (result : Result B F) → (result ≡ Err other_disk → read ≡ Err disk) → (read ≡ Err disk → result ≡ Err other_disk) → OnlyReads disk old new a b read → OnlyReads other_disk old new a b result
+read_on disk other old new a b (Ok x) (Ok y) to from h = record { same = h.same; goes_on = h.goes_on; disk = λ is. absurd (ok_is_no_err x disk (to is)); kept = h.kept; others = tt; proper = h.proper }
+read_on disk other old new a b (Ok x) (Err fault) to from h = record { same = h.same; goes_on = h.goes_on; disk = λ is. absurd (ok_is_no_err x disk (to is)); kept = tt; others = λ apart. h.kept; proper = h.proper }
+read_on disk other old new a b (Err e) (Ok y) to from h = record { same = h.same; goes_on = h.goes_on; disk = λ is. h.disk (to is); kept = h.others (λ same. ok_is_no_err y other (from (ap Err same))); others = tt; proper = h.proper }
+read_on disk other old new a b (Err e) (Err fault) to from h = record { same = h.same; goes_on = h.goes_on; disk = λ is. h.disk (to is); kept = tt; others = λ apart. h.others (λ same. apart (same_err fault other (from (ap Err same)))); proper = h.proper }

@@ -3,6 +3,7 @@ pub mod Hints
 pub mod Repositories
 pub mod Lines
 pub mod Told
+pub mod Contents
 -- what the law says of hints
 pub mod Truths
 -- what a command that was carried out is warned of

@@ -63,8 +63,8 @@ fn subject_hint(
     }
 }
 
-// The word at a place, if there is one.
-fn word_at(words: &Words, place: u32) -> Option<&[u8]>
+/// The word at a place, if there is one.
+pub(crate) fn word_at(words: &Words, place: u32) -> Option<&[u8]>
     ensures { option_map (λ word. word.now) result ≡ slice_get words.now (place - 1) }
 {
     let before = (place as usize).saturating_sub(1);

@@ -8,17 +8,21 @@
 //! is found, and the law `hints_are_so` proves it. The rules are in `docs/commands.md`, "Hints".
 #![tactic(auto)]
 
+mod contents;
 mod find;
 mod hint;
 mod laws;
 mod lines;
+mod package_paths;
 mod places;
 mod printed;
 mod telling;
 mod warning;
 
+pub use contents::{MixedUp, explain_contents};
 pub use find::hints;
 pub use hint::{Hint, HintFile, Hints, Subject};
 pub use laws::{hints_are_so, tags_without_a_repository_are_warned_of};
+pub use printed::push_printed;
 pub use telling::{HintFault, explain};
 pub use warning::warn;

@@ -42,8 +42,12 @@ fn cut_mark(bytes: &[u8]) -> &'static [u8]
     }
 }
 
-// Adds bytes as they are shown.
-fn push_printed(text: &mut Vec<u8>, bytes: &[u8]) -> Result<(), AllocError>
+/// Adds bytes as they are shown.
+///
+/// # Errors
+///
+/// Out of memory.
+pub fn push_printed(text: &mut Vec<u8>, bytes: &[u8]) -> Result<(), AllocError>
     ensures { OnOk result (text.new.items ≡ text.old.items ++ printed_bytes bytes.now) }
 {
     for byte in bytes {

@@ -99,8 +99,8 @@ pub fn explain<T: Tree, S: Sink>(
     tell(alloc, words, refusal, bytes_of(&found), sink)
 }
 
-// Whether the refusals of a command line are about its own words: those of `demo` are not.
-fn is_explained(alloc: Global, words: &Words) -> Result<bool, AllocError>
+/// Whether the refusals of a command line are about its own words: those of `demo` are not.
+pub(crate) fn is_explained(alloc: Global, words: &Words) -> Result<bool, AllocError>
     ensures { IfOk result (λ own. own ≡ is_explained (command_of words.now)) }
 {
     match read_words(alloc, words) {

@@ -46,8 +46,8 @@ pub fn warn<T: Tree, S: Sink>(
     say(&lines, sink)
 }
 
-// Writes lines.
-fn say<S: Sink>(lines: &[u8], sink: &mut S) -> Result<(), HintFault>
+/// Writes lines.
+pub(crate) fn say<S: Sink>(lines: &[u8], sink: &mut S) -> Result<(), HintFault>
     ensures told { Tells lines.now (sink_change S.bytes S.counts sink.old sink.new) result }
     // No tree failed.
     ensures failed { IfErr result IsNoDisk }

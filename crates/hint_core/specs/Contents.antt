@@ -1,0 +1,146 @@
+-- Which files of a package the positions in `contents A.B where C.D was expected` are. The rules are in
+-- `docs/commands.md`, "Hints"; the positions are described in `docs/formats.md`, "The other blocks".
+use Rattle.std.specs.Prelude.{◌≡◌, ℕ, ◌-◌, ◌==◌, nat_le, ◌&&◌, if◌then◌else◌, List, [], ◌∷◌, ◌++◌, codes, Option, Some, None, option_and_then, Result, Ok, Err}
+use Rattle.std.specs.Fmt.{decimal}
+use Rattle.std.specs.List.{slice_get}
+use Rattle.std.specs.Option.{option_map}
+use Rattle.adb_view.specs.FieldIndexes.{DIR_FILES, PACKAGE_PATHS}
+use Rattle.adb_view.specs.Plain.{Plain}
+use Rattle.adb_view.specs.Values.{count_of, entries_in, entry_in}
+use Rattle.adb_view.specs.declared.tables.Which.TheVariants.{Package}
+use Rattle.base_core.specs.Calls.{IfObservable}
+use Rattle.base_core.specs.Tree.{TreeState, files_of}
+use Rattle.base_core.specs.declared.cause.Cause.{Cause}
+use Rattle.base_core.specs.declared.cause.Cause.TheVariants.{DataOrder}
+use Rattle.command_core.specs.Named.{file_name}
+use Rattle.pkg_core.specs.Front.{front_payload}
+use Rattle.pkg_core.specs.declared.front.Front.{Front}
+use Rattle.pkg_core.specs.declared.front.FrontFault.{FrontFault}
+use Rattle.pkg_core.specs.declared.front.FrontFault.TheVariants.{Bad, Disk, Memory}
+use Rattle.pkg_core.specs.adb_schema.Soundness.{first_fault, payload_fault, payload_in, root_value}
+use Rattle.pkg_core.specs.adb_schema.adb_fields.Paths.{path_of}
+use Rattle.pkg_core.specs.adb_schema.adb_fields.Repeated.{name_of}
+use Rattle.report_core.specs.declared.refusal.Refusal.{Refusal}
+use Rattle.report_core.specs.declared.refusal.Refusal.TheVariants.{FileBad}
+use Rattle.words_core.specs.Grammar.{command_of}
+use Rattle.words_core.specs.Usage.{texts_joined}
+use Rattle.hint_core.specs.declared.contents.MixedUp.{MixedUp}
+use Rattle.hint_core.specs.Hints.{is_explained}
+use Rattle.hint_core.specs.Lines.{printed_text}
+
+-- ---- what is mixed up
+
+-- the positions that a cause names, of a package that is the word at a place
+abbrev pub mixed_up_by : ℕ → Cause → Option MixedUp
+mixed_up_by place (DataOrder expected found) =
+    Some (record { place = place; expected = expected; found = found })
+mixed_up_by place cause = None
+
+-- the positions that a refusal names, and the place of the package's word
+abbrev pub mixed_up : Refusal → Option MixedUp
+mixed_up (FileBad place cause) = mixed_up_by place cause
+mixed_up refusal = None
+
+-- the same of a command line whose refusals are explained
+abbrev pub explained_mixed_up : List (List ℕ) → Refusal → Option MixedUp
+explained_mixed_up words refusal =
+    if is_explained (command_of words) then mixed_up refusal else None
+
+-- ---- files of a package
+
+-- the entry of an array at a position, which counts from 1
+abbrev pub entry_at : Plain → ℕ → Option Plain
+entry_at array position =
+    if nat_le 1 position && nat_le position (count_of (entries_in array))
+    then Some (entry_in array (position - 1)) else None
+
+-- the path of the file of a folder at a position
+abbrev pub path_in_folder : Plain → ℕ → Option (List ℕ)
+path_in_folder folder file =
+    option_map (λ (f : Plain). path_of (name_of folder) (name_of f))
+    (entry_at (entry_in folder DIR_FILES) file)
+
+-- the path of the file of a package, by the positions of its folder and of itself in the folder
+abbrev pub path_at : Plain → ℕ × ℕ → Option (List ℕ)
+path_at pkg position =
+    option_and_then (λ folder. path_in_folder folder position.1)
+    (entry_at (entry_in pkg PACKAGE_PATHS) position.0)
+
+-- ---- lines
+
+-- positions as a refusal shows them: `4.1`
+abbrev pub position_text : ℕ × ℕ → List (List ℕ) → List (List ℕ)
+position_text position rest = decimal position.0 ∷ (codes "." ∷ (decimal position.1 ∷ rest))
+
+-- the line of positions in a package, by the path of the file there, if there is one
+abbrev pub file_line : List ℕ → ℕ × ℕ → Option (List ℕ) → List ℕ
+file_line pkg position (Some path) = texts_joined
+    (codes "apk: file " ∷ position_text position (codes " of " ∷ (printed_text pkg
+    ∷ (codes " is " ∷ (printed_text path ∷ (codes "\n" ∷ []))))))
+file_line pkg position None = texts_joined
+    (codes "apk: " ∷ (printed_text pkg ∷ (codes " has no file "
+    ∷ position_text position (codes "\n" ∷ []))))
+
+-- the line of positions in a package; `0.0` stands for no file, and has none
+abbrev pub position_line : List ℕ → Plain → ℕ × ℕ → List ℕ
+position_line name pkg position =
+    if (position.0 == 0) && (position.1 == 0) then [] else
+    file_line name position (path_at pkg position)
+
+-- the lines of a package that has this name: first of the file that was expected
+abbrev pub package_lines : List ℕ → MixedUp → Plain → List ℕ
+package_lines name mixed pkg =
+    position_line name pkg mixed.expected ++ position_line name pkg mixed.found
+
+-- lines, unless a test fails
+abbrev pub lines_unless : Option Cause → List ℕ → List ℕ
+lines_unless None lines = lines
+lines_unless (Some cause) lines = []
+
+-- the lines of a package with this payload, unless a test of its values fails
+abbrev pub payload_lines : List ℕ → MixedUp → List ℕ → List ℕ
+payload_lines name mixed payload =
+    lines_unless (payload_fault Package payload)
+    (package_lines name mixed (root_value Package payload))
+
+-- these lines are by the front that was read of a package; none if there is none, or it is bad
+abbrev pub AreLinesOfRead :
+    List ℕ → MixedUp → Result (Option Front) FrontFault → List ℕ → Type 0
+AreLinesOfRead name mixed (Ok (Some front)) lines =
+    lines ≡ payload_lines name mixed (front_payload front)
+AreLinesOfRead name mixed (Ok None) lines = lines ≡ []
+AreLinesOfRead name mixed (Err (Bad cause)) lines = lines ≡ []
+AreLinesOfRead name mixed (Err Disk) lines = ⊥
+AreLinesOfRead name mixed (Err Memory) lines = ⊥
+
+-- the lines of the file that is found under a name, unless a test of its values as a package fails
+abbrev pub contents_lines : List ℕ → MixedUp → Option (List ℕ) → List ℕ
+contents_lines name mixed None = []
+contents_lines name mixed (Some file) =
+    lines_unless (first_fault Package file)
+    (package_lines name mixed (root_value Package (payload_in file)))
+
+-- ---- what is printed
+
+-- the name of the file that the word at a place is, if it is one
+abbrev pub word_file : List (List ℕ) → ℕ → Option (List ℕ)
+word_file words place = option_and_then file_name (slice_get words (place - 1))
+
+-- these lines are those of what is found under a name, if there is one
+abbrev pub ExplainsFile : Option (List ℕ) → MixedUp → List TreeState → List ℕ → Type 0
+ExplainsFile None mixed history lines = lines ≡ []
+ExplainsFile (Some name) mixed history lines =
+    (found : Option (List ℕ)) × IfObservable history (λ v. found ≡ files_of v name)
+    × (lines ≡ contents_lines name mixed found)
+
+-- these lines are those of what is mixed up, if anything is
+abbrev pub ExplainsMixedUp :
+    List (List ℕ) → Option MixedUp → List TreeState → List ℕ → Type 0
+ExplainsMixedUp words None history lines = lines ≡ []
+ExplainsMixedUp words (Some mixed) history lines =
+    ExplainsFile (word_file words mixed.place) mixed history lines
+
+-- these lines say which files the positions are that a refusal names
+abbrev pub ExplainsContents : List (List ℕ) → Refusal → List TreeState → List ℕ → Type 0
+ExplainsContents words refusal history lines =
+    ExplainsMixedUp words (explained_mixed_up words refusal) history lines

@@ -1,0 +1,333 @@
+//! Which files of a package the positions in `contents A.B where C.D was expected` are. The rules
+//! are in `docs/commands.md`, "Hints".
+ghost use Rattle.std.specs.Prelude.{◌≡◌, ◌⊎◌, ◌++◌, [], ℕ, List, Err, IfErr, IfOk, None, OnOk, Some};
+ghost use Rattle.base_core.specs.Read.{OnlyReads, bytes_in};
+ghost use Rattle.base_core.specs.Sink.{sink_change};
+ghost use Rattle.base_core.specs.declared.tree.TreeFault.TheVariants.{Disk as DiskFault};
+ghost use Rattle.hint_core.specs.Contents.{AreLinesOfRead, ExplainsContents, ExplainsFile, ExplainsMixedUp, explained_mixed_up, file_line, mixed_up, mixed_up_by, package_lines, payload_lines, position_line, word_file};
+ghost use Rattle.hint_core.specs.Told.{Tells};
+ghost use Rattle.pkg_core.specs.Front.{front_payload};
+ghost use Rattle.pkg_core.specs.declared.front.FrontFault.TheVariants.{Disk as FrontFailed};
+ghost use Rattle.pkg_core.specs.adb_schema.Views.{package_value};
+
+use crate::find::word_at;
+use crate::package_paths::path_at;
+use crate::printed::{printed, push_texts};
+use crate::telling::{HintFault, is_explained};
+use crate::warning::say;
+use base_core::{Cause, Name, Sink, Tree, TreeFault, Words};
+use command_core::without_dot;
+use itoa::Buffer;
+use pkg_core::{
+    Contents, Front, FrontFault, PACKAGE_WORD, PackageFault, PackageView,
+    a_front_and_its_values_are_tested_as_a_whole_package, a_front_holds_the_payload_of_its_file,
+    read_front,
+};
+use report_core::Refusal;
+use std::alloc::{AllocError, Global};
+
+/// The positions of two files of a package, each of a folder and of a file in it. They count from
+/// 1, and (0, 0) is no file.
+#[derive(Clone, Copy)]
+pub struct MixedUp {
+    /// The place of the package's word.
+    pub place: u32,
+    /// The file whose contents were expected.
+    pub expected: (u32, u32),
+    /// The file whose contents were found.
+    pub found: (u32, u32),
+}
+
+/// Writes which files of a package the positions are that a refusal names. The front of the package
+/// is read once, and only then; nothing of the tree is changed.
+///
+/// # Errors
+///
+/// `Disk` or `Memory`, and nothing was written; or `Sink`, and a prefix of the lines was.
+pub fn explain_contents<T: Tree, S: Sink>(
+    alloc: Global,
+    words: &Words,
+    refusal: &Refusal,
+    tree: &mut T,
+    sink: &mut S,
+) -> Result<(), HintFault>
+    // The lines are those of the package as it is. If the call fails, nothing was written, or a
+    // prefix of them.
+    ensures told { (lines : List ℕ)
+        × ((lines ≡ []) ⊎ ExplainsContents words.now refusal.now (T.history tree.old) lines)
+        × OnOk result (ExplainsContents words.now refusal.now (T.history tree.old) lines)
+        × Tells lines (sink_change S.bytes S.counts sink.old sink.new) result }
+    // The tree is only read.
+    ensures tree { OnlyReads HintFault.Disk (T.history tree.old) (T.history tree.new)
+        (T.counts tree.old) (T.counts tree.new) result }
+{
+    let lines = contents_lines(alloc, words, refusal, tree)?;
+    say(&lines, sink)
+}
+
+// The lines of the positions that a refusal names.
+fn contents_lines<T: Tree>(
+    alloc: Global,
+    words: &Words,
+    refusal: &Refusal,
+    tree: &mut T,
+) -> Result<Vec<u8>, TreeFault>
+    ensures lines { IfOk result (λ lines.
+        ExplainsContents words.now refusal.now (T.history tree.old) lines.items) }
+    ensures tree { OnlyReads TreeFault.Disk (T.history tree.old) (T.history tree.new)
+        (T.counts tree.old) (T.counts tree.new) result }
+{
+    let mixed = explained_mixed_up(alloc, words, refusal)?;
+    mixed_up_lines(alloc, words, mixed, tree)
+}
+
+// The positions that a refusal names, if it is explained.
+fn explained_mixed_up(
+    alloc: Global,
+    words: &Words,
+    refusal: &Refusal,
+) -> Result<Option<MixedUp>, AllocError>
+    ensures { IfOk result (λ mixed. mixed ≡ explained_mixed_up words.now refusal.now) }
+{
+    if !is_explained(alloc, words)? {
+        return Ok(None);
+    }
+    Ok(mixed_up(refusal))
+}
+
+// The positions that a refusal names.
+fn mixed_up(refusal: &Refusal) -> Option<MixedUp>
+    ensures { result ≡ mixed_up refusal.now }
+{
+    match refusal {
+        Refusal::FileBad { place, cause } => mixed_up_by(*place, *cause),
+        _ => None,
+    }
+}
+
+// The positions that a cause names.
+fn mixed_up_by(place: u32, cause: Cause) -> Option<MixedUp>
+    ensures { result ≡ mixed_up_by place cause }
+{
+    match cause {
+        Cause::DataOrder { expected, found } => Some(MixedUp {
+            place,
+            expected,
+            found,
+        }),
+        _ => None,
+    }
+}
+
+// The lines of what is mixed up, if anything is.
+fn mixed_up_lines<T: Tree>(
+    alloc: Global,
+    words: &Words,
+    mixed: Option<MixedUp>,
+    tree: &mut T,
+) -> Result<Vec<u8>, TreeFault>
+    ensures lines { IfOk result (λ lines.
+        ExplainsMixedUp words.now mixed (T.history tree.old) lines.items) }
+    ensures tree { OnlyReads TreeFault.Disk (T.history tree.old) (T.history tree.new)
+        (T.counts tree.old) (T.counts tree.new) result }
+{
+    let Some(mixed) = mixed else {
+        return Ok(Vec::new(alloc));
+    };
+    let name = word_file(alloc, words, mixed.place)?;
+    lines_if_file(alloc, &name, &mixed, tree)
+}
+
+// The name of the file that the word at a place is, if it is one.
+fn word_file(alloc: Global, words: &Words, place: u32) -> Result<Option<Name>, AllocError>
+    ensures { IfOk result (λ name. name ≡ word_file words.now place) }
+{
+    match word_at(words, place) {
+        Some(word) => Name::read(alloc, without_dot(word)),
+        None => Ok(None),
+    }
+}
+
+// The lines of what is found under a name, if there is one.
+fn lines_if_file<T: Tree>(
+    alloc: Global,
+    name: &Option<Name>,
+    mixed: &MixedUp,
+    tree: &mut T,
+) -> Result<Vec<u8>, TreeFault>
+    ensures lines { IfOk result (λ lines.
+        ExplainsFile name.now mixed.now (T.history tree.old) lines.items) }
+    ensures tree { OnlyReads TreeFault.Disk (T.history tree.old) (T.history tree.new)
+        (T.counts tree.old) (T.counts tree.new) result }
+{
+    match name {
+        Some(name) => file_lines(alloc, name, mixed, tree),
+        None => Ok(Vec::new(alloc)),
+    }
+}
+
+// The lines of what is found under a name.
+fn file_lines<T: Tree>(
+    alloc: Global,
+    name: &Name,
+    mixed: &MixedUp,
+    tree: &mut T,
+) -> Result<Vec<u8>, TreeFault>
+    ensures lines { IfOk result (λ lines.
+        ExplainsFile (Some name.now) mixed.now (T.history tree.old) lines.items) }
+    ensures tree { OnlyReads TreeFault.Disk (T.history tree.old) (T.history tree.new)
+        (T.counts tree.old) (T.counts tree.new) result }
+{
+    // Laws that the proof needs; they compute nothing.
+    a_front_and_its_values_are_tested_as_a_whole_package();
+    a_front_holds_the_payload_of_its_file();
+    let read = read_front(alloc, tree, name, PACKAGE_WORD);
+    lines_of_read(alloc, name.as_bytes(), mixed, &read)
+}
+
+// The lines by the front that was read of a package; none if there is none, or it is bad.
+fn lines_of_read(
+    alloc: Global,
+    name: &[u8],
+    mixed: &MixedUp,
+    read: &Result<Option<Front>, FrontFault>,
+) -> Result<Vec<u8>, TreeFault>
+    ensures lines { IfOk result (λ lines. AreLinesOfRead name.now mixed.now read.now lines.items) }
+    // The tree failed exactly if the reading did.
+    ensures to { result ≡ Err DiskFault → read.now ≡ Err FrontFailed }
+    ensures from { read.now ≡ Err FrontFailed → result ≡ Err DiskFault }
+{
+    match read {
+        Ok(Some(front)) => Ok(payload_lines(alloc, name, mixed, front)?),
+        Ok(None) => Ok(Vec::new(alloc)),
+        Err(FrontFault::Bad(_)) => Ok(Vec::new(alloc)),
+        Err(FrontFault::Disk) => Err(TreeFault::Disk),
+        Err(FrontFault::Memory) => Err(TreeFault::Memory),
+    }
+}
+
+// The lines of a package with this front, unless a test of its values fails.
+fn payload_lines(
+    alloc: Global,
+    name: &[u8],
+    mixed: &MixedUp,
+    front: &Front,
+) -> Result<Vec<u8>, AllocError>
+    ensures { IfOk result (λ lines.
+        lines.items ≡ payload_lines name.now mixed.now (front_payload front.now)) }
+{
+    match Contents::new(alloc, front) {
+        Ok(contents) => package_lines(alloc, name, mixed, &contents.view()),
+        Err(PackageFault::Bad(_)) => Ok(Vec::new(alloc)),
+        Err(PackageFault::Memory) => Err(AllocError),
+    }
+}
+
+// The lines of a package.
+fn package_lines(
+    alloc: Global,
+    name: &[u8],
+    mixed: &MixedUp,
+    view: &PackageView<'_>,
+) -> Result<Vec<u8>, AllocError>
+    ensures { IfOk result (λ lines.
+        lines.items ≡ package_lines name.now mixed.now (package_value view.now)) }
+{
+    let mut lines = Vec::new(alloc);
+    push_position(alloc, &mut lines, name, view, mixed.expected)?;
+    push_position(alloc, &mut lines, name, view, mixed.found)?;
+    Ok(lines)
+}
+
+// Adds the line of positions in a package.
+fn push_position(
+    alloc: Global,
+    lines: &mut Vec<u8>,
+    name: &[u8],
+    view: &PackageView<'_>,
+    position: (u32, u32),
+) -> Result<(), AllocError>
+    ensures { OnOk result (lines.new.items ≡ lines.old.items
+        ++ position_line name.now (package_value view.now) position) }
+{
+    if position.0 == 0 && position.1 == 0 {
+        return Ok(());
+    }
+    let path = path_at(alloc, view, position)?;
+    push_file(alloc, lines, name, position, &path)
+}
+
+// Adds the line of positions, by the path of the file there.
+fn push_file(
+    alloc: Global,
+    lines: &mut Vec<u8>,
+    name: &[u8],
+    position: (u32, u32),
+    path: &Option<Vec<u8>>,
+) -> Result<(), AllocError>
+    ensures { OnOk result (lines.new.items ≡ lines.old.items
+        ++ file_line name.now position (bytes_in path.now)) }
+{
+    match path {
+        Some(path) => push_path(alloc, lines, name, position, path),
+        None => push_no_file(alloc, lines, name, position),
+    }
+}
+
+// Adds the line of a file.
+fn push_path(
+    alloc: Global,
+    lines: &mut Vec<u8>,
+    name: &[u8],
+    position: (u32, u32),
+    path: &[u8],
+) -> Result<(), AllocError>
+    ensures { OnOk result (lines.new.items ≡ lines.old.items
+        ++ file_line name.now position (Some path.now)) }
+{
+    let shown_name = printed(alloc, name)?;
+    let shown_path = printed(alloc, path)?;
+    let mut folder = Buffer::new();
+    let mut file = Buffer::new();
+    push_texts(
+        lines,
+        &[
+            b"apk: file ",
+            folder.format(position.0).as_bytes(),
+            b".",
+            file.format(position.1).as_bytes(),
+            b" of ",
+            &shown_name,
+            b" is ",
+            &shown_path,
+            b"\n",
+        ],
+    )
+}
+
+// Adds the line of positions at which a package has no file.
+fn push_no_file(
+    alloc: Global,
+    lines: &mut Vec<u8>,
+    name: &[u8],
+    position: (u32, u32),
+) -> Result<(), AllocError>
+    ensures { OnOk result (lines.new.items ≡ lines.old.items
+        ++ file_line name.now position None) }
+{
+    let shown = printed(alloc, name)?;
+    let mut folder = Buffer::new();
+    let mut file = Buffer::new();
+    push_texts(
+        lines,
+        &[
+            b"apk: ",
+            &shown,
+            b" has no file ",
+            folder.format(position.0).as_bytes(),
+            b".",
+            file.format(position.1).as_bytes(),
+            b"\n",
+        ],
+    )
+}
