@@ -5,22 +5,30 @@
 
 prints COUNT rows, each with a question `select`. In some repositories the packages need ranges of
 each other's versions, so that a search has many dead ends: chains of packages, layers of providers,
-and clauses of three literals. The search of changes.py takes no reasons: it goes back to the latest
-choice and tries the next option. A repository for which it takes too long is left out, and another
-one is drawn. One seed gives the same rows each time.
+and clauses of three literals. What meets a need, and which option is better, are asked of changes.py.
+The search of this file learns nothing: it goes back to the latest choice and tries the next option. A
+repository for which it takes too long is left out, and another one is drawn. One seed gives the same
+rows each time.
 """
 
 import random
 import sys
 
-from changes import Candidate, Search, TooLong
+from changes import Candidate, Search
 from packages import Package
 from versions import dependencies
 
-# The most steps that the search of changes.py takes for a row.
-MOST_STEPS = 400
+# The most steps that the search takes for a row.
+MOST_STEPS = 5000
 
 OPERATORS = ["=", "<", "<=", ">", ">=", "~"]
+
+
+class Offered(Package):
+    """A package without its container, which no selection looks at."""
+
+    def __post_init__(self):
+        pass
 
 
 class Maker:
@@ -44,7 +52,7 @@ class Maker:
         return list({each.name: each for each in dependencies(made)}.values())
 
     def package(self, name, version, depends, provides=(), install_if=(), priority=0):
-        return Package(name, str(version), depends=list(depends), provides=list(provides), install_if=list(install_if), provider_priority=priority)
+        return Offered(name, str(version), depends=list(depends), provides=list(provides), install_if=list(install_if), provider_priority=priority)
 
     def mixed(self):
         """Packages of a few names with everything that a selection looks at."""
@@ -107,13 +115,82 @@ def shown(package):
     return " ".join(parts)
 
 
+class TooLong(Exception):
+    """A search that takes too many steps."""
+
+
+class Plain:
+    """A search over sets of candidates as bits of numbers."""
+
+    def __init__(self, packages, world):
+        self.rules = Search([Candidate(package, 1, None, False, place) for place, package in enumerate(packages)], world, lambda name: False)
+        self.candidates = self.rules.candidates
+        self.bits = {each: 1 << i for i, each in enumerate(self.candidates)}
+        self.known = {}
+        self.world = self.needs_of(world)
+        self.depends = {each: self.needs_of(each.package.depends) for each in self.candidates}
+        self.apart = {each: 0 for each in self.candidates}
+        occupants = {}
+        for each in self.candidates:
+            for name in each.single_names():
+                occupants[name] = occupants.get(name, 0) | self.bits[each]
+        for each in self.candidates:
+            for name in each.single_names():
+                self.apart[each] |= occupants[name] & ~self.bits[each]
+            for conflict in (dependency for dependency in each.package.depends if dependency.conflict):
+                for other in self.need(conflict)[1]:
+                    if other is not each:
+                        self.apart[each] |= self.bits[other]
+                        self.apart[other] |= self.bits[each]
+        self.asking = sorted((each.package.name, [self.need(entry)[0] for entry in each.package.install_if], self.need(each.package.name))
+                             for each in self.candidates if each.package.install_if and not any(entry.conflict for entry in each.package.install_if))
+        self.steps = 0
+
+    def needs_of(self, texts):
+        return [self.need(each) for each in texts if not each.conflict]
+
+    def need(self, need):
+        """The candidates that meet a need: as bits, and best first."""
+        key = need if isinstance(need, str) else (need.text(),)
+        if key not in self.known:
+            options = [each for each in self.candidates if each.meets(need)]
+            self.known[key] = sum(self.bits[each] for each in options), sorted(options, key=lambda each: self.rules.rank(need, each))
+        return self.known[key]
+
+    def next_need(self, chosen, bits):
+        for need in self.world:
+            if not need[0] & bits:
+                return need
+        for each in chosen:
+            for need in self.depends[each]:
+                if not need[0] & bits:
+                    return need
+        for _, entries, need in self.asking:
+            if all(entry & bits for entry in entries) and not need[0] & bits:
+                return need
+        return None
+
+    def walk(self, chosen=(), bits=0, passed_over=0):
+        self.steps += 1
+        if self.steps > MOST_STEPS:
+            raise TooLong
+        need = self.next_need(chosen, bits)
+        if need is None:
+            return chosen
+        for option in need[1]:
+            bit = self.bits[option]
+            if not (bit & passed_over or self.apart[option] & bits):
+                found = self.walk(chosen + (option,), bits | bit, passed_over)
+                if found is not None:
+                    return found
+            passed_over |= bit
+        return None
+
+
 def row(number, maker):
     """The lines of a row."""
     packages, world = maker.drawn()
-    candidates = [Candidate(package, 1, None, False, place) for place, package in enumerate(packages)]
-    search = Search(candidates, sorted(world, key=lambda each: each.name), lambda name: False)
-    search.steps = 20_000 - MOST_STEPS
-    found = search.walk()
+    found = Plain(packages, sorted(world, key=lambda each: each.name)).walk()
     answer = "none" if found is None else " ".join(f"{each.package.name}-{each.package.version}" for each in found)
     return [f"row r{number}: ", "repository " + ";".join(map(shown, packages)), "world " + " ".join(each.text() for each in world), "$ select", f"> {answer}"]
 
