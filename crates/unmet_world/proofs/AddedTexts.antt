@@ -1,12 +1,10 @@
 -- Texts that are added one after another.
-use Rattle.std.proofs.Common.{◌≡◌, ◌⊎◌, inl, inr, ℕ, zero, suc, ◌+◌, ◌<◌, ◌≤◌, Bool, true, false, List, [], ◌∷◌, ◌++◌, length, map, take, refl, sym, ap, ◌∙◌, append_assoc, append-nil, arith}
+use Rattle.std.proofs.Common.{◌≡◌, ℕ, zero, suc, ◌+◌, ◌<◌, Bool, true, false, List, [], ◌∷◌, ◌++◌, map, take, refl, sym, ap, ◌∙◌, append_assoc, append-nil, arith}
 use Rattle.std.specs.Prelude.{Some, None, Result, Ok, Err, OnOk, slice_get, codes, if◌then◌else◌}
 use Rattle.std.specs.Result.{is_ok}
 use Rattle.std.specs.List.{flat_map}
-use Rattle.std.proofs.lemmas.List.{map-append, take_all}
+use Rattle.std.proofs.lemmas.List.{map-append}
 use Rattle.search_tables.proofs.candidate_core.Steps.{take_one_more}
-use Rattle.words_core.specs.Usage.{shown_byte, shown_bytes}
-use Rattle.words_core.proofs.Hints.{shown_chain}
 use Rattle.dep_core.specs.Dependency.{Dependency}
 use Rattle.dep_core.specs.DependencyText.{dep_text}
 use Rattle.unmet_world.specs.Refutation.{if_positive}
@@ -34,11 +32,6 @@ texts_next f xs i x first before after at was is =
 pub texts_step : {X : Type 0} (f : X → List (List ℕ)) (so_far more : List X) (x : X) (first before after : List (List ℕ)) → more ≡ so_far ++ x ∷ [] → before ≡ with_texts first (flat_map f so_far) → after ≡ with_texts before (f x) → after ≡ with_texts first (flat_map f more)
 texts_step f so_far more x first before after one was is =
     is ∙ (ap (λ z. with_texts z (f x)) was ∙ (sym (with_texts-append first (flat_map f so_far) (f x)) ∙ ap (with_texts first) (sym (ap (flat_map f) one ∙ (flat_map-append f so_far (x ∷ []) ∙ ap (λ z. flat_map f so_far ++ z) (append-nil (f x)))))))
-
--- one more byte that is shown
-pub shown_step : (so_far more : List ℕ) (x : ℕ) (first before after : List ℕ) → more ≡ so_far ++ x ∷ [] → before ≡ first ++ shown_bytes so_far → after ≡ before ++ shown_byte x → after ≡ first ++ shown_bytes more
-shown_step so_far more x first before after one was is =
-    is ∙ (ap (λ z. z ++ shown_byte x) was ∙ (append_assoc first (shown_bytes so_far) (shown_byte x) ∙ ap (λ z. first ++ z) (sym (ap shown_bytes one ∙ (shown_chain so_far (x ∷ []) ∙ ap (λ z. shown_bytes so_far ++ z) (append-nil (shown_byte x)))))))
 
 -- the text of one more element
 pub mapped_next : {X : Type 0} (f : X → List ℕ) (xs : List X) (i : ℕ) (x : X) (before after : List (List ℕ)) → slice_get xs i ≡ Some x → before ≡ with_texts [] (map f (take i xs)) → after ≡ with_text_once before (f x) → after ≡ with_texts [] (map f (take (i + 1) xs))
@@ -93,19 +86,6 @@ no_line_of d is = by d.conflict is
 pub entry_next : (world : List Dependency) (i : ℕ) (d : Dependency) (before after : List (List ℕ)) → slice_get world i ≡ Some d → before ≡ world_lines (take i world) → after ≡ before ++ world_lines_of (if_positive (Some d)) → after ≡ world_lines (take (i + 1) world)
 entry_next world i d before after at was is =
     is ∙ (ap (λ z. z ++ world_lines_of (if_positive (Some d))) was ∙ sym (flat_next (λ (e : Dependency). world_lines_of (if_positive (Some e))) world i d at))
-
--- all entries that are looked at
-pub entries_all : (world : List Dependency) (i n : ℕ) (lines : List (List ℕ)) → i ≤ n → (i < n → length world ≤ i) → lines ≡ world_lines (take i world) → lines ≡ world_lines (take n world)
-entries_all world i n lines within past is = elim (lt_cases i n within) [
-  | inl less ↦ let all = past less in is ∙ ap world_lines (take_all i world all ∙ sym (take_all n world (omega (arith, all))))
-  | inr same ↦ is ∙ ap (λ k. world_lines (take k world)) same
-]
-  where
-    lt_cases : (a b : ℕ) → a ≤ b → (a < b) ⊎ (a ≡ b)
-    lt_cases zero zero h = inr refl
-    lt_cases zero (suc b) h = inl (omega arith)
-    lt_cases (suc a) zero h = absurd (omega (arith, h))
-    lt_cases (suc a) (suc b) h = elim (lt_cases a b (omega (arith, h))) [ inl l ↦ inl (omega (arith, l)) | inr e ↦ inr (ap suc e) ]
 
 -- three texts that are added in turn, of which the last may fail
 pub three_added : {T E : Type 0} (r : Result T E) (t0 t1 t2 t3 a b c : List ℕ) → t1 ≡ t0 ++ a → t2 ≡ t1 ++ b → t3 ≡ (if is_ok r then t2 ++ c else t2) → OnOk r (t3 ≡ t0 ++ ((a ++ b) ++ c))

@@ -4,4 +4,6 @@ pub mod AddedTexts
 pub mod Excluding
 pub mod FirstUnmet
 pub mod Pools
-pub mod ExplainedReads
+pub mod Explaining
+pub mod HasLine
+pub mod AlmostSame

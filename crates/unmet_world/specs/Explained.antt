@@ -1,45 +1,75 @@
 -- The explanation of a command that was refused because nothing can be selected. It is described in
 -- `docs/commands.md`, "Why nothing can be selected".
-use Rattle.std.specs.Prelude.{◌≡◌, ◌⊎◌, ℕ, ◌==◌, if◌then◌else◌, List, [], ◌++◌, length, codes, Ok}
+use Rattle.std.specs.Prelude.{◌≡◌, ℕ, ◌==◌, if◌then◌else◌, List, [], ◌++◌, length, codes, Result, Ok, Err}
 use Rattle.base_core.specs.Tree.{TreeState}
 use Rattle.search_tables.specs.candidate_core.Rank.{SealedPool, no_names}
 use Rattle.dep_core.specs.Repositories.{Repository}
 use Rattle.change_inputs.specs.Candidates.{root_pool}
 use Rattle.change_inputs.specs.Inputs.{Inputs, inputs_of}
+use Rattle.change_inputs.specs.Seen.{inputs_seen}
+use Rattle.change_inputs.specs.declared.loaded.Loaded.{Loaded}
+use Rattle.change_inputs.specs.declared.root.Refused.{Refused}
+use Rattle.change_inputs.specs.declared.root.Refused.TheVariants as Refuseds
 use Rattle.command_core.specs.Command.{CommandLine}
+use Rattle.command_core.specs.declared.command.Applet.{Applet}
+use Rattle.command_core.specs.declared.command.Applet.TheVariants.{Add, Del, Upgrade, Fix}
 use Rattle.change_inputs.specs.package_files.Runs.{Explains}
-use Rattle.words_core.specs.Grammar.{command_of}
+use Rattle.report_core.specs.declared.refusal.Refusal.{Refusal}
 use Rattle.unmet_world.specs.Lines.{ExplainsWorld}
 
--- the line that says that there is no repository; nothing if there is one
+-- the line that says that there is no repository, and how a line that names one looks; nothing if there
+-- is a repository
 abbrev pub no_index_line : List Repository → List ℕ
 no_index_line repositories =
-    if length repositories == 0 then codes "apk: etc/apk/repositories names no index\n" else []
+    if length repositories == 0 then
+    codes "apk: etc/apk/repositories names no index; a line such as main/index.adb names one\n" else []
+
+-- a text explains the world of a pool, whose candidates are of these repositories
+pub record ExplainsPool (repositories : List Repository) (pool : SealedPool) (text : List ℕ) :
+    Type 0 where
+  -- the explanation itself
+  pub front : List ℕ
+  pub explains : ExplainsWorld pool repositories front
+  -- the line on repositories follows it
+  pub whole : text ≡ front ++ no_index_line repositories
+
+-- a text explains the world of a pool; it is empty if there are too many candidates for one
+abbrev pub ExplainsIfPool : List Repository → Result SealedPool Refusal → List ℕ → Type 0
+ExplainsIfPool repositories (Ok pool) text = ExplainsPool repositories pool text
+ExplainsIfPool repositories (Err refusal) text = text ≡ []
 
 -- a text explains the world that a command asks for, by what was read of a root. Which names the command
 -- upgrades makes no difference
-pub record ExplainsInputs (inputs : Inputs) (text : List ℕ) : Type 0 where
-  pub pool : SealedPool
-  pub is_pool : root_pool inputs no_names ≡ Ok pool
-  -- the explanation itself
-  pub front : List ℕ
-  pub explains : ExplainsWorld pool inputs.root.repositories front
-  -- the line on repositories follows it
-  pub whole : text ≡ front ++ no_index_line inputs.root.repositories
+abbrev pub ExplainsInputs : Inputs → List ℕ → Type 0
+ExplainsInputs inputs text = ExplainsIfPool inputs.root.repositories (root_pool inputs no_names) text
 
--- what is printed, by what was read of a root: nothing, or an explanation
-abbrev pub IsPrintedOf : Inputs → List ℕ → Type 0
-IsPrintedOf inputs text = (text ≡ []) ⊎ ExplainsInputs inputs text
+-- the same, by the result of reading a root in the program; the text is empty if the root is refused
+abbrev pub ExplainsResult : Result Loaded Refused → List ℕ → Type 0
+ExplainsResult (Ok loaded) text = ExplainsInputs (inputs_seen loaded) text
+ExplainsResult (Err (Refuseds.Refusal refusal)) text = text ≡ []
+ExplainsResult (Err Refuseds.Disk) text = ⊥
+ExplainsResult (Err Refuseds.Memory) text = ⊥
 
--- what is printed for a command: nothing, or an explanation by what is read of the root
-abbrev pub IsPrintedIf : CommandLine → List TreeState → List ℕ → Type 0
-IsPrintedIf command history text =
-    (text ≡ []) ⊎ Explains history (λ read. (inputs : Inputs)
-    × (inputs_of command read ≡ Ok inputs) × ExplainsInputs inputs text)
+-- the same, by what a command reads; the text is empty if the root is refused now, since others may have
+-- changed it
+abbrev pub ExplainsIfRead : Result Inputs Refusal → List ℕ → Type 0
+ExplainsIfRead (Ok inputs) text = ExplainsInputs inputs text
+ExplainsIfRead (Err refusal) text = text ≡ []
 
--- what is printed for some words: nothing, or what is printed for their command
-abbrev pub IsPrintedFor : List (List ℕ) → List TreeState → List ℕ → Type 0
-IsPrintedFor words history text =
-    (text ≡ [])
-    ⊎ ((command : CommandLine) × (command_of words ≡ Ok command)
-    × IsPrintedIf command history text)
+-- a text explains the world that a command asks for, by what is read of the root
+abbrev pub ExplainsChange : CommandLine → List TreeState → List ℕ → Type 0
+ExplainsChange command history text =
+    Explains history (λ read. ExplainsIfRead (inputs_of command read) text)
+
+-- the same, of a command with this applet; the text is empty if it is no change of packages
+abbrev pub ExplainsBy : Applet → CommandLine → List TreeState → List ℕ → Type 0
+ExplainsBy Add command history text = ExplainsChange command history text
+ExplainsBy Del command history text = ExplainsChange command history text
+ExplainsBy Upgrade command history text = ExplainsChange command history text
+ExplainsBy Fix command history text = ExplainsChange command history text
+ExplainsBy applet command history text = text ≡ []
+
+-- the same, of the words of a command line; the text is empty if they are none
+abbrev pub ExplainsWords : Result CommandLine ℕ → List TreeState → List ℕ → Type 0
+ExplainsWords (Ok command) history text = ExplainsBy command.applet command history text
+ExplainsWords (Err place) history text = text ≡ []

@@ -3,5 +3,6 @@
 
 pub mod Exclusion
 pub mod Refutation
+pub mod Similar
 pub mod Lines
 pub mod Explained

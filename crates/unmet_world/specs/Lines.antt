@@ -1,5 +1,5 @@
 -- The lines that explain why nothing can be selected.
-use Rattle.std.specs.Prelude.{◌≡◌, ℕ, ◌+◌, ◌-◌, ◌==◌, nat_lt, Bool, true, false, if◌then◌else◌, List, [], ◌∷◌, ◌++◌, codes, length, map, take, Option, Some, None, IfSome, slice_get, unwrap_or}
+use Rattle.std.specs.Prelude.{◌≡◌, ℕ, ◌-◌, ◌==◌, nat_lt, Bool, true, false, if◌then◌else◌, List, [], ◌∷◌, ◌++◌, codes, length, map, take, Option, Some, None, IfSome, MatchOption, slice_get, unwrap_or}
 use Rattle.std.specs.Option.{option_map_or}
 use Rattle.std.specs.List.{find, flat_map, list_any}
 use Rattle.std.specs.Str.{bytes_eq}
@@ -9,7 +9,7 @@ use Rattle.dep_core.specs.Repositories.{Repository}
 use Rattle.search_tables.specs.candidate_core.Candidates.{Candidate, entry, is_allowed}
 use Rattle.search_tables.specs.candidate_core.Rank.{SealedPool, candidate_at}
 use Rattle.search_tables.specs.candidate_core.Options.{options_for, places_offering}
-use Rattle.words_core.specs.Usage.{shown_bytes}
+use Rattle.hint_core.specs.Lines.{printed_bytes}
 use Rattle.unmet_world.specs.declared.refutation.Owner.{Owner}
 use Rattle.unmet_world.specs.declared.refutation.Owner.TheVariants.{World, Package}
 use Rattle.unmet_world.specs.declared.refutation.Want.{Want}
@@ -17,7 +17,8 @@ use Rattle.unmet_world.specs.declared.refutation.Step.{Step}
 use Rattle.unmet_world.specs.declared.refutation.Step.TheVariants.{Broken, Excluded, Sure}
 use Rattle.unmet_world.specs.declared.refutation.Refutation.{Refutation}
 use Rattle.unmet_world.specs.Exclusion.{conflict_between, is_conflict_met_by, name_of_both}
-use Rattle.unmet_world.specs.Refutation.{IsRefutation, if_positive, wanted}
+use Rattle.unmet_world.specs.Similar.{similar_name}
+use Rattle.unmet_world.specs.Refutation.{IsFirstUnmetOfWorld, IsRefutation, if_positive, wanted, world_want}
 
 -- ---- packages
 
@@ -100,9 +101,14 @@ abbrev pub dots_if : Bool → List ℕ
 dots_if true = codes ", .."
 dots_if false = []
 
+-- no package has or provides a name; another name is similar, if there is one
+abbrev pub no_package_text : Option (List ℕ) → List ℕ
+no_package_text None = codes "no package"
+no_package_text (Some similar) = codes "no package" ++ codes "; a similar name is " ++ similar
+
 -- the candidates at some places, which offer a name
 abbrev pub offered_text : SealedPool → List ℕ → List ℕ → List ℕ
-offered_text pool name [] = codes "no package"
+offered_text pool name [] = no_package_text (similar_name name pool.candidates)
 offered_text pool name (c ∷ cs) =
     codes "only "
     ++ joined_texts (with_texts [] (map (offer_text_at pool name) (take most_offers (c ∷ cs))))
@@ -196,7 +202,7 @@ world_lines world =
 
 -- a line as it is printed: bytes that do not print are escaped
 abbrev pub printed_line : List ℕ → List ℕ
-printed_line line = codes "apk: " ++ shown_bytes line ++ codes "\n"
+printed_line line = codes "apk: " ++ printed_bytes line ++ codes "\n"
 
 -- lines as they are printed, at most ten; if there are more, two dots say so
 abbrev pub printed_lines : List (List ℕ) → List ℕ
@@ -205,11 +211,10 @@ printed_lines lines =
     flat_map printed_line (take (most_lines - 1) lines) ++ printed_line (codes "..") else
     flat_map printed_line lines
 
--- the explanation of a refutation that was found, or else the entries of world, of which only the first
--- are looked at
+-- the explanation of a refutation that was found, or else the entries of world
 abbrev pub explanation_lines :
     SealedPool → List Repository → Option Refutation → List (List ℕ)
-explanation_lines pool repositories None = world_lines (take (most_lines + 1) pool.world)
+explanation_lines pool repositories None = world_lines pool.world
 explanation_lines pool repositories (Some r) = refutation_lines pool repositories r
 
 -- the explanation, as it is printed
@@ -222,4 +227,8 @@ pub record ExplainsWorld (pool : SealedPool) (repositories : List Repository) (t
     Type 0 where
   pub found : Option Refutation
   pub refutes : IfSome found (IsRefutation pool)
+  -- the first entry of world that no candidate meets is the whole reason, if there is one
+  pub named :
+      (index : ℕ) → IsFirstUnmetOfWorld pool index →
+      MatchOption found ⊥ (λ r. (r.steps.items ≡ []) × (r.end ≡ world_want index))
   pub says : text ≡ explanation_text pool repositories found

@@ -1,93 +1,150 @@
 //! The explanation of a change that was refused because nothing can be selected. It reads the root
 //! once more, and writes nothing. The rules are in `docs/commands.md`, "Why nothing can be
 //! selected".
-ghost use Rattle.std.specs.Prelude.{◌≡◌, ℕ, List, IfOk, OnErr, OnOk};
-ghost use Rattle.base_core.specs.Sink.{Adds, AddsSome};
+ghost use Rattle.std.specs.Prelude.{◌≡◌, ◌⊎◌, ℕ, List, [], Err, IfErr, IfOk, OnOk};
+ghost use Rattle.base_core.specs.Read.{OnlyReads};
+ghost use Rattle.base_core.specs.Sink.{sink_change};
+ghost use Rattle.base_core.specs.declared.tree.TreeFault.TheVariants.{Disk as DiskFault};
 ghost use Rattle.change_inputs.specs.Seen.{inputs_seen};
-ghost use Rattle.unmet_world.specs.Explained.{ExplainsInputs, IsPrintedFor, IsPrintedIf, IsPrintedOf, no_index_line};
+ghost use Rattle.change_inputs.specs.declared.root.Refused.TheVariants.{Disk as ReadFailed};
+ghost use Rattle.hint_core.specs.Told.{IsNoDisk, Tells};
+ghost use Rattle.unmet_world.specs.Explained.{ExplainsBy, ExplainsChange, ExplainsInputs, ExplainsPool, ExplainsResult, ExplainsWords, no_index_line};
+ghost use Rattle.words_core.specs.Grammar.{command_of};
 
 use crate::unmet::explanation_of;
-use base_core::{Sink, SinkFault, Tree, Words, write_all};
+use base_core::{Sink, Tree, TreeFault, Words, write_all};
 use change_inputs::{Loaded, Refused};
 use command_core::{Applet, Command};
-use dep_core::Repos;
-use search_tables::Upgrade;
-use std::alloc::Global;
+use dep_core::{Repos, World};
+use hint_core::HintFault;
+use search_tables::{Sealed, Upgrade};
+use std::alloc::{AllocError, Global};
 use words_core::read_words;
 
 /// Writes the lines that explain why no selection satisfies the world that a command asks for. The
-/// tree is only read. If memory or the tree fails, nothing is written.
+/// root is read once; nothing of the tree is changed.
 ///
 /// # Errors
 ///
-/// `SinkFault` if the sink failed; then a prefix of the lines was written.
+/// `Disk` or `Memory`, and nothing was written; or `Sink`, and a prefix of the lines was.
 pub fn explain_selection<T: Tree, S: Sink>(
     alloc: Global,
     words: &Words,
     tree: &mut T,
     sink: &mut S,
-) -> Result<(), SinkFault>
-    ensures printed { (text : List ℕ) × IsPrintedFor words.now (T.history tree.old) text
-        × OnOk result (Adds (S.bytes sink.old) (S.bytes sink.new) text)
-        × OnErr result (AddsSome (S.bytes sink.old) (S.bytes sink.new) text) }
-    ensures same { T.history tree.new ≡ T.history tree.old }
+) -> Result<(), HintFault>
+    // The lines explain the world. If the call fails, nothing was written, or a prefix of them.
+    ensures told { (text : List ℕ)
+        × ((text ≡ []) ⊎ ExplainsWords (command_of words.now) (T.history tree.old) text)
+        × OnOk result (ExplainsWords (command_of words.now) (T.history tree.old) text)
+        × Tells text (sink_change S.bytes S.counts sink.old sink.new) result }
+    // The tree is only read.
+    ensures tree { OnlyReads HintFault.Disk (T.history tree.old) (T.history tree.new)
+        (T.counts tree.old) (T.counts tree.new) result }
 {
-    let text = explanation_for(alloc, words, tree);
-    write_all(sink, &text)
+    let text = explanation_for(alloc, words, tree)?;
+    say(&text, sink)
 }
 
-// The explanation of a command's words; nothing if there is no memory, or the tree cannot be read.
-fn explanation_for<T: Tree>(alloc: Global, words: &Words, tree: &mut T) -> Vec<u8>
-    ensures printed { IsPrintedFor words.now (T.history tree.old) result.items }
-    ensures same { T.history tree.new ≡ T.history tree.old }
+// Writes a text.
+fn say<S: Sink>(text: &[u8], sink: &mut S) -> Result<(), HintFault>
+    ensures told { Tells text.now (sink_change S.bytes S.counts sink.old sink.new) result }
+    // No tree failed.
+    ensures failed { IfErr result IsNoDisk }
+{
+    Ok(write_all(sink, text)?)
+}
+
+// The explanation of a command's words.
+fn explanation_for<T: Tree>(
+    alloc: Global,
+    words: &Words,
+    tree: &mut T,
+) -> Result<Vec<u8>, TreeFault>
+    ensures text { IfOk result (λ text.
+        ExplainsWords (command_of words.now) (T.history tree.old) text.items) }
+    ensures tree { OnlyReads TreeFault.Disk (T.history tree.old) (T.history tree.new)
+        (T.counts tree.old) (T.counts tree.new) result }
 {
     match read_words(alloc, words) {
-        Err(_) => Vec::new(alloc),
-        Ok(command) => explanation_if_change(alloc, &command, tree),
+        Ok(command) => explanation_of_command(alloc, &command, tree),
+        Err(words_core::WordsFault::Usage { place: _ }) => Ok(Vec::new(alloc)),
+        Err(words_core::WordsFault::Memory) => Err(TreeFault::Memory),
     }
 }
 
-// The explanation of a command, if it is a change of packages.
-fn explanation_if_change<T: Tree>(alloc: Global, command: &Command, tree: &mut T) -> Vec<u8>
-    ensures printed { IsPrintedIf command.now (T.history tree.old) result.items }
-    ensures same { T.history tree.new ≡ T.history tree.old }
+// The explanation of a command.
+fn explanation_of_command<T: Tree>(
+    alloc: Global,
+    command: &Command,
+    tree: &mut T,
+) -> Result<Vec<u8>, TreeFault>
+    ensures text { IfOk result (λ text.
+        ExplainsBy command.now.applet command.now (T.history tree.old) text.items) }
+    ensures tree { OnlyReads TreeFault.Disk (T.history tree.old) (T.history tree.new)
+        (T.counts tree.old) (T.counts tree.new) result }
 {
     match command.applet() {
         Applet::Add | Applet::Del | Applet::Upgrade | Applet::Fix => {
-            explanation_of_command(alloc, command, tree)
+            explanation_of_change(alloc, command, tree)
         }
-        _ => Vec::new(alloc),
+        _ => Ok(Vec::new(alloc)),
     }
 }
 
-// The explanation of a change of packages.
-fn explanation_of_command<T: Tree>(alloc: Global, command: &Command, tree: &mut T) -> Vec<u8>
-    ensures printed { IsPrintedIf command.now (T.history tree.old) result.items }
-    ensures same { T.history tree.new ≡ T.history tree.old }
+// The explanation of a change of packages; empty if the root is refused now.
+fn explanation_of_change<T: Tree>(
+    alloc: Global,
+    command: &Command,
+    tree: &mut T,
+) -> Result<Vec<u8>, TreeFault>
+    ensures text { IfOk result (λ text.
+        ExplainsChange command.now (T.history tree.old) text.items) }
+    ensures tree { OnlyReads TreeFault.Disk (T.history tree.old) (T.history tree.new)
+        (T.counts tree.old) (T.counts tree.new) result }
 {
-    match Loaded::read(alloc, command, tree) {
-        Err(_) => Vec::new(alloc),
-        Ok(loaded) => explanation_or_nothing(alloc, &loaded),
-    }
+    let read = Loaded::read(alloc, command, tree);
+    explanation_of_read(alloc, &read)
 }
 
-// The explanation of what was read of a root; nothing if there is no memory.
-fn explanation_or_nothing(alloc: Global, loaded: &Loaded) -> Vec<u8>
-    ensures { IsPrintedOf (inputs_seen loaded.now) result.items }
+// The explanation by what was read of a root; empty if the root is refused now.
+fn explanation_of_read(alloc: Global, read: &Result<Loaded, Refused>) -> Result<Vec<u8>, TreeFault>
+    ensures text { IfOk result (λ text. ExplainsResult read.now text.items) }
+    // The tree failed exactly if the reading did.
+    ensures to { result ≡ Err DiskFault → read.now ≡ Err ReadFailed }
+    ensures from { read.now ≡ Err ReadFailed → result ≡ Err DiskFault }
 {
-    match explanation_of_loaded(alloc, loaded) {
-        Err(_) => Vec::new(alloc),
-        Ok(text) => text,
+    match read {
+        Ok(loaded) => Ok(explanation_of_loaded(alloc, loaded)?),
+        Err(Refused::Refusal(_)) => Ok(Vec::new(alloc)),
+        Err(Refused::Disk) => Err(TreeFault::Disk),
+        Err(Refused::Memory) => Err(TreeFault::Memory),
     }
 }
 
-// The explanation of what was read of a root.
-fn explanation_of_loaded(alloc: Global, loaded: &Loaded) -> Result<Vec<u8>, Refused>
+// The explanation of what was read of a root; empty if there are too many candidates.
+fn explanation_of_loaded(alloc: Global, loaded: &Loaded) -> Result<Vec<u8>, AllocError>
     ensures { IfOk result (λ text. ExplainsInputs (inputs_seen loaded.now) text.items) }
 {
-    let pool = loaded.pool(alloc, Upgrade::Nothing)?;
-    let mut text = explanation_of(alloc, &pool, loaded.new_world(), loaded.repositories())?;
-    text.extend_from_slice(no_index_line(loaded.repositories()))?;
+    match loaded.pool(alloc, Upgrade::Nothing) {
+        Ok(pool) => explanation_of_pool(alloc, &pool, loaded.new_world(), loaded.repositories()),
+        Err(Refused::Refusal(_)) => Ok(Vec::new(alloc)),
+        Err(_) => Err(AllocError),
+    }
+}
+
+// The explanation of the world of a pool.
+fn explanation_of_pool(
+    alloc: Global,
+    pool: &Sealed<'_>,
+    world: &World,
+    repositories: &Repos,
+) -> Result<Vec<u8>, AllocError>
+    requires { world.now ≡ pool.now.world }
+    ensures { IfOk result (λ text. ExplainsPool repositories.now pool.now text.items) }
+{
+    let mut text = explanation_of(alloc, pool, world, repositories)?;
+    text.extend_from_slice(no_index_line(repositories))?;
     Ok(text)
 }
 
@@ -96,7 +153,7 @@ fn no_index_line(repositories: &Repos) -> &'static [u8]
     ensures { result.now ≡ no_index_line repositories.now }
 {
     if repositories.is_empty() {
-        b"apk: etc/apk/repositories names no index\n"
+        b"apk: etc/apk/repositories names no index; a line such as main/index.adb names one\n"
     } else {
         b""
     }

@@ -1,8 +1,10 @@
 //! Theorems about refutations, each proved as the contract of an empty function. The rules are in
 //! `docs/selection.md`, "What satisfies world".
-ghost use Rattle.std.specs.Prelude.{ℕ, List};
+ghost use Rattle.std.specs.Prelude.{◌≡◌, ℕ, List, []};
+ghost use Rattle.dep_core.specs.Repositories.{Repository};
 ghost use Rattle.search_tables.specs.candidate_core.Rank.{SealedPool};
 ghost use Rattle.search_tables.specs.Selection.{IsSatisfying};
+ghost use Rattle.unmet_world.specs.Lines.{ExplainsWorld};
 ghost use Rattle.unmet_world.specs.Refutation.{IsRefutation};
 ghost use Rattle.unmet_world.specs.declared.refutation.Refutation.{Refutation};
 
@@ -15,3 +17,10 @@ pub fn a_refuted_world_has_no_selection()
 {
     options_are_the_best_first();
 }
+
+/// If no selection satisfies a world, each text that explains the world has a line.
+pub fn an_explanation_has_a_line()
+    ensures { (pool : SealedPool) (repositories : List Repository) (text : List ℕ) →
+        ExplainsWorld pool repositories text →
+        ((selection : List ℕ) → IsSatisfying pool selection → ⊥) → text ≡ [] → ⊥ }
+{}

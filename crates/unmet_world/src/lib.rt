@@ -10,10 +10,11 @@ mod laws;
 mod lines;
 mod propagation;
 mod refutation;
+mod similar;
 mod texts;
 mod unmet;
 
 pub use explain::explain_selection;
-pub use laws::a_refuted_world_has_no_selection;
+pub use laws::{a_refuted_world_has_no_selection, an_explanation_has_a_line};
 pub use refutation::{Owner, Refutation, Step, Want, is_refutation};
 pub use unmet::{explanation_of, why_unmet};

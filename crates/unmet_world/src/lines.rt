@@ -2,7 +2,6 @@
 ghost use Rattle.std.specs.Prelude.{◌≡◌, ◌++◌, ◌<◌, ◌+◌, OnOk, IfOk, option_copied, option_to_list, take};
 ghost use Rattle.std.specs.List.{flat_map};
 ghost use Rattle.dep_core.specs.Meets.{dependency};
-ghost use Rattle.words_core.specs.Usage.{shown_bytes, shown_byte, is_plain_byte, hex_digit};
 ghost use Rattle.unmet_world.specs.Exclusion.{conflict_between, name_of_both};
 ghost use Rattle.unmet_world.specs.Refutation.{wanted};
 ghost use Rattle.unmet_world.specs.Lines.{needs_text, with_texts, missing_lines, want_lines, only_lines, conflict_text, sharing_text, exclusion_lines, step_lines, most_lines, refutation_lines, world_lines, printed_line, printed_lines, explanation_lines, explanation_text};
@@ -12,6 +11,7 @@ use crate::refutation::{Owner, Refutation, Step, Want, candidate, wanted};
 use crate::texts::{Sources, add_candidate_at, add_dep, add_once, add_owner, offers_line};
 use base_core::Text;
 use dep_core::Dep;
+use hint_core::push_printed;
 use search_tables::{CandId, NeedRef};
 use std::alloc::{AllocError, Global};
 
@@ -252,15 +252,15 @@ fn refutation_lines(
     Ok(lines)
 }
 
-// The first entries of world that are no conflicts.
+// The entries of world that are no conflicts.
 fn world_lines(alloc: Global, sources: &Sources<'_>) -> Result<Vec<Text>, AllocError>
     requires { sources.now.world.now ≡ sources.now.pool.now.world }
     ensures { IfOk result (λ lines. lines.items
-        ≡ world_lines (take (most_lines + 1) sources.now.pool.now.world)) }
+        ≡ world_lines sources.now.pool.now.world) }
 {
     let mut lines = Vec::new(alloc);
     let world = sources.world;
-    for i in 0..world.len().min(MOST_LINES + 1) {
+    for i in 0..world.len() {
         let dep = world.entry(i);
         if !dep.conflict {
             let line = needs(alloc, sources, Owner::World, &dep)?;
@@ -277,7 +277,7 @@ fn add_printed(text: &mut Vec<u8>, line: &[u8]) -> Result<(), AllocError>
     ensures { OnOk result (text.new.items ≡ text.old.items ++ printed_line line.now) }
 {
     text.extend_from_slice(b"apk: ")?;
-    add_shown(text, line)?;
+    push_printed(text, line)?;
     text.extend_from_slice(b"\n")
 }
 
@@ -289,49 +289,6 @@ fn add_all_printed(text: &mut Vec<u8>, lines: &[Text]) -> Result<(), AllocError>
         add_printed(text, line.as_bytes())?;
     }
     Ok(())
-}
-
-// Adds bytes as they are shown.
-fn add_shown(text: &mut Vec<u8>, bytes: &[u8]) -> Result<(), AllocError>
-    ensures { OnOk result (text.new.items ≡ text.old.items ++ shown_bytes bytes.now) }
-{
-    for byte in bytes {
-        add_byte(text, *byte)?;
-    }
-    Ok(())
-}
-
-// Adds a byte as it is shown.
-fn add_byte(text: &mut Vec<u8>, byte: u8) -> Result<(), AllocError>
-    ensures { OnOk result (text.new.items ≡ text.old.items ++ shown_byte byte) }
-{
-    if is_plain_byte(byte) {
-        text.push(byte)?;
-        return Ok(());
-    }
-    text.extend_from_slice(&[b'\\', b'x', hex_digit(byte / 16), hex_digit(byte % 16)])
-}
-
-// Whether a byte is shown as it is.
-fn is_plain_byte(byte: u8) -> bool
-    ensures { result ≡ is_plain_byte byte }
-{
-    if byte == b'"' || byte == b'\\' {
-        return false;
-    }
-    byte == b' ' || byte.is_ascii_graphic()
-}
-
-// The hexadecimal digit of a number below 16.
-fn hex_digit(number: u8) -> u8
-    requires { number < 16 }
-    ensures { result ≡ hex_digit number }
-{
-    if number < 10 {
-        b'0' + number
-    } else {
-        b'a' - 10 + number
-    }
 }
 
 // Lines as they are printed, at most ten.

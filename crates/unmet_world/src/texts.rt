@@ -1,16 +1,17 @@
 //! The texts of packages, and of what there is of a name, in the lines that explain why nothing can
 //! be selected. They are listed in `specs/Lines.antt`.
-ghost use Rattle.std.specs.Prelude.{◌≡◌, ◌++◌, [], ◌&&◌, ◌+◌, false, Some, OnOk, IfOk, option_map, find, unwrap_or, bytes_eq, map, take};
+ghost use Rattle.std.specs.Prelude.{◌≡◌, ◌++◌, [], ◌&&◌, ◌+◌, false, Some, OnOk, IfOk, option_copied, option_map, find, unwrap_or, bytes_eq, map, take};
 ghost use Rattle.std.specs.Option.{option_map_or};
 ghost use Rattle.std.specs.List.{list_any};
 ghost use Rattle.dep_core.specs.DependencyText.{dep_text};
 ghost use Rattle.dep_core.specs.Meets.{dependency};
 ghost use Rattle.search_tables.specs.candidate_core.Candidates.{uses_tag, is_allowed};
 ghost use Rattle.unmet_world.specs.Exclusion.{is_conflict_met_by};
-ghost use Rattle.unmet_world.specs.Lines.{origin_text, name_and_version_text, candidate_text, candidate_text_at, dependency_owner_text, bar_text, bar_reason_text, offer_text, offer_text_at, with_text_once, with_texts, joined_texts, most_offers, dots_if, offered_text, offers_line};
+ghost use Rattle.unmet_world.specs.Lines.{origin_text, name_and_version_text, candidate_text, candidate_text_at, dependency_owner_text, bar_text, bar_reason_text, offer_text, offer_text_at, with_text_once, with_texts, joined_texts, most_offers, dots_if, no_package_text, offered_text, offers_line};
 
 use crate::exclusion::is_conflict_met_by;
 use crate::refutation::{Owner, candidate};
+use crate::similar::similar_name;
 use base_core::Text;
 use dep_core::{Dep, Repos, World, dep_text};
 use search_tables::{CandId, Details, Sealed};
@@ -313,12 +314,27 @@ fn add_offers(
         ++ offered_text sources.now.pool.now name.now ids.now) }
 {
     if ids.is_empty() {
-        return line.extend_from_slice(b"no package");
+        return add_no_package(line, similar_name(sources.pool, name));
     }
     let texts = offers(alloc, sources, name, first_of(ids))?;
     line.extend_from_slice(b"only ")?;
     add_joined(line, &texts)?;
     line.extend_from_slice(dots_if(ids.len() > MOST_OFFERS))
+}
+
+// Adds that no package has a name, and a similar name, if there is one.
+fn add_no_package(line: &mut Vec<u8>, similar: Option<&[u8]>) -> Result<(), AllocError>
+    ensures { OnOk result (line.new.items
+        ≡ line.old.items ++ no_package_text (option_copied similar.entry)) }
+{
+    line.extend_from_slice(b"no package")?;
+    match similar {
+        None => Ok(()),
+        Some(name) => {
+            line.extend_from_slice(b"; a similar name is ")?;
+            line.extend_from_slice(name)
+        }
+    }
 }
 
 // The first of some candidates, as many as are shown.

@@ -1,11 +1,17 @@
-use Rattle.std.proofs.Common.{sym, subst}
-use Rattle.unmet_world.specs.Explained.{IsPrintedFor}
+use Rattle.std.proofs.Common.{refl, inl, inr, []}
+use Rattle.std.proofs.lemmas.Result.{err_from_is_err_and}
+use Rattle.hint_core.proofs.Steps.{behind_reading, tells_nothing, tells_same}
+use Rattle.hint_core.proofs.WarningSteps.{on_ok}
 use Rattle.unmet_world.proofs.explain.explain_selection.Goals as goal
 
-pub returns-clause-printed : goal.returns-clause-printed
-returns-clause-printed g c = (
-  c.deref.result.now,
-  subst (IsPrintedFor c.args.words.now _) (sym c.deref.ensures.value) c.explanation_for-text.ensures.printed,
-  c.write_all.ensures.ok,
-  c.write_all.ensures.err,
-)
+pub returns-in_err-text-clause-told : goal.returns-in_err-text-clause-told
+returns-in_err-text-clause-told g c =
+    let p = err_from_is_err_and c.from_residual.result c.from_residual.ensures.1 in
+    ([], inl refl, rw p.1 tt, rw p.1 (tells_nothing _ _ _ _ _))
+
+pub returns-clause-told : goal.returns-clause-told
+returns-clause-told g c =
+    (c.in_ok-text.text.items, inr c.in_ok-text.ensures.text, on_ok _ c.in_ok-text.ensures.text, tells_same _ _ _ _ c.deref.ensures.value c.say.ensures.told)
+
+pub returns-clause-tree : goal.returns-clause-tree
+returns-clause-tree g c = behind_reading _ _ _ _ _ _ c.say.ensures.failed c.in_ok-text.ensures.tree

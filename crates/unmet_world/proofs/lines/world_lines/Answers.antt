@@ -1,9 +1,9 @@
-use Rattle.std.proofs.Common.{◌≡◌, ◌∙◌, ◌++◌, List, ap, sym, subst, append-nil, arith}
+use Rattle.std.proofs.Common.{◌∙◌, ◌≤◌, ◌++◌, List, length, ap, sym, append-nil, arith}
 use Rattle.dep_core.specs.Dependency.{Dependency}
 use Rattle.dep_core.specs.Meets.{dependency}
 use Rattle.unmet_world.specs.Lines.{world_lines}
-use Rattle.std.specs.Prelude.{take}
-use Rattle.unmet_world.proofs.AddedTexts.{entries_all, entry_next, line_of, no_line_of}
+use Rattle.std.proofs.lemmas.List.{take_all}
+use Rattle.unmet_world.proofs.AddedTexts.{entry_next, line_of, no_line_of}
 use Rattle.unmet_world.proofs.lines.world_lines.Goals as goal
 use Rattle.unmet_world.proofs.lines.world_lines.Goals.{then-not-dep+in_ok-line+in_ok-push, else-not-dep}
 
@@ -22,5 +22,5 @@ loop-i-preserved c =
 pub returns : goal.returns
 returns c =
     let world : List Dependency = c.args.sources.now.world.now in
-    subst (λ (z : List Dependency). c.loop-i.lines.items ≡ world_lines (take 11 z)) c.requires
-    (entries_all world c.loop-i.i 11 c.loop-i.lines.items (omega (arith, c.min-i-end.ensures)) (λ less. omega (arith, c.min-i-end.ensures, c.len.ensures.value, c.loop-i-test.false)) c.loop-i.invariant)
+    let past : length world ≤ c.loop-i.i = omega (arith, c.len-i-end.ensures.value, c.loop-i-test.false) in
+    c.loop-i.invariant ∙ (ap world_lines (take_all c.loop-i.i world past) ∙ ap world_lines c.requires)
