@@ -21,7 +21,7 @@ use Rattle.container_laws.specs.pkg_core.Whole.{root_of_schema}
 use Rattle.outcome.specs.Dump.{adbdump, dump_fault, dump_of, dump_outcome, dump_with_root, dump_with_schema, framing_fault, or_text, text_outcome}
 use Rattle.outcome.specs.adb_dump.Dump.{dump_text}
 use Rattle.outcome.specs.make_info.Reads.{Reads}
-use Rattle.outcome_laws.specs.DumpedFiles.{IsDumpFault, IsFaultOfPrinted}
+use Rattle.outcome_laws.specs.DumpedFiles.{IsDumpRefusalCause, IsFaultOfPrinted}
 use Rattle.report_core.specs.declared.refusal.Refusal.{Refusal}
 use Rattle.report_core.specs.declared.refusal.Refusal.TheVariants.{FileBad}
 
@@ -95,7 +95,7 @@ no_text None text c e = absurd (cc (e))
 no_text (Some d) text c e = let same : d ≡ c = cc (e) in ap Some same
 
 by_root : (file : List ℕ) (c : Cause) (schema : ℕ) (root : Option Which) → header_of file ≡ Ok schema → root_of_schema schema ≡ root
-    → dump_with_root schema (reading_of (start_of schema file)) root ≡ Err c → IsDumpFault file c
+    → dump_with_root schema (reading_of (start_of schema file)) root ≡ Err c → IsDumpRefusalCause file c
 by_root file c schema None header root e =
     let same : WrongSchema schema ≡ c = cc (e) in
     inr (schema, header, inl (root, sym same))
@@ -103,17 +103,17 @@ by_root file c schema (Some which) header root e =
     let r = reading_of (start_of schema file) in
     inr (schema, header, inr (which, root, blocks_told which r c (no_text (dump_fault which r) (dump_text which (root_value which (first_payload r))) c e)))
 
-by_header : (file : List ℕ) (c : Cause) (h : Result ℕ Cause) → header_of file ≡ h → dump_with_schema file h ≡ Err c → IsDumpFault file c
+by_header : (file : List ℕ) (c : Cause) (h : Result ℕ Cause) → header_of file ≡ h → dump_with_schema file h ≡ Err c → IsDumpRefusalCause file c
 by_header file c (Err d) header e =
     let same : d ≡ c = cc (e) in
     inl (header ∙ ap Err same)
 by_header file c (Ok schema) header e = by_root file c schema (root_of_schema schema) header refl e
 
-fault_told : (file : List ℕ) (c : Cause) → dump_of file ≡ Err c → IsDumpFault file c
+fault_told : (file : List ℕ) (c : Cause) → dump_of file ≡ Err c → IsDumpRefusalCause file c
 unfolding dump_of
 fault_told file c e = by_header file c (header_of file) refl e
 
-file_refused : (file : List ℕ) (c : Cause) → IsDumpFault file c → dump_of file ≡ Err c
+file_refused : (file : List ℕ) (c : Cause) → IsDumpRefusalCause file c → dump_of file ≡ Err c
 unfolding dump_of
 file_refused file c f =
     elim f [
@@ -142,7 +142,7 @@ of_found : (read : Reads) (files : Files) (o : Operand) (file : List ℕ) → re
 of_found read files o file found = ap (λ (f : Option (List ℕ)). (dump_outcome files o.place f).refusal) found
 
 pub fault_refused : (read : Reads) (files : Files) (o : Operand) (file : List ℕ) (c : Cause) → read 0 (without_dot o.text) ≡ Some file
-    → ((adbdump read files (o ∷ [])).refusal ≡ Some (FileBad o.place c)) ↔ IsDumpFault file c
+    → ((adbdump read files (o ∷ [])).refusal ≡ Some (FileBad o.place c)) ↔ IsDumpRefusalCause file c
 fault_refused read files o file c found =
     let same = of_found read files o file found in (
       λ e. fault_told file c (refused_by files o.place (dump_of file) c (sym same ∙ e)),

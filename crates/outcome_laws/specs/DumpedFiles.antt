@@ -46,8 +46,8 @@ IsFaultOfPrinted which r c =
 
 -- the fault for which a file is not printed: of its header, then that its schema is none of the four,
 -- then of its blocks
-abbrev pub IsDumpFault : List ℕ → Cause → Type 0
-IsDumpFault file c =
+abbrev pub IsDumpRefusalCause : List ℕ → Cause → Type 0
+IsDumpRefusalCause file c =
     (header_of file ≡ Err c)
     ⊎ ((schema : ℕ) × (header_of file ≡ Ok schema)
     × (((root_of_schema schema ≡ None) × (c ≡ WrongSchema schema))

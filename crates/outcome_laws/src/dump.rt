@@ -9,7 +9,7 @@ ghost use Rattle.command_core.specs.declared.operands.Operand.{Operand};
 ghost use Rattle.container_laws.specs.TestsInOrder.{PassesEveryTest};
 ghost use Rattle.outcome.specs.make_info.Reads.{Reads};
 ghost use Rattle.outcome.specs.Dump.{adbdump};
-ghost use Rattle.outcome_laws.specs.DumpedFiles.{HasTextOfValue, IsDumpFault};
+ghost use Rattle.outcome_laws.specs.DumpedFiles.{HasTextOfValue, IsDumpRefusalCause};
 ghost use Rattle.report_core.specs.declared.refusal.Refusal.{Refusal};
 ghost use Rattle.report_core.specs.declared.refusal.Refusal.TheVariants.{FileBad, FileMissing};
 
@@ -41,7 +41,7 @@ pub fn adbdump_refuses_the_first_failed_test()
     ensures refused { (read : Reads) (files : Files) (o : Operand) (file : List ℕ) (cause : Cause)
         → read 0 (without_dot o.text) ≡ Some file
         → ((adbdump read files (o ∷ [])).refusal ≡ Some (FileBad o.place cause))
-        ↔ IsDumpFault file cause }
+        ↔ IsDumpRefusalCause file cause }
     ensures only { (read : Reads) (files : Files) (o : Operand) (file : List ℕ)
         (refusal : Refusal) → read 0 (without_dot o.text) ≡ Some file
         → (adbdump read files (o ∷ [])).refusal ≡ Some refusal
