@@ -4,7 +4,7 @@ use Rattle.std.specs.Int.{w32, w64, from_le_bytes}
 use Rattle.std.proofs.lemmas.Bool.{le-ltb, ne_eqb}
 use Rattle.std.proofs.lemmas.List.{take_at, drop_at, length-append, length-drop, drop-drop, drop_all, take-append-le, drop-append-le}
 use Rattle.adb_block.specs.Container.{IsHead, IsShortHead, IsLongHead, IsPadding, IsBlock, MayFollow, IsNotFirst}
-use Rattle.adb_block.specs.Piece.{Piece, kind_number, comes_after, least_payload, padding_of}
+use Rattle.adb_block.specs.Piece.{Piece, kind_number, may_be_next_kind, least_payload, padding_of}
 use Rattle.adb_block.specs.Header.{word_at, long_at}
 use Rattle.adb_block.specs.Framing.{HeadFields, head_of, kind_of_number, ended, block, step_by_order, next_step}
 use Rattle.adb_block.specs.declared.block.BlockKind.{BlockKind}
@@ -69,7 +69,7 @@ head_again : (k : BlockKind) (len : ℕ) (head more : List ℕ) (is : IsHead k l
 head_again k len head more (inl h) = short_again k len head more h
 head_again k len head more (inr h) = long_again k len head more h
 
-ordered_again : (last : Option BlockKind) (at : ℕ) (bytes : List ℕ) (h len : ℕ) (k : BlockKind) → comes_after last k ≡ true → least_payload k ≤ len → h + len ≤ length bytes
+ordered_again : (last : Option BlockKind) (at : ℕ) (bytes : List ℕ) (h len : ℕ) (k : BlockKind) → may_be_next_kind last k ≡ true → least_payload k ≤ len → h + len ≤ length bytes
     → step_by_order last at bytes (says k h len) (kind_of_number (kind_number k)) ≡ block (record { kind = k; payload = take len (drop h bytes) }) (h + len + padding_of (h + len))
 ordered_again last at bytes h len k o long fits =
     let len_is : h + len - h ≡ len = omega arith in

@@ -4,7 +4,7 @@ use Rattle.std.proofs.lemmas.Bool.{cases_lt, ltb-true, eqb-true, or_cases}
 use Rattle.std.proofs.lemmas.List.{length-drop, drop_all, nil_from_length}
 use Rattle.base_core.specs.declared.Cause.{Cause}
 use Rattle.base_core.specs.declared.Cause.TheVariants.{Truncated, BlockOrder}
-use Rattle.adb_block.specs.Piece.{Piece, comes_after, least_payload}
+use Rattle.adb_block.specs.Piece.{Piece, may_be_next_kind, least_payload}
 use Rattle.adb_block.specs.Container.{IsBlock, MayFollow}
 use Rattle.adb_block.specs.Header.{header_of}
 use Rattle.adb_block.specs.Framing.{HeadFields, head_of, kind_of_number, Step, ended, failed, block, step_by_size, step_by_order, step_by_head, step_at_end, next_step}
@@ -41,7 +41,7 @@ sized_failed at bytes h k c e =
 ordered_failed : (last : Option BlockKind) (at : ℕ) (bytes : List ℕ) (h : HeadFields) (o : Option BlockKind) (c : Cause) → head_of bytes ≡ Some h → kind_of_number h.kind ≡ o → step_by_order last at bytes h o ≡ failed c → HaveBlockFault last at bytes c
 ordered_failed last at bytes h None c is kind e = inr (inl (record { head = h; is = is; wrong = rw kind tt; cause = cc }))
 ordered_failed last at bytes h (Some k) c is kind e =
-    elim (chosen (comes_after last k) _ _ _ e) [
+    elim (chosen (may_be_next_kind last k) _ _ _ e) [
       | inl x ↦
           let s = sized_failed at bytes h k c x.1 in
           inr (inr (record { head = h; is = is; kind = k; is_kind = kind; order = x.0; wrong = s.0; cause = s.1 }))

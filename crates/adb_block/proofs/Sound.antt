@@ -4,7 +4,7 @@ use Rattle.std.specs.Int.{w32, w64, from_le_bytes}
 use Rattle.std.proofs.lemmas.Bool.{cases_lt, ltb-false, eqb-true, or_parts}
 use Rattle.std.proofs.lemmas.List.{take-append-drop, length-take, length-drop, take-take, drop-drop, drop-take, drop_all, nil_from_length}
 use Rattle.adb_block.specs.Container.{IsHead, IsPadding, IsBlock, MayFollow, IsNotFirst}
-use Rattle.adb_block.specs.Piece.{Piece, kind_number, comes_after, least_payload, padding_of}
+use Rattle.adb_block.specs.Piece.{Piece, kind_number, may_be_next_kind, least_payload, padding_of}
 use Rattle.adb_block.specs.Header.{word_at, long_at}
 use Rattle.adb_block.specs.Framing.{HeadFields, short_head, long_head, head_of, kind_of_number, ended, block, step_by_size, step_by_order, step_by_head, step_at_end, next_step}
 use Rattle.adb_block.specs.declared.block.BlockKind.{BlockKind}
@@ -88,14 +88,14 @@ kind_is (suc (suc (suc n))) k e = absurd cc
 
 -- what the tests leave of a header and the block that they answer
 pub record Passes (last : Option BlockKind) (bytes : List ℕ) (h : HeadFields) (b : Piece) (size : ℕ) : Type 0 where
-  pub order : comes_after last b.kind ≡ true
+  pub order : may_be_next_kind last b.kind ≡ true
   pub enough : h.len ≤ h.raw
   pub fits : h.raw ≤ length bytes
   pub long : least_payload b.kind ≤ h.raw - h.len
   pub payload_is : take (h.raw - h.len) (drop h.len bytes) ≡ b.payload
   pub size_is : h.raw + padding_of h.raw ≡ size
 
-sized_sound : (last : Option BlockKind) (at : ℕ) (bytes : List ℕ) (h : HeadFields) (k : BlockKind) (b : Piece) (size : ℕ) → comes_after last k ≡ true → step_by_size at bytes h k ≡ block b size → (k ≡ b.kind) × Passes last bytes h b size
+sized_sound : (last : Option BlockKind) (at : ℕ) (bytes : List ℕ) (h : HeadFields) (k : BlockKind) (b : Piece) (size : ℕ) → may_be_next_kind last k ≡ true → step_by_size at bytes h k ≡ block b size → (k ≡ b.kind) × Passes last bytes h b size
 sized_sound last at bytes h k b size o e =
     elim (chosen (ltb h.raw h.len || ltb (length bytes) h.raw) _ _ _ e) [
       | inl x ↦ absurd (let y = x.1 in cc)
@@ -124,7 +124,7 @@ sized_sound last at bytes h k b size o e =
 ordered_sound : (last : Option BlockKind) (at : ℕ) (bytes : List ℕ) (h : HeadFields) (o : Option BlockKind) (b : Piece) (size : ℕ) → step_by_order last at bytes h o ≡ block b size → (o ≡ Some b.kind) × Passes last bytes h b size
 ordered_sound last at bytes h None b size e = absurd cc
 ordered_sound last at bytes h (Some k) b size e =
-    elim (chosen (comes_after last k) _ _ _ e) [
+    elim (chosen (may_be_next_kind last k) _ _ _ e) [
       | inl x ↦ (let s = sized_sound last at bytes h k b size x.0 x.1 in (ap Some s.0, s.1))
       | inr x ↦ absurd (let y = x.1 in cc)
     ]
@@ -196,7 +196,7 @@ sized_not_ended at bytes h k e =
 ordered_not_ended : (last : Option BlockKind) (at : ℕ) (bytes : List ℕ) (h : HeadFields) (o : Option BlockKind) → step_by_order last at bytes h o ≡ ended → ⊥
 ordered_not_ended last at bytes h None e = cc
 ordered_not_ended last at bytes h (Some k) e =
-    elim (chosen (comes_after last k) _ _ _ e) [
+    elim (chosen (may_be_next_kind last k) _ _ _ e) [
       | inl x ↦ sized_not_ended at bytes h k x.1
       | inr x ↦ (let y = x.1 in cc)
     ]

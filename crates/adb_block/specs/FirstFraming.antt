@@ -4,7 +4,7 @@
 use Rattle.std.specs.Prelude.{◌≡◌, ℕ, ◌+◌, ◌<◌, ◌⊎◌, false, true, List, [], ◌∷◌, length, drop, Option, Some, None}
 use Rattle.base_core.specs.declared.Cause.{Cause}
 use Rattle.base_core.specs.declared.Cause.TheVariants.{Truncated, BlockOrder}
-use Rattle.adb_block.specs.Piece.{Piece, comes_after, least_payload}
+use Rattle.adb_block.specs.Piece.{Piece, may_be_next_kind, least_payload}
 use Rattle.adb_block.specs.Container.{IsBlock, MayFollow}
 use Rattle.adb_block.specs.Framing.{HeadFields, head_of, kind_of_number}
 use Rattle.adb_block.specs.declared.block.BlockKind.{BlockKind}
@@ -31,7 +31,7 @@ pub record LackHeader (at : ℕ) (bytes : List ℕ) (c : Cause) : Type 0 where
 -- a kind is not allowed after `last`, or is unknown
 abbrev pub CannotFollow : Option BlockKind → Option BlockKind → Type 0
 CannotFollow last None = Unit {0}
-CannotFollow last (Some kind) = comes_after last kind ≡ false
+CannotFollow last (Some kind) = may_be_next_kind last kind ≡ false
 
 -- second: the bytes begin with a complete header, whose kind is not allowed here
 pub record HaveWrongKind (last : Option BlockKind) (at : ℕ) (bytes : List ℕ)
@@ -53,7 +53,7 @@ pub record HaveWrongSize (last : Option BlockKind) (at : ℕ) (bytes : List ℕ)
   pub is : head_of bytes ≡ Some head
   pub kind : BlockKind
   pub is_kind : kind_of_number head.kind ≡ Some kind
-  pub order : comes_after last kind ≡ true
+  pub order : may_be_next_kind last kind ≡ true
   pub wrong : IsWrongSize head kind bytes
   pub cause : c ≡ Truncated at
 

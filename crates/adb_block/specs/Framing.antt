@@ -4,7 +4,7 @@
 use Rattle.std.specs.Prelude.{ℕ, zero, suc, ◌+◌, ◌-◌, ◌/◌, ◌%◌, ◌^◌, ◌||◌, ◌==◌, nat_lt, if◌then◌else◌, List, length, take, drop, Option, Some, None}
 use Rattle.base_core.specs.declared.Cause.{Cause}
 use Rattle.base_core.specs.declared.Cause.TheVariants.{Truncated, BlockOrder}
-use Rattle.adb_block.specs.Piece.{Piece, comes_after, least_payload, padding_of}
+use Rattle.adb_block.specs.Piece.{Piece, may_be_next_kind, least_payload, padding_of}
 use Rattle.adb_block.specs.Header.{word_at, long_at}
 use Rattle.adb_block.specs.declared.block.BlockKind.{BlockKind}
 use Rattle.adb_block.specs.declared.block.BlockKind.TheVariants.{Adb, Signature, Contents}
@@ -65,7 +65,7 @@ step_by_size at bytes head kind =
 abbrev pub step_by_order : Option BlockKind → ℕ → List ℕ → HeadFields → Option BlockKind → Step
 step_by_order last at bytes head None = failed (BlockOrder at)
 step_by_order last at bytes head (Some kind) =
-    if comes_after last kind then step_by_size at bytes head kind else failed (BlockOrder at)
+    if may_be_next_kind last kind then step_by_size at bytes head kind else failed (BlockOrder at)
 
 -- the result for a rest that is not empty: first the test that it has a complete header, then the
 -- others

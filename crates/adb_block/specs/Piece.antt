@@ -24,15 +24,15 @@ padding_of size = (8 - size % 8) % 8
 
 -- whether a block of this kind may follow another, or be the first: one ADB block, then signatures,
 -- then contents
-abbrev pub comes_after : Option BlockKind → BlockKind → Bool
-comes_after None Adb = true
-comes_after None Signature = false
-comes_after None Contents = false
-comes_after (Some last) Adb = false
-comes_after (Some Contents) Signature = false
-comes_after (Some Adb) Signature = true
-comes_after (Some Signature) Signature = true
-comes_after (Some last) Contents = true
+abbrev pub may_be_next_kind : Option BlockKind → BlockKind → Bool
+may_be_next_kind None Adb = true
+may_be_next_kind None Signature = false
+may_be_next_kind None Contents = false
+may_be_next_kind (Some last) Adb = false
+may_be_next_kind (Some Contents) Signature = false
+may_be_next_kind (Some Adb) Signature = true
+may_be_next_kind (Some Signature) Signature = true
+may_be_next_kind (Some last) Contents = true
 
 -- the least length in bytes of the payload of a block of this kind: an ADB block has a head of 8
 abbrev pub least_payload : BlockKind → ℕ

@@ -8,7 +8,7 @@
 ghost use Rattle.std.specs.Prelude.{◌≡◌, ◌≤◌, ◌<◌, ◌+◌, ◌-◌, ◌^◌, ◌⊎◌, ℕ, List, Option, None, true, IfOk, IfSome, IsSome, length, take};
 ghost use Rattle.std.specs.Option.{option_map};
 ghost use Rattle.adb_block.specs.Container.{IsHead};
-ghost use Rattle.adb_block.specs.Piece.{comes_after, least_payload, padding_of, kind_number};
+ghost use Rattle.adb_block.specs.Piece.{may_be_next_kind, least_payload, padding_of, kind_number};
 ghost use Rattle.adb_block.specs.Framing.{HeadFields, head_of, kind_of_number, step_by_order, next_step};
 ghost use Rattle.adb_block.specs.Frames.{IsHeadPrefix, IsFramed, IsFramedBy, IsReadBlock, fields_of, head_len, raw_size};
 ghost use Rattle.adb_block.specs.Written.{head_bytes};
@@ -135,7 +135,7 @@ pub fn frame_of(
     // A file has at least one block, else it is an error.
     ensures first { last ≡ None → IfOk result (λ found. IsSome found) }
     ensures order { IfOk result (λ found. IfSome found (λ frame.
-        comes_after last frame.kind ≡ true)) }
+        may_be_next_kind last frame.kind ≡ true)) }
     ensures len { IfOk result (λ found. IfSome found (λ frame.
         frame.head_len ≡ head_len head.now)) }
     ensures fits { IfOk result (λ found. IfSome found (λ frame.
@@ -194,14 +194,14 @@ fn frame_by_head(
 ) -> Result<Frame, Cause>
     ensures exact { (bytes : List ℕ) → length bytes ≡ left → IsFramedBy result bytes
         (step_by_order last at bytes (fields_of head) (kind_of_number head.kind)) }
-    ensures order { IfOk result (λ frame. comes_after last frame.kind ≡ true) }
+    ensures order { IfOk result (λ frame. may_be_next_kind last frame.kind ≡ true) }
     ensures len { IfOk result (λ frame. frame.head_len ≡ head.len) }
     ensures fits { IfOk result (λ frame. raw_size frame ≤ left) }
 {
     let Some(kind) = kind_of_number(head.kind) else {
         return Err(Cause::BlockOrder { at });
     };
-    if !comes_after(last, kind) {
+    if !may_be_next_kind(last, kind) {
         return Err(Cause::BlockOrder { at });
     }
     // The raw size counts the header too.
@@ -231,8 +231,8 @@ fn kind_of_number(number: u32) -> Option<BlockKind>
 }
 
 /// Whether a block of this kind may follow one of the kind `last`, or be the first.
-fn comes_after(last: Option<BlockKind>, kind: BlockKind) -> bool
-    ensures { result ≡ comes_after last kind }
+fn may_be_next_kind(last: Option<BlockKind>, kind: BlockKind) -> bool
+    ensures { result ≡ may_be_next_kind last kind }
 {
     match (last, kind) {
         (None, BlockKind::Adb) => true,

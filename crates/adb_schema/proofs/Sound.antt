@@ -5,7 +5,7 @@ use Rattle.base_core.specs.declared.cause.Cause.{Cause}
 use Rattle.base_core.proofs.Causes.{first_none, second_none}
 use Rattle.adb_block.specs.declared.block.BlockKind.{BlockKind}
 use Rattle.adb_block.specs.Framing.{HeadFields, Step, ended, failed, block, step_by_size, step_by_order, step_by_head, next_step, head_of, kind_of_number}
-use Rattle.adb_block.specs.Piece.{Piece, comes_after, least_payload}
+use Rattle.adb_block.specs.Piece.{Piece, may_be_next_kind, least_payload}
 use Rattle.adb_block.specs.Header.{header_of}
 use Rattle.adb_block.specs.ReaderPosition.{start_of}
 use Rattle.adb_block.specs.Reading.{Reading, done, fault, more as further, reading_by_step, reading_from, reading_of}
@@ -50,7 +50,7 @@ if_on false s t h g = g
 ordered_on : (last : Option BlockKind) (at : ℕ) (bytes : List ℕ) (head : HeadFields) (kind : Option BlockKind) → CountsOnlyRise (step_by_order last at bytes head kind)
 ordered_on last at bytes head None = tt
 ordered_on last at bytes head (Some kind) =
-    if_on (comes_after last kind) (step_by_size at bytes head kind) (failed _)
+    if_on (may_be_next_kind last kind) (step_by_size at bytes head kind) (failed _)
     (if_on (nat_lt head.raw head.len || nat_lt (length bytes) head.raw) (failed _) (if nat_lt (head.raw - head.len) (least_payload kind) then failed _ else block _ _) tt (if_on (nat_lt (head.raw - head.len) (least_payload kind)) (failed _) (block _ _) tt tt)) tt
 
 headed_on : (last : Option BlockKind) (at : ℕ) (bytes : List ℕ) (head : Option HeadFields) → CountsOnlyRise (step_by_head last at bytes head)

@@ -44,7 +44,9 @@ pub use read::{
     IDB_WORD, INDEX_WORD, INTENT_WORD, PACKAGE_WORD, ReadFault, file_pair, read_adb, repeated,
     schema_word, schema_words_are_as_listed, sound_containers_hold_sound_values,
 };
-pub use rules::{is_intent_or_stage_name, is_reserved, is_reserved_file};
+pub use rules::{
+    is_folder_name, is_intent_or_stage_name, is_one_part, is_reserved, is_reserved_file,
+};
 pub use text_walk::{
     check_texts, entries_keep_the_rule_of_their_list, no_text_is_bad_where_each_keeps_its_rule,
     the_first_bad_text_is_reported,

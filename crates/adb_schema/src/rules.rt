@@ -4,7 +4,6 @@
 
 ghost use Rattle.std.specs.Prelude.{◌≡◌, ◌==◌, nat_le, length, ◌∷◌};
 ghost use Rattle.std.specs.Str.{is_utf8};
-ghost use Rattle.std.specs.List.{list_any};
 ghost use Rattle.version_core.specs.Order.{is_version};
 ghost use Rattle.dep_core.specs.Value.{is_matching, is_version_or_empty};
 ghost use Rattle.adb_fields.specs.Paths.{path_of};
@@ -12,6 +11,7 @@ ghost use Rattle.adb_schema.specs.Rules.{is_digest_length, is_digest_length_or_n
 ghost use Rattle.adb_schema.specs.Reserved.{is_at_or_below, is_intent_or_stage_name, is_reserved};
 
 use base_core::is_name;
+use dep_core::has_slash;
 use std::str;
 use version_core::{Op, Version};
 
@@ -78,24 +78,17 @@ pub(crate) fn is_matching(number: u64) -> bool
 }
 
 /// Whether the bytes name a folder: a path, or nothing for the root folder.
-pub(crate) fn is_folder_name(name: &[u8]) -> bool
+pub fn is_folder_name(name: &[u8]) -> bool
     ensures { result ≡ is_folder_name name.now }
 {
     name.is_empty() || is_name(name)
 }
 
 /// Whether the bytes are one part of a path.
-pub(crate) fn is_one_part(name: &[u8]) -> bool
+pub fn is_one_part(name: &[u8]) -> bool
     ensures { result ≡ is_one_part name.now }
 {
     is_name(name) && !has_slash(name)
-}
-
-/// Whether a name has a slash.
-fn has_slash(name: &[u8]) -> bool
-    ensures { result ≡ list_any (λ b. b == 47) name.now }
-{
-    name.contains(&b'/')
 }
 
 /// Whether a file of this name has a path of at most 1,024 bytes in the folder.

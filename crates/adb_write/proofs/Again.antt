@@ -9,7 +9,7 @@ use Rattle.std.proofs.lemmas.Slice.Eq.{bytes_eq-Decides}
 use Rattle.adb_view.specs.Plain.{Plain, null, int, blob, arr, obj, Plains, none, more, IsNormal, AreNormal, count_of}
 use Rattle.adb_view.specs.Readers.{ARRAY, OBJECT}
 use Rattle.adb_write.specs.Canonical.{gap, Item, WrittenItem, Cell, in_place, apart, int_item, int_cell, blob_item, blob_cell, run_bytes, run_item, run_cell, trimmed_words, Layout, empty_layout, end_offset, is_equal_item, word_of_item, put_new, put_unless, put_item, put_cell, put_run, write, write_all, payload_with_root, MOST_BYTES}
-use Rattle.adb_write.specs.Again.{front_len, HasLengthInFront, IsThere, HasAllItems, len_by}
+use Rattle.adb_write.specs.Again.{front_len, HasLengthInFront, IsThere, HasItemsInBytes, len_by}
 use Rattle.adb_write.specs.Size.{entries_of, entries_of_all, with_value_count_raised}
 use Rattle.adb_write.proofs.Found.{equal_kind, equal_bytes, equal_within}
 use Rattle.adb_write.proofs.Placed.{wide8, wide16, wide32, wide64}
@@ -182,7 +182,7 @@ new_equal i out =
     (ap (λ (x : List ℕ). take (length i.bytes) (drop (length out.body + gap i.align (end_offset out)) x)) (sym (append_assoc out.body zeros i.bytes))
     ∙ ap (take (length i.bytes)) (drop_at (out.body ++ zeros) i.bytes (length out.body + gap i.align (end_offset out)) at) ∙ take_all (length i.bytes) i.bytes (omega arith))
 
-new_whole : (i : Item) (out : Layout) → HasLengthInFront i → HasAllItems out → HasAllItems (put_new i out).1
+new_whole : (i : Item) (out : Layout) → HasLengthInFront i → HasItemsInBytes out → HasItemsInBytes (put_new i out).1
 new_whole i out f w = record {
   all = (
     record { what = i; framed = f; equal = new_equal i out },
@@ -190,7 +190,7 @@ new_whole i out f w = record {
   );
 }
 
-new_keeps : (i : Item) (out : Layout) → HasLengthInFront i → HasAllItems out → find (is_equal_item out.body i) out.items ≡ None → Keeps out (put_new i out).1
+new_keeps : (i : Item) (out : Layout) → HasLengthInFront i → HasItemsInBytes out → find (is_equal_item out.body i) out.items ≡ None → Keeps out (put_new i out).1
 new_keeps i out f w absent = record { found = λ j x g e. go j x g e (is_equal_item (out.body ++ added i out) j (new_item i out)) refl }
   where
     go : (j : Item) (x : WrittenItem) → HasLengthInFront j → find (is_equal_item out.body j) out.items ≡ Some x → (b : Bool) → is_equal_item (out.body ++ added i out) j (new_item i out) ≡ b
@@ -205,17 +205,17 @@ new_keeps i out f w absent = record { found = λ j x g e. go j x g e (is_equal_i
 -- ---- one value more
 
 pub record Stays (out later : Layout) : Type 0 where
-  pub whole : HasAllItems later
+  pub whole : HasItemsInBytes later
   pub keeps : Keeps out later
 
-put_item_stays : (i : Item) (out : Layout) → HasLengthInFront i → HasAllItems out → Stays out (put_item i out).1
+put_item_stays : (i : Item) (out : Layout) → HasLengthInFront i → HasItemsInBytes out → Stays out (put_item i out).1
 put_item_stays i out f w = go (find (is_equal_item out.body i) out.items) refl
   where
     go : (found : Option WrittenItem) → find (is_equal_item out.body i) out.items ≡ found → Stays out (put_unless found i out).1
     go None e = record { whole = new_whole i out f w; keeps = new_keeps i out f w e }
     go (Some there) e = record { whole = record { all = w.all }; keeps = record { found = λ j x g h. h } }
 
-pub put_cell_stays : (c : Cell) (out : Layout) → IsFramedCell c → HasAllItems out → Stays out (put_cell c out).1
+pub put_cell_stays : (c : Cell) (out : Layout) → IsFramedCell c → HasItemsInBytes out → Stays out (put_cell c out).1
 put_cell_stays (in_place word) out f w = record { whole = w; keeps = keeps_itself out }
 put_cell_stays (apart i) out f w = put_item_stays i out f w
 
@@ -255,7 +255,7 @@ cell_counts c out later n e f k = cell_again c out later f k ∙ ap (λ (m : ℕ
 mutual
   unfolding write
 
-  write_stays : (v : Plain) (out : Layout) → HasAllItems out → end_offset (write v out).1 ≤ MOST_BYTES → Stays out (write v out).1
+  write_stays : (v : Plain) (out : Layout) → HasItemsInBytes out → end_offset (write v out).1 ≤ MOST_BYTES → Stays out (write v out).1
   write_stays null out w fits = record { whole = w; keeps = keeps_itself out }
   write_stays (int n) out w fits = put_cell_stays (int_cell n) out (int_cell_framed n) w
   write_stays (blob b) out w fits = put_cell_stays (blob_cell b) out (blob_cell_framed b out fits) w
@@ -270,7 +270,7 @@ mutual
       let t = put_cell_stays (run_cell OBJECT (trimmed_words r.0)) r.1 (object_cell_framed (trimmed_words r.0) r.1 fits) s.whole in
       record { whole = t.whole; keeps = keeps_then out r.1 (put_run OBJECT (trimmed_words r.0) r.1).1 s.keeps t.keeps }
 
-  write_all_stays : (vs : Plains) (out : Layout) → HasAllItems out → end_offset (write_all vs out).1 ≤ MOST_BYTES → Stays out (write_all vs out).1
+  write_all_stays : (vs : Plains) (out : Layout) → HasItemsInBytes out → end_offset (write_all vs out).1 ≤ MOST_BYTES → Stays out (write_all vs out).1
   write_all_stays none out w fits = record { whole = w; keeps = keeps_itself out }
   write_all_stays (more v vs) out w fits =
       let s = write_stays v out w (le_trans (Grows-here _ _ (write_all-grows vs (write v out).1)) fits) in
@@ -280,7 +280,7 @@ mutual
 mutual
   unfolding write IsNormal entries_of
 
-  write_again : (v : Plain) (out later : Layout) → IsNormal v → HasAllItems out → end_offset (write v out).1 ≤ MOST_BYTES → Keeps (write v out).1 later → write v later ≡ ((write v out).0, with_value_count_raised (entries_of v) later)
+  write_again : (v : Plain) (out later : Layout) → IsNormal v → HasItemsInBytes out → end_offset (write v out).1 ≤ MOST_BYTES → Keeps (write v out).1 later → write v later ≡ ((write v out).0, with_value_count_raised (entries_of v) later)
   write_again null out later n w fits k = ap (λ (l : Layout). (0, l)) (with_none later)
   write_again (int m) out later n w fits k = cell_counts (int_cell m) out later 0 (int_entries m) (int_cell_framed m) k
   write_again (blob b) out later n w fits k = cell_counts (blob_cell b) out later 0 (blob_entries b) (blob_cell_framed b out fits) k
@@ -309,7 +309,7 @@ mutual
       ∙ cell_counts (run_cell OBJECT (trimmed_words r.0)) r.1 further (count_of vs) (run_entries OBJECT (trimmed_words r.0) ∙ ap length stay ∙ words_count vs out) f (record { found = k.found })
       ∙ ap (λ (l : Layout). ((put_run OBJECT (trimmed_words r.0) r.1).0, l)) (with_both (entries_of_all vs) (count_of vs) later)
 
-  write_all_again : (vs : Plains) (out later : Layout) → AreNormal vs → HasAllItems out → end_offset (write_all vs out).1 ≤ MOST_BYTES → Keeps (write_all vs out).1 later → write_all vs later ≡ ((write_all vs out).0, with_value_count_raised (entries_of_all vs) later)
+  write_all_again : (vs : Plains) (out later : Layout) → AreNormal vs → HasItemsInBytes out → end_offset (write_all vs out).1 ≤ MOST_BYTES → Keeps (write_all vs out).1 later → write_all vs later ≡ ((write_all vs out).0, with_value_count_raised (entries_of_all vs) later)
   write_all_again none out later n w fits k = ap (λ (l : Layout). ([], l)) (with_none later)
   write_all_again (more v vs) out later n w fits k =
       let within = le_trans (Grows-here _ _ (write_all-grows vs (write v out).1)) fits in
@@ -324,7 +324,7 @@ mutual
 
 -- ---- the law
 
-pub nothing_whole : HasAllItems empty_layout
+pub nothing_whole : HasItemsInBytes empty_layout
 nothing_whole = record { all = tt }
 
 pub stored_once : (before v since : Plain) → IsNormal v → end_offset (write since (write v (write before empty_layout).1).1).1 ≤ MOST_BYTES

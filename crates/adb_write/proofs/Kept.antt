@@ -4,7 +4,7 @@ use Rattle.std.specs.Prelude.{find}
 use Rattle.adb_view.specs.Readers.{ARRAY, OBJECT}
 use Rattle.adb_write.specs.Canonical.{gap, Item, WrittenItem, Cell, in_place, apart, int_cell, blob_item, blob_cell, run_cell, trimmed_words, Layout, end_offset, is_equal_item, word_of_item, put_unless, put_item, layout_counts, exceeds_a_limit, MOST_BYTES}
 use Rattle.adb_write.specs.Writing.{Writing, empty_writing, writing_by, is_past_limit, layout_of, writing_of, unless_past_limit, call, int_call, blob_call, arr_call, obj_call}
-use Rattle.adb_write.specs.Again.{HasWholeItemsWithinLimit, HasLengthInFront, HasAllItems, IsWholeWriting, IsWordOfBlob}
+use Rattle.adb_write.specs.Again.{HasWholeItemsWithinLimit, HasLengthInFront, HasItemsInBytes, IsWholeWriting, IsWordOfBlob}
 use Rattle.adb_write.proofs.Again.{array_cell_framed, blob_cell_framed, blob_framed, int_cell_framed, IsFoundAgain, IsFramedCell, Keeps, nothing_whole, object_cell_framed, put_cell_stays, put_item_found}
 use Rattle.adb_write.proofs.AnyOrder.{call_stored, fits_of}
 use Rattle.adb_write.proofs.Found.{equal_bytes, equal_within, find-passes}
@@ -38,7 +38,7 @@ left c w f g o =
     let s = call_stored c w o in
     let t = put_cell_stays c (layout_of w) f g.whole in
     record {
-      whole = record { whole = subst HasAllItems (sym s.state) t.whole; bytes = call_bytes c w g.bytes o };
+      whole = record { whole = subst HasItemsInBytes (sym s.state) t.whole; bytes = call_bytes c w g.bytes o };
       keeps = subst (Keeps (layout_of w)) (sym s.state) t.keeps;
     }
 

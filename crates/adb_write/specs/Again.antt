@@ -40,12 +40,12 @@ pub record IsThere (body : List ℕ) (x : WrittenItem) : Type 0 where
   pub equal : is_equal_item body what x ≡ true
 
 -- each written item of a layout is in its bytes
-pub record HasAllItems (out : Layout) : Type 0 where
+pub record HasItemsInBytes (out : Layout) : Type 0 where
   pub all : AllByRecursion (IsThere out.body) out.items
 
 -- each written item of a writer is in its bytes, which are counted with the head of 8
 pub record IsWholeWriting (w : Writing) : Type 0 where
-  pub whole : HasAllItems (layout_of w)
+  pub whole : HasItemsInBytes (layout_of w)
   pub bytes : w.bytes ≡ 8 + length w.body
 
 -- unless it passed a limit, a writer has all its items

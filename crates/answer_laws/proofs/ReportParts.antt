@@ -25,7 +25,7 @@ use Rattle.change_outcome.specs.package_changes.Changes.{Replacement, changes_of
 use Rattle.change_outcome.specs.package_changes.Report.{candidate_size, selected_sum_line, simulated_report, stay_lines}
 use Rattle.report_core.specs.Reports.{change_lines, report_line, report_lines, sum_text}
 use Rattle.answer_laws.specs.KeptNames.{AreNamedOnce}
-use Rattle.answer_laws.specs.ReportSections.{ChangedFile, HasConfigurationLines, HasSections, HasSimulatedSections, HasSum, IsSumOf, changed_path, changed_file_text, size_when_installed, kept, aside_claim_at, member_info}
+use Rattle.answer_laws.specs.ReportSections.{ChangedFile, HasConfigurationLines, HasSections, HasSimulatedSections, HasSum, IsSumOf, changed_path, changed_file_text, size_when_installed, kept, placed_beside, member_info}
 use Rattle.answer_laws.proofs.DueLines.{trigger_lines_are}
 use Rattle.answer_laws.proofs.Needing.{kept_lines}
 use Rattle.answer_laws.proofs.Numbered.{numbered}
@@ -76,18 +76,18 @@ abbrev changed_cmp : ChangedFile → ChangedFile → Ordering
 changed_cmp x y = bytes_cmp (changed_path x) (changed_path y)
 
 abbrev line_of : ChangedFile → PathLine
-line_of (aside_claim_at path) = path_line aside_line path
+line_of (placed_beside path) = path_line aside_line path
 line_of (kept path) = path_line kept_line path
 
 path_is : (x : ChangedFile) → changed_path x ≡ (line_of x).path
-path_is (aside_claim_at path) = refl
+path_is (placed_beside path) = refl
 path_is (kept path) = refl
 
 same_order : (x y : ChangedFile) → changed_cmp x y ≡ path_line_cmp (line_of x) (line_of y)
 same_order x y = ap (λ (p : List ℕ). bytes_cmp p (changed_path y)) (path_is x) ∙ ap (bytes_cmp (line_of x).path) (path_is y)
 
 abbrev all_changed : List (List ℕ) → List (List ℕ) → List ChangedFile
-all_changed aside kept_paths = map aside_claim_at aside ++ map kept kept_paths
+all_changed aside kept_paths = map placed_beside aside ++ map kept kept_paths
 
 kept_lines_are : (paths : List (List ℕ)) → map line_of (map kept paths) ≡ map (path_line kept_line) paths
 kept_lines_are [] = refl
@@ -98,7 +98,7 @@ lines_are [] kept_paths = kept_lines_are kept_paths
 lines_are (path ∷ aside) kept_paths = ap (λ (l : List PathLine). path_line aside_line path ∷ l) (lines_are aside kept_paths)
 
 text_of_file : (x : ChangedFile) → (line_of x).line ≡ report_line (changed_file_text x)
-text_of_file (aside_claim_at path) = ap (λ (t : List ℕ). report_line (t ++ path ++ codes " was changed")) (append_assoc path aside_ending (codes " installed; "))
+text_of_file (placed_beside path) = ap (λ (t : List ℕ). report_line (t ++ path ++ codes " was changed")) (append_assoc path aside_ending (codes " installed; "))
 text_of_file (kept path) = refl
 
 text_of_files : (xs : List ChangedFile) → flat_map (λ (l : PathLine). l.line) (map line_of xs) ≡ report_lines (map changed_file_text xs)

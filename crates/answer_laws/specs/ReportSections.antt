@@ -48,24 +48,24 @@ pub record HasSum (sizes : List ℕ) (text : List ℕ) : Type 0 where
 -- a configuration file that the user changed: a new file is laid beside it, or it is kept though its
 -- package is removed
 pub data ChangedFile : Type 0 where
-  aside_claim_at : List ℕ → ChangedFile
+  placed_beside : List ℕ → ChangedFile
   kept : List ℕ → ChangedFile
 
 -- the path of a changed configuration file
 abbrev pub changed_path : ChangedFile → List ℕ
-changed_path (aside_claim_at path) = path
+changed_path (placed_beside path) = path
 changed_path (kept path) = path
 
 -- what is reported of a changed configuration file
 abbrev pub changed_file_text : ChangedFile → List ℕ
-changed_file_text (aside_claim_at path) =
+changed_file_text (placed_beside path) =
     path ++ codes ".apk-new installed; " ++ path ++ codes " was changed"
 changed_file_text (kept path) = path ++ codes " kept; it was changed"
 
 -- a text has a line for each of these configuration files, in byte order of the paths
 pub record HasConfigurationLines (beside kept_paths : List (List ℕ)) (text : List ℕ) : Type 0 where
   pub changed : List ChangedFile
-  pub same : IsPermutation (map aside_claim_at beside ++ map kept kept_paths) changed
+  pub same : IsPermutation (map placed_beside beside ++ map kept kept_paths) changed
   pub order : IsSorted bytes_cmp (map changed_path changed)
   pub text_is : text ≡ report_lines (map changed_file_text changed)
 

@@ -16,7 +16,7 @@ use Rattle.base_core.specs.declared.tree.TreeFault.TheVariants.{Disk, Memory as 
 use Rattle.journal_core.specs.Quiet.{StateIsUnchanged}
 use Rattle.journal_core.specs.Recovery.{EachCrashLeaves, StateDependsOn, intent_name}
 use Rattle.make_core.specs.make_info.Output.{output_name}
-use Rattle.make_core.specs.package_files.Sources.{AreNamesFor, values_with}
+use Rattle.make_core.specs.package_files.Sources.{AreNamesBelowFirst, values_with}
 use Rattle.command_core.specs.declared.values.TheConstants.{FILES}
 use Rattle.make_core.specs.make_index.Files.{FindOnlyFiles}
 use Rattle.make_core.specs.make_info.Reads.{Reads}
@@ -143,7 +143,7 @@ pub index_found_one : (command : CommandLine) (old : History) (judged : Judged) 
     → IfOk judged (λ verdict. IfNothingStaged old (λ v. ReportsOne (Ones command v) verdict))
 index_found_one command old judged same found = reports_among (λ v. IsIndexOutcome command (files_of v)) (Ones command) old judged (λ v o one. index_one command (files_of v) o same one) found
 
-pub package_read_one : (command : CommandLine) (judged : Judged) → Mkpkg ≡ command.applet → IfOk judged (λ verdict. (names : List (List ℕ)) × AreNamesFor (values_with FILES command.values) names × (read : Reads) × Reports verdict (mkpkg read no_names command names))
+pub package_read_one : (command : CommandLine) (judged : Judged) → Mkpkg ≡ command.applet → IfOk judged (λ verdict. (names : List (List ℕ)) × AreNamesBelowFirst (values_with FILES command.values) names × (read : Reads) × Reports verdict (mkpkg read no_names command names))
     → IfOk judged (ReportsOne (IsPossibleOutcomeOn command))
 package_read_one command (Err e) same found = tt
 package_read_one command (Ok verdict) same (names, named, read, reports) =

@@ -18,7 +18,7 @@ ghost use Rattle.command_core.specs.declared.values.TheConstants.{FILES};
 ghost use Rattle.make_core.specs.make_index.Files.{FindOnlyFiles};
 ghost use Rattle.make_core.specs.make_info.Output.{output_name};
 ghost use Rattle.make_core.specs.make_info.Reads.{Reads};
-ghost use Rattle.make_core.specs.package_files.Sources.{AreNamesFor, values_with};
+ghost use Rattle.make_core.specs.package_files.Sources.{AreNamesBelowFirst, values_with};
 ghost use Rattle.outcome.specs.Effect.{Makes};
 ghost use Rattle.outcome.specs.Make.{index_line, make_outcome, mkndx, mkpkg, unless_reserved};
 ghost use Rattle.outcome.specs.Outcome.{Outcome, just_refusal};
@@ -52,7 +52,7 @@ pub(crate) fn mkpkg<T: Tree>(
     ensures found { IfOk result (λ verdict. IfObservable (T.history tree.old) (λ v.
         ReportsOne (IsPackageOutcome command.now (files_of v)) verdict)) }
     ensures by_reads { IfOk result (λ verdict. (names : List (List ℕ))
-        × AreNamesFor (values_with FILES command.now.values) names
+        × AreNamesBelowFirst (values_with FILES command.now.values) names
         × (read : Reads) × Reports verdict (mkpkg read no_names command.now names)) }
     ensures run { IfObservable (T.history tree.old) (λ v. IsRun
         (IsPackageOutcome command.now (files_of v)) Makes (output_name command.now)

@@ -20,15 +20,15 @@ with_change old new map q = if leads_alike (old q) (new q) then map q else new q
 -- The maps of names that a crash may leave, by the newest map and the older ones. Of the oldest map
 -- alone it is that map. Of a newer one it is a map that a crash may leave of the older ones, with the
 -- change to the newer one or without it.
-abbrev pub IsLeftOf : NameMap → List NameMap → NameMap → Type 0
-IsLeftOf new [] map = map ≡ new
-IsLeftOf new (old ∷ older) map =
-    ((kept : NameMap) × IsLeftOf old older kept × (map ≡ with_change old new kept))
-    ⊎ IsLeftOf old older map
+abbrev pub MayBeLeftByCrash : NameMap → List NameMap → NameMap → Type 0
+MayBeLeftByCrash new [] map = map ≡ new
+MayBeLeftByCrash new (old ∷ older) map =
+    ((kept : NameMap) × MayBeLeftByCrash old older kept × (map ≡ with_change old new kept))
+    ⊎ MayBeLeftByCrash old older map
 
 -- a map of names that a crash may leave: any of the changes since the names were last synced are undone
 abbrev pub IsCrashMap : TreeState → NameMap → Type 0
-IsCrashMap v map = IsLeftOf v.names v.older map
+IsCrashMap v map = MayBeLeftByCrash v.names v.older map
 
 -- files that a crash may leave, by a map of names that it may leave
 abbrev pub IsCrashImage : TreeState → Files → Type 0

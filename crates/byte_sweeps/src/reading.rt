@@ -1,19 +1,17 @@
 //! The results of the tests of a container, and its dump. The tests are in `docs/formats.md`,
 //! "Tests of a container", and the text in "Dump text".
 
-ghost use Rattle.std.specs.Prelude.{IsTrue, IfSome, is_some};
+ghost use Rattle.std.specs.Prelude.{IsTrue, is_some};
 ghost use Rattle.adb_schema.specs.Soundness.{schema_word};
 
 use crate::tally::{AnswerKind, kind_of};
 use adb_block::Blocks;
 use adb_dump::dump;
-use adb_schema::{
-    IDB_WORD, INDEX_WORD, INTENT_WORD, PACKAGE_WORD, ReadFault, Shaped, Which, shape,
-};
+use adb_schema::{ReadFault, Shaped, Which, shape};
 use adb_view::Adb;
 use base_core::{Cause, Name, Text, TreeFault};
 use package_verifier::{PackageTest, test_package};
-use pkg_core::{PackageFault, verify};
+use pkg_core::{PackageFault, root_of_schema, verify};
 use report_core::{Refusal, write_error};
 use std::alloc::{AllocError, Global};
 use tree_memory::{MemorySink, MemoryTree};
@@ -92,19 +90,6 @@ fn text_of(alloc: Global, file: &[u8]) -> Result<Text, ReadFault> {
     match root_of_schema(found) {
         Some(which) => text_of_blocks(alloc, &mut blocks, which),
         None => Err(ReadFault::Bad(Cause::WrongSchema { found })),
-    }
-}
-
-/// The table at the root of a container with this schema (`docs/formats.md`, "Schemas").
-fn root_of_schema(schema: u32) -> Option<Which>
-    ensures { IfSome result (λ which. IsTrue (is_some (schema_word which))) }
-{
-    match schema {
-        PACKAGE_WORD => Some(Which::Package),
-        INDEX_WORD => Some(Which::Index),
-        IDB_WORD => Some(Which::Idb),
-        INTENT_WORD => Some(Which::Intent),
-        _ => None,
     }
 }
 

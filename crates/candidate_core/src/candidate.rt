@@ -296,9 +296,9 @@ fn is_same_version(one: Option<Version<'_>>, other: Option<Version<'_>>) -> bool
     }
 }
 
-// Whether two ids are the same: both are present, and one is a front of the other, since an index
-// may store 20 of 32 bytes.
-fn is_same_id(one: &[u8], other: &[u8]) -> bool
+/// Whether two ids are the same: both are present, and one is a prefix of the other, since an index
+/// may store 20 of 32 bytes.
+pub fn is_same_id(one: &[u8], other: &[u8]) -> bool
     ensures { result ≡ is_same_id one.now other.now }
 {
     if one.is_empty() || other.is_empty() {

@@ -19,7 +19,7 @@ use Rattle.package_changes.proofs.change_files.AfterNames.{names_after}
 use Rattle.package_changes.proofs.change_files.Reserved.{unreserved_path, written_unreserved}
 use Rattle.package_changes.proofs.change_files.Untouched.{changed_so}
 use Rattle.db_write.specs.db_core.Members.{Listing}
-use Rattle.journal_core.specs.Staged.{AreJournalPathsFree, AreStagingPathsFree, IsEmptyStage, MayBePresent}
+use Rattle.journal_core.specs.Staged.{AreJournalPathsFree, AreStagingPathsFree, IsEmptyStage, IsPresentOrOfJournal}
 use Rattle.journal_core.specs.journal_intent.FreeNames.{IsUsedByJournal}
 use Rattle.journal_core.specs.journal_intent.Intent.{intent_name, is_staged, stage_name}
 use Rattle.package_changes.specs.path_clashes.Clash.{HasNoClash, is_name_after}
@@ -229,7 +229,7 @@ module _ (change : FileChange) (bytes_of : Listing → List ℕ) (records : Root
   beside : AreJournalPathsFree after
   beside = record { folders = apart_names }
     where
-      apart_names : (p q : List ℕ) → IsFolderOf p q → MayBePresent after p → MayBePresent after q → ⊥
+      apart_names : (p q : List ℕ) → IsFolderOf p q → IsPresentOrOfJournal after p → IsPresentOrOfJournal after q → ⊥
       apart_names p q above (inl there_p) (inl there_q) =
           folder_like (name_change change files) files after (λ a b over there_a there_b. stage.beside.folders a b over (inl there_a) (inl there_b)) apart after_there p q above there_p there_q
       apart_names p q above (inl there) (inr taken) = no_folder p q above there taken

@@ -14,7 +14,7 @@ use Rattle.command_core.specs.declared.values.OptionValue.{OptionValue}
 use Rattle.command_core.specs.declared.values.TheConstants.{FILES, OUTPUT, SCRIPT}
 use Rattle.command_core.specs.declared.values.ValueRule.{ValueRule}
 use Rattle.command_core.specs.Applets.{needed_option, operand_rule}
-use Rattle.command_core.specs.Sound.{may_have, value_rules, IsCommand, are_operands, is_at_most, are_apart, are_values, is_value_by, rule_for}
+use Rattle.command_core.specs.Sound.{may_have, value_rules, IsCommand, are_operands, is_at_most, may_both_be_given, are_values, is_value_by, rule_for}
 use Rattle.command_core.specs.Command.{CommandLine}
 use Rattle.command_core.specs.Files.{is_file, is_output}
 use Rattle.command_core.specs.Named.{are_files}
@@ -55,8 +55,8 @@ pub record IsSplit (rules : List ValueRule) (v : OptionValue) (vs : List OptionV
 
 pub split_values : (rules : List ValueRule) (v : OptionValue) (vs : List OptionValue) → are_values rules (v ∷ vs) ≡ true → IsSplit rules v vs
 split_values rules v vs h =
-    let parts = and_parts (is_value_by (rule_for rules v.letter) v.text && list_all (are_apart rules v) vs) (are_values rules vs) h in
-    record { first = (and_parts (is_value_by (rule_for rules v.letter) v.text) (list_all (are_apart rules v) vs) parts.0).0; rest = parts.1 }
+    let parts = and_parts (is_value_by (rule_for rules v.letter) v.text && list_all (may_both_be_given rules v) vs) (are_values rules vs) h in
+    record { first = (and_parts (is_value_by (rule_for rules v.letter) v.text) (list_all (may_both_be_given rules v) vs) parts.0).0; rest = parts.1 }
 
 pub value_at : (rules : List ValueRule) (vs : List OptionValue) (i : ℕ) (v : OptionValue) → are_values rules vs ≡ true → slice_get vs i ≡ Some v → is_value_by (rule_for rules v.letter) v.text ≡ true
 value_at rules [] i v h at = cc

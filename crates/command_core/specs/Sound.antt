@@ -26,11 +26,11 @@ all_flags =
     (Installed ∷ (Contents ∷ (Depends ∷ (WhoOwns ∷ (Test ∷ (Check ∷ []))))))))))
 
 -- whether of some flags at most one was given
-abbrev pub is_single : List Flag → Flags → Bool
-is_single [] flags = true
-is_single (flag ∷ others) flags =
+abbrev pub has_at_most_one : List Flag → Flags → Bool
+has_at_most_one [] flags = true
+has_at_most_one (flag ∷ others) flags =
     not (has_flag flag flags && list_any (λ other. has_flag other flags) others)
-    && is_single others flags
+    && has_at_most_one others flags
 
 -- whether each flag that was given is among those that are allowed
 abbrev pub are_within : Flags → Flags → Bool
@@ -58,7 +58,7 @@ allowed_flags applet = common_flags
 -- whether an applet may have some flags: each is one of its own, and at most one selects the kind of
 -- the command
 abbrev pub may_have : Applet → Flags → Bool
-may_have applet flags = are_within (allowed_flags applet) flags && is_single kinds flags
+may_have applet flags = are_within (allowed_flags applet) flags && has_at_most_one kinds flags
 
 -- ---- operands
 
@@ -101,15 +101,15 @@ excludes_by (Some rule) a b = rule.single || excludes rule.kind a b
 
 -- whether two values may both be given: they are of different options, or neither excludes the
 -- other
-abbrev pub are_apart : List ValueRule → OptionValue → OptionValue → Bool
-are_apart rules a b =
+abbrev pub may_both_be_given : List ValueRule → OptionValue → OptionValue → Bool
+may_both_be_given rules a b =
     not ((a.letter == b.letter) && excludes_by (rule_for rules a.letter) a.text b.text)
 
 -- whether each value is one of an option with one of these rules, and no two of them exclude each other
 abbrev pub are_values : List ValueRule → List OptionValue → Bool
 are_values rules [] = true
 are_values rules (v ∷ vs) =
-    is_value_by (rule_for rules v.letter) v.text && list_all (are_apart rules v) vs
+    is_value_by (rule_for rules v.letter) v.text && list_all (may_both_be_given rules v) vs
     && are_values rules vs
 
 -- ---- the command

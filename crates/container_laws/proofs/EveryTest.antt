@@ -5,7 +5,7 @@ use Rattle.std.specs.Option.{option_or}
 use Rattle.std.proofs.lemmas.Bool.{eqb-true}
 use Rattle.adb_block.specs.Framing.{HeadFields, Step, block, ended, failed, head_of, kind_of_number, next_step, step_by_head, step_by_order, step_by_size}
 use Rattle.adb_block.specs.Header.{header_of}
-use Rattle.adb_block.specs.Piece.{Piece, comes_after, least_payload}
+use Rattle.adb_block.specs.Piece.{Piece, may_be_next_kind, least_payload}
 use Rattle.adb_block.specs.Reading.{Reading, done, fault, more, reading_by_step, reading_from, reading_of}
 use Rattle.adb_block.specs.ReaderPosition.{start_of}
 use Rattle.adb_block.specs.declared.block.BlockKind.{BlockKind}
@@ -44,7 +44,7 @@ size_goes_on at bytes head kind =
 order_goes_on : (at : ℕ) (bytes : List ℕ) (head : HeadFields) (kind : Option BlockKind) → CountsOnlyRise (step_by_order None at bytes head kind)
 order_goes_on at bytes head None e = absurd cc
 order_goes_on at bytes head (Some kind) e =
-    either_goes_on (comes_after None kind) _ _ (size_goes_on at bytes head kind) (λ e. absurd cc) e
+    either_goes_on (may_be_next_kind None kind) _ _ (size_goes_on at bytes head kind) (λ e. absurd cc) e
 
 head_goes_on : (at : ℕ) (bytes : List ℕ) (head : Option HeadFields) → CountsOnlyRise (step_by_head None at bytes head)
 head_goes_on at bytes None e = absurd cc

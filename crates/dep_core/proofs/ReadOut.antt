@@ -7,7 +7,7 @@ use Rattle.std.proofs.lemmas.Bool.{and_parts, and_from, eqb-true, cases_Bool}
 use Rattle.version_core.specs.Order.{is_version}
 use Rattle.dep_core.specs.Dependency.{Dependency, dependency_by, is_dep_name, is_name_byte, is_tag, is_tag_byte}
 use Rattle.dep_core.specs.DependencyText.{IsDependency, is_constraint, is_tag_or_none, mark_text, operator_text, tag_text}
-use Rattle.dep_core.specs.Reading.{at_tag, rest_after, dependency_of, at_version_end, is_not_at, is_operator_byte, at_constraint, at_operator_end, at_name, operator_bits, at_name_end, at_version, with_constraint, with_tag}
+use Rattle.dep_core.specs.Reading.{at_tag, rest_after, dependency_of, at_version_end, is_not_at, is_operator_byte, with_constraint_read, at_operator_end, at_name, operator_bits, at_name_end, at_version, with_constraint, with_tag}
 use Rattle.dep_core.specs.Spelling.{SpellsDependency, SpellsConstraint}
 use Rattle.dep_core.proofs.Operators.{operator-is, some-inj}
 
@@ -88,8 +88,8 @@ limited-by-out : (name : List ℕ) (conflict : Bool) (tag : Option (List ℕ)) (
 limited-by-out name conflict tag None op rest text d n t o e h = (cc)
 limited-by-out name conflict tag (Some bits) op rest text d n t o e h = versioned-out name conflict tag bits op rest text d n t o e h
 
-limited-out : (name : List ℕ) (conflict : Bool) (tag : Option (List ℕ)) (text : List ℕ) (d : Dependency) → is_dep_name name ≡ true → is_tag_or_none tag ≡ true → at_constraint (bare name conflict tag) text ≡ Some d → IsLimited name conflict tag text d
-unfolding at_constraint
+limited-out : (name : List ℕ) (conflict : Bool) (tag : Option (List ℕ)) (text : List ℕ) (d : Dependency) → is_dep_name name ≡ true → is_tag_or_none tag ≡ true → with_constraint_read (bare name conflict tag) text ≡ Some d → IsLimited name conflict tag text d
+unfolding with_constraint_read
 limited-out name conflict tag [] d n t h =
     let P : Dependency → Type 0 = λ x. IsLimited name conflict tag [] x in
     subst P (some-inj h) (record {
@@ -119,8 +119,8 @@ unfolding at_tag
 at_tag-out name conflict c rest d n e h =
     let tag : List ℕ = take_while is_tag_byte rest in
     let tail : List ℕ = rest_after is_tag_byte rest in
-    let found : (is_tag tag ≡ true) × (at_constraint (bare name conflict (Some tag)) tail ≡ Some d) =
-    cond_some (is_tag tag) (at_constraint (bare name conflict (Some tag)) tail) d h in
+    let found : (is_tag tag ≡ true) × (with_constraint_read (bare name conflict (Some tag)) tail ≡ Some d) =
+    cond_some (is_tag tag) (with_constraint_read (bare name conflict (Some tag)) tail) d h in
     let out : IsLimited name conflict (Some tag) tail d = limited-out name conflict (Some tag) tail d n found.0 found.1 in
     let whole : c ∷ rest ≡ 64 ∷ (tag ++ tail) = (λ i. e i ∷ sym (front-behind is_tag_byte rest) i) in
     record {
@@ -162,8 +162,8 @@ tagged-out name conflict [] d n h =
     })
 tagged-out name conflict (c ∷ rest) d n h =
     elim (cases_Bool (eqb c 64)) [
-      | inl e ↦ at_tag-out name conflict c rest d n (eqb-true c 64 e) (sym (ap (λ b. cond b (at_tag (bare name conflict None) rest) (at_constraint (bare name conflict None) (c ∷ rest))) e) ∙ h)
-      | inr e ↦ limited-tagged name conflict (c ∷ rest) d (limited-out name conflict None (c ∷ rest) d n refl (sym (ap (λ b. cond b (at_tag (bare name conflict None) rest) (at_constraint (bare name conflict None) (c ∷ rest))) e) ∙ h))
+      | inl e ↦ at_tag-out name conflict c rest d n (eqb-true c 64 e) (sym (ap (λ b. cond b (at_tag (bare name conflict None) rest) (with_constraint_read (bare name conflict None) (c ∷ rest))) e) ∙ h)
+      | inr e ↦ limited-tagged name conflict (c ∷ rest) d (limited-out name conflict None (c ∷ rest) d n refl (sym (ap (λ b. cond b (at_tag (bare name conflict None) rest) (with_constraint_read (bare name conflict None) (c ∷ rest))) e) ∙ h))
     ]
 
 -- ---- the name, and the mark before it

@@ -9,7 +9,7 @@ use Rattle.std.proofs.lemmas.Bool.Decides.{nat_tests}
 use Rattle.version_core.specs.Order.{is_version}
 use Rattle.dep_core.specs.Dependency.{Dependency, dependency_by, is_dep_name, is_name_byte, is_tag, is_tag_byte}
 use Rattle.dep_core.specs.DependencyText.{IsDependency, is_constraint, is_tag_or_none, dep_text, constraint_text, mark_text, operator_text, tag_text}
-use Rattle.dep_core.specs.Reading.{any_version, at_tag, rest_after, dependency_of, at_version_end, is_not_at, is_operator_byte, at_constraint, at_operator_end, at_name, operator_bits, at_name_end, at_version, with_constraint, with_tag}
+use Rattle.dep_core.specs.Reading.{any_version, at_tag, rest_after, dependency_of, at_version_end, is_not_at, is_operator_byte, with_constraint_read, at_operator_end, at_name, operator_bits, at_name_end, at_version, with_constraint, with_tag}
 use Rattle.dep_core.specs.Spelling.{SpellsDependency, SpellsConstraint}
 use Rattle.dep_core.proofs.Operators.{IsOperator, begins_as_operator, operator-is, text-read}
 use Rattle.dep_core.proofs.Versions.{Versions}
@@ -83,8 +83,8 @@ versioned-text spelled d bits v tail h s =
 
 -- ---- the operator
 
-limited-text : Versions → (d : Dependency) (op v tail : List ℕ) (bits : ℕ) → operator_bits op ≡ Some bits → is_version v ≡ true → stops is_not_at tail ≡ true → at_constraint d (op ++ (v ++ tail)) ≡ at_version_end (with_constraint d v bits) tail
-unfolding at_constraint
+limited-text : Versions → (d : Dependency) (op v tail : List ℕ) (bits : ℕ) → operator_bits op ≡ Some bits → is_version v ≡ true → stops is_not_at tail ≡ true → with_constraint_read d (op ++ (v ++ tail)) ≡ at_version_end (with_constraint d v bits) tail
+unfolding with_constraint_read
 limited-text spelled d [] v tail bits o h s = absurd (nothing (operator-is [] bits o).1)
   where
     nothing : false ≡ true → ⊥
@@ -99,19 +99,19 @@ limited-text spelled d (b ∷ op) v tail bits o h s =
 abbrev bare : List ℕ → Bool → Option (List ℕ) → Dependency
 bare name conflict tag = dependency_by name None 1 conflict tag
 
-limited-limit : Versions → (name : List ℕ) (conflict : Bool) (tag version : Option (List ℕ)) (bits : ℕ) (limit : List ℕ) → SpellsConstraint limit version bits → is_constraint version bits ≡ true → at_constraint (bare name conflict tag) limit ≡ Some (dependency_by name version bits conflict tag)
-unfolding at_constraint at_version_end
+limited-limit : Versions → (name : List ℕ) (conflict : Bool) (tag version : Option (List ℕ)) (bits : ℕ) (limit : List ℕ) → SpellsConstraint limit version bits → is_constraint version bits ≡ true → with_constraint_read (bare name conflict tag) limit ≡ Some (dependency_by name version bits conflict tag)
+unfolding with_constraint_read at_version_end
 limited-limit spelled name conflict tag None bits limit e g =
-    ap (at_constraint (bare name conflict tag)) e ∙ ap (λ n. Some (dependency_by name None n conflict tag)) (sym (eqb-true bits 1 g))
+    ap (with_constraint_read (bare name conflict tag)) e ∙ ap (λ n. Some (dependency_by name None n conflict tag)) (sym (eqb-true bits 1 g))
 limited-limit spelled name conflict tag (Some v) bits limit e g =
-    ap (at_constraint (bare name conflict tag)) (e.2 ∙ ap (λ t. e.0 ++ t) (sym (append-nil v)))
+    ap (with_constraint_read (bare name conflict tag)) (e.2 ∙ ap (λ t. e.0 ++ t) (sym (append-nil v)))
     ∙ limited-text spelled (bare name conflict tag) e.0 v [] bits e.1 (and_parts (is_version v) _ g).0 refl
 
 at_stops : (tag : Option (List ℕ)) → stops is_not_at (tag_text tag) ≡ true
 at_stops None = refl
 at_stops (Some tag) = refl
 
-limited-limit_tag : Versions → (name : List ℕ) (conflict : Bool) (tag : Option (List ℕ)) (v : List ℕ) (bits : ℕ) (op : List ℕ) → operator_bits op ≡ Some bits → is_version v ≡ true → is_tag_or_none tag ≡ true → at_constraint (bare name conflict None) (op ++ (v ++ tag_text tag)) ≡ Some (dependency_by name (Some v) bits conflict tag)
+limited-limit_tag : Versions → (name : List ℕ) (conflict : Bool) (tag : Option (List ℕ)) (v : List ℕ) (bits : ℕ) (op : List ℕ) → operator_bits op ≡ Some bits → is_version v ≡ true → is_tag_or_none tag ≡ true → with_constraint_read (bare name conflict None) (op ++ (v ++ tag_text tag)) ≡ Some (dependency_by name (Some v) bits conflict tag)
 limited-limit_tag spelled name conflict tag v bits op o h t =
     limited-text spelled (bare name conflict None) op v (tag_text tag) bits o h (at_stops tag)
     ∙ ended-tag (with_constraint (bare name conflict None) v bits) tag refl t
@@ -131,18 +131,18 @@ unfolding at_name_end at_tag
 tagged-at spelled name conflict tag version bits limit t e g =
     let bytes : list_all is_tag_byte tag ≡ true = (and_parts (nat_lt 0 (length tag)) (list_all is_tag_byte tag) t).1 in
     let stop : stops is_tag_byte limit ≡ true = limit_stops is_tag_byte version bits limit operator_ends_tag e in
-    (λ i. cond (is_tag (run is_tag_byte tag limit bytes stop i)) (at_constraint (with_tag (bare name conflict None) (run is_tag_byte tag limit bytes stop i)) (past_run is_tag_byte tag limit bytes stop i)) None)
-    ∙ (ap (λ b. cond b (at_constraint (bare name conflict (Some tag)) limit) None) t ∙ limited-limit spelled name conflict (Some tag) version bits limit e g)
+    (λ i. cond (is_tag (run is_tag_byte tag limit bytes stop i)) (with_constraint_read (with_tag (bare name conflict None) (run is_tag_byte tag limit bytes stop i)) (past_run is_tag_byte tag limit bytes stop i)) None)
+    ∙ (ap (λ b. cond b (with_constraint_read (bare name conflict (Some tag)) limit) None) t ∙ limited-limit spelled name conflict (Some tag) version bits limit e g)
 
 -- an operator follows the name
-tagged-operator : (d : Dependency) (op rest : List ℕ) (bits : ℕ) → operator_bits op ≡ Some bits → at_name_end d (op ++ rest) ≡ at_constraint d (op ++ rest)
+tagged-operator : (d : Dependency) (op rest : List ℕ) (bits : ℕ) → operator_bits op ≡ Some bits → at_name_end d (op ++ rest) ≡ with_constraint_read d (op ++ rest)
 unfolding at_name_end
 tagged-operator d op rest bits o = by op (operator-is op bits o).1
   where
-    by : (op' : List ℕ) → begins_as_operator op' ≡ true → at_name_end d (op' ++ rest) ≡ at_constraint d (op' ++ rest)
+    by : (op' : List ℕ) → begins_as_operator op' ≡ true → at_name_end d (op' ++ rest) ≡ with_constraint_read d (op' ++ rest)
     by [] h = (cc)
     by (b ∷ op') h =
-        ap (λ x. cond x (at_tag d (op' ++ rest)) (at_constraint d (b ∷ (op' ++ rest)))) (operator_is_no_at b h)
+        ap (λ x. cond x (at_tag d (op' ++ rest)) (with_constraint_read d (b ∷ (op' ++ rest)))) (operator_is_no_at b h)
 
 -- ---- the name, and the mark before it
 
@@ -150,8 +150,8 @@ tagged-none : (name : List ℕ) (conflict : Bool) → at_name_end (bare name con
 unfolding at_name_end
 tagged-none name conflict = refl
 
-limited-none : (name : List ℕ) (conflict : Bool) → at_constraint (bare name conflict None) [] ≡ Some (bare name conflict None)
-unfolding at_constraint
+limited-none : (name : List ℕ) (conflict : Bool) → with_constraint_read (bare name conflict None) [] ≡ Some (bare name conflict None)
+unfolding with_constraint_read
 limited-none name conflict = refl
 
 -- after the name, where the tag is there
@@ -161,7 +161,7 @@ tagged-front spelled name conflict None None bits limit t e g =
     ap (at_name_end (bare name conflict None)) e ∙ (tagged-none name conflict ∙ (sym (limited-none name conflict) ∙ limited-limit spelled name conflict None None bits [] refl g))
 tagged-front spelled name conflict None (Some v) bits limit t e g =
     ap (at_name_end (bare name conflict None)) e.2
-    ∙ (tagged-operator (bare name conflict None) e.0 v bits e.1 ∙ (ap (at_constraint (bare name conflict None)) (sym e.2) ∙ limited-limit spelled name conflict None (Some v) bits limit e g))
+    ∙ (tagged-operator (bare name conflict None) e.0 v bits e.1 ∙ (ap (with_constraint_read (bare name conflict None)) (sym e.2) ∙ limited-limit spelled name conflict None (Some v) bits limit e g))
 
 -- after the name, where the tag follows the version
 tagged-back : Versions → (name : List ℕ) (conflict : Bool) (tag version : Option (List ℕ)) (bits : ℕ) (limit : List ℕ) → is_tag_or_none tag ≡ true → SpellsConstraint limit version bits → is_constraint version bits ≡ true → at_name_end (bare name conflict None) (limit ++ tag_text tag) ≡ Some (dependency_by name version bits conflict tag)

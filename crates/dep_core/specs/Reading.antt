@@ -56,9 +56,9 @@ at_operator_end d None text = None
 at_operator_end d (Some bits) text = at_version d bits text
 
 -- reads after the name and its tag: nothing, or the operator
-unfoldable pub at_constraint : Dependency → List ℕ → Option Dependency
-at_constraint d [] = Some d
-at_constraint d (b ∷ rest) =
+unfoldable pub with_constraint_read : Dependency → List ℕ → Option Dependency
+with_constraint_read d [] = Some d
+with_constraint_read d (b ∷ rest) =
     at_operator_end d (operator_bits (take_while is_operator_byte (b ∷ rest)))
     (rest_after is_operator_byte (b ∷ rest))
 
@@ -66,14 +66,14 @@ at_constraint d (b ∷ rest) =
 unfoldable pub at_tag : Dependency → List ℕ → Option Dependency
 at_tag d text =
     if is_tag (take_while is_tag_byte text)
-    then at_constraint (with_tag d (take_while is_tag_byte text))
+    then with_constraint_read (with_tag d (take_while is_tag_byte text))
     (rest_after is_tag_byte text)
     else None
 
 -- reads after the name: `@` (64) and the tag, if there is one
 unfoldable pub at_name_end : Dependency → List ℕ → Option Dependency
 at_name_end d [] = Some d
-at_name_end d (b ∷ rest) = if b == 64 then at_tag d rest else at_constraint d (b ∷ rest)
+at_name_end d (b ∷ rest) = if b == 64 then at_tag d rest else with_constraint_read d (b ∷ rest)
 
 -- reads the name, from the front or after the mark of a conflict
 unfoldable pub at_name : Bool → List ℕ → Option Dependency

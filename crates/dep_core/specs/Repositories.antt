@@ -27,9 +27,9 @@ abbrev pub without_outer_blanks : List ℕ → List ℕ
 without_outer_blanks text = without_trailing_blanks (rest_after is_blank text)
 
 -- whether a line, without blanks at its ends, is skipped: it is empty, or begins with `#` (35)
-abbrev pub is_comment : List ℕ → Bool
-is_comment [] = true
-is_comment (b ∷ rest) = b == 35
+abbrev pub is_blank_or_comment : List ℕ → Bool
+is_blank_or_comment [] = true
+is_blank_or_comment (b ∷ rest) = b == 35
 
 -- whether the first byte is a blank
 abbrev pub begins_with_blank : List ℕ → Bool
@@ -62,7 +62,7 @@ singleton found = found ∷ []
 -- the repositories on a line, none or one; None if the line is bad
 abbrev pub repositories_on : List ℕ → Option (List Repository)
 repositories_on line =
-    if is_comment (without_outer_blanks line) then Some []
+    if is_blank_or_comment (without_outer_blanks line) then Some []
     else option_map singleton (repository_of (without_outer_blanks line))
 
 -- the repositories of a line before those of the lines after it; the number of the line if it is bad

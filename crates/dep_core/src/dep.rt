@@ -159,8 +159,8 @@ pub fn is_package_name(name: &[u8]) -> bool
     !has_slash(name)
 }
 
-/// Whether a name has a slash.
-fn has_slash(name: &[u8]) -> bool
+/// Whether a name has a `/`.
+pub fn has_slash(name: &[u8]) -> bool
     ensures { result ≡ list_any (λ b. b == 47) name.now }
 {
     name.contains(&b'/')

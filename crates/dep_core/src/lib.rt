@@ -17,7 +17,7 @@ mod repos;
 mod text;
 mod world;
 
-pub use dep::{Dep, is_dep_name, is_package_name};
+pub use dep::{Dep, has_slash, is_dep_name, is_package_name};
 pub use laws::{
     first_bad_line_is_reported, read_texts_are_spelled, repositories_are_read_back,
     spelled_texts_are_read, texts_are_read_back, values_are_read_back,

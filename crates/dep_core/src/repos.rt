@@ -3,7 +3,7 @@
 
 ghost use Rattle.std.specs.Prelude.{◌≡◌, ◌<◌, ◌==◌, ◌++◌, length, slice_get, Some, None, if◌then◌else◌, IfOk, IfErr, option_copied};
 ghost use Rattle.std.specs.Option.{option_map};
-ghost use Rattle.dep_core.specs.Repositories.{at_path, begins_with_blank, is_comment, repositories_of, repositories_on, repository_of, tagged_repository, without_outer_blanks, without_trailing_blanks};
+ghost use Rattle.dep_core.specs.Repositories.{at_path, begins_with_blank, is_blank_or_comment, repositories_of, repositories_on, repository_of, tagged_repository, without_outer_blanks, without_trailing_blanks};
 ghost use Rattle.dep_core.specs.Faults.{IsReposFault};
 ghost use Rattle.dep_core.specs.LeadingSlash.{without_slash};
 
@@ -125,7 +125,7 @@ fn add_line(alloc: Global, repos: &mut Vec<Repo>, line: &[u8]) -> Result<bool, A
         ≡ (if good then Some repos.new.items else None)) }
 {
     let line = without_outer_blanks(line);
-    if is_comment(line) {
+    if is_blank_or_comment(line) {
         return Ok(true);
     }
     let Some(repo) = read_repo(alloc, line)? else {
@@ -154,8 +154,8 @@ fn without_trailing_blanks(text: &[u8]) -> &[u8]
 }
 
 /// Whether a line without blanks at its ends is skipped.
-fn is_comment(text: &[u8]) -> bool
-    ensures { result ≡ is_comment text.now }
+fn is_blank_or_comment(text: &[u8]) -> bool
+    ensures { result ≡ is_blank_or_comment text.now }
 {
     match text.first() {
         Some(byte) => *byte == b'#',

@@ -5,7 +5,7 @@ ghost use Rattle.std.specs.Prelude.{◌≡◌, IsTrue, true, is_some, IfSome, �
 ghost use Rattle.std.specs.Option.{option_map};
 ghost use Rattle.dep_core.specs.Dependency.{is_dep_name, is_name_byte, is_tag_byte};
 ghost use Rattle.dep_core.specs.DependencyText.{operator_text, dep_text};
-ghost use Rattle.dep_core.specs.Reading.{at_tag, dependency_of, at_version_end, at_constraint, at_name, at_name_end, at_version, is_not_at, is_operator_byte};
+ghost use Rattle.dep_core.specs.Reading.{at_tag, dependency_of, at_version_end, with_constraint_read, at_name, at_name_end, at_version, is_not_at, is_operator_byte};
 ghost use Rattle.dep_core.specs.Meets.{dependency};
 ghost use Rattle.dep_core.specs.Value.{is_version_or_empty};
 ghost use Rattle.dep_core.specs.ValueReading.{bits_of, dependency_of_value};
@@ -50,7 +50,7 @@ fn at_name_end<'a>(dep: Dep<'a>, text: &'a [u8]) -> Option<Dep<'a>>
     match text.split_first() {
         None => Some(dep),
         Some((b'@', rest)) => at_tag(dep, rest),
-        Some(_) => at_constraint(dep, text),
+        Some(_) => with_constraint_read(dep, text),
     }
 }
 
@@ -63,13 +63,13 @@ fn at_tag<'a>(dep: Dep<'a>, text: &'a [u8]) -> Option<Dep<'a>>
     if !is_tag(tag) {
         return None;
     }
-    at_constraint(dep.with_tag(tag), rest)
+    with_constraint_read(dep.with_tag(tag), rest)
 }
 
 /// Reads an operator and the version after it, or nothing.
-#[tactic(auto, unfolding(crate::specs::Reading::at_constraint))]
-fn at_constraint<'a>(dep: Dep<'a>, text: &'a [u8]) -> Option<Dep<'a>>
-    ensures { option_map dependency result ≡ at_constraint (dependency dep.entry) text.entry.now }
+#[tactic(auto, unfolding(crate::specs::Reading::with_constraint_read))]
+fn with_constraint_read<'a>(dep: Dep<'a>, text: &'a [u8]) -> Option<Dep<'a>>
+    ensures { option_map dependency result ≡ with_constraint_read (dependency dep.entry) text.entry.now }
 {
     if text.is_empty() {
         return Some(dep);

@@ -34,7 +34,7 @@ use Rattle.change_report.specs.own_core.declared.fault.PlanFault.TheVariants as 
 use Rattle.change_report.specs.package_changes.Changes.{Replacement}
 use Rattle.change_report.specs.path_claims.Claims.{ContestedPath}
 use Rattle.change_report.specs.path_clashes.Clash.{HasNoClash, NamePair}
-use Rattle.change_report.specs.path_clashes.FirstClash.{IsClashOf, MayBeClashOf}
+use Rattle.change_report.specs.path_clashes.FirstClash.{IsClashOf, IsClashOverSomeFiles}
 use Rattle.report_core.specs.declared.refusal.Refusal.{Refusal}
 use Rattle.report_core.specs.declared.refusal.Refusal.TheVariants.{Owned, PathClash, Reserved}
 use Rattle.engine_core.specs.ChangeRun.{CarriesOut}
@@ -82,7 +82,7 @@ clash_told change [] clash some told = record { files = some.files; there = tt; 
 clash_told change (v ∷ earlier) clash some told = record { files = files_of v; there = refl; present_files = files_of v; stand = refl; is_clash = told }
 
 -- the same by files that are given
-none_told : (change : FileChange) (files : Files) (old : List TreeState) → IfObservable old (λ v. files ≡ files_of v) → MayBeClashOf (name_change change files) None → IfObservable old (λ v. HasNoClash (name_change change files) files)
+none_told : (change : FileChange) (files : Files) (old : List TreeState) → IfObservable old (λ v. files ≡ files_of v) → IsClashOverSomeFiles (name_change change files) None → IfObservable old (λ v. HasNoClash (name_change change files) files)
     → (present_files : Files) × IfObservable old (λ v. present_files ≡ files_of v) × IsClashOf (name_change change files) present_files None
 none_told change files [] there may told = (may.0, tt, may.1)
 none_told change files (v ∷ earlier) there may told = (files, there, told)
@@ -215,7 +215,7 @@ planned_run old mid now before between after a ms p wishes found result quiet ar
     ap (λ (o : Option (List ℕ)). unless_reserved_path o (unless_contested members (contested_of members) rest)) (sym (ap first_reserved arrived.members) ∙ owners.allowed)
     ∙ ap (λ (o : Option ContestedPath). unless_contested members o rest) (sym (ap contested_of arrived.members) ∙ owners.owners) in
     let none = none_told (file_change inputs wishes found) plan.files old plan.told
-    (subst (λ (c : FileChange). MayBeClashOf (name_change c plan.files) None) (change_is old a ms wishes found arrived) plan.may_have_none)
+    (subst (λ (c : FileChange). IsClashOverSomeFiles (name_change c plan.files) None) (change_is old a ms wishes found arrived) plan.may_have_none)
     (subst (λ (c : FileChange). IfObservable old (λ v. HasNoClash (name_change c plan.files) plan.files)) (change_is old a ms wishes found arrived) plan.no_clash) in
     record {
       files = plan.files;

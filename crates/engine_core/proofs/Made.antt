@@ -38,7 +38,7 @@ use Rattle.engine_core.specs.Changed.{IsClashOfSelectedAmong, IsClashUnlessSimul
 use Rattle.engine_core.specs.Preparing.{HasReadArrivals, AreFoundBy, AreReadFor, IsArrived, IsPlanOfPackages, IsPlanned, IsRootRead, inputs_of_packages, inputs_of_plan, replacement_of_packages, replacement_of_plan, wishes_of_packages, wishes_of_plan}
 use Rattle.engine_core.specs.Runs.{IsSelectedRun}
 use Rattle.engine_core.specs.Selecting.{pool_by}
-use Rattle.engine_core.specs.SelectionSeen.{HasItsDatabase, inputs_of_selection, replacement_seen, selection_seen, wishes_of_selection}
+use Rattle.engine_core.specs.SelectionSeen.{HasDatabaseOfInputs, inputs_of_selection, replacement_seen, selection_seen, wishes_of_selection}
 use Rattle.engine_core.specs.declared.choosing.Selection.{Selection}
 use Rattle.engine_core.specs.declared.packages.ReadPackages.{ReadPackages}
 use Rattle.engine_core.specs.declared.planning.Plan.{Plan}
@@ -68,7 +68,7 @@ few_candidates command inputs pool is = few_by (nat_lt MOST_CANDIDATES (length (
 
 -- ---- the packages are read
 
-module _ (s : Selection) (database : HasItsDatabase s) where
+module _ (s : Selection) (database : HasDatabaseOfInputs s) where
   abbrev inputs : Inputs
   inputs = inputs_of_selection s
 
@@ -179,11 +179,11 @@ module _ (s : Selection) (real : s.command.now.flags.simulate ≡ false) where
         })
 
     -- the packages that come are read
-    module _ (database : HasItsDatabase s) (root : IsRootRead old (inputs_of_selection s)) (a : ReadPackages) (explained : Read old s (Ok a)) where
+    module _ (database : HasDatabaseOfInputs s) (root : IsRootRead old (inputs_of_selection s)) (a : ReadPackages) (explained : Read old s (Ok a)) where
       pub found_by_reads : AreFoundBy mid a explained.read explained.is.0
       found_by_reads = record {
         arrivals = subst (λ (h : List TreeState). HasReadArrivals h a explained.is.0) (sym quiet.same) (record {
-          database = subst HasItsDatabase (sym explained.is.2.selection) database;
+          database = subst HasDatabaseOfInputs (sym explained.is.2.selection) database;
           placed = explained.is.2.placed;
           read = explained.is.2.read;
           root = subst (λ (t : Selection). IsRootRead old (inputs_of_selection t)) (sym explained.is.2.selection) root;

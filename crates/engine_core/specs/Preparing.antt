@@ -27,7 +27,7 @@ use Rattle.change_report.specs.package_changes.Placed.{placed_names_of}
 use Rattle.change_report.specs.package_changes.Seen.{placed_names_seen, replacement_by}
 use Rattle.root_names.specs.RootNames as Names
 use Rattle.engine_core.specs.Plans.{IsPlanFrom}
-use Rattle.engine_core.specs.SelectionSeen.{HasItsDatabase, inputs_of_selection, replacement_seen, wishes_of_selection}
+use Rattle.engine_core.specs.SelectionSeen.{HasDatabaseOfInputs, inputs_of_selection, replacement_seen, wishes_of_selection}
 use Rattle.engine_core.specs.declared.choosing.Selection.{Selection}
 use Rattle.engine_core.specs.declared.packages.ReadPackages.{ReadPackages}
 use Rattle.engine_core.specs.declared.planning.Plan.{Plan}
@@ -64,7 +64,7 @@ pub record AreReadFor (history : List TreeState) (s : Selection) (a : ReadPackag
 -- found: the packages after the change, with the file of each added one
 pub record HasReadArrivals (history : List TreeState) (a : ReadPackages) (found : List MemberFound)
     : Type 0 where
-  pub database : HasItsDatabase a.selection.now
+  pub database : HasDatabaseOfInputs a.selection.now
   pub placed : placed_names_seen a.names ≡ placed_names_of (replacement_by
       a.selection.now.db a.selection.now.pool a.selection.now.trace a.selection.now.again)
   pub read : AreMembersRead history (packages_of a.selection.now.db) (arrivals_seen a.arrivals) found

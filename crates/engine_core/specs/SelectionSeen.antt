@@ -31,12 +31,12 @@ selection_seen s =
     record { inputs = inputs_of_selection s; replacement = replacement_seen s }
 
 -- the database of a selection is the one of its inputs
-abbrev pub HasItsDatabase : Selection → Type 0
-HasItsDatabase s = packages_of s.db ≡ (inputs_of_selection s).root.database.packages
+abbrev pub HasDatabaseOfInputs : Selection → Type 0
+HasDatabaseOfInputs s = packages_of s.db ≡ (inputs_of_selection s).root.database.packages
 
 -- the candidates of a selection are those of its command and inputs
-abbrev pub HasItsPool : Selection → Type 0
-HasItsPool s = pool_by s.command.now (inputs_of_selection s) ≡ Ok s.pool
+abbrev pub HasPoolOfInputs : Selection → Type 0
+HasPoolOfInputs s = pool_by s.command.now (inputs_of_selection s) ≡ Ok s.pool
 
 -- what the command of a selection asks for besides its world
 abbrev pub wishes_of_selection : Selection → ChangeWishes
@@ -55,5 +55,5 @@ IsSelectedFrom command inputs result =
 pub record IsSelectionFor (command : CommandLine) (inputs : Inputs) (s : Selection) : Type 0 where
   pub command_is : s.command.now ≡ command
   pub inputs_are : inputs_of_selection s ≡ inputs
-  pub database : HasItsDatabase s
-  pub pool : HasItsPool s
+  pub database : HasDatabaseOfInputs s
+  pub pool : HasPoolOfInputs s

@@ -4,7 +4,7 @@
 
 ghost use Rattle.engine_core.specs.ChangeRun.{IsChangeRun};
 ghost use Rattle.engine_core.specs.Runs.{IsRunCounted};
-ghost use Rattle.engine_core.specs.SelectionSeen.{HasItsDatabase, replacement_seen};
+ghost use Rattle.engine_core.specs.SelectionSeen.{HasDatabaseOfInputs, replacement_seen};
 ghost use Rattle.engine_core.specs.Wishes.{names_to_remove};
 ghost use Rattle.journal_staging.specs.journal_commit.Asked.{TargetsAreAccepted};
 ghost use Rattle.std.specs.Prelude.{◌≡◌, IfOk};
@@ -64,7 +64,7 @@ pub fn change<T: Tree>(alloc: Global, command: &Command, tree: &mut T) -> Result
 
 // Reports what would change, as `--simulate` asks for it.
 fn simulate(alloc: Global, selection: &Selection<'_>) -> Result<Text, AllocError>
-    requires { HasItsDatabase selection.now }
+    requires { HasDatabaseOfInputs selection.now }
     ensures { IfOk result (λ report. report ≡ simulated_report (replacement_seen selection.now)
         (names_to_remove selection.now.command.now.applet
         selection.now.command.now.operands)) }

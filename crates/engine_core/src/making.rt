@@ -2,7 +2,7 @@
 //! change does with files", and the order of the refusals in "`add` and `del`".
 ghost use Rattle.engine_core.specs.Preparing.{IsRootRead};
 ghost use Rattle.engine_core.specs.Runs.{IsRunCounted, IsSelectedRun};
-ghost use Rattle.engine_core.specs.SelectionSeen.{HasItsDatabase, HasItsPool, inputs_of_selection, selection_seen};
+ghost use Rattle.engine_core.specs.SelectionSeen.{HasDatabaseOfInputs, HasPoolOfInputs, inputs_of_selection, selection_seen};
 ghost use Rattle.journal_staging.specs.journal_commit.Asked.{TargetsAreAccepted};
 ghost use Rattle.std.specs.Prelude.{◌≡◌, false, Ok};
 
@@ -29,8 +29,8 @@ pub(crate) fn make_change<T: Tree>(
     selection: &Selection<'_>,
     tree: &mut T,
 ) -> Result<Text, Refused>
-    requires database { HasItsDatabase selection.now }
-    requires pool { HasItsPool selection.now }
+    requires database { HasDatabaseOfInputs selection.now }
+    requires pool { HasPoolOfInputs selection.now }
     requires root { IsRootRead (T.history tree.old) (inputs_of_selection selection.now) }
     // The change is not only simulated.
     requires real { selection.now.command.now.flags.simulate ≡ false }

@@ -8,7 +8,7 @@ ghost use Rattle.change_report.specs.change_outcome.ChangeOutcome.{change_member
 ghost use Rattle.change_report.specs.db_core.Seen.{packages_of};
 ghost use Rattle.change_report.specs.package_files.Runs.{Explains};
 ghost use Rattle.engine_core.specs.Preparing.{AreReadFor};
-ghost use Rattle.engine_core.specs.SelectionSeen.{HasItsDatabase, HasItsPool, inputs_of_selection, replacement_seen, wishes_of_selection};
+ghost use Rattle.engine_core.specs.SelectionSeen.{HasDatabaseOfInputs, HasPoolOfInputs, inputs_of_selection, replacement_seen, wishes_of_selection};
 ghost use Rattle.std.specs.Prelude.{IfOk};
 
 use crate::choosing::Selection;
@@ -39,8 +39,8 @@ pub(crate) fn read_packages<'r, 'a, T: Tree>(
     selection: &'r Selection<'a>,
     tree: &mut T,
 ) -> Result<ReadPackages<'r, 'a>, Refused>
-    requires database { HasItsDatabase selection.now }
-    requires pool { HasItsPool selection.now }
+    requires database { HasDatabaseOfInputs selection.now }
+    requires pool { HasPoolOfInputs selection.now }
     // They are the packages that reads of the tree find; or one of them is refused, the first.
     ensures found { Explains (T.history tree.old) (λ read.
         DenotesUnlessDisk (AreReadFor (T.history tree.old) selection.entry.now) result

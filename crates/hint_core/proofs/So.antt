@@ -9,7 +9,7 @@ use Rattle.adb_view.specs.declared.tables.Field.{Field}
 use Rattle.adb_view.specs.declared.tables.Which.{Which}
 use Rattle.adb_view.specs.declared.tables.Which.TheVariants as Tables
 use Rattle.base_core.specs.declared.cause.Cause.{Cause}
-use Rattle.dep_core.specs.Repositories.{Repository, is_comment, repositories_from, repositories_of, repositories_on, repository_of, singleton, with_repositories, without_outer_blanks}
+use Rattle.dep_core.specs.Repositories.{Repository, is_blank_or_comment, repositories_from, repositories_of, repositories_on, repository_of, singleton, with_repositories, without_outer_blanks}
 use Rattle.dep_core.specs.World.{is_line_end, lines_of}
 use Rattle.report_core.specs.declared.refusal.Refusal.{Refusal}
 use Rattle.hint_core.specs.declared.find.PathAlone.TheVariants.{Path}
@@ -56,7 +56,7 @@ data OnLine (line : List ℕ) : Type 0 where
 
 on_line_is : (line : List ℕ) → OnLine line
 on_line_is line =
-    elim (is_comment (without_outer_blanks line)) as (λ b. is_comment (without_outer_blanks line) ≡ b → OnLine line) [
+    elim (is_blank_or_comment (without_outer_blanks line)) as (λ b. is_blank_or_comment (without_outer_blanks line) ≡ b → OnLine line) [
       | true ↦ λ e. skipped (rw e refl)
       | false ↦ λ e. elim (repository_of (without_outer_blanks line)) as (λ o. repository_of (without_outer_blanks line) ≡ o → OnLine line) [
         | None ↦ λ r. bad (rw e (ap (option_map singleton) r))

@@ -49,8 +49,8 @@ explained_mixed_up words refusal =
 -- ---- files of a package
 
 -- the entry of an array at a position, which counts from 1
-abbrev pub entry_at : Plain → ℕ → Option Plain
-entry_at array position =
+abbrev pub item_at : Plain → ℕ → Option Plain
+item_at array position =
     if nat_le 1 position && nat_le position (count_of (entries_in array))
     then Some (entry_in array (position - 1)) else None
 
@@ -58,28 +58,28 @@ entry_at array position =
 abbrev pub path_in_folder : Plain → ℕ → Option (List ℕ)
 path_in_folder folder file =
     option_map (λ (f : Plain). path_of (name_of folder) (name_of f))
-    (entry_at (entry_in folder DIR_FILES) file)
+    (item_at (entry_in folder DIR_FILES) file)
 
 -- the path of the file of a package, by the positions of its folder and of itself in the folder
 abbrev pub path_at : Plain → ℕ × ℕ → Option (List ℕ)
 path_at pkg position =
     option_and_then (λ folder. path_in_folder folder position.1)
-    (entry_at (entry_in pkg PACKAGE_PATHS) position.0)
+    (item_at (entry_in pkg PACKAGE_PATHS) position.0)
 
 -- ---- lines
 
 -- positions as a refusal shows them: `4.1`
-abbrev pub position_text : ℕ × ℕ → List (List ℕ) → List (List ℕ)
-position_text position rest = decimal position.0 ∷ (codes "." ∷ (decimal position.1 ∷ rest))
+abbrev pub position_pieces : ℕ × ℕ → List (List ℕ) → List (List ℕ)
+position_pieces position rest = decimal position.0 ∷ (codes "." ∷ (decimal position.1 ∷ rest))
 
 -- the line of positions in a package, by the path of the file there, if there is one
 abbrev pub file_line : List ℕ → ℕ × ℕ → Option (List ℕ) → List ℕ
 file_line pkg position (Some path) = texts_joined
-    (codes "apk: file " ∷ position_text position (codes " of " ∷ (printed_text pkg
+    (codes "apk: file " ∷ position_pieces position (codes " of " ∷ (printed_text pkg
     ∷ (codes " is " ∷ (printed_text path ∷ (codes "\n" ∷ []))))))
 file_line pkg position None = texts_joined
     (codes "apk: " ∷ (printed_text pkg ∷ (codes " has no file "
-    ∷ position_text position (codes "\n" ∷ []))))
+    ∷ position_pieces position (codes "\n" ∷ []))))
 
 -- the line of positions in a package; `0.0` stands for no file, and has none
 abbrev pub position_line : List ℕ → Plain → ℕ × ℕ → List ℕ

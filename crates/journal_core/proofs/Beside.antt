@@ -5,12 +5,12 @@ use Rattle.base_core.specs.Files.{Files, HasNoFileAsFolder, put_name}
 use Rattle.base_core.specs.Tree.{TreeState, File, bytes_at, CanCreate}
 use Rattle.base_core.proofs.AtName.{name_cases, off_name}
 use Rattle.journal_core.specs.Recovery.{stage_name}
-use Rattle.journal_core.specs.Staged.{Staging, MayBePresent, AreJournalPathsFree, AreStagingPathsFree, IsStaged, with_staged}
+use Rattle.journal_core.specs.Staged.{Staging, IsPresentOrOfJournal, AreJournalPathsFree, AreStagingPathsFree, IsStaged, with_staged}
 use Rattle.journal_intent.proofs.AtName.{put_name-off}
 use Rattle.journal_intent.proofs.StageNames.{stage_names_apart}
 
 -- names that are all acting_stage are folder-like
-pub held_like : {A : Type 0} (files : Files) → AreJournalPathsFree files → (m : List ℕ → Option A) → ((q : List ℕ) → IsSome (m q) → MayBePresent files q) → HasNoFileAsFolder m
+pub held_like : {A : Type 0} (files : Files) → AreJournalPathsFree files → (m : List ℕ → Option A) → ((q : List ℕ) → IsSome (m q) → IsPresentOrOfJournal files q) → HasNoFileAsFolder m
 held_like files room m acting_stage p q folder has_p has_q = room.folders p q folder (acting_stage p has_p) (acting_stage q has_q)
 
 pub as_read : (files : ℕ → File) (n : Option ℕ) → IsSome n → IsSome (bytes_at files n)
@@ -22,16 +22,16 @@ absent_read files None e = refl
 absent_read files (Some n) e = absurd (cc)
 
 -- what waits is acting_stage
-staged_held : (contents : List (List ℕ)) (k : ℕ) (base F : Files) → ((q : List ℕ) → IsSome (F q) → MayBePresent base q) → (q : List ℕ) → IsSome (with_staged k contents F q) → MayBePresent base q
+staged_held : (contents : List (List ℕ)) (k : ℕ) (base F : Files) → ((q : List ℕ) → IsSome (F q) → IsPresentOrOfJournal base q) → (q : List ℕ) → IsSome (with_staged k contents F q) → IsPresentOrOfJournal base q
 staged_held [] k base F acting_stage q some = acting_stage q some
 staged_held (b ∷ bs) k base F acting_stage q some = staged_held bs (k + 1) base (put_name F (stage_name k) b) (λ r has. at r has (name_cases r (stage_name k))) q some
   where
-    at : (r : List ℕ) → IsSome (put_name F (stage_name k) b r) → (r ≡ stage_name k) ⊎ (bytes_eq r (stage_name k) ≡ false) → MayBePresent base r
+    at : (r : List ℕ) → IsSome (put_name F (stage_name k) b r) → (r ≡ stage_name k) ⊎ (bytes_eq r (stage_name k) ≡ false) → IsPresentOrOfJournal base r
     at r has (inl is) = inr (inr (k, is))
     at r has (inr off) = acting_stage r (subst IsSome (put_name-off F (stage_name k) b r (off_name r (stage_name k) off)) has)
 
 module _ (stage : Staging) (contents : List (List ℕ)) (base : Files) (v : TreeState) (few : 1 + length contents < 2 ^ 64) (staged : IsStaged stage contents None base v) where
-  pub read_held : (q : List ℕ) → IsSome (v.names q) → MayBePresent base q
+  pub read_held : (q : List ℕ) → IsSome (v.names q) → IsPresentOrOfJournal base q
   read_held q some = staged_held contents 1 base base (λ r has. inl has) q (subst (λ (F : Files). IsSome (F q)) staged.reads (as_read v.files (v.names q) some))
 
   -- behind the last there is place for one more
@@ -49,7 +49,7 @@ module _ (stage : Staging) (contents : List (List ℕ)) (base : Files) (v : Tree
     folders = held_like base room.beside (put_name v.names (stage_name k) v.made) (λ q has. at q has (name_cases q (stage_name k)));
   }
     where
-      at : (q : List ℕ) → IsSome (put_name v.names (stage_name k) v.made q) → (q ≡ stage_name k) ⊎ (bytes_eq q (stage_name k) ≡ false) → MayBePresent base q
+      at : (q : List ℕ) → IsSome (put_name v.names (stage_name k) v.made q) → (q ≡ stage_name k) ⊎ (bytes_eq q (stage_name k) ≡ false) → IsPresentOrOfJournal base q
       at q has (inl is) = inr (inr (k, is))
       at q has (inr off) = read_held q (subst IsSome (put_name-off v.names (stage_name k) v.made q (off_name q (stage_name k) off)) has)
 

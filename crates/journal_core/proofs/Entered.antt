@@ -7,7 +7,7 @@ use Rattle.base_core.specs.Tree.{TreeState, File, bytes_at, files_by, files_of, 
 use Rattle.base_core.specs.Calls.{HoldsNow, ChangesHistory}
 use Rattle.base_core.specs.Crash.{Since}
 use Rattle.base_core.specs.Undone.{IsDurable, IsCrashImage, IsCrashMap}
-use Rattle.journal_core.specs.Committing.{HasCommittedIntent, IsCommitting, IsReadyToCommit}
+use Rattle.journal_core.specs.Committing.{HasCommittedIntent, IsCommitting, IsReadyToPublish}
 use Rattle.journal_core.specs.Acting.{acting_stage}
 use Rattle.journal_core.specs.Recovery.{Intent, IsStagedNameOf, StateDependsOn, after_actions, intent_name, intent_at, intent_of, is_staged, read_intent, recovered_files, recovered_files_by, stage_name, state_of, after_moves, without_names}
 use Rattle.journal_core.specs.Kept.{RecoversTo}
@@ -74,7 +74,7 @@ staged_shown : (a c : Bool) → a ≡ true → (a || c) ≡ false → ⊥
 staged_shown true c t f = cc (f, f)
 staged_shown false c t f = cc (t, t)
 
-module _ (intent : Intent) (base : Files) (made : ℕ) (v : TreeState) (ready : IsReadyToCommit intent base made v) where
+module _ (intent : Intent) (base : Files) (made : ℕ) (v : TreeState) (ready : IsReadyToPublish intent base made v) where
   abbrev pub entered_map : NameMap
   entered_map = move_name v.names (stage_name 0) intent_name ready.number
 
@@ -155,7 +155,7 @@ module _ (laws : CrashLaws) (ignored : List ℕ → Bool) (intent : Intent) (bas
   P = IsCommitting ignored G made start
 
   pub record Before (w : TreeState) : Type 0 where
-    ready : IsReadyToCommit intent base made w
+    ready : IsReadyToPublish intent base made w
     is_unchanged : StateIsUnchanged ignored start w
 
   pub before_moment : (w : TreeState) → Before w → P w
@@ -169,7 +169,7 @@ module _ (laws : CrashLaws) (ignored : List ℕ → Bool) (intent : Intent) (bas
   before_synced : (w : TreeState) → Before w → Once (after_sync_names w)
   before_synced w b = record { before = record { ready = ready_synced; is_unchanged = still_on ignored start w (after_sync_names w) b.is_unchanged (sync_still ignored w b.is_unchanged.is_durable) }; one = refl }
     where
-      ready_synced : IsReadyToCommit intent base made (after_sync_names w)
+      ready_synced : IsReadyToPublish intent base made (after_sync_names w)
       ready_synced = record {
         absent = b.ready.absent;
         no_staged_intent = b.ready.no_staged_intent;
@@ -244,7 +244,7 @@ module _ (laws : CrashLaws) (ignored : List ℕ → Bool) (intent : Intent) (bas
       only : (m : NameMap) → IsCrashMap (after_sync_names w) m → state_of ignored (files_by w m) ≡ state_of ignored G
       only m is = ap (λ (y : NameMap). state_of ignored (files_by w y)) is ∙ b.state
 
-  module _ (old rest : History) (is : old ≡ start ∷ rest) (is_durable : IsDurable (StateDependsOn ignored) start) (ready : IsReadyToCommit intent base made start) where
+  module _ (old rest : History) (is : old ≡ start ∷ rest) (is_durable : IsDurable (StateDependsOn ignored) start) (ready : IsReadyToPublish intent base made start) where
     pub begun : Runs P Before old old
     begun = run_begun P Before old start rest is (record { ready = ready; is_unchanged = still_self ignored start is_durable })
 
@@ -270,8 +270,8 @@ module _ (laws : CrashLaws) (ignored : List ℕ → Bool) (intent : Intent) (bas
       last_entered r runs moves = step_called Behind (HasCommittedIntent ignored G made) new r h runs.now moves entered
 
 -- what is read behind them
-module _ (intent : Intent) (base : Files) (made : ℕ) (start : TreeState) (ready : IsReadyToCommit intent base made start) where
-  ready_synced : (v : TreeState) → IsReadyToCommit intent base made v → IsReadyToCommit intent base made (after_sync_names v)
+module _ (intent : Intent) (base : Files) (made : ℕ) (start : TreeState) (ready : IsReadyToPublish intent base made start) where
+  ready_synced : (v : TreeState) → IsReadyToPublish intent base made v → IsReadyToPublish intent base made (after_sync_names v)
   ready_synced v b = record {
     absent = b.absent;
     no_staged_intent = b.no_staged_intent;
@@ -290,7 +290,7 @@ module _ (intent : Intent) (base : Files) (made : ℕ) (start : TreeState) (read
   abbrev After : TreeState → Type 0
   After = IsReadActing (acting_stage intent 0) (after_actions intent base)
 
-  acting_renamed : (place name : List ℕ) → place ≡ stage_name 0 → name ≡ intent_name → (v : TreeState) → IsReadyToCommit intent base made v → After (after_rename place name v)
+  acting_renamed : (place name : List ℕ) → place ≡ stage_name 0 → name ≡ intent_name → (v : TreeState) → IsReadyToPublish intent base made v → After (after_rename place name v)
   acting_renamed place name place_is name_is v b =
       subst (λ (p : List ℕ). After (after_rename p name v)) (sym place_is) (subst (λ (n : List ℕ). After (after_rename (stage_name 0) n v)) (sym name_is)
       (subst (λ o. After (move_at (stage_name 0) intent_name v o)) (sym b.there) (acting_at intent base made v b)))
@@ -299,8 +299,8 @@ module _ (intent : Intent) (base : Files) (made : ℕ) (start : TreeState) (read
       → ChangesHistory {E = E} IsAlwaysAllowed after_sync_names after_failed_call old h (Ok x) → ChangesHistory {E = E} (CanRename place name) (after_rename place name) (after_rename place name) h k (Ok y) → ChangesHistory IsAlwaysAllowed after_sync_names after_failed_call k new r
       → OnOk r (HoldsNow new (IsActing (acting_stage intent 0) (after_actions intent base)))
   last_acting place name place_is name_is old rest h k new is x y r first second last =
-      let a = step_now (IsReadyToCommit intent base made) (IsReadyToCommit intent base made) h x old (now_is old start rest (IsReadyToCommit intent base made) is ready) first ready_synced in
-      let b = step_now (IsReadyToCommit intent base made) After k y h a second (acting_renamed place name place_is name_is) in
+      let a = step_now (IsReadyToPublish intent base made) (IsReadyToPublish intent base made) h x old (now_is old start rest (IsReadyToPublish intent base made) is ready) first ready_synced in
+      let b = step_now (IsReadyToPublish intent base made) After k y h a second (acting_renamed place name place_is name_is) in
       step_called After (IsActing (acting_stage intent 0) (after_actions intent base)) new r k b last (acting_once_synced (acting_stage intent 0) (after_actions intent base))
 
   -- ---- at each moment at which the intent is read
@@ -308,26 +308,26 @@ module _ (intent : Intent) (base : Files) (made : ℕ) (start : TreeState) (read
   abbrev R : TreeState → Type 0
   R w = IsSome (w.names intent_name) → RecoversTo (after_actions intent base) w
 
-  unread_moment : (v : TreeState) → IsReadyToCommit intent base made v → R v
+  unread_moment : (v : TreeState) → IsReadyToPublish intent base made v → R v
   unread_moment v b some = absurd (some_none (v.names intent_name) b.absent some)
 
   module _ (old rest : History) (is : old ≡ start ∷ rest) where
-    read_begun : Runs R (IsReadyToCommit intent base made) old old
-    read_begun = run_begun R (IsReadyToCommit intent base made) old start rest is ready
+    read_begun : Runs R (IsReadyToPublish intent base made) old old
+    read_begun = run_begun R (IsReadyToPublish intent base made) old start rest is ready
 
     module _ {T E : Type 0} (h new : History) where
       pub read_sync_failed : (e : E) → ChangesHistory {T = T} IsAlwaysAllowed after_sync_names after_failed_call old new (Err e) → Since R old new
-      read_sync_failed e moves = run_failed R (IsReadyToCommit intent base made) old old new e read_begun moves (λ v may b. unread_moment v b)
+      read_sync_failed e moves = run_failed R (IsReadyToPublish intent base made) old old new e read_begun moves (λ v may b. unread_moment v b)
 
-      pub read_synced : (x : T) → ChangesHistory {E = E} IsAlwaysAllowed after_sync_names after_failed_call old new (Ok x) → Runs R (IsReadyToCommit intent base made) old new
-      read_synced x moves = run_done R (IsReadyToCommit intent base made) (IsReadyToCommit intent base made) old old new x read_begun moves unread_moment ready_synced
+      pub read_synced : (x : T) → ChangesHistory {E = E} IsAlwaysAllowed after_sync_names after_failed_call old new (Ok x) → Runs R (IsReadyToPublish intent base made) old new
+      read_synced x moves = run_done R (IsReadyToPublish intent base made) (IsReadyToPublish intent base made) old old new x read_begun moves unread_moment ready_synced
 
       pub read_last : (r : Result T E) → Runs R After old h → ChangesHistory IsAlwaysAllowed after_sync_names after_failed_call h new r → Since R old new
       read_last r runs moves = run_called R After old h new r runs moves (λ v a some. a.reads) (λ v may a some. a.reads)
 
     module _ {T E : Type 0} (place name : List ℕ) (place_is : place ≡ stage_name 0) (name_is : name ≡ intent_name) (h new : History) where
-      pub read_rename_failed : (e : E) → Runs R (IsReadyToCommit intent base made) old h → ChangesHistory {T = T} (CanRename place name) (after_rename place name) (after_rename place name) h new (Err e) → Since R old new
-      read_rename_failed e runs moves = run_failed R (IsReadyToCommit intent base made) old h new e runs moves (λ v may b some. (acting_renamed place name place_is name_is v b).reads)
+      pub read_rename_failed : (e : E) → Runs R (IsReadyToPublish intent base made) old h → ChangesHistory {T = T} (CanRename place name) (after_rename place name) (after_rename place name) h new (Err e) → Since R old new
+      read_rename_failed e runs moves = run_failed R (IsReadyToPublish intent base made) old h new e runs moves (λ v may b some. (acting_renamed place name place_is name_is v b).reads)
 
-      pub read_renamed : (x : T) → Runs R (IsReadyToCommit intent base made) old h → ChangesHistory {E = E} (CanRename place name) (after_rename place name) (after_rename place name) h new (Ok x) → Runs R After old new
-      read_renamed x runs moves = run_done R (IsReadyToCommit intent base made) After old h new x runs moves (λ v a some. a.reads) (acting_renamed place name place_is name_is)
+      pub read_renamed : (x : T) → Runs R (IsReadyToPublish intent base made) old h → ChangesHistory {E = E} (CanRename place name) (after_rename place name) (after_rename place name) h new (Ok x) → Runs R After old new
+      read_renamed x runs moves = run_done R (IsReadyToPublish intent base made) After old h new x runs moves (λ v a some. a.reads) (acting_renamed place name place_is name_is)

@@ -10,14 +10,14 @@ use Rattle.base_core.specs.Crash.{Since}
 use Rattle.base_core.specs.Undone.{IsDurable}
 use Rattle.base_core.specs.Restart.{EachMoment, SinceGivenEarlier}
 use Rattle.base_core.proofs.AtName.{name_cases, off_name}
-use Rattle.journal_core.specs.Committing.{HasCommittedIntent, IsCommitting, IsReadyToCommit, IsWritten}
+use Rattle.journal_core.specs.Committing.{HasCommittedIntent, IsCommitting, IsReadyToPublish, IsWritten}
 use Rattle.journal_core.specs.Filling.{synced_file}
 use Rattle.journal_core.specs.Acting.{acting_stage}
 use Rattle.journal_core.specs.Recovery.{Intent, EachCrashLeaves, StateDependsOn, after_actions, intent_name, read_intent, stage_name}
 use Rattle.journal_core.specs.Kept.{RecoversTo}
 use Rattle.journal_core.specs.Quiet.{StateIsUnchanged}
 use Rattle.journal_intent.specs.FreeNames.{HasFreeNames}
-use Rattle.journal_core.specs.Staged.{Staging, WasCommittedFor, AreStagingPathsFree, IsActing, MayBePresent, IsOldUntilCommit, IsStaged, CommittedBy, IsCommittedFor}
+use Rattle.journal_core.specs.Staged.{Staging, WasCommittedFor, AreStagingPathsFree, IsActing, IsPresentOrOfJournal, IsOldUntilCommit, IsStaged, CommittedBy, IsCommittedFor}
 use Rattle.journal_core.proofs.Again.{acting_as}
 use Rattle.journal_intent.proofs.AtName.{put_name-off, drop_name-off}
 use Rattle.journal_core.proofs.Beside.{can_make, held_like, read_held}
@@ -69,7 +69,7 @@ module _ (stage : Staging) (contents : List (List ℕ)) (base : Files) (v : Tree
   none_read : files_of v intent_name ≡ None
   none_read = no_intent_read stage contents base v staged
 
-  pub ready_of : (w : TreeState) → IsWritten place (synced_file file) v w → IsReadyToCommit stage.intent (files_of v) v.made w
+  pub ready_of : (w : TreeState) → IsWritten place (synced_file file) v w → IsReadyToPublish stage.intent (files_of v) v.made w
   ready_of w written = record {
     absent = written.names intent_name (λ e. stage_name_no_intent 0 (sym (e ∙ place_is))) ∙ absent_read v.files (v.names intent_name) none_read;
     no_staged_intent = ap (λ (n : List ℕ). bytes_at v.files (v.names n)) (sym place_is) ∙ ap (bytes_at v.files) written.absent;
@@ -99,8 +99,8 @@ module _ (stage : Staging) (contents : List (List ℕ)) (base : Files) (v : Tree
     abbrev Written : Type 0
     Written = IfObservable old (λ u. files_of u intent_name ≡ None → HoldsNow mid (IsWritten place (synced_file file) u))
 
-    ready_now : Written → HoldsNow mid (IsReadyToCommit stage.intent (files_of v) v.made)
-    ready_now written = now_map mid (IsWritten place (synced_file file) v) (IsReadyToCommit stage.intent (files_of v) v.made) (observable_at old v rest is (λ u. files_of u intent_name ≡ None → HoldsNow mid (IsWritten place (synced_file file) u)) written none_read) ready_of
+    ready_now : Written → HoldsNow mid (IsReadyToPublish stage.intent (files_of v) v.made)
+    ready_now written = now_map mid (IsWritten place (synced_file file) v) (IsReadyToPublish stage.intent (files_of v) v.made) (observable_at old v rest is (λ u. files_of u intent_name ≡ None → HoldsNow mid (IsWritten place (synced_file file) u)) written none_read) ready_of
 
     module _ (ignored : List ℕ → Bool) (is_durable : IsDurable (StateDependsOn ignored) v) (wrote : Wrote) where
       still_since : Since (StateIsUnchanged ignored v) old mid
@@ -113,13 +113,13 @@ module _ (stage : Staging) (contents : List (List ℕ)) (base : Files) (v : Tree
       write_moments = since_by (IsOldUntilCommit ignored G v) old mid still_way
 
       abbrev Waits : TreeState → Type 0
-      Waits u = StateIsUnchanged ignored v u × IsReadyToCommit stage.intent (files_of v) v.made u
+      Waits u = StateIsUnchanged ignored v u × IsReadyToPublish stage.intent (files_of v) v.made u
 
       waits_now : Written → HoldsNow mid Waits
-      waits_now written = now_both mid (StateIsUnchanged ignored v) (IsReadyToCommit stage.intent (files_of v) v.made) (now_since (StateIsUnchanged ignored v) old mid v rest is (still_self ignored v is_durable) still_since) (ready_now written)
+      waits_now written = now_both mid (StateIsUnchanged ignored v) (IsReadyToPublish stage.intent (files_of v) v.made) (now_since (StateIsUnchanged ignored v) old mid v rest is (still_self ignored v is_durable) still_since) (ready_now written)
 
       abbrev Enters : Type 0
-      Enters = IfObservable mid (λ u. (Y : List ℕ → Bool) (intent : Intent) (files : Files) (made : ℕ) → IsDurable (StateDependsOn Y) u → IsReadyToCommit intent files made u → Since (IsCommitting Y (after_actions intent files) made u) mid new)
+      Enters = IfObservable mid (λ u. (Y : List ℕ → Bool) (intent : Intent) (files : Files) (made : ℕ) → IsDurable (StateDependsOn Y) u → IsReadyToPublish intent files made u → Since (IsCommitting Y (after_actions intent files) made u) mid new)
 
       enter_way : Written → Enters → Since (λ w. (earlier : List TreeState) → IsOldUntilCommit ignored G v earlier w) old new
       enter_way written enters =
@@ -132,7 +132,7 @@ module _ (stage : Staging) (contents : List (List ℕ)) (base : Files) (v : Tree
       enter_moments written enters = since_by (IsOldUntilCommit ignored G v) old new (enter_way written enters)
 
       abbrev Entered : {T E : Type 0} → Result T E → Type 0
-      Entered r = IfObservable mid (λ u. (Y : List ℕ → Bool) (intent : Intent) (files : Files) (made : ℕ) → IsDurable (StateDependsOn Y) u → IsReadyToCommit intent files made u → OnOk r (HoldsNow new (HasCommittedIntent Y (after_actions intent files) made)))
+      Entered r = IfObservable mid (λ u. (Y : List ℕ → Bool) (intent : Intent) (files : Files) (made : ℕ) → IsDurable (StateDependsOn Y) u → IsReadyToPublish intent files made u → OnOk r (HoldsNow new (HasCommittedIntent Y (after_actions intent files) made)))
 
       entered_now : {T E : Type 0} (r : Result T E) → Written → Entered r → OnOk r (HoldsNow new (HasCommittedIntent ignored G v.made))
       entered_now r written entered =
@@ -165,11 +165,11 @@ module _ (stage : Staging) (contents : List (List ℕ)) (base : Files) (v : Tree
 
     -- what is read
     pub enter_acting : {T E : Type 0} (now : Staging) (r : Result T E) → now.intent ≡ stage.intent → now.acted ≡ 0 → Written
-        → IfObservable mid (λ u. (intent : Intent) (files : Files) (made : ℕ) → IsReadyToCommit intent files made u → OnOk r (HoldsNow new (IsActing (acting_stage intent 0) (after_actions intent files))))
+        → IfObservable mid (λ u. (intent : Intent) (files : Files) (made : ℕ) → IsReadyToPublish intent files made u → OnOk r (HoldsNow new (IsActing (acting_stage intent 0) (after_actions intent files))))
         → OnOk r (HoldsNow new (IsActing now G))
     enter_acting {T = T} {E = E} now r same acted_none written acting =
-        by r (by_now mid (IsReadyToCommit stage.intent (files_of v) v.made) (OnOk r (HoldsNow new (IsActing (acting_stage stage.intent 0) G))) (ready_now written)
-        (observable_map mid _ (λ u. IsReadyToCommit stage.intent (files_of v) v.made u → OnOk r (HoldsNow new (IsActing (acting_stage stage.intent 0) G))) acting (λ u t ready. t stage.intent (files_of v) v.made ready)))
+        by r (by_now mid (IsReadyToPublish stage.intent (files_of v) v.made) (OnOk r (HoldsNow new (IsActing (acting_stage stage.intent 0) G))) (ready_now written)
+        (observable_map mid _ (λ u. IsReadyToPublish stage.intent (files_of v) v.made u → OnOk r (HoldsNow new (IsActing (acting_stage stage.intent 0) G))) acting (λ u t ready. t stage.intent (files_of v) v.made ready)))
       where
         by : (s : Result T E) → OnOk s (HoldsNow new (IsActing (acting_stage stage.intent 0) G)) → OnOk s (HoldsNow new (IsActing now G))
         by (Ok x) at = now_map new (IsActing (acting_stage stage.intent 0) G) (IsActing now G) at (λ w. acting_as (acting_stage stage.intent 0) now G w (sym same) (sym acted_none))
@@ -192,12 +192,12 @@ module _ (stage : Staging) (contents : List (List ℕ)) (base : Files) (v : Tree
         (observable_at old v rest is (λ u. Unread u → Since Unread old mid) unread (absent_read v.files (v.names intent_name) none_read))
 
     pub enter_reads : Unreads → Written
-        → IfObservable mid (λ u. (intent : Intent) (files : Files) (made : ℕ) → IsReadyToCommit intent files made u → Since (λ w. IsSome (w.names intent_name) → RecoversTo (after_actions intent files) w) mid new)
+        → IfObservable mid (λ u. (intent : Intent) (files : Files) (made : ℕ) → IsReadyToPublish intent files made u → Since (λ w. IsSome (w.names intent_name) → RecoversTo (after_actions intent files) w) mid new)
         → Since R old new
     enter_reads unread written reads =
         since_on R old mid new (write_reads unread)
-        (by_now mid (IsReadyToCommit stage.intent (files_of v) v.made) (Since R mid new) (ready_now written)
-        (observable_map mid _ (λ u. IsReadyToCommit stage.intent (files_of v) v.made u → Since R mid new) reads (λ u t ready. t stage.intent (files_of v) v.made ready)))
+        (by_now mid (IsReadyToPublish stage.intent (files_of v) v.made) (Since R mid new) (ready_now written)
+        (observable_map mid _ (λ u. IsReadyToPublish stage.intent (files_of v) v.made u → Since R mid new) reads (λ u t ready. t stage.intent (files_of v) v.made ready)))
 
     -- ---- no misuse
     module _ (room : AreStagingPathsFree base) where
@@ -213,11 +213,11 @@ module _ (stage : Staging) (contents : List (List ℕ)) (base : Files) (v : Tree
         folders = held_like base room.beside (put_name (drop_name w.names place) name 0) (λ q has. at q has (name_cases q name));
       }
         where
-          at : (q : List ℕ) → IsSome (put_name (drop_name w.names place) name 0 q) → (q ≡ name) ⊎ (bytes_eq q name ≡ false) → MayBePresent base q
+          at : (q : List ℕ) → IsSome (put_name (drop_name w.names place) name 0 q) → (q ≡ name) ⊎ (bytes_eq q name ≡ false) → IsPresentOrOfJournal base q
           at q has (inl e) = inr (inl (e ∙ name_is))
           at q has (inr off) = behind (name_cases q place) (subst IsSome (put_name-off (drop_name w.names place) name 0 q (off_name q name off)) has)
             where
-              behind : (q ≡ place) ⊎ (bytes_eq q place ≡ false) → IsSome (drop_name w.names place q) → MayBePresent base q
+              behind : (q ≡ place) ⊎ (bytes_eq q place ≡ false) → IsSome (drop_name w.names place q) → IsPresentOrOfJournal base q
               behind (inl e) some = inr (inr (0, e ∙ place_is))
               behind (inr apart) some =
                   let ne = off_name q place apart in

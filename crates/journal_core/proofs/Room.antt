@@ -6,7 +6,7 @@ use Rattle.base_core.specs.Files.{Files, put_name, drop_name}
 use Rattle.base_core.specs.Tree.{TreeState, files_of, CanRename}
 use Rattle.base_core.proofs.AtName.{name_cases, off_name}
 use Rattle.journal_core.specs.Recovery.{Intent, intent_name, intent_at, intent_of, move_if, recovered_files, recovered_files_by, stage_name, after_moves, without_names}
-use Rattle.journal_core.specs.Staged.{Staging, IsActing, MayBePresent, AreJournalPathsFree}
+use Rattle.journal_core.specs.Staged.{Staging, IsActing, IsPresentOrOfJournal, AreJournalPathsFree}
 use Rattle.journal_intent.proofs.AtName.{put_name-at, put_name-off, drop_name-off}
 use Rattle.journal_intent.proofs.StageNames.{stage_name_no_intent}
 use Rattle.journal_core.proofs.Beside.{held_like, as_read}
@@ -37,7 +37,7 @@ unstaged_kept (name ∷ names) k F q some = ⊎_elim
     (name_cases q (stage_name k))
 
 -- what is there, and is not removed, stays there
-pub recovered_held : (F : Files) (intent : Intent) (q : List ℕ) → intent_of F ≡ Some intent → IsNoneOf q intent.removals → IsSome (F q) → MayBePresent (recovered_files F) q
+pub recovered_held : (F : Files) (intent : Intent) (q : List ℕ) → intent_of F ≡ Some intent → IsNoneOf q intent.removals → IsSome (F q) → IsPresentOrOfJournal (recovered_files F) q
 recovered_held F intent q has out some = ⊎_elim
     (λ is. inr (inl is))
     (λ off. ⊎_elim
@@ -56,23 +56,23 @@ module _ (stage : Staging) (files : Files) (v : TreeState) (place name : List �
   out = proper.apart name (among_at stage.intent.writes j name at)
 
   -- every name that is there is acting_stage
-  name_held : (q : List ℕ) → IsSome (v.names q) → MayBePresent files q
+  name_held : (q : List ℕ) → IsSome (v.names q) → IsPresentOrOfJournal files q
   name_held q some = by (list_any (bytes_eq q) stage.intent.removals) refl
     where
-      by : (b : Bool) → list_any (bytes_eq q) stage.intent.removals ≡ b → MayBePresent files q
+      by : (b : Bool) → list_any (bytes_eq q) stage.intent.removals ≡ b → IsPresentOrOfJournal files q
       by true is =
           let none = removal_absent stage files v acting (omega (arith, behind)) q is in
           let here = as_read v.files (v.names q) some in
           absurd (cc (none, here))
-      by false is = subst (λ (F : Files). MayBePresent F q) acting.reads (recovered_held (files_of v) stage.intent q acting.located is (as_read v.files (v.names q) some))
+      by false is = subst (λ (F : Files). IsPresentOrOfJournal F q) acting.reads (recovered_held (files_of v) stage.intent q acting.located is (as_read v.files (v.names q) some))
 
-  target_held : MayBePresent files name
+  target_held : IsPresentOrOfJournal files name
   target_held =
       let small : k < 2 ^ 64 = (let few = proper.few in omega (arith, number, within, few)) in
       let numbered = subst (λ i. IsNumbered 1 stage.intent.writes i name) (omega (arith, number)) (numbered_at stage.intent.writes 1 j name proper.writes proper.once at) in
       let same = recovered-moved (files_of v) stage.intent k name acting.located proper small open_name numbered out in
       let waits : IsSome (files_of v (stage_name k)) = subst (λ (p : List ℕ). IsSome (files_of v p)) place_is (as_read v.files (v.names place) there) in
-      subst (λ (F : Files). MayBePresent F name) (same ∙ acting.reads)
+      subst (λ (F : Files). IsPresentOrOfJournal F name) (same ∙ acting.reads)
       (recovered_held (moved (files_of v) (stage_name k) name) stage.intent name
       (ap intent_at (move_if-off (files_of v) (stage_name k) name (files_of v (stage_name k)) intent_name (λ e. stage_name_no_intent k (sym e)) (λ e. open_name.no_intent (sym e))) ∙ acting.located)
       out (there_now (files_of v (stage_name k)) waits))
@@ -92,6 +92,6 @@ module _ (stage : Staging) (files : Files) (v : TreeState) (place name : List �
       fewer true o some = absurd (cc (some))
       fewer false o some = some
 
-      at_name : (q : List ℕ) → IsSome (put_name (drop_name v.names place) name 0 q) → (q ≡ name) ⊎ (bytes_eq q name ≡ false) → MayBePresent files q
-      at_name q has (inl is) = subst (MayBePresent files) (sym is) target_held
+      at_name : (q : List ℕ) → IsSome (put_name (drop_name v.names place) name 0 q) → (q ≡ name) ⊎ (bytes_eq q name ≡ false) → IsPresentOrOfJournal files q
+      at_name q has (inl is) = subst (IsPresentOrOfJournal files) (sym is) target_held
       at_name q has (inr off) = name_held q (fewer (bytes_eq q place) (v.names q) (subst IsSome (put_name-off (drop_name v.names place) name 0 q (off_name q name off)) has))

@@ -6,7 +6,7 @@ use Rattle.base_core.specs.Tree.{TreeState, files_of}
 use Rattle.base_core.proofs.AtName.{name_cases, off_name}
 use Rattle.journal_core.specs.Recovery.{intent_name, state_of}
 use Rattle.journal_core.specs.Replacing.{CanAddOutputNames, scratch_of}
-use Rattle.journal_core.specs.Staged.{WasCommittedFor, AreStagingPathsFree, MayBePresent}
+use Rattle.journal_core.specs.Staged.{WasCommittedFor, AreStagingPathsFree, IsPresentOrOfJournal}
 use Rattle.journal_intent.proofs.AtName.{put_name-off}
 use Rattle.journal_intent.specs.FreeNames.{IsUsedByJournal}
 
@@ -18,7 +18,7 @@ pub none_published : (ignored : List ℕ → Bool) (files : Files) (made : ℕ) 
 none_published ignored files made v none (inl published) = let there = published.1 in cc (none, there)
 none_published ignored files made v none (inr published) = published
 
-taken : (q : List ℕ) → MayBePresent no_names q → IsUsedByJournal q
+taken : (q : List ℕ) → IsPresentOrOfJournal no_names q → IsUsedByJournal q
 taken q (inl some) = absurd (cc (some))
 taken q (inr either) = either
 

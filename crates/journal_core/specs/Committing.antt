@@ -25,7 +25,7 @@ pub record IsWritten (place : List ℕ) (file : File) (start v : TreeState) : Ty
 -- a moment before the publishing at which all files are staged: the intent under the name with number
 -- 0, and the files of its writes; `base` are the files as read without the intent, and `made` is how
 -- many files were made before it
-pub record IsReadyToCommit (intent : Intent) (base : Files) (made : ℕ) (v : TreeState) : Type 0 where
+pub record IsReadyToPublish (intent : Intent) (base : Files) (made : ℕ) (v : TreeState) : Type 0 where
   -- no intent is under its name
   pub absent : v.names intent_name ≡ None
   -- there is no other file under the name of the staged intent

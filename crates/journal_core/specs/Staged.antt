@@ -168,13 +168,13 @@ pub record CommittedBy (ignored : List ℕ → Bool) (files : Files) (start : Tr
 -- ---- free paths
 
 -- a name that is present in these files, or that the intent or a staged file may get
-abbrev pub MayBePresent : Files → List ℕ → Type 0
-MayBePresent files q =
+abbrev pub IsPresentOrOfJournal : Files → List ℕ → Type 0
+IsPresentOrOfJournal files q =
     IsSome (files q) ⊎ ((q ≡ intent_name) ⊎ ((k : ℕ) × (q ≡ stage_name k)))
 
 -- no name becomes a folder of another if the intent and all staged files are added
 pub record AreJournalPathsFree (files : Files) : Type 0 where
-  pub folders : (p q : List ℕ) → IsFolderOf p q → MayBePresent files p → MayBePresent files q → ⊥
+  pub folders : (p q : List ℕ) → IsFolderOf p q → IsPresentOrOfJournal files p → IsPresentOrOfJournal files q → ⊥
 
 -- nothing is staged yet, and no name becomes a folder of another if the intent and all staged files are
 -- added

@@ -10,7 +10,7 @@ ghost use Rattle.base_core.specs.Files.{Files};
 ghost use Rattle.base_core.specs.Restart.{SinceGivenEarlier};
 ghost use Rattle.base_core.specs.Tree.{CanCreate, CanRename, files_of};
 ghost use Rattle.journal_core.specs.Acting.{acting_stage, full_stage};
-ghost use Rattle.journal_core.specs.Committing.{HasCommittedIntent, IsCommitting, IsReadyToCommit, IsWritten};
+ghost use Rattle.journal_core.specs.Committing.{HasCommittedIntent, IsCommitting, IsReadyToPublish, IsWritten};
 ghost use Rattle.journal_core.specs.Filling.{synced_file};
 ghost use Rattle.journal_core.specs.Kept.{KeepsFilesExcept, KeepsMapsExcept, NamesAreDurableExcept, RecoversTo};
 ghost use Rattle.journal_core.specs.Quiet.{StateIsUnchanged};
@@ -121,22 +121,22 @@ fn enter<T: Tree>(tree: &mut T, place: &Name, name: &Name) -> Result<(), Disk>
     requires name { name.now ≡ intent_name }
     ensures moments { IfObservable (T.history tree.old) (λ v. (ignored : List ℕ → Bool)
         (intent : Intent) (base : Files) (made : ℕ) → IsDurable (StateDependsOn ignored) v
-        → IsReadyToCommit intent base made v
+        → IsReadyToPublish intent base made v
         → Since (IsCommitting ignored (after_actions intent base) made v) (T.history tree.old)
         (T.history tree.new)) }
     ensures entered { IfObservable (T.history tree.old) (λ v. (ignored : List ℕ → Bool)
         (intent : Intent) (base : Files) (made : ℕ) → IsDurable (StateDependsOn ignored) v
-        → IsReadyToCommit intent base made v → OnOk result (HoldsNow (T.history tree.new)
+        → IsReadyToPublish intent base made v → OnOk result (HoldsNow (T.history tree.new)
         (HasCommittedIntent ignored (after_actions intent base) made))) }
     ensures acting { IfObservable (T.history tree.old) (λ v. (intent : Intent) (base : Files)
-        (made : ℕ) → IsReadyToCommit intent base made v → OnOk result (HoldsNow (T.history tree.new)
+        (made : ℕ) → IsReadyToPublish intent base made v → OnOk result (HoldsNow (T.history tree.new)
         (IsActing (acting_stage intent 0) (after_actions intent base)))) }
     ensures last { IfObservable (T.history tree.old) (λ v. v.names intent_name ≡ None
         → Since (λ w. IsSome (w.names intent_name)
         → NamesAreDurableExcept (intent_name ∷ stage_name 0 ∷ []) w)
         (T.history tree.old) (T.history tree.new)) }
     ensures reads { IfObservable (T.history tree.old) (λ v. (intent : Intent) (base : Files)
-        (made : ℕ) → IsReadyToCommit intent base made v → Since (λ w. IsSome (w.names intent_name)
+        (made : ℕ) → IsReadyToPublish intent base made v → Since (λ w. IsSome (w.names intent_name)
         → RecoversTo (after_actions intent base) w) (T.history tree.old) (T.history tree.new)) }
     ensures others { IfObservable (T.history tree.old) (λ v.
         Since (KeepsFilesExcept (λ q. (q ≡ intent_name) ⊎ (q ≡ stage_name 0)) v)

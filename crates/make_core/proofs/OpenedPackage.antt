@@ -5,7 +5,7 @@ use Rattle.std.proofs.lemmas.List.Elements.{All-drop, All-take}
 use Rattle.base_core.specs.declared.cause.Cause.{Cause}
 use Rattle.base_core.specs.declared.cause.Cause.TheVariants.{BlockOrder, Truncated}
 use Rattle.base_core.proofs.Causes.{first_none, second_none}
-use Rattle.adb_block.specs.Piece.{Piece, comes_after}
+use Rattle.adb_block.specs.Piece.{Piece, may_be_next_kind}
 use Rattle.adb_block.specs.Framing.{HeadFields, Step, ended, failed, block, head_of, step_by_head, kind_of_number, step_by_order, step_by_size, next_step}
 use Rattle.adb_block.specs.Header.{header_of}
 use Rattle.adb_block.specs.Reading.{Reading, reading_from, reading_of, reading_by_step}
@@ -58,7 +58,7 @@ sized_first at bytes head kind h =
 
 ordered_first : (at : ℕ) (bytes : List ℕ) (head : HeadFields) (kind : Option BlockKind) → AreBytes bytes → IsFirst (step_by_order None at bytes head kind)
 ordered_first at bytes head None h = failed_first (BlockOrder at)
-ordered_first at bytes head (Some kind) h = either (comes_after None kind) _ _ (sized_first at bytes head kind h) (failed_first (BlockOrder at))
+ordered_first at bytes head (Some kind) h = either (may_be_next_kind None kind) _ _ (sized_first at bytes head kind h) (failed_first (BlockOrder at))
 
 headed_first : (at : ℕ) (bytes : List ℕ) (head : Option HeadFields) → AreBytes bytes → IsFirst (step_by_head None at bytes head)
 headed_first at bytes None h = failed_first (Truncated at)

@@ -23,7 +23,7 @@ use Rattle.make_index.specs.make_info.Information.{replaces_priority}
 use Rattle.make_package.specs.package_files.Folders.{FolderListing, all_folders_above, folders_of, last_part_of, listing_of, names_in_folder, path_below}
 use Rattle.make_package.specs.Making.{made_package}
 use Rattle.make_package.specs.package_files.Package.{Source, SourceFolder, value_of_file, value_of_folder, kind_of_file}
-use Rattle.make_package.specs.package_files.Sources.{AreNamesFor, file_at, folder_at, folders_below, found_at, source_folders_from, sources_from, texts_of, values_with}
+use Rattle.make_package.specs.package_files.Sources.{AreNamesBelowFirst, file_at, folder_at, folders_below, found_at, source_folders_from, sources_from, texts_of, values_with}
 use Rattle.make_index.specs.pkg_core.Whole.{Packed}
 use Rattle.make_core.specs.FilesBelow.{HasFilesBelow, IsFileBelow, name_below}
 use Rattle.make_core.proofs.Apart.{Tells}
@@ -172,7 +172,7 @@ pub made_below : OneFolder → Holds IsReadBack → Sizes → Exact → Needs �
     → values_with FILES command.values ≡ folder ∷ others → AreNamesBelow (without_dot folder.text) names → made_package command names (λ n name. files name) ≡ Ok bytes → length bytes < 2 ^ 64
     → HasFilesBelow files (without_dot folder.text) names (root_value Package (payload_in bytes))
 made_below law holds sizes exact needs tells command names files bytes folder others given below e short =
-    let named : AreNamesFor (values_with FILES command.values) names = subst (λ (l : List OptionValue). AreNamesFor l names) (sym given) below in
+    let named : AreNamesBelowFirst (values_with FILES command.values) names = subst (λ (l : List OptionValue). AreNamesBelowFirst l names) (sym given) below in
     let made = made_of IsReadBack holds sizes exact needs tells command names (λ n name. files name) bytes named e short in
     let read : folders_below (λ n name. files name) (length made.scripts) (folder ∷ others) names ≡ Ok made.sources =
     ap (λ (l : List OptionValue). folders_below (λ n name. files name) (length made.scripts) l names) (sym given) ∙ made.sources_read in

@@ -5,7 +5,7 @@ use Rattle.std.proofs.lemmas.List.Elements.{All-take, All-drop}
 use Rattle.base_core.specs.declared.cause.Cause.{Cause}
 use Rattle.adb_block.specs.declared.block.BlockKind.{BlockKind}
 use Rattle.adb_block.specs.Framing.{HeadFields, Step, ended, failed, block, step_by_size, step_by_order, step_by_head, step_at_end, next_step, head_of, kind_of_number}
-use Rattle.adb_block.specs.Piece.{Piece, comes_after, least_payload, padding_of}
+use Rattle.adb_block.specs.Piece.{Piece, may_be_next_kind, least_payload, padding_of}
 use Rattle.adb_block.specs.Header.{header_of}
 use Rattle.adb_block.specs.Reading.{Reading, reading_by_step, reading_from, reading_of}
 use Rattle.pkg_core.specs.adb_schema.Soundness.{first_payload, payload_after_header, payload_in}
@@ -30,7 +30,7 @@ module _ (P : ℕ → Type 0) where
 
   ordered_all : (last : Option BlockKind) (at : ℕ) (bytes : List ℕ) (head : HeadFields) (kind : Option BlockKind) → All P bytes → PieceAll P (step_by_order last at bytes head kind)
   ordered_all last at bytes head None h = tt
-  ordered_all last at bytes head (Some kind) h = if_step (comes_after last kind) _ _ (sized_all at bytes head kind h) tt
+  ordered_all last at bytes head (Some kind) h = if_step (may_be_next_kind last kind) _ _ (sized_all at bytes head kind h) tt
 
   headed_all : (last : Option BlockKind) (at : ℕ) (bytes : List ℕ) (head : Option HeadFields) → All P bytes → PieceAll P (step_by_head last at bytes head)
   headed_all last at bytes None h = tt

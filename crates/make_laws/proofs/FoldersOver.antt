@@ -14,7 +14,7 @@ use Rattle.command_core.specs.declared.values.OptionValue.{OptionValue}
 use Rattle.make_core.specs.make_info.Reads.{Reads}
 use Rattle.make_core.specs.package_files.Folders.{before_slashes, all_folders_above, folders_of, folders_above, is_slash, listing_of, path_below}
 use Rattle.make_core.specs.package_files.Package.{SourceFolder}
-use Rattle.make_core.specs.package_files.Sources.{AreNamesFor, folders_below, values_with}
+use Rattle.make_core.specs.package_files.Sources.{AreNamesBelowFirst, folders_below, values_with}
 use Rattle.make_core.specs.FilesBelow.{name_below}
 use Rattle.make_core.proofs.ListedNames.{AreListed, below_is, listed_in}
 use Rattle.make_core.proofs.SoundPackage.{are_listed}
@@ -96,11 +96,11 @@ names_read read n place dir names sources v vs e =
     let fs : List (List ℕ) = all_folders_above (map (path_below (without_dot v.text)) names) in
     listed_names (without_dot v.text) names fs sources (folders_named v.place read n (map (listing_of (without_dot v.text) names) fs) sources e)
 
-pub folders_over_paths : AreFolderNames → (command : CommandLine) (names : List (List ℕ)) (read : Reads) (pkg : Plain) (v : OptionValue) (vs : List OptionValue) → AreNamesFor (values_with FILES command.values) names
+pub folders_over_paths : AreFolderNames → (command : CommandLine) (names : List (List ℕ)) (read : Reads) (pkg : Plain) (v : OptionValue) (vs : List OptionValue) → AreNamesBelowFirst (values_with FILES command.values) names
     → values_with FILES command.values ≡ v ∷ vs → IsMadeFrom command names read pkg → HasJustFoldersAbove (without_dot v.text) names pkg
 folders_over_paths law command names read pkg v vs below given m =
     let dir : List ℕ = without_dot v.text in
-    let named : AreNamesFor (v ∷ vs) names = subst (λ (l : List OptionValue). AreNamesFor l names) given below in
+    let named : AreNamesBelowFirst (v ∷ vs) names = subst (λ (l : List OptionValue). AreNamesBelowFirst l names) given below in
     let read_of : folders_below read (length m.scripts) (v ∷ vs) names ≡ Ok m.sources =
     ap (λ (l : List OptionValue). folders_below read (length m.scripts) l names) (sym given) ∙ m.sources_read in
     names_over dir names (are_listed dir names named.each) law pkg

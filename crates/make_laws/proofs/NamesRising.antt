@@ -21,7 +21,7 @@ use Rattle.command_core.specs.declared.values.OptionValue.{OptionValue}
 use Rattle.make_core.specs.make_info.Reads.{Reads}
 use Rattle.make_core.specs.package_files.Folders.{FolderListing, all_folders_above, folders_of, folders_above, last_part_of, listing_of, names_in_folder, path_below}
 use Rattle.make_core.specs.package_files.Package.{Source, SourceFolder, kind_of_file, value_of_file, value_of_folder}
-use Rattle.make_core.specs.package_files.Sources.{AreNamesFor, file_at, folder_at, folders_below, found_at, source_folders_from, sources_from, values_with}
+use Rattle.make_core.specs.package_files.Sources.{AreNamesBelowFirst, file_at, folder_at, folders_below, found_at, source_folders_from, sources_from, values_with}
 use Rattle.make_core.proofs.Apart.{Rises, cmp, in_order_rises, rises_from_pairs}
 use Rattle.make_core.proofs.ListedNames.{AllOf, AreListed, after_ok, each_read, filter_in, listed_in, recovered, stands_in}
 use Rattle.make_core.proofs.PackageFiles.{files_stand, folder_name_stands, name_stands}
@@ -149,7 +149,7 @@ files_rise dir names (f ∷ fs) (s ∷ ss) all rises h =
 abbrev AreInOrder : List SourceFolder → Type 0
 AreInOrder sources = IsRising (names_of sources) × All HasFilesRising (map value_of_folder sources)
 
-sources_in_order : (read : Reads) (n : ℕ) (values : List OptionValue) (names : List (List ℕ)) (sources : List SourceFolder) → AreNamesFor values names → folders_below read n values names ≡ Ok sources → AreInOrder sources
+sources_in_order : (read : Reads) (n : ℕ) (values : List OptionValue) (names : List (List ℕ)) (sources : List SourceFolder) → AreNamesBelowFirst values names → folders_below read n values names ≡ Ok sources → AreInOrder sources
 unfolding folders_of
 sources_in_order read n [] names sources below e =
     let same : [] ≡ sources = cc (e) in
@@ -162,7 +162,7 @@ sources_in_order read n (v ∷ vs) names sources below e =
       files_rise dir names fs sources (are_listed dir names below.each) (rises_from_pairs names below.rising) are,
     )
 
-pub in_byte_order : (command : CommandLine) (names : List (List ℕ)) (read : Reads) (pkg : Plain) → AreNamesFor (values_with FILES command.values) names → IsMadeFrom command names read pkg → IsInByteOrder pkg
+pub in_byte_order : (command : CommandLine) (names : List (List ℕ)) (read : Reads) (pkg : Plain) → AreNamesBelowFirst (values_with FILES command.values) names → IsMadeFrom command names read pkg → IsInByteOrder pkg
 in_byte_order command names read pkg below m =
     let are = folders_are command names read pkg m in
     let order = sources_in_order read (length m.scripts) (values_with FILES command.values) names m.sources below m.sources_read in

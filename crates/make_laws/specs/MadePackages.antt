@@ -17,13 +17,13 @@ use Rattle.command_core.specs.declared.values.OptionValue.{OptionValue}
 use Rattle.make_core.specs.FilesBelow.{name_below}
 use Rattle.make_core.specs.make_info.Reads.{Reads}
 use Rattle.make_core.specs.make_package.Making.{made_package}
-use Rattle.make_core.specs.package_files.Sources.{AreNamesFor, values_with}
+use Rattle.make_core.specs.package_files.Sources.{AreNamesBelowFirst, values_with}
 use Rattle.make_laws.specs.NamedFields.{IsAccessOfRoot, entries_named, field_named}
 
 -- `mkpkg` makes these bytes, fewer than 2^64, from names below the given folder
 pub record IsMadePackage (command : CommandLine) (names : List (List ℕ)) (read : Reads)
     (bytes : List ℕ) : Type 0 where
-  pub below : AreNamesFor (values_with FILES command.values) names
+  pub below : AreNamesBelowFirst (values_with FILES command.values) names
   pub made : made_package command names read ≡ Ok bytes
   pub short : length bytes < 2 ^ 64
 

@@ -18,7 +18,7 @@ use Rattle.package_files.specs.adb_schema.declared.read.TheConstants.{PACKAGE_WO
 use Rattle.package_files.specs.adb_write.Canonical.{PayloadCounts, canonical, or_overflow, overflow_of, written_of}
 use Rattle.package_files.specs.adb_write.File.{adb_piece, file_of}
 use Rattle.package_files.specs.pkg_core.Contents.{Contents}
-use Rattle.command_core.specs.Sound.{value_rules, IsCommand, are_apart, rule_for, is_value_by, are_values}
+use Rattle.command_core.specs.Sound.{value_rules, IsCommand, may_both_be_given, rule_for, is_value_by, are_values}
 use Rattle.command_core.specs.declared.values.ValueRule.{ValueRule}
 use Rattle.command_core.specs.Command.{CommandLine}
 use Rattle.command_core.specs.Values.{first_value, script_file, script_type, script_types}
@@ -64,8 +64,8 @@ values_allowed law command values h e is =
 
 first_two : (options : List ValueRule) (v : OptionValue) (vs : List OptionValue) → are_values options (v ∷ vs) ≡ true → (is_value_by (rule_for options v.letter) v.text ≡ true) × (are_values options vs ≡ true)
 first_two options v vs h =
-    let parts = and_parts (is_value_by (rule_for options v.letter) v.text && list_all (are_apart options v) vs) (are_values options vs) h in
-    ((and_parts (is_value_by (rule_for options v.letter) v.text) (list_all (are_apart options v) vs) parts.0).0, parts.1)
+    let parts = and_parts (is_value_by (rule_for options v.letter) v.text && list_all (may_both_be_given options v) vs) (are_values options vs) h in
+    ((and_parts (is_value_by (rule_for options v.letter) v.text) (list_all (may_both_be_given options v) vs) parts.0).0, parts.1)
 
 -- the value of the option for scripts gives a file
 pub script_allowed : (vs : List OptionValue) (i : ℕ) (v : OptionValue) → are_values (value_rules Mkpkg) vs ≡ true → slice_get vs i ≡ Some v → v.letter ≡ SCRIPT → is_file (script_file v.text) ≡ true

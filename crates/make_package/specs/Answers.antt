@@ -16,7 +16,7 @@ use Rattle.package_files.specs.make_info.declared.fault.MakeFault.{MakeFault}
 use Rattle.package_files.specs.make_info.declared.fault.MakeFault.TheVariants.{Disk, Memory}
 use Rattle.make_package.specs.Making.{made_package}
 use Rattle.package_files.specs.Runs.{Explains}
-use Rattle.package_files.specs.Sources.{AreNamesFor, values_with}
+use Rattle.package_files.specs.Sources.{AreNamesBelowFirst, values_with}
 
 -- ---- parts of a run
 
@@ -60,7 +60,7 @@ OnRefusal fault P = P (Err fault)
 pub record IsMadeOf (history : List TreeState) (command : CommandLine)
     (made : Result (List ℕ) MakeFault) : Type 0 where
   pub names : List (List ℕ)
-  pub named : AreNamesFor (values_with FILES command.values) names
+  pub named : AreNamesBelowFirst (values_with FILES command.values) names
   pub below : IfObservable history (λ v. AreBelow (values_with FILES command.values) v names)
   pub reads : Explains history (λ read. made_package command names read ≡ made)
 
@@ -79,6 +79,6 @@ pub record IsMadeIn (command : CommandLine) (v : TreeState) (made : Result (List
 -- `made` is made from a command, some names below its folder and some reads
 pub record IsMadeBySome (command : CommandLine) (made : Result (List ℕ) MakeFault) : Type 0 where
   pub names : List (List ℕ)
-  pub named : AreNamesFor (values_with FILES command.values) names
+  pub named : AreNamesBelowFirst (values_with FILES command.values) names
   pub read : Reads
   pub is : made_package command names read ≡ made

@@ -23,7 +23,7 @@ use Rattle.make_core.specs.make_package.Making.{container_unless, made_package, 
 use Rattle.make_core.specs.make_info.Output.{output_name}
 use Rattle.make_core.specs.package_files.Package.{Script, Source, SourceFolder, contents_of_folders, installed_size, value_of_package}
 use Rattle.make_core.specs.make_index.Files.{FindOnlyFiles}
-use Rattle.make_core.specs.package_files.Sources.{AreNamesFor, and_then, each_from, file_at, sources_from, folder_at, folders_below, found_at, values_with, script_at, scripts_from, texts_of}
+use Rattle.make_core.specs.package_files.Sources.{AreNamesBelowFirst, and_then, each_from, file_at, sources_from, folder_at, folders_below, found_at, values_with, script_at, scripts_from, texts_of}
 use Rattle.make_core.specs.make_info.Reads.{Reads}
 use Rattle.make_core.specs.make_info.declared.fault.MakeFault.{MakeFault}
 use Rattle.make_core.specs.make_info.declared.fault.MakeFault.TheVariants.{FileMissing, FileBad, InfoBad, TooLarge, Disk, Memory}
@@ -51,7 +51,7 @@ use Rattle.outcome.specs.Work.{recovery_fault, work_files}
 
 -- a package that is made of names below its folder is sound, and so is an index of files
 abbrev pub SoundPackage : Type 0
-SoundPackage = (command : CommandLine) (names : List (List ℕ)) (read : Reads) (bytes : List ℕ) → AreNamesFor (values_with FILES command.values) names → made_package command names read ≡ Ok bytes → length bytes < 2 ^ 64 → container_fault bytes ≡ None
+SoundPackage = (command : CommandLine) (names : List (List ℕ)) (read : Reads) (bytes : List ℕ) → AreNamesBelowFirst (values_with FILES command.values) names → made_package command names read ≡ Ok bytes → length bytes < 2 ^ 64 → container_fault bytes ≡ None
 
 abbrev pub SoundIndex : Type 0
 SoundIndex = (command : CommandLine) (read : Reads) (bytes : List ℕ) → FindOnlyFiles read 0 command.operands → made_index command read ≡ Ok bytes → container_fault bytes ≡ None
@@ -69,7 +69,7 @@ names_below folder files names good are = record {
   each = All-weaker (Contains names) (IsNameBelow folder) (λ q here. name_below folder files good q ((are.each q).0 here)) names (All-contains_itself names);
 }
 
-names_for : (values : List OptionValue) (files : Files) (names : List (List ℕ)) → AreNamedFiles files → AreNamesBelowOption values files names → AreNamesFor values names
+names_for : (values : List OptionValue) (files : Files) (names : List (List ℕ)) → AreNamedFiles files → AreNamesBelowOption values files names → AreNamesBelowFirst values names
 names_for [] files names good are = tt
 names_for (folder ∷ values) files names good are = names_below (without_dot folder.text) files names good are
 

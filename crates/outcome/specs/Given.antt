@@ -12,7 +12,7 @@ use Rattle.engine_core.specs.Changed.{IsClashFor, IsClashForAmong}
 use Rattle.engine_core.specs.Choice.{IsChoiceFrom}
 use Rattle.engine_core.specs.Selecting.{pool_for}
 use Rattle.make_core.specs.make_info.Reads.{Reads}
-use Rattle.make_core.specs.package_files.Sources.{AreNamesFor, values_with}
+use Rattle.make_core.specs.package_files.Sources.{AreNamesBelowFirst, values_with}
 use Rattle.tell_core.specs.path_clashes.Clash.{NamePair}
 use Rattle.outcome.specs.Effect.{Effect, Changes, effect_of}
 use Rattle.outcome.specs.Make.{AreNamesBelowOption}
@@ -65,7 +65,7 @@ pub record IsGiven (command : CommandLine) (read : Reads) (files : Files) (given
 -- names that an applet may list: `mkpkg` some below its folder, in byte order and each once, the others
 -- none
 abbrev pub MayBeListedFor : Applet → CommandLine → List (List ℕ) → Type 0
-MayBeListedFor Mkpkg command names = AreNamesFor (values_with FILES command.values) names
+MayBeListedFor Mkpkg command names = AreNamesBelowFirst (values_with FILES command.values) names
 MayBeListedFor other command names = names ≡ []
 
 -- the first clash of names after a command among some present files; only a change has one

@@ -19,7 +19,7 @@ use Rattle.change_files.specs.db_core.Seen.{members_of, packages_of}
 use Rattle.path_claim_lists.specs.path_claims.Claims.{PathClaim, claim_cmp, is_of_path}
 use Rattle.path_claim_lists.specs.path_clashes.Clash.{NameChange}
 use Rattle.path_claim_lists.specs.path_clashes.ClashSeen.{clash_seen}
-use Rattle.path_claim_lists.specs.path_clashes.FirstClash.{IsClashOf, MayBeClashOf}
+use Rattle.path_claim_lists.specs.path_clashes.FirstClash.{IsClashOf, IsClashOverSomeFiles}
 use Rattle.path_claim_lists.specs.path_clashes.declared.clash.Clash.{Clash}
 use Rattle.path_claim_lists.specs.Once.{HasFirsts}
 use Rattle.path_claim_lists.proofs.Firsts.{paths}
@@ -105,10 +105,10 @@ clash_is change claims coming firsts parts (v ∷ earlier) are counts lets c l (
 
 pub clash_may : (change : Change) (parts : Parts) (counts lets : List ℕ → Bool)
     → ((name : List ℕ) → counts name ≡ list_any (bytes_eq name) (sorted_by bytes_cmp (names_written_by change parts))) → ((name : List ℕ) → lets name ≡ is_released_by change parts name)
-    → (r : Result (Option Clash) TreeFault) → IfOk r (λ found. MayBeClashOf (record { counts_as_written = counts; does_release = lets }) (option_map clash_seen found))
-    → IfOk r (λ found. MayBeClashOf (names_changed_by change parts) (option_map clash_seen found))
+    → (r : Result (Option Clash) TreeFault) → IfOk r (λ found. IsClashOverSomeFiles (record { counts_as_written = counts; does_release = lets }) (option_map clash_seen found))
+    → IfOk r (λ found. IsClashOverSomeFiles (names_changed_by change parts) (option_map clash_seen found))
 clash_may change parts counts lets c l r =
-    subst (λ (n : NameChange). IfOk r (λ found. MayBeClashOf n (option_map clash_seen found))) (λ i. record { counts_as_written = λ name. c name i; does_release = λ name. l name i })
+    subst (λ (n : NameChange). IfOk r (λ found. IsClashOverSomeFiles n (option_map clash_seen found))) (λ i. record { counts_as_written = λ name. c name i; does_release = λ name. l name i })
 
 -- ---- the claims of a change
 

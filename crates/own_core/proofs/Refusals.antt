@@ -16,7 +16,7 @@ use Rattle.base_core.proofs.Orderings.{names_total}
 use Rattle.change_files.specs.adb_schema.Reserved.{is_reserved}
 use Rattle.change_files.specs.db_core.Members.{Listing, Member, is_added, member_listings}
 use Rattle.path_claim_lists.specs.path_claims.Claims.{ContestedPath, PathClaim, claim_cmp, claimants, contested_at, contested_by, contested_path, is_of_path, owner_by}
-use Rattle.path_claim_lists.specs.path_claims.Contest.{first_rivals, rivals_of}
+use Rattle.path_claim_lists.specs.path_claims.Contest.{first_unbeaten, rivals_of}
 use Rattle.path_claim_lists.specs.path_claims.Seen.{claim_seen}
 use Rattle.path_claim_lists.specs.path_claims.declared.claim.Claim.{Claim}
 use Rattle.path_claim_lists.specs.path_claims.declared.contest.Rivals.{Rivals}
@@ -146,8 +146,8 @@ claimants_low members path n (l ∷ ls) h = go (bytes_eq l.path path) (claimants
     go true rest = (place_low members l.place l.member h.0.at, rest)
     go false rest = rest
 
-rivals_low : (beats : ℕ → ℕ → Bool) (n : ℕ) (ms : List ℕ) (r : Rivals) → Each (λ m. m < n) ms → first_rivals beats ms ≡ Some r → (r.first < n) × (r.second < n)
-unfolding first_rivals
+rivals_low : (beats : ℕ → ℕ → Bool) (n : ℕ) (ms : List ℕ) (r : Rivals) → Each (λ m. m < n) ms → first_unbeaten beats ms ≡ Some r → (r.first < n) × (r.second < n)
+unfolding first_unbeaten
 rivals_low beats n [] r h e = absurd (no_some r e)
 rivals_low beats n (x ∷ ms) r h e = go (find (λ y. not ((x == y) || beats x y)) (x ∷ ms)) refl e
   where
@@ -177,7 +177,7 @@ unfolding contested_of contested_by claims_in
 contestable members contest named e = by_path (contested_path (member_beats members) (claims_from 0 (member_listings members))) refl e
   where
     by_rivals : (path : List ℕ) → contested_path (member_beats members) (claims_from 0 (member_listings members)) ≡ Some path → (o : Option Rivals)
-        → first_rivals (member_beats members) (claimants (claims_from 0 (member_listings members)) path) ≡ o → option_map (λ rivals. record { path = path; rivals = rivals }) o ≡ Some contest → IsContestable members contest
+        → first_unbeaten (member_beats members) (claimants (claims_from 0 (member_listings members)) path) ≡ o → option_map (λ rivals. record { path = path; rivals = rivals }) o ≡ Some contest → IsContestable members contest
     by_rivals path f None g k = absurd (no_some contest k)
     by_rivals path f (Some r) g k =
         let is : record { path = path; rivals = r } ≡ contest = ap (value_or contest) k in
@@ -189,4 +189,4 @@ contestable members contest named e = by_path (contested_path (member_beats memb
     by_path : (o : Option (List ℕ)) → contested_path (member_beats members) (claims_from 0 (member_listings members)) ≡ o → option_and_then (contested_at (member_beats members) (claims_from 0 (member_listings members))) o ≡ Some contest
         → IsContestable members contest
     by_path None f k = absurd (no_some contest k)
-    by_path (Some path) f k = by_rivals path f (first_rivals (member_beats members) (claimants (claims_from 0 (member_listings members)) path)) refl k
+    by_path (Some path) f k = by_rivals path f (first_unbeaten (member_beats members) (claimants (claims_from 0 (member_listings members)) path)) refl k

@@ -17,7 +17,7 @@ use Rattle.path_claim_lists.specs.path_claims.Seen.{claim_seen}
 use Rattle.path_claim_lists.specs.path_claims.declared.claim.Claim.{Claim}
 use Rattle.path_claim_lists.specs.path_clashes.Clash.{HasNoClash, NameChange, NamePair}
 use Rattle.path_claim_lists.specs.path_clashes.ClashSeen.{clash_seen}
-use Rattle.path_claim_lists.specs.path_clashes.FirstClash.{IsClashOf, MayBeClashOf}
+use Rattle.path_claim_lists.specs.path_clashes.FirstClash.{IsClashOf, IsClashOverSomeFiles}
 use Rattle.path_claim_lists.specs.path_clashes.declared.clash.Clash.{Clash}
 use Rattle.path_claim_lists.specs.Once.{HasFirsts}
 use Rattle.path_claim_lists.proofs.Firsts.{found_in, paths}
@@ -103,22 +103,22 @@ module _ (change : Change) (claims : HasClaims change) (coming : List PathClaim)
       (subst (λ (o : Option Clash). IsClashOf (name_change (file_change_of change) (files_of v)) (files_of v) (option_map clash_seen o)) none told)
 
   -- the names that the change writes and lets go of, by the files that were found
-  names_are : (clash : Option NamePair) → MayBeClashOf (names_changed_by change parts) clash → MayBeClashOf (name_change (file_change_of change) over_files.files) clash
+  names_are : (clash : Option NamePair) → IsClashOverSomeFiles (names_changed_by change parts) clash → IsClashOverSomeFiles (name_change (file_change_of change) over_files.files) clash
   names_are clash =
-      subst (λ (n : NameChange). MayBeClashOf n clash) (same_names change claims coming firsts parts h are over_files.files over_files.one over_files.other _ _ (λ name. refl) (λ name. refl))
+      subst (λ (n : NameChange). IsClashOverSomeFiles n clash) (same_names change claims coming firsts parts h are over_files.files over_files.one over_files.other _ _ (λ name. refl) (λ name. refl))
 
-  clash_by_some : (clash : Option NamePair) → MayBeClashOf (names_changed_by change parts) clash → IsClashBySome (file_change_of change) h clash
+  clash_by_some : (clash : Option NamePair) → IsClashOverSomeFiles (names_changed_by change parts) clash → IsClashBySome (file_change_of change) h clash
   clash_by_some clash may = record {
     files = over_files.files;
     told = over_files.told;
     may = names_are clash may;
   }
 
-  pub clash_may_be : (found : Option Clash) (clash : Clash) → found ≡ Some clash → MayBeClashOf (names_changed_by change parts) (option_map clash_seen found)
+  pub clash_may_be : (found : Option Clash) (clash : Clash) → found ≡ Some clash → IsClashOverSomeFiles (names_changed_by change parts) (option_map clash_seen found)
       → IsClashBySome (file_change_of change) h (Some (clash_seen clash))
   clash_may_be found clash is may = subst (λ (o : Option Clash). IsClashBySome (file_change_of change) h (option_map clash_seen o)) is (clash_by_some (option_map clash_seen found) may)
 
-  pub contest_may_be : (fault : PlanFault) → IsOwnedBy (members_of change.members.now) fault → (found : Option Clash) → found ≡ None → MayBeClashOf (names_changed_by change parts) (option_map clash_seen found)
+  pub contest_may_be : (fault : PlanFault) → IsOwnedBy (members_of change.members.now) fault → (found : Option Clash) → found ≡ None → IsClashOverSomeFiles (names_changed_by change parts) (option_map clash_seen found)
       → MayBeRefusalOf (file_change_of change) h fault
   contest_may_be (Reserved path) owned found none may = tt
   contest_may_be (PathClash path other) owned found none may = absurd owned
@@ -128,14 +128,14 @@ module _ (change : Change) (claims : HasClaims change) (coming : List PathClaim)
   contest_may_be Memory owned found none may = tt
 
   pub plan_is : (flags : List Bool) (plan : FilePlan) → AreListsOfParts parts flags plan → (h1 : List TreeState) → h1 ≡ h → (found : Option Clash) → found ≡ None
-      → IfObservable h1 (λ v. IsClashOf (name_change (file_change_of change) (files_of v)) (files_of v) (option_map clash_seen found)) → MayBeClashOf (names_changed_by change parts) (option_map clash_seen found) → IsPlanOf (file_change_of change) h plan
+      → IfObservable h1 (λ v. IsClashOf (name_change (file_change_of change) (files_of v)) (files_of v) (option_map clash_seen found)) → IsClashOverSomeFiles (names_changed_by change parts) (option_map clash_seen found) → IsPlanOf (file_change_of change) h plan
   plan_is flags plan lists h1 same found none told may = record {
     files = over_files.files;
     told = over_files.told;
     lists = planned change claims coming firsts parts h are over_files.files over_files.one over_files.other flags plan lists;
     no_clash = no_clash_over h over_files.files over_files.told found none
         (subst (λ (k : List TreeState). IfObservable k (λ v. IsClashOf (name_change (file_change_of change) (files_of v)) (files_of v) (option_map clash_seen found))) same told);
-    may_have_none = names_are None (subst (λ (o : Option Clash). MayBeClashOf (names_changed_by change parts) (option_map clash_seen o)) none may);
+    may_have_none = names_are None (subst (λ (o : Option Clash). IsClashOverSomeFiles (names_changed_by change parts) (option_map clash_seen o)) none may);
   }
 
 pub both_read : {A B C D E : Type 0} (disk : D) (fault : E) (h0 h1 h2 : List TreeState) (a b c : Counts) (x : A) (y : B) (z : C)

@@ -17,7 +17,7 @@ use Rattle.change_files.specs.db_core.declared.db.Db.{Db}
 use Rattle.change_files.specs.db_core.declared.members.Members.{Members}
 use Rattle.path_claim_lists.specs.path_claims.Claims.{ContestedPath}
 use Rattle.path_claim_lists.specs.path_clashes.Clash.{HasNoClash, IsFirstClash, NamePair}
-use Rattle.path_claim_lists.specs.path_clashes.FirstClash.{MayBeClashOf}
+use Rattle.path_claim_lists.specs.path_clashes.FirstClash.{IsClashOverSomeFiles}
 use Rattle.change_files.specs.file_owners.Owners.{contested_of, owned_of}
 use Rattle.change_files.specs.FileChange.{FileChange}
 use Rattle.change_files.specs.NamesAfter.{name_change}
@@ -50,7 +50,7 @@ pub record IsPlanOf (change : FileChange) (history : List TreeState) (plan : Fil
   pub told : IfObservable history (λ v. files ≡ files_of v)
   pub lists : ArePlanLists change files plan
   pub no_clash : IfObservable history (λ v. HasNoClash (name_change change files) files)
-  pub may_have_none : MayBeClashOf (name_change change files) None
+  pub may_have_none : IsClashOverSomeFiles (name_change change files) None
 
 -- what a plan ensures of the members alone: for each file it says whether its package owns it, no added
 -- package lists a reserved path, and no path is contested
@@ -126,7 +126,7 @@ pub record IsClashBySome (change : FileChange) (history : List TreeState)
     (clash : Option NamePair) : Type 0 where
   pub files : Files
   pub told : IfObservable history (λ v. files ≡ files_of v)
-  pub may : MayBeClashOf (name_change change files) clash
+  pub may : IsClashOverSomeFiles (name_change change files) clash
 
 -- over any tree: a clash of names is reported only if there may be one, and a contested path only if
 -- there may be none

@@ -20,7 +20,7 @@ ghost use Rattle.path_claim_lists.specs.path_claims.Claims.{claim_cmp};
 ghost use Rattle.path_claim_lists.specs.path_claims.ContestedSeen.{contested_seen};
 ghost use Rattle.path_claim_lists.specs.path_claims.Seen.{claim_seen};
 ghost use Rattle.path_claim_lists.specs.path_clashes.ClashSeen.{clash_seen};
-ghost use Rattle.path_claim_lists.specs.path_clashes.FirstClash.{IsClashOf, MayBeClashOf};
+ghost use Rattle.path_claim_lists.specs.path_clashes.FirstClash.{IsClashOf, IsClashOverSomeFiles};
 ghost use Rattle.own_core.specs.ClaimEntries.{AreClaimsOf, IsClaimOf, is_of_added_owner, is_added_and_reserved};
 ghost use Rattle.own_core.specs.ListsSeen.{AreListsOfParts};
 ghost use Rattle.own_core.specs.Parts.{AreFilesByFate, asides_of, kept_of_parts, removed_of, written_claims_of};
@@ -118,7 +118,7 @@ fn clash_of<T: Tree>(
         (option_map clash_seen found))) }
     // Over any tree, even one whose files are not observable, the answer may be the first clash.
     ensures may { IfOk result (λ found.
-        MayBeClashOf (names_changed_by change.now parts.now) (option_map clash_seen found)) }
+        IsClashOverSomeFiles (names_changed_by change.now parts.now) (option_map clash_seen found)) }
     ensures tree { OnlyReads TreeFault.Disk (T.history tree.old) (T.history tree.new)
         (T.counts tree.old) (T.counts tree.new) result }
 {

@@ -8,13 +8,12 @@ ghost use Rattle.change_files.specs.file_owners.Replaces.{version_text};
 ghost use Rattle.change_files.specs.db_core.Packages.{installed_id};
 ghost use Rattle.package_changes.specs.Changes.{change_between, is_installed_as, selected_version, version_change, version_text_cmp};
 ghost use Rattle.package_changes.specs.Seen.{change_seen};
-ghost use Rattle.solve_core.specs.candidate_core.Candidates.{is_same_id};
 ghost use Rattle.solve_core.specs.candidate_core.Values.{candidate_value};
 ghost use Rattle.report_core.specs.Reports as Texts;
 ghost use Rattle.std.specs.Prelude.{◌≡◌, ◌<◌, false, Some, None, length, option_map, slice_get};
 
 use change_files::{Db, PackageView};
-use solve_core::{CandId, Candidate};
+use solve_core::{CandId, Candidate, is_same_id};
 use std::cmp::Ordering;
 use std::marker::PhantomData;
 use version_core::Version;
@@ -152,17 +151,6 @@ fn is_same_selected(old: &OldPackage<'_>, new: &Candidate<'_>) -> bool
         return false;
     }
     is_same_id(old.id, new.info.hashes())
-}
-
-/// Whether two ids are the same: both are present, and one is a prefix of the other, since an index
-/// may keep 20 of 32 bytes.
-pub fn is_same_id(one: &[u8], other: &[u8]) -> bool
-    ensures { result ≡ is_same_id one.now other.now }
-{
-    if one.is_empty() || other.is_empty() {
-        return false;
-    }
-    one.starts_with(other) || other.starts_with(one)
 }
 
 /// The change from one version of a package to another, by their order.

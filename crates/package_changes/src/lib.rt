@@ -20,7 +20,7 @@ mod report;
 mod selected;
 mod stays;
 
-pub use change::{Change, PlacedChange, is_same_id};
+pub use change::{Change, PlacedChange};
 pub use change_files::the_lists_of_a_plan_hold_just_its_names;
 pub use changes::Changes;
 pub use laws::places_lead_to_packages_and_candidates;
@@ -28,5 +28,5 @@ pub use names::{names_in_order, names_of_words};
 pub use placed::{PlacedName, PlacedNames};
 pub use report::{push_change_lines, push_sum_line, simulated_report};
 pub use selected::{SelectedNames, candidate_at};
-pub use solve_core::{Trace, solve, the_first_selection_is_unique};
+pub use solve_core::{Trace, is_same_id, solve, the_first_selection_is_unique};
 pub use stays::push_stay_lines;

@@ -191,13 +191,13 @@ fn push_names_in_need<'a>(
         (filter (is_in_need needed.now) (candidates_at pool.now trace.now))) }
 {
     for i in 0..trace.len() {
-        push_name_in_need(names, pool, trace.get(i), needed)?;
+        push_name_if_it_needs(names, pool, trace.get(i), needed)?;
     }
     Ok(())
 }
 
 /// Adds the name of the candidate at a place, if there is one and it needs another one.
-fn push_name_in_need<'a>(
+fn push_name_if_it_needs<'a>(
     names: &mut Vec<&'a [u8]>,
     pool: &Sealed<'a>,
     id: CandId,

@@ -38,9 +38,9 @@ abbrev pub texts_of : List OptionValue → List (List ℕ)
 texts_of values = map (λ (v : OptionValue). v.text) values
 
 -- the names are names below the folder that the first of some values gives, if there is one
-abbrev pub AreNamesFor : List OptionValue → List (List ℕ) → Type 0
-AreNamesFor [] names = Unit {0}
-AreNamesFor (folder ∷ others) names = AreNamesBelow (without_dot folder.text) names
+abbrev pub AreNamesBelowFirst : List OptionValue → List (List ℕ) → Type 0
+AreNamesBelowFirst [] names = Unit {0}
+AreNamesBelowFirst (folder ∷ others) names = AreNamesBelow (without_dot folder.text) names
 
 -- ---- scripts
 

@@ -6,7 +6,7 @@ use Rattle.base_core.specs.declared.Cause.{Cause}
 use Rattle.base_core.specs.declared.Cause.TheVariants.{BlockOrder}
 use Rattle.adb_block.specs.Framing.{HeadFields, block, failed, head_of, kind_of_number, next_step, step_at_end, step_by_head, step_by_order, step_by_size}
 use Rattle.adb_block.specs.Frames.{IsFramed, framed_piece, raw_size}
-use Rattle.adb_block.specs.Piece.{Piece, comes_after, least_payload, padding_of}
+use Rattle.adb_block.specs.Piece.{Piece, may_be_next_kind, least_payload, padding_of}
 use Rattle.adb_block.specs.Reading.{reading_of}
 use Rattle.adb_block.specs.declared.block.BlockKind.{BlockKind}
 use Rattle.adb_block.specs.declared.block.BlockKind.TheVariants as Kinds

@@ -5,7 +5,7 @@ use Rattle.std.specs.List.{find, list_any}
 use Rattle.std.proofs.lemmas.List.{take_all}
 use borrow.Author.Tests.{eqb-true}
 use Rattle.base_core.proofs.Numbers.{not_first}
-use Rattle.path_claims.specs.Contest.{beats_each, first_rivals, rivals_of, winner, IsOneWay}
+use Rattle.path_claims.specs.Contest.{beats_each, first_unbeaten, rivals_of, winner, IsOneWay}
 use Rattle.path_claims.specs.LeftOver.{left_over}
 
 abbrev pub Among : ℕ → List ℕ → Type 0
@@ -166,8 +166,8 @@ find_past f p [] (suc i) l = refl
 find_past f p (x ∷ xs) zero l = absurd (omega arith)
 find_past f p (x ∷ xs) (suc i) l = find_past f p xs i (omega arith)
 
-pub no_rivals : {X : Type 0} (beats : ℕ → ℕ → Bool) (f : X → ℕ) (xs : List X) → (length xs == 0) ≡ true → None ≡ first_rivals beats (map f xs)
-unfolding first_rivals
+pub no_rivals : {X : Type 0} (beats : ℕ → ℕ → Bool) (f : X → ℕ) (xs : List X) → (length xs == 0) ≡ true → None ≡ first_unbeaten beats (map f xs)
+unfolding first_unbeaten
 no_rivals beats f [] h = refl
 no_rivals beats f (x ∷ xs) h = absurd (not_first (length xs) (eqb-true _ _ h))
 
@@ -176,7 +176,7 @@ test beats x y = not ((x == y) || beats x y)
 
 pub two_rivals : {X : Type 0} (beats : ℕ → ℕ → Bool) (f : X → ℕ) (xs : List X) (d : X) (o : Option ℕ) → (length xs == 0) ≡ false
     → find (test beats (f (slice_index_or xs 0 d))) (map f xs) ≡ o
-    → option_map (rivals_of (f (slice_index_or xs 0 d))) o ≡ first_rivals beats (map f xs)
-unfolding first_rivals
+    → option_map (rivals_of (f (slice_index_or xs 0 d))) o ≡ first_unbeaten beats (map f xs)
+unfolding first_unbeaten
 two_rivals beats f [] d o h e = absurd (true≢false h)
 two_rivals beats f (x ∷ xs) d o h e = ap (option_map (rivals_of (f x))) (sym e)

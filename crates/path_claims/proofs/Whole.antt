@@ -10,7 +10,7 @@ use Rattle.base_core.specs.Sorted.{sorted_by, with_element}
 use Rattle.base_core.proofs.Sorting.{sort_seen, sorted_up, stable, stable_in_order}
 use Rattle.base_core.proofs.Orderings.{names_total}
 use Rattle.path_claims.specs.Claims.{AreNumbered, ContestedPath, PathClaim, claim_cmp, claimants, contested_at, contested_by, is_member, is_of_path, is_owner_by, owner_by}
-use Rattle.path_claims.specs.Contest.{first_rivals, winner}
+use Rattle.path_claims.specs.Contest.{first_unbeaten, winner}
 use Rattle.path_claims.proofs.ClaimOrder.{claims_total}
 use Rattle.path_claims.proofs.Marks.{AreAlike}
 use Rattle.path_claims.proofs.Owned.{ties_path}
@@ -163,7 +163,7 @@ contested_is beats all cs o s e =
   where
     and_ext : (p : Option (List ℕ)) → option_and_then (contested_at beats cs) p ≡ option_and_then (contested_at beats all) p
     and_ext None = refl
-    and_ext (Some path) = ap (λ ms. option_map (λ rivals. record { path = path; rivals = rivals }) (first_rivals beats ms)) (same_claimants all cs s path)
+    and_ext (Some path) = ap (λ ms. option_map (λ rivals. record { path = path; rivals = rivals }) (first_unbeaten beats ms)) (same_claimants all cs s path)
 
     find_ext : (ps : List (List ℕ)) → find (λ path. is_none (owner_by beats cs path)) ps ≡ find (λ path. is_none (owner_by beats all path)) ps
     find_ext [] = refl

@@ -7,7 +7,7 @@ use Rattle.std.specs.Ordering.{on}
 use Rattle.std.specs.declared.cmp.Ordering.{Ordering}
 use Rattle.base_core.specs.ByteOrder.{bytes_cmp}
 use Rattle.base_core.specs.Sorted.{sorted_by}
-use Rattle.path_claims.specs.Contest.{winner, first_rivals}
+use Rattle.path_claims.specs.Contest.{winner, first_unbeaten}
 use Rattle.path_claims.specs.declared.contest.Rivals.{Rivals}
 
 -- a claim: a file that a member lists. The member's place counts from 0, those of the folder and of the
@@ -64,7 +64,7 @@ pub record ContestedPath : Type 0 where
 abbrev pub contested_at : (ℕ → ℕ → Bool) → List PathClaim → List ℕ → Option ContestedPath
 contested_at beats claims path =
     option_map (λ rivals. record { path = path; rivals = rivals })
-    (first_rivals beats (claimants claims path))
+    (first_unbeaten beats (claimants claims path))
 
 -- the first path in byte order that no candidate owns, with its rivals
 unfoldable pub contested_by : (ℕ → ℕ → Bool) → List PathClaim → Option ContestedPath

@@ -17,9 +17,9 @@ abbrev pub rivals_of : ℕ → ℕ → Rivals
 rivals_of x y = record { first = x; second = y }
 
 -- the first of some members, and the first other one that it does not beat; none if it beats all others
-unfoldable pub first_rivals : (ℕ → ℕ → Bool) → List ℕ → Option Rivals
-first_rivals beats [] = None
-first_rivals beats (x ∷ members) =
+unfoldable pub first_unbeaten : (ℕ → ℕ → Bool) → List ℕ → Option Rivals
+first_unbeaten beats [] = None
+first_unbeaten beats (x ∷ members) =
     option_map (rivals_of x) (find (λ y. not ((x == y) || beats x y)) (x ∷ members))
 
 -- of two members at most one beats the other

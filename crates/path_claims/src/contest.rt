@@ -4,7 +4,7 @@
 //! beats which.
 
 ghost use Rattle.std.specs.Prelude.{◌≡◌, ◌==◌, ◌||◌, ℕ, Bool, map};
-ghost use Rattle.path_claims.specs.Contest.{IsOneWay, beats_each, first_rivals, winner};
+ghost use Rattle.path_claims.specs.Contest.{IsOneWay, beats_each, first_unbeaten, winner};
 ghost use Rattle.path_claims.specs.LeftOver.{left_over};
 
 use crate::claim::Claim;
@@ -84,8 +84,8 @@ pub(crate) fn winner<C: Contest>(contest: &C, claims: &[Claim<'_>]) -> Option<u3
 
 /// The first of the members that claim a path, and the first other one that it does not beat; none
 /// if it beats all others.
-pub(crate) fn first_rivals<C: Contest>(contest: &C, claims: &[Claim<'_>]) -> Option<Rivals>
-    ensures { result ≡ first_rivals (C.beats contest.now) (map (λ c. c.member) claims.now) }
+pub(crate) fn first_unbeaten<C: Contest>(contest: &C, claims: &[Claim<'_>]) -> Option<Rivals>
+    ensures { result ≡ first_unbeaten (C.beats contest.now) (map (λ c. c.member) claims.now) }
 {
     if claims.is_empty() {
         return None;

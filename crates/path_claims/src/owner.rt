@@ -13,7 +13,7 @@ ghost use Rattle.path_claims.specs.ContestedSeen.{contested_seen};
 ghost use Rattle.std.specs.List.{find, list_any};
 
 use crate::claim::{Claim, begins_path, run_at, sort_claims};
-use crate::contest::{Contest, Rivals, first_rivals, winner};
+use crate::contest::{Contest, Rivals, first_unbeaten, winner};
 use adb_fields::FilePath;
 use std::alloc::{AllocError, Global};
 
@@ -129,7 +129,7 @@ fn contested_from<'a, C: Contest>(
         → option_map contested_seen result
         ≡ contested_at (C.beats contest.now) (map claim_seen claims.now) c.path }
 {
-    match first_rivals(contest, run_at(claims, i)) {
+    match first_unbeaten(contest, run_at(claims, i)) {
         Some(rivals) => Some(Contested {
             path: claims[i].path,
             rivals,

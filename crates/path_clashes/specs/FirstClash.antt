@@ -12,5 +12,5 @@ IsClashOf change files (Some pair) = IsFirstClash change files pair
 
 -- the first clash over some files is found; or none is found, and over some files there is none: so the
 -- written names alone make none
-abbrev pub MayBeClashOf : NameChange → Option NamePair → Type 0
-MayBeClashOf change found = (files : Files) × IsClashOf change files found
+abbrev pub IsClashOverSomeFiles : NameChange → Option NamePair → Type 0
+IsClashOverSomeFiles change found = (files : Files) × IsClashOf change files found

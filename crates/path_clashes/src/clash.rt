@@ -13,7 +13,7 @@ ghost use Rattle.base_core.specs.Tree.{files_of};
 ghost use Rattle.base_core.specs.ByteOrder.{bytes_cmp};
 ghost use Rattle.path_clashes.specs.Clash.{precedes_pair, HasNoClash, NameChange, NamePair, is_name_after};
 ghost use Rattle.path_clashes.specs.ClashSeen.{clash_seen};
-ghost use Rattle.path_clashes.specs.FirstClash.{IsClashOf, MayBeClashOf};
+ghost use Rattle.path_clashes.specs.FirstClash.{IsClashOf, IsClashOverSomeFiles};
 ghost use Rattle.path_clashes.specs.NearName.{IsClashNear, MayBeClashNear, earlier_pair};
 ghost use Rattle.path_clashes.specs.WrittenPaths.{change_by_paths, is_path_of};
 
@@ -155,7 +155,7 @@ pub fn first_clash<T: Tree, G: IsReleased>(
         (option_map clash_seen found))) }
     // Over any tree, even one whose files are not observable: it is the first clash over some
     // files, or there is none over some.
-    ensures may { IfOk result (λ found. MayBeClashOf
+    ensures may { IfOk result (λ found. IsClashOverSomeFiles
         (change_by_paths written.now (G.does_release let_go.now)) (option_map clash_seen found)) }
     ensures tree { OnlyReads TreeFault.Disk (T.history tree.old) (T.history tree.new)
         (T.counts tree.old) (T.counts tree.new) result }

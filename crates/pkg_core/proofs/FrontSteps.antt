@@ -8,7 +8,7 @@ use Rattle.base_core.specs.declared.cause.Cause.TheVariants.{Compressed, NotAdb,
 use Rattle.adb_block.specs.Framing.{block, failed, next_step}
 use Rattle.adb_block.specs.Frames.{framed_piece, raw_size}
 use Rattle.adb_block.specs.Header.{header_of, is_compressed, word_at}
-use Rattle.adb_block.specs.Piece.{comes_after, padding_of}
+use Rattle.adb_block.specs.Piece.{may_be_next_kind, padding_of}
 use Rattle.adb_block.specs.Reading.{more, reading_of}
 use Rattle.adb_block.specs.ReaderPosition.{start_of}
 use Rattle.adb_block.specs.declared.block.BlockKind.{BlockKind}
@@ -22,7 +22,7 @@ use Rattle.pkg_core.proofs.BlockRuns.{reading_cut}
 use Rattle.pkg_core.proofs.Heads.{eq_false}
 use Rattle.pkg_core.proofs.SeenBytes.{drop_further}
 
-adb_first : (k : BlockKind) → comes_after None k ≡ true → k ≡ Adb
+adb_first : (k : BlockKind) → may_be_next_kind None k ≡ true → k ≡ Adb
 adb_first Adb h = refl
 adb_first Signature h = (cc)
 adb_first Contents h = (cc)
@@ -32,7 +32,7 @@ adb_first Contents h = (cc)
 pub first_failed : (file : List ℕ) (c : Cause) → next_step None 8 (drop 8 file) ≡ failed c → (schema : ℕ) → front_block_fault (reading_of (start_of schema file)) ≡ Some c
 first_failed file c step schema = ap front_block_fault (reading_failed (start_of schema file) c step)
 
-pub first_blocks : (file payload : List ℕ) (framed : Frame) (padding at : ℕ) → next_step None 8 (drop 8 file) ≡ block (framed_piece framed (drop 8 file)) (raw_size framed + padding_of (raw_size framed)) → comes_after None framed.kind ≡ true → raw_size framed ≤ length (drop 8 file) → padding ≡ min (padding_of (raw_size framed)) (length (drop 8 file) - raw_size framed) → length payload ≡ framed.payload_len → HasAt file (8 + framed.head_len) payload → at ≡ 8 + (raw_size framed + padding)
+pub first_blocks : (file payload : List ℕ) (framed : Frame) (padding at : ℕ) → next_step None 8 (drop 8 file) ≡ block (framed_piece framed (drop 8 file)) (raw_size framed + padding_of (raw_size framed)) → may_be_next_kind None framed.kind ≡ true → raw_size framed ≤ length (drop 8 file) → padding ≡ min (padding_of (raw_size framed)) (length (drop 8 file) - raw_size framed) → length payload ≡ framed.payload_len → HasAt file (8 + framed.head_len) payload → at ≡ 8 + (raw_size framed + padding)
     → (schema : ℕ) → reading_of (start_of schema file) ≡ more (record { kind = Adb; payload = payload }) 8 (reading_of (behind_first schema at file))
 first_blocks file payload framed padding at step order room pad len has at_is schema =
     let size : ℕ = raw_size framed + min (padding_of (raw_size framed)) (length (drop 8 file) - raw_size framed) in

@@ -2,7 +2,7 @@
 //! in `docs/formats.md`, "Tests of a container", for the order of the tests, and "The other
 //! blocks".
 
-ghost use Rattle.std.specs.Prelude.{◌≡◌, ◌≢◌, None, IfOk, IfErr, length, ℕ, List, Some};
+ghost use Rattle.std.specs.Prelude.{◌≡◌, ◌≢◌, None, IfOk, IfErr, IfSome, IsTrue, is_some, length, ℕ, List, Some};
 ghost use Rattle.std.specs.Option.{option_or};
 ghost use Rattle.std.specs.Result.{result_err};
 ghost use Rattle.pkg_core.specs.Contents.{fault_in, digest_fault, hash_fault, contents_fault, contents_in, expected_contents, files_by_blocks, Expected};
@@ -16,7 +16,7 @@ ghost use Rattle.adb_view.specs.declared.tables.Which.TheVariants as Tables;
 ghost use Rattle.base_core.specs.declared.cause.Digest.TheVariants as Digests;
 ghost use Rattle.base_core.specs.declared.cause.Cause.{Cause};
 ghost use Rattle.adb_block.specs.Reading.{Reading};
-ghost use Rattle.adb_schema.specs.Soundness.{first_fault};
+ghost use Rattle.adb_schema.specs.Soundness.{first_fault, schema_word};
 ghost use Rattle.pkg_core.specs.FirstContents.{IsFirstContentsFault};
 ghost use Rattle.pkg_core.specs.GoodContents.{AreContentsOf, AreTrueTo};
 
@@ -55,6 +55,7 @@ pub fn verify(alloc: Global, bytes: &[u8]) -> Result<(), PackageFault>
 /// the four.
 pub fn root_of_schema(schema: u32) -> Option<Which>
     ensures { result ≡ root_of_schema schema }
+    ensures known { IfSome result (λ which. IsTrue (is_some (schema_word which))) }
 {
     match schema {
         PACKAGE_WORD => Some(Which::Package),

@@ -5,7 +5,7 @@ ghost use Rattle.std.specs.Prelude.{◌≡◌, ◌≤◌, ◌+◌, ◌-◌, ℕ,
 ghost use Rattle.adb_block.specs.Framing.{next_step};
 ghost use Rattle.adb_block.specs.Frames.{IsHeadPrefix, IsFramedBy, head_len, raw_size};
 ghost use Rattle.adb_block.specs.Header.{header_of};
-ghost use Rattle.adb_block.specs.Piece.{comes_after, padding_of};
+ghost use Rattle.adb_block.specs.Piece.{may_be_next_kind, padding_of};
 ghost use Rattle.base_core.specs.Calls.{IfObservable};
 ghost use Rattle.base_core.specs.Read.{OnlyReads};
 ghost use Rattle.base_core.specs.Tree.{files_of};
@@ -173,7 +173,7 @@ fn first_framed(left: u64, head: &HeadBytes) -> Result<Frame, Cause>
     requires short { length head.now ≤ head_len head.now }
     ensures exact { (bytes : List ℕ) → length bytes ≡ left → take (length head.now) bytes ≡ head.now
         → IsFramedBy result bytes (next_step None 8 bytes) }
-    ensures order { IfOk result (λ framed. comes_after None framed.kind ≡ true) }
+    ensures order { IfOk result (λ framed. may_be_next_kind None framed.kind ≡ true) }
     ensures within { IfOk result (λ framed. (raw_size framed ≤ left)
         × (framed.head_len ≡ length head.now)) }
 {

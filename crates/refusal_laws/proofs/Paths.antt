@@ -26,10 +26,10 @@ use Rattle.base_core.proofs.Numbers.{same_number}
 use Rattle.outcome.proofs.own_core.Listings.{IsPlaced, each_placed}
 use Rattle.outcome.proofs.own_core.NamesOnce.{not_below}
 use Rattle.outcome.specs.path_claims.Claims.{ContestedPath, claimants, contested_at, contested_by, contested_path, is_of_path, owner_by}
-use Rattle.outcome.specs.path_claims.Contest.{beats_each, first_rivals, rivals_of, winner}
+use Rattle.outcome.specs.path_claims.Contest.{beats_each, first_unbeaten, rivals_of, winner}
 use Rattle.outcome.specs.path_claims.declared.contest.Rivals.{Rivals}
 use Rattle.refusal_laws.specs.ChangeFaults.{IsContested, IsFirstReservedAddedPath}
-use Rattle.refusal_laws.specs.TestsPassed.{AreUnreserved, HaveOwners}
+use Rattle.refusal_laws.specs.TestsPassed.{AreAddedPathsUnreserved, HaveOwners}
 use Rattle.refusal_laws.proofs.Lists.{all_pass, found_in, in_names, name_in, none_found}
 
 -- ---- the first name that passes
@@ -80,7 +80,7 @@ none_smallest xs q e here = by_list (sorted_by bytes_cmp xs) (sym (smallest_firs
     by_list [] e here = here
     by_list (y ∷ ys) e here = cc (e)
 
-pub are_unreserved : (members : List Member) → first_reserved members ≡ None → AreUnreserved members
+pub are_unreserved : (members : List Member) → first_reserved members ≡ None → AreAddedPathsUnreserved members
 unfolding first_reserved
 are_unreserved members none path here = by_test (is_reserved path) refl
   where
@@ -117,8 +117,8 @@ record AreRivals (beats : ℕ → ℕ → Bool) (ms : List ℕ) (rivals : Rivals
   apart : rivals.first ≡ rivals.second → ⊥
   located : beats rivals.first rivals.second ≡ false
 
-rivals_are : (beats : ℕ → ℕ → Bool) (ms : List ℕ) (rivals : Rivals) → first_rivals beats ms ≡ Some rivals → AreRivals beats ms rivals
-unfolding first_rivals
+rivals_are : (beats : ℕ → ℕ → Bool) (ms : List ℕ) (rivals : Rivals) → first_unbeaten beats ms ≡ Some rivals → AreRivals beats ms rivals
+unfolding first_unbeaten
 rivals_are beats [] rivals e = absurd (cc (e))
 rivals_are beats (x ∷ ms) rivals e = by_found (find (λ y. not ((x == y) || beats x y)) (x ∷ ms)) refl e
   where
@@ -185,7 +185,7 @@ module _ (members : List Member) where
           ]) in
           absurd (true≢false (sym each ∙ none_found (beats_each (member_beats members) ms) ms x unowned here))
 
-  contested_rivals : (path : List ℕ) (rivals : Rivals) → contested_path (member_beats members) (claims_in members) ≡ Some path → first_rivals (member_beats members) (claimants (claims_in members) path) ≡ Some rivals
+  contested_rivals : (path : List ℕ) (rivals : Rivals) → contested_path (member_beats members) (claims_in members) ≡ Some path → first_unbeaten (member_beats members) (claimants (claims_in members) path) ≡ Some rivals
       → IsContested members path (name_at_place members rivals.first) (name_at_place members rivals.second)
   unfolding claims_in
   contested_rivals path rivals found e =
@@ -231,8 +231,8 @@ module _ (members : List Member) where
       by_test false is (inr here) more = more here
 
   -- where a path has no owner, two of its claimants are told
-  rivals_told : (beats : ℕ → ℕ → Bool) (ms : List ℕ) (y : ℕ) → IsIn y ms → winner beats ms ≡ None → first_rivals beats ms ≡ None → ⊥
-  unfolding winner first_rivals
+  rivals_told : (beats : ℕ → ℕ → Bool) (ms : List ℕ) (y : ℕ) → IsIn y ms → winner beats ms ≡ None → first_unbeaten beats ms ≡ None → ⊥
+  unfolding winner first_unbeaten
   rivals_told beats [] y here none e = here
   rivals_told beats (x ∷ ms) y here none e = by_found (find (λ z. not ((x == z) || beats x z)) (x ∷ ms)) refl e
     where
@@ -264,7 +264,7 @@ module _ (members : List Member) where
           let claimed : Names.IsIn path paths = from_sorted path paths (in_names path (sorted_by bytes_cmp paths) passes.0) in
           let some = some_claimant path 0 (member_listings members) claimed in
           absurd (rivals_told (member_beats members) (claimants (claims_in members) path) some.0 some.1 (none_is (owner_by_claims path) passes.1)
-          (no_rivals (first_rivals (member_beats members) (claimants (claims_in members) path)) e))
+          (no_rivals (first_unbeaten (member_beats members) (claimants (claims_in members) path)) e))
         where
           no_rivals : (o : Option Rivals) → option_map {U = ContestedPath} (λ rivals. record { path = path; rivals = rivals }) o ≡ None → o ≡ None
           no_rivals None e = refl
@@ -274,7 +274,7 @@ module _ (members : List Member) where
   unfolding contested_of contested_by
   contested_is c e = by_path (contested_path (member_beats members) (claims_in members)) refl e
     where
-      by_rivals : (path : List ℕ) → contested_path (member_beats members) (claims_in members) ≡ Some path → (o : Option Rivals) → first_rivals (member_beats members) (claimants (claims_in members) path) ≡ o
+      by_rivals : (path : List ℕ) → contested_path (member_beats members) (claims_in members) ≡ Some path → (o : Option Rivals) → first_unbeaten (member_beats members) (claimants (claims_in members) path) ≡ o
           → option_map (λ rivals. record { path = path; rivals = rivals }) o ≡ Some c → IsContested members c.path (name_at_place members c.rivals.first) (name_at_place members c.rivals.second)
       by_rivals path found None is e = absurd (cc (e))
       by_rivals path found (Some rivals) is e =
@@ -284,4 +284,4 @@ module _ (members : List Member) where
       by_path : (o : Option (List ℕ)) → contested_path (member_beats members) (claims_in members) ≡ o → option_and_then (contested_at (member_beats members) (claims_in members)) o ≡ Some c
           → IsContested members c.path (name_at_place members c.rivals.first) (name_at_place members c.rivals.second)
       by_path None is e = absurd (cc (e))
-      by_path (Some path) is e = by_rivals path is (first_rivals (member_beats members) (claimants (claims_in members) path)) refl e
+      by_path (Some path) is e = by_rivals path is (first_unbeaten (member_beats members) (claimants (claims_in members) path)) refl e

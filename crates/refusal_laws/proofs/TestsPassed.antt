@@ -25,7 +25,7 @@ use Rattle.outcome.specs.path_clashes.Clash.{NamePair}
 use Rattle.report_core.specs.declared.refusal.Refusal.{Refusal}
 use Rattle.report_core.specs.declared.refusal.Refusal.TheVariants.{Owned, PathClash, Reserved, TriggerNeeded}
 use Rattle.refusal_laws.specs.ChangeFaults.{IsWatchedFor}
-use Rattle.refusal_laws.specs.TestsPassed.{AreUnreserved, PassesChangeTests, HasNoTrigger, PassesNameTests, PassesFileTests, HasPassedBefore}
+use Rattle.refusal_laws.specs.TestsPassed.{AreAddedPathsUnreserved, PassesChangeTests, HasNoTrigger, PassesNameTests, PassesFileTests, HasPassedBefore}
 use Rattle.refusal_laws.proofs.ChangeFaults.{kept_test, large_told, trigger_of}
 use Rattle.refusal_laws.proofs.Lists.{and_then_err, and_then_ok, in_any, in_mapped, name_in}
 use Rattle.refusal_laws.proofs.Paths.{are_unreserved, have_owners}
@@ -91,7 +91,7 @@ module _ (inputs : Inputs) (r : Replacement) (wishes : ChangeWishes) (files : Fi
       let same : Owned c.path (name_at_place change.members c.rivals.first) (name_at_place change.members c.rivals.second) ≡ refusal = cc in
       subst IsSo same names
 
-  clash_passed : (o : Option NamePair) (refusal : Refusal) → IsClashFound inputs wishes files (Ok found) o → AreUnreserved change.members
+  clash_passed : (o : Option NamePair) (refusal : Refusal) → IsClashFound inputs wishes files (Ok found) o → AreAddedPathsUnreserved change.members
       → unless_clash o (unless_contested change.members (contested_of change.members) with_triggers) ≡ Err refusal → IsSo refusal
   clash_passed None refusal is free e = owners_passed (contested_of change.members) refusal refl (free, is) e
   clash_passed (Some pair) refusal is free e = let same : PathClash pair.path pair.other ≡ refusal = cc in subst IsSo same free
@@ -111,7 +111,7 @@ module _ (inputs : Inputs) (r : Replacement) (wishes : ChangeWishes) (files : Fi
       ((names, have_owners change.members is), no_trigger wishes change files triggers.0 triggers.1)
   owners_made (Some c) done is names e = absurd (cc (e))
 
-  clash_made : (o : Option NamePair) (done : ChangeDone) → IsClashFound inputs wishes files (Ok found) o → AreUnreserved change.members
+  clash_made : (o : Option NamePair) (done : ChangeDone) → IsClashFound inputs wishes files (Ok found) o → AreAddedPathsUnreserved change.members
       → unless_clash o (unless_contested change.members (contested_of change.members) with_triggers) ≡ Ok done → PassesChangeTests wishes change files
   clash_made None done is free e = owners_made (contested_of change.members) done refl (free, is) e
   clash_made (Some pair) done is free e = absurd (cc (e))

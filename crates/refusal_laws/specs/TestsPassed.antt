@@ -17,8 +17,8 @@ use Rattle.report_core.specs.declared.refusal.Refusal.TheVariants.{Owned, PathCl
 use Rattle.refusal_laws.specs.ChangeFaults.{IsWatchedFor}
 
 -- no added package lists a path that apk keeps for itself
-abbrev pub AreUnreserved : List Member → Type 0
-AreUnreserved members =
+abbrev pub AreAddedPathsUnreserved : List Member → Type 0
+AreAddedPathsUnreserved members =
     (path : List ℕ) → IsIn path (added_paths members) → is_reserved path ≡ false
 
 -- each path that a package lists has an owner
@@ -36,7 +36,7 @@ HasNoTrigger wishes change files =
 -- the first two tests of files passed: no path is reserved and no name clashes
 abbrev pub PassesNameTests : FileChange → Files → Type 0
 PassesNameTests change files =
-    AreUnreserved change.members × HasNoClash (name_change change files) files
+    AreAddedPathsUnreserved change.members × HasNoClash (name_change change files) files
 
 -- all three tests of files passed: nor is a path contested
 abbrev pub PassesFileTests : FileChange → Files → Type 0
@@ -49,7 +49,7 @@ PassesChangeTests wishes change files = PassesFileTests change files × HasNoTri
 
 -- what is tested before this refusal of a change's files
 abbrev pub HasPassedBefore : ChangeWishes → FileChange → Files → Refusal → Type 0
-HasPassedBefore wishes change files (PathClash path other) = AreUnreserved change.members
+HasPassedBefore wishes change files (PathClash path other) = AreAddedPathsUnreserved change.members
 HasPassedBefore wishes change files (Owned path first second) = PassesNameTests change files
 HasPassedBefore wishes change files (TriggerNeeded name) = PassesFileTests change files
 HasPassedBefore wishes change files (ResultTooLarge bytes values) =

@@ -3,7 +3,7 @@ use Rattle.std.proofs.Common.{◌≡◌, inl, inr, ℕ, true, List, Option, Some
 use Rattle.base_core.specs.Crash.{CrashMayLeave}
 use Rattle.base_core.specs.Files.{Files, NameMap}
 use Rattle.base_core.specs.Tree.{File, TreeState, bytes_at, files_by}
-use Rattle.base_core.specs.Undone.{IsDurable, IsLeftOf, IsCrashImage, IsCrashMap}
+use Rattle.base_core.specs.Undone.{IsDurable, MayBeLeftByCrash, IsCrashImage, IsCrashMap}
 use Rattle.apk_front.specs.journal_core.Quiet.{EachCrashLeavesOld}
 use Rattle.apk_front.specs.journal_core.Recovery.{Intent, IsStagedNameOf, StateDependsOn, intent_at, intent_name, intent_of}
 use Rattle.run_lists.specs.Events.{IsTornFrom}
@@ -20,7 +20,7 @@ torn_leaves f g synced same (Some n) (Some bytes) is = λ durable. is (synced n 
 
 module _ (m w : TreeState) (torn : IsTornFrom m w) where
   torn_map : (map : NameMap) → IsCrashMap w map → IsCrashMap m map
-  torn_map map left = subst (λ (older : List NameMap). IsLeftOf m.names older map) torn.older (subst (λ (names : NameMap). IsLeftOf names w.older map) torn.names left)
+  torn_map map left = subst (λ (older : List NameMap). MayBeLeftByCrash m.names older map) torn.older (subst (λ (names : NameMap). MayBeLeftByCrash names w.older map) torn.names left)
 
   pub torn_image : (image : Files) → IsCrashImage w image → IsCrashImage m image
   torn_image image (map, among, by) = (map, torn_map map among, λ q. torn_leaves m.files w.files torn.synced torn.bytes (map q) (image q) (by q))

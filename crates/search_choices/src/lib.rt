@@ -12,6 +12,6 @@ mod trace;
 pub use choices::Choices;
 pub use search_tables::{
     CandId, Candidate, CandidateSet, Details, Frame, PackageMatches, RuledOutOption, Sealed,
-    SortedWords, options_are_the_best_first, rank_is_total,
+    SortedWords, is_same_id, options_are_the_best_first, rank_is_total,
 };
 pub use trace::Trace;

@@ -27,6 +27,6 @@ pub use name_table::NameTable;
 pub use needs::{asks_for_name, choice_meeting, is_met_by_latest_or_other, occupant, raisers};
 pub use pool_core::{
     CandId, Candidate, Deps, Details, NeedRef, Options, PackageDep, PackageMatches, Sealed,
-    SortedWords, Upgrade, options_are_the_best_first, rank_is_total,
+    SortedWords, Upgrade, is_same_id, options_are_the_best_first, rank_is_total,
 };
 pub use queue::{Checkpoint, RaisedDep, queue_all, queue_world};

@@ -17,5 +17,5 @@ pub use laws::{
     each_selection_has_one_walk, the_first_selection_is_unique, walks_have_one_order,
     walks_satisfy,
 };
-pub use search_choices::{CandId, Candidate, Details, Sealed, SortedWords, Trace};
+pub use search_choices::{CandId, Candidate, Details, Sealed, SortedWords, Trace, is_same_id};
 pub use selection::solve;

@@ -3,17 +3,17 @@ use Rattle.std.proofs.Common.{◌≡◌, ◌≢◌, ◌⊎◌, inl, inr, ⊎_eli
 use Rattle.std.proofs.lemmas.Bool.{le-leb, lt-leb}
 use Rattle.base_core.specs.Files.{NameMap, no_names}
 use Rattle.base_core.specs.Tree.{TreeState}
-use Rattle.base_core.specs.Undone.{IsLeftOf, IsCrashMap, with_change}
+use Rattle.base_core.specs.Undone.{MayBeLeftByCrash, IsCrashMap, with_change}
 use Rattle.base_core.proofs.Undone.{change_off, change_whole}
 use Rattle.tree_memory.specs.Images.{newest_first, few_changes, is_one_at, is_undone, map_without, picked_map, picks_of}
 
 -- ---- what is left is a map that a crash may leave
 
-without_left : (undone : ℕ → Bool) (new : NameMap) (older : List NameMap) → IsLeftOf new older (map_without undone new older)
+without_left : (undone : ℕ → Bool) (new : NameMap) (older : List NameMap) → MayBeLeftByCrash new older (map_without undone new older)
 without_left undone new [] = refl
 without_left undone new (old ∷ older) = by (undone (length older)) (without_left undone old older)
   where
-    by : (b : Bool) → IsLeftOf old older (map_without undone old older) → IsLeftOf new (old ∷ older) (cond b (map_without undone old older) (with_change old new (map_without undone old older)))
+    by : (b : Bool) → MayBeLeftByCrash old older (map_without undone old older) → MayBeLeftByCrash new (old ∷ older) (cond b (map_without undone old older) (with_change old new (map_without undone old older)))
     by true left = inr left
     by false left = inl (map_without undone old older, left, refl)
 
@@ -91,7 +91,7 @@ module _ (old new : NameMap) (older : List NameMap) (n more : ℕ) (half : more 
 twice : (m : ℕ) → 2 ^ suc m ≡ 2 ^ m + 2 ^ m
 twice m = omega arith
 
-digits : (new : NameMap) (older : List NameMap) (map : NameMap) → IsLeftOf new older map → (n : ℕ) × IsPickedBy new older map n
+digits : (new : NameMap) (older : List NameMap) (map : NameMap) → MayBeLeftByCrash new older map → (n : ℕ) × IsPickedBy new older map n
 digits new [] map is = (0, (omega arith, sym is))
 digits new (old ∷ older) map (inl (kept, left, is)) =
     let (n, (below, same)) = digits old older kept left in

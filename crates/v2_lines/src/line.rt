@@ -2,9 +2,8 @@
 //! The rules are in `docs/formats.md`, "Text database of version 2", the table and the paragraph
 //! above it.
 ghost use Rattle.adb_schema.specs.Rules.{is_folder_name, is_one_part};
-ghost use Rattle.std.specs.List.{list_any};
 ghost use Rattle.std.specs.Option.{option_map};
-ghost use Rattle.std.specs.Prelude.{◌≡◌, ◌==◌, IfOk};
+ghost use Rattle.std.specs.Prelude.{◌≡◌, IfOk};
 ghost use Rattle.v2_lines.specs.InfoFields.{field_of_letter};
 ghost use Rattle.v2_lines.specs.InfoValues.{sha1_of};
 ghost use Rattle.v2_lines.specs.Lines.{file_hash_line, folder_line_of, file_line_of, info_line_by, record_line_by, record_line_of};
@@ -13,7 +12,7 @@ ghost use Rattle.v2_lines.specs.Views.{line_view};
 use crate::access::{Access, read_access};
 use crate::field::InfoField;
 use crate::value::{Value, read_sha1, read_value};
-use base_core::is_name;
+use adb_schema::{is_folder_name, is_one_part};
 use std::alloc::{AllocError, Global};
 
 /// The byte between the letter and the value.
@@ -94,13 +93,6 @@ fn folder_line(name: &[u8]) -> Option<Line<'_>>
     Some(Line::Folder(name))
 }
 
-// Whether a text is the name of a folder: a path, or empty for the root.
-fn is_folder_name(name: &[u8]) -> bool
-    ensures { result ≡ is_folder_name name.now }
-{
-    name.is_empty() || is_name(name)
-}
-
 // The line that begins a file of this name, which has to be one part of a path.
 fn file_line(name: &[u8]) -> Option<Line<'_>>
     ensures { option_map line_view result ≡ file_line_of name.now }
@@ -109,20 +101,6 @@ fn file_line(name: &[u8]) -> Option<Line<'_>>
         return None;
     }
     Some(Line::File(name))
-}
-
-// Whether a text is one part of a path.
-fn is_one_part(name: &[u8]) -> bool
-    ensures { result ≡ is_one_part name.now }
-{
-    is_name(name) && !has_slash(name)
-}
-
-// Whether a text has a `/`.
-fn has_slash(name: &[u8]) -> bool
-    ensures { result ≡ list_any (λ b. b == 47) name.now }
-{
-    name.contains(&b'/')
 }
 
 // Reads the line of a file's hash. None: the value is no SHA-1.

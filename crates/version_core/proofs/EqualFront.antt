@@ -17,7 +17,7 @@ use Rattle.version_core.specs.declared.token.Class.{Class}
 use Rattle.version_core.specs.declared.token.Class.TheVariants.{Revision, Hash, SuffixNumber, Letter, Component}
 use Rattle.version_core.specs.Token.{Token, Lexeme, number_token, text_token, lexeme, stray_lexeme, is_component, is_suffix, is_before_hash, is_before_revision, is_hex_digit, leading_digits, leading_hex_digits, leading_letters, number_lexeme, component_lexeme, suffix_lexeme, hash_lexeme, revision_lexeme, next_lexeme, lexeme_at}
 use Rattle.version_core.specs.Order.{are_in_grammar, is_last, is_stray, is_version, token_cmp, tokens, tokens_after, version_cmp}
-use Rattle.version_core.specs.Matching.{all_fit, begins_with, fits, is_fuzzy_match, is_zero_component}
+use Rattle.version_core.specs.Matching.{all_fit, is_prefix_of, fits, is_fuzzy_match, is_zero_component}
 use Rattle.version_core.specs.Reading.{AreEqualUpTo, IsLastMark, begins_with_mark, hash_cmp, hash_fits, is_token_mark, is_unmarked}
 use Rattle.version_core.proofs.OrderLaws.{token_cmp-total}
 use Rattle.version_core.proofs.Places.{NoEnd, number_no_end, some_no_end, stray_first}
@@ -330,7 +330,7 @@ cmp_from_hash left right len at equal found one two within tilde =
 
 -- ---- the fuzzy match
 
-fits_by_itself : (both : Bool) (token : Token) → cond both (begins_with token.text token.text) (is_eq (token_cmp token token)) ≡ true
+fits_by_itself : (both : Bool) (token : Token) → cond both (is_prefix_of token.text token.text) (is_eq (token_cmp token token)) ≡ true
 fits_by_itself true token =
     (bytes_eq-Decides token.text (take (length token.text) token.text)).1 (sym (take_all (length token.text) token.text (omega arith)))
 fits_by_itself false token = ap is_eq (tied_itself token_cmp-total token)

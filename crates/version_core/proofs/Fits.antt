@@ -9,7 +9,7 @@ use Rattle.version_core.specs.declared.token.Class.{Class}
 use Rattle.version_core.specs.declared.token.Class.TheVariants.{Stray, PreRelease, End, Revision, Hash, SuffixNumber, Suffix, Letter, ZeroComponent, Component}
 use Rattle.version_core.specs.Token.{Token}
 use Rattle.version_core.specs.Order.{class_rank, is_last, token_cmp}
-use Rattle.version_core.specs.Matching.{all_fit, begins_with, fits, is_zero_component}
+use Rattle.version_core.specs.Matching.{all_fit, is_prefix_of, fits, is_zero_component}
 
 abbrev is_last_rank : ℕ → Bool
 is_last_rank rank = eqb rank 2 || eqb rank 0
@@ -63,7 +63,7 @@ both false b h = absurd (false≢true h)
 pub fits_not_last : (w f : Token) → is_last w.class ≡ false → fits w f ≡ true → is_last f.class ≡ false
 unfolding fits
 fits_not_last w f last h =
-    fits_by (is_zero_component w.class && is_zero_component f.class) (begins_with w.text f.text) (is_eq (token_cmp f w)) w.class f.class
+    fits_by (is_zero_component w.class && is_zero_component f.class) (is_prefix_of w.text f.text) (is_eq (token_cmp f w)) w.class f.class
     (λ z. zero_is_not_last f.class (both _ _ z)) (λ e. equal_tokens f w e ∙ last) h
 
 all_fit-step : (w f : Token) (ws fs : List Token) → is_last w.class ≡ false → fits w f ≡ true → all_fit (w ∷ ws) (f ∷ cond (is_last f.class) [] fs) ≡ all_fit ws fs

@@ -6,11 +6,11 @@ use Rattle.std.proofs.lemmas.Bool.Decides.{nat_tests}
 use Rattle.version_core.specs.declared.token.Class.TheVariants.{Stray, Hash, ZeroComponent, Component}
 use Rattle.version_core.specs.declared.lexeme.Lexeme.{Lexeme as LexemeAt}
 use Rattle.version_core.specs.Token.{Lexeme, lexeme, text_token, stray_lexeme, begins_with_zero, is_number, component_lexeme, number_lexeme, hash_lexeme, leading_hex_digits}
-use Rattle.version_core.specs.Reading.{AreDigits, hex_digit_at, is_hash, lexeme_view, plain_view, token_view}
+use Rattle.version_core.specs.Reading.{AreDigits, hex_digit_at, is_hash, lexeme_view, whole_lexeme, token_view}
 use Rattle.version_core.proofs.Runs.{all_hex, any_hex}
 
 -- except for a hash, all bytes of a lexeme are skipped at once
-pub view_plain : (text : List ℕ) (found : LexemeAt) (whole : Lexeme) → plain_view found ≡ whole → is_hash found.token.class ≡ false → lexeme_view text found ≡ whole
+pub view_plain : (text : List ℕ) (found : LexemeAt) (whole : Lexeme) → whole_lexeme found ≡ whole → is_hash found.token.class ≡ false → lexeme_view text found ≡ whole
 view_plain text found whole e plain = rw (plain, add-zero found.advance) e
 
 pub view_hash : (text : List ℕ) (found : LexemeAt) → found.token.class ≡ Hash → found.advance ≡ 1 → lexeme_view text found ≡ lexeme (token_view found.token) (1 + length (leading_hex_digits (drop 1 text)))
@@ -39,13 +39,13 @@ component_lexeme_zero (d ∷ ds) digits few zero =
     ap (λ text. lexeme (text_token ZeroComponent text) (1 + length (d ∷ ds))) (all_hex (d ∷ ds) digits)
     ∙ component_by (is_number (d ∷ ds) && begins_with_zero (d ∷ ds)) (lexeme (text_token ZeroComponent (d ∷ ds)) (1 + length (d ∷ ds))) (number_lexeme Component 1 (d ∷ ds)) both
 
-pub hash_is_stray : (text digits : List ℕ) (found : LexemeAt) (first : Option ℕ) → digits ≡ drop 1 text → first ≡ hex_digit_at digits 0 → is_some first ≡ false → plain_view found ≡ stray_lexeme → found.token.class ≡ Stray → lexeme_view text found ≡ hash_lexeme (leading_hex_digits (drop 1 text))
+pub hash_is_stray : (text digits : List ℕ) (found : LexemeAt) (first : Option ℕ) → digits ≡ drop 1 text → first ≡ hex_digit_at digits 0 → is_some first ≡ false → whole_lexeme found ≡ stray_lexeme → found.token.class ≡ Stray → lexeme_view text found ≡ hash_lexeme (leading_hex_digits (drop 1 text))
 hash_is_stray text digits found first behind at none plain class =
     let same : is_some (hex_digit_at (drop 1 text) 0) ≡ false = rw (← behind) (ap is_some (sym at) ∙ none) in
     let no_hash : is_hash found.token.class ≡ false = rw class refl in
     view_plain text found stray_lexeme plain no_hash ∙ hash_lexeme-stray (drop 1 text) same
 
-pub hash_is_found : (text digits : List ℕ) (found : LexemeAt) (first : Option ℕ) → digits ≡ drop 1 text → first ≡ hex_digit_at digits 0 → is_some first ≡ true → plain_view found ≡ lexeme (text_token Hash (leading_hex_digits digits)) 1 → found.token.class ≡ Hash → lexeme_view text found ≡ hash_lexeme (leading_hex_digits (drop 1 text))
+pub hash_is_found : (text digits : List ℕ) (found : LexemeAt) (first : Option ℕ) → digits ≡ drop 1 text → first ≡ hex_digit_at digits 0 → is_some first ≡ true → whole_lexeme found ≡ lexeme (text_token Hash (leading_hex_digits digits)) 1 → found.token.class ≡ Hash → lexeme_view text found ≡ hash_lexeme (leading_hex_digits (drop 1 text))
 hash_is_found text digits found first behind at some plain class =
     let same : is_some (hex_digit_at (drop 1 text) 0) ≡ true = rw (← behind) (ap is_some (sym at) ∙ some) in
     let one : found.advance ≡ 1 = ap (λ (l : Lexeme). l.width) plain in

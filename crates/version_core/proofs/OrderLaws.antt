@@ -14,7 +14,7 @@ use Rattle.version_core.specs.declared.token.Class.{Class}
 use Rattle.version_core.specs.declared.token.Class.TheVariants.{Stray, PreRelease, End, Revision, Hash, SuffixNumber, Suffix, Letter, ZeroComponent, Component}
 use Rattle.version_core.specs.Token.{Token}
 use Rattle.version_core.specs.Order.{class_rank, is_last, token_cmp, tokens, version_cmp}
-use Rattle.version_core.specs.Matching.{all_fit, begins_with, fits, is_fuzzy_match, is_zero_component, matches, has_bit}
+use Rattle.version_core.specs.Matching.{all_fit, is_prefix_of, fits, is_fuzzy_match, is_zero_component, matches, has_bit}
 use Rattle.version_core.proofs.Fits.{nat_cmp-Equal}
 
 -- each part of the comparison of two tokens is a total order
@@ -106,7 +106,7 @@ fits_by false b c h k = k
 fits-itself : (t : Token) → fits t t ≡ true
 unfolding fits
 fits-itself t =
-    fits_by (is_zero_component t.class && is_zero_component t.class) (begins_with t.text t.text) (is_eq (token_cmp t t))
+    fits_by (is_zero_component t.class && is_zero_component t.class) (is_prefix_of t.text t.text) (is_eq (token_cmp t t))
     ((bytes_eq-Decides t.text (take (length t.text) t.text)).1 (sym (take_all (length t.text) t.text (omega arith)))) (is_eq-itself t)
 
 all_fit-itself : (ts : List Token) → all_fit ts ts ≡ true

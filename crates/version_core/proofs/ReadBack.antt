@@ -13,7 +13,7 @@ use Rattle.version_core.specs.declared.token.Class.{Class}
 use Rattle.version_core.specs.declared.token.Class.TheVariants.{Stray, PreRelease, End, Revision, Hash, SuffixNumber, Suffix, Letter, ZeroComponent, Component}
 use Rattle.version_core.specs.Token.{Token, Lexeme, number_token, text_token, lexeme, stray_lexeme, is_number, is_hex_digit, is_component, is_suffix, is_before_hash, is_before_revision, begins_with_zero, leading_digits, leading_hex_digits, leading_letters, number_lexeme, component_lexeme, suffix_rank, suffix_lexeme, suffix_lexeme_by, hash_lexeme, revision_lexeme, next_lexeme}
 use Rattle.version_core.specs.Order.{are_in_grammar, is_last, is_stray, is_version, tokens, tokens_after}
-use Rattle.version_core.specs.Grammar.{Parts, IsSpelled, if_some, is_numeral, is_hash_text, is_suffix_part, SuffixPart, later_text, letter_text, number_text, suffixes_text, hash_text, revision_text, component_token}
+use Rattle.version_core.specs.Grammar.{Parts, IsSpelled, is_none_or, is_numeral, is_hash_text, is_suffix_part, SuffixPart, later_text, letter_text, number_text, suffixes_text, hash_text, revision_text, component_token}
 use Rattle.version_core.proofs.Walk.{after, is_number-pos, tokens_after-step}
 use Rattle.version_core.proofs.Spelled.{first_true, then_true, number_read, component_read, component_is_not_last_by, suffix_whole_by, suffix_class_by, suffix_is_not_last, hash_read, component_before_hash, before_hash_before_revision, suffix_before_hash}
 
@@ -84,11 +84,11 @@ record IsTail (last : Class) (text : List ℕ) : Type 0 where
   hash : Option (List ℕ)
   revision : Option (List ℕ)
   later_ok : list_all is_numeral later ≡ true
-  letter_ok : if_some is_ascii_lowercase letter ≡ true
-  number_ok : if_some is_numeral number ≡ true
+  letter_ok : is_none_or is_ascii_lowercase letter ≡ true
+  number_ok : is_none_or is_numeral number ≡ true
   suffixes_ok : list_all is_suffix_part suffixes ≡ true
-  hash_ok : if_some is_hash_text hash ≡ true
-  revision_ok : if_some is_numeral revision ≡ true
+  hash_ok : is_none_or is_hash_text hash ≡ true
+  revision_ok : is_none_or is_numeral revision ≡ true
   no_later : is_component last ≡ false → later ≡ []
   no_letter : is_component last ≡ false → letter ≡ None
   no_number : is_suffix last ≡ false → number ≡ None
@@ -187,8 +187,8 @@ with_suffix last class name behind h plain known end = record {
   later_ok = refl;
   letter_ok = refl;
   number_ok = refl;
-  suffixes_ok = and_from (is_some (suffix_rank name) && if_some is_numeral end.number) (list_all is_suffix_part end.suffixes)
-      (and_from (is_some (suffix_rank name)) (if_some is_numeral end.number) known end.number_ok) end.suffixes_ok;
+  suffixes_ok = and_from (is_some (suffix_rank name) && is_none_or is_numeral end.number) (list_all is_suffix_part end.suffixes)
+      (and_from (is_some (suffix_rank name)) (is_none_or is_numeral end.number) known end.number_ok) end.suffixes_ok;
   hash_ok = end.hash_ok;
   revision_ok = end.revision_ok;
   no_later = λ _. refl;
@@ -440,8 +440,8 @@ spelled text h =
       parts = parts;
       sound =
           and_from (is_numeral ds) _ numeral (and_from (list_all is_numeral end.later) _ end.later_ok
-          (and_from (if_some is_ascii_lowercase end.letter) _ end.letter_ok (and_from (list_all is_suffix_part end.suffixes) _ end.suffixes_ok
-          (and_from (if_some is_hash_text end.hash) (if_some is_numeral end.revision) end.hash_ok end.revision_ok))));
+          (and_from (is_none_or is_ascii_lowercase end.letter) _ end.letter_ok (and_from (list_all is_suffix_part end.suffixes) _ end.suffixes_ok
+          (and_from (is_none_or is_hash_text end.hash) (is_none_or is_numeral end.revision) end.hash_ok end.revision_ok))));
       whole =
           ap (λ t. ds ++ t) (sym (end.whole ∙ ap (λ number. tail_text end.later end.letter number end.suffixes end.hash end.revision) (end.no_number refl)))
           ∙ sym (split_run is_ascii_digit text);

@@ -14,7 +14,7 @@ use Rattle.version_core.specs.declared.token.Class.{Class}
 use Rattle.version_core.specs.declared.token.Class.TheVariants.{Stray, PreRelease, End, Revision, Hash, SuffixNumber, Suffix, Letter, ZeroComponent, Component}
 use Rattle.version_core.specs.Token.{Token, Lexeme, bare_token, number_token, text_token, lexeme, stray_lexeme, is_number, is_hex_digit, is_component, is_suffix, is_before_hash, is_before_revision, begins_with_zero, leading_digits, leading_hex_digits, leading_letters, number_lexeme, component_lexeme, suffix_rank, suffix_lexeme, suffix_lexeme_by, hash_lexeme, revision_lexeme, next_lexeme, lexeme_at}
 use Rattle.version_core.specs.Order.{are_in_grammar, is_last, is_stray, is_version, tokens, tokens_after}
-use Rattle.version_core.specs.Grammar.{Parts, are_parts, spelling, tokens_of, if_some, is_numeral, is_hash_text, is_suffix_part, SuffixPart, later_text, letter_text, number_text, suffixes_text, hash_text, revision_text, component_token, later_tokens, letter_tokens, number_tokens, suffix_tokens, hash_tokens, revision_tokens}
+use Rattle.version_core.specs.Grammar.{Parts, are_parts, spelling, tokens_of, is_none_or, is_numeral, is_hash_text, is_suffix_part, SuffixPart, later_text, letter_text, number_text, suffixes_text, hash_text, revision_text, component_token, later_tokens, letter_tokens, number_tokens, suffix_tokens, hash_tokens, revision_tokens}
 use Rattle.version_core.proofs.Walk.{after, tokens_after-step}
 
 -- ---- tests
@@ -64,7 +64,7 @@ begins-later : (q : ℕ → Bool) (ds : List (List ℕ)) (rest : List ℕ) → q
 begins-later q [] rest dot h = h
 begins-later q (d ∷ ds) rest dot h = dot
 
-begins-letter : (l : Option ℕ) (rest : List ℕ) → if_some is_ascii_lowercase l ≡ true → begins is_ascii_digit rest ≡ false → begins is_ascii_digit (letter_text l ++ rest) ≡ false
+begins-letter : (l : Option ℕ) (rest : List ℕ) → is_none_or is_ascii_lowercase l ≡ true → begins is_ascii_digit rest ≡ false → begins is_ascii_digit (letter_text l ++ rest) ≡ false
 begins-letter None rest small h = h
 begins-letter (Some b) rest small h = letter_is_no_digit b small
 
@@ -119,7 +119,7 @@ at_end : (last : Class) → tokens_after (Some last) 0 [] ≡ bare_token End ∷
 unfolding next_lexeme
 at_end last = refl
 
-read_revision : (revision : Option (List ℕ)) (last : Class) → is_before_revision last ≡ true → if_some is_numeral revision ≡ true → tokens_after (Some last) 0 (revision_text revision) ≡ revision_tokens revision ++ bare_token End ∷ []
+read_revision : (revision : Option (List ℕ)) (last : Class) → is_before_revision last ≡ true → is_none_or is_numeral revision ≡ true → tokens_after (Some last) 0 (revision_text revision) ≡ revision_tokens revision ++ bare_token End ∷ []
 read_revision None last h ok = at_end last
 read_revision (Some ds) last h ok =
     let long : 2 + length ds ≡ length (45 ∷ 114 ∷ ds) = omega arith in
@@ -150,7 +150,7 @@ before_hash_before_revision Letter h = h
 before_hash_before_revision ZeroComponent h = h
 before_hash_before_revision Component h = h
 
-read_hash : (hash : Option (List ℕ)) (last : Class) (rest : List ℕ) (ts : List Token) → is_before_hash last ≡ true → if_some is_hash_text hash ≡ true → begins is_hex_digit rest ≡ false → ((class : Class) → is_before_revision class ≡ true → tokens_after (Some class) 0 rest ≡ ts) → tokens_after (Some last) 0 (hash_text hash ++ rest) ≡ hash_tokens hash ++ ts
+read_hash : (hash : Option (List ℕ)) (last : Class) (rest : List ℕ) (ts : List Token) → is_before_hash last ≡ true → is_none_or is_hash_text hash ≡ true → begins is_hex_digit rest ≡ false → ((class : Class) → is_before_revision class ≡ true → tokens_after (Some class) 0 rest ≡ ts) → tokens_after (Some last) 0 (hash_text hash ++ rest) ≡ hash_tokens hash ++ ts
 read_hash None last rest ts h ok other more = more last (before_hash_before_revision last h)
 read_hash (Some ds) last rest ts h ok other more =
     let long : 1 + length ds ≡ length (126 ∷ ds) = omega arith in
@@ -190,7 +190,7 @@ suffix_is_not_last Letter h = refl
 suffix_is_not_last ZeroComponent h = refl
 suffix_is_not_last Component h = refl
 
-read_number : (number : Option (List ℕ)) (last : Class) (rest : List ℕ) (ts : List Token) → is_suffix last ≡ true → if_some is_numeral number ≡ true → begins is_ascii_digit rest ≡ false → ((class : Class) → is_before_hash class ≡ true → tokens_after (Some class) 0 rest ≡ ts) → tokens_after (Some last) 0 (number_text number ++ rest) ≡ number_tokens number ++ ts
+read_number : (number : Option (List ℕ)) (last : Class) (rest : List ℕ) (ts : List Token) → is_suffix last ≡ true → is_none_or is_numeral number ≡ true → begins is_ascii_digit rest ≡ false → ((class : Class) → is_before_hash class ≡ true → tokens_after (Some class) 0 rest ≡ ts) → tokens_after (Some last) 0 (number_text number ++ rest) ≡ number_tokens number ++ ts
 read_number None last rest ts h ok other more = more last (suffix_before_hash last h)
 read_number (Some []) last rest ts h ok other more = absurd (false≢true ok)
 read_number (Some (d ∷ ds)) last rest ts h ok other more =
@@ -236,7 +236,7 @@ suffix_letters word =
     (known_word (bytes_eq word (codes "p")) word (codes "p") 8 None (bytes_eq-Decides word (codes "p")).0 refl
     (λ h. absurd (false≢true h))))))))))
 
-begins_no_letter : (number : Option (List ℕ)) (rest : List ℕ) → if_some is_numeral number ≡ true → begins is_ascii_lowercase rest ≡ false → begins is_ascii_lowercase (number_text number ++ rest) ≡ false
+begins_no_letter : (number : Option (List ℕ)) (rest : List ℕ) → is_none_or is_numeral number ≡ true → begins is_ascii_lowercase rest ≡ false → begins is_ascii_lowercase (number_text number ++ rest) ≡ false
 begins_no_letter None rest ok h = h
 begins_no_letter (Some ds) rest ok h = digits_are_no_letters ds rest (numeral_digits ds ok) h
 
@@ -245,8 +245,8 @@ read_suffixes [] last rest ts h ok no_digit no_letter more = more last h
 read_suffixes (s ∷ ss) last rest ts h ok no_digit no_letter more =
     let behind : List ℕ = suffixes_text ss ++ rest in
     let here = first_true (is_suffix_part s) (list_all is_suffix_part ss) ok in
-    let known = first_true (is_some (suffix_rank s.name)) (if_some is_numeral s.number) here in
-    let number = then_true (is_some (suffix_rank s.name)) (if_some is_numeral s.number) here in
+    let known = first_true (is_some (suffix_rank s.name)) (is_none_or is_numeral s.number) here in
+    let number = then_true (is_some (suffix_rank s.name)) (is_none_or is_numeral s.number) here in
     let whole : (95 ∷ (s.name ++ (number_text s.number ++ suffixes_text ss))) ++ rest ≡ 95 ∷ (s.name ++ (number_text s.number ++ behind)) =
     ap (λ t. 95 ∷ t) (append_assoc s.name (number_text s.number ++ suffixes_text ss) rest ∙ ap (λ t. s.name ++ t) (append_assoc (number_text s.number) (suffixes_text ss) rest)) in
     let long : 1 + length s.name ≡ length (95 ∷ s.name) = omega arith in
@@ -281,7 +281,7 @@ component_before_hash Letter h = refl
 component_before_hash ZeroComponent h = refl
 component_before_hash Component h = refl
 
-read_letter : (letter : Option ℕ) (last : Class) (rest : List ℕ) (ts : List Token) → is_component last ≡ true → if_some is_ascii_lowercase letter ≡ true → ((class : Class) → is_before_hash class ≡ true → tokens_after (Some class) 0 rest ≡ ts) → tokens_after (Some last) 0 (letter_text letter ++ rest) ≡ letter_tokens letter ++ ts
+read_letter : (letter : Option ℕ) (last : Class) (rest : List ℕ) (ts : List Token) → is_component last ≡ true → is_none_or is_ascii_lowercase letter ≡ true → ((class : Class) → is_before_hash class ≡ true → tokens_after (Some class) 0 rest ≡ ts) → tokens_after (Some last) 0 (letter_text letter ++ rest) ≡ letter_tokens letter ++ ts
 read_letter None last rest ts h ok more = more last (component_before_hash last h)
 read_letter (Some b) last rest ts h ok more =
     read_token (Some last) (b ∷ rest) (b ∷ []) rest (number_token Letter b) 1 refl refl (next_letter last b rest h ok) refl
@@ -336,10 +336,10 @@ read_later (ds ∷ later) last rest ts h ok other more =
 record InGrammar (parts : Parts) : Type 0 where
   first : is_numeral parts.first ≡ true
   later : list_all is_numeral parts.later ≡ true
-  letter : if_some is_ascii_lowercase parts.letter ≡ true
+  letter : is_none_or is_ascii_lowercase parts.letter ≡ true
   suffixes : list_all is_suffix_part parts.suffixes ≡ true
-  hash : if_some is_hash_text parts.hash ≡ true
-  revision : if_some is_numeral parts.revision ≡ true
+  hash : is_none_or is_hash_text parts.hash ≡ true
+  revision : is_none_or is_numeral parts.revision ≡ true
 
 in_grammar_by : (a b c d e f : Bool) → (a && (b && (c && (d && (e && f))))) ≡ true → (a ≡ true) × (b ≡ true) × (c ≡ true) × (d ≡ true) × (e ≡ true) × (f ≡ true)
 in_grammar_by true true true true true f h = (refl, refl, refl, refl, refl, h)
@@ -351,8 +351,8 @@ in_grammar_by false b c d e f h = absurd (false≢true h)
 
 in_grammar : (parts : Parts) → are_parts parts ≡ true → InGrammar parts
 in_grammar parts ok =
-    let six = in_grammar_by (is_numeral parts.first) (list_all is_numeral parts.later) (if_some is_ascii_lowercase parts.letter)
-    (list_all is_suffix_part parts.suffixes) (if_some is_hash_text parts.hash) (if_some is_numeral parts.revision) ok in
+    let six = in_grammar_by (is_numeral parts.first) (list_all is_numeral parts.later) (is_none_or is_ascii_lowercase parts.letter)
+    (list_all is_suffix_part parts.suffixes) (is_none_or is_hash_text parts.hash) (is_none_or is_numeral parts.revision) ok in
     record { first = six.0; later = six.1; letter = six.2; suffixes = six.3; hash = six.4; revision = six.5 }
 
 pub read_spelling : (parts : Parts) → are_parts parts ≡ true → tokens (spelling parts) ≡ tokens_of parts
@@ -416,7 +416,7 @@ suffix_sound word (Some rank) h = suffix_sound_by (ltb rank 4)
 suffixes_sound : (suffixes : List SuffixPart) → list_all is_suffix_part suffixes ≡ true → are_in_grammar (suffix_tokens suffixes) ≡ true
 suffixes_sound [] ok = refl
 suffixes_sound (s ∷ ss) ok =
-    let known = first_true (is_some (suffix_rank s.name)) (if_some is_numeral s.number) (first_true (is_suffix_part s) (list_all is_suffix_part ss) ok) in
+    let known = first_true (is_some (suffix_rank s.name)) (is_none_or is_numeral s.number) (first_true (is_suffix_part s) (list_all is_suffix_part ss) ok) in
     rw (suffix_sound s.name (suffix_rank s.name) known)
     (sound-append (number_tokens s.number) (suffix_tokens ss) (number_sound s.number) (suffixes_sound ss (then_true (is_suffix_part s) (list_all is_suffix_part ss) ok)))
 

@@ -10,7 +10,7 @@ use Rattle.std.proofs.lemmas.Bool.Decides.{nat_tests}
 use Rattle.std.proofs.lemmas.List.Folds.{list_all-append}
 use Rattle.version_core.specs.Order.{is_version}
 use Rattle.version_core.specs.Token.{is_hex_digit, is_number, suffix_rank}
-use Rattle.version_core.specs.Grammar.{IsSpelled, Parts, SuffixPart, are_parts, hash_text, if_some, is_hash_text, is_numeral, is_suffix_part, later_text, letter_text, number_text, revision_text, spelling, suffixes_text, begins_with_digit, is_version_byte}
+use Rattle.version_core.specs.Grammar.{IsSpelled, Parts, SuffixPart, are_parts, hash_text, is_none_or, is_hash_text, is_numeral, is_suffix_part, later_text, letter_text, number_text, revision_text, spelling, suffixes_text, begins_with_digit, is_version_byte}
 use Rattle.version_core.proofs.ReadBack.{spelled}
 
 pub all-imp : (P Q : ℕ → Bool) → ((b : ℕ) → P b ≡ true → Q b ≡ true) → (xs : List ℕ) → list_all P xs ≡ true → list_all Q xs ≡ true
@@ -69,11 +69,11 @@ later-bytes (digits ∷ later) h =
     let parts : (is_numeral digits ≡ true) × (list_all is_numeral later ≡ true) = and_parts (is_numeral digits) (list_all is_numeral later) h in
     all-append is_version_byte digits (later_text later) (numeral-bytes digits parts.0) (later-bytes later parts.1)
 
-letter-bytes : (letter : Option ℕ) → if_some is_ascii_lowercase letter ≡ true → list_all is_version_byte (letter_text letter) ≡ true
+letter-bytes : (letter : Option ℕ) → is_none_or is_ascii_lowercase letter ≡ true → list_all is_version_byte (letter_text letter) ≡ true
 letter-bytes None h = refl
 letter-bytes (Some letter) h = and_from (is_version_byte letter) true (letter-byte letter h) refl
 
-number-bytes : (number : Option (List ℕ)) → if_some is_numeral number ≡ true → list_all is_version_byte (number_text number) ≡ true
+number-bytes : (number : Option (List ℕ)) → is_none_or is_numeral number ≡ true → list_all is_version_byte (number_text number) ≡ true
 number-bytes None h = refl
 number-bytes (Some digits) h = numeral-bytes digits h
 
@@ -81,16 +81,16 @@ suffixes-bytes : (suffixes : List SuffixPart) → list_all is_suffix_part suffix
 suffixes-bytes [] h = refl
 suffixes-bytes (suffix ∷ rest) h =
     let parts : (is_suffix_part suffix ≡ true) × (list_all is_suffix_part rest ≡ true) = and_parts (is_suffix_part suffix) (list_all is_suffix_part rest) h in
-    let both : (is_some (suffix_rank suffix.name) ≡ true) × (if_some is_numeral suffix.number ≡ true) =
-    and_parts (is_some (suffix_rank suffix.name)) (if_some is_numeral suffix.number) parts.0 in
+    let both : (is_some (suffix_rank suffix.name) ≡ true) × (is_none_or is_numeral suffix.number ≡ true) =
+    and_parts (is_some (suffix_rank suffix.name)) (is_none_or is_numeral suffix.number) parts.0 in
     all-append is_version_byte suffix.name (number_text suffix.number ++ suffixes_text rest) (word-bytes suffix.name both.0) (all-append is_version_byte (number_text suffix.number) (suffixes_text rest) (number-bytes suffix.number both.1) (suffixes-bytes rest parts.1))
 
-hash-bytes : (hash : Option (List ℕ)) → if_some is_hash_text hash ≡ true → list_all is_version_byte (hash_text hash) ≡ true
+hash-bytes : (hash : Option (List ℕ)) → is_none_or is_hash_text hash ≡ true → list_all is_version_byte (hash_text hash) ≡ true
 hash-bytes None h = refl
 hash-bytes (Some digits) h =
     all-imp is_hex_digit is_version_byte hex-byte digits (and_parts (nat_lt 0 (length digits)) (list_all is_hex_digit digits) h).1
 
-revision-bytes : (revision : Option (List ℕ)) → if_some is_numeral revision ≡ true → list_all is_version_byte (revision_text revision) ≡ true
+revision-bytes : (revision : Option (List ℕ)) → is_none_or is_numeral revision ≡ true → list_all is_version_byte (revision_text revision) ≡ true
 revision-bytes None h = refl
 revision-bytes (Some digits) h = numeral-bytes digits h
 
@@ -98,9 +98,9 @@ spelling-bytes : (parts : Parts) → are_parts parts ≡ true → list_all is_ve
 spelling-bytes parts h =
     let a = and_parts (is_numeral parts.first) _ h in
     let b = and_parts (list_all is_numeral parts.later) _ a.1 in
-    let c = and_parts (if_some is_ascii_lowercase parts.letter) _ b.1 in
+    let c = and_parts (is_none_or is_ascii_lowercase parts.letter) _ b.1 in
     let d = and_parts (list_all is_suffix_part parts.suffixes) _ c.1 in
-    let e = and_parts (if_some is_hash_text parts.hash) _ d.1 in
+    let e = and_parts (is_none_or is_hash_text parts.hash) _ d.1 in
     all-append is_version_byte parts.first _ (numeral-bytes parts.first a.0) (all-append is_version_byte (later_text parts.later) _ (later-bytes parts.later b.0) (all-append is_version_byte (letter_text parts.letter) _ (letter-bytes parts.letter c.0) (all-append is_version_byte (suffixes_text parts.suffixes) _ (suffixes-bytes parts.suffixes d.0) (all-append is_version_byte (hash_text parts.hash) (revision_text parts.revision) (hash-bytes parts.hash e.0) (revision-bytes parts.revision e.1)))))
 
 first-by : (first rest : List ℕ) → is_numeral first ≡ true → begins_with_digit (first ++ rest) ≡ true

@@ -34,9 +34,9 @@ pub record Parts : Type 0 where
   pub revision : Option (List ℕ)
 
 -- whether an optional part is absent or passes a test
-abbrev pub if_some : {X : Type 0} → (X → Bool) → Option X → Bool
-if_some test None = true
-if_some test (Some x) = test x
+abbrev pub is_none_or : {X : Type 0} → (X → Bool) → Option X → Bool
+is_none_or test None = true
+is_none_or test (Some x) = test x
 
 -- a number of a version: 1 to 18 decimal digits
 abbrev pub is_numeral : List ℕ → Bool
@@ -48,14 +48,14 @@ is_hash_text digits = nat_lt 0 (length digits) && list_all is_hex_digit digits
 
 -- whether a suffix has a known word, and a number or none
 abbrev pub is_suffix_part : SuffixPart → Bool
-is_suffix_part suffix = is_some (suffix_rank suffix.name) && if_some is_numeral suffix.number
+is_suffix_part suffix = is_some (suffix_rank suffix.name) && is_none_or is_numeral suffix.number
 
 -- whether each part follows the grammar, so that the parts are those of a version
 abbrev pub are_parts : Parts → Bool
 are_parts parts =
     is_numeral parts.first && (list_all is_numeral parts.later
-    && (if_some is_ascii_lowercase parts.letter && (list_all is_suffix_part parts.suffixes
-    && (if_some is_hash_text parts.hash && if_some is_numeral parts.revision))))
+    && (is_none_or is_ascii_lowercase parts.letter && (list_all is_suffix_part parts.suffixes
+    && (is_none_or is_hash_text parts.hash && is_none_or is_numeral parts.revision))))
 
 -- the text of the components after the first: `.` before each
 abbrev pub later_text : List (List ℕ) → List ℕ

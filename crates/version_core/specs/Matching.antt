@@ -18,8 +18,8 @@ abbrev pub has_bit : ℕ → ℕ → Bool
 has_bit bits bit = not (bit_and bits bit == 0)
 
 -- whether a component that is compared as text begins with the wanted one
-abbrev pub begins_with : List ℕ → List ℕ → Bool
-begins_with wanted found = bytes_eq wanted (take (length wanted) found)
+abbrev pub is_prefix_of : List ℕ → List ℕ → Bool
+is_prefix_of wanted found = bytes_eq wanted (take (length wanted) found)
 
 -- whether a token is a later component that begins with 0
 abbrev pub is_zero_component : Class → Bool
@@ -31,7 +31,7 @@ is_zero_component _ = false
 unfoldable pub fits : Token → Token → Bool
 fits wanted found =
     if is_zero_component wanted.class && is_zero_component found.class
-    then begins_with wanted.text found.text else
+    then is_prefix_of wanted.text found.text else
     is_eq (token_cmp found wanted)
 
 -- whether each wanted token, up to the end of the wanted version, fits the found token at its place

@@ -40,8 +40,8 @@ abbrev pub tokens_left : Tokens → List Token
 tokens_left left = tokens_after left.last (unread_len left.last left.rest.now) left.rest.now
 
 -- the lexeme of the code for a token that is no hash: the reader skips all of its bytes at once
-abbrev pub plain_view : LexemeAt → Lexeme
-plain_view found = lexeme (token_view found.token) found.advance
+abbrev pub whole_lexeme : LexemeAt → Lexeme
+whole_lexeme found = lexeme (token_view found.token) found.advance
 
 -- the lexeme of the code at the front of a text. The reader skips only the mark of a hash; its digits
 -- are the rest of its width

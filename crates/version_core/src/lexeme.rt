@@ -10,7 +10,7 @@ ghost use Rattle.std.specs.Cmp.Lexicographic.{slice_cmp};
 ghost use Rattle.std.specs.Str.Parse.{digits_value};
 ghost use Rattle.version_core.specs.Token.{begins_with_zero, component_lexeme, leading_digits, hash_lexeme, leading_hex_digits, is_hex_digit, lexeme, lexeme_at, next_lexeme, number_lexeme, number_token, revision_lexeme, stray_lexeme, suffix_class, suffix_lexeme, suffix_rank, leading_letters, text_token, MOST_DIGITS};
 ghost use Rattle.version_core.specs.Overlapping.{passed_len};
-ghost use Rattle.version_core.specs.Reading.{AreDigits, hex_digit_at, is_hash, lexeme_view, plain_view};
+ghost use Rattle.version_core.specs.Reading.{AreDigits, hex_digit_at, is_hash, lexeme_view, whole_lexeme};
 
 use crate::token::{Class, TokenAt};
 use std::cmp::Ordering;
@@ -30,7 +30,7 @@ pub struct Lexeme<'a> {
 
 /// The lexeme of a token that is compared by a number; `advance` is how many bytes spell it.
 fn lexeme_of_number<'a>(class: Class, number: u64, advance: usize) -> Lexeme<'a>
-    ensures token { plain_view result ≡ lexeme (number_token class number) advance }
+    ensures token { whole_lexeme result ≡ lexeme (number_token class number) advance }
     ensures class { result.token.class ≡ class }
 {
     let token = TokenAt {
@@ -43,7 +43,7 @@ fn lexeme_of_number<'a>(class: Class, number: u64, advance: usize) -> Lexeme<'a>
 
 /// The lexeme of a token that is compared as text; `advance` is how many bytes its reader skips.
 fn lexeme_of_text(class: Class, text: &[u8], advance: usize) -> Lexeme<'_>
-    ensures token { plain_view result
+    ensures token { whole_lexeme result
         ≡ lexeme (text_token class (leading_hex_digits text.now)) advance }
     ensures class { result.token.class ≡ class }
     ensures text { result.token.text.now ≡ text.now }
@@ -58,7 +58,7 @@ fn lexeme_of_text(class: Class, text: &[u8], advance: usize) -> Lexeme<'_>
 
 /// The lexeme for bytes that are no token of the grammar.
 fn stray_lexeme<'a>() -> Lexeme<'a>
-    ensures token { plain_view result ≡ stray_lexeme }
+    ensures token { whole_lexeme result ≡ stray_lexeme }
     ensures class { result.token.class ≡ Class.Stray }
 {
     lexeme_of_number(Class::Stray, 0, 0)
@@ -114,7 +114,7 @@ fn number(class: Class, mark: usize, digits: &[u8]) -> Lexeme<'_>
     requires digits { AreDigits digits.now }
     requires small { mark ≤ 2 }
     requires plain { is_hash class ≡ false }
-    ensures token { plain_view result ≡ number_lexeme class mark digits.now }
+    ensures token { whole_lexeme result ≡ number_lexeme class mark digits.now }
     ensures plain { is_hash result.token.class ≡ false }
 {
     if digits.is_empty() || digits.len() > MOST_DIGITS {
@@ -128,7 +128,7 @@ fn number(class: Class, mark: usize, digits: &[u8]) -> Lexeme<'_>
 #[tactic(auto, using(crate::proofs::Lexemes::component_lexeme_zero), unfolding(crate::specs::Token::component_lexeme))]
 fn component(digits: &[u8]) -> Lexeme<'_>
     requires { AreDigits digits.now }
-    ensures token { plain_view result ≡ component_lexeme digits.now }
+    ensures token { whole_lexeme result ≡ component_lexeme digits.now }
     ensures plain { is_hash result.token.class ≡ false }
 {
     if begins_with_zero(digits) && digits.len() <= MOST_DIGITS {
@@ -146,7 +146,7 @@ fn begins_with_zero(digits: &[u8]) -> bool
 
 /// The lexeme of a suffix, by its word.
 fn suffix(word: &[u8]) -> Lexeme<'_>
-    ensures token { plain_view result ≡ suffix_lexeme word.now }
+    ensures token { whole_lexeme result ≡ suffix_lexeme word.now }
     ensures plain { is_hash result.token.class ≡ false }
 {
     match suffix_rank(word) {
@@ -201,7 +201,7 @@ fn hash(text: &[u8]) -> Lexeme<'_>
 /// The lexeme of a revision; the text begins after its `-`.
 #[tactic(auto, unfolding(crate::specs::Token::revision_lexeme))]
 fn revision(text: &[u8]) -> Lexeme<'_>
-    ensures token { plain_view result ≡ revision_lexeme text.now }
+    ensures token { whole_lexeme result ≡ revision_lexeme text.now }
     ensures plain { is_hash result.token.class ≡ false }
 {
     match text.split_first() {

@@ -11,7 +11,7 @@ use Rattle.command_core.specs.declared.command.Applet.TheVariants.{Add, Del, Fix
 use Rattle.command_core.specs.declared.command.Flags.{Flags}
 use Rattle.command_core.specs.declared.values.OptionValue.{OptionValue}
 use Rattle.command_core.specs.declared.values.ValueRule.{ValueRule}
-use Rattle.command_core.specs.Sound.{may_have, value_rules, are_apart, are_values, excludes_by, is_value_by, rule_for}
+use Rattle.command_core.specs.Sound.{may_have, value_rules, may_both_be_given, are_values, excludes_by, is_value_by, rule_for}
 use Rattle.command_core.specs.Operands.{operand_at}
 use Rattle.command_core.specs.Values.{excludes, is_excluded, is_given, is_spent, is_value, option_value}
 use Rattle.words_core.specs.declared.options.Meaning.{Meaning}
@@ -61,7 +61,7 @@ pub both_false : (a b c : Bool) → (a && (b || c)) ≡ false → ((a && b) ≡ 
 both_false true b c h = or_parts b c h
 both_false false b c h = (refl, refl)
 
-pub apart_by : (rules : List ValueRule) (rule : ValueRule) (w : OptionValue) (text : List ℕ) (place : ℕ) → rule_for rules rule.letter ≡ Some rule → (rule.single && (w.letter == rule.letter)) ≡ false → ((w.letter == rule.letter) && excludes rule.kind w.text text) ≡ false → are_apart rules w (option_value place rule.letter text) ≡ true
+pub apart_by : (rules : List ValueRule) (rule : ValueRule) (w : OptionValue) (text : List ℕ) (place : ℕ) → rule_for rules rule.letter ≡ Some rule → (rule.single && (w.letter == rule.letter)) ≡ false → ((w.letter == rule.letter) && excludes rule.kind w.text text) ≡ false → may_both_be_given rules w (option_value place rule.letter text) ≡ true
 apart_by rules rule w text place own spent excluded =
     elim (w.letter == rule.letter) as (λ b. (w.letter == rule.letter) ≡ b → (rule.single && b) ≡ false → (b && excludes rule.kind w.text text) ≡ false → not (b && excludes_by (rule_for rules w.letter) w.text text) ≡ true) [
       | true ↦ λ e s x.
@@ -81,11 +81,11 @@ values_push rules rule text place [] own good spent excluded are = rw own (rw go
 values_push rules rule text place (w ∷ ws) own good spent excluded are =
     let first = both_false rule.single (w.letter == rule.letter) (is_given rule.letter ws) spent in
     let others = or_parts ((w.letter == rule.letter) && excludes rule.kind w.text text) (is_excluded rule text ws) excluded in
-    let parts = and_parts (is_value_by (rule_for rules w.letter) w.text && list_all (are_apart rules w) ws) (are_values rules ws) are in
-    let both = and_parts (is_value_by (rule_for rules w.letter) w.text) (list_all (are_apart rules w) ws) parts.0 in
-    let last : list_all (are_apart rules w) (option_value place rule.letter text ∷ []) ≡ true = and_from (are_apart rules w (option_value place rule.letter text)) true (apart_by rules rule w text place own first.0 others.0) refl in
-    let all : list_all (are_apart rules w) (ws ++ (option_value place rule.letter text ∷ [])) ≡ true = list_all-append (are_apart rules w) ws (option_value place rule.letter text ∷ []) ∙ and_from (list_all (are_apart rules w) ws) _ both.1 last in
-    and_from (is_value_by (rule_for rules w.letter) w.text && list_all (are_apart rules w) (ws ++ (option_value place rule.letter text ∷ []))) _
+    let parts = and_parts (is_value_by (rule_for rules w.letter) w.text && list_all (may_both_be_given rules w) ws) (are_values rules ws) are in
+    let both = and_parts (is_value_by (rule_for rules w.letter) w.text) (list_all (may_both_be_given rules w) ws) parts.0 in
+    let last : list_all (may_both_be_given rules w) (option_value place rule.letter text ∷ []) ≡ true = and_from (may_both_be_given rules w (option_value place rule.letter text)) true (apart_by rules rule w text place own first.0 others.0) refl in
+    let all : list_all (may_both_be_given rules w) (ws ++ (option_value place rule.letter text ∷ [])) ≡ true = list_all-append (may_both_be_given rules w) ws (option_value place rule.letter text ∷ []) ∙ and_from (list_all (may_both_be_given rules w) ws) _ both.1 last in
+    and_from (is_value_by (rule_for rules w.letter) w.text && list_all (may_both_be_given rules w) (ws ++ (option_value place rule.letter text ∷ []))) _
     (and_from (is_value_by (rule_for rules w.letter) w.text) _ both.0 all)
     (values_push rules rule text place ws own good first.1 others.1 parts.1)
 

@@ -12,7 +12,7 @@ use Rattle.command_core.specs.declared.command.Applet.TheVariants.{Add}
 use Rattle.command_core.specs.declared.command.Flag.{Flag}
 use Rattle.command_core.specs.declared.command.Flag.TheVariants.{AllowUntrusted, Check, Contents, Depends, Initdb, Installed, NoScripts, Purge, Simulate, Test, WhoOwns}
 use Rattle.command_core.specs.declared.command.Flags.{Flags}
-use Rattle.command_core.specs.Sound.{allowed_flags, may_have, all_flags, are_within, is_single}
+use Rattle.command_core.specs.Sound.{allowed_flags, may_have, all_flags, are_within, has_at_most_one}
 use Rattle.command_core.specs.Flags.{has_flag, has_kind, kinds, no_flags, with_flag}
 use Rattle.words_core.specs.declared.options.Meaning.{Meaning}
 use Rattle.words_core.specs.declared.options.Meaning.TheVariants.{Flag as Plain, Kind, Value}
@@ -143,7 +143,7 @@ is_kind Check = true
 is_kind flag = false
 
 -- a flag that is no kind changes nothing
-single_plain : (g : Flag) (flags : Flags) → is_kind g ≡ false → is_single kinds flags ≡ true → is_single kinds (with_flag g flags) ≡ true
+single_plain : (g : Flag) (flags : Flags) → is_kind g ≡ false → has_at_most_one kinds flags ≡ true → has_at_most_one kinds (with_flag g flags) ≡ true
 single_plain Installed flags k s = absurd (true≢false k)
 single_plain Contents flags k s = absurd (true≢false k)
 single_plain Depends flags k s = absurd (true≢false k)
@@ -168,7 +168,7 @@ flags_by a b c d e i o p w t k = record {
 }
 
 -- the first kind is the only one
-single_first_by : (g : Flag) (a b c d e i o p w t k : Bool) → has_kind (flags_by a b c d e i o p w t k) ≡ false → is_single kinds (with_flag g (flags_by a b c d e i o p w t k)) ≡ true
+single_first_by : (g : Flag) (a b c d e i o p w t k : Bool) → has_kind (flags_by a b c d e i o p w t k) ≡ false → has_at_most_one kinds (with_flag g (flags_by a b c d e i o p w t k)) ≡ true
 single_first_by g a b c d e true o p w t k h = absurd (true≢false h)
 single_first_by g a b c d e false true p w t k h = absurd (true≢false h)
 single_first_by g a b c d e false false true w t k h = absurd (true≢false h)
@@ -187,7 +187,7 @@ single_first_by WhoOwns a b c d e false false false false false false h = refl
 single_first_by Test a b c d e false false false false false false h = refl
 single_first_by Check a b c d e false false false false false false h = refl
 
-pub single_first : (g : Flag) (s : Flags) → has_kind s ≡ false → is_single kinds (with_flag g s) ≡ true
+pub single_first : (g : Flag) (s : Flags) → has_kind s ≡ false → has_at_most_one kinds (with_flag g s) ≡ true
 single_first g s h = single_first_by g s.allow_untrusted s.no_scripts s.initdb s.simulate s.purge s.installed s.contents s.depends s.who_owns s.test s.check h
 
 any_more : (flags more : Flags) (xs : List Flag) → ((f : Flag) → has_flag f flags ≡ true → has_flag f more ≡ true) → list_any (λ f. has_flag f flags) xs ≡ true → list_any (λ f. has_flag f more) xs ≡ true
@@ -208,11 +208,11 @@ not_both true false c d m n h = refl
 not_both true true c d m n h = (let both : (c && d) ≡ true = rw (m refl) (n refl) in absurd (false≢true (sym (ap not both) ∙ h)))
 
 -- with fewer flags at most one still is a kind
-pub single_less : (flags more : Flags) (xs : List Flag) → ((f : Flag) → has_flag f flags ≡ true → has_flag f more ≡ true) → is_single xs more ≡ true → is_single xs flags ≡ true
+pub single_less : (flags more : Flags) (xs : List Flag) → ((f : Flag) → has_flag f flags ≡ true → has_flag f more ≡ true) → has_at_most_one xs more ≡ true → has_at_most_one xs flags ≡ true
 single_less flags more [] m h = refl
 single_less flags more (x ∷ xs) m h =
-    let parts = and_parts (not (has_flag x more && list_any (λ f. has_flag f more) xs)) (is_single xs more) h in
-    and_from (not (has_flag x flags && list_any (λ f. has_flag f flags) xs)) (is_single xs flags)
+    let parts = and_parts (not (has_flag x more && list_any (λ f. has_flag f more) xs)) (has_at_most_one xs more) h in
+    and_from (not (has_flag x flags && list_any (λ f. has_flag f flags) xs)) (has_at_most_one xs flags)
     (not_both (has_flag x flags) (list_any (λ f. has_flag f flags) xs) (has_flag x more) (list_any (λ f. has_flag f more) xs) (m x) (any_more flags more xs m) parts.0)
     (single_less flags more xs m parts.1)
 
@@ -230,16 +230,16 @@ any_among more g (x ∷ xs) (inr later) h = rw (any_among more g xs later h) (or
     or_true false = refl
 
 -- a second kind is one too many
-clash : (flags more : Flags) (g : Flag) (xs : List Flag) → ((f : Flag) → has_flag f flags ≡ true → has_flag f more ≡ true) → has_flag g flags ≡ false → has_flag g more ≡ true → IsOneOf g xs → list_any (λ f. has_flag f flags) xs ≡ true → is_single xs more ≡ false
+clash : (flags more : Flags) (g : Flag) (xs : List Flag) → ((f : Flag) → has_flag f flags ≡ true → has_flag f more ≡ true) → has_flag g flags ≡ false → has_flag g more ≡ true → IsOneOf g xs → list_any (λ f. has_flag f flags) xs ≡ true → has_at_most_one xs more ≡ false
 clash flags more g [] m n o among h = absurd among
 clash flags more g (x ∷ xs) m n o (inl e) h =
     let none : has_flag x flags ≡ false = ap (λ f. has_flag f flags) (sym e) ∙ n in
     let any : list_any (λ f. has_flag f flags) xs ≡ true = ap (λ b. b || list_any (λ f. has_flag f flags) xs) (sym none) ∙ h in
     rw (ap (λ f. has_flag f more) (sym e) ∙ o) (rw (any_more flags more xs m any) refl)
 clash flags more g (x ∷ xs) m n o (inr later) h =
-    elim (has_flag x flags) as (λ b. has_flag x flags ≡ b → (b || list_any (λ f. has_flag f flags) xs) ≡ true → is_single (x ∷ xs) more ≡ false) [
+    elim (has_flag x flags) as (λ b. has_flag x flags ≡ b → (b || list_any (λ f. has_flag f flags) xs) ≡ true → has_at_most_one (x ∷ xs) more ≡ false) [
       | true ↦ λ e h. rw (m x e) (rw (any_among more g xs later o) refl)
-      | false ↦ λ e h. and_false (not (has_flag x more && list_any (λ f. has_flag f more) xs)) (is_single xs more) (clash flags more g xs m n o later h)
+      | false ↦ λ e h. and_false (not (has_flag x more && list_any (λ f. has_flag f more) xs)) (has_at_most_one xs more) (clash flags more g xs m n o later h)
     ] refl h
   where
     and_false : (b c : Bool) → c ≡ false → (b && c) ≡ false
@@ -255,7 +255,7 @@ among_kinds Test k = inr (inr (inr (inr (inl refl))))
 among_kinds Check k = inr (inr (inr (inr (inr (inl refl)))))
 among_kinds g k = absurd (false≢true k)
 
-pub second_kind : (g : Flag) (flags : Flags) → is_kind g ≡ true → has_kind flags ≡ true → has_flag g flags ≡ false → is_single kinds (with_flag g flags) ≡ false
+pub second_kind : (g : Flag) (flags : Flags) → is_kind g ≡ true → has_kind flags ≡ true → has_flag g flags ≡ false → has_at_most_one kinds (with_flag g flags) ≡ false
 second_kind g flags k h n = clash flags (with_flag g flags) g kinds (has_more flags g) n (has_it flags g) (among_kinds g k) h
 
 -- ---- the flags of an applet
@@ -279,16 +279,16 @@ unfolding common_options options_of
 own_meanings Add = refl
 own_meanings applet = refl
 
-may_have_with : (applet : Applet) (flags : Flags) (g : Flag) → has_flag g (allowed_flags applet) ≡ true → is_single kinds (with_flag g flags) ≡ true → may_have applet flags ≡ true → may_have applet (with_flag g flags) ≡ true
+may_have_with : (applet : Applet) (flags : Flags) (g : Flag) → has_flag g (allowed_flags applet) ≡ true → has_at_most_one kinds (with_flag g flags) ≡ true → may_have applet flags ≡ true → may_have applet (with_flag g flags) ≡ true
 may_have_with applet flags g o s m =
-    and_from (are_within (allowed_flags applet) (with_flag g flags)) (is_single kinds (with_flag g flags))
-    (within_with (allowed_flags applet) flags g o (and_parts (are_within (allowed_flags applet) flags) (is_single kinds flags) m).0) s
+    and_from (are_within (allowed_flags applet) (with_flag g flags)) (has_at_most_one kinds (with_flag g flags))
+    (within_with (allowed_flags applet) flags g o (and_parts (are_within (allowed_flags applet) flags) (has_at_most_one kinds flags) m).0) s
 
 pub meaning_kept : (applet : Applet) (flags : Flags) (meaning : Meaning) → is_own_meaning applet meaning ≡ true → may_have applet flags ≡ true → pass_or_none (may_have applet) (with_meaning flags meaning) ≡ true
 meaning_kept applet flags (Value rule) o m = refl
 meaning_kept applet flags (Plain g) o m =
     let own = and_parts (has_flag g (allowed_flags applet)) (not (is_kind g)) o in
-    may_have_with applet flags g own.0 (single_plain g flags (is_not (is_kind g) own.1) (and_parts (are_within (allowed_flags applet) flags) (is_single kinds flags) m).1) m
+    may_have_with applet flags g own.0 (single_plain g flags (is_not (is_kind g) own.1) (and_parts (are_within (allowed_flags applet) flags) (has_at_most_one kinds flags) m).1) m
   where
     is_not : (b : Bool) → not b ≡ true → b ≡ false
     is_not true h = sym h

@@ -11,7 +11,7 @@ use Rattle.command_core.specs.declared.command.Flag.{Flag}
 use Rattle.command_core.specs.declared.command.Flags.{Flags}
 use Rattle.command_core.specs.declared.values.OptionValue.{OptionValue}
 use Rattle.command_core.specs.declared.values.ValueRule.{ValueRule}
-use Rattle.command_core.specs.Sound.{allowed_flags, may_have, are_within, is_single, are_apart, are_values, excludes_by, is_value_by, rule_for}
+use Rattle.command_core.specs.Sound.{allowed_flags, may_have, are_within, has_at_most_one, may_both_be_given, are_values, excludes_by, is_value_by, rule_for}
 use Rattle.command_core.specs.Flags.{has_flag, has_kind, kinds, with_flag}
 use Rattle.command_core.specs.Values.{excludes, is_excluded, is_given, is_spent, is_value, option_value}
 use Rattle.words_core.specs.declared.options.Meaning.{Meaning}
@@ -31,8 +31,8 @@ same_tail x y xs ys e = cc
 -- flags are an applet's where they are so with one more
 pub less_by : (applet : Applet) (flag : Flag) (flags : Flags) → may_have applet (with_flag flag flags) ≡ true → may_have applet flags ≡ true
 less_by applet flag flags m =
-    let parts = and_parts (are_within (allowed_flags applet) (with_flag flag flags)) (is_single kinds (with_flag flag flags)) m in
-    and_from (are_within (allowed_flags applet) flags) (is_single kinds flags)
+    let parts = and_parts (are_within (allowed_flags applet) (with_flag flag flags)) (has_at_most_one kinds (with_flag flag flags)) m in
+    and_from (are_within (allowed_flags applet) flags) (has_at_most_one kinds flags)
     (within_less (allowed_flags applet) flags flag parts.0)
     (single_less flags (with_flag flag flags) kinds (has_more flags flag) parts.1)
 
@@ -82,7 +82,7 @@ stands_by applet flags (Kind flag) own =
       | false ↦ λ h. refl
       | true ↦ λ h. elim (has_flag flag flags) as (λ b. has_flag flag flags ≡ b → (is_some (if not b then None else Some (with_flag flag flags)) || not (may_have applet (with_flag flag flags))) ≡ true) [
         | true ↦ λ e. refl
-        | false ↦ λ e. ap not (and_right (are_within (allowed_flags applet) (with_flag flag flags)) (is_single kinds (with_flag flag flags)) (second_kind flag flags kind h e))
+        | false ↦ λ e. ap not (and_right (are_within (allowed_flags applet) (with_flag flag flags)) (has_at_most_one kinds (with_flag flag flags)) (second_kind flag flags kind h e))
       ] refl
     ] refl
 
@@ -115,7 +115,7 @@ pub record Fits (rule : ValueRule) (text : List ℕ) (before : List OptionValue)
   pub good : is_value rule.kind text ≡ true
   pub excluded : is_excluded rule text before ≡ false
 
-pub apart_back : (rules : List ValueRule) (rule : ValueRule) (w : OptionValue) (text : List ℕ) (place : ℕ) → rule_for rules rule.letter ≡ Some rule → are_apart rules w (option_value place rule.letter text) ≡ true → ((rule.single && (w.letter == rule.letter)) ≡ false) × (((w.letter == rule.letter) && excludes rule.kind w.text text) ≡ false)
+pub apart_back : (rules : List ValueRule) (rule : ValueRule) (w : OptionValue) (text : List ℕ) (place : ℕ) → rule_for rules rule.letter ≡ Some rule → may_both_be_given rules w (option_value place rule.letter text) ≡ true → ((rule.single && (w.letter == rule.letter)) ≡ false) × (((w.letter == rule.letter) && excludes rule.kind w.text text) ≡ false)
 apart_back rules rule w text place own apart =
     elim (w.letter == rule.letter) as (λ b. (w.letter == rule.letter) ≡ b → not (b && excludes_by (rule_for rules w.letter) w.text text) ≡ true → ((rule.single && b) ≡ false) × ((b && excludes rule.kind w.text text) ≡ false)) [
       | true ↦ λ e h.
@@ -138,8 +138,8 @@ joined_spent true false c x y = y
 pub fits_in : (rules : List ValueRule) (rule : ValueRule) (text : List ℕ) (place : ℕ) (before behind : List OptionValue) → rule_for rules rule.letter ≡ Some rule → are_values rules (before ++ (option_value place rule.letter text ∷ behind)) ≡ true → Fits rule text before
 fits_in rules rule text place [] behind own are =
     let v = option_value place rule.letter text in
-    let parts = and_parts (is_value_by (rule_for rules rule.letter) text && list_all (are_apart rules v) behind) (are_values rules behind) are in
-    let good = (and_parts (is_value_by (rule_for rules rule.letter) text) (list_all (are_apart rules v) behind) parts.0).0 in
+    let parts = and_parts (is_value_by (rule_for rules rule.letter) text && list_all (may_both_be_given rules v) behind) (are_values rules behind) are in
+    let good = (and_parts (is_value_by (rule_for rules rule.letter) text) (list_all (may_both_be_given rules v) behind) parts.0).0 in
     record {
       spent = and_right rule.single false refl;
       good = ap (λ r. is_value_by r text) (sym own) ∙ good;
@@ -148,10 +148,10 @@ fits_in rules rule text place [] behind own are =
 fits_in rules rule text place (w ∷ ws) behind own are =
     let v = option_value place rule.letter text in
     let all = ws ++ (v ∷ behind) in
-    let parts = and_parts (is_value_by (rule_for rules w.letter) w.text && list_all (are_apart rules w) all) (are_values rules all) are in
-    let apart = (and_parts (is_value_by (rule_for rules w.letter) w.text) (list_all (are_apart rules w) all) parts.0).1 in
-    let both = and_parts (list_all (are_apart rules w) ws) (list_all (are_apart rules w) (v ∷ behind)) (sym (list_all-append (are_apart rules w) ws (v ∷ behind)) ∙ apart) in
-    let here = apart_back rules rule w text place own (and_parts (are_apart rules w v) (list_all (are_apart rules w) behind) both.1).0 in
+    let parts = and_parts (is_value_by (rule_for rules w.letter) w.text && list_all (may_both_be_given rules w) all) (are_values rules all) are in
+    let apart = (and_parts (is_value_by (rule_for rules w.letter) w.text) (list_all (may_both_be_given rules w) all) parts.0).1 in
+    let both = and_parts (list_all (may_both_be_given rules w) ws) (list_all (may_both_be_given rules w) (v ∷ behind)) (sym (list_all-append (may_both_be_given rules w) ws (v ∷ behind)) ∙ apart) in
+    let here = apart_back rules rule w text place own (and_parts (may_both_be_given rules w v) (list_all (may_both_be_given rules w) behind) both.1).0 in
     let rest = fits_in rules rule text place ws behind own parts.1 in
     record {
       spent = joined_spent rule.single (w.letter == rule.letter) (is_given rule.letter ws) here.0 rest.spent;

@@ -25,7 +25,7 @@ use Rattle.command_core.specs.declared.values.ValueKind.{ValueKind}
 use Rattle.command_core.specs.declared.values.ValueKind.TheVariants.{Any as AnyText, File as FileName, Nonempty, Output, Script, Uncompressed}
 use Rattle.command_core.specs.declared.values.ValueRule.{ValueRule}
 use Rattle.command_core.specs.Applets.{info_operands, needed_option, operand_rule, version_operands}
-use Rattle.command_core.specs.Sound.{allowed_flags, may_have, are_within, is_single, is_at_most}
+use Rattle.command_core.specs.Sound.{allowed_flags, may_have, are_within, has_at_most_one, is_at_most}
 use Rattle.command_core.specs.Command.{CommandLine}
 use Rattle.command_core.specs.Flags.{has_flag, has_kind, kinds, with_flag}
 use Rattle.command_core.specs.Operands.{at_least, exactly, first_refused, is_of_kind, operand_at, takes}
@@ -292,7 +292,7 @@ given_last place letter text (v ∷ vs) e = or_right (v.letter == letter) _ (giv
 -- flags of `version` without a kind of its own have none
 version_kinds : (flags : Flags) → may_have Version flags ≡ true → flags.test ≡ false → flags.check ≡ false → has_kind flags ≡ false
 version_kinds flags m t c =
-    let within = (and_parts (are_within (allowed_flags Version) flags) (is_single kinds flags) m).0 in
+    let within = (and_parts (are_within (allowed_flags Version) flags) (has_at_most_one kinds flags) m).0 in
     let no : (f : Flag) → has_flag f (allowed_flags Version) ≡ false → has_flag f flags ≡ false = λ f n. absent (has_flag f flags) (has_flag f (allowed_flags Version)) n (within_at (allowed_flags Version) flags f within) in
     let i : flags.installed ≡ false = no Installed refl in
     let o : flags.contents ≡ false = no Contents refl in

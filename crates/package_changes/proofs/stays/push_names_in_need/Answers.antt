@@ -12,7 +12,7 @@ use Rattle.package_changes.proofs.stays.push_names_in_need.Goals as goal
 pub loop-i-preserved : goal.loop-i-preserved
 loop-i-preserved c =
     told _ _ _ _ (map (λ (k : Candidate). k.name) (filter (is_in_need c.args.needed.now) (candidates_at c.args.pool.now (drop (c.loop-i.i + 1) c.args.trace.now)))) _
-    c.in_ok-push_name_in_need.ensures
+    c.in_ok-push_name_if_it_needs.ensures
     (ap (λ z. map (λ (k : Candidate). k.name) (filter (is_in_need c.args.needed.now) (candidates_at c.args.pool.now z))) (left_at c.args.trace.now c.loop-i.i c.get.result c.get.ensures)
     ∙ names_of_option (λ (k : Candidate). k.name) (is_in_need c.args.needed.now) (candidate_at c.args.pool.now c.get.result) (candidates_at c.args.pool.now (drop (c.loop-i.i + 1) c.args.trace.now)))
     c.loop-i.invariant

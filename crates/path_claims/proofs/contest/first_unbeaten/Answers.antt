@@ -1,7 +1,7 @@
 use Rattle.std.proofs.Common.{Some, None, ap, sym, ◌∙◌, arith}
 use Rattle.std.specs.Prelude.{not}
 use Rattle.path_claims.proofs.Contests.{find_here, find_past, no_rivals, test, two_rivals}
-use Rattle.path_claims.proofs.contest.first_rivals.Goals as goal
+use Rattle.path_claims.proofs.contest.first_unbeaten.Goals as goal
 
 pub returns-then-is_empty : goal.returns-then-is_empty
 returns-then-is_empty g c = no_rivals (g.C.Contest.beats c.args.contest.now) (λ c. c.member) c.args.claims.now (sym c.is_empty.ensures ∙ c.if-is_empty.true)
