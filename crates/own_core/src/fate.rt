@@ -1,6 +1,6 @@
 //! What is done with each added file.
-//! The rule is in `docs/commands.md`, "What a change does with files", **Files below `etc/` are the
-//! user's**: when a file counts as changed, and where the new one is laid then.
+//! The rule is in `docs/commands.md`, "What a change does with files", what is said there of
+//! configuration files: when one counts as changed, and where the new file is written then.
 
 ghost use Rattle.std.specs.Prelude.{◌≡◌, ◌↔◌, ◌∷◌, ◌++◌, [], Option, true, false, map, IfOk, IsTrue, IsSomeAnd, OnOk};
 ghost use Rattle.path_claim_lists.specs.adb_fields.JoinedPath.{joined_path};

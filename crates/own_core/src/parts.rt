@@ -1,6 +1,7 @@
 //! The added files by their fates, and the files that are left over.
-//! The rules are in `docs/commands.md`, "What a change does with files": what is removed ("a file
-//! that the old database lists and that no package lists any more"), and what is kept below `etc/`.
+//! The rules are in `docs/commands.md`, "What a change does with files": which files are removed
+//! (the old database lists them, and no package lists them after the change), and which
+//! configuration files are kept.
 
 ghost use Rattle.std.specs.Prelude.{◌≡◌, IfOk, OnOk, Some, [], ◌∷◌, ◌++◌, length, map};
 ghost use Rattle.std.specs.List.{filter};
