@@ -77,7 +77,7 @@ pub(crate) fn judge<T: Tree>(
         → (T.counts tree.new).misuses ≡ (T.counts tree.old).misuses) }
 {
     match read_words(alloc, words) {
-        Ok(command) => carry_out(alloc, &command, tree),
+        Ok(command) => run_command(alloc, &command, tree),
         Err(WordsFault::Usage { place }) => {
             Ok(Verdict::refused(alloc, Refusal::Usage { place }))
         }
@@ -88,7 +88,11 @@ pub(crate) fn judge<T: Tree>(
 // Runs an applet; `demo` runs others, in a tree of its own. The clauses are those of `judge`, for a
 // parsed command.
 #[tactic(auto, using(crate::proofs::Operands::demo_operands))]
-fn carry_out<T: Tree>(alloc: Global, command: &Command, tree: &mut T) -> Result<Verdict, TreeFault>
+fn run_command<T: Tree>(
+    alloc: Global,
+    command: &Command,
+    tree: &mut T,
+) -> Result<Verdict, TreeFault>
     ensures found { IfOk result (λ verdict. IfObservable (T.history tree.old) (λ v.
         ReportsOne (IsOutcome (Ok command.now) (files_of v)) verdict)) }
     ensures by_reads { IfOk result (λ verdict.
@@ -207,7 +211,7 @@ fn look<T: Tree>(alloc: Global, command: &Command, tree: &mut T) -> Result<Verdi
         }
         Applet::Adbdump => adbdump(alloc, command.operands(), tree),
         Applet::Adbgen => adbgen(alloc, command.operands(), tree),
-        // Ok(Verdict::empty(alloc)) => No outcome is asked for: `demo` is run by `carry_out`, and
+        // Ok(Verdict::empty(alloc)) => No outcome is asked for: `demo` is run by `run_command`, and
         // all others recover first.
         _ => Ok(Verdict::empty(alloc)),
     }

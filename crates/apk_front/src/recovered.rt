@@ -16,7 +16,7 @@ ghost use Rattle.report_core.specs.declared.refusal.Refusal.TheVariants.{IntentB
 ghost use Rattle.engine_core.specs.journal_commit.Asked.{TargetsAreAccepted};
 
 use crate::answer::Verdict;
-use crate::change::change;
+use crate::change_root::change_root;
 use crate::make::{mkndx, mkpkg};
 use crate::report::report;
 use base_core::{Tree, TreeFault, counts_of_consecutive_calls_compose};
@@ -119,7 +119,9 @@ fn run_recovered<T: Tree>(
         | Applet::List
         | Applet::Search
         | Applet::Policy => report(alloc, command, tree),
-        Applet::Add | Applet::Del | Applet::Upgrade | Applet::Fix => change(alloc, command, tree),
+        Applet::Add | Applet::Del | Applet::Upgrade | Applet::Fix => {
+            change_root(alloc, command, tree)
+        }
         // unreachable!() => The other applets do not recover.
         _ => unreachable!(),
     }

@@ -33,8 +33,8 @@ returns-in-Mkndx-clause-run g c = index_run c.args.command.now c.mkndx.result _ 
 pub report-requires : goal.report-requires
 report-requires g c = tell_applet c.args.command.now c.applet.result c.applet.ensures.value c.in-Info.is
 
-pub change-requires : goal.change-requires
-change-requires g c = change_applet c.args.command.now c.applet.result c.applet.ensures.value c.in-Add.is
+pub change_root-requires : goal.change_root-requires
+change_root-requires g c = change_applet c.args.command.now c.applet.result c.applet.ensures.value c.in-Add.is
 
 pub returns-in-Mkpkg-clause-undone : goal.returns-in-Mkpkg-clause-undone
 returns-in-Mkpkg-clause-undone g c = undone_anyway _ _ c.mkpkg.ensures.undone

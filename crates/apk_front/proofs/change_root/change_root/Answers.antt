@@ -1,5 +1,5 @@
 use Rattle.apk_front.proofs.Changing.{change_disk, change_found, change_kept, change_memory, change_proper, change_read, change_run, change_undone}
-use Rattle.apk_front.proofs.change.change.Goals as goal
+use Rattle.apk_front.proofs.change_root.change_root.Goals as goal
 
 pub returns-clause-found : goal.returns-clause-found
 returns-clause-found g c = change_found c.args.command.now c.requires c.an_outcome_over_files_is_unique.ensures c.a_command_that_commits_nothing_leaves_the_files.ensures.over _ _ _ _ _ c.verdict_of.result c.verdict_of.ensures c.change-answer.ensures.run

@@ -1,7 +1,7 @@
 use Rattle.apk_front.proofs.Demos.{demo_by_reads, demo_by_words, demo_found, demo_run, never_disk, other_by_reads, other_by_words, other_found, other_proper, other_run}
 use Rattle.std.proofs.Common.{sym, ◌∙◌}
 use Rattle.apk_front.proofs.Promised.{changes_not_demo}
-use Rattle.apk_front.proofs.judge.carry_out.Goals as goal
+use Rattle.apk_front.proofs.judge.run_command.Goals as goal
 
 pub returns-in-Demo-clause-found : goal.returns-in-Demo-clause-found
 returns-in-Demo-clause-found g c = demo_found c.args.command.now c.applet.result c.operands.result.now c.demo.result _ c.applet.ensures.value c.in-Demo.is c.operands.ensures.value c.demo.ensures

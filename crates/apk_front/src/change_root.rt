@@ -22,7 +22,7 @@ use std::alloc::Global;
 
 /// Changes what is installed, and reports it. No memory is allocated once the change is carried
 /// out. The clauses are those of `run_recovered`, which calls this.
-pub(crate) fn change<T: Tree>(
+pub(crate) fn change_root<T: Tree>(
     alloc: Global,
     command: &Command,
     tree: &mut T,
