@@ -1,16 +1,9 @@
 //! `add`, `del`, `upgrade` and `fix` change what is installed, and report it. The rules are in
 //! `docs/commands.md`, "`add` and `del`" and "`upgrade` and `fix`"; the engine is `engine_core`.
-ghost use Rattle.std.specs.Prelude.{◌≡◌, true, IfOk, IsErrOf, OnOk};
-ghost use Rattle.apk_front.specs.Moments.{ArePathsToWriteFree};
-ghost use Rattle.apk_front.specs.Runs.{IfNothingStaged, IsRun};
+ghost use Rattle.std.specs.Prelude.{◌≡◌};
+ghost use Rattle.apk_front.specs.RunContracts.{IsRecoveredRun};
 ghost use Rattle.apk_front.specs.Told.{IsVerdictOnChange};
-ghost use Rattle.apk_front.specs.Verdicts.{ReportsOne};
-ghost use Rattle.base_core.specs.Calls.{IfObservable};
-ghost use Rattle.base_core.specs.Faults.{CountsOnlyRise, HasCause, IsNoFault};
-ghost use Rattle.base_core.specs.Tree.{files_of};
-ghost use Rattle.outcome.specs.Commands.{IsPossibleOutcomeOn, IsOutcomeOn};
-ghost use Rattle.outcome.specs.Effect.{Changes, effect_of, output_if};
-ghost use Rattle.outcome.specs.Outcome.{Outcome};
+ghost use Rattle.outcome.specs.Effect.{Changes, effect_of};
 ghost use Rattle.engine_core.specs.journal_commit.Asked.{TargetsAreAccepted};
 
 use crate::answer::Verdict;
@@ -28,28 +21,9 @@ pub(crate) fn change_root<T: Tree>(
     tree: &mut T,
 ) -> Result<Verdict, TreeFault>
     requires { effect_of command.now.applet ≡ Changes }
-    ensures found { IfOk result (λ verdict. IfNothingStaged (T.history tree.old) (λ v.
-        ReportsOne (IsOutcomeOn command.now (files_of v)) verdict)) }
-    ensures by_reads { IfOk result (λ verdict. ReportsOne (IsPossibleOutcomeOn command.now)
-        verdict) }
-    ensures run { IfNothingStaged (T.history tree.old) (λ v. IsRun
-        (IsOutcomeOn command.now (files_of v)) (effect_of command.now.applet)
-        (output_if (effect_of command.now.applet) command.now)
-        result v (T.history tree.old) (T.history tree.new)) }
-    ensures undone { IfNothingStaged (T.history tree.old) (λ v.
-        IsErrOf result TreeFault.Memory → T.history tree.new ≡ T.history tree.old) }
+    ensures run { IsRecoveredRun command.now
+        (T.history tree.old) (T.history tree.new) (T.counts tree.old) (T.counts tree.new) result }
     ensures promised { TargetsAreAccepted T.accepts (T.history tree.old) (T.history tree.new) }
-    ensures goes_on { CountsOnlyRise (T.counts tree.old) (T.counts tree.new) }
-    ensures disk { IsErrOf result TreeFault.Disk
-        → HasCause (T.counts tree.old) (T.counts tree.new) }
-    ensures kept { OnOk result (IsNoFault (T.counts tree.old) (T.counts tree.new)) }
-    ensures memory { IsErrOf result TreeFault.Memory
-        → IsNoFault (T.counts tree.old) (T.counts tree.new) }
-    ensures proper { IfNothingStaged (T.history tree.old) (λ v.
-        ((outcome : Outcome) → IsOutcomeOn command.now (files_of v) outcome
-        → outcome.commits ≡ true → ArePathsToWriteFree (effect_of command.now.applet)
-        (output_if (effect_of command.now.applet) command.now) (files_of v))
-        → (T.counts tree.new).misuses ≡ (T.counts tree.old).misuses) }
 {
     // Laws that the proof needs; they have no effect at run time.
     an_outcome_over_files_is_unique();
