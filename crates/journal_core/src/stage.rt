@@ -75,14 +75,14 @@ impl Stage {
     ///
     /// `TooLarge` exactly if the payload of the intent's container would exceed a limit of the
     /// writer, with the counts there; or `Memory`.
-    pub fn begin(alloc: Global, removals: &Names, writes: &Names) -> Result<Stage, WriteFault>
-        requires { AreChangeNames (removals.now ++ writes.now) }
-        ensures view { IfOk result (λ stage. stage ≡ new_stage removals.now writes.now) }
+    pub fn begin(alloc: Global, removals: Names, writes: Names) -> Result<Stage, WriteFault>
+        requires { AreChangeNames (removals ++ writes) }
+        ensures view { IfOk result (λ stage. stage ≡ new_stage removals writes) }
         ensures large { (bytes values : ℕ) → IsErrOf result (WriteFault.TooLarge bytes values)
-            → overflow_of (value_of_intent (intent_of_lists removals.now writes.now))
+            → overflow_of (value_of_intent (intent_of_lists removals writes))
             ≡ Some (bytes, values) }
         ensures fits { OnOk result
-            (overflow_of (value_of_intent (intent_of_lists removals.now writes.now)) ≡ None) }
+            (overflow_of (value_of_intent (intent_of_lists removals writes)) ≡ None) }
     {
         let intent = PreparedIntent::of_names(alloc, removals, writes)?;
         Ok(Stage {

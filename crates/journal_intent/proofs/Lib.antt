@@ -1,6 +1,5 @@
 pub mod Apart
 pub mod AtName
-pub mod Copies
 pub mod Digits
 pub mod FixedNames
 pub mod FreeNames
@@ -11,4 +10,5 @@ pub mod Rooted
 pub mod Sound
 pub mod Spelling
 pub mod StageNames
+pub mod Taken
 pub mod Texts
