@@ -63,7 +63,7 @@ pub(crate) fn begin_stage(alloc: Global, removals: Names, writes: Names) -> Resu
     ensures told { Agrees (λ _. true) result (unless_overflow
         (overflow_of (value_of_intent (intent_of_lists removals writes))) true) }
 {
-    match Stage::begin(alloc, removals, writes) {
+    match Stage::of_names(alloc, removals, writes) {
         Ok(stage) => Ok(stage),
         Err(WriteFault::TooLarge { bytes, values }) => {
             Err(Refused::Refusal(Refusal::ResultTooLarge { bytes, values }))

@@ -1,5 +1,6 @@
 pub mod Apart
 pub mod AtName
+pub mod Copies
 pub mod Digits
 pub mod FixedNames
 pub mod FreeNames
@@ -10,5 +11,4 @@ pub mod Rooted
 pub mod Sound
 pub mod Spelling
 pub mod StageNames
-pub mod Taken
 pub mod Texts

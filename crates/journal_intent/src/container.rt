@@ -87,3 +87,14 @@ fn write_names(draft: &mut Draft, names: &Names) -> Result<(), AllocError>
     }
     draft.close_array()
 }
+
+/// A copy of names.
+pub fn copy_of_names(alloc: Global, names: &Names) -> Result<Names, AllocError>
+    ensures { IfOk result (λ copy. copy ≡ names.now) }
+{
+    let mut copy = Names::new(alloc);
+    for i in 0..names.len() {
+        copy.push(names.get(i).copy(alloc)?)?;
+    }
+    Ok(copy)
+}

@@ -117,7 +117,7 @@ fn begin_one_write(alloc: Global) -> Result<Option<Stage>, AllocError>
     let Some(writes) = one_name(alloc, b"y")? else {
         return Ok(None);
     };
-    match Stage::begin(alloc, removals, writes) {
+    match Stage::begin(alloc, &removals, &writes) {
         Ok(stage) => Ok(Some(stage)),
         Err(_) => Ok(None),
     }
@@ -180,7 +180,7 @@ fn begin_two_writes(alloc: Global) -> Result<Option<Stage>, AllocError>
     let Some(writes) = one_more_name(alloc, writes, b"z")? else {
         return Ok(None);
     };
-    match Stage::begin(alloc, removals, writes) {
+    match Stage::begin(alloc, &removals, &writes) {
         Ok(stage) => Ok(Some(stage)),
         Err(_) => Ok(None),
     }

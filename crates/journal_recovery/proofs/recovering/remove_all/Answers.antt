@@ -1,6 +1,6 @@
 use Rattle.journal_core.proofs.Leaving.{lasting_done, lasting_ends, lasting_failed, lasting_start, remove_waiting, waiting_on, waiting_start}
 use Rattle.std.proofs.Common.{refl, arith}
-use Rattle.journal_core.proofs.journal_intent.Taken.{take_more}
+use Rattle.journal_core.proofs.journal_intent.Copies.{take_more}
 use Rattle.base_core.proofs.Counting.{goes_on_twice, no_fault_twice, goes_on_same, no_fault_same}
 use Rattle.journal_core.proofs.Emptied.{any_told, cleared_done, cleared_ends, cleared_failed, cleared_start, gone_done, gone_start, not_empty, shown_done, shown_ends, shown_failed, shown_start, take_all, told_misuses}
 use Rattle.journal_core.proofs.Lasting.{stays_done, stays_start}
