@@ -1,5 +1,4 @@
-use Rattle.std.proofs.Common.{◌≡◌, ◌≤◌, ◌+◌, ◌∙◌, take, ap, sym, arith}
-use Rattle.hint_core.specs.PackageFile.{folder_front}
+use Rattle.std.proofs.Common.{◌∙◌, take, ap, sym, arith}
 use Rattle.hint_core.proofs.FolderFront.{front_at_other, front_at_slash}
 use Rattle.hint_core.proofs.package_file.folder_front.Goals as goal
 use Rattle.hint_core.proofs.package_file.folder_front.Goals.{then-byte-eq47, else-byte-eq47}
