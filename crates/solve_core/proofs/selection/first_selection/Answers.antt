@@ -65,14 +65,14 @@ loop-top-smaller c =
     let top : weight_of turns c.next_option.new.top ≤ weight_of turns c.loop-top.top = not_heavier turns c.next_option.new.top c.loop-top.top (few_turns (length turns) few) fewer in
     omega (arith, lighter, top)
 
-pub step_back-requires-clause-learnt : goal.step_back-requires-clause-learnt
-step_back-requires-clause-learnt c = c.next_option.ensures.learnt ∙ (c.loop-top.invariant.learnt ∙ sym (ap pool_of c.next_option.ensures.chosen))
+pub step_back-requires-clause-known : goal.step_back-requires-clause-known
+step_back-requires-clause-known c = c.next_option.ensures.known ∙ (c.loop-top.invariant.known ∙ sym (ap pool_of c.next_option.ensures.chosen))
 
 pub loop-top-init : goal.loop-top-init
 loop-top-init c = record {
   pool = refl;
   matches = subst (λ (p : SealedPool). AreMatchesAmong p.candidates c.next_frame.new.self.matches) (sym c.next_frame.ensures.pool) c.in_ok-frame.ensures.matches;
-  learnt = c.next_frame.ensures.learnt ∙ (c.requires.learnt ∙ sym c.next_frame.ensures.pool);
+  known = c.next_frame.ensures.known ∙ (c.requires.known ∙ sym c.next_frame.ensures.pool);
   search = c.next_frame.ensures.search;
   open_now = rw c.in-Some.is at c.in_ok-frame.ensures.frame;
 }
@@ -92,7 +92,7 @@ loop-top-preserved-in-Some-2 c =
       pool = c.next_frame-in-Some-2.ensures.pool ∙ (c.choose.ensures.pool ∙ (ap pool_of c.next_option.ensures.chosen ∙ c.loop-top.invariant.pool));
       matches = subst (λ (p : SealedPool). AreMatchesAmong p.candidates c.next_frame-in-Some-2.new.self.matches)
           (c.choose.ensures.pool ∙ (ap pool_of c.next_option.ensures.chosen ∙ c.loop-top.invariant.pool)) c.in_ok-frame-in-Some-2.ensures.matches;
-      learnt = c.next_frame-in-Some-2.ensures.learnt ∙ (c.choose.ensures.learnt ∙ (c.next_option.ensures.learnt ∙ (c.loop-top.invariant.learnt
+      known = c.next_frame-in-Some-2.ensures.known ∙ (c.choose.ensures.known ∙ (c.next_option.ensures.known ∙ (c.loop-top.invariant.known
           ∙ sym (c.next_frame-in-Some-2.ensures.pool ∙ (c.choose.ensures.pool ∙ ap pool_of c.next_option.ensures.chosen)))));
       search = c.next_frame-in-Some-2.ensures.search;
       open_now = rw c.in-Some-3.is at c.in_ok-frame-in-Some-2.ensures.frame;
@@ -106,7 +106,7 @@ loop-top-preserved c =
       pool = c.step_back.ensures.pool ∙ (ap pool_of c.next_option.ensures.chosen ∙ c.loop-top.invariant.pool);
       matches = subst (λ (m : PackageMatches). AreMatchesAmong initial.candidates m) (sym c.step_back.ensures.matches)
           (subst (λ (p : SealedPool). AreMatchesAmong p.candidates c.next_option.new.self.matches) c.loop-top.invariant.pool c.in_ok-id.ensures.matches);
-      learnt = c.step_back.ensures.learnt ∙ (c.next_option.ensures.learnt ∙ (c.loop-top.invariant.learnt ∙ sym (c.step_back.ensures.pool ∙ ap pool_of c.next_option.ensures.chosen)));
+      known = c.step_back.ensures.known ∙ (c.next_option.ensures.known ∙ (c.loop-top.invariant.known ∙ sym (c.step_back.ensures.pool ∙ ap pool_of c.next_option.ensures.chosen)));
       search = back.0;
       open_now = back.1;
     }

@@ -21,7 +21,7 @@ pub learn-requires : goal.learn-requires
 learn-requires c =
     let pool = pool_of c.args.self.now.chosen in
     let both = dead_end pool (λ need. c.options_are_as_promised.ensures pool need) (choices_of c.args.self.now.chosen) c.args.spent c.requires.spent in
-    subst (λ (p : SealedPool). IsReason p c.as_slice.result.now) (sym c.requires.learnt)
+    subst (λ (p : SealedPool). IsReason p c.as_slice.result.now) (sym c.requires.known)
     (subst (λ (z : List ℕ). IsReason pool z) (sym c.as_slice.ensures) (dead_same pool (dead_end_reason c.args.spent) _ c.in_ok-self.ensures both.1))
 
 pub returns-clause-lighter : goal.returns-clause-lighter

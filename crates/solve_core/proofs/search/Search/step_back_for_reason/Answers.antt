@@ -15,7 +15,7 @@ pub loop-turn-init : goal.loop-turn-init
 loop-turn-init c = record {
   pool = refl;
   matches = refl;
-  learnt = refl;
+  known = refl;
   search = c.requires.search;
   front = ([], sym (append-nil c.args.self.now.turns.items));
   within = c.requires.within;
@@ -32,7 +32,7 @@ loop-turn-preserved c =
     record {
       pool = c.pop-in-Some.ensures.pool ∙ c.loop-turn.invariant.pool;
       matches = c.loop-turn.invariant.matches;
-      learnt = c.loop-turn.invariant.learnt;
+      known = c.loop-turn.invariant.known;
       search = less.0;
       front = (turn ∷ c.loop-turn.invariant.front.0, c.loop-turn.invariant.front.1 ∙ (ap (λ (z : List (FrameValue × ℕ)). z ++ c.loop-turn.invariant.front.0) items ∙ append_assoc c.pop.new.self.items (turn ∷ []) c.loop-turn.invariant.front.0));
       within = jumped c.loop-turn.self.reason (choices_of c.pop-in-Some.new.self) (choices_of c.loop-turn.self.chosen) turn.1 c.loop-turn.invariant.within less.2 (λ h. out (subst (λ (z : ℕ). IsIn z c.loop-turn.self.reason) (sym choice) h));

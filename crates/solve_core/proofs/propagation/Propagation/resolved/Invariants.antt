@@ -1,0 +1,6 @@
+use Rattle.std.proofs.Common.{◌≡◌}
+use Rattle.solve_core.specs.Clauses.{IsClause}
+use Rattle.solve_core.proofs.propagation.Propagation.resolved.Given as goal
+
+abbrev pub invariant-loop-left : goal.invariant-loop-left
+invariant-loop-left l = IsClause l.known l.clause
