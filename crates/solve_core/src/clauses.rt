@@ -105,18 +105,19 @@ fn add_others(list: &mut Vec<CandId>, ids: &[CandId], but: CandId) -> Result<(),
     ensures new { OnOk result (AreMembersOr ids.now but list.new.items) }
 {
     for id in ids {
-        if *id != but {
-            add(list, *id)?;
-        }
+        add_unless(list, *id, but)?;
     }
     Ok(())
 }
 
-// Appends a candidate, unless the list has it.
-fn add(list: &mut Vec<CandId>, id: CandId) -> Result<(), AllocError>
+// Appends a candidate, unless it is the given one or the list has it.
+fn add_unless(list: &mut Vec<CandId>, id: CandId, but: CandId) -> Result<(), AllocError>
     ensures old { OnOk result (AreMembers list.old.items list.new.items) }
-    ensures new { OnOk result (IsIn id list.new.items) }
+    ensures new { OnOk result ((id ≡ but) ⊎ IsIn id list.new.items) }
 {
+    if id == but {
+        return Ok(());
+    }
     if has(list.as_slice(), id) {
         return Ok(());
     }

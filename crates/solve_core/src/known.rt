@@ -136,10 +136,11 @@ impl<'p> Known<'p> {
         requires { IsClause self.now clause }
         ensures { IfOk result (λ found. IsClause self.now found) }
     {
-        match self.cause_at(step) {
-            None => Ok(clause),
-            Some(cause) => resolvent(self.alloc, &clause, cause, option),
-        }
+        let Some(cause) = self.cause_at(step) else {
+            return Ok(clause);
+        };
+        let found = resolvent(self.alloc, &clause, cause, option)?;
+        Ok(found)
     }
 
     /// The resolvent of a clause with the cause of a step that forces its member; the clause itself
@@ -153,10 +154,11 @@ impl<'p> Known<'p> {
         requires { IsClause self.now clause }
         ensures { IfOk result (λ found. IsClause self.now found) }
     {
-        match self.cause_at(step) {
-            None => Ok(clause),
-            Some(cause) => resolvent(self.alloc, cause, &clause, member),
-        }
+        let Some(cause) = self.cause_at(step) else {
+            return Ok(clause);
+        };
+        let found = resolvent(self.alloc, cause, &clause, member)?;
+        Ok(found)
     }
 }
 

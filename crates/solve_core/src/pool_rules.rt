@@ -1,12 +1,12 @@
 //! The rules of a pool as clauses. A dependency is a clause of the candidate that has it and the
 //! options for it; two candidates that exclude each other are a reason. The rules are in
 //! `docs/selection.md`, "What satisfies world".
-ghost use Rattle.std.specs.Prelude.{◌≡◌, ◌&&◌, true, false, IfOk, None, Some, slice_get, option_to_list};
+ghost use Rattle.std.specs.Prelude.{◌≡◌, ◌&&◌, true, false, IfOk, None, Some, slice_get, is_some, option_to_list};
 ghost use Rattle.std.specs.List.{list_any};
 ghost use Rattle.dep_core.specs.Dependency.{Dependency};
 ghost use Rattle.dep_core.specs.Meets.{dependency};
 ghost use Rattle.search_choices.specs.candidate_core.Candidates.{Candidate, entry, meets_dependency, occupies_name};
-ghost use Rattle.search_choices.specs.candidate_core.Options.{IsIn};
+ghost use Rattle.search_choices.specs.candidate_core.Options.{IsIn, options_for};
 ghost use Rattle.search_choices.specs.candidate_core.Rank.{SealedPool};
 ghost use Rattle.search_choices.specs.search_tables.Selection.{depends_at, exclude_each_other, needs, occupied_names};
 ghost use Rattle.solve_core.specs.Clauses.{IsClause};
@@ -105,6 +105,23 @@ fn need_clause(
     ensures { IfOk result (λ clause. IsClause pool.now clause) }
 {
     options_are_as_promised();
+    let clause = raiser_and_options(alloc, pool, dep, by)?;
+    Ok(clause)
+}
+
+// The raiser of a need, if one has it, and the options.
+fn raiser_and_options(
+    alloc: Global,
+    pool: &Sealed<'_>,
+    dep: &Dep<'_>,
+    by: Option<CandId>,
+) -> Result<Clause, AllocError>
+    ensures { IfOk result (λ clause. clause ≡ (
+      option_to_list by,
+      options_for pool.now
+          (entry (dependency dep.now)),
+    )) }
+{
     let mut members = Vec::new(alloc);
     if let Some(id) = by {
         members.push(id)?;
@@ -178,7 +195,10 @@ fn does_exclude(pool: &Sealed<'_>, id: CandId, other: CandId) -> bool
     let Some(others) = pool.at(other) else {
         return false;
     };
-    has_conflict_met_by(&details, &others) || shares_a_name(&details, &others)
+    if has_conflict_met_by(&details, &others) {
+        return true;
+    }
+    shares_a_name(&details, &others)
 }
 
 // Whether a conflict of a candidate is met by another.
@@ -188,12 +208,19 @@ fn has_conflict_met_by(details: &Details<'_>, other: &Details<'_>) -> bool
 {
     let depends = details.depends();
     for i in 0..depends.len() {
-        let dep = depends.get(i);
-        if dep.conflict && other.meets(&dep) {
+        if is_conflict_met_by(&depends.get(i), other) {
             return true;
         }
     }
     false
+}
+
+// Whether a dependency is a conflict that a candidate meets.
+fn is_conflict_met_by(dep: &Dep<'_>, other: &Details<'_>) -> bool
+    ensures { result ≡ ((dependency dep.now).conflict
+        && meets_dependency (dependency dep.now) other.now) }
+{
+    dep.conflict && other.meets(dep)
 }
 
 // Whether two candidates occupy a name.
@@ -206,10 +233,22 @@ fn shares_a_name(details: &Details<'_>, other: &Details<'_>) -> bool
     }
     let provides = details.provides();
     for i in 0..provides.len() {
-        let provided = provides.get(i);
-        if !provided.conflict && provided.version.is_some() && other.occupies(provided.name) {
+        if occupies_provided(other, &provides.get(i)) {
             return true;
         }
     }
     false
+}
+
+// Whether a candidate occupies the name of an entry of provides that occupies it.
+fn occupies_provided(other: &Details<'_>, provided: &Dep<'_>) -> bool
+    ensures plain { result ≡ true → (dependency provided.now).conflict ≡ false }
+    ensures versioned { result ≡ true → is_some (dependency provided.now).version ≡ true }
+    ensures occupied { result ≡ true → occupies_name (dependency provided.now).name other.now
+        ≡ true }
+{
+    if provided.conflict || provided.version.is_none() {
+        return false;
+    }
+    other.occupies(provided.name)
 }

@@ -152,10 +152,7 @@ impl Propagation {
 
     /// Propagates what was learnt and the steps that are left. It returns a clause that the choices
     /// contradict, if one is found.
-    pub(crate) fn propagate(
-        &mut self,
-        known: &mut Known<'_>,
-    ) -> Result<Option<Clause>, AllocError>
+    pub(crate) fn propagate(&mut self, known: &mut Known<'_>) -> Result<Option<Clause>, AllocError>
         ensures known { known.new ≡ known.old }
         ensures conflict { IfOk result (λ found. IfSome found (λ clause.
             IsClause known.old clause)) }
@@ -270,11 +267,7 @@ impl Propagation {
     }
 
     // The clause at an index without the options that are ruled out, by resolution.
-    fn without_options(
-        &self,
-        index: usize,
-        known: &Known<'_>,
-    ) -> Result<Option<Clause>, AllocError>
+    fn without_options(&self, index: usize, known: &Known<'_>) -> Result<Option<Clause>, AllocError>
         ensures { IfOk result (λ found. IfSome found (λ clause. IsClause known.now clause)) }
     {
         let Some(whole) = known.clause_at(index) else {

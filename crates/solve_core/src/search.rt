@@ -220,7 +220,10 @@ impl<'p> Search<'p> {
         let Some(clause) = self.propagation.clause_against(id, &self.known)? else {
             return Ok(None);
         };
-        if clause.is_reason() && are_others_choices(clause.members(), id, &self.chosen) {
+        if !clause.is_reason() {
+            return Ok(None);
+        }
+        if are_others_choices(clause.members(), id, &self.chosen) {
             let others = without(self.alloc, clause.members(), id)?;
             return Ok(Some(others));
         }
@@ -334,7 +337,7 @@ impl<'p> Search<'p> {
             return Ok(false);
         };
         let clause = self.propagation.learn_from(conflict, &mut self.known)?;
-        if !clause.is_reason() || !are_choices(clause.members(), &self.chosen) {
+        if !is_reason_of_choices(&clause, &self.chosen) {
             return Ok(false);
         }
         let last = std::mem::replace(&mut self.reason, CandidateSet::new(self.alloc));
@@ -426,6 +429,17 @@ fn reason_of(used: CandidateSet, spent: &Frame) -> Result<CandidateSet, AllocErr
         members.add_all(ruled_out.others())?;
     }
     Ok(members)
+}
+
+// Whether a clause is a reason whose members are choices.
+fn is_reason_of_choices(clause: &Clause, chosen: &Choices<'_>) -> bool
+    ensures reason { result ≡ true → clause.now.1 ≡ [] }
+    ensures choices { result ≡ true → AreMembers clause.now.0 (choices_of chosen.now) }
+{
+    if !clause.is_reason() {
+        return false;
+    }
+    are_choices(clause.members(), chosen)
 }
 
 // A set of these candidates, made in a reused set.

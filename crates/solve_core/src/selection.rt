@@ -51,7 +51,8 @@ fn first_selection(alloc: Global, search: &mut Search<'_>) -> Result<Option<Trac
     };
     let mut top = frame;
     loop {
-        if search.is_dead_ahead()? {
+        let is_dead = search.is_dead_ahead()?;
+        if is_dead {
             let Some(frame) = search.step_back_for_reason()? else {
                 return Ok(None);
             };
