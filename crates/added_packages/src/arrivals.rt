@@ -1,7 +1,7 @@
 //! The packages after a change, as they are read, and as members.
-//! The rules are in `docs/commands.md`, "`add` and `del`": **What is read** ("of each package
-//! that comes `NAME-VERSION.apk` beside the index that has it"), and **What is refused**, in byte
-//! order of the names.
+//! The rules are in `docs/commands.md`, "`add` and `del`": **What is read** (each added package,
+//! from the file `NAME-VERSION.apk` in the folder of its index), and **What is refused**, reason 9:
+//! of the packages in byte order of names, the first with a bad file or a script that has to run.
 
 ghost use Rattle.added_packages.specs.Answered.{DenotesUnlessDisk};
 ghost use Rattle.added_packages.specs.Arrivals.{AreMembersRead, CanBeMembers, arrivals_seen, IsPlaced, member_read, members_read, IsFileOfMember, package_in};

@@ -9,6 +9,7 @@ use Rattle.std.specs.declared.cmp.Ordering.TheVariants.{Less}
 use Rattle.std.proofs.lemmas.Bool.{and_parts, cases_Bool, lt-ltb, or_cases}
 use Rattle.std.proofs.lemmas.Bool.Decides.{Decides-eqb}
 use Rattle.std.proofs.lemmas.Slice.Eq.{bytes_eq-Decides}
+use Rattle.change_outcome.proofs.search_tables.pool_core.SamePackage.{same_version as same_text}
 use Rattle.installed_info.specs.candidate_core.Candidates.{Candidate, is_same_version}
 use Rattle.installed_info.specs.candidate_core.Options.{IsIn}
 use Rattle.command_core.specs.declared.operands.Operand.{Operand}
@@ -114,12 +115,6 @@ of_number number c e = go c.repository refl e
 
 numbered : (number : ℕ) (c : Candidate) → c.repository ≡ Some number → is_of_repository number c ≡ true
 numbered number c is = ap (λ (o : Option ℕ). option_map_or (λ repository. repository == number) o false) is ∙ (Decides-eqb number number).1 refl
-
-same_text : (a b : Option (List ℕ)) → is_same_version a b ≡ true → a ≡ b
-same_text None None e = refl
-same_text None (Some b) e = absurd (cc (e))
-same_text (Some a) None e = absurd (cc (e))
-same_text (Some a) (Some b) e = ap Some ((bytes_eq-Decides a b).0 e)
 
 text_same : (a : Option (List ℕ)) → is_same_version a a ≡ true
 text_same None = refl

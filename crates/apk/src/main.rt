@@ -12,14 +12,14 @@ use headline::apk_as_promised;
 use hint_core::{explain, explain_contents, warn};
 use host_files::{Lock, write_path};
 use host_tree::HostTree;
-use process::{HostSink, WordsFault, take_stack, words_of};
+use process::{ArgumentsFault, HostSink, take_stack, words_of};
 use std::io;
 use std::io::Write;
 use std::process::ExitCode;
 use unmet_world::explain_selection;
 use words_core::explain_usage;
 
-/// The status of a run that finds no memory for its words (`docs/commands.md`,
+/// The status of a run that has no memory for its arguments or its stack (`docs/commands.md`,
 /// "Answers and statuses").
 const NO_MEMORY: u8 = 4;
 
@@ -27,7 +27,8 @@ const NO_MEMORY: u8 = 4;
 /// same table).
 const TOO_MANY_WORDS: u8 = 5;
 
-/// The line that a run ends with if the tree failed after a change was committed.
+/// The last line after an I/O error of the tree, if there is a journal entry: of this run's change,
+/// or of an earlier one that recovery has not finished.
 const UNFINISHED: &[u8] =
     b"apk: the change is committed: once the cause is gone, the next command finishes it\n";
 
@@ -36,8 +37,8 @@ const UNFINISHED: &[u8] =
 fn main(rt: HostRuntime) -> ExitCode {
     let words = match words_of(&rt, rt.alloc()) {
         Ok(words) => words,
-        Err(WordsFault::Memory) => return out_of_memory(&rt),
-        Err(WordsFault::TooMany) => {
+        Err(ArgumentsFault::Memory) => return out_of_memory(&rt),
+        Err(ArgumentsFault::TooMany) => {
             let _ = rt.stderr().write_all(b"ERROR: too many words\n");
             return ExitCode::from(TOO_MANY_WORDS);
         }

@@ -14,33 +14,34 @@ use std::io::{ErrorKind, Write};
 /// The most words that a command line may have: 2^32 - 2.
 const MOST_WORDS: usize = 4294967294;
 
-/// How often the buffer for an argument is doubled before it counts as out of memory. It begins
-/// with 4,096 bytes, so an argument may have about two gigabytes.
+/// How often a buffer is tried for one argument; after each try that is too short, it is doubled.
+/// An argument that does not fit then counts as out of memory. The buffer has 4,096 bytes for the
+/// first argument and is not made smaller, so each may have two gigabytes.
 const MOST_DOUBLINGS: u32 = 20;
 
-/// How many bytes of stack a run takes before it does anything else. The deepest run of the tests
-/// needs some 280,000.
+/// How many bytes of stack a run takes, after it has read its words and before any call on the tree.
+/// The deepest run of the tests needs some 280,000.
 const STACK: usize = 524_288;
 
-/// Why the words are not read.
+/// Why the arguments of the command line are not read.
 #[derive(Drop)]
-pub enum WordsFault {
-    /// There are more words than a command line may have.
+pub enum ArgumentsFault {
+    /// There are more arguments than a command line may have.
     TooMany,
-    /// There was no memory for the words.
+    /// There was no memory for the arguments.
     Memory,
 }
 
-impl From<AllocError> for WordsFault {
-    // Out of memory, as an error of the parser of arguments.
-    fn from(_: AllocError) -> WordsFault {
-        WordsFault::Memory
+impl From<AllocError> for ArgumentsFault {
+    // Out of memory, as an error of reading the arguments.
+    fn from(_: AllocError) -> ArgumentsFault {
+        ArgumentsFault::Memory
     }
 }
 
 /// The words of the command line, without the program's name, as the bytes that the host handed
 /// over.
-pub fn words_of(rt: &impl Env, alloc: Global) -> Result<Words, WordsFault> {
+pub fn words_of(rt: &impl Env, alloc: Global) -> Result<Words, ArgumentsFault> {
     let mut words = Words::new(alloc);
     let mut buffer = vec![in alloc; 0u8; 4096]?;
     for i in 1..=MOST_WORDS + 1 {
@@ -48,11 +49,11 @@ pub fn words_of(rt: &impl Env, alloc: Global) -> Result<Words, WordsFault> {
             return Ok(words);
         };
         if words.len() == MOST_WORDS {
-            return Err(WordsFault::TooMany);
+            return Err(ArgumentsFault::TooMany);
         }
         words.push(&buffer[..len])?;
     }
-    Err(WordsFault::TooMany)
+    Err(ArgumentsFault::TooMany)
 }
 
 /// Takes the stack that a run needs, so that a limit on memory is met here, and not by a signal in

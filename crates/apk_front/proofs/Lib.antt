@@ -20,6 +20,7 @@ pub mod Effects
 pub mod AfterRecovery
 pub mod Behind
 pub mod Promised
+pub mod VerdictCounts
 pub mod EachOutcome
 pub mod Changing
 pub mod OutcomeOfReport

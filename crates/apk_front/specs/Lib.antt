@@ -19,6 +19,7 @@ pub mod Moments
 pub mod Status
 pub mod Verdicts
 pub mod Runs
+pub mod RunContracts
 pub mod Containers
 pub mod Told
 pub mod Effects

@@ -3,19 +3,17 @@
 //! recover first"; for the access below the root in `docs/crash-safety.md`, "What the host's tree
 //! does"; and for how counts explain an answer in "Misuses, faults and counts".
 
-ghost use Rattle.std.specs.Prelude.{◌≡◌, [], None, Ok, IfOk, IsErrOf, IsTrue, MatchResult, OnOk};
+ghost use Rattle.std.specs.Prelude.{◌≡◌, [], None, Ok, IfOk, IsErrOf, IsTrue, MatchResult};
 ghost use Rattle.apk_front.specs.Answers.{name_a_command};
-ghost use Rattle.apk_front.specs.Moments.{TargetsAreAcceptedThroughout, AreRunPathsFree, AreOutcomePathsFree};
-ghost use Rattle.apk_front.specs.Runs.{IsWholeRun};
-ghost use Rattle.apk_front.specs.Verdicts.{ReportsOne, as_outcome, looked_outcome};
+ghost use Rattle.apk_front.specs.RunContracts.{IsJudgedRun};
+ghost use Rattle.apk_front.specs.Verdicts.{as_outcome, looked_outcome};
 ghost use Rattle.base_core.specs.Calls.{IfObservable};
-ghost use Rattle.base_core.specs.Faults.{CountsOnlyRise, HasCause, IsNoFault};
 ghost use Rattle.base_core.specs.Files.{Files, no_names};
 ghost use Rattle.base_core.specs.Read.{OnlyReads};
 ghost use Rattle.base_core.specs.Tree.{files_of};
 ghost use Rattle.make_core.specs.make_info.Reads.{Reads};
 ghost use Rattle.outcome.specs.Commands.{IsPossibleOutcomeOf, IsOutcomeOf, reads_in};
-ghost use Rattle.outcome.specs.Effect.{Changes, does_only_read, ignores_files, effect_by, effect_of, output, output_if, reads_only, depends_only_on_arguments};
+ghost use Rattle.outcome.specs.Effect.{does_only_read, ignores_files, effect_by, effect_of, output, output_if, reads_only, depends_only_on_arguments};
 ghost use Rattle.outcome.specs.Words.{IsPossibleOutcome, IsOutcome};
 ghost use Rattle.words_core.specs.Grammar.{command_of};
 ghost use Rattle.apk_front.specs.Effects.{access_of};
@@ -40,13 +38,11 @@ pub(crate) fn judge<T: Tree>(
     words: &Words,
     tree: &mut T,
 ) -> Result<Verdict, TreeFault>
-    // On a tree that shows its files the verdict is that of the outcome over the files at the
-    // start.
-    ensures found { IfOk result (λ verdict. IfObservable (T.history tree.old) (λ v.
-        ReportsOne (IsOutcome (command_of words.now) (files_of v)) verdict)) }
-    // On every tree it is that of an outcome for some listing and some contents at each read.
-    ensures by_reads { IfOk result (λ verdict.
-        ReportsOne (IsPossibleOutcome (command_of words.now)) verdict) }
+    // The verdict is that of the outcome, with its effect on the tree and the tree's counts.
+    ensures run { IsJudgedRun T.accepts (IsOutcome (command_of words.now))
+        (IsPossibleOutcome (command_of words.now)) (effect_by (command_of words.now))
+        (output words.now)
+        (T.history tree.old) (T.history tree.new) (T.counts tree.old) (T.counts tree.new) result }
     // An outcome that rests on the words alone is judged on every tree, unless memory ran out.
     ensures by_words { IsTrue (depends_only_on_arguments (command_of words.now))
         → MatchResult result
@@ -55,29 +51,12 @@ pub(crate) fn judge<T: Tree>(
         (λ fault. fault ≡ TreeFault.Memory) }
     ensures untouched { IsTrue (depends_only_on_arguments (command_of words.now)) → tree.new
         ≡ tree.old }
-    // The effect of the run on the tree: crashes, files and calls, by *IsWholeRun*.
-    ensures run { IfObservable (T.history tree.old) (λ v. IsWholeRun
-        (IsOutcome (command_of words.now) (files_of v)) (effect_by (command_of words.now))
-        (output words.now) result v (T.history tree.old) (T.history tree.new)) }
-    // A change has asked the tree for each name that it promises.
-    ensures promised { effect_by (command_of words.now) ≡ Changes
-        → TargetsAreAcceptedThroughout T.accepts (T.history tree.old) (T.history tree.new) }
     ensures same { IsTrue (reads_only (command_of words.now))
         → T.history tree.new ≡ T.history tree.old }
-    // How the tree's counts explain the answer: no count falls, an I/O error has its cause, and any
-    // other answer hides none.
-    ensures goes_on { CountsOnlyRise (T.counts tree.old) (T.counts tree.new) }
-    ensures disk { IsErrOf result TreeFault.Disk
-        → HasCause (T.counts tree.old) (T.counts tree.new) }
-    ensures kept { OnOk result (IsNoFault (T.counts tree.old) (T.counts tree.new)) }
-    ensures memory { IsErrOf result TreeFault.Memory
-        → IsNoFault (T.counts tree.old) (T.counts tree.new) }
     ensures named { IsErrOf result TreeFault.Memory → IsTrue (name_a_command words.now) }
-    ensures proper { IfObservable (T.history tree.old) (λ v. AreRunPathsFree words.now (files_of v)
-        → (T.counts tree.new).misuses ≡ (T.counts tree.old).misuses) }
 {
     match read_words(alloc, words) {
-        Ok(command) => carry_out(alloc, &command, tree),
+        Ok(command) => run_command(alloc, &command, tree),
         Err(WordsFault::Usage { place }) => {
             Ok(Verdict::refused(alloc, Refusal::Usage { place }))
         }
@@ -88,11 +67,15 @@ pub(crate) fn judge<T: Tree>(
 // Runs an applet; `demo` runs others, in a tree of its own. The clauses are those of `judge`, for a
 // parsed command.
 #[tactic(auto, using(crate::proofs::Operands::demo_operands))]
-fn carry_out<T: Tree>(alloc: Global, command: &Command, tree: &mut T) -> Result<Verdict, TreeFault>
-    ensures found { IfOk result (λ verdict. IfObservable (T.history tree.old) (λ v.
-        ReportsOne (IsOutcome (Ok command.now) (files_of v)) verdict)) }
-    ensures by_reads { IfOk result (λ verdict.
-        ReportsOne (IsPossibleOutcome (Ok command.now)) verdict) }
+fn run_command<T: Tree>(
+    alloc: Global,
+    command: &Command,
+    tree: &mut T,
+) -> Result<Verdict, TreeFault>
+    ensures run { IsJudgedRun T.accepts (IsOutcome (Ok command.now))
+        (IsPossibleOutcome (Ok command.now)) (effect_of command.now.applet)
+        (output_if (effect_of command.now.applet) command.now)
+        (T.history tree.old) (T.history tree.new) (T.counts tree.old) (T.counts tree.new) result }
     ensures by_words { IsTrue (ignores_files (effect_of command.now.applet))
         → MatchResult result
         (λ verdict. (files : Files)
@@ -100,25 +83,8 @@ fn carry_out<T: Tree>(alloc: Global, command: &Command, tree: &mut T) -> Result<
         (λ fault. fault ≡ TreeFault.Memory) }
     ensures untouched { IsTrue (ignores_files (effect_of command.now.applet))
         → tree.new ≡ tree.old }
-    ensures run { IfObservable (T.history tree.old) (λ v. IsWholeRun
-        (IsOutcome (Ok command.now) (files_of v)) (effect_of command.now.applet)
-        (output_if (effect_of command.now.applet) command.now)
-        result v (T.history tree.old) (T.history tree.new)) }
-    ensures promised { effect_of command.now.applet ≡ Changes
-        → TargetsAreAcceptedThroughout T.accepts (T.history tree.old) (T.history tree.new) }
     ensures same { IsTrue (does_only_read (effect_of command.now.applet))
         → T.history tree.new ≡ T.history tree.old }
-    ensures goes_on { CountsOnlyRise (T.counts tree.old) (T.counts tree.new) }
-    ensures disk { IsErrOf result TreeFault.Disk
-        → HasCause (T.counts tree.old) (T.counts tree.new) }
-    ensures kept { OnOk result (IsNoFault (T.counts tree.old) (T.counts tree.new)) }
-    ensures memory { IsErrOf result TreeFault.Memory
-        → IsNoFault (T.counts tree.old) (T.counts tree.new) }
-    ensures proper { IfObservable (T.history tree.old) (λ v.
-        AreOutcomePathsFree (effect_of command.now.applet)
-        (output_if (effect_of command.now.applet) command.now)
-        (IsOutcome (Ok command.now) (files_of v)) (files_of v)
-        → (T.counts tree.new).misuses ≡ (T.counts tree.old).misuses) }
 {
     match command.applet() {
         Applet::Demo => demo(alloc, command.operands()),
@@ -132,10 +98,10 @@ pub(crate) fn run<T: Tree>(
     command: &Command,
     tree: &mut T,
 ) -> Result<Verdict, TreeFault>
-    ensures found { IfOk result (λ verdict. IfObservable (T.history tree.old) (λ v.
-        ReportsOne (IsOutcomeOf (Ok command.now) (files_of v)) verdict)) }
-    ensures by_reads { IfOk result (λ verdict.
-        ReportsOne (IsPossibleOutcomeOf command.now) verdict) }
+    ensures run { IsJudgedRun T.accepts (IsOutcomeOf (Ok command.now))
+        (IsPossibleOutcomeOf command.now) (effect_of command.now.applet)
+        (output_if (effect_of command.now.applet) command.now)
+        (T.history tree.old) (T.history tree.new) (T.counts tree.old) (T.counts tree.new) result }
     ensures by_words { IsTrue (ignores_files (effect_of command.now.applet))
         → MatchResult result
         (λ verdict. (files : Files)
@@ -144,25 +110,8 @@ pub(crate) fn run<T: Tree>(
         (λ fault. fault ≡ TreeFault.Memory) }
     ensures untouched { IsTrue (ignores_files (effect_of command.now.applet))
         → tree.new ≡ tree.old }
-    ensures run { IfObservable (T.history tree.old) (λ v. IsWholeRun
-        (IsOutcomeOf (Ok command.now) (files_of v)) (effect_of command.now.applet)
-        (output_if (effect_of command.now.applet) command.now)
-        result v (T.history tree.old) (T.history tree.new)) }
-    ensures promised { effect_of command.now.applet ≡ Changes
-        → TargetsAreAcceptedThroughout T.accepts (T.history tree.old) (T.history tree.new) }
     ensures same { IsTrue (does_only_read (effect_of command.now.applet))
         → T.history tree.new ≡ T.history tree.old }
-    ensures goes_on { CountsOnlyRise (T.counts tree.old) (T.counts tree.new) }
-    ensures disk { IsErrOf result TreeFault.Disk
-        → HasCause (T.counts tree.old) (T.counts tree.new) }
-    ensures kept { OnOk result (IsNoFault (T.counts tree.old) (T.counts tree.new)) }
-    ensures memory { IsErrOf result TreeFault.Memory
-        → IsNoFault (T.counts tree.old) (T.counts tree.new) }
-    ensures proper { IfObservable (T.history tree.old) (λ v.
-        AreOutcomePathsFree (effect_of command.now.applet)
-        (output_if (effect_of command.now.applet) command.now)
-        (IsOutcomeOf (Ok command.now) (files_of v)) (files_of v)
-        → (T.counts tree.new).misuses ≡ (T.counts tree.old).misuses) }
 {
     match applet_access(command.applet()) {
         RootAccess::Write => recover_and_run(alloc, command, tree),
@@ -207,7 +156,7 @@ fn look<T: Tree>(alloc: Global, command: &Command, tree: &mut T) -> Result<Verdi
         }
         Applet::Adbdump => adbdump(alloc, command.operands(), tree),
         Applet::Adbgen => adbgen(alloc, command.operands(), tree),
-        // Ok(Verdict::empty(alloc)) => No outcome is asked for: `demo` is run by `carry_out`, and
+        // Ok(Verdict::empty(alloc)) => No outcome is asked for: `demo` is run by `run_command`, and
         // all others recover first.
         _ => Ok(Verdict::empty(alloc)),
     }

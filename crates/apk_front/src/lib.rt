@@ -9,7 +9,7 @@
 #![tactic(auto)]
 
 mod answer;
-mod change;
+mod change_root;
 mod demo;
 mod dump;
 mod front;

@@ -29,33 +29,33 @@ use Rattle.pkg_core.specs.Whole.{fault_after_first, container_fault, fault_by_he
 -- ---- a file without a block is refused
 
 -- a step that is no end
-abbrev CountsOnlyRise : Step → Type 0
-CountsOnlyRise s = s ≡ ended → ⊥
+abbrev IsNoEnd : Step → Type 0
+IsNoEnd s = s ≡ ended → ⊥
 
-either_goes_on : (b : Bool) (s t : Step) → CountsOnlyRise s → CountsOnlyRise t → CountsOnlyRise (if b then s else t)
+either_goes_on : (b : Bool) (s t : Step) → IsNoEnd s → IsNoEnd t → IsNoEnd (if b then s else t)
 either_goes_on true s t f g = f
 either_goes_on false s t f g = g
 
-size_goes_on : (at : ℕ) (bytes : List ℕ) (head : HeadFields) (kind : BlockKind) → CountsOnlyRise (step_by_size at bytes head kind)
+size_goes_on : (at : ℕ) (bytes : List ℕ) (head : HeadFields) (kind : BlockKind) → IsNoEnd (step_by_size at bytes head kind)
 size_goes_on at bytes head kind =
     either_goes_on (nat_lt head.raw head.len || nat_lt (length bytes) head.raw) _ _ (λ e. absurd cc)
     (either_goes_on (nat_lt (head.raw - head.len) (least_payload kind)) _ _ (λ e. absurd cc) (λ e. absurd cc))
 
-order_goes_on : (at : ℕ) (bytes : List ℕ) (head : HeadFields) (kind : Option BlockKind) → CountsOnlyRise (step_by_order None at bytes head kind)
+order_goes_on : (at : ℕ) (bytes : List ℕ) (head : HeadFields) (kind : Option BlockKind) → IsNoEnd (step_by_order None at bytes head kind)
 order_goes_on at bytes head None e = absurd cc
 order_goes_on at bytes head (Some kind) e =
     either_goes_on (may_be_next_kind None kind) _ _ (size_goes_on at bytes head kind) (λ e. absurd cc) e
 
-head_goes_on : (at : ℕ) (bytes : List ℕ) (head : Option HeadFields) → CountsOnlyRise (step_by_head None at bytes head)
+head_goes_on : (at : ℕ) (bytes : List ℕ) (head : Option HeadFields) → IsNoEnd (step_by_head None at bytes head)
 head_goes_on at bytes None e = absurd cc
 head_goes_on at bytes (Some head) e = order_goes_on at bytes head (kind_of_number head.kind) e
 
-first_goes_on : (at : ℕ) (bytes : List ℕ) → CountsOnlyRise (next_step None at bytes)
+first_goes_on : (at : ℕ) (bytes : List ℕ) → IsNoEnd (next_step None at bytes)
 unfolding next_step
 first_goes_on at bytes =
     either_goes_on (eqb (length bytes) 0) _ _ (λ e. absurd cc) (head_goes_on at bytes (head_of bytes))
 
-by_step : (at : ℕ) (further : Piece → ℕ → Reading) (s : Step) → CountsOnlyRise s → reading_by_step at further s ≡ done → ⊥
+by_step : (at : ℕ) (further : Piece → ℕ → Reading) (s : Step) → IsNoEnd s → reading_by_step at further s ≡ done → ⊥
 by_step at further ended on e = on refl
 by_step at further (failed c) on e = absurd cc
 by_step at further (block b size) on e = absurd cc

@@ -24,9 +24,10 @@ use journal_staging::runs_with_accepted_targets_begin_with_reads;
 use std::alloc::{AllocError, Global};
 
 /// Changes what is installed, as `add`, `del`, `upgrade` or `fix` asks for, and reports it; with
-/// `--simulate` it only reports what would change. Everything is read, tested and prepared first.
-/// Then the new files are staged, and one step commits all of them. All memory is allocated before
-/// the first file is staged.
+/// `--simulate` it only reports what would change. The change is first tested and prepared in
+/// memory. Then its files are staged, from packages that are read once more, and one step commits
+/// all of them. Once the first file is staged, the engine takes memory only for the text of a
+/// refusal.
 ///
 /// # Errors
 ///

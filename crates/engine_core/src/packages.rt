@@ -17,10 +17,11 @@ use base_core::Tree;
 use change_report::{PlacedNames, Refused};
 use std::alloc::Global;
 
-/// The packages after a change, as they were read, and what they were selected from.
+/// The packages after the change of a selection, as they were read.
 #[derive(Drop)]
 pub(crate) struct ReadPackages<'r, 'a> {
-    /// The candidates that were selected, and what was read of the root.
+    /// The selection: the command, what was read of the root, the candidates, which of them are
+    /// chosen, and the names to be reinstalled.
     pub selection: &'r Selection<'a>,
     /// The names of the packages before and of the candidates, each with its place.
     pub names: PlacedNames<'a>,

@@ -1,6 +1,6 @@
 //! Replaces a whole file.
-//! The rules are in `docs/crash-safety.md`, "A whole file replaced", its four steps and what
-//! follows from them.
+//! The rules are in `docs/crash-safety.md`, "A whole file replaced": the five steps of `replace`,
+//! and the points that are proved of it.
 ghost use Rattle.std.specs.Prelude.{◌≡◌, ◌⊎◌, ◌≢◌, ◌≤◌, [], ◌∷◌, ℕ, Bool, List, Some, length, IfOk, OnOk, OnErr, IsErrOf};
 ghost use Rattle.base_core.specs.Calls.{HoldsNow, IfObservable};
 ghost use Rattle.base_core.specs.Crash.{Since};

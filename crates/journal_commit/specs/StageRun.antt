@@ -38,13 +38,17 @@ NamesAreDurableWithoutIntent w = w.names intent_name ≡ None → ShownNamesAreD
 
 -- ---- a change
 
--- A change that leads to these files, from a state v on. At each moment the tree is durable, and a
--- crash leaves a state from before or that of the files; it leaves one from before as long as no intent
--- is published.
+-- a change that leads to these files, from a state v on: what holds at each of its moments
 pub record IsStageRun (files : Files) (v : TreeState) (old now : List TreeState) : Type 0 where
+  -- A tree that was durable is durable, and a crash leaves a state from before or that of the files.
+  -- Until an intent of this change has been under its name, a crash leaves a state from before.
   pub moments : (ignored : List ℕ → Bool) → IsDurable (StateDependsOn ignored) v
       → SinceGivenEarlier (IsOldUntilCommit ignored files v) old now
+  -- the files as read are the old ones, except for staged files, or an intent leads to the new ones, or
+  -- they are the new ones
   pub reads : Since (IsReadDuringChange files (files_of v)) old now
+  -- if no intent is read, a crash undoes no change of a name outside the staging area, if none could be
+  -- undone at the start
   pub last : ShownNamesAreDurable v → Since NamesAreDurableWithoutIntent old now
 
 -- a change that leads to these files is complete: no intent is read, and no crash restores one, or

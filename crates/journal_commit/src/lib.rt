@@ -5,10 +5,10 @@
 //! The rules are in `docs/crash-safety.md`, "A change of several files".
 #![tactic(auto)]
 
-mod carrying;
+mod commit;
 mod staging;
 
-pub use carrying::carry_through;
+pub use commit::carry_through;
 pub use journal_core::{Stage, check_targets};
 pub use staging::{
     a_change_leaves_nothing_staged, a_new_stage_is_staging, a_staging_run_is_a_stage_run,

@@ -8,24 +8,14 @@ use Rattle.make_index.specs.adb_schema.Texts.{is_with_contents}
 use Rattle.adb_view.specs.Values.{entry_in, int_in, text_in}
 use Rattle.make_index.specs.pkg_core.Contents.{Contents, Expected, expected_at, expected_contents, expected_files, expected_folders, hash_fault}
 use Rattle.make_index.specs.pkg_core.GoodContents.{AreContentsOf}
-use Rattle.make_package.specs.package_files.Package.{Script, Source, SourceFolder, contents_of_file, contents_of_files, contents_of_folders, kind_of_file, value_of_kind, value_of_file, value_of_folder, has_contents, is_link_file, link_text, value_of_package}
+use Rattle.make_package.specs.package_files.Package.{Script, Source, SourceFolder, contents_of_file, contents_of_files, contents_of_folders, has_contents, kind_of_file}
+use Rattle.make_package.specs.package_files.Package.{value_of_file, value_of_folder, value_of_kind, value_of_package}
 use Rattle.make_package.specs.package_files.declared.file.FileKind.{FileKind}
 use Rattle.make_package.specs.package_files.declared.file.FileKind.TheVariants.{Link, Regular}
+use Rattle.make_package.proofs.ContentSizes.{IsKindOf, entry_is_of}
 use Rattle.make_core.proofs.PackageFiles.{files_stand, folders_stand, hash_stands, size_stands, target_stands, with_contents}
 
 -- ---- a file
-
-abbrev IsOf : FileKind → List ℕ → Type 0
-IsOf (Link target) bytes = Unit {0}
-IsOf (Regular size digest) bytes = (size ≡ length bytes) × (digest ≡ sha256 bytes)
-
-entry_is_of : (bytes : List ℕ) → IsOf (kind_of_file bytes) bytes
-unfolding kind_of_file
-entry_is_of bytes = by_link (is_link_file bytes)
-  where
-    by_link : (b : Bool) → IsOf (if b then Link (0 ∷ 160 ∷ link_text bytes) else Regular (length bytes) (sha256 bytes)) bytes
-    by_link true = tt
-    by_link false = (refl, refl)
 
 never : (b : Bool) → (b && nat_lt 0 0) ≡ nat_lt 0 0
 never true = refl
@@ -49,7 +39,7 @@ own_digest bytes =
     let same : bytes_eq (sha256 bytes) (sha256 bytes) ≡ true = (bytes_eq-Decides (sha256 bytes) (sha256 bytes)).1 refl in
     rw (other, own, same) refl
 
-file_contents : (d i : ℕ) (name bytes : List ℕ) (kind : FileKind) → IsOf kind bytes → (b : Bool) → has_contents kind ≡ b
+file_contents : (d i : ℕ) (name bytes : List ℕ) (kind : FileKind) → IsKindOf kind bytes → (b : Bool) → has_contents kind ≡ b
     → AreContentsOf (if b then record { folder = d; file = i; size = int_in (entry_in (value_of_kind name kind) 2); hash = text_in (entry_in (value_of_kind name kind) 4) } ∷ [] else [])
     (if b then record { folder = d; file = i; bytes = bytes } ∷ [] else [])
 file_contents d i name bytes kind of false e = tt

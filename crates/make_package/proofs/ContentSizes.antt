@@ -6,21 +6,23 @@ use Rattle.std.proofs.lemmas.List.Sums.{sum_by-cons}
 use Rattle.sha2.specs.Sha256.{sha256}
 use Rattle.package_files.specs.pkg_core.Contents.{Contents}
 use Rattle.package_files.specs.adb_sound.Contents.{contents_size}
-use Rattle.package_files.specs.Package.{Source, SourceFolder, contents_of_file, contents_of_files, contents_of_folders, has_contents, installed_size, is_link_file, kind_of_file, link_text, size_of_folder, size_of_kind}
+use Rattle.package_files.specs.Package.{Source, SourceFolder, contents_of_file, contents_of_files, contents_of_folders, has_contents, installed_size, is_link_file}
+use Rattle.package_files.specs.Package.{kind_of_file, link_text, size_of_folder, size_of_kind}
 use Rattle.package_files.specs.declared.file.FileKind.{FileKind}
 use Rattle.package_files.specs.declared.file.FileKind.TheVariants.{Link, Regular}
 
-abbrev IsOf : FileKind → List ℕ → Type 0
-IsOf (Link target) bytes = Unit {0}
-IsOf (Regular size digest) bytes = size ≡ length bytes
+-- the kind of a file with contents has their size and their digest
+abbrev pub IsKindOf : FileKind → List ℕ → Type 0
+IsKindOf (Link target) bytes = Unit {0}
+IsKindOf (Regular size digest) bytes = (size ≡ length bytes) × (digest ≡ sha256 bytes)
 
-entry_is_of : (bytes : List ℕ) → IsOf (kind_of_file bytes) bytes
+pub entry_is_of : (bytes : List ℕ) → IsKindOf (kind_of_file bytes) bytes
 unfolding kind_of_file
 entry_is_of bytes = by_link (is_link_file bytes)
   where
-    by_link : (b : Bool) → IsOf (if b then Link (0 ∷ 160 ∷ link_text bytes) else Regular (length bytes) (sha256 bytes)) bytes
+    by_link : (b : Bool) → IsKindOf (if b then Link (0 ∷ 160 ∷ link_text bytes) else Regular (length bytes) (sha256 bytes)) bytes
     by_link true = tt
-    by_link false = refl
+    by_link false = (refl, refl)
 
 -- ---- the sums
 
@@ -28,10 +30,11 @@ total-append : (cs ds : List Contents) → contents_size (cs ++ ds) ≡ contents
 total-append [] ds = omega arith
 total-append (c ∷ cs) ds = omega (arith, total-append cs ds)
 
-size_by : (d i : ℕ) (bytes : List ℕ) (kind : FileKind) → IsOf kind bytes → (b : Bool) → has_contents kind ≡ b → size_of_kind kind ≡ contents_size (if b then record { folder = d; file = i; bytes = bytes } ∷ [] else [])
+size_by : (d i : ℕ) (bytes : List ℕ) (kind : FileKind) → IsKindOf kind bytes → (b : Bool) → has_contents kind ≡ b
+    → size_of_kind kind ≡ contents_size (if b then record { folder = d; file = i; bytes = bytes } ∷ [] else [])
 size_by d i bytes (Link target) of true e = absurd (cc (e))
 size_by d i bytes (Link target) of false e = refl
-size_by d i bytes (Regular size digest) of true e = omega (arith, of)
+size_by d i bytes (Regular size digest) of true e = omega (arith, of.0)
 size_by d i bytes (Regular size digest) of false e = omega (arith, ltb-false 0 size e)
 
 file_total : (d i : ℕ) (bytes : List ℕ) → size_of_kind (kind_of_file bytes) ≡ contents_size (contents_of_file d i bytes)

@@ -23,7 +23,7 @@ use Rattle.change_files.specs.FileChange.{is_claimed, old_entry, old_listings}
 use Rattle.own_core.specs.ClaimEntries.{claim_entry}
 use Rattle.own_core.specs.Fates.{IsOfEntryIfAny}
 use Rattle.own_core.specs.Sides.{HasClaims, claims_after, claims_before, file_change_of}
-use Rattle.own_core.specs.declared.change.Change.{Change}
+use Rattle.own_core.specs.declared.claim_change.ClaimChange.{ClaimChange}
 use Rattle.own_core.proofs.Listings.{claimed_is, old_entry_is, same_found}
 
 -- claims whose paths rise are in order
@@ -51,34 +51,34 @@ rising_sorted cs up k d low high = not_back (slice_index_or cs k d).path (slice_
     not_back : (a b : List ℕ) → bytes_cmp a b ≡ Less → is_lt (bytes_cmp b a) ≡ false
     not_back a b e = ap is_lt (nat_list_cmp_total.antisymm b a ∙ ap ordering_reverse e)
 
-pub before_sorted : (change : Change) → HasClaims change → IsSorted claim_cmp (claims_before change)
+pub before_sorted : (change : ClaimChange) → HasClaims change → IsSorted claim_cmp (claims_before change)
 before_sorted change h = rising_sorted (claims_before change) h.before.rising
 
-pub after_sorted : (change : Change) → HasClaims change → IsSorted claim_cmp (claims_after change)
+pub after_sorted : (change : ClaimChange) → HasClaims change → IsSorted claim_cmp (claims_after change)
 after_sorted change h = subst (IsSorted claim_cmp) (sym h.after) (sorted_up claim_cmp claims_total (claims_in (members_of change.members.now)))
 
 -- ---- before
 
-pub old_entries : (change : Change) → HasClaims change → (path : List ℕ) → option_map (claim_entry (members_of_kept (packages_of change.db.now))) (find (is_of_path path) (claims_before change)) ≡ old_entry (file_change_of change) path
+pub old_entries : (change : ClaimChange) → HasClaims change → (path : List ℕ) → option_map (claim_entry (members_of_kept (packages_of change.db.now))) (find (is_of_path path) (claims_before change)) ≡ old_entry (file_change_of change) path
 unfolding old_listings
 old_entries change h path =
     ap (option_map (claim_entry (members_of_kept (packages_of change.db.now)))) (h.before.each path ∙ same_found (claims_in (members_of_kept (packages_of change.db.now))) path)
     ∙ old_entry_is (file_change_of change) (members_of_kept (packages_of change.db.now)) refl path
 
 -- the entry of the claim that was found
-pub entry_found : (change : Change) → HasClaims change → (path : List ℕ) (listed : ListedFile) (xs : List Claim) (i : ℕ) (d : Claim) → xs ≡ change.before.now → i < length xs
+pub entry_found : (change : ClaimChange) → HasClaims change → (path : List ℕ) (listed : ListedFile) (xs : List Claim) (i : ℕ) (d : Claim) → xs ≡ change.before.now → i < length xs
     → option_and_then (slice_get (claims_before change)) (Some i) ≡ find (is_of_path path) (claims_before change)
     → IsOfEntry listed (claim_entry (members_of_kept (packages_of change.db.now)) (claim_seen (slice_index_or xs i d))) → IsOfEntryIfAny (Some listed) (old_entry (file_change_of change) path)
 entry_found change h path listed xs i d is l f e =
     subst (IsOfEntryIfAny (Some listed))
     (ap (option_map (claim_entry (members_of_kept (packages_of change.db.now)))) (sym (seen_at claim_seen xs i d l) ∙ (ap (λ ys. slice_get (map claim_seen ys) i) is ∙ f)) ∙ old_entries change h path) e
 
-pub none_found : (change : Change) → HasClaims change → (path : List ℕ) → None ≡ find (is_of_path path) (claims_before change) → IsOfEntryIfAny None (old_entry (file_change_of change) path)
+pub none_found : (change : ClaimChange) → HasClaims change → (path : List ℕ) → None ≡ find (is_of_path path) (claims_before change) → IsOfEntryIfAny None (old_entry (file_change_of change) path)
 none_found change h path f = subst (IsOfEntryIfAny None) (ap (option_map (claim_entry (members_of_kept (packages_of change.db.now)))) f ∙ old_entries change h path) tt
 
 -- ---- after
 
-pub claimed_after : (change : Change) → HasClaims change → (path : List ℕ) → is_some (find (is_of_path path) (claims_after change)) ≡ is_claimed (file_change_of change) path
+pub claimed_after : (change : ClaimChange) → HasClaims change → (path : List ℕ) → is_some (find (is_of_path path) (claims_after change)) ≡ is_claimed (file_change_of change) path
 claimed_after change h path = ap (λ cs. is_some (find (is_of_path path) cs)) h.after ∙ claimed_is (file_change_of change) path
 
 is_one : {X : Type 0} (xs : List X) (i : Option ℕ) (o : Option X) → ((k : ℕ) → i ≡ Some k → k < length xs) → option_and_then (slice_get xs) i ≡ o → is_some i ≡ is_some o
@@ -106,7 +106,7 @@ not_some : {X : Type 0} (i : Option X) (b : Bool) → is_some i ≡ not b → b 
 not_some i true e = ap not (sym e)
 not_some i false e = ap not (sym e)
 
-pub free_there : (change : Change) → HasClaims change → (beside : List ℕ) (b : Bool) (i : Option ℕ) → is_some i ≡ not b → IfSome i (λ k. k < length change.after.now)
+pub free_there : (change : ClaimChange) → HasClaims change → (beside : List ℕ) (b : Bool) (i : Option ℕ) → is_some i ≡ not b → IfSome i (λ k. k < length change.after.now)
     → option_and_then (slice_get (claims_after change)) i ≡ find (is_of_path beside) (claims_after change) → b ≡ not (is_claimed (file_change_of change) beside)
 free_there change h beside b i e w f =
     not_some i b e ∙ ap not (found_or_not change.after.now beside i w f ∙ claimed_after change h beside)
@@ -115,7 +115,7 @@ pub short_and : (n : ℕ) (a b : Bool) → n ≤ 1024 → a ≡ b → a ≡ (nat
 short_and n a b l e = e ∙ sym (ap (λ t. t && b) (le-leb n 1024 l))
 
 -- whether a package lists the path after the change
-pub claimed_there : (change : Change) → HasClaims change → (path : List ℕ) (b : Bool) (i : Option ℕ) → is_some i ≡ b → IfSome i (λ k. k < length change.after.now)
+pub claimed_there : (change : ClaimChange) → HasClaims change → (path : List ℕ) (b : Bool) (i : Option ℕ) → is_some i ≡ b → IfSome i (λ k. k < length change.after.now)
     → option_and_then (slice_get (claims_after change)) i ≡ find (is_of_path path) (claims_after change) → is_claimed (file_change_of change) path ≡ b
 claimed_there change h path b i e w f = sym (found_or_not change.after.now path i w f ∙ claimed_after change h path) ∙ e
 

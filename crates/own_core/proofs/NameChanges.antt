@@ -28,7 +28,7 @@ use Rattle.own_core.specs.Found.{said_of}
 use Rattle.own_core.specs.Going.{is_file_kept, is_beside}
 use Rattle.own_core.specs.Parts.{AreFilesByFate, asides_of, kept_of_parts, left_over_claims_by}
 use Rattle.own_core.specs.Sides.{HasClaims, claims_after, claims_before, file_change_of}
-use Rattle.own_core.specs.declared.change.Change.{Change}
+use Rattle.own_core.specs.declared.claim_change.ClaimChange.{ClaimChange}
 use Rattle.own_core.specs.declared.parts.Parts.{Parts}
 use Rattle.own_core.proofs.ChangeClaims.{claimed_after}
 use Rattle.own_core.proofs.Endings.{ending, found_front, front_of}
@@ -126,11 +126,11 @@ mapped_some : (f : PathClaim → Plain) (o : Option PathClaim) → is_some (opti
 mapped_some f None = refl
 mapped_some f (Some c) = refl
 
-abbrev pub all_written : Change → List (List ℕ) → List (List ℕ)
+abbrev pub all_written : ClaimChange → List (List ℕ) → List (List ℕ)
 all_written change besides =
     (database_name ∷ world_name ∷ []) ++ map (λ c. c.path) (filter (λ c. is_added_at (members_of change.members.now) c.member) (claims_after change)) ++ besides
 
-module _ (change : Change) (claims : HasClaims change) (coming : List PathClaim) (firsts : HasFirsts (filter (is_of_added_owner (members_of change.members.now)) (claims_after change)) coming)
+module _ (change : ClaimChange) (claims : HasClaims change) (coming : List PathClaim) (firsts : HasFirsts (filter (is_of_added_owner (members_of change.members.now)) (claims_after change)) coming)
     (parts : Parts) (history : List TreeState) (are : AreFilesByFate change history coming parts) (files : Files)
     (fates_are : are.fates ≡ said_of (claim_fate (file_change_of change)) files coming) (stays_are : are.stays ≡ said_of (is_file_kept (file_change_of change)) files (left_over_claims_by change (asides_of parts))) where
   written_is : (name : List ℕ) → list_any (bytes_eq name) (sorted_by bytes_cmp (all_written change (map (λ c. aside_name c.path) (asides_of parts)))) ≡ counts_as_written (file_change_of change) files name

@@ -29,7 +29,7 @@ use Rattle.own_core.specs.Parts.{AreFilesByFate, asides_of, kept_of_parts, left_
 use Rattle.own_core.specs.Planned.{ArePlanLists}
 use Rattle.own_core.specs.Sides.{HasClaims, claims_after, claims_before, file_change_of}
 use Rattle.own_core.specs.WritesSeen.{HaveNamesBeside, aside_write, claim_write, write_cmp}
-use Rattle.own_core.specs.declared.change.Change.{Change}
+use Rattle.own_core.specs.declared.claim_change.ClaimChange.{ClaimChange}
 use Rattle.own_core.specs.declared.planning.FilePlan.{FilePlan}
 use Rattle.own_core.specs.declared.parts.Parts.{Parts}
 use Rattle.own_core.proofs.ChangeClaims.{rising_sorted}
@@ -46,7 +46,7 @@ each_at P [] h i c g = absurd (no_some c g)
 each_at P (d ∷ cs) h zero c g = subst P (ap (value_or d) g) h.0
 each_at P (d ∷ cs) h (suc i) c g = each_at P cs h.1 i c g
 
-pub coming_claims_of : (change : Change) → HasClaims change → (coming : List PathClaim) → HasFirsts (filter (is_of_added_owner (members_of change.members.now)) (claims_after change)) coming
+pub coming_claims_of : (change : ClaimChange) → HasClaims change → (coming : List PathClaim) → HasFirsts (filter (is_of_added_owner (members_of change.members.now)) (claims_after change)) coming
     → AreClaimsOf (members_of change.members.now) coming
 coming_claims_of change h coming firsts i c g =
     let here = each_at (λ d. find (is_of_path d.path) coming ≡ Some d) coming (each_finds_itself coming (Names.rises_from_pairs (paths coming) firsts.rising)) i c g in
@@ -59,17 +59,17 @@ coming_claims_of change h coming firsts i c g =
 names_marked : {Y : Type 0} (test : Y → Bool) (cs xs : List PathClaim) (ms : List Y) → HaveNames cs → xs ≡ marked_claims test cs ms → HaveNames xs
 names_marked test cs xs ms h e i c g = let f = marked_from test cs ms i c (ap (λ ys. slice_get ys i) (sym e) ∙ g) in h f.0 c f.1
 
-pub ins_named : (change : Change) (history : List TreeState) (coming : List PathClaim) (parts : Parts) → AreClaimsOf (members_of change.members.now) coming → AreFilesByFate change history coming parts → HaveNames (written_claims_of parts)
+pub ins_named : (change : ClaimChange) (history : List TreeState) (coming : List PathClaim) (parts : Parts) → AreClaimsOf (members_of change.members.now) coming → AreFilesByFate change history coming parts → HaveNames (written_claims_of parts)
 ins_named change history coming parts h p = names_marked (is_fate goes_in) coming (written_claims_of parts) p.fates (λ i c g. (h i c g).name) p.ins
 
-left_named : (change : Change) → HasClaims change → (asides : List PathClaim) → HaveNames (left_over_claims_by change asides)
+left_named : (change : ClaimChange) → HasClaims change → (asides : List PathClaim) → HaveNames (left_over_claims_by change asides)
 left_named change h asides i c g =
     let f = filter_from (λ d. is_path_left_over (file_change_of change) asides d.path) (claims_before change) i c g in (h.old_files f.0 c f.1).name
 
-pub removed_named : (change : Change) (history : List TreeState) (coming : List PathClaim) (parts : Parts) → HasClaims change → AreFilesByFate change history coming parts → HaveNames (removed_of parts)
+pub removed_named : (change : ClaimChange) (history : List TreeState) (coming : List PathClaim) (parts : Parts) → HasClaims change → AreFilesByFate change history coming parts → HaveNames (removed_of parts)
 removed_named change history coming parts h p = names_marked (is_flag false) (left_over_claims_by change (asides_of parts)) (removed_of parts) p.stays (left_named change h (asides_of parts)) p.removed
 
-pub kept_named : (change : Change) (history : List TreeState) (coming : List PathClaim) (parts : Parts) → HasClaims change → AreFilesByFate change history coming parts → HaveNames (kept_of_parts parts)
+pub kept_named : (change : ClaimChange) (history : List TreeState) (coming : List PathClaim) (parts : Parts) → HasClaims change → AreFilesByFate change history coming parts → HaveNames (kept_of_parts parts)
 kept_named change history coming parts h p = names_marked (is_flag true) (left_over_claims_by change (asides_of parts)) (kept_of_parts parts) p.stays (left_named change h (asides_of parts)) p.kept
 
 room_of : (change : FileChange) (h : List TreeState) (cs : List PathClaim) (fs : List Fates.AddedFileFate) → AreAnswersByFiles (claim_fate change) h cs fs
@@ -89,13 +89,13 @@ room_of change h (d ∷ cs) (f ∷ fs) are i c g = go (is_fate goes_aside f) ref
     go true e (suc i) rest k = rest i k
     go false e i rest k = rest i k
 
-pub asides_named : (change : Change) (history : List TreeState) (coming : List PathClaim) (parts : Parts) → AreClaimsOf (members_of change.members.now) coming → AreFilesByFate change history coming parts → HaveNamesBeside (asides_of parts)
+pub asides_named : (change : ClaimChange) (history : List TreeState) (coming : List PathClaim) (parts : Parts) → AreClaimsOf (members_of change.members.now) coming → AreFilesByFate change history coming parts → HaveNamesBeside (asides_of parts)
 asides_named change history coming parts h p i c g =
     let k = ap (λ ys. slice_get ys i) (sym p.asides) ∙ g in
     let f = marked_from (is_fate goes_aside) coming p.fates i c k in
     record { name = (h f.0 c f.1).name; short = is_short (file_change_of change) c.path (room_of (file_change_of change) history coming p.fates p.fates_found i c k) }
 
-pub kept_sorted : (change : Change) (history : List TreeState) (coming : List PathClaim) (parts : Parts) → HasClaims change → AreFilesByFate change history coming parts → IsSorted claim_cmp (kept_of_parts parts)
+pub kept_sorted : (change : ClaimChange) (history : List TreeState) (coming : List PathClaim) (parts : Parts) → HasClaims change → AreFilesByFate change history coming parts → IsSorted claim_cmp (kept_of_parts parts)
 kept_sorted change history coming parts h p =
     rising_sorted (kept_of_parts parts)
     (Names.pairs_from_rises (paths (kept_of_parts parts))
@@ -105,7 +105,7 @@ kept_sorted change history coming parts h p =
 
 -- ---- over files under whose paths the values were found
 
-module _ (change : Change) (claims : HasClaims change) (coming : List PathClaim) (firsts : HasFirsts (filter (is_of_added_owner (members_of change.members.now)) (claims_after change)) coming)
+module _ (change : ClaimChange) (claims : HasClaims change) (coming : List PathClaim) (firsts : HasFirsts (filter (is_of_added_owner (members_of change.members.now)) (claims_after change)) coming)
     (parts : Parts) (history : List TreeState) (are : AreFilesByFate change history coming parts) (files : Files)
     (fates_are : are.fates ≡ said_of (claim_fate (file_change_of change)) files coming) (stays_are : are.stays ≡ said_of (is_file_kept (file_change_of change)) files (left_over_claims_by change (asides_of parts))) where
   pub up : Names.Rises (paths coming)

@@ -34,7 +34,7 @@ use Rattle.own_core.specs.Parts.{AreFilesByFate, asides_of, kept_of_parts, left_
 use Rattle.own_core.specs.NamesChanged.{is_released_by, names_changed_by, names_written_by}
 use Rattle.own_core.specs.Sides.{HasClaims, claims_after, claims_before, file_change_of}
 use Rattle.own_core.specs.WritesSeen.{HaveNamesBeside}
-use Rattle.own_core.specs.declared.change.Change.{Change}
+use Rattle.own_core.specs.declared.claim_change.ClaimChange.{ClaimChange}
 use Rattle.own_core.specs.declared.parts.Parts.{Parts}
 use Rattle.own_core.proofs.Endings.{aside_is_name}
 use Rattle.own_core.proofs.FoundFiles.{by_tree}
@@ -74,7 +74,7 @@ each_mapped : (P : PathClaim → Type 0) (Q : List ℕ → Type 0) (f : PathClai
 each_mapped P Q f g [] h = tt
 each_mapped P Q f g (c ∷ cs) h = (g c h.0, each_mapped P Q f g cs h.1)
 
-pub written_named : (change : Change) → HasClaims change → (asides : List PathClaim) → HaveNamesBeside asides → (xs : List (List ℕ)) → xs ≡ sorted_by bytes_cmp (all_written change (map (λ c. aside_name c.path) asides)) → All IsName xs
+pub written_named : (change : ClaimChange) → HasClaims change → (asides : List PathClaim) → HaveNamesBeside asides → (xs : List (List ℕ)) → xs ≡ sorted_by bytes_cmp (all_written change (map (λ c. aside_name c.path) asides)) → All IsName xs
 written_named change claims asides beside xs e =
     subst (All IsName) (sym e) (all_each IsName (sorted_by bytes_cmp (all_written change (map (λ c. aside_name c.path) asides)))
     (names_sorted (all_written change (map (λ c. aside_name c.path) asides))
@@ -89,7 +89,7 @@ written_named change claims asides beside xs e =
 
 -- ---- the clash that is told
 
-pub clash_is : (change : Change) → HasClaims change → (coming : List PathClaim) → HasFirsts (filter (is_of_added_owner (members_of change.members.now)) (claims_after change)) coming
+pub clash_is : (change : ClaimChange) → HasClaims change → (coming : List PathClaim) → HasFirsts (filter (is_of_added_owner (members_of change.members.now)) (claims_after change)) coming
     → (parts : Parts) (h : List TreeState) → AreFilesByFate change h coming parts → (counts lets : List ℕ → Bool)
     → ((name : List ℕ) → counts name ≡ list_any (bytes_eq name) (sorted_by bytes_cmp (all_written change (map (λ c. aside_name c.path) (asides_of parts)))))
     → ((name : List ℕ) → lets name ≡ (is_some (find (is_of_path name) (claims_before change)) && not (is_some (find (is_of_path name) (claims_after change)) || is_some (find (is_of_path name) (kept_of_parts parts)))))
@@ -103,7 +103,7 @@ clash_is change claims coming firsts parts (v ∷ earlier) are counts lets c l (
     (same_names change claims coming firsts parts (v ∷ earlier) are (files_of v) (by_tree (claim_fate (file_change_of change)) v earlier coming are.fates are.fates_found)
     (by_tree (is_file_kept (file_change_of change)) v earlier (left_over_claims_by change (asides_of parts)) are.stays are.stays_found) counts lets c l) told
 
-pub clash_may : (change : Change) (parts : Parts) (counts lets : List ℕ → Bool)
+pub clash_may : (change : ClaimChange) (parts : Parts) (counts lets : List ℕ → Bool)
     → ((name : List ℕ) → counts name ≡ list_any (bytes_eq name) (sorted_by bytes_cmp (names_written_by change parts))) → ((name : List ℕ) → lets name ≡ is_released_by change parts name)
     → (r : Result (Option Clash) TreeFault) → IfOk r (λ found. IsClashOverSomeFiles (record { counts_as_written = counts; does_release = lets }) (option_map clash_seen found))
     → IfOk r (λ found. IsClashOverSomeFiles (names_changed_by change parts) (option_map clash_seen found))
@@ -118,7 +118,7 @@ files_first members all firsts h f i c g =
     let k = found_from (is_of_path c.path) all c (sym (f.each c.path) ∙ here) in
     h k.0 c k.1
 
-pub has_claims : (change : Change) → All (λ l. IsName l.path) (member_listings (members_of_kept (packages_of change.db.now))) → All (λ l. IsName l.path) (member_listings (members_of change.members.now))
+pub has_claims : (change : ClaimChange) → All (λ l. IsName l.path) (member_listings (members_of_kept (packages_of change.db.now))) → All (λ l. IsName l.path) (member_listings (members_of change.members.now))
     → (listed : List PathClaim) → listed ≡ sorted_by claim_cmp (claims_in (members_of_kept (packages_of change.db.now))) → HasFirsts listed (claims_before change) → claims_after change ≡ sorted_by claim_cmp (claims_in (members_of change.members.now))
     → HasClaims change
 has_claims change old new listed e firsts after = record {

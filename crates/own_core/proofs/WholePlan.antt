@@ -32,7 +32,7 @@ use Rattle.own_core.specs.Parts.{AreFilesByFate, asides_of, left_over_claims_by}
 use Rattle.own_core.specs.NamesChanged.{names_changed_by}
 use Rattle.own_core.specs.Planned.{IsClashBySome, IsOwnedBy, IsPlanOf, MayBeRefusalOf}
 use Rattle.own_core.specs.Sides.{HasClaims, claims_after, claims_before, file_change_of}
-use Rattle.own_core.specs.declared.change.Change.{Change}
+use Rattle.own_core.specs.declared.claim_change.ClaimChange.{ClaimChange}
 use Rattle.own_core.specs.declared.fault.PlanFault.{PlanFault}
 use Rattle.own_core.specs.declared.fault.PlanFault.TheVariants.{Disk, Memory, Owned, PathClash, Reserved}
 use Rattle.own_core.specs.declared.planning.FilePlan.{FilePlan}
@@ -69,7 +69,7 @@ not_both : (b : Bool) → b ≡ true → not b ≡ true → ⊥
 not_both b is off = true≢false (sym off ∙ ap not is)
 
 -- a path of a file that comes is listed after the change, and one that is left over is not
-listed_after : (change : Change) → HasClaims change → (coming : List PathClaim) → HasFirsts (filter (is_of_added_owner (members_of change.members.now)) (claims_after change)) coming
+listed_after : (change : ClaimChange) → HasClaims change → (coming : List PathClaim) → HasFirsts (filter (is_of_added_owner (members_of change.members.now)) (claims_after change)) coming
     → (q : List ℕ) → Names.IsIn q (paths coming) → is_claimed (file_change_of change) q ≡ true
 listed_after change claims coming firsts q here =
     let one = found_in coming q here in
@@ -79,14 +79,14 @@ listed_after change claims coming firsts q here =
     let some = found_some (is_of_path q) (claims_after change) at.0 one.0 at.1 (found_passes (is_of_path q) coming one.0 one.1) in
     sym (claimed_after change claims q) ∙ ap is_some some.1
 
-left_unlisted : (change : Change) (asides : List PathClaim) (q : List ℕ) → Names.IsIn q (paths (left_over_claims_by change asides)) → not (is_claimed (file_change_of change) q) ≡ true
+left_unlisted : (change : ClaimChange) (asides : List PathClaim) (q : List ℕ) → Names.IsIn q (paths (left_over_claims_by change asides)) → not (is_claimed (file_change_of change) q) ≡ true
 left_unlisted change asides q here =
     let (c, is, left) = left_passes (λ c. is_path_left_over (file_change_of change) asides c.path) (claims_before change) q here in
     ap (λ path. not (is_claimed (file_change_of change) path)) (sym is) ∙ (and_parts (not (is_claimed (file_change_of change) c.path)) (not (is_beside asides c.path)) left).0
 
 -- ---- the plan
 
-module _ (change : Change) (claims : HasClaims change) (coming : List PathClaim) (firsts : HasFirsts (filter (is_of_added_owner (members_of change.members.now)) (claims_after change)) coming)
+module _ (change : ClaimChange) (claims : HasClaims change) (coming : List PathClaim) (firsts : HasFirsts (filter (is_of_added_owner (members_of change.members.now)) (claims_after change)) coming)
     (parts : Parts) (h : List TreeState) (are : AreFilesByFate change h coming parts) where
   over_files : AreFilesFound (claim_fate (file_change_of change)) (is_file_kept (file_change_of change)) h coming (left_over_claims_by change (asides_of parts)) are.fates are.stays
   over_files = files_found (claim_fate (file_change_of change)) (is_file_kept (file_change_of change)) h coming (left_over_claims_by change (asides_of parts)) are.fates are.stays

@@ -1,6 +1,6 @@
 -- What is done with added files, claim by claim.
--- The rule is in `docs/commands.md`, "What a change does with files", **Files below `etc/` are the
--- user's**; *fate_by* of `change_files` defines it.
+-- The rule is in `docs/commands.md`, "What a change does with files", what is said there of
+-- configuration files; *fate_by* of `change_files` defines it.
 use Rattle.std.specs.Prelude.{ℕ, Bool, true, false, not, ◌&&◌, nat_le, List, [], ◌∷◌, length, Option, Some, None, cond}
 use Rattle.adb_view.specs.Plain.{Plain}
 use Rattle.path_claim_lists.specs.path_claims.Claims.{PathClaim}

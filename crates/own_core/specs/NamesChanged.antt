@@ -13,12 +13,12 @@ use Rattle.path_claim_lists.specs.path_clashes.Clash.{NameChange}
 use Rattle.own_core.specs.ClaimEntries.{is_added_at}
 use Rattle.own_core.specs.Parts.{asides_of, kept_of_parts}
 use Rattle.own_core.specs.Sides.{claims_after, claims_before}
-use Rattle.own_core.specs.declared.change.Change.{Change}
+use Rattle.own_core.specs.declared.claim_change.ClaimChange.{ClaimChange}
 use Rattle.own_core.specs.declared.parts.Parts.{Parts}
 
 -- the names that count as written: the database, the world, the paths that added members list, and the
 -- names beside others
-abbrev pub names_written_by : Change → Parts → List (List ℕ)
+abbrev pub names_written_by : ClaimChange → Parts → List (List ℕ)
 names_written_by change parts =
     database_name ∷ world_name ∷ [] ++ map (λ c. c.path)
     (filter (λ c. is_added_at (members_of change.members.now) c.member) (claims_after change))
@@ -26,14 +26,14 @@ names_written_by change parts =
 
 -- whether a path is let go: packages before list it, no package lists it any more, and no file is
 -- kept there
-abbrev pub is_released_by : Change → Parts → List ℕ → Bool
+abbrev pub is_released_by : ClaimChange → Parts → List ℕ → Bool
 is_released_by change parts name =
     is_some (find (is_of_path name) (claims_before change))
     && not (is_some (find (is_of_path name) (claims_after change))
     || is_some (find (is_of_path name) (kept_of_parts parts)))
 
 -- which names count as written and which are let go, as the search for clashes needs them
-abbrev pub names_changed_by : Change → Parts → NameChange
+abbrev pub names_changed_by : ClaimChange → Parts → NameChange
 names_changed_by change parts = record {
   counts_as_written = λ name.
       list_any (bytes_eq name) (sorted_by bytes_cmp (names_written_by change parts));

@@ -12,7 +12,7 @@ use Rattle.own_core.specs.Fates.{claim_fate, is_fate, is_flag, marked_claims}
 use Rattle.own_core.specs.Found.{AreAnswersByFiles}
 use Rattle.own_core.specs.Going.{is_file_kept, is_path_left_over}
 use Rattle.own_core.specs.Sides.{claims_before, file_change_of}
-use Rattle.own_core.specs.declared.change.Change.{Change}
+use Rattle.own_core.specs.declared.claim_change.ClaimChange.{ClaimChange}
 use Rattle.own_core.specs.declared.parts.Parts.{Parts}
 
 -- the claims of the files that take their paths
@@ -32,13 +32,13 @@ abbrev pub kept_of_parts : Parts → List PathClaim
 kept_of_parts parts = map claim_seen parts.kept.items
 
 -- the claims of paths that are left over, if the files of the claims `asides` are laid beside others
-abbrev pub left_over_claims_by : Change → List PathClaim → List PathClaim
+abbrev pub left_over_claims_by : ClaimChange → List PathClaim → List PathClaim
 left_over_claims_by change asides =
     filter (λ c. is_path_left_over (file_change_of change) asides c.path) (claims_before change)
 
 -- The files of a change are divided. Of the added files some go in and some are laid beside. Of those
 -- that are left over some are removed and some are kept.
-pub record AreFilesByFate (change : Change) (history : List TreeState) (coming : List PathClaim)
+pub record AreFilesByFate (change : ClaimChange) (history : List TreeState) (coming : List PathClaim)
     (parts : Parts) : Type 0 where
   pub fates : List Fates.AddedFileFate
   pub stays : List Bool

@@ -11,23 +11,23 @@ use Rattle.path_claim_lists.specs.Once.{HasFirsts}
 use Rattle.change_files.specs.file_owners.Owners.{claims_in}
 use Rattle.change_files.specs.FileChange.{FileChange}
 use Rattle.own_core.specs.ClaimEntries.{AreClaimsOf}
-use Rattle.own_core.specs.declared.change.Change.{Change}
+use Rattle.own_core.specs.declared.claim_change.ClaimChange.{ClaimChange}
 
 -- the change of files that the packages before and after denote
-abbrev pub file_change_of : Change → FileChange
+abbrev pub file_change_of : ClaimChange → FileChange
 file_change_of c =
     record { old = packages_of c.db.now; members = members_of c.members.now; purge = c.purge }
 
 -- the claims of the packages before, in byte order of their paths
-abbrev pub claims_before : Change → List PathClaim
+abbrev pub claims_before : ClaimChange → List PathClaim
 claims_before c = map claim_seen c.before.now
 
 -- the claims of the packages after, in byte order of their paths
-abbrev pub claims_after : Change → List PathClaim
+abbrev pub claims_after : ClaimChange → List PathClaim
 claims_after c = map claim_seen c.after.now
 
 -- the claims of a change are those of its packages: before the change one for each path, after it all
-pub record HasClaims (c : Change) : Type 0 where
+pub record HasClaims (c : ClaimChange) : Type 0 where
   pub before : HasFirsts (sorted_by claim_cmp (claims_in (members_of_kept (packages_of c.db.now))))
       (claims_before c)
   pub after : claims_after c ≡ sorted_by claim_cmp (claims_in (members_of c.members.now))

@@ -1,6 +1,6 @@
 //! The added files: claims by which added members list paths that they own.
 //! The rules are in `docs/commands.md`, "Files that several packages list" (owners) and "What a
-//! change does with files" ("each file that a package which comes owns is written").
+//! change does with files" (the change writes each file that an added package owns).
 
 ghost use Rattle.std.specs.Prelude.{◌≡◌, IfOk, map};
 ghost use Rattle.std.specs.List.{filter};

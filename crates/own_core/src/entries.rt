@@ -1,6 +1,6 @@
 //! The entries of files to which claims lead.
-//! `docs/commands.md`, "What a change does with files", **Files below `etc/` are the user's**, says
-//! what an entry says of a file's bytes; `docs/formats.md`, "Schemas", table 4, has its fields.
+//! `docs/commands.md`, "What a change does with files", has the table of when a file's bytes are as
+//! its entry lists them; `docs/formats.md`, "Schemas", table 4, has the entry's fields.
 
 ghost use Rattle.std.specs.Prelude.{◌-◌, ◌<◌, ◌≤◌};
 ghost use Rattle.path_claim_lists.specs.adb_fields.ListValue.{list_value};

@@ -1,6 +1,6 @@
 //! What is done with each added file.
-//! The rule is in `docs/commands.md`, "What a change does with files", **Files below `etc/` are the
-//! user's**: when a file counts as changed, and where the new one is laid then.
+//! The rule is in `docs/commands.md`, "What a change does with files", what is said there of
+//! configuration files: when one counts as changed, and where the new file is written then.
 
 ghost use Rattle.std.specs.Prelude.{◌≡◌, ◌↔◌, ◌∷◌, ◌++◌, [], Option, true, false, map, IfOk, IsTrue, IsSomeAnd, OnOk};
 ghost use Rattle.path_claim_lists.specs.adb_fields.JoinedPath.{joined_path};
@@ -16,7 +16,7 @@ ghost use Rattle.own_core.specs.Fates.{IsOfEntryIfAny, claim_fate, fate_seen, is
 ghost use Rattle.own_core.specs.Found.{AreAnswersByFiles, IsByFile};
 ghost use Rattle.own_core.specs.Sides.{HasClaims, file_change_of};
 
-use crate::change::Change;
+use crate::claim_change::ClaimChange;
 use crate::entries::{listed_after, listed_before};
 use crate::guarded::{LONGEST_NAME, aside_bytes, is_guarded};
 use base_core::{Name, Tree, TreeFault};
@@ -37,7 +37,10 @@ pub(crate) enum AddedFileFate {
 }
 
 /// The entry of the database before the change for a path, if one of its packages lists the path.
-fn listed_so_far<'o>(change: &Change<'_, 'o, '_>, path: &FilePath<'_>) -> Option<ListedFile<'o>>
+fn listed_so_far<'o>(
+    change: &ClaimChange<'_, 'o, '_>,
+    path: &FilePath<'_>,
+) -> Option<ListedFile<'o>>
     requires { HasClaims change.now }
     ensures { IsOfEntryIfAny result (old_entry (file_change_of change.now) (joined_path path.now)) }
 {
@@ -50,7 +53,7 @@ fn listed_so_far<'o>(change: &Change<'_, 'o, '_>, path: &FilePath<'_>) -> Option
 /// Whether the name beside another one is short enough, and no package lists it after the change.
 fn is_free_beside(
     alloc: Global,
-    change: &Change<'_, '_, '_>,
+    change: &ClaimChange<'_, '_, '_>,
     name: &Name,
 ) -> Result<bool, AllocError>
     requires { HasClaims change.now }
@@ -84,7 +87,7 @@ fn agrees_with_old(new: &ListedFile<'_>, old: &Option<ListedFile<'_>>) -> bool
 /// beside.
 fn fate_beside(
     alloc: Global,
-    change: &Change<'_, '_, '_>,
+    change: &ClaimChange<'_, '_, '_>,
     name: &Name,
     new: &ListedFile<'_>,
     old: &Option<ListedFile<'_>>,
@@ -116,7 +119,7 @@ pub(crate) fn is_changed(found: Option<Comparison>) -> bool
 fn guarded_fate<T: Tree>(
     alloc: Global,
     tree: &mut T,
-    change: &Change<'_, '_, '_>,
+    change: &ClaimChange<'_, '_, '_>,
     claim: &Claim<'_>,
 ) -> Result<AddedFileFate, TreeFault>
     requires claims { HasClaims change.now }
@@ -144,7 +147,7 @@ fn guarded_fate<T: Tree>(
 fn fate_of<T: Tree>(
     alloc: Global,
     tree: &mut T,
-    change: &Change<'_, '_, '_>,
+    change: &ClaimChange<'_, '_, '_>,
     claim: &Claim<'_>,
 ) -> Result<AddedFileFate, TreeFault>
     requires claims { HasClaims change.now }
@@ -172,7 +175,7 @@ fn add_fate(fates: &mut Vec<AddedFileFate>, fate: AddedFileFate) -> Result<(), A
 pub(crate) fn fates_of<T: Tree>(
     alloc: Global,
     tree: &mut T,
-    change: &Change<'_, '_, '_>,
+    change: &ClaimChange<'_, '_, '_>,
     coming: &[Claim<'_>],
 ) -> Result<Vec<AddedFileFate>, TreeFault>
     requires claims { HasClaims change.now }

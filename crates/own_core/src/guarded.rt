@@ -1,6 +1,6 @@
 //! Protected configuration files, and the names beside them.
-//! The rule is in `docs/commands.md`, "What a change does with files", **Files below `etc/` are the
-//! user's**.
+//! The rule is in `docs/commands.md`, "What a change does with files": what is said there of
+//! configuration files, and of `PATH.apk-new`.
 
 ghost use Rattle.std.specs.Prelude.{◌≡◌, ◌≤◌, IfOk, length, option_map};
 ghost use Rattle.path_claim_lists.specs.adb_fields.JoinedPath.{joined_path};

@@ -13,7 +13,7 @@
 //! this crate says what is read and what is refused.
 #![tactic(auto)]
 
-mod change;
+mod claim_change;
 mod clashes;
 mod coming;
 mod entries;
@@ -24,11 +24,11 @@ mod parts;
 mod planning;
 mod writes;
 
-pub use change::Change;
 pub use change_files::{
     no_path_is_owned_by_two_members, the_files_of_an_added_package_are_as_listed,
     what_is_written_is_not_reserved,
 };
+pub use claim_change::ClaimChange;
 pub use coming::{added_claims, comes};
 pub use fault::PlanFault;
 pub use guarded::name_beside;

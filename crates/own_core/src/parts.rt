@@ -1,6 +1,7 @@
 //! The added files by their fates, and the files that are left over.
-//! The rules are in `docs/commands.md`, "What a change does with files": what is removed ("a file
-//! that the old database lists and that no package lists any more"), and what is kept below `etc/`.
+//! The rules are in `docs/commands.md`, "What a change does with files": which files are removed
+//! (the old database lists them, and no package lists them after the change), and which
+//! configuration files are kept.
 
 ghost use Rattle.std.specs.Prelude.{◌≡◌, IfOk, OnOk, Some, [], ◌∷◌, ◌++◌, length, map};
 ghost use Rattle.std.specs.List.{filter};
@@ -19,7 +20,7 @@ ghost use Rattle.own_core.specs.Going.{is_file_kept, is_beside, is_path_left_ove
 ghost use Rattle.own_core.specs.Parts.{AreFilesByFate};
 ghost use Rattle.own_core.specs.Sides.{HasClaims, claims_before, file_change_of};
 
-use crate::change::Change;
+use crate::claim_change::ClaimChange;
 use crate::entries::listed_before;
 use crate::fate::{AddedFileFate, fates_of, is_changed};
 use crate::guarded::{is_guarded, path_beside};
@@ -77,7 +78,7 @@ fn is_beside(asides: &[Claim<'_>], path: &FilePath<'_>) -> bool
 /// Whether no package lists a path any more, and nothing is laid beside another one there. If paths
 /// are tested in their order, each search starts at `next`.
 fn is_path_left_over(
-    change: &Change<'_, '_, '_>,
+    change: &ClaimChange<'_, '_, '_>,
     asides: &[Claim<'_>],
     path: &FilePath<'_>,
     next: &mut usize,
@@ -97,7 +98,7 @@ fn is_path_left_over(
 /// any more, and nothing is laid beside another file there.
 fn left_over_claims<'o>(
     alloc: Global,
-    change: &Change<'_, 'o, '_>,
+    change: &ClaimChange<'_, 'o, '_>,
     asides: &[Claim<'_>],
 ) -> Result<Vec<Claim<'o>>, AllocError>
     requires claims { HasClaims change.now }
@@ -123,7 +124,7 @@ fn left_over_claims<'o>(
 fn is_file_kept<T: Tree>(
     alloc: Global,
     tree: &mut T,
-    change: &Change<'_, '_, '_>,
+    change: &ClaimChange<'_, '_, '_>,
     claim: &Claim<'_>,
 ) -> Result<bool, TreeFault>
     requires { IsClaimOf (members_of_kept (packages_of change.now.db.now)) (claim_seen claim.now) }
@@ -154,7 +155,7 @@ fn add_flag(flags: &mut Vec<bool>, flag: bool) -> Result<(), AllocError>
 fn stays_of<T: Tree>(
     alloc: Global,
     tree: &mut T,
-    change: &Change<'_, '_, '_>,
+    change: &ClaimChange<'_, '_, '_>,
     left: &[Claim<'_>],
 ) -> Result<Vec<bool>, TreeFault>
     requires { AreClaimsOf (members_of_kept (packages_of change.now.db.now))
@@ -218,7 +219,7 @@ pub struct Parts<'o, 'n> {
 pub fn parts_of<'o, 'n, T: Tree>(
     alloc: Global,
     tree: &mut T,
-    change: &Change<'_, 'o, 'n>,
+    change: &ClaimChange<'_, 'o, 'n>,
     coming: &[Claim<'n>],
 ) -> Result<Parts<'o, 'n>, TreeFault>
     requires claims { HasClaims change.now }

@@ -29,7 +29,7 @@ ghost use Rattle.own_core.specs.Planned.{HasOwnNames, HasSources, IsOwnedBy, IsP
 ghost use Rattle.own_core.specs.Sides.{HasClaims, claims_after, file_change_of};
 ghost use Rattle.own_core.specs.WritesSeen.{HaveNamesBeside};
 
-use crate::change::Change;
+use crate::claim_change::ClaimChange;
 use crate::clashes::{ReleasedPaths, names_beside, written_paths};
 use crate::coming::{added_claims, comes};
 use crate::fault::PlanFault;
@@ -101,7 +101,7 @@ impl FilePlan {
 fn clash_of<T: Tree>(
     alloc: Global,
     tree: &mut T,
-    change: &Change<'_, '_, '_>,
+    change: &ClaimChange<'_, '_, '_>,
     parts: &Parts<'_, '_>,
     coming: &[Claim<'_>],
 ) -> Result<Option<Clash>, TreeFault>
@@ -216,7 +216,7 @@ fn lists_of(alloc: Global, parts: &Parts<'_, '_>, owned: Vec<bool>) -> Result<Fi
 fn plan_of_claims<T: Tree>(
     alloc: Global,
     tree: &mut T,
-    change: &Change<'_, '_, '_>,
+    change: &ClaimChange<'_, '_, '_>,
     coming: &[Claim<'_>],
     contested: &Option<Contested<'_>>,
     owned: Vec<bool>,
@@ -308,7 +308,7 @@ pub fn plan<'c, T: Tree>(
     }
     let listed = claims_in_database(alloc, old)?;
     let before = one_of_each_path(alloc, &listed)?;
-    let change = Change {
+    let change = ClaimChange {
         db: old,
         members: after,
         before: &before,

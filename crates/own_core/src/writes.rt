@@ -1,7 +1,7 @@
 //! The names at which added files are written, and whose contents they get.
-//! The rules are in `docs/commands.md`, "What a change does with files": "each file that a package
-//! which comes owns is written", and if one is laid beside as `PATH.apk-new`. Positions of folders
-//! and files count as in `docs/formats.md`, "The other blocks".
+//! The rules are in `docs/commands.md`, "What a change does with files": the change writes each file
+//! that an added package owns, under its path or beside the user's file as `PATH.apk-new`. Positions
+//! of folders and files count as in `docs/formats.md`, "The other blocks".
 
 ghost use Rattle.std.specs.Prelude.{◌≡◌, ◌<◌, ◌==◌, ◌++◌, ◌∷◌, [], IfOk, OnOk, Some, length, map, slice_get};
 ghost use Rattle.base_core.specs.Sorted.{sorted_by};

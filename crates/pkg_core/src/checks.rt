@@ -54,7 +54,7 @@ pub fn verify(alloc: Global, bytes: &[u8]) -> Result<(), PackageFault>
 /// The table at the root of a container with this schema (apk-v3(5)); None if the schema is none of
 /// the four.
 pub fn root_of_schema(schema: u32) -> Option<Which>
-    ensures { result ≡ root_of_schema schema }
+    ensures root { result ≡ root_of_schema schema }
     ensures known { IfSome result (λ which. IsTrue (is_some (schema_word which))) }
 {
     match schema {

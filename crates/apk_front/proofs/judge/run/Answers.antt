@@ -1,8 +1,9 @@
 use Rattle.std.proofs.Common.{true≢false, sym, ◌∙◌}
 use Rattle.outcome.specs.Effect.{effect_of}
-use Rattle.apk_front.proofs.Carried.{look_found, look_memory, look_read, look_run, not_on_words, reads_by_access, recovers_else, writes_by_access}
+use Rattle.apk_front.proofs.Carried.{look_found, look_read, look_run, not_on_words, reads_by_access, recovers_else, writes_by_access}
 use Rattle.apk_front.proofs.Promised.{changes_not_read}
 use Rattle.apk_front.proofs.Runs.{proper_anyway}
+use Rattle.apk_front.proofs.VerdictCounts.{counted_reads}
 use Rattle.apk_front.proofs.judge.run.Goals as goal
 
 pub recover_and_run-requires : goal.recover_and_run-requires
@@ -13,18 +14,10 @@ pub returns-in-Write : goal.returns-in-Write
 returns-in-Write g c =
     let writes = writes_by_access c.args.command.now c.applet.result c.applet_access.result c.applet.ensures.value c.applet_access.ensures c.in-Write.is in
     record {
-      found = c.recover_and_run.ensures.found;
-      by_reads = c.recover_and_run.ensures.by_reads;
+      run = c.recover_and_run.ensures;
       by_words = λ rests. absurd (not_on_words (effect_of c.args.command.now.applet) writes rests);
       untouched = λ rests. absurd (not_on_words (effect_of c.args.command.now.applet) writes rests);
-      run = c.recover_and_run.ensures.run;
-      promised = c.recover_and_run.ensures.promised;
       same = λ only. absurd (true≢false (sym only ∙ writes));
-      goes_on = c.recover_and_run.ensures.goes_on;
-      disk = c.recover_and_run.ensures.disk;
-      kept = c.recover_and_run.ensures.kept;
-      memory = c.recover_and_run.ensures.memory;
-      proper = c.recover_and_run.ensures.proper;
     }
 
 pub look-requires : goal.look-requires
@@ -34,16 +27,15 @@ pub returns-in-Read : goal.returns-in-Read
 returns-in-Read g c =
     let reads = reads_by_access c.args.command.now c.applet.result c.applet_access.result c.applet.ensures.value c.applet_access.ensures c.in-Read.is in
     record {
-      found = look_found c.args.command.now _ c.look.result reads c.look.ensures.found;
-      by_reads = look_read c.args.command.now c.look.result reads c.look.ensures.by_reads;
+      run = record {
+        found = look_found c.args.command.now _ c.look.result reads c.look.ensures.found;
+        by_reads = look_read c.args.command.now c.look.result reads c.look.ensures.by_reads;
+        tree = look_run c.args.command.now _ _ c.look.result reads c.look.ensures.tree.same;
+        promised = λ changes. absurd (changes_not_read (effect_of c.args.command.now.applet) reads changes);
+        counts = counted_reads c.look.result _ _ _ _ c.look.ensures.tree;
+        proper = proper_anyway _ _ _ c.look.ensures.tree.proper;
+      };
       by_words = c.look.ensures.by_words;
       untouched = c.look.ensures.untouched;
-      promised = λ changes. absurd (changes_not_read (effect_of c.args.command.now.applet) reads changes);
-      run = look_run c.args.command.now _ _ c.look.result reads c.look.ensures.tree.same;
       same = λ only. c.look.ensures.tree.same;
-      goes_on = c.look.ensures.tree.goes_on;
-      disk = c.look.ensures.tree.disk;
-      kept = c.look.ensures.tree.kept;
-      memory = look_memory c.look.result _ _ _ _ c.look.ensures.tree;
-      proper = proper_anyway _ _ _ c.look.ensures.tree.proper;
     }

@@ -6,41 +6,35 @@ use Rattle.apk_front.proofs.OutcomeOfReport.{tell_applet}
 use Rattle.apk_front.proofs.Promised.{changes_not_mkndx, changes_not_mkpkg, changes_not_told}
 use Rattle.apk_front.proofs.recovered.run_recovered.Goals as goal
 
-pub returns-in-Mkpkg-clause-found : goal.returns-in-Mkpkg-clause-found
-returns-in-Mkpkg-clause-found g c = package_found_one c.args.command.now _ c.mkpkg.result (sym c.in-Mkpkg.is ∙ c.applet.ensures.value) c.mkpkg.ensures.found
-
-pub returns-in-Mkndx-clause-found : goal.returns-in-Mkndx-clause-found
-returns-in-Mkndx-clause-found g c = index_found_one c.args.command.now _ c.mkndx.result (sym c.in-Mkndx.is ∙ c.applet.ensures.value) c.mkndx.ensures.found
-
-pub returns-in-Mkpkg-clause-by_reads : goal.returns-in-Mkpkg-clause-by_reads
-returns-in-Mkpkg-clause-by_reads g c = package_read_one c.args.command.now c.mkpkg.result (sym c.in-Mkpkg.is ∙ c.applet.ensures.value) c.mkpkg.ensures.by_reads
-
-pub returns-in-Mkpkg-clause-proper : goal.returns-in-Mkpkg-clause-proper
-returns-in-Mkpkg-clause-proper g c = package_proper c.args.command.now _ _ (sym c.in-Mkpkg.is ∙ c.applet.ensures.value) c.mkpkg.ensures.proper
-
-pub returns-in-Mkndx-clause-by_reads : goal.returns-in-Mkndx-clause-by_reads
-returns-in-Mkndx-clause-by_reads g c = index_read_one c.args.command.now c.mkndx.result (sym c.in-Mkndx.is ∙ c.applet.ensures.value) c.mkndx.ensures.by_reads
-
-pub returns-in-Mkndx-clause-proper : goal.returns-in-Mkndx-clause-proper
-returns-in-Mkndx-clause-proper g c = index_proper c.args.command.now _ _ (sym c.in-Mkndx.is ∙ c.applet.ensures.value) c.mkndx.ensures.proper
-
 pub returns-in-Mkpkg-clause-run : goal.returns-in-Mkpkg-clause-run
-returns-in-Mkpkg-clause-run g c = package_run c.args.command.now c.mkpkg.result _ _ (sym c.in-Mkpkg.is ∙ c.applet.ensures.value) c.mkpkg.ensures.run
+returns-in-Mkpkg-clause-run g c =
+    let is = sym c.in-Mkpkg.is ∙ c.applet.ensures.value in
+    record {
+      found = package_found_one c.args.command.now _ c.mkpkg.result is c.mkpkg.ensures.found;
+      by_reads = package_read_one c.args.command.now c.mkpkg.result is c.mkpkg.ensures.by_reads;
+      tree = package_run c.args.command.now c.mkpkg.result _ _ is c.mkpkg.ensures.run;
+      undone = undone_anyway _ _ c.mkpkg.ensures.undone;
+      counts = record { goes_on = c.mkpkg.ensures.goes_on; disk = c.mkpkg.ensures.disk; kept = c.mkpkg.ensures.kept; memory = c.mkpkg.ensures.memory };
+      proper = package_proper c.args.command.now _ _ is c.mkpkg.ensures.proper;
+    }
 
 pub returns-in-Mkndx-clause-run : goal.returns-in-Mkndx-clause-run
-returns-in-Mkndx-clause-run g c = index_run c.args.command.now c.mkndx.result _ _ (sym c.in-Mkndx.is ∙ c.applet.ensures.value) c.mkndx.ensures.run
+returns-in-Mkndx-clause-run g c =
+    let is = sym c.in-Mkndx.is ∙ c.applet.ensures.value in
+    record {
+      found = index_found_one c.args.command.now _ c.mkndx.result is c.mkndx.ensures.found;
+      by_reads = index_read_one c.args.command.now c.mkndx.result is c.mkndx.ensures.by_reads;
+      tree = index_run c.args.command.now c.mkndx.result _ _ is c.mkndx.ensures.run;
+      undone = undone_anyway _ _ c.mkndx.ensures.undone;
+      counts = record { goes_on = c.mkndx.ensures.goes_on; disk = c.mkndx.ensures.disk; kept = c.mkndx.ensures.kept; memory = c.mkndx.ensures.memory };
+      proper = index_proper c.args.command.now _ _ is c.mkndx.ensures.proper;
+    }
 
 pub report-requires : goal.report-requires
 report-requires g c = tell_applet c.args.command.now c.applet.result c.applet.ensures.value c.in-Info.is
 
-pub change-requires : goal.change-requires
-change-requires g c = change_applet c.args.command.now c.applet.result c.applet.ensures.value c.in-Add.is
-
-pub returns-in-Mkpkg-clause-undone : goal.returns-in-Mkpkg-clause-undone
-returns-in-Mkpkg-clause-undone g c = undone_anyway _ _ c.mkpkg.ensures.undone
-
-pub returns-in-Mkndx-clause-undone : goal.returns-in-Mkndx-clause-undone
-returns-in-Mkndx-clause-undone g c = undone_anyway _ _ c.mkndx.ensures.undone
+pub change_root-requires : goal.change_root-requires
+change_root-requires g c = change_applet c.args.command.now c.applet.result c.applet.ensures.value c.in-Add.is
 
 pub returns-in-Mkpkg-clause-promised : goal.returns-in-Mkpkg-clause-promised
 returns-in-Mkpkg-clause-promised g c = λ changes. absurd (changes_not_mkpkg c.args.command.now.applet (sym c.applet.ensures.value ∙ c.in-Mkpkg.is) changes)

@@ -9,7 +9,7 @@ use Rattle.path_claim_lists.specs.path_claims.declared.claim.Claim.{Claim}
 use Rattle.path_claim_lists.proofs.path_claims.Whole.{is_sorted}
 use Rattle.own_core.specs.ClaimEntries.{is_of_added_owner}
 use Rattle.own_core.specs.Sides.{HasClaims}
-use Rattle.own_core.specs.declared.change.Change.{Change}
+use Rattle.own_core.specs.declared.claim_change.ClaimChange.{ClaimChange}
 use Rattle.own_core.proofs.Listings.{are_claims}
 use Rattle.own_core.specs.Planned.{change_by}
 use Rattle.own_core.proofs.OwnNames.{names_if_planned, sources_if_planned}
@@ -35,7 +35,7 @@ added_claims-requires-clause-sorted g c =
 
 pub plan_of_claims-requires-clause-claims : goal.plan_of_claims-requires-clause-claims
 plan_of_claims-requires-clause-claims g c =
-    let change : Change = record {
+    let change : ClaimChange = record {
       db = record { ref_ptr = c.args.old.ref_ptr; now = c.args.old.now };
       members = record { ref_ptr = c.args.after.ref_ptr; now = c.args.after.now };
       before = record { ref_ptr = c.deref-3.result.ref_ptr; now = c.deref-3.result.now };

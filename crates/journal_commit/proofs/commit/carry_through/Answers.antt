@@ -1,5 +1,5 @@
 use Rattle.journal_commit.proofs.Leads.{enact_done, enact_run, publish_run}
-use Rattle.journal_commit.proofs.carrying.carry_through.Goals as goal
+use Rattle.journal_commit.proofs.commit.carry_through.Goals as goal
 
 pub returns-in_err-publish-clause-run : goal.returns-in_err-publish-clause-run
 returns-in_err-publish-clause-run g c contents v first s =

@@ -8,7 +8,7 @@ use path_claim_lists::Claim;
 /// The packages before a change and after it, with the files that they list in the order of their
 /// paths: before it one claim for each path, after it all claims.
 #[derive(Clone, Copy)]
-pub struct Change<'c, 'o, 'n> {
+pub struct ClaimChange<'c, 'o, 'n> {
     /// The database before the change.
     pub db: &'c Db<'o>,
     /// The kept and added packages after the change.

@@ -2,7 +2,7 @@ use Rattle.journal_core.proofs.OldOrNew.{bytes_end}
 use Rattle.journal_core.proofs.Leaving.{end_lasts}
 use Rattle.journal_core.proofs.Rowing.{reads_called}
 use Rattle.journal_commit.proofs.Ends.{end_files, end_moments, end_proper, end_settled}
-use Rattle.journal_commit.proofs.carrying.enact.Goals as goal
+use Rattle.journal_commit.proofs.commit.enact.Goals as goal
 
 pub returns-clause-moments : goal.returns-clause-moments
 returns-clause-moments g c = end_moments _ _ _ _ _ c.in_ok-apply_all.ensures.acting c.apply_all.ensures.moments c.finish.ensures.moments
