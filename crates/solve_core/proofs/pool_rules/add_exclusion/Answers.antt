@@ -9,5 +9,5 @@ pub push-requires : goal.push-requires
 push-requires c =
     let pool : SealedPool = c.args.known.now in
     let out : exclude_each_other pool c.args.id c.args.other ≡ true =
-        subst (λ (p : SealedPool). exclude_each_other p c.args.id c.args.other ≡ true) c.pool.ensures (c.does_exclude.ensures c.if-not-does_exclude.false) in
+    subst (λ (p : SealedPool). exclude_each_other p c.args.id c.args.other ≡ true) c.pool.ensures (c.does_exclude.ensures c.if-not-does_exclude.false) in
     subst (λ (z : ClauseValue). IsClause pool z) (sym c.in_ok-clause.ensures) (excluded_are_reason pool c.args.id c.args.other out)

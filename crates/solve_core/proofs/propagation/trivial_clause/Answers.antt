@@ -9,5 +9,5 @@ returns c = λ pool.
     let members : c.in_ok-members.members.items ≡ id ∷ [] = c.in_ok-members.ensures.items in
     let options : c.in_ok-options.options.items ≡ id ∷ [] = c.in_ok-options.ensures.items in
     let both : c.new.result ≡ (id ∷ [], id ∷ []) =
-        c.new.ensures ∙ ap (λ (z : List ℕ). (z, c.in_ok-options.options.items)) members ∙ ap (λ (z : List ℕ). (id ∷ [], z)) options in
+    c.new.ensures ∙ ap (λ (z : List ℕ). (z, c.in_ok-options.options.items)) members ∙ ap (λ (z : List ℕ). (id ∷ [], z)) options in
     subst (λ (z : ClauseValue). IsClause pool z) (sym both) (says_nothing pool id)
