@@ -1,6 +1,6 @@
 -- A dependency raises a need, and a conflict or a shared name excludes.
-use Rattle.std.proofs.Common.{◌≡◌, ◌⊎◌, inl, inr, ℕ, Bool, true, false, List, [], ◌∷◌, ◌++◌, refl, sym, subst, ap, ◌∙◌}
-use Rattle.std.specs.Prelude.{Option, Some, slice_get, not, ◌&&◌, ◌||◌, ◌==◌, is_some}
+use Rattle.std.proofs.Common.{◌≡◌, inl, inr, ℕ, Bool, true, false, List, [], ◌∷◌, refl, sym, subst, ap, ◌∙◌}
+use Rattle.std.specs.Prelude.{Option, Some, slice_get, not, ◌&&◌, ◌==◌}
 use Rattle.std.specs.Option.{option_map_or}
 use Rattle.std.specs.List.{filter, flat_map, list_any}
 use Rattle.std.proofs.lemmas.Bool.{and_parts}
@@ -8,7 +8,7 @@ use Rattle.dep_core.specs.Dependency.{Dependency}
 use Rattle.search_choices.specs.candidate_core.Candidates.{Candidate, Need, entry, meets_dependency, occupies_name}
 use Rattle.search_choices.specs.candidate_core.Options.{IsIn}
 use Rattle.search_choices.specs.candidate_core.Rank.{SealedPool, candidate_at, is_at}
-use Rattle.search_choices.specs.search_tables.Selection.{conflicts_with, depends_at, does_exclude, exclude_each_other, names_by_install_if, needs, occupied_names, occupied_names_at, positive_needs, raised_needs, share_a_name}
+use Rattle.search_choices.specs.search_tables.Selection.{conflicts_with, depends_at, does_exclude, exclude_each_other, needs, occupied_names, occupied_names_at, positive_needs, raised_needs, share_a_name}
 use Rattle.search_choices.proofs.search_tables.Theory.{in_left, in_right}
 use Rattle.search_choices.proofs.search_tables.Places.{there_is}
 use Rattle.search_choices.proofs.search_tables.PoolFacts.{in_filter, in_flat, in_map}

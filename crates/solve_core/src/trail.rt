@@ -77,11 +77,6 @@ impl Trail {
         *self.values.get(place as usize)?
     }
 
-    /// How many steps there can be for the candidates seen so far.
-    pub(crate) fn places(&self) -> usize {
-        self.values.len()
-    }
-
     /// How many choices were made.
     pub(crate) fn level(&self) -> usize {
         self.levels.len()

@@ -1,6 +1,5 @@
 use Rattle.std.proofs.Common.{◌≡◌, ◌∙◌, subst, sym}
 use Rattle.std.specs.Prelude.{Some}
-use Rattle.dep_core.specs.Dependency.{Dependency}
 use Rattle.dep_core.specs.Meets.{dependency}
 use Rattle.search_choices.specs.candidate_core.Candidates.{Candidate}
 use Rattle.search_choices.specs.candidate_core.Options.{IsIn}

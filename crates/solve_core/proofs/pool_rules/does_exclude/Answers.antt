@@ -1,4 +1,4 @@
-use Rattle.std.proofs.Common.{◌≡◌, ◌∙◌, sym}
+use Rattle.std.proofs.Common.{◌∙◌, sym}
 use Rattle.solve_core.proofs.PoolRules.{conflict_excludes, shared_name_excludes}
 use Rattle.solve_core.proofs.pool_rules.does_exclude.Goals as goal
 
