@@ -1,13 +1,12 @@
 //! The rules of a pool as clauses. A dependency is a clause of the candidate that has it and the
 //! options for it; two candidates that exclude each other are a reason. The rules are in
 //! `docs/selection.md`, "What satisfies world".
-ghost use Rattle.std.specs.Prelude.{◌≡◌, ◌&&◌, true, false, IfOk, None, Some, slice_get, is_some, option_to_list};
+ghost use Rattle.std.specs.Prelude.{◌≡◌, ◌&&◌, true, false, IfOk, is_some, option_to_list};
 ghost use Rattle.std.specs.List.{list_any};
 ghost use Rattle.dep_core.specs.Dependency.{Dependency};
 ghost use Rattle.dep_core.specs.Meets.{dependency};
-ghost use Rattle.search_choices.specs.candidate_core.Candidates.{Candidate, entry, meets_dependency, occupies_name};
+ghost use Rattle.search_choices.specs.candidate_core.Candidates.{entry, meets_dependency, occupies_name};
 ghost use Rattle.search_choices.specs.candidate_core.Options.{IsIn, options_for};
-ghost use Rattle.search_choices.specs.candidate_core.Rank.{SealedPool};
 ghost use Rattle.search_choices.specs.search_tables.Selection.{depends_at, exclude_each_other, needs, occupied_names};
 ghost use Rattle.solve_core.specs.Clauses.{IsClause};
 
