@@ -1,6 +1,6 @@
 -- A dependency raises a need, and a conflict or a shared name excludes.
-use Rattle.std.proofs.Common.{◌≡◌, ◌⊎◌, inl, inr, ℕ, Bool, true, false, List, [], ◌∷◌, ◌++◌, refl, sym, subst, ap, ◌∙◌}
-use Rattle.std.specs.Prelude.{Option, Some, not, ◌&&◌, ◌||◌, ◌==◌, is_some}
+use Rattle.std.proofs.Common.{◌≡◌, inl, inr, ℕ, Bool, true, false, List, [], ◌∷◌, refl, sym, subst, ap, ◌∙◌}
+use Rattle.std.specs.Prelude.{Option, Some, slice_get, not, ◌&&◌, ◌==◌}
 use Rattle.std.specs.Option.{option_map_or}
 use Rattle.std.specs.List.{filter, flat_map, list_any}
 use Rattle.std.proofs.lemmas.Bool.{and_parts}
@@ -8,8 +8,9 @@ use Rattle.dep_core.specs.Dependency.{Dependency}
 use Rattle.search_choices.specs.candidate_core.Candidates.{Candidate, Need, entry, meets_dependency, occupies_name}
 use Rattle.search_choices.specs.candidate_core.Options.{IsIn}
 use Rattle.search_choices.specs.candidate_core.Rank.{SealedPool, candidate_at, is_at}
-use Rattle.search_choices.specs.search_tables.Selection.{conflicts_with, depends_at, does_exclude, exclude_each_other, names_by_install_if, needs, occupied_names, occupied_names_at, positive_needs, raised_needs, share_a_name}
+use Rattle.search_choices.specs.search_tables.Selection.{conflicts_with, depends_at, does_exclude, exclude_each_other, needs, occupied_names, occupied_names_at, positive_needs, raised_needs, share_a_name}
 use Rattle.search_choices.proofs.search_tables.Theory.{in_left, in_right}
+use Rattle.search_choices.proofs.search_tables.Places.{there_is}
 use Rattle.search_choices.proofs.search_tables.PoolFacts.{in_filter, in_flat, in_map}
 use Rattle.search_choices.proofs.search_tables.Satisfying.{any_one, one_any, true_or}
 
@@ -30,6 +31,12 @@ module _ (pool : SealedPool) where
       let of : ℕ → List Need = λ k. positive_needs (depends_at pool k) in
       in_left (entry d) (raised_needs pool (c ∷ [])) _ (in_right (entry d) (positive_needs pool.world) (flat_map of (c ∷ []))
       (in_flat of (entry d) c (c ∷ []) (inl refl) (positive d (depends_at pool c) there plain)))
+
+  -- a dependency of the candidate that is there
+  pub depends_of : (a : ℕ) (details : Candidate) → candidate_at pool a ≡ Some details → (deps : List Dependency) (i : ℕ) (d : Dependency) → deps ≡ details.depends → slice_get deps i ≡ Some d → IsIn d (depends_at pool a)
+  depends_of a details here deps i d is at =
+      let same : depends_at pool a ≡ details.depends = ap (λ (o : Option Candidate). option_map_or (λ (c : Candidate). c.depends) o []) here in
+      subst (λ (z : List Dependency). IsIn d z) (is ∙ sym same) (there_is deps i d at).1
 
   at_place : (b : ℕ) (other : Candidate) (p : Candidate → Bool) → candidate_at pool b ≡ Some other → p other ≡ true → is_at pool p b ≡ true
   at_place b other p here is = ap (λ (o : Option Candidate). option_map_or p o false) here ∙ is

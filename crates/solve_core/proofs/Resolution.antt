@@ -2,10 +2,10 @@
 use Rattle.std.proofs.Common.{◌≡◌, ◌⊎◌, inl, inr, ℕ, true, zero, suc, List, [], ◌∷◌, ◌++◌, subst, refl, sym, take}
 use Rattle.std.specs.Prelude.{Some, slice_get}
 use Rattle.search_choices.specs.candidate_core.Candidates.{Need}
-use Rattle.search_choices.specs.candidate_core.Rank.{SealedPool, is_eligible_at}
+use Rattle.search_choices.specs.candidate_core.Rank.{SealedPool}
 use Rattle.search_choices.specs.candidate_core.Options.{IsIn, options_for}
 use Rattle.search_choices.specs.search_tables.Selection.{AreMembers, exclude_each_other, needs}
-use Rattle.search_choices.specs.search_tables.Reasons.{HasOptions, IsReason, IsSolution}
+use Rattle.search_choices.specs.search_tables.Reasons.{HasOptions, IsReason}
 use Rattle.search_choices.proofs.search_tables.Theory as law
 use Rattle.search_choices.proofs.search_tables.Theory.{decide_in, in_append}
 use Rattle.search_choices.proofs.search_tables.PoolFacts.{pool_facts}

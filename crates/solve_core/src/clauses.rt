@@ -73,6 +73,11 @@ impl Clause {
         self.options.as_slice()
     }
 
+    /// How many members and options there are.
+    pub(crate) fn size(&self) -> usize {
+        self.members().len().saturating_add(self.options().len())
+    }
+
     /// Whether the clause is a reason: it has no options.
     pub(crate) fn is_reason(&self) -> bool
         ensures { result ≡ true → self.now.1 ≡ [] }

@@ -67,7 +67,7 @@ impl Propagation {
         for index in 0..known.len() {
             if let Some(clause) = known.clause_at(index) {
                 self.watches.push(clause, &self.trail)?;
-                if clause.members().len() + clause.options().len() < 2 {
+                if clause.size() < 2 {
                     self.pending.push(index)?;
                 }
             }

@@ -77,11 +77,6 @@ impl Trail {
         *self.values.get(place as usize)?
     }
 
-    /// How many steps there can be for the candidates seen so far.
-    pub(crate) fn places(&self) -> usize {
-        self.values.len()
-    }
-
     /// How many choices were made.
     pub(crate) fn level(&self) -> usize {
         self.levels.len()
@@ -147,16 +142,23 @@ impl Trail {
         let left = *self.levels.get(level)?;
         self.levels.truncate(level);
         for i in left..self.steps.len() {
-            let place = self.steps[i].place as usize;
-            if let Some(value) = self.values.get_mut(place) {
-                *value = None;
-            }
+            self.forget(i);
         }
         self.steps.truncate(left);
         if self.next > left {
             self.next = left;
         }
         Some(left)
+    }
+
+    // Forgets what is known of the candidate of a step.
+    fn forget(&mut self, step: usize) {
+        let Some(step) = self.steps.get(step) else {
+            return;
+        };
+        if let Some(value) = self.values.get_mut(step.place as usize) {
+            *value = None;
+        }
     }
 
     /// What a clause says under the trail.

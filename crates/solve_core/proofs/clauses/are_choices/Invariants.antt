@@ -1,4 +1,3 @@
-use Rattle.std.proofs.Common.{◌≡◌}
 use Rattle.std.proofs.Common.{take}
 use Rattle.search_choices.specs.search_tables.Selection.{AreMembers}
 use Rattle.search_choices.specs.Choices.{choices_of}

@@ -1,5 +1,5 @@
-use Rattle.std.proofs.Common.{◌≡◌, subst, sym}
-use Rattle.std.specs.Prelude.{None, Some, option_to_list}
+use Rattle.std.proofs.Common.{subst, sym}
+use Rattle.std.specs.Prelude.{Some, option_to_list}
 use Rattle.dep_core.specs.Meets.{dependency}
 use Rattle.search_choices.specs.candidate_core.Candidates.{entry}
 use Rattle.search_choices.specs.candidate_core.Options.{IsIn}
@@ -10,5 +10,5 @@ use Rattle.solve_core.proofs.pool_rules.add_dependency.Goals as goal
 
 pub need_clause-requires : goal.need_clause-requires
 need_clause-requires c =
-    subst (λ (p : SealedPool). IsIn (entry (dependency c.args.dep.now)) (needs p (option_to_list (Some c.args.id)))) (sym c.pool.ensures)
-    (choice_raises c.args.known.now c.args.id (dependency c.args.dep.now) c.requires c.if-conflict.false)
+    subst (λ (p : SealedPool). IsIn (entry (dependency c.args.dep.now)) (needs p (option_to_list (Some c.args.id)))) (sym c.pool-pool.ensures)
+    (choice_raises c.args.known.now c.args.id (dependency c.args.dep.now) c.requires c.if-dep.false)

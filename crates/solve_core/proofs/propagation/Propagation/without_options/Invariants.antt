@@ -1,4 +1,3 @@
-use Rattle.std.proofs.Common.{◌≡◌}
 use Rattle.solve_core.specs.Clauses.{IsClause}
 use Rattle.solve_core.proofs.propagation.Propagation.without_options.Given as goal
 
