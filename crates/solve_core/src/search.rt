@@ -359,7 +359,10 @@ impl<'p> Search<'p> {
             return Ok(Some(conflict));
         }
         for i in self.propagation.level()..self.turns.len() {
-            let choice = self.turns[i].choice;
+            let Some(turn) = self.turn_at(i) else {
+                return Ok(None);
+            };
+            let choice = turn.choice;
             if let Some(conflict) = self.propagation.choose(choice, &mut self.known)? {
                 return Ok(Some(conflict));
             }

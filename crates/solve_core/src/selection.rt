@@ -35,8 +35,8 @@ pub fn solve(alloc: Global, pool: &Sealed<'_>, world: &World) -> Result<Option<T
 }
 
 // The preferred solution, by a search that begins without choices. It takes an option of the
-// topmost frame, or backtracks if none is left, or if propagation finds a dead end ahead. The search is borrowed, so that nothing needs to be
-// freed if the loop ends early.
+// topmost frame, or backtracks if none is left, or if propagation finds a dead end ahead. The
+// search is borrowed, so that nothing needs to be freed if the loop ends early.
 fn first_selection(alloc: Global, search: &mut Search<'_>) -> Result<Option<Trace>, AllocError>
     requires search { IsSearch search.old.chosen search.old.turns.items }
     requires matches { AreMatchesAmong (pool_of search.old.chosen).candidates search.old.matches }

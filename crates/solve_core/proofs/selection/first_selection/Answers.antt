@@ -109,18 +109,18 @@ step_back_for_reason-requires-clause-dead c =
 
 pub returns-in_default-2 : goal.returns-in_default-2
 returns-in_default-2 c =
-    let dead = none_of c.in_ok-frame-then-is_dead.field-0 _ _ c.in_default-2.not-Some c.in_ok-frame-then-is_dead.ensures.found in
+    let dead = none_of c.in_ok-frame-2.field-0 _ _ c.in_default-2.not-Some c.in_ok-frame-2.ensures.found in
     none_satisfies (pool_of c.args.search.now.chosen) (subst (λ (p : SealedPool). IsReason p []) (ap pool_of c.is_dead_ahead.ensures.chosen ∙ (c.loop-top.invariant.pool ∙ c.next_frame.ensures.pool)) dead)
 
 pub loop-top-smaller-then-is_dead : goal.loop-top-smaller-then-is_dead
 loop-top-smaller-then-is_dead c =
-    let back = rw c.in-Some-2.is at (c.in_ok-frame-then-is_dead.ensures.lighter c.loop-top.top) in
+    let back = rw c.in-Some-2.is at (c.in_ok-frame-2.ensures.lighter c.loop-top.top) in
     subst (λ (z : List (FrameValue × ℕ)). weight_of c.step_back_for_reason.new.self.turns.items c.in-Some-2.frame < weight_of z c.loop-top.top) c.is_dead_ahead.ensures.turns back
 
 pub loop-top-preserved-then-is_dead : goal.loop-top-preserved-then-is_dead
 loop-top-preserved-then-is_dead c =
     let initial : SealedPool = pool_of c.next_frame.new.self.chosen in
-    let back = rw c.in-Some-2.is at c.in_ok-frame-then-is_dead.ensures.found in
+    let back = rw c.in-Some-2.is at c.in_ok-frame-2.ensures.found in
     let pool = c.step_back_for_reason.ensures.pool ∙ ap pool_of c.is_dead_ahead.ensures.chosen in
     record {
       pool = pool ∙ c.loop-top.invariant.pool;

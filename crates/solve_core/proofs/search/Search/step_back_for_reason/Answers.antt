@@ -68,3 +68,6 @@ returns-clause-found c =
     subst (λ (p : SealedPool). IsReason p []) c.loop-turn.invariant.pool
     (dead_empty (pool_of c.loop-turn.self.chosen) c.loop-turn.self.reason (choices_of c.loop-turn.self.chosen) c.loop-turn.invariant.within
     (c.loop-turn.invariant.search.choices ∙ no_choices c.loop-turn.self.turns.items (empty_list c.loop-turn.self.turns.items (omega (arith, c.in_default.ensures.cases.0, c.loop-turn.self.turns.ok)))) c.loop-turn.invariant.dead)
+
+pub returns-then-has-clause-known : goal.returns-then-has-clause-known
+returns-then-has-clause-known c = c.take_back.ensures ∙ c.loop-turn.invariant.known
