@@ -9,7 +9,7 @@ mod process;
 
 use apk_front::{Answer, Refusal, RootAccess, access_for, status};
 use headline::apk_as_promised;
-use hint_core::{explain, explain_contents, warn};
+use hint_core::{explain, explain_contents, explain_package, warn};
 use host_files::{Lock, write_path};
 use host_tree::HostTree;
 use process::{ArgumentsFault, HostSink, take_stack, words_of};
@@ -64,6 +64,7 @@ fn main(rt: HostRuntime) -> ExitCode {
             let _ = explain_selection(rt.alloc(), &words, &mut tree, &mut err);
         }
         Answer::Refused(refusal) => {
+            let _ = explain_package(rt.alloc(), &words, refusal, &mut tree, &mut err);
             let _ = explain(rt.alloc(), &words, refusal, &mut tree, &mut err);
             let _ = explain_contents(rt.alloc(), &words, refusal, &mut tree, &mut err);
         }

@@ -51,19 +51,19 @@ pub(crate) fn is_other_file(found: Option<&[u8]>, bytes: &[u8]) -> bool
     }
 }
 
-/// Begins the stage of a change: makes its intent (the journal entry) in memory. The tree is not
-/// called.
+/// Begins the stage of a change: makes its intent (the journal entry) in memory, of the names that
+/// are removed and written, each in byte order. The tree is not called.
 ///
 /// # Errors
 ///
 /// `ResultTooLarge` if the intent exceeds a limit of the writer, or `Memory`.
-pub(crate) fn begin_stage(alloc: Global, removals: &Names, writes: &Names) -> Result<Stage, Refused>
-    requires { AreChangeNames (removals.now ++ writes.now) }
-    ensures stage { IfOk result (λ stage. stage ≡ new_stage removals.now writes.now) }
+pub(crate) fn begin_stage(alloc: Global, removals: Names, writes: Names) -> Result<Stage, Refused>
+    requires { AreChangeNames (removals ++ writes) }
+    ensures stage { IfOk result (λ stage. stage ≡ new_stage removals writes) }
     ensures told { Agrees (λ _. true) result (unless_overflow
-        (overflow_of (value_of_intent (intent_of_lists removals.now writes.now))) true) }
+        (overflow_of (value_of_intent (intent_of_lists removals writes))) true) }
 {
-    match Stage::begin(alloc, removals, writes) {
+    match Stage::of_names(alloc, removals, writes) {
         Ok(stage) => Ok(stage),
         Err(WriteFault::TooLarge { bytes, values }) => {
             Err(Refused::Refusal(Refusal::ResultTooLarge { bytes, values }))

@@ -101,7 +101,7 @@ fn journal_entry(
     // Two laws: the elements of a list of names are names, so both lists give one intent.
     removals.are_names();
     names.are_names();
-    let stage = begin_stage(alloc, &removals, &names)?;
+    let stage = begin_stage(alloc, removals, names)?;
     Ok(Some(stage))
 }
 

@@ -7,6 +7,7 @@ use Rattle.base_core.specs.Tree.{TreeState, files_of}
 use Rattle.base_core.specs.Calls.{IfObservable, HoldsNow}
 use Rattle.base_core.specs.Crash.{Since}
 use Rattle.base_core.specs.Undone.{IsDurable}
+use Rattle.journal_core.specs.Kept.{IsSyncedAt}
 use Rattle.journal_core.specs.Recovery.{StateDependsOn, EachCrashLeaves}
 use Rattle.journal_core.specs.Replacing.{scratch_of, replaced_files_by, replaced_files, IgnoresScratch, IsMomentOfReplacing}
 use Rattle.journal_core.specs.Reading.{ReadsOldOrReplaced}
@@ -25,7 +26,12 @@ module _ (scratch name bytes : List ℕ) (v : TreeState) (old mid rest : History
   untouched_moment w was = record {
     safe = λ ignored is_durable private.
         let is_unchanged = was.is_unchanged ignored is_durable private in
-        record { is_durable = is_unchanged.is_durable; old_or_new = old_or_new_from_quiet ignored v (replaced_files_by scratch name bytes (files_of v)) w is_unchanged.quiet; made = is_unchanged.made };
+        record {
+          is_durable = is_unchanged.is_durable;
+          old_or_new = old_or_new_from_quiet ignored v
+              (replaced_files_by scratch name bytes (files_of v)) w is_unchanged.quiet;
+          made = is_unchanged.made;
+        };
     reads = inl was.others;
   }
 
@@ -48,17 +54,20 @@ module _ (scratch name bytes : List ℕ) (v : TreeState) (old mid rest : History
     pub moving_moments : Fills → Filled → IfObservable mid (λ w. (b : List ℕ) (start : TreeState) → HasNewFileAt scratch (synced_file b) start w → Since (IsReadyToMove scratch name b start) mid new)
         → Since (IsReadyToMove scratch name bytes v) old new
     moving_moments fills filled moves =
-        let behind = observable_apply (HasChangedOnly scratch v) Full (Since Moment mid new) old mid v rest is (filling fills) (full_now filled) (observable_map mid _ (λ w. Full w → Since Moment mid new) moves (λ w f. f bytes v)) in
+        let behind = observable_apply (HasChangedOnly scratch v) Full (Since Moment mid new) old mid v rest is (filling fills) (full_now filled) (observable_map mid _ (λ w. Full w
+        → Since Moment mid new) moves (λ w f. f bytes v)) in
         since_on Moment old mid new (fill_moments fills) behind
 
     pub moved_now : Fills → Filled → IfObservable mid (λ w. (b : List ℕ) (start : TreeState) → HasNewFileAt scratch (synced_file b) start w → Since (IsReadyToMove scratch name b start) mid new)
         → IfObservable mid (λ w. (b : List ℕ) (start : TreeState) → HasNewFileAt scratch (synced_file b) start w → IfObservable new (IsDurablyMoved scratch name b start))
         → HoldsNow new (IsDurablyMoved scratch name bytes v)
     moved_now fills filled moves lasts =
-        let last = observable_apply (HasChangedOnly scratch v) Full (IfObservable new (IsDurablyMoved scratch name bytes v)) old mid v rest is (filling fills) (full_now filled) (observable_map mid _ (λ w. Full w → IfObservable new (IsDurablyMoved scratch name bytes v)) lasts (λ w f. f bytes v)) in
+        let last = observable_apply (HasChangedOnly scratch v) Full (IfObservable new (IsDurablyMoved scratch name bytes v)) old mid v rest is (filling fills) (full_now filled)
+        (observable_map mid _ (λ w. Full w → IfObservable new (IsDurablyMoved scratch name bytes v)) lasts (λ w f. f bytes v)) in
         has_now Moment (IsDurablyMoved scratch name bytes v) old new v rest is (moving_moments fills filled moves) last
 
-    pub moved_called : {T E : Type 0} (r : Result T E) → Fills → Filled → IfObservable mid (λ w. (b : List ℕ) (start : TreeState) → HasNewFileAt scratch (synced_file b) start w → Since (IsReadyToMove scratch name b start) mid new)
+    pub moved_called : {T E : Type 0} (r : Result T E) → Fills → Filled → IfObservable mid (λ w. (b : List ℕ) (start : TreeState) → HasNewFileAt scratch (synced_file b) start w
+        → Since (IsReadyToMove scratch name b start) mid new)
         → IfObservable mid (λ w. (b : List ℕ) (start : TreeState) → HasNewFileAt scratch (synced_file b) start w → OnOk r (IfObservable new (IsDurablyMoved scratch name b start)))
         → OnOk r (HoldsNow new (IsDurablyMoved scratch name bytes v))
     moved_called (Ok x) fills filled moves lasts = moved_now fills filled moves lasts
@@ -73,23 +82,40 @@ module _ (scratch name bytes : List ℕ) (scratch_is : scratch ≡ scratch_of na
   moments : Shows → Since (IsReadyToMove (scratch_of name) name bytes v) old new
   moments moves = subst (λ s. Since (IsReadyToMove s name bytes v) old new) scratch_is (observable_at old v rest is (λ w. Since (IsReadyToMove scratch name bytes w) old new) moves)
 
-  pub replacing_moments : Shows → (ignored : List ℕ → Bool) → IsDurable (StateDependsOn ignored) v → IgnoresScratch ignored name → Since (IsMomentOfReplacing ignored (replaced_files name bytes (files_of v)) v) old new
+  pub replacing_moments : Shows → (ignored : List ℕ → Bool) → IsDurable (StateDependsOn ignored) v → IgnoresScratch ignored name
+      → Since (IsMomentOfReplacing ignored (replaced_files name bytes (files_of v)) v) old new
   replacing_moments moves ignored is_durable hides =
-      since_weaker (IsReadyToMove (scratch_of name) name bytes v) (IsMomentOfReplacing ignored (replaced_files name bytes (files_of v)) v) old new (λ w m. m.safe ignored is_durable (private_of ignored name hides)) (moments moves)
+      since_weaker (IsReadyToMove (scratch_of name) name bytes v) (IsMomentOfReplacing ignored (replaced_files name bytes (files_of v)) v) old new
+      (λ w m. m.safe ignored is_durable (private_of ignored name hides)) (moments moves)
 
   pub replacing_durable : Shows → (ignored : List ℕ → Bool) → IsDurable (StateDependsOn ignored) v → IgnoresScratch ignored name → HoldsNow new (IsDurable (StateDependsOn ignored))
   replacing_durable moves ignored is_durable hides =
       now_since (IsDurable (StateDependsOn ignored)) old new v rest is is_durable
-      (since_weaker (IsReadyToMove (scratch_of name) name bytes v) (IsDurable (StateDependsOn ignored)) old new (λ w m. (m.safe ignored is_durable (private_of ignored name hides)).is_durable) (moments moves))
+      (since_weaker (IsReadyToMove (scratch_of name) name bytes v) (IsDurable (StateDependsOn ignored)) old new (λ w m. (m.safe ignored is_durable (private_of ignored name hides)).is_durable)
+      (moments moves))
 
   pub replacing_reads : Shows → Since (ReadsOldOrReplaced name bytes (files_of v)) old new
   replacing_reads moves = since_weaker (IsReadyToMove (scratch_of name) name bytes v) (ReadsOldOrReplaced name bytes (files_of v)) old new (λ w m. m.reads) (moments moves)
 
-  abbrev Lasts : Type 0
-  Lasts = IfObservable old (λ w. HoldsNow new (IsDurablyMoved scratch name bytes w))
+-- ---- by what it returns
 
-  lasting : Lasts → HoldsNow new (IsDurablyMoved (scratch_of name) name bytes v)
-  lasting lasts = subst (λ s. HoldsNow new (IsDurablyMoved s name bytes v)) scratch_is (observable_at old v rest is (λ w. HoldsNow new (IsDurablyMoved scratch name bytes w)) lasts)
+module _ {T E : Type 0} (name bytes : List ℕ) (old new : History) where
+  abbrev LastsOn : Result T E → Type 0
+  LastsOn r = IfObservable old (λ v. OnOk r (HoldsNow new (IsDurablyMoved (scratch_of name) name bytes v)))
 
-  pub replaced_settled : Lasts → (ignored : List ℕ → Bool) → IsDurable (StateDependsOn ignored) v → IgnoresScratch ignored name → HoldsNow new (EachCrashLeaves ignored (replaced_files name bytes (files_of v)))
-  replaced_settled lasts ignored is_durable hides = now_map new (IsDurablyMoved (scratch_of name) name bytes v) (EachCrashLeaves ignored (replaced_files name bytes (files_of v))) (lasting lasts) (λ w l. l.settled ignored is_durable (private_of ignored name hides))
+  pub settled_called : (r : Result T E) → LastsOn r
+      → IfObservable old (λ v. (ignored : List ℕ → Bool) → IsDurable (StateDependsOn ignored) v → IgnoresScratch ignored name
+      → OnOk r (HoldsNow new (EachCrashLeaves ignored (replaced_files name bytes (files_of v)))))
+  settled_called (Ok x) lasts = observable_map old _ _ lasts (λ v l ignored is_durable hides.
+      now_map new (IsDurablyMoved (scratch_of name) name bytes v) (EachCrashLeaves ignored (replaced_files name bytes (files_of v))) l
+      (λ w m. m.settled ignored is_durable (private_of ignored name hides)))
+  settled_called (Err e) lasts = observable_map old _ _ lasts (λ v l ignored is_durable hides. tt)
+
+  pub replaced_called : (r : Result T E) → LastsOn r → IfObservable old (λ v. OnOk r (HoldsNow new (λ w. files_of w ≡ replaced_files name bytes (files_of v))))
+  replaced_called (Ok x) lasts = observable_map old _ _ lasts
+      (λ v l. now_map new (IsDurablyMoved (scratch_of name) name bytes v) (λ w. files_of w ≡ replaced_files name bytes (files_of v)) l (λ w m. m.reads))
+  replaced_called (Err e) lasts = observable_map old _ _ lasts (λ v l. tt)
+
+  pub synced_called : (r : Result T E) → LastsOn r → IfObservable old (λ v. OnOk r (HoldsNow new (IsSyncedAt name)))
+  synced_called (Ok x) lasts = observable_map old _ _ lasts (λ v l. now_map new (IsDurablyMoved (scratch_of name) name bytes v) (IsSyncedAt name) l (λ w m. m.synced))
+  synced_called (Err e) lasts = observable_map old _ _ lasts (λ v l. tt)

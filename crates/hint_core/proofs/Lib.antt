@@ -3,3 +3,5 @@ pub mod LinesFound
 pub mod So
 pub mod WarningSteps
 pub mod Mixed
+pub mod FolderFront
+pub mod PackageSteps

@@ -1,6 +1,7 @@
 -- Each hint is so.
 use Rattle.std.proofs.Common.{◌≡◌, ◌≢◌, ◌∙◌, ◌+◌, ◌-◌, ◌/◌, ◌%◌, ◌≤◌, ℕ, zero, suc, true, false, cond, eqb, List, [], ◌∷◌, ◌++◌, length, Option, Some, None, Result, Ok, Err, refl, sym, ap, arith, inl, inr}
 use Rattle.std.specs.List.{onto_first, slice_get, slice_split}
+use Rattle.std.specs.Prelude.{is_some}
 use Rattle.std.specs.Option.{option_map}
 use Rattle.std.proofs.lemmas.Bool.{eq-eqb, eqb-true, false≢true}
 use Rattle.std.proofs.lemmas.Option.{none-some, same_Some}
@@ -9,17 +10,21 @@ use Rattle.adb_view.specs.declared.tables.Field.{Field}
 use Rattle.adb_view.specs.declared.tables.Which.{Which}
 use Rattle.adb_view.specs.declared.tables.Which.TheVariants as Tables
 use Rattle.base_core.specs.declared.cause.Cause.{Cause}
+use Rattle.base_core.specs.declared.cause.Cause.TheVariants.{BadText, BlockOrder, CompatVersion, Compressed, DataOrder, DataSize, HashDiffers, NotAdb, Outside, Repeated, TextLine, TooLarge, Truncated, WrongKind, WrongSchema}
 use Rattle.dep_core.specs.Repositories.{Repository, is_blank_or_comment, repositories_from, repositories_of, repositories_on, repository_of, singleton, with_repositories, without_outer_blanks}
 use Rattle.dep_core.specs.World.{is_line_end, lines_of}
+use Rattle.pkg_core.specs.adb_schema.Soundness.{schema_word}
+use Rattle.pkg_core.specs.Whole.{root_of_schema}
+use Rattle.pkg_core.specs.adb_schema.declared.read.TheConstants.{IDB_WORD, INDEX_WORD, INTENT_WORD, PACKAGE_WORD}
 use Rattle.report_core.specs.declared.refusal.Refusal.{Refusal}
 use Rattle.hint_core.specs.declared.find.PathAlone.TheVariants.{Path}
 use Rattle.hint_core.specs.declared.find.RepositoryLine.{RepositoryLine}
 use Rattle.hint_core.specs.declared.hint.Hint.TheVariants as Hinted
 use Rattle.hint_core.specs.declared.hint.HintFile.{HintFile}
 use Rattle.hint_core.specs.declared.hint.Subject.{Subject}
-use Rattle.hint_core.specs.declared.hint.Subject.TheVariants.{Word, Information, Line, Database}
+use Rattle.hint_core.specs.declared.hint.Subject.TheVariants.{Word, Information, Line, Database, AbsentDatabase}
 use Rattle.hint_core.specs.declared.hint.Subject.TheVariants as Subjects
-use Rattle.hint_core.specs.Hints.{cause_hint, cause_of, cause_place, field_hint, found_field, found_line, found_repository, information_hint, named_place, subject_hint, subject_of, table_numbered, word_hint}
+use Rattle.hint_core.specs.Hints.{absent_database, cause_hint, cause_of, field_hint, found_field, found_line, found_repository, found_schema, hint_of_cause, information_hint, subject_hint, subject_of, table_numbered, word_hint}
 use Rattle.hint_core.specs.Repositories.{on_line, path_alone, repository_at, repository_line_by}
 use Rattle.hint_core.specs.Truths.{HasPath, IsSo, NamesPlace}
 
@@ -183,6 +188,10 @@ line_so : (words : List (List ℕ)) (refusal : Refusal) (whole : List ℕ) (file
 line_so words refusal whole file line None s h = tt
 line_so words refusal whole file line (Some text) s h = (s, whole, refl, h)
 
+absent_so : (words : List (List ℕ)) (refusal : Refusal) (found : Option (List ℕ)) → subject_of refusal ≡ AbsentDatabase → IsSo words refusal found (absent_database (is_some found))
+absent_so words refusal (Some file) s = tt
+absent_so words refusal None s = (s, refl)
+
 pub subject_so : (words : List (List ℕ)) (refusal : Refusal) (found : Option (List ℕ)) (subject : Subject) → subject_of refusal ≡ subject → IsSo words refusal found (subject_hint words found subject)
 subject_so words refusal found (Word place) s = word_so words refusal found place (slice_get words (place - 1)) s refl
 subject_so words refusal found (Information place) s = information_so words refusal found place (slice_get words (place - 1)) s refl
@@ -191,6 +200,7 @@ subject_so words refusal (Some text) (Subjects.Repository number) s = repository
 subject_so words refusal None (Line file line) s = tt
 subject_so words refusal (Some whole) (Line file line) s = line_so words refusal whole file line (slice_get (lines_of whole) (line - 1)) s refl
 subject_so words refusal found Database s = (s, refl)
+subject_so words refusal found AbsentDatabase s = absent_so words refusal found s
 subject_so words refusal found Subjects.Nothing s = tt
 
 -- ---- the field at a place
@@ -229,10 +239,45 @@ table_so words refusal found place (Some which) p h =
       | false ↦ λ e. field_so words refusal found place which _ p (table_is (place / 100) which h) e refl
     ] refl
 
-named_so : (words : List (List ℕ)) (refusal : Refusal) (found : Option (List ℕ)) (cause : Cause) (o : Option ℕ) → cause_of refusal ≡ Some cause → cause_place cause ≡ o → IsSo words refusal found (named_place o)
-named_so words refusal found cause None c h = tt
-named_so words refusal found cause (Some place) c h = table_so words refusal found place (table_numbered (place / 100)) (cause, c, h) refl
+-- ---- the schema
+
+with_schema : (n k : ℕ) (t which : Which) (rest : Option Which) → schema_word t ≡ Some k → (rest ≡ Some which → schema_word which ≡ Some n) → cond (eqb n k) (Some t) rest ≡ Some which → schema_word which ≡ Some n
+with_schema n k t which rest s later h =
+    elim (eqb n k) as (λ b. eqb n k ≡ b → cond b (Some t) rest ≡ Some which → schema_word which ≡ Some n) [
+      | true ↦ λ e y. ap schema_word (sym (same_Some _ _ y)) ∙ (s ∙ ap Some (sym (eqb-true n k e)))
+      | false ↦ λ e y. later y
+    ] refl h
+
+schema_is : (n : ℕ) (which : Which) → root_of_schema n ≡ Some which → schema_word which ≡ Some n
+schema_is n which h =
+    with_schema n PACKAGE_WORD Tables.Package which _ refl
+    (with_schema n INDEX_WORD Tables.Index which _ refl
+    (with_schema n IDB_WORD Tables.Idb which _ refl
+    (with_schema n INTENT_WORD Tables.Intent which _ refl (λ e. absurd (none-some which e))))) h
+
+schema_so : (words : List (List ℕ)) (refusal : Refusal) (found : Option (List ℕ)) (schema : ℕ) (o : Option Which) → cause_of refusal ≡ Some (WrongSchema schema) → root_of_schema schema ≡ o → IsSo words refusal found (found_schema o)
+schema_so words refusal found schema None c h = tt
+schema_so words refusal found schema (Some which) c h = (schema, c, schema_is schema which h)
+
+-- ---- the cause
+
+hint_so : (words : List (List ℕ)) (refusal : Refusal) (found : Option (List ℕ)) (cause : Cause) → cause_of refusal ≡ Some cause → IsSo words refusal found (hint_of_cause cause)
+hint_so words refusal found (BadText place) c = table_so words refusal found place (table_numbered (place / 100)) (BadText place, c, refl) refl
+hint_so words refusal found (Repeated place first second) c = table_so words refusal found place (table_numbered (place / 100)) (Repeated place first second, c, refl) refl
+hint_so words refusal found (WrongSchema schema) c = schema_so words refusal found schema (root_of_schema schema) c refl
+hint_so words refusal found NotAdb c = tt
+hint_so words refusal found Compressed c = tt
+hint_so words refusal found (Truncated at) c = tt
+hint_so words refusal found (BlockOrder at) c = tt
+hint_so words refusal found CompatVersion c = tt
+hint_so words refusal found (Outside word) c = tt
+hint_so words refusal found (WrongKind word) c = tt
+hint_so words refusal found (TooLarge count) c = tt
+hint_so words refusal found (DataOrder expected other) c = tt
+hint_so words refusal found (DataSize expected other) c = tt
+hint_so words refusal found (HashDiffers expected other) c = tt
+hint_so words refusal found (TextLine line) c = tt
 
 pub cause_so : (words : List (List ℕ)) (refusal : Refusal) (found : Option (List ℕ)) (o : Option Cause) → cause_of refusal ≡ o → IsSo words refusal found (cause_hint o)
 cause_so words refusal found None c = tt
-cause_so words refusal found (Some cause) c = named_so words refusal found cause (cause_place cause) c refl
+cause_so words refusal found (Some cause) c = hint_so words refusal found cause c

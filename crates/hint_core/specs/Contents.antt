@@ -25,26 +25,19 @@ use Rattle.report_core.specs.declared.refusal.Refusal.TheVariants.{FileBad}
 use Rattle.words_core.specs.Grammar.{command_of}
 use Rattle.words_core.specs.Usage.{texts_joined}
 use Rattle.hint_core.specs.declared.contents.MixedUp.{MixedUp}
-use Rattle.hint_core.specs.Hints.{is_explained}
+use Rattle.hint_core.specs.Hints.{cause_of, is_explained}
 use Rattle.hint_core.specs.Lines.{printed_text}
 
 -- ---- what is mixed up
 
--- the positions that a cause names, of a package that is the word at a place
-abbrev pub mixed_up_by : ℕ → Cause → Option MixedUp
-mixed_up_by place (DataOrder expected found) =
-    Some (record { place = place; expected = expected; found = found })
-mixed_up_by place cause = None
+-- the positions that a cause names
+abbrev pub mixed_up_by : Cause → Option MixedUp
+mixed_up_by (DataOrder expected found) = Some (record { expected = expected; found = found })
+mixed_up_by cause = None
 
--- the positions that a refusal names, and the place of the package's word
+-- the positions that the cause of a refusal names
 abbrev pub mixed_up : Refusal → Option MixedUp
-mixed_up (FileBad place cause) = mixed_up_by place cause
-mixed_up refusal = None
-
--- the same of a command line whose refusals are explained
-abbrev pub explained_mixed_up : List (List ℕ) → Refusal → Option MixedUp
-explained_mixed_up words refusal =
-    if is_explained (command_of words) then mixed_up refusal else None
+mixed_up refusal = option_and_then mixed_up_by (cause_of refusal)
 
 -- ---- files of a package
 
@@ -122,10 +115,6 @@ contents_lines name mixed (Some file) =
 
 -- ---- what is printed
 
--- the name of the file that the word at a place is, if it is one
-abbrev pub word_file : List (List ℕ) → ℕ → Option (List ℕ)
-word_file words place = option_and_then file_name (slice_get words (place - 1))
-
 -- these lines are those of what is found under a name, if there is one
 abbrev pub ExplainsFile : Option (List ℕ) → MixedUp → List TreeState → List ℕ → Type 0
 ExplainsFile None mixed history lines = lines ≡ []
@@ -133,14 +122,29 @@ ExplainsFile (Some name) mixed history lines =
     (found : Option (List ℕ)) × IfObservable history (λ v. found ≡ files_of v name)
     × (lines ≡ contents_lines name mixed found)
 
--- these lines are those of what is mixed up, if anything is
+-- these lines are those of what is mixed up, if anything is, in the package under a name
 abbrev pub ExplainsMixedUp :
-    List (List ℕ) → Option MixedUp → List TreeState → List ℕ → Type 0
-ExplainsMixedUp words None history lines = lines ≡ []
-ExplainsMixedUp words (Some mixed) history lines =
-    ExplainsFile (word_file words mixed.place) mixed history lines
+    Option (List ℕ) → Option MixedUp → List TreeState → List ℕ → Type 0
+ExplainsMixedUp name None history lines = lines ≡ []
+ExplainsMixedUp name (Some mixed) history lines = ExplainsFile name mixed history lines
+
+-- the name of the file that the word at a place is, if it is one
+abbrev pub word_file : List (List ℕ) → ℕ → Option (List ℕ)
+word_file words place = option_and_then file_name (slice_get words (place - 1))
+
+-- the place of the word that names a file which fails a test
+abbrev pub bad_word : Refusal → Option ℕ
+bad_word (FileBad place cause) = Some place
+bad_word refusal = None
+
+-- the name of the file that a refusal is about: a word names it, and the command's refusals are
+-- explained
+abbrev pub refused_file : List (List ℕ) → Refusal → Option (List ℕ)
+refused_file words refusal =
+    if is_explained (command_of words)
+    then option_and_then (word_file words) (bad_word refusal) else None
 
 -- these lines say which files the positions are that a refusal names
 abbrev pub ExplainsContents : List (List ℕ) → Refusal → List TreeState → List ℕ → Type 0
 ExplainsContents words refusal history lines =
-    ExplainsMixedUp words (explained_mixed_up words refusal) history lines
+    ExplainsMixedUp (refused_file words refusal) (mixed_up refusal) history lines

@@ -7,13 +7,14 @@ use Rattle.adb_view.specs.declared.tables.Field.{Field}
 use Rattle.adb_view.specs.declared.tables.Which.{Which}
 use Rattle.adb_view.specs.declared.tables.Which.TheVariants as Tables
 use Rattle.base_core.specs.declared.cause.Cause.{Cause}
-use Rattle.base_core.specs.declared.cause.Cause.TheVariants.{BadText, Repeated, TextLine}
+use Rattle.base_core.specs.declared.cause.Cause.TheVariants.{BadText, Repeated, TextLine, WrongSchema}
 use Rattle.command_core.specs.Command.{CommandLine}
 use Rattle.command_core.specs.declared.command.Applet.{Applet}
 use Rattle.command_core.specs.declared.command.Applet.TheVariants.{Demo}
 use Rattle.dep_core.specs.World.{lines_of}
+use Rattle.pkg_core.specs.Whole.{root_of_schema}
 use Rattle.report_core.specs.declared.refusal.Refusal.{Refusal}
-use Rattle.report_core.specs.declared.refusal.Refusal.TheVariants.{IntentBad, FileMissing, FileBad, TextBad, VersionBad, InfoBad, DatabaseBad, WorldBad, RepositoriesBad, IndexMissing, IndexBad, NotInstalled, PackageBad}
+use Rattle.report_core.specs.declared.refusal.Refusal.TheVariants.{IntentBad, FileMissing, FileBad, TextBad, VersionBad, InfoBad, NoDatabase, DatabaseBad, WorldBad, RepositoriesBad, IndexMissing, IndexBad, NotInstalled, PackageBad}
 use Rattle.root_names.specs.RootNames.{database_name, repositories_name, text_database_name, world_name}
 use Rattle.hint_core.specs.declared.find.RepositoryLine.{RepositoryLine}
 use Rattle.hint_core.specs.declared.hint.Hint.{Hint}
@@ -22,7 +23,7 @@ use Rattle.hint_core.specs.declared.hint.HintFile.{HintFile}
 use Rattle.hint_core.specs.declared.hint.HintFile.TheVariants as Files
 use Rattle.hint_core.specs.declared.hint.Hints.{Hints}
 use Rattle.hint_core.specs.declared.hint.Subject.{Subject}
-use Rattle.hint_core.specs.declared.hint.Subject.TheVariants.{Word, Information, Repository, Line, Database, Nothing}
+use Rattle.hint_core.specs.declared.hint.Subject.TheVariants.{Word, Information, Repository, Line, Database, AbsentDatabase, Nothing}
 use Rattle.hint_core.specs.Repositories.{repository_at}
 
 -- ---- what a refusal is about
@@ -54,6 +55,7 @@ subject_of (IndexMissing number) = Repository number
 subject_of (IndexBad number cause) = Repository number
 subject_of (WorldBad line) = Line Files.World line
 subject_of (RepositoriesBad line) = Line Files.Repositories line
+subject_of NoDatabase = AbsentDatabase
 subject_of (DatabaseBad cause) = database_subject cause
 subject_of refusal = Nothing
 
@@ -68,6 +70,7 @@ abbrev pub subject_file : Subject → Option (List ℕ)
 subject_file (Repository number) = Some repositories_name
 subject_file (Line file line) = Some (hint_file_name file)
 subject_file Database = Some database_name
+subject_file AbsentDatabase = Some database_name
 subject_file subject = None
 
 -- the cause of a refusal, if it has one
@@ -117,6 +120,11 @@ abbrev pub line_hint : HintFile → ℕ → Option (List ℕ) → Hint
 line_hint file line (Some text) = found_line file line (slice_get (lines_of text) (line - 1))
 line_hint file line None = Hinted.Nothing
 
+-- there is no database, unless one is found
+abbrev pub absent_database : Bool → Hint
+absent_database true = Hinted.Nothing
+absent_database false = Hinted.AbsentDatabase
+
 -- what a refusal is about, given the words and the file that it is about
 abbrev pub subject_hint : List (List ℕ) → Option (List ℕ) → Subject → Hint
 subject_hint words found (Word place) = word_hint place (slice_get words (place - 1))
@@ -124,6 +132,7 @@ subject_hint words found (Information place) = information_hint place (slice_get
 subject_hint words found (Repository number) = repository_hint number found
 subject_hint words found (Line file line) = line_hint file line found
 subject_hint words found Database = Hinted.Database (is_some found)
+subject_hint words found AbsentDatabase = absent_database (is_some found)
 subject_hint words found Nothing = Hinted.Nothing
 
 -- ---- the field at a place
@@ -162,14 +171,29 @@ field_hint place None = Hinted.Nothing
 abbrev pub place_hint : ℕ → Hint
 place_hint place = field_hint place (table_numbered (place / 100))
 
--- the field at the place that a cause names, if it names one
-abbrev pub named_place : Option ℕ → Hint
-named_place (Some place) = place_hint place
-named_place None = Hinted.Nothing
+-- ---- the schema of a container
 
--- what the number of a cause stands for
+-- a table that has a schema
+abbrev pub found_schema : Option Which → Hint
+found_schema (Some which) = Hinted.Schema which
+found_schema None = Hinted.Nothing
+
+-- the table at the root of a container with a schema, if it is one of the four
+abbrev pub schema_hint : ℕ → Hint
+schema_hint schema = found_schema (root_of_schema schema)
+
+-- ---- the number of a cause
+
+-- what the number of a cause stands for: a field, or a schema
+abbrev pub hint_of_cause : Cause → Hint
+hint_of_cause (BadText place) = place_hint place
+hint_of_cause (Repeated place first second) = place_hint place
+hint_of_cause (WrongSchema schema) = schema_hint schema
+hint_of_cause cause = Hinted.Nothing
+
+-- what the number of a cause stands for, if there is one
 abbrev pub cause_hint : Option Cause → Hint
-cause_hint (Some cause) = named_place (cause_place cause)
+cause_hint (Some cause) = hint_of_cause cause
 cause_hint None = Hinted.Nothing
 
 -- ---- both

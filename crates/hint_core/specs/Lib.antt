@@ -4,6 +4,7 @@ pub mod Repositories
 pub mod Lines
 pub mod Told
 pub mod Contents
+pub mod PackageFile
 -- what the law says of hints
 pub mod Truths
 -- what a command that was carried out is warned of

@@ -9,7 +9,7 @@ use Rattle.adb_view.specs.declared.tables.Which.TheVariants as Tables
 use Rattle.root_names.specs.RootNames.{database_name, text_database_name}
 use Rattle.words_core.specs.Usage.{longest_shown, texts_joined}
 use Rattle.hint_core.specs.declared.hint.Hint.{Hint}
-use Rattle.hint_core.specs.declared.hint.Hint.TheVariants.{Word, Missing, Repository, Line, Database, Field, Nothing}
+use Rattle.hint_core.specs.declared.hint.Hint.TheVariants.{Word, Missing, Repository, Line, Database, AbsentDatabase, Field, Schema, Nothing}
 use Rattle.hint_core.specs.declared.hint.HintFile.{HintFile}
 use Rattle.hint_core.specs.declared.hint.Hints.{Hints}
 use Rattle.hint_core.specs.Hints.{hint_file_name}
@@ -88,11 +88,21 @@ abbrev pub database_hint_line : Bool → List ℕ
 database_hint_line is_container = texts_joined
     (codes "apk: the package database is " ∷ (database_text is_container ∷ (codes "\n" ∷ [])))
 
+-- the line that says that there is no database
+abbrev pub absent_database_line : List ℕ
+absent_database_line = texts_joined
+    (codes "apk: this folder has no lib/apk/db/installed.adb; apk add --initdb makes one\n" ∷ [])
+
 -- the line of a field
 abbrev pub field_line : ℕ → Which → List ℕ → List ℕ
 field_line place table name = texts_joined
     (codes "apk: field " ∷ (decimal place ∷ (codes " is '" ∷ (name
     ∷ (codes "' of " ∷ (table_text table ∷ (codes "\n" ∷ [])))))))
+
+-- the line of a schema
+abbrev pub schema_hint_line : Which → List ℕ
+schema_hint_line table = texts_joined
+    (codes "apk: the schema is that of " ∷ (table_text table ∷ (codes "\n" ∷ [])))
 
 -- the line of a hint, if it has one
 abbrev pub hint_line : Hint → List ℕ
@@ -101,7 +111,9 @@ hint_line (Missing place) = missing_line place
 hint_line (Repository number line path) = repository_hint_line number line path
 hint_line (Line file line text) = line_line file line text
 hint_line (Database is_container) = database_hint_line is_container
+hint_line AbsentDatabase = absent_database_line
 hint_line (Field place table name) = field_line place table (field_name_text name)
+hint_line (Schema table) = schema_hint_line table
 hint_line Nothing = []
 
 -- the lines of hints

@@ -1,5 +1,5 @@
 -- When a hint is so. Serves the law `hints_are_so`; the rules are in `docs/commands.md`, "Hints".
-use Rattle.std.specs.Prelude.{◌≡◌, ◌⊎◌, ℕ, ◌+◌, ◌-◌, ◌*◌, ◌<◌, ◌≤◌, List, ◌∷◌, length, Option, Some, is_some, Ok}
+use Rattle.std.specs.Prelude.{◌≡◌, ◌⊎◌, ℕ, ◌+◌, ◌-◌, ◌*◌, ◌<◌, ◌≤◌, List, ◌∷◌, length, Option, Some, None, is_some, Ok}
 use Rattle.std.specs.List.{slice_get}
 use Rattle.std.specs.Option.{option_map}
 use Rattle.adb_view.specs.Schema.{table, table_number}
@@ -7,12 +7,14 @@ use Rattle.adb_view.specs.declared.tables.Field.{Field}
 use Rattle.adb_view.specs.declared.tables.FieldName.{FieldName}
 use Rattle.adb_view.specs.declared.tables.Which.{Which}
 use Rattle.base_core.specs.declared.cause.Cause.{Cause}
+use Rattle.base_core.specs.declared.cause.Cause.TheVariants.{WrongSchema}
 use Rattle.dep_core.specs.Repositories.{Repository, repositories_of}
 use Rattle.dep_core.specs.World.{lines_of}
+use Rattle.pkg_core.specs.adb_schema.Soundness.{schema_word}
 use Rattle.report_core.specs.declared.refusal.Refusal.{Refusal}
 use Rattle.hint_core.specs.declared.hint.Hint.{Hint}
 use Rattle.hint_core.specs.declared.hint.Hint.TheVariants as Hinted
-use Rattle.hint_core.specs.declared.hint.Subject.TheVariants.{Word, Information, Line, Database}
+use Rattle.hint_core.specs.declared.hint.Subject.TheVariants.{Word, Information, Line, Database, AbsentDatabase}
 use Rattle.hint_core.specs.declared.hint.Subject.TheVariants as Subjects
 use Rattle.hint_core.specs.Hints.{cause_of, cause_place, subject_of}
 
@@ -62,9 +64,16 @@ IsSo words refusal found (Hinted.Line file line text) =
 -- the refusal is about the database, whose container was found, or else not
 IsSo words refusal found (Hinted.Database is_container) =
     (subject_of refusal ≡ Database) × (is_container ≡ is_some found)
+-- the refusal is that there is no database, and no container was found
+IsSo words refusal found Hinted.AbsentDatabase =
+    (subject_of refusal ≡ AbsentDatabase) × (found ≡ None)
 -- the place is 100 times the number of the table plus that of the field
 IsSo words refusal found (Hinted.Field place which name) =
     NamesPlace refusal place
     × (number : ℕ) × (place ≡ 100 * table_number which + number) × (0 < number)
     × HasField which number name
+-- the refusal has a cause with a schema, which is the one of the table
+IsSo words refusal found (Hinted.Schema which) =
+    (schema : ℕ) × (cause_of refusal ≡ Some (WrongSchema schema))
+    × (schema_word which ≡ Some schema)
 IsSo words refusal found Hinted.Nothing = Unit {0}

@@ -4,13 +4,14 @@ ghost use Rattle.std.specs.Prelude.{◌≡◌, ◌⊎◌, ◌++◌, [], ℕ, Lis
 ghost use Rattle.base_core.specs.Read.{OnlyReads, bytes_in};
 ghost use Rattle.base_core.specs.Sink.{sink_change};
 ghost use Rattle.base_core.specs.declared.tree.TreeFault.TheVariants.{Disk as DiskFault};
-ghost use Rattle.hint_core.specs.Contents.{AreLinesOfRead, ExplainsContents, ExplainsFile, ExplainsMixedUp, explained_mixed_up, file_line, mixed_up, mixed_up_by, package_lines, payload_lines, position_line, word_file};
+ghost use Rattle.hint_core.specs.Contents.{AreLinesOfRead, ExplainsContents, ExplainsFile, ExplainsMixedUp, bad_word, file_line, mixed_up, mixed_up_by, package_lines, payload_lines, position_line, refused_file, word_file};
 ghost use Rattle.hint_core.specs.Told.{Tells};
 ghost use Rattle.pkg_core.specs.Front.{front_payload};
 ghost use Rattle.pkg_core.specs.declared.front.FrontFault.TheVariants.{Disk as FrontFailed};
 ghost use Rattle.pkg_core.specs.adb_schema.Views.{package_value};
 
 use crate::find::word_at;
+use crate::hint::cause_of;
 use crate::package_paths::path_at;
 use crate::printed::{printed, push_texts};
 use crate::telling::{HintFault, is_explained};
@@ -30,8 +31,6 @@ use std::alloc::{AllocError, Global};
 /// 1, and (0, 0) is no file.
 #[derive(Clone, Copy)]
 pub struct MixedUp {
-    /// The place of the package's word.
-    pub place: u32,
     /// The file whose contents were expected.
     pub expected: (u32, u32),
     /// The file whose contents were found.
@@ -65,7 +64,7 @@ pub fn explain_contents<T: Tree, S: Sink>(
     say(&lines, sink)
 }
 
-// The lines of the positions that a refusal names.
+// The lines of the positions that a refusal names, of the file that it refuses.
 fn contents_lines<T: Tree>(
     alloc: Global,
     words: &Words,
@@ -77,65 +76,32 @@ fn contents_lines<T: Tree>(
     ensures tree { OnlyReads TreeFault.Disk (T.history tree.old) (T.history tree.new)
         (T.counts tree.old) (T.counts tree.new) result }
 {
-    let mixed = explained_mixed_up(alloc, words, refusal)?;
-    mixed_up_lines(alloc, words, mixed, tree)
+    let name = refused_file(alloc, words, refusal)?;
+    lines_of_contents(alloc, &name, refusal, tree)
 }
 
-// The positions that a refusal names, if it is explained.
-fn explained_mixed_up(
-    alloc: Global,
-    words: &Words,
-    refusal: &Refusal,
-) -> Result<Option<MixedUp>, AllocError>
-    ensures { IfOk result (λ mixed. mixed ≡ explained_mixed_up words.now refusal.now) }
+// The name of the file that a refusal is about: a word names it, and the command's refusals are
+// explained.
+fn refused_file(alloc: Global, words: &Words, refusal: &Refusal) -> Result<Option<Name>, AllocError>
+    ensures { IfOk result (λ name. name ≡ refused_file words.now refusal.now) }
 {
     if !is_explained(alloc, words)? {
         return Ok(None);
     }
-    Ok(mixed_up(refusal))
+    match bad_word(refusal) {
+        Some(place) => word_file(alloc, words, place),
+        None => Ok(None),
+    }
 }
 
-// The positions that a refusal names.
-fn mixed_up(refusal: &Refusal) -> Option<MixedUp>
-    ensures { result ≡ mixed_up refusal.now }
+// The place of the word that names a file which fails a test.
+fn bad_word(refusal: &Refusal) -> Option<u32>
+    ensures { result ≡ bad_word refusal.now }
 {
     match refusal {
-        Refusal::FileBad { place, cause } => mixed_up_by(*place, *cause),
+        Refusal::FileBad { place, cause: _ } => Some(*place),
         _ => None,
     }
-}
-
-// The positions that a cause names.
-fn mixed_up_by(place: u32, cause: Cause) -> Option<MixedUp>
-    ensures { result ≡ mixed_up_by place cause }
-{
-    match cause {
-        Cause::DataOrder { expected, found } => Some(MixedUp {
-            place,
-            expected,
-            found,
-        }),
-        _ => None,
-    }
-}
-
-// The lines of what is mixed up, if anything is.
-fn mixed_up_lines<T: Tree>(
-    alloc: Global,
-    words: &Words,
-    mixed: Option<MixedUp>,
-    tree: &mut T,
-) -> Result<Vec<u8>, TreeFault>
-    ensures lines { IfOk result (λ lines.
-        ExplainsMixedUp words.now mixed (T.history tree.old) lines.items) }
-    ensures tree { OnlyReads TreeFault.Disk (T.history tree.old) (T.history tree.new)
-        (T.counts tree.old) (T.counts tree.new) result }
-{
-    let Some(mixed) = mixed else {
-        return Ok(Vec::new(alloc));
-    };
-    let name = word_file(alloc, words, mixed.place)?;
-    lines_if_file(alloc, &name, &mixed, tree)
 }
 
 // The name of the file that the word at a place is, if it is one.
@@ -145,6 +111,60 @@ fn word_file(alloc: Global, words: &Words, place: u32) -> Result<Option<Name>, A
     match word_at(words, place) {
         Some(word) => Name::read(alloc, without_dot(word)),
         None => Ok(None),
+    }
+}
+
+/// The lines on the positions that the cause of a refusal names, for the package under a name. There
+/// is none without a name, without positions, or if a test of the front or of the values fails.
+pub(crate) fn lines_of_contents<T: Tree>(
+    alloc: Global,
+    name: &Option<Name>,
+    refusal: &Refusal,
+    tree: &mut T,
+) -> Result<Vec<u8>, TreeFault>
+    ensures lines { IfOk result (λ lines.
+        ExplainsMixedUp name.now (mixed_up refusal.now) (T.history tree.old) lines.items) }
+    ensures tree { OnlyReads TreeFault.Disk (T.history tree.old) (T.history tree.new)
+        (T.counts tree.old) (T.counts tree.new) result }
+{
+    mixed_up_lines(alloc, name, mixed_up(refusal), tree)
+}
+
+// The positions that the cause of a refusal names.
+fn mixed_up(refusal: &Refusal) -> Option<MixedUp>
+    ensures { result ≡ mixed_up refusal.now }
+{
+    match cause_of(refusal) {
+        Some(cause) => mixed_up_by(cause),
+        None => None,
+    }
+}
+
+// The positions that a cause names.
+fn mixed_up_by(cause: Cause) -> Option<MixedUp>
+    ensures { result ≡ mixed_up_by cause }
+{
+    match cause {
+        Cause::DataOrder { expected, found } => Some(MixedUp { expected, found }),
+        _ => None,
+    }
+}
+
+// The lines of what is mixed up, if anything is.
+fn mixed_up_lines<T: Tree>(
+    alloc: Global,
+    name: &Option<Name>,
+    mixed: Option<MixedUp>,
+    tree: &mut T,
+) -> Result<Vec<u8>, TreeFault>
+    ensures lines { IfOk result (λ lines.
+        ExplainsMixedUp name.now mixed (T.history tree.old) lines.items) }
+    ensures tree { OnlyReads TreeFault.Disk (T.history tree.old) (T.history tree.new)
+        (T.counts tree.old) (T.counts tree.new) result }
+{
+    match mixed {
+        Some(mixed) => lines_if_file(alloc, name, &mixed, tree),
+        None => Ok(Vec::new(alloc)),
     }
 }
 

@@ -3,11 +3,11 @@ ghost use Rattle.std.specs.Prelude.{◌≡◌, ◌-◌, IfOk, Ok, Some, map, sli
 ghost use Rattle.std.specs.Option.{option_copied, option_map};
 ghost use Rattle.dep_core.specs.Repositories.{repositories_of};
 ghost use Rattle.dep_core.specs.World.{lines_of};
-ghost use Rattle.hint_core.specs.Hints.{cause_hint, hints_of, information_hint, line_hint, place_hint, repository_hint, subject_hint, word_hint};
+ghost use Rattle.hint_core.specs.Hints.{absent_database, cause_hint, hint_of_cause, hints_of, information_hint, line_hint, place_hint, repository_hint, schema_hint, subject_hint, word_hint};
 ghost use Rattle.hint_core.specs.Repositories.{path_alone, repository_at};
 
-use crate::hint::{Hint, HintFile, Hints, Subject, cause_of, cause_place, subject_of};
-use crate::places::place_hint;
+use crate::hint::{Hint, HintFile, Hints, Subject, cause_of, subject_of};
+use crate::places::{place_hint, schema_hint};
 use base_core::{Cause, Text, Words};
 use dep_core::{Repos, ReposFault};
 use report_core::Refusal;
@@ -28,16 +28,29 @@ pub fn hints(
     Ok(Hints { subject, cause })
 }
 
-// What the number of a cause stands for, if it has one that names a field.
+// What the number of a cause stands for, if there is one.
 fn cause_hint(cause: Option<Cause>) -> Hint
     ensures { result ≡ cause_hint cause }
 {
-    let Some(cause) = cause else {
-        return Hint::Nothing;
-    };
-    match cause_place(cause) {
-        Some(place) => place_hint(place),
+    match cause {
+        Some(cause) => hint_of_cause(cause),
         None => Hint::Nothing,
+    }
+}
+
+// What the number of a cause stands for: a field, or a schema.
+fn hint_of_cause(cause: Cause) -> Hint
+    ensures { result ≡ hint_of_cause cause }
+{
+    match cause {
+        Cause::BadText { place } => place_hint(place),
+        Cause::Repeated {
+            place,
+            first: _,
+            second: _,
+        } => place_hint(place),
+        Cause::WrongSchema { found } => schema_hint(found),
+        _ => Hint::Nothing,
     }
 }
 
@@ -59,7 +72,19 @@ fn subject_hint(
         Subject::Database => Ok(Hint::Database {
             is_container: found.is_some(),
         }),
+        Subject::AbsentDatabase => Ok(absent_database(found.is_some())),
         Subject::Nothing => Ok(Hint::Nothing),
+    }
+}
+
+// There is no database, unless one is found.
+fn absent_database(is_found: bool) -> Hint
+    ensures { result ≡ absent_database is_found }
+{
+    if is_found {
+        Hint::Nothing
+    } else {
+        Hint::AbsentDatabase
     }
 }
 

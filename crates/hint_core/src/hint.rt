@@ -1,7 +1,7 @@
 //! What a refusal is about, and what its numbers stand for. The rules are in `docs/commands.md`,
 //! "Hints".
 ghost use Rattle.std.specs.Prelude.{◌≡◌};
-ghost use Rattle.hint_core.specs.Hints.{cause_of, cause_place, database_subject, subject_of};
+ghost use Rattle.hint_core.specs.Hints.{cause_of, database_subject, subject_of};
 
 use adb_view::{FieldName, Which};
 use base_core::{Cause, Text};
@@ -21,6 +21,8 @@ pub enum Subject {
     Line { file: HintFile, line: u64 },
     /// The database, which is in one of two files.
     Database,
+    /// The database, which is absent.
+    AbsentDatabase,
     /// Nothing that a number names.
     Nothing,
 }
@@ -64,11 +66,17 @@ pub enum Hint {
     Database {
         is_container: bool,
     },
+    /// There is no database.
+    AbsentDatabase,
     /// The field at this place of a container.
     Field {
         place: u16,
         table: Which,
         name: FieldName,
+    },
+    /// The schema of a container is the one of this table.
+    Schema {
+        table: Which,
     },
     /// No number, or nothing true and short is known.
     Nothing,
@@ -111,6 +119,7 @@ pub(crate) fn subject_of(refusal: &Refusal) -> Subject
             file: HintFile::Repositories,
             line: *line,
         },
+        Refusal::NoDatabase => Subject::AbsentDatabase,
         Refusal::DatabaseBad { cause } => database_subject(*cause),
         _ => Subject::Nothing,
     }
@@ -146,21 +155,6 @@ pub(crate) fn cause_of(refusal: &Refusal) -> Option<Cause>
             version: _,
             cause,
         } => Some(*cause),
-        _ => None,
-    }
-}
-
-/// The place of a field that a cause names, if it names one.
-pub(crate) fn cause_place(cause: Cause) -> Option<u16>
-    ensures { result ≡ cause_place cause }
-{
-    match cause {
-        Cause::BadText { place } => Some(place),
-        Cause::Repeated {
-            place,
-            first: _,
-            second: _,
-        } => Some(place),
         _ => None,
     }
 }

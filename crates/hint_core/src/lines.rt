@@ -39,7 +39,15 @@ fn push_hint(alloc: Global, lines: &mut Vec<u8>, hint: &Hint) -> Result<(), Allo
                 b"\n",
             ],
         ),
+        Hint::AbsentDatabase => push_texts(
+            lines,
+            &[b"apk: this folder has no lib/apk/db/installed.adb; apk add --initdb makes one\n"],
+        ),
         Hint::Field { place, table, name } => push_field(lines, *place, *table, *name),
+        Hint::Schema { table } => push_texts(
+            lines,
+            &[b"apk: the schema is that of ", table_text(*table), b"\n"],
+        ),
         Hint::Nothing => Ok(()),
     }
 }

@@ -1,10 +1,11 @@
-//! The field at a place of a container: 100 times the number of a table plus the number of a field.
-//! The rules are in `docs/formats.md`, "Schemas".
+//! The field at a place of a container: 100 times the number of a table plus the number of a field;
+//! and the table of a schema. The rules are in `docs/formats.md`, "Schemas" and "Container".
 ghost use Rattle.std.specs.Prelude.{◌≡◌};
-ghost use Rattle.hint_core.specs.Hints.{field_in, place_hint, table_numbered};
+ghost use Rattle.hint_core.specs.Hints.{field_in, place_hint, schema_hint, table_numbered};
 
 use crate::hint::Hint;
 use adb_view::{Which, fields_of};
+use pkg_core::root_of_schema;
 
 /// The field at a place.
 pub(crate) fn place_hint(place: u16) -> Hint
@@ -49,6 +50,16 @@ fn field_in(place: u16, table: Which) -> Hint
             table,
             name: field.name,
         },
+        None => Hint::Nothing,
+    }
+}
+
+/// The table at the root of a container with this schema, if it is one of the four.
+pub(crate) fn schema_hint(found: u32) -> Hint
+    ensures { result ≡ schema_hint found }
+{
+    match root_of_schema(found) {
+        Some(table) => Hint::Schema { table },
         None => Hint::Nothing,
     }
 }

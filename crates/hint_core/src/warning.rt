@@ -159,8 +159,8 @@ fn tag_warnings<T: Tree>(
     Ok(lines)
 }
 
-// The text of a file; it is empty if there is no file.
-fn text_of_found(found: &Option<Vec<u8>>) -> &[u8]
+/// The text of a file; it is empty if there is no file.
+pub(crate) fn text_of_found(found: &Option<Vec<u8>>) -> &[u8]
     ensures { result.now ≡ text_of_found (bytes_in found.now) }
 {
     match found {

@@ -227,12 +227,12 @@ impl<'a, R: Host> Root<'a, R> {
     /// are removed. The file first gets mode and owner of the one that it replaces.
     pub fn move_file(&mut self, from: &[u8], to: &[u8]) -> Result<(), HostFault> {
         self.take_lock()?;
-        self.forget(from);
-        self.forget(to);
         if from == to {
             return Err(HostFault::own(Reason::SameName));
         }
         let moved = self.look_at(from)?;
+        self.forget(from);
+        self.forget(to);
         let replaced = self.folders.make_room(self.rt, to)?;
         self.keep_rights(from, moved, to, replaced)?;
         self.folders.note(parent_of(from))?;

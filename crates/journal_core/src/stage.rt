@@ -26,14 +26,14 @@ use crate::calls::{append, create, remove, sync_all_names, sync_file};
 use crate::fault::RecoverFault;
 use crate::publishing::publish_intent;
 use base_core::{Disk, Name, Names, Tree};
-use journal_intent::{PreparedIntent, WriteFault};
+use journal_intent::{PreparedIntent, WriteFault, copy_of_names};
 use std::alloc::Global;
 use std::marker::Model;
 
 /// Staged files, and the actions to be done once all files are staged: names are removed, and the
 /// staged files are moved to their names.
 ///
-/// `begin` allocates all the memory that a stage needs. Each write's file is then begun, appended
+/// `begin` and `of_names` allocate all the memory that a stage needs. Each write's file is then begun, appended
 /// to and ended, in the order of the writes; `publish` commits all actions in one step; and
 /// `apply_one` and `finish` do them. After a fault a stage may only be dropped, and the root is
 /// recovered.
@@ -69,12 +69,11 @@ impl Model for Stage {
 }
 
 impl Stage {
-    /// A stage of these actions. It allocates all the memory that it needs, and calls no tree.
+    /// A stage of these actions, as `of_names` makes it from copies of the lists.
     ///
     /// # Errors
     ///
-    /// `TooLarge` exactly if the payload of the intent's container would exceed a limit of the
-    /// writer, with the counts there; or `Memory`.
+    /// Those of `of_names`.
     pub fn begin(alloc: Global, removals: &Names, writes: &Names) -> Result<Stage, WriteFault>
         requires { AreChangeNames (removals.now ++ writes.now) }
         ensures view { IfOk result (λ stage. stage ≡ new_stage removals.now writes.now) }
@@ -83,6 +82,27 @@ impl Stage {
             ≡ Some (bytes, values) }
         ensures fits { OnOk result
             (overflow_of (value_of_intent (intent_of_lists removals.now writes.now)) ≡ None) }
+    {
+        let removals = copy_of_names(alloc, removals)?;
+        let writes = copy_of_names(alloc, writes)?;
+        Stage::of_names(alloc, removals, writes)
+    }
+
+    /// A stage of these actions, which keeps the lists. It allocates all the memory that it needs,
+    /// and calls no tree.
+    ///
+    /// # Errors
+    ///
+    /// `TooLarge` exactly if the payload of the intent's container would exceed a limit of the
+    /// writer, with the counts there; or `Memory`.
+    pub fn of_names(alloc: Global, removals: Names, writes: Names) -> Result<Stage, WriteFault>
+        requires { AreChangeNames (removals ++ writes) }
+        ensures view { IfOk result (λ stage. stage ≡ new_stage removals writes) }
+        ensures large { (bytes values : ℕ) → IsErrOf result (WriteFault.TooLarge bytes values)
+            → overflow_of (value_of_intent (intent_of_lists removals writes))
+            ≡ Some (bytes, values) }
+        ensures fits { OnOk result
+            (overflow_of (value_of_intent (intent_of_lists removals writes)) ≡ None) }
     {
         let intent = PreparedIntent::of_names(alloc, removals, writes)?;
         Ok(Stage {

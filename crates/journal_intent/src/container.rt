@@ -89,7 +89,7 @@ fn write_names(draft: &mut Draft, names: &Names) -> Result<(), AllocError>
 }
 
 /// A copy of names.
-pub(crate) fn copy_of_names(alloc: Global, names: &Names) -> Result<Names, AllocError>
+pub fn copy_of_names(alloc: Global, names: &Names) -> Result<Names, AllocError>
     ensures { IfOk result (λ copy. copy ≡ names.now) }
 {
     let mut copy = Names::new(alloc);

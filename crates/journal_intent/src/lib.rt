@@ -16,6 +16,7 @@ mod prepared;
 
 pub use adb_schema::ReadFault;
 pub use adb_write::WriteFault;
+pub use container::copy_of_names;
 pub use names::{
     a_read_intent_has_free_names, an_intent_is_read_from_a_sound_container,
     each_staged_file_has_its_own_name, intent_name, no_name_of_the_journal_is_a_folder_of_another,

@@ -9,7 +9,7 @@ ghost use Rattle.journal_intent.specs.FreeNames.{HasFreeNames, stage_names_from}
 ghost use Rattle.journal_intent.specs.Intent.{AreChangeNames, intent_name, read_intent, stage_name};
 ghost use Rattle.journal_intent.specs.IntentValue.{intent_of_lists, value_of_intent};
 
-use crate::container::{copy_of_names, intent_file};
+use crate::container::intent_file;
 use crate::lists::{IntentLists, read_lists};
 use crate::names::{a_read_intent_has_free_names, intent_name, stage_names};
 use adb_schema::ReadFault;
@@ -56,23 +56,19 @@ impl PreparedIntent {
     /// counts there; or `Memory`.
     pub fn of_names(
         alloc: Global,
-        removals: &Names,
-        writes: &Names,
+        removals: Names,
+        writes: Names,
     ) -> Result<PreparedIntent, WriteFault>
-        requires { AreChangeNames (removals.now ++ writes.now) }
-        ensures intent { IfOk result
-            (λ intent. intent ≡ intent_of_lists removals.now writes.now) }
+        requires { AreChangeNames (removals ++ writes) }
+        ensures intent { IfOk result (λ intent. intent ≡ intent_of_lists removals writes) }
         ensures large { (bytes values : ℕ) → IsErrOf result (WriteFault.TooLarge bytes values)
-            → overflow_of (value_of_intent (intent_of_lists removals.now writes.now))
+            → overflow_of (value_of_intent (intent_of_lists removals writes))
             ≡ Some (bytes, values) }
         ensures fits { OnOk result
-            (overflow_of (value_of_intent (intent_of_lists removals.now writes.now)) ≡ None) }
+            (overflow_of (value_of_intent (intent_of_lists removals writes)) ≡ None) }
     {
-        let file = intent_file(alloc, removals, writes)?;
-        let lists = IntentLists {
-            removals: copy_of_names(alloc, removals)?,
-            writes: copy_of_names(alloc, writes)?,
-        };
+        let file = intent_file(alloc, &removals, &writes)?;
+        let lists = IntentLists { removals, writes };
         let intent = PreparedIntent::of_lists(alloc, lists, file)?;
         Ok(intent)
     }

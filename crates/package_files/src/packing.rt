@@ -27,8 +27,23 @@ use std::alloc::{AllocError, Global};
 /// The most bytes of one allocation: a vector has no more.
 const MOST_IN_MEMORY: u64 = isize::MAX as u64;
 
+/// The most bytes of a block besides those of its file: its header, the two positions, and the
+/// padding.
+const MOST_AROUND_FILE: usize = 16 + 8 + 7;
+
+/// Reserves room for this many more bytes. A buffer that has to grow gets an eighth of its length
+/// besides: so it is not doubled, and still grows seldom.
+fn reserve_room(bytes: &mut Vec<u8>, more: usize) -> Result<(), AllocError>
+    ensures { bytes.new.items ≡ bytes.old.items }
+{
+    if bytes.capacity() - bytes.len() < more {
+        bytes.reserve_exact(more.saturating_add(bytes.len() / 8))?;
+    }
+    Ok(())
+}
+
 /// Appends the front of the block with the contents of a file: its header, and the positions of its
-/// folder and of itself in it, which count from 1. Room for the file's bytes is reserved after it.
+/// folder and of itself in it, which count from 1. Room for the whole block is reserved first.
 /// A position of more than 32 bits is cut: a package with so many files exceeds the limits of a
 /// payload.
 fn begin_block(blocks: &mut Vec<u8>, position: (u64, u64), size: u64) -> Result<(), AllocError>
@@ -38,13 +53,12 @@ fn begin_block(blocks: &mut Vec<u8>, position: (u64, u64), size: u64) -> Result<
     if size > MOST_IN_MEMORY {
         return Err(AllocError);
     }
+    reserve_room(blocks, size as usize + MOST_AROUND_FILE)?;
     // The two positions have four bytes each.
     let head = block_head(BlockKind::Contents, 8 + size);
     blocks.extend_from_slice(head.bytes())?;
     blocks.extend_from_slice(&position.0.to_le_bytes()[..4])?;
-    blocks.extend_from_slice(&position.1.to_le_bytes()[..4])?;
-    blocks.reserve(size as usize)?;
-    Ok(())
+    blocks.extend_from_slice(&position.1.to_le_bytes()[..4])
 }
 
 /// Ends the block that begins at `start`, of a file of this kind whose bytes are the last ones, by
@@ -77,6 +91,7 @@ fn append_padding(blocks: &mut Vec<u8>, size: u64) -> Result<(), AllocError>
 pub fn put_in_front(bytes: &mut Vec<u8>, front: &[u8]) -> Result<(), AllocError>
     ensures { OnOk result (bytes.new.items ≡ front.now ++ bytes.old.items) }
 {
+    reserve_room(bytes, front.len())?;
     bytes.extend_from_slice(front)?;
     // The prefix was appended; the rotation moves it to the front, in the same memory.
     bytes.rotate_right(front.len());

@@ -6,7 +6,7 @@ use Rattle.journal_core.proofs.History.{on_observable}
 use Rattle.journal_core.proofs.OneCall.{now_is}
 use Rattle.file_replacement.proofs.Settle.{first_done, first_failed, full_now, names_called, names_settled, rename_done, rename_failed}
 use Rattle.journal_core.proofs.Images.{crash_laws}
-use Rattle.file_replacement.proofs.replacing.settle.Goals as goal
+use Rattle.file_replacement.proofs.new_file.settle.Goals as goal
 
 pub returns-in_err-sync_all_names-clause-moments : goal.returns-in_err-sync_all_names-clause-moments
 returns-in_err-sync_all_names-clause-moments g c =

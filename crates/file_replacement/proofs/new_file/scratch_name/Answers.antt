@@ -1,7 +1,7 @@
 use Rattle.std.proofs.Common.{ap, ◌++◌, ◌∙◌, codes, List, ℕ, subst, sym}
 use Rattle.base_core.specs.Name.{IsName}
 use Rattle.file_replacement.proofs.Suffix.{scratch_is_name}
-use Rattle.file_replacement.proofs.replacing.scratch_name.Goals as goal
+use Rattle.file_replacement.proofs.new_file.scratch_name.Goals as goal
 
 pub of-requires : goal.of-requires
 of-requires c =

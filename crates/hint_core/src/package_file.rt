@@ -1,0 +1,291 @@
+//! The file of a package that a refusal names: its path beside the index of each repository, and
+//! which of its files the positions in `contents A.B where C.D was expected` are. The rules are in
+//! `docs/commands.md`, "Hints".
+ghost use Rattle.std.specs.Prelude.{◌≡◌, ◌⊎◌, ◌++◌, [], ℕ, List, IfOk, OnOk};
+ghost use Rattle.base_core.specs.Read.{OnlyReads};
+ghost use Rattle.base_core.specs.Sink.{sink_change};
+ghost use Rattle.dep_core.specs.Repositories.{repositories_of};
+ghost use Rattle.report_core.specs.Reports.{name_version};
+ghost use Rattle.hint_core.specs.PackageFile.{ExplainsBeside, ExplainsByText, ExplainsIfPackage, ExplainsPackage, ExplainsPackageFile, as_name, folder_front, only_file, package_file_beside, package_file_line, package_file_lines};
+ghost use Rattle.hint_core.specs.Lines.{printed_bytes, printed_text};
+ghost use Rattle.hint_core.specs.Told.{Tells};
+
+use crate::contents::lines_of_contents;
+use crate::printed::{printed, push_printed, push_texts};
+use crate::telling::{HintFault, is_explained};
+use crate::warning::{say, text_of_found};
+use base_core::{Name, Sink, Tree, TreeFault, Words, consecutive_reads_compose, read_all};
+use dep_core::{Repos, ReposFault};
+use report_core::Refusal;
+use root_names::repositories_name;
+use std::alloc::{AllocError, Global};
+
+/// Writes where the file of a package is that a refusal names: the path beside the index of each
+/// repository. If there is one repository, the lines say too which files of the package the
+/// positions are that the refusal names. The list of repositories is read once, and so is the front
+/// of the package; nothing of the tree is changed.
+///
+/// # Errors
+///
+/// `Disk` or `Memory`, and nothing was written; or `Sink`, and a prefix of the lines was.
+pub fn explain_package<T: Tree, S: Sink>(
+    alloc: Global,
+    words: &Words,
+    refusal: &Refusal,
+    tree: &mut T,
+    sink: &mut S,
+) -> Result<(), HintFault>
+    // The lines are those of the tree as it is. If the call fails, nothing was written, or a prefix
+    // of them.
+    ensures told { (lines : List ℕ)
+        × ((lines ≡ []) ⊎ ExplainsPackageFile words.now refusal.now (T.history tree.old) lines)
+        × OnOk result (ExplainsPackageFile words.now refusal.now (T.history tree.old) lines)
+        × Tells lines (sink_change S.bytes S.counts sink.old sink.new) result }
+    // The tree is only read.
+    ensures tree { OnlyReads HintFault.Disk (T.history tree.old) (T.history tree.new)
+        (T.counts tree.old) (T.counts tree.new) result }
+{
+    let lines = lines_of_words(alloc, words, refusal, tree)?;
+    say(&lines, sink)
+}
+
+// The lines on the file of the package that a refusal of a command line names.
+fn lines_of_words<T: Tree>(
+    alloc: Global,
+    words: &Words,
+    refusal: &Refusal,
+    tree: &mut T,
+) -> Result<Vec<u8>, TreeFault>
+    ensures lines { IfOk result (λ lines.
+        ExplainsPackageFile words.now refusal.now (T.history tree.old) lines.items) }
+    ensures tree { OnlyReads TreeFault.Disk (T.history tree.old) (T.history tree.new)
+        (T.counts tree.old) (T.counts tree.new) result }
+{
+    if !is_explained(alloc, words)? {
+        return Ok(Vec::new(alloc));
+    }
+    lines_of_refusal(alloc, refusal, tree)
+}
+
+// The lines on the file of the package that a refusal names, if it names one.
+fn lines_of_refusal<T: Tree>(
+    alloc: Global,
+    refusal: &Refusal,
+    tree: &mut T,
+) -> Result<Vec<u8>, TreeFault>
+    ensures lines { IfOk result (λ lines.
+        ExplainsIfPackage refusal.now (T.history tree.old) lines.items) }
+    ensures tree { OnlyReads TreeFault.Disk (T.history tree.old) (T.history tree.new)
+        (T.counts tree.old) (T.counts tree.new) result }
+{
+    match refusal {
+        Refusal::PackageMissing { name, version } => {
+            lines_of_package(alloc, name.as_bytes(), version.as_bytes(), refusal, tree)
+        }
+        Refusal::PackageBad {
+            name,
+            version,
+            cause: _,
+        } => lines_of_package(alloc, name.as_bytes(), version.as_bytes(), refusal, tree),
+        Refusal::PackageDiffers {
+            name,
+            version,
+            field: _,
+            wanted: _,
+            found: _,
+        } => lines_of_package(alloc, name.as_bytes(), version.as_bytes(), refusal, tree),
+        _ => Ok(Vec::new(alloc)),
+    }
+}
+
+// The lines on the file of a package, by the file that names the repositories.
+fn lines_of_package<T: Tree>(
+    alloc: Global,
+    name: &[u8],
+    version: &[u8],
+    refusal: &Refusal,
+    tree: &mut T,
+) -> Result<Vec<u8>, TreeFault>
+    ensures lines { IfOk result (λ lines.
+        ExplainsPackage name.now version.now refusal.now (T.history tree.old) lines.items) }
+    ensures tree { OnlyReads TreeFault.Disk (T.history tree.old) (T.history tree.new)
+        (T.counts tree.old) (T.counts tree.new) result }
+{
+    // A law that the proof needs; it computes nothing.
+    consecutive_reads_compose::<Option<Vec<u8>>, Vec<u8>, TreeFault>();
+    let file = repositories_name(alloc)?;
+    let found = read_all(alloc, tree, &file)?;
+    lines_by_text(alloc, name, version, refusal, text_of_found(&found), tree)
+}
+
+// The lines on the file of a package, given the text that names the repositories.
+fn lines_by_text<T: Tree>(
+    alloc: Global,
+    name: &[u8],
+    version: &[u8],
+    refusal: &Refusal,
+    text: &[u8],
+    tree: &mut T,
+) -> Result<Vec<u8>, TreeFault>
+    ensures lines { IfOk result (λ lines. ExplainsByText name.now version.now refusal.now
+        (repositories_of text.now) (T.history tree.old) lines.items) }
+    ensures tree { OnlyReads TreeFault.Disk (T.history tree.old) (T.history tree.new)
+        (T.counts tree.old) (T.counts tree.new) result }
+{
+    match Repos::read(alloc, text) {
+        Ok(repositories) => lines_beside(alloc, name, version, refusal, &repositories, tree),
+        Err(ReposFault::Bad { line: _ }) => Ok(Vec::new(alloc)),
+        Err(ReposFault::Memory) => Err(TreeFault::Memory),
+    }
+}
+
+// The lines on the file of a package, by the repositories.
+fn lines_beside<T: Tree>(
+    alloc: Global,
+    name: &[u8],
+    version: &[u8],
+    refusal: &Refusal,
+    repositories: &Repos,
+    tree: &mut T,
+) -> Result<Vec<u8>, TreeFault>
+    ensures lines { IfOk result (λ lines. ExplainsBeside name.now version.now refusal.now
+        repositories.now (T.history tree.old) lines.items) }
+    ensures tree { OnlyReads TreeFault.Disk (T.history tree.old) (T.history tree.new)
+        (T.counts tree.old) (T.counts tree.new) result }
+{
+    let mut lines = package_file_lines(alloc, name, version, repositories)?;
+    let file = only_file(alloc, name, version, repositories)?;
+    let contents = lines_of_contents(alloc, &file, refusal, tree)?;
+    lines.extend_from_slice(&contents)?;
+    Ok(lines)
+}
+
+// The name of the package's file, if there is one repository.
+fn only_file(
+    alloc: Global,
+    name: &[u8],
+    version: &[u8],
+    repositories: &Repos,
+) -> Result<Option<Name>, AllocError>
+    ensures { IfOk result (λ file. file ≡ only_file name.now version.now repositories.now) }
+{
+    if repositories.len() != 1 {
+        return Ok(None);
+    }
+    file_beside(alloc, repositories.path(0), name, version)
+}
+
+// The name of a package's file beside an index, if its path is a name.
+fn file_beside(
+    alloc: Global,
+    index: &Name,
+    name: &[u8],
+    version: &[u8],
+) -> Result<Option<Name>, AllocError>
+    ensures { IfOk result (λ file. file ≡ as_name (package_file_beside index.now name.now version.now)) }
+{
+    let path = package_file_beside(alloc, index.as_bytes(), name, version)?;
+    Name::read(alloc, &path)
+}
+
+// The lines that say where the package's file is.
+fn package_file_lines(
+    alloc: Global,
+    name: &[u8],
+    version: &[u8],
+    repositories: &Repos,
+) -> Result<Vec<u8>, AllocError>
+    ensures { IfOk result (λ lines.
+        lines.items ≡ package_file_lines name.now version.now repositories.now) }
+{
+    let mut lines = Vec::new(alloc);
+    for i in 0..repositories.len() {
+        push_package_file_line(alloc, &mut lines, name, version, repositories.path(i))?;
+    }
+    Ok(lines)
+}
+
+// Adds the line that says where the package's file is, beside an index.
+fn push_package_file_line(
+    alloc: Global,
+    lines: &mut Vec<u8>,
+    name: &[u8],
+    version: &[u8],
+    index: &Name,
+) -> Result<(), AllocError>
+    ensures { OnOk result (lines.new.items
+        ≡ lines.old.items ++ package_file_line name.now version.now index.now) }
+{
+    let shown_index = printed(alloc, index.as_bytes())?;
+    let shown_package = shown_package(alloc, name, version)?;
+    let shown_path = shown_path(alloc, index, name, version)?;
+    push_texts(
+        lines,
+        &[
+            b"apk: beside ",
+            &shown_index,
+            b" the file of ",
+            &shown_package,
+            b" is ",
+            &shown_path,
+            b"\n",
+        ],
+    )
+}
+
+// The text that shows a package.
+fn shown_package(alloc: Global, name: &[u8], version: &[u8]) -> Result<Vec<u8>, AllocError>
+    ensures { IfOk result (λ text.
+        text.items ≡ printed_text (name_version name.now version.now)) }
+{
+    let mut package = Vec::from_slice(alloc, name)?;
+    package.extend_from_slice(b"-")?;
+    package.extend_from_slice(version)?;
+    printed(alloc, &package)
+}
+
+// The text that shows the path of a package's file beside an index.
+fn shown_path(
+    alloc: Global,
+    index: &Name,
+    name: &[u8],
+    version: &[u8],
+) -> Result<Vec<u8>, AllocError>
+    ensures { IfOk result (λ text.
+        text.items ≡ printed_bytes (package_file_beside index.now name.now version.now)) }
+{
+    let path = package_file_beside(alloc, index.as_bytes(), name, version)?;
+    let mut text = Vec::new(alloc);
+    push_printed(&mut text, &path)?;
+    Ok(text)
+}
+
+// The path of a package's file beside an index: the index's folder, and NAME-VERSION.apk.
+fn package_file_beside(
+    alloc: Global,
+    index: &[u8],
+    name: &[u8],
+    version: &[u8],
+) -> Result<Vec<u8>, AllocError>
+    ensures { IfOk result (λ path. path.items ≡ package_file_beside index.now name.now version.now) }
+{
+    let mut path = Vec::from_slice(alloc, folder_front(index))?;
+    path.extend_from_slice(name)?;
+    path.extend_from_slice(b"-")?;
+    path.extend_from_slice(version)?;
+    path.extend_from_slice(b".apk")?;
+    Ok(path)
+}
+
+// A path up to its last `/`, with that; nothing of a path without one.
+fn folder_front(path: &[u8]) -> &[u8]
+    ensures { result.now ≡ folder_front path.now }
+{
+    let mut end = 0;
+    for (i, byte) in path.iter().enumerate() {
+        if *byte == b'/' {
+            end = i + 1;
+        }
+    }
+    &path[..end]
+}
