@@ -6,14 +6,10 @@
 //! works" there describes how it is found.
 #![tactic(auto)]
 
-mod clauses;
-mod known;
 mod laws;
-mod pool_rules;
-mod propagation;
+mod learnt;
 mod search;
 mod selection;
-mod trail;
 mod watches;
 
 pub use laws::{
