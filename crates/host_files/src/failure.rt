@@ -62,10 +62,16 @@ impl Reason {
 pub enum HostFault {
     /// There was no memory.
     Memory,
-    /// The host's own reason.
-    Host(io::Error),
+    /// The host's own reason, and its path, if that is not the call's own.
+    Host {
+        error: io::Error,
+        at: Option<Vec<u8>>,
+    },
     /// A reason of this program, and its path, if that is not the call's own.
-    Own { reason: Reason, at: Option<Vec<u8>> },
+    Own {
+        reason: Reason,
+        at: Option<Vec<u8>>,
+    },
 }
 
 impl HostFault {
@@ -78,6 +84,17 @@ impl HostFault {
     pub fn at(alloc: Global, reason: Reason, path: &[u8]) -> HostFault {
         HostFault::Own {
             reason,
+            at: Vec::from_slice(alloc, path).ok(),
+        }
+    }
+
+    /// The host's error on a path. Without memory for the path it is left out.
+    pub fn host_at(alloc: Global, error: io::Error, path: &[u8]) -> HostFault {
+        if error.kind() == ErrorKind::OutOfMemory {
+            return HostFault::Memory;
+        }
+        HostFault::Host {
+            error,
             at: Vec::from_slice(alloc, path).ok(),
         }
     }
@@ -96,7 +113,7 @@ impl From<io::Error> for HostFault {
         if error.kind() == ErrorKind::OutOfMemory {
             return HostFault::Memory;
         }
-        HostFault::Host(error)
+        HostFault::Host { error, at: None }
     }
 }
 
@@ -152,17 +169,26 @@ impl Failure {
     fn print_reason<W: Write>(&self, alloc: Global, to: &mut W) -> io::Result<()> {
         match &self.fault {
             HostFault::Memory => to.write_all(b"Cannot allocate memory"),
-            HostFault::Host(error) => print_host_reason(alloc, error, to),
+            HostFault::Host { error, at } => {
+                self.print_place(at, to)?;
+                print_host_reason(alloc, error, to)
+            }
             HostFault::Own { reason, at } => {
-                if let Some(at) = at
-                    && !self.names(at)
-                {
-                    write_path(at, to)?;
-                    to.write_all(b": ")?;
-                }
+                self.print_place(at, to)?;
                 to.write_all(reason.text().as_bytes())
             }
         }
+    }
+
+    /// Prints the path of a reason, unless the call's line has it.
+    fn print_place<W: Write>(&self, at: &Option<Vec<u8>>, to: &mut W) -> io::Result<()> {
+        if let Some(at) = at
+            && !self.names(at)
+        {
+            write_path(at, to)?;
+            to.write_all(b": ")?;
+        }
+        Ok(())
     }
 
     /// Whether a path is one that the call was given.

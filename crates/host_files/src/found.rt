@@ -8,7 +8,7 @@ use std::alloc::Global;
 use std::fs::{Files, Metadata};
 use std::io::ErrorKind;
 use std::os::unix::fs::MetadataExt;
-use std::{fs, str};
+use std::{fs, io, str};
 
 /// What the host has at a path.
 #[derive(Clone, Copy)]
@@ -60,14 +60,29 @@ impl Found {
 }
 
 /// What is at a path itself, for the host as `host_path`. A symbolic link is not followed: it is a
-/// fault, as is all else that is neither a regular file nor a folder.
+/// fault, as is all else that is neither a regular file nor a folder. A name that is too long for
+/// the host has no file.
 pub fn look<R: Files>(
     rt: &R,
     alloc: Global,
     path: &[u8],
     host_path: &str,
 ) -> Result<Found, HostFault> {
-    let data = match fs::symlink_metadata(rt, host_path) {
+    match fs::symlink_metadata(rt, host_path) {
+        Err(e) if e.kind() == ErrorKind::InvalidFilename => Ok(Found::Nothing),
+        looked => found_of(alloc, path, looked),
+    }
+}
+
+/// What is at a path itself, where a file is to be written: as `look`, but a name that is too long
+/// for the host is a fault.
+pub fn look_to_write<R: Files>(rt: &R, alloc: Global, path: &[u8]) -> Result<Found, HostFault> {
+    found_of(alloc, path, fs::symlink_metadata(rt, path_text(path)?))
+}
+
+/// What the host's answer to a look at a path says.
+fn found_of(alloc: Global, path: &[u8], looked: io::Result<Metadata>) -> Result<Found, HostFault> {
+    let data = match looked {
         Ok(data) => data,
         Err(e) if is_absence(e.kind()) => return Ok(Found::Nothing),
         Err(e) => return Err(e.into()),
@@ -91,13 +106,9 @@ pub fn is_same(a: &Metadata, b: &Metadata) -> bool {
     a.dev() == b.dev() && a.ino() == b.ino()
 }
 
-/// Whether an error says that there is nothing at a path; a name that is too long for the host has
-/// no file.
+/// Whether an error says that there is nothing at a path.
 fn is_absence(kind: ErrorKind) -> bool {
-    matches!(
-        kind,
-        ErrorKind::NotFound | ErrorKind::NotADirectory | ErrorKind::InvalidFilename
-    )
+    matches!(kind, ErrorKind::NotFound | ErrorKind::NotADirectory)
 }
 
 /// A path in the host's form: as text.

@@ -68,19 +68,49 @@ pub fn lock_root<R: Host>(rt: &R, lock: Lock) -> Result<File, HostFault> {
     Err(HostFault::own(Reason::Locked))
 }
 
-/// Tries to take the lock. A run that may not open the lock's folder, or cannot make it, locks the
+/// Tries to take the lock. A run that may not open the lock's folder, or may not make it, locks the
 /// root itself, which excludes only other such runs.
 fn try_lock_root<R: Host>(rt: &R, lock: Lock) -> Result<Try, HostFault> {
     match fs::open(rt, LOCK_FOLDER) {
         Ok(folder) => try_lock_folder(rt, folder, lock),
         Err(e) if e.kind() == ErrorKind::NotFound => match make_lock_folder(rt) {
             Ok(()) => Ok(Try::Changed),
-            Err(e) if e.kind() == ErrorKind::AlreadyExists => Ok(Try::Changed),
-            // A full or read-only file system is read too.
-            Err(_) => try_lock(fs::open(rt, ".")?, lock),
+            Err(e) if e.kind() == ErrorKind::AlreadyExists => see_lock_folder(rt),
+            Err(e) if may_lock_root(lock, e.kind()) => try_lock(fs::open(rt, ".")?, lock),
+            Err(e) => Err(at_lock_folder(rt, e)),
         },
         Err(e) if e.kind() == ErrorKind::PermissionDenied => try_lock(fs::open(rt, ".")?, lock),
-        Err(e) => Err(e.into()),
+        Err(e) => Err(at_lock_folder(rt, e)),
+    }
+}
+
+/// Whether a run locks the root itself if this error keeps it from making the lock's folder. A full
+/// file system is read too. But a run that may write, and has room soon, would not exclude the next
+/// run, which can make the folder then.
+fn may_lock_root(lock: Lock, kind: ErrorKind) -> bool {
+    match lock {
+        Lock::Shared => true,
+        Lock::Exclusive => matches!(
+            kind,
+            ErrorKind::PermissionDenied | ErrorKind::ReadOnlyFilesystem
+        ),
+    }
+}
+
+/// The host's error on the lock's folder.
+fn at_lock_folder<R: Host>(rt: &R, error: io::Error) -> HostFault {
+    HostFault::host_at(rt.alloc(), error, LOCK_FOLDER.as_bytes())
+}
+
+/// Tells that the lock is tried again, unless something else is in the place of its folder.
+fn see_lock_folder<R: Host>(rt: &R) -> Result<Try, HostFault> {
+    match fs::symlink_metadata(rt, LOCK_FOLDER) {
+        Ok(found) if !found.is_dir() => Err(HostFault::at(
+            rt.alloc(),
+            Reason::NoFolder,
+            LOCK_FOLDER.as_bytes(),
+        )),
+        _ => Ok(Try::Changed),
     }
 }
 
@@ -90,8 +120,7 @@ fn try_lock_folder<R: Host>(rt: &R, folder: File, lock: Lock) -> Result<Try, Hos
     let tried = try_lock(folder, lock)?;
     match fs::symlink_metadata(rt, LOCK_FOLDER) {
         Ok(found) if found.is_dir() && is_same(&found, &opened) => Ok(tried),
-        Ok(found) if !found.is_dir() => Err(HostFault::own(Reason::NoFolder)),
-        _ => Ok(Try::Changed),
+        _ => see_lock_folder(rt),
     }
 }
 

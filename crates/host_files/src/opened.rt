@@ -8,7 +8,7 @@ use super::found::{LookedAt, path_text};
 use super::rights::FILE_MODE;
 use std::alloc::Global;
 use std::fs::{File, OpenOptions};
-use std::io::{Read, Seek, SeekFrom, Write};
+use std::io::{ErrorKind, Read, Seek, SeekFrom, Write};
 use std::os::unix::fs::OpenOptionsExt;
 
 /// An open file, with the path under which it was opened, its length, and the offset of the next
@@ -69,9 +69,17 @@ impl Opened {
             self.file.seek(SeekFrom::Start(at))?;
         }
         self.at = None;
-        self.file.read_exact(into)?;
-        self.at = Some(at + into.len() as u64);
-        Ok(())
+        match self.file.read_exact(into) {
+            Ok(()) => {
+                self.at = Some(at + into.len() as u64);
+                Ok(())
+            }
+            // The file became shorter since it was opened.
+            Err(e) if e.kind() == ErrorKind::UnexpectedEof => {
+                Err(HostFault::own(Reason::EndsEarly))
+            }
+            Err(e) => Err(e.into()),
+        }
     }
 
     /// Appends a piece to the file. After a fault a prefix of it may be there.

@@ -4,9 +4,10 @@
 
 use super::failure::HostFault;
 use super::found::path_text;
-use std::fs;
 use std::fs::{Files, Metadata, OpenFile, Permissions};
+use std::io::ErrorKind;
 use std::os::unix::fs::{MetadataExt, PermissionsExt, lchown};
+use std::{fs, io};
 
 /// The mode of a new file, before the umask takes bits away.
 pub const FILE_MODE: u32 = 0o644;
@@ -21,8 +22,11 @@ const ALL_BITS: u32 = 0o7777;
 /// The rights of the owner, the group and the others.
 const RIGHTS_BITS: u32 = 0o777;
 
+/// The rights of the owner to read and to write.
+const OWNER_BITS: u32 = 0o600;
+
 /// The mode and the owner of a file.
-#[derive(Clone, Copy)]
+#[derive(Clone, Copy, PartialEq, Eq)]
 pub struct Rights {
     // The bits that a program may set.
     mode: u32,
@@ -47,13 +51,13 @@ impl Rights {
         self.user == other.user && self.group == other.group
     }
 
-    /// Gives the file at a path, which has these rights, other ones, as far as the caller may, and
-    /// syncs them. If the caller may not change the owner, the bits are left out that let a program
-    /// run with the owner's rights.
+    /// Gives the file at a path, which has these rights, those of another file, as far as the
+    /// caller may, and syncs them, even if they are equal. If the caller may not change the owner,
+    /// the bits are left out that let a program run with the owner's rights.
     ///
     /// # Errors
     ///
-    /// The host's own, if it could not write them through.
+    /// The host's own, if it did not sync them.
     pub fn change_to<R: Files>(
         &self,
         rt: &R,
@@ -61,19 +65,25 @@ impl Rights {
         wanted: Rights,
     ) -> Result<(), HostFault> {
         let path = path_text(path)?;
-        if self.mode == wanted.mode && self.has_owner_of(wanted) {
-            return Ok(());
-        }
         // It is opened before its mode changes, since the new mode may not allow that.
-        let opened = fs::open(rt, path);
+        let file = open_to_sync(rt, path)?;
         let is_given = self.has_owner_of(wanted) || give_away(rt, path, wanted);
         let kept = if is_given { ALL_BITS } else { RIGHTS_BITS };
         // A host without modes refuses this, and then has none to keep.
         let _ = fs::set_permissions(rt, path, Permissions::from_mode(wanted.mode & kept));
-        match opened {
-            Ok(file) => Ok(file.sync_all()?),
-            Err(_) => Ok(()),
+        Ok(file.sync_all()?)
+    }
+}
+
+/// Opens a file to sync it. An umask may keep even its owner from that, so the owner then gets the
+/// rights first.
+fn open_to_sync<R: Files>(rt: &R, path: &str) -> io::Result<R::File> {
+    match fs::open(rt, path) {
+        Err(e) if e.kind() == ErrorKind::PermissionDenied => {
+            fs::set_permissions(rt, path, Permissions::from_mode(OWNER_BITS))?;
+            fs::open(rt, path)
         }
+        opened => opened,
     }
 }
 

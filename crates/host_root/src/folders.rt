@@ -22,6 +22,8 @@ pub struct Folders {
     last: LastFolder,
     // The folders whose names changed since they were last synced.
     changed: BTreeSet<Vec<u8>>,
+    // The folders that were noted once together with all folders above them.
+    ways: BTreeSet<Vec<u8>>,
 }
 
 impl Folders {
@@ -32,6 +34,7 @@ impl Folders {
             known: BTreeSet::new(alloc),
             last: LastFolder::new(Vec::new(alloc)),
             changed: BTreeSet::new(alloc),
+            ways: BTreeSet::new(alloc),
         }
     }
 
@@ -114,8 +117,31 @@ impl Folders {
     /// Notes a folder whose names will change. It is noted before they do, so that none is
     /// forgotten.
     pub fn note(&mut self, folder: &[u8]) -> Result<(), HostFault> {
+        if self.changed.contains(folder) {
+            return Ok(());
+        }
         let folder = Vec::from_slice(self.alloc, folder)?;
         keep(&mut self.changed, folder)
+    }
+
+    /// Notes each existing folder on the way to a path, and the root, once per run: an earlier run
+    /// may have changed their names and not synced them.
+    pub fn note_way<R: Files>(&mut self, rt: &R, path: &[u8]) -> Result<(), HostFault> {
+        let around = parent_of(path);
+        if self.ways.contains(around) {
+            return Ok(());
+        }
+        self.note(&[])?;
+        for (i, byte) in path.iter().enumerate() {
+            if *byte == b'/' {
+                if !self.has(rt, &path[..i])? {
+                    break;
+                }
+                self.note(&path[..i])?;
+            }
+        }
+        let around = Vec::from_slice(self.alloc, around)?;
+        keep(&mut self.ways, around)
     }
 
     /// Makes the path of a file free: creates the folders on the way to it, and removes an empty

@@ -79,12 +79,25 @@ impl<'a, R: Host> Root<'a, R> {
         }
     }
 
-    /// Whether a change is committed and not done yet: the next command finishes it.
+    /// Whether a change is committed and not done yet: the next command finishes it. A run without
+    /// the lock does not know, since another run may be doing the change.
     pub fn has_unfinished_change(&self) -> bool {
         match path_text(INTENT) {
-            Ok(path) => fs::symlink_metadata(self.rt, path).is_ok(),
+            Ok(path) => self.held.is_some() && fs::symlink_metadata(self.rt, path).is_ok(),
             Err(_) => false,
         }
+    }
+
+    /// Whether this run has found a committed change, and has not finished it yet.
+    pub fn recovers(&self) -> bool {
+        self.recovers
+    }
+
+    /// Notes the folders on the way to a path, which the next sync of the names syncs even if this
+    /// run changes no name in them.
+    pub fn note_way(&mut self, path: &[u8]) -> Result<(), HostFault> {
+        self.take_lock()?;
+        self.folders.note_way(self.rt, path)
     }
 
     /// Releases the lock, if it is held. No call follows this one.
@@ -171,6 +184,7 @@ impl<'a, R: Host> Root<'a, R> {
         self.take_lock()?;
         self.seen = None;
         self.folders.make_room(self.rt, path)?;
+        self.folders.note_way(self.rt, path)?;
         self.folders.note(parent_of(path))?;
         self.writer = Some(Opened::make(self.rt, self.alloc, path)?);
         Ok(())
@@ -244,7 +258,8 @@ impl<'a, R: Host> Root<'a, R> {
     }
 
     /// Gives a file that is to be renamed mode and owner of the file that it replaces, or beside
-    /// which it is written.
+    /// which it is written. Equal ones were synced with the file's bytes, unless a run that was
+    /// killed has set them.
     fn keep_rights(
         &mut self,
         from: &[u8],
@@ -259,6 +274,9 @@ impl<'a, R: Host> Root<'a, R> {
         let ((Found::File(model), _) | (_, Found::File(model))) = (beside, replaced) else {
             return Ok(());
         };
+        if moved.rights == model.rights && !self.recovers {
+            return Ok(());
+        }
         let kept = moved.rights.change_to(self.rt, from, model.rights);
         self.has_lost |= kept.is_err();
         kept

@@ -2,7 +2,9 @@
 //! The rules are in `docs/crash-safety.md`, "What the host's tree does", the row of `check_target`.
 
 use super::folders::{Folders, look_at};
-use host_files::{Found, Host, HostFault, LOCK_FOLDER, Reason, parent_of, path_text};
+use host_files::{
+    Found, Host, HostFault, LOCK_FOLDER, Reason, look_to_write, parent_of, path_text,
+};
 use std::alloc::Global;
 use std::collections::BTreeSet;
 use std::fs;
@@ -46,10 +48,11 @@ impl Targets {
             return Err(HostFault::own(Reason::Reserved));
         }
         let folder = folders.deepest_known_folder(rt, path)?;
-        let absent = path.strip_prefix(folder).unwrap_or(path);
-        check_parts(rt, self.alloc, folder, absent)?;
         if folder == parent_of(path) {
             check_place(rt, self.alloc, path)?;
+        } else {
+            let absent = path.strip_prefix(folder).unwrap_or(path);
+            check_parts(rt, self.alloc, folder, absent)?;
         }
         let source = folders.deepest_known_folder(rt, source)?;
         self.check_folder(rt, folder, source)
@@ -114,10 +117,11 @@ fn check_parts<R: Files>(
     Ok(())
 }
 
-/// Asks whether a file can replace what is at a path: a regular file that may be removed, or
-/// folders. Regular files below these are a question of the model.
+/// Asks whether the host has names as long as the last part of a path, and whether a file can
+/// replace what is there: a regular file that may be removed, or folders. Regular files below these
+/// are a question of the model.
 fn check_place<R: Host>(rt: &R, alloc: Global, path: &[u8]) -> Result<(), HostFault> {
-    match look_at(rt, alloc, path)? {
+    match look_to_write(rt, alloc, path)? {
         Found::Nothing => Ok(()),
         Found::File(_) => check_removal(rt, path),
         Found::Folder => check_folders_below(rt, alloc, path),

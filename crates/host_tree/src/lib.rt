@@ -8,9 +8,11 @@ ghost use Rattle.std.specs.Prelude.{◌≡◌, ◌≤◌, [], OnOk, OnErr, true}
 ghost use Rattle.base_core.specs.Faults.{next_count};
 ghost use Rattle.host_tree.specs.Host.{host_counts};
 
+mod earlier;
 mod listing;
 
 use base_core::{Disk, Name, Names, Tree, TreeFault};
+use earlier::note_earlier_changes;
 use host_root::{Failure, Host, HostFault, Lock, Root};
 use listing::list_below;
 use std::alloc::Global;
@@ -30,6 +32,8 @@ pub struct HostTree<'a, R: Host> {
     faults: u64,
     /// The first failure, for the line after `ERROR: the tree failed`.
     failure: Option<Failure>,
+    /// Whether the folders are noted that an earlier run may have changed and not synced.
+    has_noted_earlier_changes: bool,
 }
 
 impl<'a, R: Host> HostTree<'a, R> {
@@ -43,6 +47,7 @@ impl<'a, R: Host> HostTree<'a, R> {
             root: Root::new(rt, alloc, lock),
             faults: 0,
             failure: None,
+            has_noted_earlier_changes: false,
         }
     }
 
@@ -67,6 +72,18 @@ impl<'a, R: Host> HostTree<'a, R> {
         ensures faults { self.new.faults ≡ self.old.faults }
     {
         self.root.leave();
+    }
+
+    /// Syncs the folders whose names changed. The first time, these are also the folders that an
+    /// earlier run may have changed and not synced.
+    fn write_names_through(&mut self) -> Result<(), HostFault>
+        ensures faults { self.new.faults ≡ self.old.faults }
+    {
+        if !self.has_noted_earlier_changes {
+            note_earlier_changes(&mut self.root, self.alloc)?;
+            self.has_noted_earlier_changes = true;
+        }
+        self.root.write_names_through()
     }
 
     /// Counts a fault, and remembers the failure, if it is the first: the call, its path, and the
@@ -171,7 +188,7 @@ impl<'a, R: Host> Tree for HostTree<'a, R> {
 
     // Syncs the folders whose names changed.
     fn sync_names(&mut self) -> Result<(), Disk> {
-        match self.root.write_names_through() {
+        match self.write_names_through() {
             Ok(()) => Ok(()),
             Err(fault) => Err(self.note_failure("sync folders", b"", b"", fault)),
         }
