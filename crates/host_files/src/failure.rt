@@ -28,6 +28,8 @@ pub enum Reason {
     LostWrite,
     /// Another run of this program works in the folder.
     Locked,
+    /// The lock's folder cannot be made, so that nothing is written.
+    NoLockFolder,
     /// Both names of a rename are one.
     SameName,
     /// A file cannot be renamed to a path, since another file system is mounted there.
@@ -50,6 +52,7 @@ impl Reason {
             Reason::NoName => "Is no name of a file",
             Reason::LostWrite => "An earlier write was lost",
             Reason::Locked => "Another run holds this folder",
+            Reason::NoLockFolder => "Cannot be made",
             Reason::SameName => "Is the same name",
             Reason::OtherFileSystem => "Is on another file system",
             Reason::Reserved => "Is a name of the program's own",

@@ -32,11 +32,27 @@ const MOST_SECONDS: u64 = 60;
 /// The number of seconds after which the run prints on standard error that it waits.
 const SILENT_SECONDS: u64 = 1;
 
+/// A lock on the root, which the run holds until the folder is closed.
+#[derive(Drop)]
+pub struct Held {
+    /// The locked folder: the lock's folder, or the root.
+    folder: File,
+    /// Whether the lock keeps out all other runs that write, as far as the users' rights allow it.
+    may_write: bool,
+}
+
+impl Held {
+    /// Whether the run may write with this lock.
+    pub fn may_write(&self) -> bool {
+        self.may_write
+    }
+}
+
 /// The result of a try to take the lock.
 #[derive(Drop)]
 enum Try {
-    /// The lock is held, until this file is closed.
-    Held(File),
+    /// The lock is held.
+    Held(Held),
     /// Another run holds it.
     Taken,
     /// Another run has made or removed the lock's folder meanwhile.
@@ -44,14 +60,14 @@ enum Try {
 }
 
 /// Waits until no other run holds a conflicting lock, 60 seconds at most, and prints once that it
-/// waits. The lock holds until the returned file is closed.
-pub fn lock_root<R: Host>(rt: &R, lock: Lock) -> Result<File, HostFault> {
+/// waits.
+pub fn lock_root<R: Host>(rt: &R, lock: Lock) -> Result<Held, HostFault> {
     let start = Instant::now(rt)?;
     let mut silent = true;
     // The clock ends this; the bound shows the checker that it ends.
     for _ in 0..u64::MAX {
         match try_lock_root(rt, lock)? {
-            Try::Held(file) => return Ok(file),
+            Try::Held(held) => return Ok(held),
             Try::Taken => {
                 if silent && start.elapsed(rt)?.as_secs() >= SILENT_SECONDS {
                     silent = false;
@@ -68,7 +84,7 @@ pub fn lock_root<R: Host>(rt: &R, lock: Lock) -> Result<File, HostFault> {
     Err(HostFault::own(Reason::Locked))
 }
 
-/// Tries to take the lock. A run that may not open the lock's folder, or may not make it, locks the
+/// Tries to take the lock. A run that may not open the lock's folder, or cannot make it, locks the
 /// root itself, which excludes only other such runs.
 fn try_lock_root<R: Host>(rt: &R, lock: Lock) -> Result<Try, HostFault> {
     match fs::open(rt, LOCK_FOLDER) {
@@ -76,30 +92,23 @@ fn try_lock_root<R: Host>(rt: &R, lock: Lock) -> Result<Try, HostFault> {
         Err(e) if e.kind() == ErrorKind::NotFound => match make_lock_folder(rt) {
             Ok(()) => Ok(Try::Changed),
             Err(e) if e.kind() == ErrorKind::AlreadyExists => see_lock_folder(rt),
-            Err(e) if may_lock_root(lock, e.kind()) => try_lock(fs::open(rt, ".")?, lock),
-            Err(e) => Err(at_lock_folder(rt, e)),
+            Err(e) => try_lock(fs::open(rt, ".")?, lock, stays(e.kind())),
         },
-        Err(e) if e.kind() == ErrorKind::PermissionDenied => try_lock(fs::open(rt, ".")?, lock),
-        Err(e) => Err(at_lock_folder(rt, e)),
+        Err(e) if e.kind() == ErrorKind::PermissionDenied => {
+            try_lock(fs::open(rt, ".")?, lock, true)
+        }
+        Err(e) => Err(HostFault::host_at(rt.alloc(), e, LOCK_FOLDER.as_bytes())),
     }
 }
 
-/// Whether a run locks the root itself if this error keeps it from making the lock's folder. A full
-/// file system is read too. But a run that may write, and has room soon, would not exclude the next
-/// run, which can make the folder then.
-fn may_lock_root(lock: Lock, kind: ErrorKind) -> bool {
-    match lock {
-        Lock::Shared => true,
-        Lock::Exclusive => matches!(
-            kind,
-            ErrorKind::PermissionDenied | ErrorKind::ReadOnlyFilesystem
-        ),
-    }
-}
-
-/// The host's error on the lock's folder.
-fn at_lock_folder<R: Host>(rt: &R, error: io::Error) -> HostFault {
-    HostFault::host_at(rt.alloc(), error, LOCK_FOLDER.as_bytes())
+/// Whether this reason for a missing folder of the lock stays: the user may not write in the root.
+/// Any other reason, such as a full disk, may pass while the run goes on. The next run could then
+/// make and lock the folder, so this run only reads.
+fn stays(kind: ErrorKind) -> bool {
+    matches!(
+        kind,
+        ErrorKind::PermissionDenied | ErrorKind::ReadOnlyFilesystem
+    )
 }
 
 /// Tells that the lock is tried again, unless something else is in the place of its folder.
@@ -117,7 +126,7 @@ fn see_lock_folder<R: Host>(rt: &R) -> Result<Try, HostFault> {
 /// Tries to lock the lock's folder, which may have been removed since it was opened.
 fn try_lock_folder<R: Host>(rt: &R, folder: File, lock: Lock) -> Result<Try, HostFault> {
     let opened = folder.metadata()?;
-    let tried = try_lock(folder, lock)?;
+    let tried = try_lock(folder, lock, true)?;
     match fs::symlink_metadata(rt, LOCK_FOLDER) {
         Ok(found) if found.is_dir() && is_same(&found, &opened) => Ok(tried),
         _ => see_lock_folder(rt),
@@ -125,13 +134,13 @@ fn try_lock_folder<R: Host>(rt: &R, folder: File, lock: Lock) -> Result<Try, Hos
 }
 
 /// Takes the lock on an open folder if nobody holds it. It waits for no one.
-fn try_lock(folder: File, lock: Lock) -> Result<Try, HostFault> {
+fn try_lock(folder: File, lock: Lock, may_write: bool) -> Result<Try, HostFault> {
     let tried = match lock {
         Lock::Shared => folder.try_lock_shared(),
         Lock::Exclusive => folder.try_lock(),
     };
     match tried {
-        Ok(()) => Ok(Try::Held(folder)),
+        Ok(()) => Ok(Try::Held(Held { folder, may_write })),
         Err(TryLockError::WouldBlock) => Ok(Try::Taken),
         Err(TryLockError::Error(e)) => Err(e.into()),
     }
@@ -160,12 +169,13 @@ fn lock_mode(root: u32) -> u32 {
 
 /// Releases the lock. The last run that holds it removes the lock's folder; a run that is killed
 /// leaves it, and the next one uses it.
-pub fn unlock_root<R: Host>(rt: &R, held: &File) {
-    let (Ok(found), Ok(opened)) = (fs::symlink_metadata(rt, LOCK_FOLDER), held.metadata()) else {
+pub fn unlock_root<R: Host>(rt: &R, held: &Held) {
+    let folder = &held.folder;
+    let (Ok(found), Ok(opened)) = (fs::symlink_metadata(rt, LOCK_FOLDER), folder.metadata()) else {
         return;
     };
     // A shared lock becomes exclusive, if nobody else holds it.
-    if is_same(&found, &opened) && held.try_lock().is_ok() {
+    if is_same(&found, &opened) && folder.try_lock().is_ok() {
         let _ = fs::remove_dir(rt, LOCK_FOLDER);
     }
 }

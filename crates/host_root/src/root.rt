@@ -5,12 +5,12 @@
 use super::folders::Folders;
 use super::targets::{Targets, check_remove};
 use host_files::{
-    Found, Host, HostFault, Lock, LookedAt, Opened, Reason, close, is_open, lock_root, parent_of,
-    path_text, unlock_root,
+    Found, Held, Host, HostFault, LOCK_FOLDER, Lock, LookedAt, Opened, Reason, close, is_open,
+    lock_root, parent_of, path_text, unlock_root,
 };
 use std::alloc::Global;
 use std::fs;
-use std::fs::{File, OpenOptions};
+use std::fs::OpenOptions;
 
 /// The path of the journal's entry while a change that was committed is not done
 /// (`docs/crash-safety.md`, "A change of several files").
@@ -29,8 +29,8 @@ pub struct Root<'a, R: Host> {
     alloc: Global,
     // Which lock the first call takes: shared, or for this run alone.
     lock: Lock,
-    // The locked folder, open while this run holds the lock.
-    held: Option<File>,
+    // The lock, while this run holds it.
+    held: Option<Held>,
     // The file that was read last.
     reader: Option<Opened>,
     // The file that is being written.
@@ -131,6 +131,15 @@ impl<'a, R: Host> Root<'a, R> {
         Ok(())
     }
 
+    /// Takes the lock for a call that writes, or that asks whether it can be written.
+    fn take_lock_to_write(&mut self) -> Result<(), HostFault> {
+        self.take_lock()?;
+        match &self.held {
+            Some(held) if held.may_write() => Ok(()),
+            _ => Err(HostFault::at(self.alloc, Reason::NoLockFolder, LOCK_FOLDER.as_bytes())),
+        }
+    }
+
     /// The length of the regular file at a path, or None if there is none.
     pub fn length_of(&mut self, path: &[u8]) -> Result<Option<u64>, HostFault> {
         self.take_lock()?;
@@ -181,7 +190,7 @@ impl<'a, R: Host> Root<'a, R> {
     /// Makes an empty file at a path, which stays open, with the folders on the way to it. Folders
     /// without files are removed; anything else there is kept, and is a fault.
     pub fn begin(&mut self, path: &[u8]) -> Result<(), HostFault> {
-        self.take_lock()?;
+        self.take_lock_to_write()?;
         self.seen = None;
         self.folders.make_room(self.rt, path)?;
         self.folders.note_way(self.rt, path)?;
@@ -219,7 +228,7 @@ impl<'a, R: Host> Root<'a, R> {
     /// Appends a piece to the file at a path. If that fails, the written beginning of the piece is
     /// cut off again.
     pub fn add(&mut self, path: &[u8], piece: &[u8]) -> Result<(), HostFault> {
-        self.take_lock()?;
+        self.take_lock_to_write()?;
         let writer = self.open_to_write(path)?;
         let added = writer.add(piece);
         if added.is_err() && !writer.cut_back() {
@@ -230,7 +239,7 @@ impl<'a, R: Host> Root<'a, R> {
 
     /// Lets the host write the file at a path through, and closes it.
     pub fn write_file_through(&mut self, path: &[u8]) -> Result<(), HostFault> {
-        self.take_lock()?;
+        self.take_lock_to_write()?;
         let written = self.open_to_write(path)?.write_through();
         self.has_lost = written.is_err();
         self.writer = None;
@@ -240,7 +249,7 @@ impl<'a, R: Host> Root<'a, R> {
     /// Renames the file of `from` to `to`, in one step of the host. Folders without files at `to`
     /// are removed. The file first gets mode and owner of the one that it replaces.
     pub fn move_file(&mut self, from: &[u8], to: &[u8]) -> Result<(), HostFault> {
-        self.take_lock()?;
+        self.take_lock_to_write()?;
         if from == to {
             return Err(HostFault::own(Reason::SameName));
         }
@@ -285,7 +294,7 @@ impl<'a, R: Host> Root<'a, R> {
     /// Asks whether a file can be renamed to a path later, from a source, or whether the path can
     /// be removed later, if there is no source.
     pub fn check_target(&mut self, path: &[u8], source: Option<&[u8]>) -> Result<(), HostFault> {
-        self.take_lock()?;
+        self.take_lock_to_write()?;
         match source {
             Some(source) => self
                 .targets
@@ -298,6 +307,7 @@ impl<'a, R: Host> Root<'a, R> {
     /// recovery these folders are removed even if the file is gone already: the run that was killed
     /// may not have removed them.
     pub fn remove_file_at(&mut self, path: &[u8]) -> Result<(), HostFault> {
+        self.take_lock_to_write()?;
         if self.length_of(path)?.is_none() {
             if self.recovers {
                 self.folders.prune(self.rt, path)?;
@@ -313,7 +323,7 @@ impl<'a, R: Host> Root<'a, R> {
 
     /// Syncs the folders whose names changed.
     pub fn write_names_through(&mut self) -> Result<(), HostFault> {
-        self.take_lock()?;
+        self.take_lock_to_write()?;
         if self.has_lost {
             return Err(HostFault::own(Reason::LostWrite));
         }
