@@ -10,6 +10,9 @@ use search_choices::{CandId, Sealed};
 use std::alloc::{AllocError, Global};
 use std::marker::Model;
 
+/// The number of clauses from which on no further rules are made clauses.
+const MOST_RULES: usize = 262_144;
+
 /// The clauses that are known. Contracts see them as the pool whose clauses they are.
 #[derive(Drop)]
 pub(crate) struct Known<'p> {
@@ -75,6 +78,11 @@ impl<'p> Known<'p> {
     /// How many clauses there are, without the causes of steps.
     pub(crate) fn len(&self) -> usize {
         self.clauses.len()
+    }
+
+    /// Whether further rules may be made clauses.
+    pub(crate) fn has_room(&self) -> bool {
+        self.clauses.len() < MOST_RULES
     }
 
     /// Adds a clause, whose index is the number of those before it.

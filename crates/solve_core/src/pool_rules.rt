@@ -18,6 +18,12 @@ use search_choices::{CandId, CandidateSet, Details, Sealed};
 use search_tables::NeedRef;
 use std::alloc::{AllocError, Global};
 
+/// The most options of a need that is made a clause. A need with more options rarely forces one.
+const MOST_OPTIONS: usize = 256;
+
+/// The most candidates that offer a name for which reasons are made: there is one for each two.
+const MOST_OFFERS: usize = 256;
+
 /// Adds the clauses of the entries of world, and the options of these to the candidates reached.
 pub(crate) fn add_world(
     alloc: Global,
@@ -47,6 +53,22 @@ fn add_entry(
         return Ok(());
     }
     let clause = need_clause(alloc, known.pool(), dep, None)?;
+    add_need(known, clause, reached)
+}
+
+// Adds the clause of a need, unless there are too many options, and its options to the candidates
+// reached.
+fn add_need(
+    known: &mut Known<'_>,
+    clause: Clause,
+    reached: &mut CandidateSet,
+) -> Result<(), AllocError>
+    requires { IsClause known.old clause }
+    ensures { known.new ≡ known.old }
+{
+    if clause.options().len() > MOST_OPTIONS {
+        return Ok(());
+    }
     reached.add_all(clause.options())?;
     known.push(clause)
 }
@@ -89,8 +111,7 @@ fn add_dependency(
         return add_exclusions(alloc, known, id, pool.offers(dep.name));
     }
     let clause = need_clause(alloc, pool, dep, Some(id))?;
-    reached.add_all(clause.options())?;
-    known.push(clause)
+    add_need(known, clause, reached)
 }
 
 // The clause of a need that a candidate raises, or world.
@@ -150,7 +171,8 @@ fn add_provided(
     Ok(())
 }
 
-// Adds a reason for each of some candidates that a candidate excludes.
+// Adds a reason for each of some candidates that a candidate excludes, unless there are too many of
+// them or of clauses.
 fn add_exclusions(
     alloc: Global,
     known: &mut Known<'_>,
@@ -159,6 +181,9 @@ fn add_exclusions(
 ) -> Result<(), AllocError>
     ensures { known.new ≡ known.old }
 {
+    if others.len() > MOST_OFFERS || !known.has_room() {
+        return Ok(());
+    }
     for other in others {
         add_exclusion(alloc, known, id, *other)?;
     }

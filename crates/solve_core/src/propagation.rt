@@ -22,6 +22,10 @@ const MOST_LEARNT: usize = 4096;
 /// The most members of a learnt clause.
 const MOST_MEMBERS: usize = 64;
 
+/// The most members and options of a clause that steps follow from. Resolution of longer clauses
+/// takes long, and rarely helps.
+const MOST_LITERALS: usize = 512;
+
 /// The state of propagation. No contract mentions it: what it names is checked before it is used.
 #[derive(Drop)]
 pub(crate) struct Propagation {
@@ -266,7 +270,8 @@ impl Propagation {
         }
     }
 
-    // The clause at an index without the options that are ruled out, by resolution.
+    // The clause at an index without the options that are ruled out, by resolution; None if it gets
+    // too long.
     fn without_options(&self, index: usize, known: &Known<'_>) -> Result<Option<Clause>, AllocError>
         ensures { IfOk result (λ found. IfSome found (λ clause. IsClause known.now clause)) }
     {
@@ -275,6 +280,9 @@ impl Propagation {
         };
         let mut clause = whole.copy(self.alloc)?;
         for option in whole.options() {
+            if clause.size() > MOST_LITERALS {
+                return Ok(None);
+            }
             clause = self.without_option(clause, *option, known)?;
         }
         Ok(Some(clause))
@@ -332,7 +340,8 @@ impl Propagation {
     }
 
     // A clause without members that were forced, by resolution with the causes of these, the latest
-    // first. It ends early, if `until_alone`, once the latest level has one member.
+    // first. It ends early once the clause is too long, or, if `until_alone`, once the latest level
+    // has one member.
     fn resolved(
         &self,
         clause: Clause,
@@ -346,6 +355,9 @@ impl Propagation {
         let mut left = known.pool().len();
         while left > 0 {
             left -= 1;
+            if clause.size() > MOST_LITERALS {
+                return Ok(clause);
+            }
             if until_alone && self.trail.is_last_alone(clause.members()) {
                 return Ok(clause);
             }
@@ -371,6 +383,9 @@ fn add_rules(alloc: Global, known: &mut Known<'_>) -> Result<(), AllocError>
         let Some(id) = reached.as_slice().get(i).copied() else {
             return Ok(());
         };
+        if !known.has_room() {
+            return Ok(());
+        }
         add_candidate(alloc, known, id, &mut reached)?;
     }
     Ok(())
