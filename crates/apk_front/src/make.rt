@@ -151,9 +151,10 @@ fn index_line(alloc: Global, count: usize) -> Result<Text, AllocError>
     Text::of(alloc, line.as_bytes())
 }
 
-// Writes the container that was made, or refuses. The clauses are those of `mkpkg`, and three more.
-// `done` and `cut`: if a fault stopped the making, nothing is judged and nothing is written.
-// `lost`: an I/O error of the tree is not reported as out of memory.
+// Writes the container that was made, or refuses. The clauses are those of `mkpkg`. Its `counts` are
+// `goes_on`, `disk`, `kept` and `memory` here, since an I/O error may also be that of the making.
+// Three more: if a fault stopped the making, nothing is judged (`done`) and nothing is written
+// (`cut`). An I/O error of the tree is not reported as out of memory (`lost`).
 fn finish<T: Tree>(
     alloc: Global,
     command: &Command,
