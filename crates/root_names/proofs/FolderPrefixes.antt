@@ -1,7 +1,8 @@
 -- A path up to its last slash, byte by byte.
-use Rattle.std.proofs.Common.{◌≡◌, ℕ, zero, suc, ◌+◌, ◌<◌, ◌≤◌, Bool, true, false, ◌||◌, ◌==◌, ◌≢◌, inl, inr, if◌then◌else◌, get_or, List, [], ◌∷◌, ◌++◌, length, take, refl, sym, ap, ◌∙◌, arith}
+use Rattle.std.proofs.Common.{◌≡◌, ℕ, ◌+◌, ◌<◌, Bool, true, false, ◌||◌, ◌==◌, ◌≢◌, inl, inr, if◌then◌else◌, get_or, List, [], ◌∷◌, ◌++◌, length, take, refl, sym, ap, ◌∙◌}
 use Rattle.std.proofs.lemmas.Bool.Decides.{eqb_tells}
-use Rattle.change_outcome.specs.PackageFiles.{folder_prefix_of, has_slash}
+use Rattle.std.proofs.lemmas.List.{take_more}
+use Rattle.root_names.specs.PackagePath.{folder_prefix_of, has_slash}
 
 -- with one byte more
 abbrev pub prefix_with : List ℕ → ℕ → Bool → List ℕ
@@ -42,22 +43,15 @@ one_after (x ∷ bytes) b =
     go true = some (has_slash (x ∷ bytes))
     go false = none (has_slash (x ∷ bytes))
 
-take_one_more : (bytes : List ℕ) (i d : ℕ) → i < length bytes → take (i + 1) bytes ≡ take i bytes ++ get_or bytes i d ∷ []
-take_one_more [] i d lt = absurd (omega arith)
-take_one_more (x ∷ bytes) zero d lt = refl
-take_one_more (x ∷ bytes) (suc i) d lt =
-    let next : suc i + 1 ≡ suc (i + 1) = omega arith in
-    ap (λ n. take n (x ∷ bytes)) next ∙ ap (λ z. x ∷ z) (take_one_more bytes i d (omega arith))
-
 prefix_at : (bytes : List ℕ) (i d : ℕ) (t : Bool) → i < length bytes → (get_or bytes i d == 47) ≡ t → folder_prefix_of (take (i + 1) bytes) ≡ prefix_with (take i bytes) (get_or bytes i d) t
 prefix_at bytes i d t lt is =
-    ap folder_prefix_of (take_one_more bytes i d lt)
+    ap folder_prefix_of (take_more bytes i d lt)
     ∙ (one_after (take i bytes) (get_or bytes i d) ∙ ap (prefix_with (take i bytes) (get_or bytes i d)) is)
 
 -- up to a slash it is all
 pub prefix_at_slash : (bytes : List ℕ) (i d : ℕ) → i < length bytes → get_or bytes i d ≡ 47 → folder_prefix_of (take (i + 1) bytes) ≡ take (i + 1) bytes
 prefix_at_slash bytes i d lt is =
-    prefix_at bytes i d true lt (ap (λ b. b == 47) is) ∙ sym (take_one_more bytes i d lt)
+    prefix_at bytes i d true lt (ap (λ b. b == 47) is) ∙ sym (take_more bytes i d lt)
 
 -- another byte makes it no longer
 pub prefix_at_other : (bytes : List ℕ) (i d : ℕ) → i < length bytes → get_or bytes i d ≢ 47 → folder_prefix_of (take (i + 1) bytes) ≡ folder_prefix_of (take i bytes)

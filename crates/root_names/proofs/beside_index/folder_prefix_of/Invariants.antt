@@ -1,6 +1,6 @@
 use Rattle.std.proofs.Common.{◌≡◌, ◌≤◌, take}
-use Rattle.change_outcome.specs.PackageFiles.{folder_prefix_of}
-use Rattle.added_packages.proofs.path.folder_prefix_of.Given as goal
+use Rattle.root_names.specs.PackagePath.{folder_prefix_of}
+use Rattle.root_names.proofs.beside_index.folder_prefix_of.Given as goal
 
 abbrev pub invariant-loop-i : goal.invariant-loop-i
 invariant-loop-i l = record {

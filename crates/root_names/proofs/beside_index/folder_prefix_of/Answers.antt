@@ -1,8 +1,7 @@
-use Rattle.std.proofs.Common.{◌≡◌, ◌≤◌, ◌+◌, ◌∙◌, take, ap, sym, arith}
-use Rattle.change_outcome.specs.PackageFiles.{folder_prefix_of}
-use Rattle.added_packages.proofs.Prefixes.{prefix_at_other, prefix_at_slash}
-use Rattle.added_packages.proofs.path.folder_prefix_of.Goals as goal
-use Rattle.added_packages.proofs.path.folder_prefix_of.Goals.{then-byte-eq47, else-byte-eq47}
+use Rattle.std.proofs.Common.{◌∙◌, take, ap, sym, arith}
+use Rattle.root_names.proofs.FolderPrefixes.{prefix_at_other, prefix_at_slash}
+use Rattle.root_names.proofs.beside_index.folder_prefix_of.Goals as goal
+use Rattle.root_names.proofs.beside_index.folder_prefix_of.Goals.{then-byte-eq47, else-byte-eq47}
 
 pub loop-i-preserved : goal.loop-i-preserved
 loop-i-preserved c =
