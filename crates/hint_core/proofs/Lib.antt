@@ -3,5 +3,4 @@ pub mod LinesFound
 pub mod So
 pub mod WarningSteps
 pub mod Mixed
-pub mod FolderFront
 pub mod PackageSteps

@@ -11,9 +11,10 @@ use Rattle.base_core.specs.Tree.{TreeState, files_of}
 use Rattle.base_core.specs.declared.tree.TreeFault.{TreeFault}
 use Rattle.dep_core.specs.Repositories.{Repository, repositories_of}
 use Rattle.report_core.specs.declared.refusal.Refusal.{Refusal}
+use Rattle.root_names.specs.PackagePath.{if_name, package_path}
 use Rattle.root_names.specs.RootNames.{repositories_name}
 use Rattle.words_core.proofs.OneMore.{left_at}
-use Rattle.hint_core.specs.PackageFile.{ExplainsByText, ExplainsPackage, as_name, only_file, package_file_beside, package_file_line, package_file_lines}
+use Rattle.hint_core.specs.PackageFile.{ExplainsByText, ExplainsPackage, only_file, package_file_line, package_file_lines}
 use Rattle.hint_core.specs.Warnings.{text_of_found}
 
 -- the repository at an index, of which the path is known
@@ -39,9 +40,9 @@ line_more name version rs i path lines now e so h =
     ∙ ap (λ (l : List Repository). lines ++ package_file_lines name version l) (sym (left_at rs i one.repository one.at)) ∙ h
 
 -- there is one repository, whose index has this path
-pub only_one : (name version path : List ℕ) (rs : List Repository) → length rs ≡ 1 → option_map (λ (r : Repository). r.path) (slice_get rs 0) ≡ Some path → only_file name version rs ≡ as_name (package_file_beside path name version)
+pub only_one : (name version path : List ℕ) (rs : List Repository) → length rs ≡ 1 → option_map (λ (r : Repository). r.path) (slice_get rs 0) ≡ Some path → only_file name version rs ≡ if_name (package_path path name version)
 only_one name version path [] long e = absurd (omega (arith, long))
-only_one name version path (r ∷ []) long e = ap (λ (p : List ℕ). as_name (package_file_beside p name version)) (same_Some _ _ e)
+only_one name version path (r ∷ []) long e = ap (λ (p : List ℕ). if_name (package_path p name version)) (same_Some _ _ e)
 only_one name version path (r ∷ (q ∷ rs)) long e = absurd (omega (arith, long))
 
 -- there is not one repository

@@ -9,6 +9,7 @@ use Rattle.dep_core.specs.Repositories.{Repository, repositories_of}
 use Rattle.report_core.specs.Reports.{name_version}
 use Rattle.report_core.specs.declared.refusal.Refusal.{Refusal}
 use Rattle.report_core.specs.declared.refusal.Refusal.TheVariants.{PackageBad, PackageDiffers, PackageMissing}
+use Rattle.root_names.specs.PackagePath.{if_name, package_path}
 use Rattle.root_names.specs.RootNames.{repositories_name}
 use Rattle.words_core.specs.Grammar.{command_of}
 use Rattle.words_core.specs.Usage.{texts_joined}
@@ -19,28 +20,10 @@ use Rattle.hint_core.specs.Warnings.{text_of_found}
 
 -- ---- its path
 
--- whether a path has a folder above it: a slash (47)
-abbrev pub has_folder : List ℕ → Bool
-has_folder path = list_any (λ b. b == 47) path
-
--- a path up to its last slash, with it
-abbrev pub folder_front : List ℕ → List ℕ
-folder_front [] = []
-folder_front (b ∷ path) = if has_folder (b ∷ path) then b ∷ folder_front path else []
-
--- the path of a package's file beside an index: NAME-VERSION.apk in the same folder
-abbrev pub package_file_beside : List ℕ → List ℕ → List ℕ → List ℕ
-package_file_beside index name version =
-    folder_front index ++ name_version name version ++ codes ".apk"
-
--- a path, if it is a name: one of more than 1,024 bytes is none
-abbrev pub as_name : List ℕ → Option (List ℕ)
-as_name path = if is_name path then Some path else None
-
 -- the name of the package's file, if there is one repository
 abbrev pub only_file : List ℕ → List ℕ → List Repository → Option (List ℕ)
 only_file name version [] = None
-only_file name version (repository ∷ []) = as_name (package_file_beside repository.path name version)
+only_file name version (repository ∷ []) = if_name (package_path repository.path name version)
 only_file name version (repository ∷ (other ∷ repositories)) = None
 
 -- ---- lines
@@ -50,7 +33,7 @@ abbrev pub package_file_line : List ℕ → List ℕ → List ℕ → List ℕ
 package_file_line name version index = texts_joined
     (codes "apk: beside " ∷ (printed_text index ∷ (codes " the file of "
     ∷ (printed_text (name_version name version) ∷ (codes " is "
-    ∷ (printed_bytes (package_file_beside index name version) ∷ (codes "\n" ∷ [])))))))
+    ∷ (printed_bytes (package_path index name version) ∷ (codes "\n" ∷ [])))))))
 
 -- such a line for the index of each repository
 abbrev pub package_file_lines : List ℕ → List ℕ → List Repository → List ℕ

@@ -6,7 +6,8 @@ ghost use Rattle.base_core.specs.Read.{OnlyReads};
 ghost use Rattle.base_core.specs.Sink.{sink_change};
 ghost use Rattle.dep_core.specs.Repositories.{repositories_of};
 ghost use Rattle.report_core.specs.Reports.{name_version};
-ghost use Rattle.hint_core.specs.PackageFile.{ExplainsBeside, ExplainsByText, ExplainsIfPackage, ExplainsPackage, ExplainsPackageFile, as_name, folder_front, only_file, package_file_beside, package_file_line, package_file_lines};
+ghost use Rattle.root_names.specs.PackagePath.{package_path};
+ghost use Rattle.hint_core.specs.PackageFile.{ExplainsBeside, ExplainsByText, ExplainsIfPackage, ExplainsPackage, ExplainsPackageFile, only_file, package_file_line, package_file_lines};
 ghost use Rattle.hint_core.specs.Lines.{printed_bytes, printed_text};
 ghost use Rattle.hint_core.specs.Told.{Tells};
 
@@ -17,7 +18,7 @@ use crate::warning::{say, text_of_found};
 use base_core::{Name, Sink, Tree, TreeFault, Words, consecutive_reads_compose, read_all};
 use dep_core::{Repos, ReposFault};
 use report_core::Refusal;
-use root_names::repositories_name;
+use root_names::{package_file_beside, package_path, repositories_name};
 use std::alloc::{AllocError, Global};
 
 /// Writes where the file of a package is that a refusal names: the path beside the index of each
@@ -172,20 +173,7 @@ fn only_file(
     if repositories.len() != 1 {
         return Ok(None);
     }
-    file_beside(alloc, repositories.path(0), name, version)
-}
-
-// The name of a package's file beside an index, if its path is a name.
-fn file_beside(
-    alloc: Global,
-    index: &Name,
-    name: &[u8],
-    version: &[u8],
-) -> Result<Option<Name>, AllocError>
-    ensures { IfOk result (λ file. file ≡ as_name (package_file_beside index.now name.now version.now)) }
-{
-    let path = package_file_beside(alloc, index.as_bytes(), name, version)?;
-    Name::read(alloc, &path)
+    package_file_beside(alloc, repositories.path(0), name, version)
 }
 
 // The lines that say where the package's file is.
@@ -252,40 +240,10 @@ fn shown_path(
     version: &[u8],
 ) -> Result<Vec<u8>, AllocError>
     ensures { IfOk result (λ text.
-        text.items ≡ printed_bytes (package_file_beside index.now name.now version.now)) }
+        text.items ≡ printed_bytes (package_path index.now name.now version.now)) }
 {
-    let path = package_file_beside(alloc, index.as_bytes(), name, version)?;
+    let path = package_path(alloc, index.as_bytes(), name, version)?;
     let mut text = Vec::new(alloc);
     push_printed(&mut text, &path)?;
     Ok(text)
-}
-
-// The path of a package's file beside an index: the index's folder, and NAME-VERSION.apk.
-fn package_file_beside(
-    alloc: Global,
-    index: &[u8],
-    name: &[u8],
-    version: &[u8],
-) -> Result<Vec<u8>, AllocError>
-    ensures { IfOk result (λ path. path.items ≡ package_file_beside index.now name.now version.now) }
-{
-    let mut path = Vec::from_slice(alloc, folder_front(index))?;
-    path.extend_from_slice(name)?;
-    path.extend_from_slice(b"-")?;
-    path.extend_from_slice(version)?;
-    path.extend_from_slice(b".apk")?;
-    Ok(path)
-}
-
-// A path up to its last `/`, with that; nothing of a path without one.
-fn folder_front(path: &[u8]) -> &[u8]
-    ensures { result.now ≡ folder_front path.now }
-{
-    let mut end = 0;
-    for (i, byte) in path.iter().enumerate() {
-        if *byte == b'/' {
-            end = i + 1;
-        }
-    }
-    &path[..end]
 }

@@ -12,7 +12,7 @@ ghost use Rattle.report_core.specs.Texts.{digest_bytes, position_text, refusal_l
 
 use crate::refusal::Refusal;
 use crate::sentence::{Sentence, cause_pieces, sentence_of};
-use base_core::{Cause, Digest, Sink, SinkFault, write_all};
+use base_core::{Cause, Digest, Sink, SinkFault, Text, write_all};
 use itoa::Buffer;
 use std::alloc::{AllocError, Global};
 use std::marker::Model;
@@ -120,19 +120,12 @@ fn write_hex<S: Sink>(bytes: &[u8], sink: &mut S) -> Result<(), SinkFault>
         (sink_change S.bytes S.counts sink.old sink.new) result }
 {
     for byte in bytes {
-        write_all(sink, &hex_digits(*byte))?;
+        let mut digits = [0; 2];
+        // A byte has two digits, which fit.
+        let _ = hex::encode_to_slice([*byte], &mut digits);
+        write_all(sink, &digits)?;
     }
     Ok(())
-}
-
-/// The two hexadecimal digits of a byte.
-fn hex_digits(byte: u8) -> [u8; 2]
-    ensures { result ≡ encode_lower (byte ∷ []) }
-{
-    let mut digits = [0; 2];
-    // A byte has two digits, which fit.
-    let _ = hex::encode_to_slice([byte], &mut digits);
-    digits
 }
 
 // The bytes of a digest, of which the digits are printed.
@@ -193,5 +186,12 @@ impl Report {
         ensures { result.now ≡ self.now }
     {
         &self.bytes
+    }
+
+    /// The report as a text, without a copy.
+    pub fn into_text(self) -> Text
+        ensures { result ≡ self }
+    {
+        Text::from_vec(self.bytes)
     }
 }

@@ -1,1 +1,3 @@
+mod FolderPrefixes
 pub mod RootNamesAreNames
+mod Worked

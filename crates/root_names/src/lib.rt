@@ -1,14 +1,18 @@
 //! The names of the files of a root that the package keeper reads and writes: its database, the
 //! text database of version 2, world and the list of repositories. `RootNames` of `specs/` has
-//! them.
+//! them. `PackagePath` has the path of a package's file, beside the index that has the package.
 //!
-//! The rule is in `docs/apk.8.md`, "FILES".
+//! The rules are in `docs/apk.8.md`, "FILES", and in `docs/commands.md`, "`add` and `del`", **What
+//! is read**.
 #![tactic(auto)]
+
+mod beside_index;
 
 ghost use Rattle.root_names.specs.RootNames.{database_name, repositories_name, text_database_name, world_name};
 ghost use Rattle.std.specs.Prelude.{◌≡◌, IfOk};
 
 use base_core::Name;
+pub use beside_index::{package_file_beside, package_path};
 use std::alloc::{AllocError, Global};
 
 /// The bytes of the name of the installed database.

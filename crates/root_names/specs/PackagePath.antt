@@ -1,0 +1,26 @@
+-- The path of a package's file, beside the index that has the package. The rule is in
+-- `docs/commands.md`, "`add` and `del`", what is read.
+use Rattle.std.specs.Prelude.{ℕ, ◌==◌, Bool, if◌then◌else◌, List, [], ◌∷◌, ◌++◌, codes, Option, Some, None}
+use Rattle.std.specs.List.{list_any}
+use Rattle.base_core.specs.Name.{is_name}
+
+-- whether a path has a folder above it: a slash (47)
+abbrev pub has_slash : List ℕ → Bool
+has_slash path = list_any (λ b. b == 47) path
+
+-- the folder of a path: its bytes up to the last slash, with it
+abbrev pub folder_prefix_of : List ℕ → List ℕ
+folder_prefix_of [] = []
+folder_prefix_of (b ∷ bytes) = if has_slash (b ∷ bytes) then b ∷ folder_prefix_of bytes else []
+
+-- the last part of that path: NAME-VERSION.apk
+abbrev pub package_file_name : List ℕ → List ℕ → List ℕ
+package_file_name name version = (name ++ codes "-" ++ version) ++ codes ".apk"
+
+-- the path of a package's file: NAME-VERSION.apk, beside the index
+abbrev pub package_path : List ℕ → List ℕ → List ℕ → List ℕ
+package_path index name version = folder_prefix_of index ++ package_file_name name version
+
+-- a path, if it is a name: one of more than 1,024 bytes, for example, is none, and has no file
+abbrev pub if_name : List ℕ → Option (List ℕ)
+if_name path = if is_name path then Some path else None

@@ -1,0 +1,51 @@
+//! The path of a package's file: `NAME-VERSION.apk`, beside the index that has the package.
+//! The rule is in `docs/commands.md`, "`add` and `del`", **What is read**; which bytes are a name,
+//! in "Words" there.
+ghost use Rattle.root_names.specs.PackagePath.{folder_prefix_of, if_name, package_path};
+ghost use Rattle.std.specs.Prelude.{◌≡◌, IfOk};
+
+use base_core::Name;
+use std::alloc::{AllocError, Global};
+
+/// The name of the file of a package beside an index, or None if its path is no name.
+pub fn package_file_beside(
+    alloc: Global,
+    index: &Name,
+    name: &[u8],
+    version: &[u8],
+) -> Result<Option<Name>, AllocError>
+    ensures { IfOk result (λ file. file ≡ if_name (package_path index.now name.now version.now)) }
+{
+    let path = package_path(alloc, index.as_bytes(), name, version)?;
+    Name::read(alloc, &path)
+}
+
+/// The path of the file of a package beside an index: the index's folder, and `NAME-VERSION.apk`.
+pub fn package_path(
+    alloc: Global,
+    index: &[u8],
+    name: &[u8],
+    version: &[u8],
+) -> Result<Vec<u8>, AllocError>
+    ensures { IfOk result (λ path. path.items ≡ package_path index.now name.now version.now) }
+{
+    let mut path = Vec::from_slice(alloc, folder_prefix_of(index))?;
+    path.extend_from_slice(name)?;
+    path.extend_from_slice(b"-")?;
+    path.extend_from_slice(version)?;
+    path.extend_from_slice(b".apk")?;
+    Ok(path)
+}
+
+/// A path up to its last `/`, with that; nothing of a path without one.
+fn folder_prefix_of(path: &[u8]) -> &[u8]
+    ensures { result.now ≡ folder_prefix_of path.now }
+{
+    let mut end = 0;
+    for (i, byte) in path.iter().enumerate() {
+        if *byte == b'/' {
+            end = i + 1;
+        }
+    }
+    &path[..end]
+}
