@@ -103,12 +103,12 @@ field_line place table name = texts_joined
 -- the line of a schema
 abbrev pub schema_hint_line : Which → List ℕ
 schema_hint_line table = texts_joined
-    (codes "apk: the schema is the file's kind: " ∷ (table_text table ∷ (codes "\n" ∷ [])))
+    (codes "apk: the schema says what the file is: " ∷ (table_text table ∷ (codes "\n" ∷ [])))
 
 -- the line of a schema that no table has
 abbrev pub unknown_schema_line : List ℕ
 unknown_schema_line = texts_joined
-    (codes "apk: the schema is the file's kind: none that apk reads\n" ∷ [])
+    (codes "apk: the schema says what the file is: nothing that apk reads\n" ∷ [])
 
 -- the line that says how one of two packages gets a path that both list
 abbrev pub shared_path_line : List ℕ

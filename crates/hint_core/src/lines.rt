@@ -53,14 +53,14 @@ fn push_hint(alloc: Global, lines: &mut Vec<u8>, hint: &Hint) -> Result<(), Allo
         Hint::Schema { table } => push_texts(
             lines,
             &[
-                b"apk: the schema is the file's kind: ",
+                b"apk: the schema says what the file is: ",
                 table_text(*table),
                 b"\n",
             ],
         ),
         Hint::UnknownSchema => push_texts(
             lines,
-            &[b"apk: the schema is the file's kind: none that apk reads\n"],
+            &[b"apk: the schema says what the file is: nothing that apk reads\n"],
         ),
         Hint::Nothing => Ok(()),
     }
