@@ -1,6 +1,6 @@
 -- The lines of a package's file, repository by repository; and what is explained by the file that names
 -- the repositories.
-use Rattle.std.proofs.Common.{◌≡◌, ◌≤◌, ◌∙◌, ◌+◌, ℕ, zero, suc, List, [], ◌∷◌, ◌++◌, length, take, Option, Some, Result, Ok, Err, refl, sym, subst, ap, append_assoc, append-nil}
+use Rattle.std.proofs.Common.{◌≡◌, ◌≤◌, ◌∙◌, ◌+◌, ℕ, zero, suc, List, [], ◌∷◌, ◌++◌, length, take, Option, Some, Result, Ok, Err, refl, sym, subst, ap, arith, append_assoc, append-nil}
 use Rattle.std.specs.Prelude.{IfOk, Vec}
 use Rattle.std.specs.List.{slice_get}
 use Rattle.std.specs.Option.{option_map}
@@ -17,7 +17,7 @@ use Rattle.hint_core.specs.PackageFile.{ExplainsBeside, ExplainsByText, Explains
 use Rattle.hint_core.specs.Warnings.{text_of_found}
 
 -- the lines of one more repository
-each_more : (name version : List ℕ) (refusal : Refusal) (history : List TreeState) (rs : List Repository) (i : ℕ) (path before one after : List ℕ) → option_map (λ (r : Repository). r.path) (slice_get rs i) ≡ Some path → ExplainsEach name version refusal history (take i rs) before → ExplainsBeside name version refusal history path one → after ≡ before ++ one → ExplainsEach name version refusal history (take (i + 1) rs) after
+each_more : (name version : List ℕ) (refusal : Refusal) (history : List TreeState) (rs : List Repository) (i : ℕ) (path before one after : List ℕ) → option_map (λ (r : Repository). r.path) (slice_get rs i) ≡ Some path → ExplainsEach name version refusal history (take i rs) before → ExplainsBeside name version refusal history path one → after ≡ before ++ one → ExplainsEach name version refusal history (take (suc i) rs) after
 each_more name version refusal history [] i path before one after e h b so = absurd (none-some path e)
 each_more name version refusal history (r ∷ rs) zero path before one after e h b so = (
   one,
@@ -37,7 +37,9 @@ each_more name version refusal history (r ∷ rs) (suc i) path before one after 
 -- the same, of a tree that was read since
 pub each_more_read : (name version : List ℕ) (refusal : Refusal) (old mid : List TreeState) (rs : List Repository) (i : ℕ) (path before one after : List ℕ) → mid ≡ old → option_map (λ (r : Repository). r.path) (slice_get rs i) ≡ Some path → ExplainsEach name version refusal old (take i rs) before → ExplainsBeside name version refusal mid path one → after ≡ before ++ one → ExplainsEach name version refusal old (take (i + 1) rs) after
 each_more_read name version refusal old mid rs i path before one after same e h b so =
-    each_more name version refusal old rs i path before one after e h (subst (λ (history : List TreeState). ExplainsBeside name version refusal history path one) same b) so
+    let next : suc i ≡ i + 1 = omega arith in
+    subst (λ (k : ℕ). ExplainsEach name version refusal old (take k rs) after) next
+    (each_more name version refusal old rs i path before one after e h (subst (λ (history : List TreeState). ExplainsBeside name version refusal history path one) same b) so)
 
 -- the lines of all repositories
 pub each_of_all : (name version : List ℕ) (refusal : Refusal) (history : List TreeState) (rs : List Repository) (i : ℕ) (lines : List ℕ) → length rs ≤ i → ExplainsEach name version refusal history (take i rs) lines → ExplainsEach name version refusal history rs lines

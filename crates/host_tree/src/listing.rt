@@ -12,11 +12,14 @@ use host_root::{Found, Host, HostFault, Reason, Root, path_text};
 use std::alloc::{AllocError, Global};
 use std::fs;
 
-/// The names of all regular files below a folder, at any depth, in byte order, each once.
+/// The names of all regular files below a folder, at any depth, in byte order, each once. They tell
+/// neither which files may be executed nor which folders are empty: `has_untold` is set if there is
+/// one.
 pub fn list_below<R: Host>(
     root: &mut Root<'_, R>,
     alloc: Global,
     folder: &Name,
+    has_untold: &mut bool,
 ) -> Result<Names, HostFault>
     ensures { IfOk result (AreNamesBelow folder.now) }
 {
@@ -35,7 +38,7 @@ pub fn list_below<R: Host>(
             break;
         };
         root.keep_known(next.as_bytes())?;
-        walk.visit(root, folder, &next)?;
+        walk.visit(root, folder, &next, has_untold)?;
     }
     Ok(walk.into_names()?)
 }
@@ -57,13 +60,19 @@ impl Walk {
         root: &mut Root<'_, R>,
         top: &Name,
         folder: &Name,
+        has_untold: &mut bool,
     ) -> Result<(), HostFault>
         requires { All (IsFolderOf top.now) self.old.files.items }
         ensures { All (IsFolderOf top.now) self.new.files.items }
     {
+        let mut is_empty = true;
         for entry in fs::read_dir(root.runtime(), path_text(folder.as_bytes())?)? {
             let entry = entry?;
-            self.meet(root, top, entry.path().as_str().as_bytes())?;
+            is_empty = false;
+            self.meet(root, top, entry.path().as_str().as_bytes(), has_untold)?;
+        }
+        if is_empty {
+            *has_untold = true;
         }
         Ok(())
     }
@@ -75,6 +84,7 @@ impl Walk {
         root: &mut Root<'_, R>,
         top: &Name,
         path: &[u8],
+        has_untold: &mut bool,
     ) -> Result<(), HostFault>
         requires { All (IsFolderOf top.now) self.old.files.items }
         ensures { All (IsFolderOf top.now) self.new.files.items }
@@ -87,7 +97,12 @@ impl Walk {
         }
         match root.find(path)? {
             Found::Folder => Ok(keep(&mut self.folders, name)?),
-            Found::File(_) => Ok(keep(&mut self.files, name)?),
+            Found::File(file) => {
+                if file.rights.may_execute() {
+                    *has_untold = true;
+                }
+                Ok(keep(&mut self.files, name)?)
+            }
             Found::Nothing => Ok(()),
         }
     }

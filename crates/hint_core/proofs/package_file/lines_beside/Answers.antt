@@ -9,6 +9,6 @@ returns-clause-lines g c =
       c.in_ok-contents.contents.items,
       subst (λ (file : Option (List ℕ)). ExplainsMixedUp file (mixed_up c.args.refusal.now) (g.T.Tree.history c.args.tree.now) c.in_ok-contents.contents.items) c.in_ok-file.ensures c.in_ok-contents.ensures.lines,
       c.in_ok-extend_from_slice.ensures.items
-          ∙ (ap (λ (l : List ℕ). l ++ c.deref.result.now) (c.in_ok-push_package_file_line.ensures ∙ ap (λ (l : List ℕ). l ++ line) c.new.ensures.items)
+          ∙ (ap (λ (l : List ℕ). l ++ c.deref.result.now) (c.in_ok-push_package_file_line.ensures ∙ ap (λ (l : List ℕ). l ++ line) c.new-lines.ensures.items)
           ∙ ap (λ (l : List ℕ). line ++ l) c.deref.ensures.value),
     )
