@@ -381,7 +381,7 @@ fn write_named<O: BlobOut>(
 }
 
 /// Whether a value of the kind is on the line of its field's name, and not below it.
-fn has_one_line(kind: Kind) -> bool
+pub fn has_one_line(kind: Kind) -> bool
     ensures { result ≡ has_one_line kind }
 {
     match kind {

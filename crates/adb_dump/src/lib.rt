@@ -32,7 +32,7 @@ pub use adb_schema::{
     Field, FieldName, IDB_WORD, INDEX_WORD, INTENT_WORD, Kind, PACKAGE_WORD, ReadFault, Shaped,
     Which, fields_of, is_reserved, schema_word, shape, sound_containers_hold_sound_values,
 };
-pub use block::dump;
+pub use block::{dump, has_one_line};
 pub use laws::{
     lines_of_values_are_read_back, only_lines_of_values_are_read, texts_are_split_into_their_lines,
     values_found_in_bytes_are_of_their_table, values_of_one_text_are_equal,

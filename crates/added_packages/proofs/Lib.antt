@@ -1,4 +1,3 @@
-mod Prefixes
 mod ToldRefusals
 mod NameAnswers
 mod PackageAnswers

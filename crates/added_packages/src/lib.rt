@@ -13,7 +13,6 @@
 
 mod arrivals;
 mod package;
-mod path;
 mod scripts;
 
 pub use arrivals::{

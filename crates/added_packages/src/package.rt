@@ -1,8 +1,8 @@
-//! The package of a candidate: its file is read and tested once, and compared with its index's
-//! entry.
-//! The rules are in `docs/commands.md`, "`add` and `del`", **What is refused**: the file of an
-//! added package is absent, fails a test, or has another id, name or version than its index says;
-//! the tests in `docs/formats.md`, "Tests of a container".
+//! The package of a candidate: its file, `NAME-VERSION.apk` beside the index that has it, is read
+//! and tested once, and compared with its index's entry.
+//! The rules are in `docs/commands.md`, "`add` and `del`", **What is read** and **What is
+//! refused**: the file of an added package is absent, fails a test, or has another id, name or
+//! version than its index says; the tests in `docs/formats.md`, "Tests of a container".
 
 ghost use Rattle.added_packages.specs.Arrivals.{IsPackageRead};
 ghost use Rattle.added_packages.specs.NameReads.{IsAnswerByRead, candidate_read, added_package_read, file_read};
@@ -10,7 +10,7 @@ ghost use Rattle.package_verifier.specs.Tested.{tested_id, tested_value};
 ghost use Rattle.added_packages.specs.Told.{IsRefusalReported};
 ghost use Rattle.base_core.specs.Read.{OnlyReads};
 ghost use Rattle.change_outcome.specs.change_inputs.Answers.{Agrees};
-ghost use Rattle.change_outcome.specs.PackageFiles.{AddedPackage, scripts_of_change, unless_different, unless_script};
+ghost use Rattle.change_outcome.specs.PackageFiles.{AddedPackage, package_file_of, scripts_of_change, unless_different, unless_script};
 ghost use Rattle.change_outcome.specs.package_changes.Changes.{selected_version};
 ghost use Rattle.change_outcome.specs.package_changes.Seen.{change_seen};
 ghost use Rattle.change_outcome.specs.candidate_core.Values.{candidate_value};
@@ -19,10 +19,9 @@ ghost use Rattle.std.specs.Prelude.{◌≡◌, true, IfOk};
 ghost use Rattle.package_verifier.specs.adb_schema.Views.{package_value};
 ghost use Rattle.report_core.specs.declared.refusal.Refusal.{Refusal as RefusalValue};
 
-use crate::path::package_file_of;
 use crate::scripts::test_scripts;
 use base_core::{Cause, Name, Text, Tree};
-use change_outcome::{Candidate, Change, Refused, is_same_id};
+use change_outcome::{Candidate, Change, Refused, is_same_id, package_file_beside};
 use dep_core::Repos;
 use package_verifier::{PackageRead, PackageView, TestedPackage, read_package};
 use report_core::Refusal;
@@ -90,6 +89,28 @@ fn read_candidate<T: Tree>(
         None => Err(missing(alloc, c)),
         Some(path) => read_beside(alloc, tree, c, &path),
     }
+}
+
+/// The name of a candidate's package file: NAME-VERSION.apk, beside the index of its repository.
+/// None if the candidate is of no repository, or that path is no name.
+fn package_file_of(
+    alloc: Global,
+    repositories: &Repos,
+    c: &Candidate<'_>,
+) -> Result<Option<Name>, AllocError>
+    ensures { IfOk result (λ path.
+        path ≡ package_file_of repositories.now (candidate_value c.now)) }
+{
+    let Some(number) = c.repo else {
+        return Ok(None);
+    };
+    // Repositories count from 1, and places in their list from 0.
+    let i = number.saturating_sub(1);
+    if i >= repositories.len() as u64 {
+        return Ok(None);
+    }
+    let index = repositories.path(i as usize);
+    package_file_beside(alloc, index, c.info.name(), c.info.version())
 }
 
 /// Reads the package of a candidate from the file of this name, and tests the file and whether it

@@ -1,7 +1,6 @@
 -- Where packages and databases are found.
 use Rattle.std.proofs.Common.{◌≡◌, ◌∙◌, ℕ, ◌+◌, Bool, true, false, List, [], ◌∷◌, ◌++◌, Option, Some, None, Result, Ok, Err, refl, ap, sym, arith}
-use Rattle.std.specs.Prelude.{◌-◌, ◌||◌, if◌then◌else◌, codes, slice_get}
-use Rattle.std.specs.List.{list_any}
+use Rattle.std.specs.Prelude.{◌-◌, ◌==◌, ◌||◌, if◌then◌else◌, codes, slice_get}
 use Rattle.change_outcome.specs.adb_fields.Repeated.{entries_at}
 use Rattle.installed_info.specs.adb_schema.Soundness.{payload_in, root_value}
 use Rattle.adb_view.specs.FieldIndexes.{IDB_PACKAGES}
@@ -11,28 +10,26 @@ use Rattle.base_core.specs.declared.cause.Cause.{Cause}
 use Rattle.installed_info.specs.candidate_core.Candidates.{Candidate}
 use Rattle.change_outcome.specs.change_inputs.Chains.{unless_cause}
 use Rattle.change_outcome.specs.change_inputs.Database.{Database, database_by, payload_database, root_database}
-use Rattle.change_outcome.specs.PackageFiles.{folder_prefix_of, has_slash, if_name, package_file_of, package_path, path_beside_index}
+use Rattle.change_outcome.specs.PackageFiles.{package_file_of, path_beside_index}
+use Rattle.change_outcome.specs.root_names.PackagePath.{folder_prefix_of, has_slash, if_name, package_path}
 use Rattle.dep_core.specs.Repositories.{Repository}
 use Rattle.change_outcome.specs.package_changes.Changes.{selected_version}
-use Rattle.change_outcome.specs.package_files.Folders.{is_slash}
 use Rattle.installed_info.specs.adb_schema.Soundness.{first_fault}
 use Rattle.report_core.specs.declared.refusal.Refusal.TheVariants.{DatabaseBad}
-use Rattle.report_core.specs.Reports.{name_version}
 use Rattle.change_outcome.specs.v2_core.Payload.{payload_of_text}
 use Rattle.change_outcome.specs.v2_core.declared.read.V2Fault.{V2Fault}
 use Rattle.change_outcome.specs.v2_core.declared.read.V2Fault.TheVariants.{Bad, Memory, TooLarge}
 use Rattle.answer_laws.specs.FoundFiles.{HasNoSlash, IsCandidateOfIndex, candidate_file_name}
-use Rattle.std.proofs.lemmas.List.{append_assoc}
 
 -- ---- the folder of an index
 
-no_prefix : (text : List ℕ) → list_any is_slash text ≡ false → folder_prefix_of text ≡ []
+no_prefix : (text : List ℕ) → HasNoSlash text → folder_prefix_of text ≡ []
 no_prefix [] none = refl
 no_prefix (b ∷ text) none = ap (λ (t : Bool). if t then b ∷ folder_prefix_of text else []) none
 
 slash_within : (folder index : List ℕ) → has_slash (folder ++ codes "/" ++ index) ≡ true
 slash_within [] index = refl
-slash_within (b ∷ folder) index = go (is_slash b) (slash_within folder index)
+slash_within (b ∷ folder) index = go (b == 47) (slash_within folder index)
   where
     go : (t : Bool) → has_slash (folder ++ codes "/" ++ index) ≡ true → (t || has_slash (folder ++ codes "/" ++ index)) ≡ true
     go true e = refl
@@ -66,15 +63,14 @@ pub below : (repositories : List Repository) (c : Candidate) (folder index : Lis
     → is_name (folder ++ codes "/" ++ candidate_file_name c) ≡ true → package_file_of repositories c ≡ Some (folder ++ codes "/" ++ candidate_file_name c)
 below repositories c folder index none of named =
     beside repositories c (folder ++ codes "/" ++ index) of
-    ∙ ap (λ (t : List ℕ). if_name (t ++ name_version c.name (selected_version c) ++ codes ".apk")) (prefix_is folder index none)
-    ∙ ap if_name (append_assoc (folder ++ codes "/") (name_version c.name (selected_version c)) (codes ".apk"))
+    ∙ ap (λ (t : List ℕ). if_name (t ++ candidate_file_name c)) (prefix_is folder index none)
     ∙ named_path (folder ++ codes "/" ++ candidate_file_name c) named
 
 pub top : (repositories : List Repository) (c : Candidate) (index : List ℕ) → HasNoSlash index → IsCandidateOfIndex repositories c index
     → is_name (candidate_file_name c) ≡ true → package_file_of repositories c ≡ Some (candidate_file_name c)
 top repositories c index none of named =
     beside repositories c index of
-    ∙ ap (λ (t : List ℕ). if_name (t ++ name_version c.name (selected_version c) ++ codes ".apk")) (no_prefix index none)
+    ∙ ap (λ (t : List ℕ). if_name (t ++ candidate_file_name c)) (no_prefix index none)
     ∙ named_path (candidate_file_name c) named
 
 -- ---- the two databases

@@ -1,16 +1,14 @@
 -- Where packages and databases are found. The rules are in `docs/commands.md`, "`add` and `del`", what
 -- is read. Serves the laws of `src/found.rt`.
-use Rattle.std.specs.Prelude.{◌≡◌, ◌+◌, ℕ, false, List, ◌++◌, Some, codes, slice_get}
-use Rattle.std.specs.List.{list_any}
+use Rattle.std.specs.Prelude.{◌≡◌, ◌+◌, ℕ, false, List, Some, slice_get}
 use Rattle.installed_info.specs.candidate_core.Candidates.{Candidate}
 use Rattle.dep_core.specs.Repositories.{Repository}
 use Rattle.change_outcome.specs.package_changes.Changes.{selected_version}
-use Rattle.change_outcome.specs.package_files.Folders.{is_slash}
-use Rattle.report_core.specs.Reports.{name_version}
+use Rattle.change_outcome.specs.root_names.PackagePath.{has_slash, package_file_name}
 
 -- the file name of a candidate's package
 abbrev pub candidate_file_name : Candidate → List ℕ
-candidate_file_name c = name_version c.name (selected_version c) ++ codes ".apk"
+candidate_file_name c = package_file_name c.name (selected_version c)
 
 -- a candidate is of the repository at a place, counted from 0, whose index has this path
 pub record IsCandidateOfIndex (repositories : List Repository) (c : Candidate) (path : List ℕ)
@@ -23,4 +21,4 @@ pub record IsCandidateOfIndex (repositories : List Repository) (c : Candidate) (
 
 -- a text has no `/`
 abbrev pub HasNoSlash : List ℕ → Type 0
-HasNoSlash text = list_any is_slash text ≡ false
+HasNoSlash text = has_slash text ≡ false

@@ -1,18 +1,11 @@
--- Rows worked by hand: where a package's file lies, and which folders a pattern matches.
+-- Examples: the folder of a path, and which folders a pattern matches.
 use Rattle.std.proofs.Common.{◌≡◌, refl, true, false, ℕ, List, [], ◌∷◌, codes}
 use Rattle.adb_view.specs.Plain.{Plains, arr, blob, blob_or_null, more, none, null, obj}
 use Rattle.package_changes.specs.change_files.PlanLists.{names_in_order}
 use Rattle.db_write.specs.db_core.Members.{Member, member_of_kept}
 use Rattle.change_outcome.specs.ConfigurationLines.{configuration_lines}
-use Rattle.change_outcome.specs.PackageFiles.{package_path}
 use Rattle.change_inputs.specs.package_files.Folders.{folder_of}
 use Rattle.change_outcome.specs.Triggers.{is_folder_matched, trigger_lines}
-
-beside_the_index : package_path (codes "repo/index.adb") (codes "hello") (codes "1.0-r0") ≡ codes "repo/hello-1.0-r0.apk"
-beside_the_index = refl
-
-in_the_root : package_path (codes "index.adb") (codes "a") (codes "1") ≡ codes "a-1.apk"
-in_the_root = refl
 
 deep_folder : folder_of (codes "usr/share/man/man1/d") ≡ codes "usr/share/man/man1"
 deep_folder = refl

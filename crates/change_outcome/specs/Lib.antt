@@ -17,6 +17,7 @@ pub use Rattle.package_changes.specs as package_changes
 pub use Rattle.package_changes.specs.change_files as change_files
 pub use Rattle.package_changes.specs.file_owners as file_owners
 pub use Rattle.package_changes.specs.search_tables as search_tables
+pub use Rattle.root_names.specs as root_names
 pub use Rattle.star_patterns.specs as star_patterns
 -- what the contract of `apk` says
 pub mod ChangeOutcome

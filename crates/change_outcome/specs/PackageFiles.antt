@@ -1,47 +1,27 @@
 -- The files of the packages that a change adds, and why one of them is refused. The rules are in
 -- `docs/commands.md`, "`add` and `del`", what is read and refused; of scripts in "`mkpkg`", TYPE of
 -- `-s`, and their numbers in `docs/formats.md`, "Schemas", table 6.
-use Rattle.std.specs.Prelude.{ℕ, ◌==◌, ◌-◌, Bool, true, false, not, if◌then◌else◌, List, [], ◌∷◌, ◌++◌, length, codes, Option, Some, None, Result, Ok, Err, bytes_eq, slice_get}
-use Rattle.std.specs.List.{list_any}
+use Rattle.std.specs.Prelude.{ℕ, ◌==◌, ◌-◌, Bool, true, false, not, if◌then◌else◌, List, [], ◌∷◌, length, Option, Some, None, Result, Ok, Err, bytes_eq, slice_get}
 use Rattle.db_write.specs.adb_schema.Soundness.{payload_in, root_value}
 use Rattle.adb_view.specs.FieldIndexes.{PACKAGE_SCRIPTS}
 use Rattle.adb_view.specs.Values.{entry_in, text_in}
 use Rattle.adb_view.specs.declared.tables.Which.TheVariants as Tables
 use Rattle.adb_view.specs.Plain.{Plain}
-use Rattle.base_core.specs.Name.{is_name}
 use Rattle.base_core.specs.declared.cause.Cause.{Cause}
 use Rattle.db_write.specs.adb_fields.Repeated.{package_name}
 use Rattle.dep_core.specs.Repositories.{Repository}
 use Rattle.package_changes.specs.file_owners.Replaces.{version_text}
 use Rattle.package_changes.specs.Changes.{selected_version}
-use Rattle.change_inputs.specs.package_files.Folders.{is_slash}
 use Rattle.db_write.specs.pkg_core.Contents.{Contents, contents_in}
 use Rattle.db_write.specs.pkg_core.Whole.{files_in_file, package_fault, package_id}
 use Rattle.change_inputs.specs.candidate_core.Candidates.{Candidate, is_same_id}
 use Rattle.report_core.specs.Numbers.{NAME_FIELD, VERSION_FIELD, HASHES_FIELD, PRE_INSTALL_SCRIPT, POST_INSTALL_SCRIPT, PRE_DEINSTALL_SCRIPT, POST_DEINSTALL_SCRIPT, PRE_UPGRADE_SCRIPT, POST_UPGRADE_SCRIPT}
-use Rattle.report_core.specs.Reports.{Change, Downgrade, Install, Purge, Reinstall, Replace, Upgrade, name_version}
+use Rattle.report_core.specs.Reports.{Change, Downgrade, Install, Purge, Reinstall, Replace, Upgrade}
 use Rattle.report_core.specs.declared.refusal.Refusal.{Refusal}
 use Rattle.report_core.specs.declared.refusal.Refusal.TheVariants.{PackageBad, PackageDiffers, PackageMissing, ScriptNeeded}
+use Rattle.root_names.specs.PackagePath.{if_name, package_path}
 
 -- ---- its path
-
--- whether a path has a folder above it: a `/`
-abbrev pub has_slash : List ℕ → Bool
-has_slash path = list_any is_slash path
-
--- the folder of a path: its bytes up to the last slash, with it
-abbrev pub folder_prefix_of : List ℕ → List ℕ
-folder_prefix_of [] = []
-folder_prefix_of (b ∷ bytes) = if has_slash (b ∷ bytes) then b ∷ folder_prefix_of bytes else []
-
--- the path of a package's file: NAME-VERSION.apk, beside the index
-abbrev pub package_path : List ℕ → List ℕ → List ℕ → List ℕ
-package_path index name version =
-    folder_prefix_of index ++ name_version name version ++ codes ".apk"
-
--- a path, if it is a name: one of more than 1,024 bytes, for example, is none, and has no file
-abbrev pub if_name : List ℕ → Option (List ℕ)
-if_name path = if is_name path then Some path else None
 
 -- the name of a package's file in the folder of the repository's index; None if there is no such
 -- repository

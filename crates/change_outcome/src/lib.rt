@@ -38,4 +38,5 @@ pub use package_changes::{
     simulated_report, solve, the_first_selection_is_unique,
     the_lists_of_a_plan_hold_just_its_names,
 };
+pub use root_names::package_file_beside;
 pub use star_patterns::{a_pattern_matches_what_its_stars_are_filled_to, matches};

@@ -80,5 +80,5 @@ fn simulate(alloc: Global, selection: &Selection<'_>) -> Result<Text, AllocError
     } = selection;
     let changes = Changes::of(alloc, db, pool, trace, again)?;
     let report = simulated_report(alloc, db, pool, trace, &changes, &to_remove)?;
-    Text::of(alloc, report.bytes())
+    Ok(report.into_text())
 }

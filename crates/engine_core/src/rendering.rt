@@ -191,7 +191,7 @@ fn report_of(alloc: Global, plan: &Plan<'_, '_, '_>) -> Result<Text, AllocError>
             plan: &plan.files,
         },
     )?;
-    Text::of(alloc, report.bytes())
+    Ok(report.into_text())
 }
 
 /// Whether a change removes and writes nothing.

@@ -17,7 +17,7 @@ ghost use Rattle.gen_core.specs.Reads.{IsLineRead, IsTextFault, block_taken, end
 use crate::cursor::{Cursor, without_prefix};
 use crate::generate::GenFault;
 use crate::value::{number_in, read_hash, read_text};
-use adb_dump::{Field, FieldName, Kind, Which, fields_of};
+use adb_dump::{Field, FieldName, Kind, Which, fields_of, has_one_line};
 use adb_values::Draft;
 use std::alloc::{AllocError, Global};
 
@@ -367,14 +367,4 @@ fn read_named(
     }
     cursor.turn();
     read_block(draft, cursor, scratch, kind, depth + 1)
-}
-
-/// Whether a value of the kind is on the line of its field's name, and not below it.
-fn has_one_line(kind: Kind) -> bool
-    ensures { result ≡ has_one_line kind }
-{
-    match kind {
-        Kind::Int | Kind::Text | Kind::Hash => true,
-        Kind::Obj(_) | Kind::TextArr | Kind::ObjArr(_) => false,
-    }
 }

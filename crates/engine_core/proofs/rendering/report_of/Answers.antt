@@ -10,18 +10,14 @@ use Rattle.engine_core.specs.Preparing.{inputs_of_plan, wishes_of_plan}
 use Rattle.engine_core.proofs.Reporting.{changes_named}
 use Rattle.engine_core.proofs.rendering.report_of.Goals as goal
 
-copied : (r : Result (List ℕ) AllocError) (bytes : List ℕ) (Q : List ℕ → Type 0) → Q bytes → IfOk r (λ t. t ≡ bytes) → IfOk r Q
-copied (Ok t) bytes Q q is = subst Q (sym is) q
-copied (Err e) bytes Q q is = tt
-
 pub returns : goal.returns
 returns c =
     let p = c.args.plan.now in
     let s = p.packages.now.selection.now in
     let wishes = wishes_of_plan p in
-    copied c.of.result c.bytes.result.now _ (λ history found files planned.
+    λ history found files planned.
     let change = file_change (inputs_of_plan p) wishes found in
-    c.bytes.ensures
+    c.into_text.ensures
     ∙ (c.in_ok-report.ensures s.again wishes change files (record {
       changes = ap (map (λ (p : PlacedChange). p.change)) (c.in_ok-changes.ensures ∙ ap (filter_map change_in) planned.arrived.read.placed)
           ∙ changes_named c.places_lead_to_packages_and_candidates.ensures.change (replacement_by s.db s.pool s.trace s.again);
@@ -29,4 +25,4 @@ returns c =
       members = sym planned.arrived.members;
       plan = planned.lists;
     })
-    ∙ ap (λ (before : List Plain). change_report (record { before = before; selected = candidates_at s.pool s.trace; again = s.again }) wishes change files) planned.arrived.read.database)) c.of.ensures
+    ∙ ap (λ (before : List Plain). change_report (record { before = before; selected = candidates_at s.pool s.trace; again = s.again }) wishes change files) planned.arrived.read.database)
