@@ -1,6 +1,7 @@
 """An index of the packages in the lists that `apt-get update` left, for the scripts beside this file."""
 import glob
 import hashlib
+import itertools
 import re
 import subprocess
 
@@ -74,11 +75,11 @@ def word_of(payload, name, operator, wanted):
     return payload.object(fields)
 
 
-def debian():
-    """The index."""
+def debian(count=None):
+    """The index of all packages, or of the first ones."""
     payload = Once()
     infos = []
-    for fields in paragraphs():
+    for fields in itertools.islice(paragraphs(), count):
         texts = [fields.get(key, "").encode() for key in ("Description", "Architecture", "Homepage", "Source", "Maintainer", "Homepage")]
         info = [payload.blob(fields["Package"].encode()), payload.blob(version(fields["Version"]).encode()), payload.blob(hashlib.sha256(fields["Package"].encode()).digest())]
         info += [payload.blob(text) for text in texts] + [0, 0, 0, payload.int(int(fields.get("Size", 0))), 0]
