@@ -32,10 +32,6 @@ const TOO_MANY_WORDS: u8 = 5;
 const UNFINISHED: &[u8] =
     b"apk: the change is committed: once the cause is gone, the next command finishes it\n";
 
-/// The warning that `mkpkg -F` leaves out what the host has.
-const LEFT_OUT: &[u8] =
-    b"apk: some file may be executed or some folder is empty here; the package keeps neither\n";
-
 /// Runs the command line over the folder that the program is in, and exits with the answer's
 /// status. The root is locked as the command needs it.
 fn main(rt: HostRuntime) -> ExitCode {
@@ -73,12 +69,7 @@ fn main(rt: HostRuntime) -> ExitCode {
             let _ = explain_contents(rt.alloc(), &words, refusal, &mut tree, &mut err);
         }
         Answer::Ok => {
-            // The next call lists only the folder of `mkpkg -F`, and earlier lists do not count.
-            tree.take_untold();
             let _ = warn(rt.alloc(), &words, &mut tree, &mut err);
-            if tree.take_untold() {
-                let _ = rt.stderr().write_all(LEFT_OUT);
-            }
         }
         _ => {}
     }

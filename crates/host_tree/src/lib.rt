@@ -30,8 +30,6 @@ pub struct HostTree<'a, R: Host> {
     faults: u64,
     /// The first failure, for the line after `ERROR: the tree failed`.
     failure: Option<Failure>,
-    /// Whether a list had names, and did not tell that a file may be executed or a folder is empty.
-    has_untold: bool,
 }
 
 impl<'a, R: Host> HostTree<'a, R> {
@@ -45,7 +43,6 @@ impl<'a, R: Host> HostTree<'a, R> {
             root: Root::new(rt, alloc, lock),
             faults: 0,
             failure: None,
-            has_untold: false,
         }
     }
 
@@ -63,16 +60,6 @@ impl<'a, R: Host> HostTree<'a, R> {
     /// Whether a change is committed and not done yet: the next command completes it.
     pub fn has_unfinished_change(&self) -> bool {
         self.root.has_unfinished_change()
-    }
-
-    /// Whether a list, since the last such call, had names, and did not tell that a file may be
-    /// executed or a folder is empty (`docs/commands.md`, "Warnings").
-    pub fn take_untold(&mut self) -> bool
-        ensures faults { self.new.faults ≡ self.old.faults }
-    {
-        let taken = self.has_untold;
-        self.has_untold = false;
-        taken
     }
 
     /// Releases the lock on the root. No call follows this one.
@@ -193,12 +180,8 @@ impl<'a, R: Host> Tree for HostTree<'a, R> {
     // The files below a folder, by their names; running out of memory for the result is no fault of
     // the tree.
     fn list(&mut self, alloc: Global, folder: &Name) -> Result<Names, TreeFault> {
-        let mut has_untold = false;
-        match list_below(&mut self.root, alloc, folder, &mut has_untold) {
-            Ok(names) => {
-                self.has_untold = has_untold && !names.is_empty();
-                Ok(names)
-            }
+        match list_below(&mut self.root, alloc, folder) {
+            Ok(names) => Ok(names),
             Err(HostFault::Memory) => Err(TreeFault::Memory),
             Err(fault) => {
                 let fault = self.note_failure("list", folder.as_bytes(), b"", fault);

@@ -12,14 +12,11 @@ use host_root::{Found, Host, HostFault, Reason, Root, path_text};
 use std::alloc::{AllocError, Global};
 use std::fs;
 
-/// The names of all regular files below a folder, at any depth, in byte order, each once. They tell
-/// neither which files may be executed nor which folders are empty: `has_untold` is set if there is
-/// one.
+/// The names of all regular files below a folder, at any depth, in byte order, each once.
 pub fn list_below<R: Host>(
     root: &mut Root<'_, R>,
     alloc: Global,
     folder: &Name,
-    has_untold: &mut bool,
 ) -> Result<Names, HostFault>
     ensures { IfOk result (AreNamesBelow folder.now) }
 {
@@ -38,7 +35,7 @@ pub fn list_below<R: Host>(
             break;
         };
         root.keep_known(next.as_bytes())?;
-        walk.visit(root, folder, &next, has_untold)?;
+        walk.visit(root, folder, &next)?;
     }
     Ok(walk.into_names()?)
 }
@@ -60,19 +57,13 @@ impl Walk {
         root: &mut Root<'_, R>,
         top: &Name,
         folder: &Name,
-        has_untold: &mut bool,
     ) -> Result<(), HostFault>
         requires { All (IsFolderOf top.now) self.old.files.items }
         ensures { All (IsFolderOf top.now) self.new.files.items }
     {
-        let mut is_empty = true;
         for entry in fs::read_dir(root.runtime(), path_text(folder.as_bytes())?)? {
             let entry = entry?;
-            is_empty = false;
-            self.meet(root, top, entry.path().as_str().as_bytes(), has_untold)?;
-        }
-        if is_empty {
-            *has_untold = true;
+            self.meet(root, top, entry.path().as_str().as_bytes())?;
         }
         Ok(())
     }
@@ -84,7 +75,6 @@ impl Walk {
         root: &mut Root<'_, R>,
         top: &Name,
         path: &[u8],
-        has_untold: &mut bool,
     ) -> Result<(), HostFault>
         requires { All (IsFolderOf top.now) self.old.files.items }
         ensures { All (IsFolderOf top.now) self.new.files.items }
@@ -97,12 +87,7 @@ impl Walk {
         }
         match root.find(path)? {
             Found::Folder => Ok(keep(&mut self.folders, name)?),
-            Found::File(file) => {
-                if file.rights.may_execute() {
-                    *has_untold = true;
-                }
-                Ok(keep(&mut self.files, name)?)
-            }
+            Found::File(_) => Ok(keep(&mut self.files, name)?),
             Found::Nothing => Ok(()),
         }
     }
