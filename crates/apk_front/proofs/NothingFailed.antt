@@ -1,13 +1,15 @@
 -- Nothing failed while a container was made and written.
-use Rattle.std.proofs.Common.{◌≡◌, ◌≢◌, false, List, Ok, Err, sym, ap, ◌∙◌}
+use Rattle.std.proofs.Common.{◌≡◌, ◌≢◌, ◌⊎◌, inl, inr, false, List, Ok, Err, sym, ap, ◌∙◌}
 use Rattle.std.specs.Prelude.{IfOk, IsErrOf, OnOk}
 use Rattle.std.proofs.lemmas.Bool.{false≢true}
-use Rattle.base_core.specs.Faults.{Counts, IsNoFault}
+use Rattle.base_core.specs.Faults.{Counts, CountsOnlyRise, HasCause, IsNoFault}
 use Rattle.base_core.specs.Read.{OnlyReads}
 use Rattle.base_core.specs.Tree.{TreeState}
-use Rattle.base_core.specs.declared.tree.TreeFault.TheVariants.{Memory as NoMemory}
+use Rattle.base_core.specs.declared.tree.TreeFault.TheVariants.{Disk as NoTree, Memory as NoMemory}
+use Rattle.base_core.proofs.Counting.{cause_later, cause_sooner, goes_on_twice}
 use Rattle.make_core.specs.make_info.declared.fault.MakeFault.TheVariants.{Disk}
 use Rattle.apk_front.specs.Containers.{ended_by_disk_or_memory}
+use Rattle.apk_front.specs.RunContracts.{IsVerdictCounted}
 use Rattle.apk_front.proofs.Containers.{Container}
 use Rattle.apk_front.proofs.Runs.{Judged}
 
@@ -23,10 +25,22 @@ not_lost (Err why) old new a b apart tree = tree.others (λ is. apart (ap Err is
 whole_not_lost : (container : Container) → ended_by_disk_or_memory container ≡ false → container ≢ Err Disk
 whole_not_lost container whole lost = false≢true (sym whole ∙ ap ended_by_disk_or_memory lost)
 
-pub kept_both : Join → (container : Container) (judged : Judged) (old new : List TreeState) (a b c : Counts) → OnlyReads Disk old new a b container → IfOk judged (λ verdict. ended_by_disk_or_memory container ≡ false) → OnOk judged (IsNoFault b c) → OnOk judged (IsNoFault a c)
+kept_both : Join → (container : Container) (judged : Judged) (old new : List TreeState) (a b c : Counts) → OnlyReads Disk old new a b container → IfOk judged (λ verdict. ended_by_disk_or_memory container ≡ false) → OnOk judged (IsNoFault b c) → OnOk judged (IsNoFault a c)
 kept_both join container (Ok verdict) old new a b c tree whole after = join a b c (not_lost container old new a b (whole_not_lost container whole) tree) after
 kept_both join container (Err e) old new a b c tree whole after = tt
 
-pub memory_both : Join → (container : Container) (judged : Judged) (old new : List TreeState) (a b c : Counts) → OnlyReads Disk old new a b container → (IsErrOf judged NoMemory → container ≢ Err Disk) → (IsErrOf judged NoMemory → IsNoFault b c)
+memory_both : Join → (container : Container) (judged : Judged) (old new : List TreeState) (a b c : Counts) → OnlyReads Disk old new a b container → (IsErrOf judged NoMemory → container ≢ Err Disk) → (IsErrOf judged NoMemory → IsNoFault b c)
     → IsErrOf judged NoMemory → IsNoFault a c
 memory_both join container judged old new a b c tree lost after none = join a b c (not_lost container old new a b (lost none) tree) (after none)
+
+-- so the counts explain the verdict
+pub counted_both : Join → (container : Container) (judged : Judged) (old new : List TreeState) (a b c : Counts) → OnlyReads Disk old new a b container
+    → IfOk judged (λ verdict. ended_by_disk_or_memory container ≡ false) → (IsErrOf judged NoMemory → container ≢ Err Disk)
+    → CountsOnlyRise b c → (IsErrOf judged NoTree → IsErrOf container Disk ⊎ HasCause b c) → OnOk judged (IsNoFault b c) → (IsErrOf judged NoMemory → IsNoFault b c)
+    → IsVerdictCounted a c judged
+counted_both join container judged old new a b c tree whole lost on disk kept memory = record {
+  goes_on = goes_on_twice a b c tree.goes_on on;
+  disk = λ is. elim (disk is) [ inl reading ↦ cause_sooner a b c (tree.disk reading) on | inr writing ↦ cause_later a b c tree.goes_on writing ];
+  kept = kept_both join container judged old new a b c tree whole kept;
+  memory = memory_both join container judged old new a b c tree lost memory;
+}

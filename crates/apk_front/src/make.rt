@@ -5,6 +5,7 @@ ghost use Rattle.std.specs.Prelude.{◌≡◌, ◌≢◌, ◌⊎◌, ℕ, false,
 ghost use Rattle.make_core.specs.make_package.Answers.{IsMadeBySome};
 ghost use Rattle.apk_front.specs.Containers.{IsIndexMade, IsIndexFound, IsIndexOutcome, IsPackageMade, IsPackageOutcome, OnMade, is_disk_or_memory, ended_by_disk_or_memory, made_in};
 ghost use Rattle.apk_front.specs.Moments.{CanAddOutputNamesIfAny};
+ghost use Rattle.apk_front.specs.RunContracts.{IsVerdictCounted};
 ghost use Rattle.apk_front.specs.Runs.{IsRun};
 ghost use Rattle.apk_front.specs.Verdicts.{Reports, ReportsOne};
 ghost use Rattle.base_core.specs.Calls.{IfObservable};
@@ -60,12 +61,7 @@ pub(crate) fn mkpkg<T: Tree>(
     ensures refused { IfOk result (λ verdict. IsSome verdict.refusal
         → T.history tree.new ≡ T.history tree.old) }
     ensures undone { IsErrOf result TreeFault.Memory → T.history tree.new ≡ T.history tree.old }
-    ensures goes_on { CountsOnlyRise (T.counts tree.old) (T.counts tree.new) }
-    ensures disk { IsErrOf result TreeFault.Disk
-        → HasCause (T.counts tree.old) (T.counts tree.new) }
-    ensures kept { OnOk result (IsNoFault (T.counts tree.old) (T.counts tree.new)) }
-    ensures memory { IsErrOf result TreeFault.Memory
-        → IsNoFault (T.counts tree.old) (T.counts tree.new) }
+    ensures counts { IsVerdictCounted (T.counts tree.old) (T.counts tree.new) result }
     ensures proper { IfObservable (T.history tree.old) (λ v.
         ((outcome : Outcome) → IsPackageOutcome command.now (files_of v) outcome
         → outcome.commits ≡ true → CanAddOutputNamesIfAny (output_name command.now) (files_of v))
@@ -101,12 +97,7 @@ pub(crate) fn mkndx<T: Tree>(
     ensures refused { IfOk result (λ verdict. IsSome verdict.refusal
         → T.history tree.new ≡ T.history tree.old) }
     ensures undone { IsErrOf result TreeFault.Memory → T.history tree.new ≡ T.history tree.old }
-    ensures goes_on { CountsOnlyRise (T.counts tree.old) (T.counts tree.new) }
-    ensures disk { IsErrOf result TreeFault.Disk
-        → HasCause (T.counts tree.old) (T.counts tree.new) }
-    ensures kept { OnOk result (IsNoFault (T.counts tree.old) (T.counts tree.new)) }
-    ensures memory { IsErrOf result TreeFault.Memory
-        → IsNoFault (T.counts tree.old) (T.counts tree.new) }
+    ensures counts { IsVerdictCounted (T.counts tree.old) (T.counts tree.new) result }
     ensures proper { IfObservable (T.history tree.old) (λ v.
         ((outcome : Outcome) → IsIndexOutcome command.now (files_of v) outcome
         → outcome.commits ≡ true → CanAddOutputNamesIfAny (output_name command.now) (files_of v))
@@ -160,9 +151,10 @@ fn index_line(alloc: Global, count: usize) -> Result<Text, AllocError>
     Text::of(alloc, line.as_bytes())
 }
 
-// Writes the container that was made, or refuses. The clauses are those of `mkpkg`, and three more.
-// `done` and `cut`: if a fault stopped the making, nothing is judged and nothing is written.
-// `lost`: an I/O error of the tree is not reported as out of memory.
+// Writes the container that was made, or refuses. The clauses are those of `mkpkg`. Its `counts` are
+// `goes_on`, `disk`, `kept` and `memory` here, since an I/O error may also be that of the making.
+// Three more: if a fault stopped the making, nothing is judged (`done`) and nothing is written
+// (`cut`). An I/O error of the tree is not reported as out of memory (`lost`).
 fn finish<T: Tree>(
     alloc: Global,
     command: &Command,
@@ -223,12 +215,7 @@ fn write<T: Tree>(
     ensures refused { IfOk result (λ verdict. IsSome verdict.refusal
         → T.history tree.new ≡ T.history tree.old) }
     ensures undone { IsErrOf result TreeFault.Memory → T.history tree.new ≡ T.history tree.old }
-    ensures goes_on { CountsOnlyRise (T.counts tree.old) (T.counts tree.new) }
-    ensures disk { IsErrOf result TreeFault.Disk
-        → HasCause (T.counts tree.old) (T.counts tree.new) }
-    ensures kept { OnOk result (IsNoFault (T.counts tree.old) (T.counts tree.new)) }
-    ensures memory { IsErrOf result TreeFault.Memory
-        → IsNoFault (T.counts tree.old) (T.counts tree.new) }
+    ensures counts { IsVerdictCounted (T.counts tree.old) (T.counts tree.new) result }
     ensures proper { IfObservable (T.history tree.old) (λ v.
         ((make_outcome (files_of v) (output_name command.now) report (Ok file.now)).commits ≡ true
         → CanAddOutputNamesIfAny (output_name command.now) (files_of v))

@@ -9,7 +9,7 @@ use Rattle.search_choices.specs.search_tables.Reasons.{AreCompatible, IsReason, 
 use Rattle.search_choices.specs.search_tables.Reasons.{HasOptions}
 use Rattle.search_choices.specs.Choices.{IsSearch, IsConsistent, choices_of, pool_of}
 use Rattle.search_choices.specs.declared.choices.Choices.{Choices}
-use Rattle.solve_core.specs.Learnt.{AreMembersOr}
+use Rattle.solve_core.specs.Clauses.{AreMembersOr}
 use Rattle.search_choices.proofs.search_tables.Theory as law
 use Rattle.search_choices.proofs.search_tables.Theory.{Facts, in_left, in_right, in_append}
 use Rattle.search_choices.proofs.search_tables.Turns.{reasons_dead, turns_more, turns_less, choices-append}

@@ -6,4 +6,4 @@ pub use Rattle.search_choices.specs.candidate_core as candidate_core
 pub use Rattle.search_choices.specs.search_tables as search_tables
 -- used by proofs only
 pub mod Measure
-pub mod Learnt
+pub mod Clauses

@@ -6,10 +6,14 @@
 //! works" there describes how it is found.
 #![tactic(auto)]
 
+mod clauses;
+mod known;
 mod laws;
-mod learnt;
+mod pool_rules;
+mod propagation;
 mod search;
 mod selection;
+mod trail;
 mod watches;
 
 pub use laws::{

@@ -5,12 +5,14 @@ ghost use Rattle.search_choices.specs.candidate_core.Options.{IsIn};
 ghost use Rattle.search_choices.specs.candidate_core.PackageMatches.{AreMatchesAmong};
 ghost use Rattle.search_choices.specs.search_tables.Selection.{AreMembers, exclude_each_other, next_need};
 ghost use Rattle.search_choices.specs.search_tables.Reasons.{AreCompatible, FrameValue, IsReason, HasSameMembers, RulesOut, IsFrameOf, IsExhaustedFrame, IsFrameTaking, dead_end_reason};
+ghost use Rattle.solve_core.specs.Clauses.{IsClause};
 ghost use Rattle.solve_core.specs.Measure.{weight_of};
 ghost use Rattle.search_choices.specs.Choices.{IsSearch, choices_of, pool_of};
 
-use crate::learnt::{LearntReasons, are_others_choices};
+use crate::clauses::{Clause, are_choices, are_others_choices};
+use crate::known::Known;
+use crate::propagation::Propagation;
 use crate::selection::options_are_as_promised;
-use crate::watches::Watches;
 use dep_core::World;
 use search_choices::{
     CandId, CandidateSet, Choices, Frame, PackageMatches, RuledOutOption, Sealed, Trace,
@@ -18,11 +20,8 @@ use search_choices::{
 use std::alloc::{AllocError, Global};
 use std::marker::Model;
 
-/// The most reasons that are learnt before all are forgotten.
-const MOST_REASONS: usize = 4096;
-
-/// The most members of a learnt reason.
-const MOST_MEMBERS: usize = 64;
+/// The number of dead ends after which propagation begins. Most searches have fewer.
+const DEAD_ENDS_BEFORE: usize = 32;
 
 /// A decision of the search: the frame of a need that was met, and the choice that was taken from
 /// it.
@@ -79,10 +78,12 @@ pub(crate) struct Search<'p> {
     reason: CandidateSet,
     /// The remembered results for the long versions in dependencies of candidates.
     matches: PackageMatches<'p>,
-    /// The reasons that were learnt at dead ends.
-    learnt: LearntReasons<'p>,
-    /// Which learnt reasons to look at.
-    watches: Watches,
+    /// The number of dead ends so far.
+    dead_ends: usize,
+    /// The clauses that are known, for propagation.
+    known: Known<'p>,
+    /// The state of propagation.
+    propagation: Propagation,
 }
 
 impl<'p> Search<'p> {
@@ -98,7 +99,7 @@ impl<'p> Search<'p> {
         ensures none { IfOk result (λ search. search.turns.items ≡ []) }
         ensures matches { IfOk result (λ search.
             AreMatchesAmong (pool_of search.chosen).candidates search.matches) }
-        ensures learnt { IfOk result (λ search. search.learnt ≡ pool_of search.chosen) }
+        ensures known { IfOk result (λ search. search.known ≡ pool_of search.chosen) }
     {
         let chosen = Choices::new(alloc, pool, world)?;
         let matches = PackageMatches::new(alloc, pool.packages());
@@ -109,8 +110,9 @@ impl<'p> Search<'p> {
             hints: Vec::new(alloc),
             reason: CandidateSet::new(alloc),
             matches,
-            learnt: LearntReasons::new(alloc, pool),
-            watches: Watches::new(alloc),
+            dead_ends: 0,
+            known: Known::new(alloc, pool, world),
+            propagation: Propagation::new(alloc),
         })
     }
 
@@ -121,7 +123,7 @@ impl<'p> Search<'p> {
         ensures search { IsSearch self.new.chosen self.new.turns.items }
         ensures pool { pool_of self.new.chosen ≡ pool_of self.old.chosen }
         ensures turns { self.new.turns.items ≡ self.old.turns.items }
-        ensures learnt { self.new.learnt ≡ self.old.learnt }
+        ensures known { self.new.known ≡ self.old.known }
         ensures matches { OnOk result
             (AreMatchesAmong (pool_of self.old.chosen).candidates self.new.matches) }
         // The options that are left are fewer than the base of the measure's digits (*base* of
@@ -151,7 +153,7 @@ impl<'p> Search<'p> {
         requires within { id < length (pool_of self.old.chosen).candidates }
         requires once { IsIn id (choices_of self.old.chosen) → ⊥ }
         requires matches { AreMatchesAmong (pool_of self.old.chosen).candidates self.old.matches }
-        requires learnt { self.old.learnt ≡ pool_of self.old.chosen }
+        requires known { self.old.known ≡ pool_of self.old.chosen }
         ensures found { IfOk result (λ found. MatchOption found ((other : ℕ) →
             IsIn other (choices_of self.old.chosen) →
             exclude_each_other (pool_of self.old.chosen) other id ≡ false)
@@ -159,7 +161,7 @@ impl<'p> Search<'p> {
             others.items)) }
         ensures chosen { self.new.chosen ≡ self.old.chosen }
         ensures turns { self.new.turns.items ≡ self.old.turns.items }
-        ensures learnt { self.new.learnt ≡ self.old.learnt }
+        ensures known { self.new.known ≡ self.old.known }
         ensures matches { OnOk result
             (AreMatchesAmong (pool_of self.old.chosen).candidates self.new.matches) }
     {
@@ -167,7 +169,7 @@ impl<'p> Search<'p> {
             let copy = Vec::from_slice(self.alloc, others)?;
             return Ok(Some(copy));
         }
-        if let Some(others) = self.learnt_against(id)? {
+        if let Some(others) = self.propagated_against(id)? {
             return Ok(Some(others));
         }
         let found = self.chosen.excluder(id, &mut self.matches)?;
@@ -209,20 +211,20 @@ impl<'p> Search<'p> {
         Some(ruled_out.others())
     }
 
-    // The other members of a learnt reason that rules an option out, if one is found.
-    fn learnt_against(&self, id: CandId) -> Result<Option<Vec<CandId>>, AllocError>
-        requires { self.now.learnt ≡ pool_of self.now.chosen }
+    // The other members of the reason with which propagation rules an option out, if it does.
+    fn propagated_against(&self, id: CandId) -> Result<Option<Vec<CandId>>, AllocError>
+        requires { self.now.known ≡ pool_of self.now.chosen }
         ensures { IfOk result (λ found. IfSome found (λ others. RulesOut (pool_of self.now.chosen)
             (choices_of self.now.chosen) id others.items)) }
     {
-        let Some(index) = self.watches.against(id) else {
+        let Some(clause) = self.propagation.clause_against(id, &self.known)? else {
             return Ok(None);
         };
-        let Some(members) = self.learnt.members_at(index) else {
+        if !clause.is_reason() {
             return Ok(None);
-        };
-        if are_others_choices(members, id, &self.chosen) {
-            let others = without(self.alloc, members, id)?;
+        }
+        if are_others_choices(clause.members(), id, &self.chosen) {
+            let others = without(self.alloc, clause.members(), id)?;
             return Ok(Some(others));
         }
         Ok(None)
@@ -235,10 +237,10 @@ impl<'p> Search<'p> {
         requires open_now { IsFrameOf (pool_of self.old.chosen)
             (choices_of self.old.chosen) top.old }
         requires matches { AreMatchesAmong (pool_of self.old.chosen).candidates self.old.matches }
-        requires learnt { self.old.learnt ≡ pool_of self.old.chosen }
+        requires known { self.old.known ≡ pool_of self.old.chosen }
         ensures chosen { self.new.chosen ≡ self.old.chosen }
         ensures turns { self.new.turns.items ≡ self.old.turns.items }
-        ensures learnt { self.new.learnt ≡ self.old.learnt }
+        ensures known { self.new.known ≡ self.old.known }
         ensures matches { OnOk result
             (AreMatchesAmong (pool_of self.old.chosen).candidates self.new.matches) }
         ensures found { IfOk result (λ found. MatchOption found (IsExhaustedFrame
@@ -279,11 +281,9 @@ impl<'p> Search<'p> {
         ensures turns { OnOk result (self.new.turns.items ≡ self.old.turns.items
             ++ (frame, choice) ∷ []) }
         ensures matches { self.new.matches ≡ self.old.matches }
-        ensures learnt { self.new.learnt ≡ self.old.learnt }
+        ensures known { self.new.known ≡ self.old.known }
     {
         self.chosen.push(choice)?;
-        self.watches
-            .choose(choice, self.turns.len(), &self.learnt, &self.chosen)?;
         self.turns.push(Turn { frame, choice })?;
         Ok(())
     }
@@ -295,10 +295,10 @@ impl<'p> Search<'p> {
         requires search { IsSearch self.old.chosen self.old.turns.items }
         requires spent { IsExhaustedFrame (pool_of self.old.chosen) (choices_of self.old.chosen)
             spent }
-        requires learnt { self.old.learnt ≡ pool_of self.old.chosen }
+        requires known { self.old.known ≡ pool_of self.old.chosen }
         ensures pool { pool_of self.new.chosen ≡ pool_of self.old.chosen }
         ensures matches { self.new.matches ≡ self.old.matches }
-        ensures learnt { self.new.learnt ≡ self.old.learnt }
+        ensures known { self.new.known ≡ self.old.known }
         ensures found { IfOk result (λ found. MatchOption found (IsReason
             (pool_of self.old.chosen) [])
             (λ frame. IsSearch self.new.chosen self.new.turns.items
@@ -311,19 +311,74 @@ impl<'p> Search<'p> {
         options_are_as_promised();
         let last = std::mem::replace(&mut self.reason, CandidateSet::new(self.alloc));
         self.reason = reason_of(last, &spent)?;
-        learn(self.reason.as_slice(), &mut self.learnt, &mut self.watches)?;
+        self.dead_ends = self.dead_ends.saturating_add(1);
+        let learnt = Clause::reason(self.alloc, self.reason.as_slice())?;
+        self.propagation.learn(learnt, &mut self.known)?;
         self.step_back_for_reason()
     }
 
-    // Backtracks to the latest choice in the stored reason, and rules that choice out. The turns
-    // above it are dropped.
-    fn step_back_for_reason(&mut self) -> Result<Option<Frame>, AllocError>
+    /// Whether propagation finds that no satisfying selection has all the choices. The stored reason
+    /// is then one of choices. After many dead ends only, since most searches have few.
+    pub(crate) fn is_dead_ahead(&mut self) -> Result<bool, AllocError>
+        requires { self.old.known ≡ pool_of self.old.chosen }
+        ensures chosen { self.new.chosen ≡ self.old.chosen }
+        ensures turns { self.new.turns.items ≡ self.old.turns.items }
+        ensures matches { self.new.matches ≡ self.old.matches }
+        ensures known { self.new.known ≡ self.old.known }
+        ensures dead { IfOk result (λ is_dead. is_dead ≡ true →
+            AreMembers self.new.reason (choices_of self.old.chosen)
+            × IsReason (pool_of self.old.chosen) self.new.reason) }
+    {
+        if self.dead_ends < DEAD_ENDS_BEFORE {
+            return Ok(false);
+        }
+        self.propagation.begin(&mut self.known)?;
+        let Some(conflict) = self.conflict_ahead()? else {
+            return Ok(false);
+        };
+        let clause = self.propagation.learn_from(conflict, &mut self.known)?;
+        if !is_reason_of_choices(&clause, &self.chosen) {
+            return Ok(false);
+        }
+        let last = std::mem::replace(&mut self.reason, CandidateSet::new(self.alloc));
+        self.reason = set_of(last, clause.members())?;
+        Ok(true)
+    }
+
+    // Propagates the choices that are not propagated yet. It returns a clause that the choices
+    // contradict, if one is found.
+    fn conflict_ahead(&mut self) -> Result<Option<Clause>, AllocError>
+        ensures chosen { self.new.chosen ≡ self.old.chosen }
+        ensures turns { self.new.turns.items ≡ self.old.turns.items }
+        ensures matches { self.new.matches ≡ self.old.matches }
+        ensures known { self.new.known ≡ self.old.known }
+        ensures conflict { IfOk result (λ found. IfSome found (λ clause.
+            IsClause self.old.known clause)) }
+    {
+        if let Some(conflict) = self.propagation.propagate(&mut self.known)? {
+            return Ok(Some(conflict));
+        }
+        for i in self.propagation.level()..self.turns.len() {
+            let Some(turn) = self.turn_at(i) else {
+                return Ok(None);
+            };
+            let choice = turn.choice;
+            if let Some(conflict) = self.propagation.choose(choice, &mut self.known)? {
+                return Ok(Some(conflict));
+            }
+        }
+        Ok(None)
+    }
+
+    /// Backtracks to the latest choice in the stored reason, and rules that choice out. The turns
+    /// above it are dropped.
+    pub(crate) fn step_back_for_reason(&mut self) -> Result<Option<Frame>, AllocError>
         requires search { IsSearch self.old.chosen self.old.turns.items }
         requires within { AreMembers self.old.reason (choices_of self.old.chosen) }
         requires dead { IsReason (pool_of self.old.chosen) self.old.reason }
         ensures pool { pool_of self.new.chosen ≡ pool_of self.old.chosen }
         ensures matches { self.new.matches ≡ self.old.matches }
-        ensures learnt { self.new.learnt ≡ self.old.learnt }
+        ensures known { self.new.known ≡ self.old.known }
         ensures found { IfOk result (λ found. MatchOption found (IsReason
             (pool_of self.old.chosen) [])
             (λ frame. IsSearch self.new.chosen self.new.turns.items
@@ -338,6 +393,8 @@ impl<'p> Search<'p> {
             let Turn { mut frame, choice } = turn;
             // This is the latest choice of the reason: the others rule it out.
             if self.reason.has(choice) {
+                self.propagation
+                    .take_back(self.turns.len(), &mut self.known);
                 let others = without(self.alloc, self.reason.as_slice(), choice)?;
                 let hint = Hint {
                     turn: self.turns.len(),
@@ -377,25 +434,25 @@ fn reason_of(used: CandidateSet, spent: &Frame) -> Result<CandidateSet, AllocErr
     Ok(members)
 }
 
-// Learns a reason, unless it has too many members. If there are too many reasons, the others are
-// forgotten first: each rules out what it does whether the others are known or not.
-fn learn(
-    reason: &[CandId],
-    learnt: &mut LearntReasons<'_>,
-    watches: &mut Watches,
-) -> Result<(), AllocError>
-    requires { IsReason learnt.old reason.now }
-    ensures { learnt.new ≡ learnt.old }
+// Whether a clause is a reason whose members are choices.
+fn is_reason_of_choices(clause: &Clause, chosen: &Choices<'_>) -> bool
+    ensures reason { result ≡ true → clause.now.1 ≡ [] }
+    ensures choices { result ≡ true → AreMembers clause.now.0 (choices_of chosen.now) }
 {
-    if reason.is_empty() || reason.len() > MOST_MEMBERS {
-        return Ok(());
+    if !clause.is_reason() {
+        return false;
     }
-    if learnt.len() >= MOST_REASONS {
-        learnt.clear();
-        watches.clear();
-    }
-    learnt.push(reason)?;
-    watches.learn(reason)
+    are_choices(clause.members(), chosen)
+}
+
+// A set of these candidates, made in a reused set.
+fn set_of(used: CandidateSet, ids: &[CandId]) -> Result<CandidateSet, AllocError>
+    ensures { IfOk result (λ members. HasSameMembers members ids.now) }
+{
+    let mut members = used;
+    members.clear();
+    members.add_all(ids)?;
+    Ok(members)
 }
 
 // All members of a reason but one, which the others rule out.

@@ -35,12 +35,12 @@ pub fn solve(alloc: Global, pool: &Sealed<'_>, world: &World) -> Result<Option<T
 }
 
 // The preferred solution, by a search that begins without choices. It takes an option of the
-// topmost frame, or backtracks if none is left. The search is borrowed, so that nothing needs to be
-// freed if the loop ends early.
+// topmost frame, or backtracks if none is left, or if propagation finds a dead end ahead. The
+// search is borrowed, so that nothing needs to be freed if the loop ends early.
 fn first_selection(alloc: Global, search: &mut Search<'_>) -> Result<Option<Trace>, AllocError>
     requires search { IsSearch search.old.chosen search.old.turns.items }
     requires matches { AreMatchesAmong (pool_of search.old.chosen).candidates search.old.matches }
-    requires learnt { search.old.learnt ≡ pool_of search.old.chosen }
+    requires known { search.old.known ≡ pool_of search.old.chosen }
     ensures { IfOk result (λ found. MatchOption found ((selection : List ℕ) →
         IsSatisfying (pool_of search.old.chosen) selection → ⊥)
         (λ trace. IsFirstSelection (pool_of search.old.chosen) trace)) }
@@ -51,6 +51,14 @@ fn first_selection(alloc: Global, search: &mut Search<'_>) -> Result<Option<Trac
     };
     let mut top = frame;
     loop {
+        let is_dead = search.is_dead_ahead()?;
+        if is_dead {
+            let Some(frame) = search.step_back_for_reason()? else {
+                return Ok(None);
+            };
+            top = frame;
+            continue;
+        }
         match search.next_option(&mut top)? {
             Some(id) => {
                 search.choose(top, id)?;

@@ -1,55 +1,67 @@
-//! Which learnt reasons to look at, by two watched members of each, as in a SAT solver: a reason
-//! can rule a candidate out only once one of its watched members is chosen. No contract mentions
-//! watches: what they name is checked before it is used, so a wrong one only costs time.
+//! Which clauses to look at, by two watched literals of each, as in a SAT solver: a clause can force
+//! a literal only once one of its watched literals is false. No contract mentions watches: what they
+//! name is checked before it is used, so a wrong one only costs time.
 ghost use Rattle.std.specs.Prelude.{◌<◌, OnOk, vec_len};
 
-use crate::learnt::{LearntReasons, are_others_choices};
-use search_choices::{CandId, Choices};
+use crate::clauses::Clause;
+use crate::trail::{Literal, Trail};
+use search_choices::CandId;
 use std::alloc::{AllocError, Global};
 
-/// The two watched members of a reason; one member twice if the reason has no other.
-#[derive(Drop)]
+/// The two watched literals of a clause; one literal twice if the clause has no other.
+#[derive(Clone, Copy)]
 struct Watch {
-    one: CandId,
-    other: CandId,
+    one: Literal,
+    other: Literal,
 }
 
 impl Watch {
-    /// The watched member beside this one, if this one is watched.
-    fn beside(&self, id: CandId) -> Option<CandId> {
-        if self.one == id {
+    /// The watched literal beside this one, if this one is watched.
+    fn beside(&self, literal: Literal) -> Option<Literal> {
+        if is_same(self.one, literal) {
             return Some(self.other);
         }
-        if self.other == id {
+        if is_same(self.other, literal) {
             return Some(self.one);
         }
         None
     }
 }
 
-/// What is stored for a candidate.
+/// The indexes of the clauses that watch the literals of a candidate, and of some that no longer do.
 #[derive(Drop)]
-struct Watched {
-    /// The indexes of the reasons that watch the candidate, and of some that no longer do.
-    by: Vec<usize>,
-    /// The index of the reason that ruled the candidate out last; if the reason still does is
-    /// checked.
-    against: Option<usize>,
+struct Watching {
+    /// Those that watch whether the candidate is in the selection.
+    is_in: Vec<usize>,
+    /// Those that watch whether it is not.
+    is_out: Vec<usize>,
 }
 
-/// The watches of all learnt reasons.
+impl Watching {
+    // The clauses that watch a literal of the candidate.
+    fn of(&self, is_in: bool) -> &Vec<usize> {
+        if is_in { &self.is_in } else { &self.is_out }
+    }
+
+    // The clauses that watch a literal of the candidate, to be changed.
+    fn of_mut(&mut self, is_in: bool) -> &mut Vec<usize> {
+        if is_in {
+            &mut self.is_in
+        } else {
+            &mut self.is_out
+        }
+    }
+}
+
+/// The watches of all clauses.
 #[derive(Drop)]
 pub(crate) struct Watches {
     /// The allocator.
     alloc: Global,
-    /// The watched members of each learnt reason, by its index.
-    watches: Vec<Watch>,
-    /// What is stored for each place in the list of candidates, up to the greatest that was
-    /// watched.
-    watched: Vec<Watched>,
-    /// For each place in the list of candidates, up to the greatest that was chosen, the number of
-    /// the turn at which its candidate was chosen last.
-    turns: Vec<usize>,
+    /// The watched literals of each clause, by its index; None if the clause is empty.
+    watches: Vec<Option<Watch>>,
+    /// The clauses that watch each place in the list of candidates, up to the greatest watched.
+    places: Vec<Watching>,
 }
 
 impl Watches {
@@ -58,207 +70,193 @@ impl Watches {
         Watches {
             alloc,
             watches: Vec::new(alloc),
-            watched: Vec::new(alloc),
-            turns: Vec::new(alloc),
+            places: Vec::new(alloc),
         }
     }
 
-    /// Forgets all reasons.
-    pub(crate) fn clear(&mut self) {
-        self.watches.clear();
-        self.watched.clear();
+    /// Forgets the clauses from an index on.
+    pub(crate) fn truncate(&mut self, len: usize) {
+        self.watches.truncate(len);
     }
 
-    /// The index of the learnt reason that may rule a candidate out.
-    pub(crate) fn against(&self, id: CandId) -> Option<usize> {
-        self.watched.get(id.place as usize)?.against
+    /// Watches two literals of the next clause: those that are not false, else those that became
+    /// false last.
+    pub(crate) fn push(&mut self, clause: &Clause, trail: &Trail) -> Result<(), AllocError> {
+        let mut watch = None;
+        for id in clause.members() {
+            let literal = Literal {
+                place: id.place,
+                is_in: false,
+            };
+            watch = better(watch, literal, trail);
+        }
+        for id in clause.options() {
+            let literal = Literal {
+                place: id.place,
+                is_in: true,
+            };
+            watch = better(watch, literal, trail);
+        }
+        self.push_watch(watch)
     }
 
-    /// Watches the two members of the next learnt reason that were chosen last. The last one is
-    /// about to be taken back, and the reason rules it out.
-    pub(crate) fn learn(&mut self, members: &[CandId]) -> Result<(), AllocError> {
-        let Some(first) = members.first() else {
+    // Adds the watches of the next clause.
+    fn push_watch(&mut self, watch: Option<Watch>) -> Result<(), AllocError> {
+        let index = self.watches.len();
+        self.watches.push(watch)?;
+        let Some(Watch { one, other }) = watch else {
             return Ok(());
         };
-        let mut watch = Watch {
-            one: *first,
-            other: *first,
-        };
-        for id in members {
-            watch = self.with_later(&watch, *id);
+        self.add(one, index)?;
+        if !is_same(one, other) {
+            self.add(other, index)?;
         }
-        let index = self.watches.len();
-        self.add(watch.one, index)?;
-        self.add(watch.other, index)?;
-        self.rule_out(watch.one, index);
-        self.watches.push(watch)?;
         Ok(())
     }
 
-    // Of two members and a further one, the two that were chosen last, the last one first.
-    fn with_later(&self, watch: &Watch, id: CandId) -> Watch {
-        let (one, other) = (watch.one, watch.other);
-        if id == one {
-            return Watch { one, other };
-        }
-        if self.turn_of(id) > self.turn_of(one) {
-            return Watch {
-                one: id,
-                other: one,
-            };
-        }
-        if other == one || self.turn_of(id) > self.turn_of(other) {
-            return Watch { one, other: id };
-        }
-        Watch { one, other }
+    // Adds a clause to those that watch a literal.
+    fn add(&mut self, literal: Literal, index: usize) -> Result<(), AllocError> {
+        let place = literal.place as usize;
+        grow(self.alloc, &mut self.places, place)?;
+        self.places[place].of_mut(literal.is_in).push(index)?;
+        Ok(())
     }
 
-    // The number of the turn at which a candidate was chosen last; 0 if it never was.
-    fn turn_of(&self, id: CandId) -> usize {
-        match self.turns.get(id.place as usize) {
-            Some(turn) => *turn,
+    /// How many clauses may watch a literal.
+    pub(crate) fn count(&self, literal: Literal) -> usize {
+        match self.places.get(literal.place as usize) {
+            Some(watching) => watching.of(literal.is_in).len(),
             None => 0,
         }
     }
 
-    // Adds a reason to those that watch a candidate.
-    fn add(&mut self, id: CandId, index: usize) -> Result<(), AllocError> {
-        let place = id.place as usize;
-        grow(self.alloc, &mut self.watched, place)?;
-        self.watched[place].by.push(index)?;
-        Ok(())
+    /// The index of the clause at a place of those that watch a literal.
+    pub(crate) fn at(&self, literal: Literal, place: usize) -> Option<usize> {
+        let watching = self.places.get(literal.place as usize)?;
+        Some(*watching.of(literal.is_in).get(place)?)
     }
 
-    // Remembers that a reason rules a candidate out.
-    fn rule_out(&mut self, id: CandId, index: usize) {
-        if let Some(watched) = self.watched.get_mut(id.place as usize) {
-            watched.against = Some(index);
-        }
-    }
-
-    /// Goes through the reasons that watch a choice, at the turn with a number.
-    pub(crate) fn choose(
+    /// Lets a clause, which is at a place of those that watch a false literal, watch another literal
+    /// that is not false. Returns whether there is none, so that the clause may force a literal.
+    pub(crate) fn is_forcing(
         &mut self,
-        choice: CandId,
-        turn: usize,
-        learnt: &LearntReasons<'_>,
-        chosen: &Choices<'_>,
-    ) -> Result<(), AllocError> {
-        let place = choice.place as usize;
-        note(&mut self.turns, place, turn)?;
-        let by = self.take(place);
-        let left = self.still_watching(by, choice, learnt, chosen)?;
-        if let Some(watched) = self.watched.get_mut(place) {
-            watched.by = left;
-        }
-        Ok(())
-    }
-
-    // Takes the list of the reasons that watch the candidate at a place.
-    fn take(&mut self, place: usize) -> Vec<usize> {
-        let empty = Vec::new(self.alloc);
-        match self.watched.get_mut(place) {
-            Some(watched) => std::mem::replace(&mut watched.by, empty),
-            None => empty,
-        }
-    }
-
-    // Of the reasons that watch a choice, those that still do after each looked for another member
-    // to watch.
-    fn still_watching(
-        &mut self,
-        by: Vec<usize>,
-        choice: CandId,
-        learnt: &LearntReasons<'_>,
-        chosen: &Choices<'_>,
-    ) -> Result<Vec<usize>, AllocError> {
-        let mut left = by;
-        let mut count = 0;
-        for i in 0..left.len() {
-            let index = left[i];
-            if self.stays(index, choice, learnt, chosen)? {
-                left[count] = index;
-                count += 1;
-            }
-        }
-        left.truncate(count);
-        Ok(left)
-    }
-
-    // Whether a reason goes on watching a choice. It watches another member in its place that is no
-    // choice, if there is one; else it rules out the other watched member.
-    fn stays(
-        &mut self,
+        literal: Literal,
+        place: usize,
         index: usize,
-        choice: CandId,
-        learnt: &LearntReasons<'_>,
-        chosen: &Choices<'_>,
+        clause: &Clause,
+        trail: &Trail,
     ) -> Result<bool, AllocError> {
-        let Some(watch) = self.watches.get(index) else {
+        let Some(other) = self.other_of(literal, index) else {
+            self.remove(literal, place);
             return Ok(false);
         };
-        let Some(other) = watch.beside(choice) else {
+        if trail.truth(other) == Some(true) {
             return Ok(false);
+        }
+        let Some(free) = free_literal(clause, other, trail) else {
+            return Ok(true);
         };
-        let Some(members) = learnt.members_at(index) else {
-            return Ok(false);
+        self.remove(literal, place);
+        self.add(free, index)?;
+        if let Some(watch) = self.watches.get_mut(index) {
+            *watch = Some(Watch {
+                one: other,
+                other: free,
+            });
+        }
+        Ok(false)
+    }
+
+    // The literal that a clause watches beside this one, if it watches this one.
+    fn other_of(&self, literal: Literal, index: usize) -> Option<Literal> {
+        let watch = (*self.watches.get(index)?)?;
+        watch.beside(literal)
+    }
+
+    // Removes the clause at a place of those that watch a literal; the last one takes its place.
+    fn remove(&mut self, literal: Literal, place: usize) {
+        let Some(watching) = self.places.get_mut(literal.place as usize) else {
+            return;
         };
-        match member_not_chosen(members, other, chosen) {
-            Some(free) => {
-                self.watches[index] = Watch {
-                    one: other,
-                    other: free,
-                };
-                self.add(free, index)?;
-                Ok(false)
-            }
-            None => {
-                if !self.is_ruled_out(other, learnt, chosen) {
-                    self.rule_out(other, index);
-                }
-                Ok(true)
-            }
+        let by = watching.of_mut(literal.is_in);
+        let Some(last) = by.pop() else {
+            return;
+        };
+        if place < by.len() {
+            by[place] = last;
         }
     }
+}
 
-    // Whether a candidate is ruled out by the reason that ruled it out last.
-    fn is_ruled_out(&self, id: CandId, learnt: &LearntReasons<'_>, chosen: &Choices<'_>) -> bool {
-        let Some(index) = self.against(id) else {
-            return false;
+// Whether two literals are the same.
+fn is_same(one: Literal, other: Literal) -> bool {
+    one.place == other.place && one.is_in == other.is_in
+}
+
+// Of two watched literals and a further one, the two that it is better to watch, the best first.
+fn better(watch: Option<Watch>, literal: Literal, trail: &Trail) -> Option<Watch> {
+    let Some(Watch { one, other }) = watch else {
+        return Some(Watch {
+            one: literal,
+            other: literal,
+        });
+    };
+    if is_same(one, literal) {
+        return watch;
+    }
+    let rank = watch_rank(literal, trail);
+    if rank > watch_rank(one, trail) {
+        return Some(Watch {
+            one: literal,
+            other: one,
+        });
+    }
+    if is_same(one, other) || rank > watch_rank(other, trail) {
+        return Some(Watch {
+            one,
+            other: literal,
+        });
+    }
+    watch
+}
+
+// How good it is to watch a literal: the step at which it became false, or more if it is not false.
+fn watch_rank(literal: Literal, trail: &Trail) -> usize {
+    match trail.truth(literal) {
+        Some(false) => trail.step_of(literal),
+        _ => usize::MAX,
+    }
+}
+
+// A literal of a clause that is not false, except for one.
+fn free_literal(clause: &Clause, but: Literal, trail: &Trail) -> Option<Literal> {
+    match free_among(clause.options(), true, but, trail) {
+        Some(literal) => Some(literal),
+        None => free_among(clause.members(), false, but, trail),
+    }
+}
+
+// The first of some literals that is not false, except for one.
+fn free_among(ids: &[CandId], is_in: bool, but: Literal, trail: &Trail) -> Option<Literal> {
+    for id in ids {
+        let literal = Literal {
+            place: id.place,
+            is_in,
         };
-        match learnt.members_at(index) {
-            Some(members) => are_others_choices(members, id, chosen),
-            None => false,
-        }
-    }
-}
-
-// Adds entries that no reason watches, until there is one at the place.
-fn grow(alloc: Global, watched: &mut Vec<Watched>, place: usize) -> Result<(), AllocError>
-    ensures { OnOk result (place < vec_len watched.new) }
-{
-    while watched.len() <= place {
-        let by = Vec::new(alloc);
-        watched.push(Watched { by, against: None })?;
-    }
-    Ok(())
-}
-
-// Notes the turn at which the candidate at a place was chosen.
-fn note(turns: &mut Vec<usize>, place: usize, turn: usize) -> Result<(), AllocError> {
-    while turns.len() <= place {
-        turns.push(0)?;
-    }
-    turns[place] = turn;
-    Ok(())
-}
-
-// A member of a reason that is no choice, except for one.
-fn member_not_chosen(members: &[CandId], but: CandId, chosen: &Choices<'_>) -> Option<CandId> {
-    for id in members {
-        if *id != but && !chosen.has(*id) {
-            return Some(*id);
+        if !is_same(literal, but) && trail.truth(literal) != Some(false) {
+            return Some(literal);
         }
     }
     None
+}
+
+// Adds places that no clause watches, until there is one at the place.
+fn grow(alloc: Global, places: &mut Vec<Watching>, place: usize) -> Result<(), AllocError>
+    ensures { OnOk result (place < vec_len places.new) }
+{
+    while places.len() <= place {
+        let (is_in, is_out) = (Vec::new(alloc), Vec::new(alloc));
+        places.push(Watching { is_in, is_out })?;
+    }
+    Ok(())
 }

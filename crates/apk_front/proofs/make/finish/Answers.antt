@@ -1,4 +1,4 @@
-use Rattle.std.proofs.Common.{refl}
+use Rattle.std.proofs.Common.{refl, inr}
 use Rattle.apk_front.proofs.Containers.{refused_made, refused_run, written_made}
 use Rattle.make_core.specs.make_info.Output.{output_name}
 use Rattle.apk_front.proofs.make.finish.Goals as goal
@@ -11,3 +11,15 @@ returns-in-Err-clause-run g c = refused_run (output_name c.args.command.now) c.a
 
 pub returns-in-Ok-clause-run : goal.returns-in-Ok-clause-run
 returns-in-Ok-clause-run g c = written_made (output_name c.args.command.now) c.args.report c.args.container c.in-Ok.file _ c.write.result _ _ c.in-Ok.is c.deref.ensures.value c.write.ensures.run
+
+pub returns-in-Ok-clause-goes_on : goal.returns-in-Ok-clause-goes_on
+returns-in-Ok-clause-goes_on g c = c.write.ensures.counts.goes_on
+
+pub returns-in-Ok-clause-disk : goal.returns-in-Ok-clause-disk
+returns-in-Ok-clause-disk g c = λ is. inr (c.write.ensures.counts.disk is)
+
+pub returns-in-Ok-clause-kept : goal.returns-in-Ok-clause-kept
+returns-in-Ok-clause-kept g c = c.write.ensures.counts.kept
+
+pub returns-in-Ok-clause-memory : goal.returns-in-Ok-clause-memory
+returns-in-Ok-clause-memory g c = c.write.ensures.counts.memory

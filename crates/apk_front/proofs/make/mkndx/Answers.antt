@@ -2,7 +2,7 @@ use Rattle.std.proofs.Common.{◌∙◌, List, ap, length}
 use Rattle.outcome.specs.Make.{index_line}
 use Rattle.command_core.specs.declared.operands.Operand.{Operand}
 use Rattle.apk_front.proofs.Containers.{index_outcomes, index_read, proper_by, runs, reports_one}
-use Rattle.apk_front.proofs.NothingFailed.{kept_both, memory_both}
+use Rattle.apk_front.proofs.NothingFailed.{counted_both}
 use Rattle.apk_front.proofs.make.mkndx.Goals as goal
 
 pub returns-clause-found : goal.returns-clause-found
@@ -21,11 +21,6 @@ pub returns-clause-proper : goal.returns-clause-proper
 returns-clause-proper g c =
     proper_by _ _ _ _ (index_outcomes c.args.command.now _ (c.in_ok-report.ensures ∙ ap index_line (c.len.ensures ∙ ap (λ (os : List Operand). length os) c.operands.ensures.value))) c.index-container.result _ _ _ _ _ c.index-container.ensures.tree.same c.index-container.ensures.made c.index-container.ensures.tree.proper c.finish.ensures.proper
 
-pub returns-clause-kept : goal.returns-clause-kept
-returns-clause-kept g c = kept_both c.counts_of_consecutive_calls_compose.ensures.no_fault c.index-container.result c.finish.result _ _ _ _ _ c.index-container.ensures.tree c.finish.ensures.done c.finish.ensures.kept
-
-pub returns-clause-memory : goal.returns-clause-memory
-returns-clause-memory g c = memory_both c.counts_of_consecutive_calls_compose.ensures.no_fault c.index-container.result c.finish.result _ _ _ _ _ c.index-container.ensures.tree c.finish.ensures.lost c.finish.ensures.memory
-
-pub returns-clause-goes_on : goal.returns-clause-goes_on
-returns-clause-goes_on g c = c.counts_of_consecutive_calls_compose.ensures.goes_on _ _ _ c.index-container.ensures.tree.goes_on c.finish.ensures.goes_on
+pub returns-clause-counts : goal.returns-clause-counts
+returns-clause-counts g c =
+    counted_both c.counts_of_consecutive_calls_compose.ensures.no_fault c.index-container.result c.finish.result _ _ _ _ _ c.index-container.ensures.tree c.finish.ensures.done c.finish.ensures.lost c.finish.ensures.goes_on c.finish.ensures.disk c.finish.ensures.kept c.finish.ensures.memory

@@ -1,6 +1,6 @@
 use Rattle.std.proofs.Common.{◌∙◌}
 use Rattle.apk_front.proofs.Containers.{package_outcomes, package_output, package_read, proper_by, runs, reports_one}
-use Rattle.apk_front.proofs.NothingFailed.{kept_both, memory_both}
+use Rattle.apk_front.proofs.NothingFailed.{counted_both}
 use Rattle.apk_front.proofs.make.mkpkg.Goals as goal
 
 pub finish-requires-clause-output : goal.finish-requires-clause-output
@@ -22,11 +22,6 @@ pub returns-clause-proper : goal.returns-clause-proper
 returns-clause-proper g c =
     proper_by _ _ _ _ (package_outcomes c.files_have_one_list_of_names.ensures.one c.args.command.now _ (c.from_vec-report.ensures ∙ c.new.ensures.items)) c.package-container.result _ _ _ _ _ c.package-container.ensures.tree.same c.package-container.ensures.made c.package-container.ensures.tree.proper c.finish.ensures.proper
 
-pub returns-clause-kept : goal.returns-clause-kept
-returns-clause-kept g c = kept_both c.counts_of_consecutive_calls_compose.ensures.no_fault c.package-container.result c.finish.result _ _ _ _ _ c.package-container.ensures.tree c.finish.ensures.done c.finish.ensures.kept
-
-pub returns-clause-memory : goal.returns-clause-memory
-returns-clause-memory g c = memory_both c.counts_of_consecutive_calls_compose.ensures.no_fault c.package-container.result c.finish.result _ _ _ _ _ c.package-container.ensures.tree c.finish.ensures.lost c.finish.ensures.memory
-
-pub returns-clause-goes_on : goal.returns-clause-goes_on
-returns-clause-goes_on g c = c.counts_of_consecutive_calls_compose.ensures.goes_on _ _ _ c.package-container.ensures.tree.goes_on c.finish.ensures.goes_on
+pub returns-clause-counts : goal.returns-clause-counts
+returns-clause-counts g c =
+    counted_both c.counts_of_consecutive_calls_compose.ensures.no_fault c.package-container.result c.finish.result _ _ _ _ _ c.package-container.ensures.tree c.finish.ensures.done c.finish.ensures.lost c.finish.ensures.goes_on c.finish.ensures.disk c.finish.ensures.kept c.finish.ensures.memory

@@ -14,7 +14,7 @@ returns-in-Mkpkg-clause-run g c =
       by_reads = package_read_one c.args.command.now c.mkpkg.result is c.mkpkg.ensures.by_reads;
       tree = package_run c.args.command.now c.mkpkg.result _ _ is c.mkpkg.ensures.run;
       undone = undone_anyway _ _ c.mkpkg.ensures.undone;
-      counts = record { goes_on = c.mkpkg.ensures.goes_on; disk = c.mkpkg.ensures.disk; kept = c.mkpkg.ensures.kept; memory = c.mkpkg.ensures.memory };
+      counts = c.mkpkg.ensures.counts;
       proper = package_proper c.args.command.now _ _ is c.mkpkg.ensures.proper;
     }
 
@@ -26,7 +26,7 @@ returns-in-Mkndx-clause-run g c =
       by_reads = index_read_one c.args.command.now c.mkndx.result is c.mkndx.ensures.by_reads;
       tree = index_run c.args.command.now c.mkndx.result _ _ is c.mkndx.ensures.run;
       undone = undone_anyway _ _ c.mkndx.ensures.undone;
-      counts = record { goes_on = c.mkndx.ensures.goes_on; disk = c.mkndx.ensures.disk; kept = c.mkndx.ensures.kept; memory = c.mkndx.ensures.memory };
+      counts = c.mkndx.ensures.counts;
       proper = index_proper c.args.command.now _ _ is c.mkndx.ensures.proper;
     }
 

@@ -9,7 +9,7 @@ abbrev pub invariant-loop-top : goal.invariant-loop-top
 invariant-loop-top l = record {
   pool : pool_of l.search.chosen ≡ pool_of l.initial.search.chosen;
   matches : AreMatchesAmong (pool_of l.initial.search.chosen).candidates l.search.matches;
-  learnt : l.search.learnt ≡ pool_of l.search.chosen;
+  known : l.search.known ≡ pool_of l.search.chosen;
   search : IsSearch l.search.chosen l.search.turns.items;
   open_now : IsFrameOf (pool_of l.search.chosen) (choices_of l.search.chosen) l.top;
 }

@@ -26,7 +26,7 @@ loop-id-preserved c =
     record {
       chosen = c.reason_against.ensures.chosen ∙ c.loop-id.invariant.chosen;
       turns = c.reason_against.ensures.turns ∙ c.loop-id.invariant.turns;
-      learnt = c.reason_against.ensures.learnt ∙ c.loop-id.invariant.learnt;
+      known = c.reason_against.ensures.known ∙ c.loop-id.invariant.known;
       search = subst (λ (z : Choices). IsSearch z c.reason_against.new.self.turns.items) (sym c.reason_against.ensures.chosen)
           (subst (λ (z : List (FrameValue × ℕ)). IsSearch c.loop-id.self.chosen z) (sym c.reason_against.ensures.turns) c.loop-id.invariant.search);
       open_now = subst (λ (z : Choices). IsFrameOf (pool_of z) (choices_of z) c.rule_out.new.self) (sym c.reason_against.ensures.chosen)
@@ -59,11 +59,11 @@ pub reason_against-requires-clause-matches : goal.reason_against-requires-clause
 reason_against-requires-clause-matches c =
     subst (λ (z : Choices). AreMatchesAmong (pool_of z).candidates c.loop-id.self.matches) (sym c.loop-id.invariant.chosen) c.loop-id.invariant.matches
 
-pub reason_against-requires-clause-learnt : goal.reason_against-requires-clause-learnt
-reason_against-requires-clause-learnt c = c.loop-id.invariant.learnt ∙ (c.requires.learnt ∙ sym (ap pool_of c.loop-id.invariant.chosen))
+pub reason_against-requires-clause-known : goal.reason_against-requires-clause-known
+reason_against-requires-clause-known c = c.loop-id.invariant.known ∙ (c.requires.known ∙ sym (ap pool_of c.loop-id.invariant.chosen))
 
-pub returns-in-None-clause-learnt : goal.returns-in-None-clause-learnt
-returns-in-None-clause-learnt c = c.reason_against.ensures.learnt ∙ c.loop-id.invariant.learnt
+pub returns-in-None-clause-known : goal.returns-in-None-clause-known
+returns-in-None-clause-known c = c.reason_against.ensures.known ∙ c.loop-id.invariant.known
 
 pub returns-in-None-clause-matches : goal.returns-in-None-clause-matches
 returns-in-None-clause-matches c =

@@ -8,7 +8,7 @@ abbrev pub invariant-loop-id : goal.invariant-loop-id
 invariant-loop-id l = record {
   chosen : l.self.chosen ≡ l.initial.self.chosen;
   turns : l.self.turns.items ≡ l.initial.self.turns.items;
-  learnt : l.self.learnt ≡ l.initial.self.learnt;
+  known : l.self.known ≡ l.initial.self.known;
   search : IsSearch l.self.chosen l.self.turns.items;
   open_now : IsFrameOf (pool_of l.self.chosen) (choices_of l.self.chosen) l.top;
   matches : AreMatchesAmong (pool_of l.initial.self.chosen).candidates l.self.matches;

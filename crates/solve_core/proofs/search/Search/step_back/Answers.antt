@@ -2,6 +2,8 @@ use Rattle.std.proofs.Common.{ℕ, List, subst, sym}
 use Rattle.search_choices.specs.candidate_core.Rank.{SealedPool}
 use Rattle.search_choices.specs.Choices.{choices_of, pool_of}
 use Rattle.search_choices.specs.search_tables.Reasons.{IsReason, dead_end_reason}
+use Rattle.solve_core.specs.Clauses.{ClauseValue, IsClause}
+use Rattle.solve_core.proofs.Resolution.{clause_of_reason}
 use Rattle.solve_core.proofs.Steps.{dead_end, dead_same}
 use Rattle.solve_core.proofs.search.Search.step_back.Goals as goal
 
@@ -21,8 +23,9 @@ pub learn-requires : goal.learn-requires
 learn-requires c =
     let pool = pool_of c.args.self.now.chosen in
     let both = dead_end pool (λ need. c.options_are_as_promised.ensures pool need) (choices_of c.args.self.now.chosen) c.args.spent c.requires.spent in
-    subst (λ (p : SealedPool). IsReason p c.as_slice.result.now) (sym c.requires.learnt)
-    (subst (λ (z : List ℕ). IsReason pool z) (sym c.as_slice.ensures) (dead_same pool (dead_end_reason c.args.spent) _ c.in_ok-self.ensures both.1))
+    let dead : IsReason pool c.as_slice.result.now = subst (λ (z : List ℕ). IsReason pool z) (sym c.as_slice.ensures) (dead_same pool (dead_end_reason c.args.spent) _ c.in_ok-self.ensures both.1) in
+    subst (λ (p : SealedPool). IsClause p c.in_ok-learnt.learnt) (sym c.requires.known)
+    (subst (λ (z : ClauseValue). IsClause pool z) (sym c.in_ok-learnt.ensures) (clause_of_reason pool c.as_slice.result.now dead))
 
 pub returns-clause-lighter : goal.returns-clause-lighter
 returns-clause-lighter c = c.step_back_for_reason.ensures.lighter c.args.spent

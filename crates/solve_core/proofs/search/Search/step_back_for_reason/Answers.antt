@@ -15,7 +15,7 @@ pub loop-turn-init : goal.loop-turn-init
 loop-turn-init c = record {
   pool = refl;
   matches = refl;
-  learnt = refl;
+  known = refl;
   search = c.requires.search;
   front = ([], sym (append-nil c.args.self.now.turns.items));
   within = c.requires.within;
@@ -32,7 +32,7 @@ loop-turn-preserved c =
     record {
       pool = c.pop-in-Some.ensures.pool ∙ c.loop-turn.invariant.pool;
       matches = c.loop-turn.invariant.matches;
-      learnt = c.loop-turn.invariant.learnt;
+      known = c.loop-turn.invariant.known;
       search = less.0;
       front = (turn ∷ c.loop-turn.invariant.front.0, c.loop-turn.invariant.front.1 ∙ (ap (λ (z : List (FrameValue × ℕ)). z ++ c.loop-turn.invariant.front.0) items ∙ append_assoc c.pop.new.self.items (turn ∷ []) c.loop-turn.invariant.front.0));
       within = jumped c.loop-turn.self.reason (choices_of c.pop-in-Some.new.self) (choices_of c.loop-turn.self.chosen) turn.1 c.loop-turn.invariant.within less.2 (λ h. out (subst (λ (z : ℕ). IsIn z c.loop-turn.self.reason) (sym choice) h));
@@ -68,3 +68,6 @@ returns-clause-found c =
     subst (λ (p : SealedPool). IsReason p []) c.loop-turn.invariant.pool
     (dead_empty (pool_of c.loop-turn.self.chosen) c.loop-turn.self.reason (choices_of c.loop-turn.self.chosen) c.loop-turn.invariant.within
     (c.loop-turn.invariant.search.choices ∙ no_choices c.loop-turn.self.turns.items (empty_list c.loop-turn.self.turns.items (omega (arith, c.in_default.ensures.cases.0, c.loop-turn.self.turns.ok)))) c.loop-turn.invariant.dead)
+
+pub returns-then-has-clause-known : goal.returns-then-has-clause-known
+returns-then-has-clause-known c = c.take_back.ensures ∙ c.loop-turn.invariant.known

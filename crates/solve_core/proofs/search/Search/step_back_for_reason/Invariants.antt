@@ -8,7 +8,7 @@ abbrev pub invariant-loop-turn : goal.invariant-loop-turn
 invariant-loop-turn l = record {
   pool : pool_of l.self.chosen ≡ pool_of l.initial.self.chosen;
   matches : l.self.matches ≡ l.initial.self.matches;
-  learnt : l.self.learnt ≡ l.initial.self.learnt;
+  known : l.self.known ≡ l.initial.self.known;
   search : IsSearch l.self.chosen l.self.turns.items;
   front : (rest : List (FrameValue × ℕ)) × (l.initial.self.turns.items ≡ l.self.turns.items ++ rest);
   within : AreMembers l.self.reason (choices_of l.self.chosen);

@@ -1,0 +1,178 @@
+//! Clauses about a pool, as a SAT solver has them: each satisfying selection that has all *members*
+//! of a clause has one of its *options*. A clause without options is a reason. A clause is a fact
+//! about the pool: it holds whatever is chosen. The rule is in `docs/selection.md`, "How the search
+//! works".
+ghost use Rattle.std.specs.Prelude.{◌≡◌, ◌⊎◌, true, IfOk, OnOk, [], ℕ};
+ghost use Rattle.search_choices.specs.candidate_core.Options.{IsIn};
+ghost use Rattle.search_choices.specs.candidate_core.Rank.{SealedPool};
+ghost use Rattle.search_choices.specs.search_tables.Selection.{AreMembers};
+ghost use Rattle.solve_core.specs.Clauses.{AreMembersOr, IsClause};
+ghost use Rattle.search_choices.specs.Choices.{choices_of};
+
+use search_choices::{CandId, Choices};
+use std::alloc::{AllocError, Global};
+use std::marker::Model;
+
+/// A clause: each satisfying selection that has all members has one of the options.
+#[derive(Drop)]
+pub(crate) struct Clause {
+    /// The members.
+    members: Vec<CandId>,
+    /// The options.
+    options: Vec<CandId>,
+}
+
+impl Model for Clause {
+    ghost use Rattle.std.specs.Prelude.{ℕ, List};
+
+    ghost Value = { List ℕ × List ℕ };
+
+    // In this order: the members, and the options.
+    ghost view = { λ clause. (clause.members.items, clause.options.items) };
+}
+
+impl Clause {
+    /// A clause with these members and options.
+    pub(crate) fn new(members: Vec<CandId>, options: Vec<CandId>) -> Clause
+        ensures { result ≡ (members.items, options.items) }
+    {
+        Clause { members, options }
+    }
+
+    /// The reason with these members: a clause without options.
+    pub(crate) fn reason(alloc: Global, members: &[CandId]) -> Result<Clause, AllocError>
+        ensures { IfOk result (λ clause. clause ≡ (members.now, [])) }
+    {
+        let members = Vec::from_slice(alloc, members)?;
+        Ok(Clause {
+            members,
+            options: Vec::new(alloc),
+        })
+    }
+
+    /// A copy.
+    pub(crate) fn copy(&self, alloc: Global) -> Result<Clause, AllocError>
+        ensures { IfOk result (λ clause. clause ≡ self.now) }
+    {
+        let members = Vec::from_slice(alloc, self.members.as_slice())?;
+        let options = Vec::from_slice(alloc, self.options.as_slice())?;
+        Ok(Clause { members, options })
+    }
+
+    /// The members.
+    pub(crate) fn members(&self) -> &[CandId]
+        ensures { result.now ≡ self.now.0 }
+    {
+        self.members.as_slice()
+    }
+
+    /// The options.
+    pub(crate) fn options(&self) -> &[CandId]
+        ensures { result.now ≡ self.now.1 }
+    {
+        self.options.as_slice()
+    }
+
+    /// How many members and options there are.
+    pub(crate) fn size(&self) -> usize {
+        self.members().len().saturating_add(self.options().len())
+    }
+
+    /// Whether the clause is a reason: it has no options.
+    pub(crate) fn is_reason(&self) -> bool
+        ensures { result ≡ true → self.now.1 ≡ [] }
+    {
+        self.options().is_empty()
+    }
+}
+
+/// The resolvent of two clauses at a candidate, an option of the first and a member of the second.
+/// It has all members and options of both but that candidate.
+pub(crate) fn resolvent(
+    alloc: Global,
+    first: &Clause,
+    second: &Clause,
+    id: CandId,
+) -> Result<Clause, AllocError>
+    ensures { IfOk result (λ clause. (pool : SealedPool) → IsClause pool first.now →
+        IsClause pool second.now → IsClause pool clause) }
+{
+    let mut members = Vec::from_slice(alloc, first.members())?;
+    add_others(&mut members, second.members(), id)?;
+    let mut options = Vec::from_slice(alloc, second.options())?;
+    add_others(&mut options, first.options(), id)?;
+    Ok(Clause { members, options })
+}
+
+// Appends those of some candidates but one that a list has not.
+fn add_others(list: &mut Vec<CandId>, ids: &[CandId], but: CandId) -> Result<(), AllocError>
+    ensures old { OnOk result (AreMembers list.old.items list.new.items) }
+    ensures new { OnOk result (AreMembersOr ids.now but list.new.items) }
+{
+    for id in ids {
+        add_unless(list, *id, but)?;
+    }
+    Ok(())
+}
+
+// Appends a candidate, unless it is the given one or the list has it.
+fn add_unless(list: &mut Vec<CandId>, id: CandId, but: CandId) -> Result<(), AllocError>
+    ensures old { OnOk result (AreMembers list.old.items list.new.items) }
+    ensures new { OnOk result ((id ≡ but) ⊎ IsIn id list.new.items) }
+{
+    if id == but {
+        return Ok(());
+    }
+    if has(list.as_slice(), id) {
+        return Ok(());
+    }
+    list.push(id)?;
+    Ok(())
+}
+
+// Whether a list has a candidate.
+fn has(list: &[CandId], id: CandId) -> bool
+    ensures { result ≡ true → IsIn id list.now }
+{
+    for one in list {
+        if *one == id {
+            return true;
+        }
+    }
+    false
+}
+
+/// Whether each member of a reason but the given one is a choice, so that the reason rules that one
+/// out.
+pub(crate) fn are_others_choices(members: &[CandId], id: CandId, chosen: &Choices<'_>) -> bool
+    ensures { result ≡ true → AreMembersOr members.now id (choices_of chosen.now) }
+{
+    for member in members {
+        if !is_choice_or(*member, id, chosen) {
+            return false;
+        }
+    }
+    true
+}
+
+// Whether a member of a reason is the given candidate or a choice.
+fn is_choice_or(member: CandId, id: CandId, chosen: &Choices<'_>) -> bool
+    ensures { result ≡ true → (member ≡ id) ⊎ IsIn member (choices_of chosen.now) }
+{
+    if member == id {
+        return true;
+    }
+    chosen.has(member)
+}
+
+/// Whether each member of a reason is a choice.
+pub(crate) fn are_choices(members: &[CandId], chosen: &Choices<'_>) -> bool
+    ensures { result ≡ true → AreMembers members.now (choices_of chosen.now) }
+{
+    for member in members {
+        if !chosen.has(*member) {
+            return false;
+        }
+    }
+    true
+}

@@ -1,0 +1,401 @@
+//! Propagation, as in a SAT solver: it finds which candidates follow from the choices by one clause
+//! at a time, and whether the choices contradict the clauses. It prunes the search and never
+//! chooses. The rule is in `docs/selection.md`, "How the search works".
+ghost use Rattle.std.specs.Prelude.{◌≡◌, IfOk, IfSome};
+ghost use Rattle.solve_core.specs.Clauses.{IsClause};
+ghost use Rattle.search_choices.specs.candidate_core.Rank.{SealedPool};
+
+use crate::clauses::Clause;
+use crate::known::Known;
+use crate::pool_rules::{add_candidate, add_world};
+use crate::trail::{Literal, Status, Trail};
+use crate::watches::Watches;
+use search_choices::{CandId, CandidateSet};
+use std::alloc::{AllocError, Global};
+
+/// The most candidates whose rules are propagated: those nearest to world.
+const MOST_CANDIDATES: usize = 16_384;
+
+/// The most clauses that are learnt before all are forgotten.
+const MOST_LEARNT: usize = 4096;
+
+/// The most members of a learnt clause.
+const MOST_MEMBERS: usize = 64;
+
+/// The most members and options of a clause that steps follow from. Resolution of longer clauses
+/// takes long, and rarely helps.
+const MOST_LITERALS: usize = 512;
+
+/// The state of propagation. No contract mentions it: what it names is checked before it is used.
+#[derive(Drop)]
+pub(crate) struct Propagation {
+    /// The allocator.
+    alloc: Global,
+    /// What follows from the choices.
+    trail: Trail,
+    /// Which clauses to look at.
+    watches: Watches,
+    /// The indexes of clauses that may force a literal from the start.
+    pending: Vec<usize>,
+    /// How many clauses are not learnt; None before the rules of the pool are added.
+    base: Option<usize>,
+}
+
+impl Propagation {
+    /// Propagation that has not begun.
+    pub(crate) fn new(alloc: Global) -> Propagation {
+        Propagation {
+            alloc,
+            trail: Trail::new(alloc),
+            watches: Watches::new(alloc),
+            pending: Vec::new(alloc),
+            base: None,
+        }
+    }
+
+    /// Adds the rules of the pool, unless that is done.
+    pub(crate) fn begin(&mut self, known: &mut Known<'_>) -> Result<(), AllocError>
+        ensures { known.new ≡ known.old }
+    {
+        if self.base.is_some() {
+            return Ok(());
+        }
+        add_rules(self.alloc, known)?;
+        self.watch_all(known)?;
+        self.base = Some(known.len());
+        Ok(())
+    }
+
+    // Watches each clause.
+    fn watch_all(&mut self, known: &Known<'_>) -> Result<(), AllocError> {
+        for index in 0..known.len() {
+            if let Some(clause) = known.clause_at(index) {
+                self.watches.push(clause, &self.trail)?;
+                if clause.size() < 2 {
+                    self.pending.push(index)?;
+                }
+            }
+        }
+        Ok(())
+    }
+
+    /// Learns a clause, unless it has too many members. If there are too many clauses, the others
+    /// are forgotten first: each rules out what it does whether the others are known or not.
+    pub(crate) fn learn(&mut self, clause: Clause, known: &mut Known<'_>) -> Result<(), AllocError>
+        requires { IsClause known.old clause }
+        ensures { known.new ≡ known.old }
+    {
+        let Some(base) = self.base else {
+            return Ok(());
+        };
+        if clause.members().is_empty() || clause.members().len() > MOST_MEMBERS {
+            return Ok(());
+        }
+        if known.len() >= base.saturating_add(MOST_LEARNT) {
+            known.truncate(base);
+            self.watches.truncate(base);
+        }
+        self.watches.push(&clause, &self.trail)?;
+        self.pending.push(known.len())?;
+        known.push(clause)
+    }
+
+    /// Takes the choices from a level on back.
+    pub(crate) fn take_back(&mut self, level: usize, known: &mut Known<'_>)
+        ensures { known.new ≡ known.old }
+    {
+        if let Some(left) = self.trail.take_back(level) {
+            known.truncate_causes(left);
+        }
+    }
+
+    /// How many choices were propagated.
+    pub(crate) fn level(&self) -> usize {
+        self.trail.level()
+    }
+
+    /// Propagates a further choice. It returns a clause that the choices contradict, if one is
+    /// found.
+    pub(crate) fn choose(
+        &mut self,
+        choice: CandId,
+        known: &mut Known<'_>,
+    ) -> Result<Option<Clause>, AllocError>
+        ensures known { known.new ≡ known.old }
+        ensures conflict { IfOk result (λ found. IfSome found (λ clause.
+            IsClause known.old clause)) }
+    {
+        self.trail.begin_level()?;
+        let literal = Literal {
+            place: choice.place,
+            is_in: true,
+        };
+        match self.trail.truth(literal) {
+            Some(true) => {}
+            Some(false) => return self.cause_against(choice, known),
+            None => {
+                known.push_cause(trivial_clause(self.alloc, choice)?)?;
+                self.trail.push(literal, true)?;
+            }
+        }
+        self.propagate(known)
+    }
+
+    // A copy of the clause that rules a candidate out, if one does.
+    fn cause_against(&self, id: CandId, known: &Known<'_>) -> Result<Option<Clause>, AllocError>
+        ensures { IfOk result (λ found. IfSome found (λ clause. IsClause known.now clause)) }
+    {
+        let Some(step) = self.trail.step_out(id) else {
+            return Ok(None);
+        };
+        let Some(cause) = known.cause_at(step) else {
+            return Ok(None);
+        };
+        Ok(Some(cause.copy(self.alloc)?))
+    }
+
+    /// Propagates what was learnt and the steps that are left. It returns a clause that the choices
+    /// contradict, if one is found.
+    pub(crate) fn propagate(&mut self, known: &mut Known<'_>) -> Result<Option<Clause>, AllocError>
+        ensures known { known.new ≡ known.old }
+        ensures conflict { IfOk result (λ found. IfSome found (λ clause.
+            IsClause known.old clause)) }
+    {
+        let pending = std::mem::replace(&mut self.pending, Vec::new(self.alloc));
+        if let Some(conflict) = self.derive_all(pending.as_slice(), known)? {
+            return Ok(Some(conflict));
+        }
+        self.propagate_steps(known)
+    }
+
+    // Derives what each of some clauses forces.
+    fn derive_all(
+        &mut self,
+        indexes: &[usize],
+        known: &mut Known<'_>,
+    ) -> Result<Option<Clause>, AllocError>
+        ensures known { known.new ≡ known.old }
+        ensures conflict { IfOk result (λ found. IfSome found (λ clause.
+            IsClause known.old clause)) }
+    {
+        for index in indexes {
+            if let Some(conflict) = self.derive(*index, known)? {
+                return Ok(Some(conflict));
+            }
+        }
+        Ok(None)
+    }
+
+    // Propagates the steps that are left.
+    fn propagate_steps(&mut self, known: &mut Known<'_>) -> Result<Option<Clause>, AllocError>
+        ensures known { known.new ≡ known.old }
+        ensures conflict { IfOk result (λ found. IfSome found (λ clause.
+            IsClause known.old clause)) }
+    {
+        let mut left = known.pool().len();
+        while left > 0 {
+            left -= 1;
+            let Some(literal) = self.trail.next_falsified() else {
+                return Ok(None);
+            };
+            if let Some(conflict) = self.visit(literal, known)? {
+                return Ok(Some(conflict));
+            }
+        }
+        Ok(None)
+    }
+
+    // Looks at each clause that watches a literal which became false.
+    fn visit(
+        &mut self,
+        literal: Literal,
+        known: &mut Known<'_>,
+    ) -> Result<Option<Clause>, AllocError>
+        ensures known { known.new ≡ known.old }
+        ensures conflict { IfOk result (λ found. IfSome found (λ clause.
+            IsClause known.old clause)) }
+    {
+        let mut left = self.watches.count(literal);
+        while left > 0 {
+            left -= 1;
+            if let Some(index) = self.forcing(literal, left, known)? {
+                if let Some(conflict) = self.derive(index, known)? {
+                    return Ok(Some(conflict));
+                }
+            }
+        }
+        Ok(None)
+    }
+
+    // The clause at a place of those that watch a false literal, if it may force another one.
+    fn forcing(
+        &mut self,
+        literal: Literal,
+        place: usize,
+        known: &Known<'_>,
+    ) -> Result<Option<usize>, AllocError> {
+        let Some(index) = self.watches.at(literal, place) else {
+            return Ok(None);
+        };
+        let Some(clause) = known.clause_at(index) else {
+            return Ok(None);
+        };
+        let is_forcing = self
+            .watches
+            .is_forcing(literal, place, index, clause, &self.trail)?;
+        Ok(if is_forcing { Some(index) } else { None })
+    }
+
+    // Appends the last open literal of a clause to the trail. If all its literals are false, the
+    // clause is returned, without the options that are ruled out.
+    fn derive(&mut self, index: usize, known: &mut Known<'_>) -> Result<Option<Clause>, AllocError>
+        ensures known { known.new ≡ known.old }
+        ensures conflict { IfOk result (λ found. IfSome found (λ clause.
+            IsClause known.old clause)) }
+    {
+        let status = match known.clause_at(index) {
+            Some(clause) => self.trail.status(clause),
+            None => Status::Quiet,
+        };
+        match status {
+            Status::Quiet => Ok(None),
+            Status::Unit(literal) => {
+                if let Some(cause) = self.without_options(index, known)? {
+                    known.push_cause(cause)?;
+                    self.trail.push(literal, false)?;
+                }
+                Ok(None)
+            }
+            Status::Conflict => self.without_options(index, known),
+        }
+    }
+
+    // The clause at an index without the options that are ruled out, by resolution; None if it gets
+    // too long.
+    fn without_options(&self, index: usize, known: &Known<'_>) -> Result<Option<Clause>, AllocError>
+        ensures { IfOk result (λ found. IfSome found (λ clause. IsClause known.now clause)) }
+    {
+        let Some(whole) = known.clause_at(index) else {
+            return Ok(None);
+        };
+        let mut clause = whole.copy(self.alloc)?;
+        for option in whole.options() {
+            if clause.size() > MOST_LITERALS {
+                return Ok(None);
+            }
+            clause = self.without_option(clause, *option, known)?;
+        }
+        Ok(Some(clause))
+    }
+
+    // A clause without an option, by resolution, if the option is ruled out.
+    fn without_option(
+        &self,
+        clause: Clause,
+        option: CandId,
+        known: &Known<'_>,
+    ) -> Result<Clause, AllocError>
+        requires { IsClause known.now clause }
+        ensures { IfOk result (λ found. IsClause known.now found) }
+    {
+        match self.trail.step_out(option) {
+            None => Ok(clause),
+            Some(step) => known.without_option(clause, step, option),
+        }
+    }
+
+    /// Learns from a clause that the choices contradict, and returns the clause of choices alone
+    /// that follows.
+    pub(crate) fn learn_from(
+        &mut self,
+        conflict: Clause,
+        known: &mut Known<'_>,
+    ) -> Result<Clause, AllocError>
+        requires { IsClause known.old conflict }
+        ensures known { known.new ≡ known.old }
+        ensures clause { IfOk result (λ clause. IsClause known.old clause) }
+    {
+        let learnt = self.resolved(conflict, true, known)?;
+        let copy = learnt.copy(self.alloc)?;
+        let of_choices = self.resolved(learnt, false, known)?;
+        self.learn(copy, known)?;
+        Ok(of_choices)
+    }
+
+    /// The clause of choices and a candidate, by resolution, if the candidate is ruled out.
+    pub(crate) fn clause_against(
+        &self,
+        id: CandId,
+        known: &Known<'_>,
+    ) -> Result<Option<Clause>, AllocError>
+        ensures { IfOk result (λ found. IfSome found (λ clause. IsClause known.now clause)) }
+    {
+        match self.cause_against(id, known)? {
+            None => Ok(None),
+            Some(cause) => {
+                let clause = self.resolved(cause, false, known)?;
+                Ok(Some(clause))
+            }
+        }
+    }
+
+    // A clause without members that were forced, by resolution with the causes of these, the latest
+    // first. It ends early once the clause is too long, or, if `until_alone`, once the latest level
+    // has one member.
+    fn resolved(
+        &self,
+        clause: Clause,
+        until_alone: bool,
+        known: &Known<'_>,
+    ) -> Result<Clause, AllocError>
+        requires { IsClause known.now clause }
+        ensures { IfOk result (λ found. IsClause known.now found) }
+    {
+        let mut clause = clause;
+        let mut left = known.pool().len();
+        while left > 0 {
+            left -= 1;
+            if clause.size() > MOST_LITERALS {
+                return Ok(clause);
+            }
+            if until_alone && self.trail.is_last_alone(clause.members()) {
+                return Ok(clause);
+            }
+            let Some(step) = self.trail.latest_forced(clause.members()) else {
+                return Ok(clause);
+            };
+            let Some(member) = self.trail.candidate_at(step) else {
+                return Ok(clause);
+            };
+            clause = known.without_member(clause, step, member)?;
+        }
+        Ok(clause)
+    }
+}
+
+// Adds the rules of the pool for the candidates nearest to world.
+fn add_rules(alloc: Global, known: &mut Known<'_>) -> Result<(), AllocError>
+    ensures { known.new ≡ known.old }
+{
+    let mut reached = CandidateSet::new(alloc);
+    add_world(alloc, known, &mut reached)?;
+    for i in 0..MOST_CANDIDATES {
+        let Some(id) = reached.as_slice().get(i).copied() else {
+            return Ok(());
+        };
+        if !known.has_room() {
+            return Ok(());
+        }
+        add_candidate(alloc, known, id, &mut reached)?;
+    }
+    Ok(())
+}
+
+// The clause that says nothing: a candidate is in a selection if it is.
+fn trivial_clause(alloc: Global, id: CandId) -> Result<Clause, AllocError>
+    ensures { (pool : SealedPool) → IfOk result (λ clause. IsClause pool clause) }
+{
+    let members = Vec::from_slice(alloc, &[id])?;
+    let options = Vec::from_slice(alloc, &[id])?;
+    Ok(Clause::new(members, options))
+}

@@ -1,0 +1,254 @@
+//! The trail of propagation: which candidates are in each satisfying selection that has the
+//! choices, and which are in none, in the order in which that was found. No contract mentions the
+//! trail: what it says is checked before it is used, so a wrong one only costs time.
+use crate::clauses::Clause;
+use search_choices::CandId;
+use std::alloc::{AllocError, Global};
+
+/// A literal: a candidate is in the selection, or it is not.
+#[derive(Clone, Copy)]
+pub(crate) struct Literal {
+    /// The place of the candidate.
+    pub(crate) place: u32,
+    /// Whether it is in the selection.
+    pub(crate) is_in: bool,
+}
+
+/// What is known of a candidate.
+#[derive(Clone, Copy)]
+struct Value {
+    /// Whether it is in the selection.
+    is_in: bool,
+    /// The step of the trail.
+    step: usize,
+    /// How many choices were made before.
+    level: usize,
+}
+
+/// A step of the trail.
+#[derive(Clone, Copy)]
+struct Step {
+    /// The place of the candidate.
+    place: u32,
+    /// Whether it is in the selection.
+    is_in: bool,
+    /// Whether it is a choice, and does not follow from a clause.
+    is_choice: bool,
+}
+
+/// What a clause says under the trail.
+#[derive(Clone, Copy)]
+pub(crate) enum Status {
+    /// Nothing further: a literal of it is true, or two are open.
+    Quiet,
+    /// Its last open literal is true.
+    Unit(Literal),
+    /// All its literals are false.
+    Conflict,
+}
+
+/// The trail.
+#[derive(Drop)]
+pub(crate) struct Trail {
+    /// For each place in the list of candidates, up to the greatest that was in the trail, what is
+    /// known.
+    values: Vec<Option<Value>>,
+    /// The steps.
+    steps: Vec<Step>,
+    /// For each choice, how many steps were before it.
+    levels: Vec<usize>,
+    /// How many steps were propagated.
+    next: usize,
+}
+
+impl Trail {
+    /// An empty trail.
+    pub(crate) fn new(alloc: Global) -> Trail {
+        Trail {
+            values: Vec::new(alloc),
+            steps: Vec::new(alloc),
+            levels: Vec::new(alloc),
+            next: 0,
+        }
+    }
+
+    // What is known of the candidate at a place.
+    fn value(&self, place: u32) -> Option<Value> {
+        *self.values.get(place as usize)?
+    }
+
+    /// How many choices were made.
+    pub(crate) fn level(&self) -> usize {
+        self.levels.len()
+    }
+
+    /// Whether a literal is known to be true; None if it is open.
+    pub(crate) fn truth(&self, literal: Literal) -> Option<bool> {
+        let value = self.value(literal.place)?;
+        Some(value.is_in == literal.is_in)
+    }
+
+    /// The step at which a candidate was ruled out, if it was.
+    pub(crate) fn step_out(&self, id: CandId) -> Option<usize> {
+        let value = self.value(id.place)?;
+        if value.is_in { None } else { Some(value.step) }
+    }
+
+    /// The step of a candidate; the number of all steps if it has none.
+    pub(crate) fn step_of(&self, literal: Literal) -> usize {
+        match self.value(literal.place) {
+            Some(value) => value.step,
+            None => self.steps.len(),
+        }
+    }
+
+    /// Appends a step.
+    pub(crate) fn push(&mut self, literal: Literal, is_choice: bool) -> Result<(), AllocError> {
+        let Literal { place, is_in } = literal;
+        let value = Value {
+            is_in,
+            step: self.steps.len(),
+            level: self.levels.len(),
+        };
+        note(&mut self.values, place as usize, value)?;
+        self.steps.push(Step {
+            place,
+            is_in,
+            is_choice,
+        })?;
+        Ok(())
+    }
+
+    /// Begins the level of a further choice.
+    pub(crate) fn begin_level(&mut self) -> Result<(), AllocError> {
+        let steps = self.steps.len();
+        self.levels.push(steps)?;
+        Ok(())
+    }
+
+    /// The literal that the next step to be propagated made false, if there is a step left.
+    pub(crate) fn next_falsified(&mut self) -> Option<Literal> {
+        let step = *self.steps.get(self.next)?;
+        self.next += 1;
+        Some(Literal {
+            place: step.place,
+            is_in: !step.is_in,
+        })
+    }
+
+    /// Takes the choices from a level on back, with the steps after them. It returns how many steps
+    /// are left; None if there is no such choice.
+    pub(crate) fn take_back(&mut self, level: usize) -> Option<usize> {
+        let left = *self.levels.get(level)?;
+        self.levels.truncate(level);
+        for i in left..self.steps.len() {
+            self.forget(i);
+        }
+        self.steps.truncate(left);
+        if self.next > left {
+            self.next = left;
+        }
+        Some(left)
+    }
+
+    // Forgets what is known of the candidate of a step.
+    fn forget(&mut self, step: usize) {
+        let Some(step) = self.steps.get(step) else {
+            return;
+        };
+        if let Some(value) = self.values.get_mut(step.place as usize) {
+            *value = None;
+        }
+    }
+
+    /// What a clause says under the trail.
+    pub(crate) fn status(&self, clause: &Clause) -> Status {
+        let members = self.status_of(clause.members(), false);
+        let options = self.status_of(clause.options(), true);
+        match (members, options) {
+            (Status::Conflict, options) => options,
+            (members, Status::Conflict) => members,
+            _ => Status::Quiet,
+        }
+    }
+
+    // What a clause with these literals alone says.
+    fn status_of(&self, ids: &[CandId], is_in: bool) -> Status {
+        let mut status = Status::Conflict;
+        for id in ids {
+            let literal = Literal {
+                place: id.place,
+                is_in,
+            };
+            match (self.truth(literal), &status) {
+                (Some(false), _) => {}
+                (None, Status::Conflict) => status = Status::Unit(literal),
+                _ => return Status::Quiet,
+            }
+        }
+        status
+    }
+
+    /// The step of the latest of some members that was forced.
+    pub(crate) fn latest_forced(&self, members: &[CandId]) -> Option<usize> {
+        let mut latest = None;
+        for id in members {
+            latest = later(latest, self.forced_step(id.place));
+        }
+        latest
+    }
+
+    /// The candidate of a step.
+    pub(crate) fn candidate_at(&self, step: usize) -> Option<CandId> {
+        let step = self.steps.get(step)?;
+        Some(CandId { place: step.place })
+    }
+
+    // The step at which the candidate at a place was forced.
+    fn forced_step(&self, place: u32) -> Option<usize> {
+        let value = self.value(place)?;
+        let step = self.steps.get(value.step)?;
+        if value.is_in && !step.is_choice {
+            Some(value.step)
+        } else {
+            None
+        }
+    }
+
+    /// Whether at most one of some members is of the level of the latest one.
+    pub(crate) fn is_last_alone(&self, members: &[CandId]) -> bool {
+        let mut last = 0;
+        let mut is_alone = true;
+        for id in members {
+            let level = match self.value(id.place) {
+                Some(value) => value.level,
+                None => 0,
+            };
+            if level > last {
+                last = level;
+                is_alone = true;
+            } else if level == last {
+                is_alone = false;
+            }
+        }
+        is_alone
+    }
+}
+
+// The later of two steps.
+fn later(one: Option<usize>, other: Option<usize>) -> Option<usize> {
+    match (one, other) {
+        (Some(a), Some(b)) => Some(if a < b { b } else { a }),
+        (None, other) => other,
+        (one, None) => one,
+    }
+}
+
+// Notes what is known of the candidate at a place.
+fn note(values: &mut Vec<Option<Value>>, place: usize, value: Value) -> Result<(), AllocError> {
+    while values.len() <= place {
+        values.push(None)?;
+    }
+    values[place] = Some(value);
+    Ok(())
+}
