@@ -1,6 +1,7 @@
 """An index of the packages in the lists that `apt-get update` left, for the scripts beside this file."""
 import glob
 import hashlib
+import itertools
 import re
 import subprocess
 
@@ -45,27 +46,44 @@ def paragraphs():
 def version(text):
     """The numbers in front of a version."""
     found = re.match(r"\d+(\.\d+)*", (text or "").rpartition(":")[2])
-    return found.group().encode() if found else b"1"
+    return found.group() if found else "1"
 
 
-def dependency(payload, clause):
-    """A dependency on the first alternative."""
+def dependency(clause):
+    """The first alternative: its name, its operator in Debian's form or None, and its version."""
     name, operator, wanted = ATOM.match(clause).groups()
+    return name, operator, version(wanted) if operator else ""
+
+
+def dependencies(fields):
+    """What a package depends on."""
+    clauses = [clause for key in ("Pre-Depends", "Depends") for clause in fields.get(key, "").split(",") if clause.strip()]
+    return [dependency(clause) for clause in clauses]
+
+
+def packages():
+    """The name, the version and the dependencies of each package."""
+    for fields in paragraphs():
+        yield fields["Package"], version(fields["Version"]), dependencies(fields)
+
+
+def word_of(payload, name, operator, wanted):
+    """The word of a dependency."""
     fields = [payload.blob(name.encode())]
     if operator:
-        fields += [payload.blob(version(wanted)), payload.int(MATCH[operator])]
+        fields += [payload.blob(wanted.encode()), payload.int(MATCH[operator])]
     return payload.object(fields)
 
 
-def debian():
-    """The index."""
+def debian(count=None):
+    """The index of all packages, or of the first ones."""
     payload = Once()
     infos = []
-    for fields in paragraphs():
+    for fields in itertools.islice(paragraphs(), count):
         texts = [fields.get(key, "").encode() for key in ("Description", "Architecture", "Homepage", "Source", "Maintainer", "Homepage")]
-        info = [payload.blob(fields["Package"].encode()), payload.blob(version(fields["Version"])), payload.blob(hashlib.sha256(fields["Package"].encode()).digest())]
+        info = [payload.blob(fields["Package"].encode()), payload.blob(version(fields["Version"]).encode()), payload.blob(hashlib.sha256(fields["Package"].encode()).digest())]
         info += [payload.blob(text) for text in texts] + [0, 0, 0, payload.int(int(fields.get("Size", 0))), 0]
-        clauses = [clause for key in ("Pre-Depends", "Depends") for clause in fields.get(key, "").split(",") if clause.strip()]
-        info.append(payload.array([dependency(payload, clause) for clause in clauses]) if clauses else 0)
+        words = [word_of(payload, *found) for found in dependencies(fields)]
+        info.append(payload.array(words) if words else 0)
         infos.append(payload.object(info))
     return b"ADB.indx" + containers.block(0, payload.done(payload.object([0, payload.array(infos)])))

@@ -1,9 +1,10 @@
--- The lines of a package's file, repository by repository; the only file of a package; and what is
--- explained by the file that names the repositories.
-use Rattle.std.proofs.Common.{◌≡◌, ◌∙◌, ◌+◌, ℕ, List, [], ◌∷◌, ◌++◌, length, drop, Option, Some, None, Result, Ok, Err, refl, sym, subst, ap, arith, append_assoc}
+-- The lines of a package's file, repository by repository; and what is explained by the file that names
+-- the repositories.
+use Rattle.std.proofs.Common.{◌≡◌, ◌≤◌, ◌∙◌, ◌+◌, ℕ, zero, suc, List, [], ◌∷◌, ◌++◌, length, take, Option, Some, Result, Ok, Err, refl, sym, subst, ap, arith, append_assoc, append-nil}
 use Rattle.std.specs.Prelude.{IfOk, Vec}
 use Rattle.std.specs.List.{slice_get}
 use Rattle.std.specs.Option.{option_map}
+use Rattle.std.proofs.lemmas.List.{take_all}
 use Rattle.std.proofs.lemmas.Option.{none-some, same_Some}
 use Rattle.std.specs.declared.alloc.Global.{Global}
 use Rattle.base_core.specs.Calls.{IfObservable}
@@ -11,45 +12,38 @@ use Rattle.base_core.specs.Tree.{TreeState, files_of}
 use Rattle.base_core.specs.declared.tree.TreeFault.{TreeFault}
 use Rattle.dep_core.specs.Repositories.{Repository, repositories_of}
 use Rattle.report_core.specs.declared.refusal.Refusal.{Refusal}
-use Rattle.root_names.specs.PackagePath.{if_name, package_path}
 use Rattle.root_names.specs.RootNames.{repositories_name}
-use Rattle.words_core.proofs.OneMore.{left_at}
-use Rattle.hint_core.specs.PackageFile.{ExplainsByText, ExplainsPackage, only_file, package_file_line, package_file_lines}
+use Rattle.hint_core.specs.PackageFile.{ExplainsBeside, ExplainsByText, ExplainsEach, ExplainsPackage}
 use Rattle.hint_core.specs.Warnings.{text_of_found}
 
--- the repository at an index, of which the path is known
-record IsPathAt (rs : List Repository) (i : ℕ) (path : List ℕ) : Type 0 where
-  repository : Repository
-  at : slice_get rs i ≡ Some repository
-  is : repository.path ≡ path
+-- the lines of one more repository
+each_more : (name version : List ℕ) (refusal : Refusal) (history : List TreeState) (rs : List Repository) (i : ℕ) (path before one after : List ℕ) → option_map (λ (r : Repository). r.path) (slice_get rs i) ≡ Some path → ExplainsEach name version refusal history (take i rs) before → ExplainsBeside name version refusal history path one → after ≡ before ++ one → ExplainsEach name version refusal history (take (suc i) rs) after
+each_more name version refusal history [] i path before one after e h b so = absurd (none-some path e)
+each_more name version refusal history (r ∷ rs) zero path before one after e h b so = (
+  one,
+  [],
+  subst (λ (p : List ℕ). ExplainsBeside name version refusal history p one) (sym (same_Some _ _ e)) b,
+  refl,
+  so ∙ (ap (λ (l : List ℕ). l ++ one) h ∙ sym (append-nil one)),
+)
+each_more name version refusal history (r ∷ rs) (suc i) path before one after e (first, more, own, others, is) b so = (
+  first,
+  more ++ one,
+  own,
+  each_more name version refusal history rs i path more one (more ++ one) e others b refl,
+  so ∙ (ap (λ (l : List ℕ). l ++ one) is ∙ append_assoc first more one),
+)
 
-path_at : (rs : List Repository) (i : ℕ) (path : List ℕ) → option_map (λ (r : Repository). r.path) (slice_get rs i) ≡ Some path → IsPathAt rs i path
-path_at rs i path e =
-    elim (slice_get rs i) as (λ o. slice_get rs i ≡ o → option_map (λ (r : Repository). r.path) o ≡ Some path → IsPathAt rs i path) [
-      | None ↦ λ at none. absurd (none-some path none)
-      | Some r ↦ λ at some. record { repository = r; at = at; is = same_Some _ _ some }
-    ] refl e
+-- the same, of a tree that was read since
+pub each_more_read : (name version : List ℕ) (refusal : Refusal) (old mid : List TreeState) (rs : List Repository) (i : ℕ) (path before one after : List ℕ) → mid ≡ old → option_map (λ (r : Repository). r.path) (slice_get rs i) ≡ Some path → ExplainsEach name version refusal old (take i rs) before → ExplainsBeside name version refusal mid path one → after ≡ before ++ one → ExplainsEach name version refusal old (take (i + 1) rs) after
+each_more_read name version refusal old mid rs i path before one after same e h b so =
+    let next : suc i ≡ i + 1 = omega arith in
+    subst (λ (k : ℕ). ExplainsEach name version refusal old (take k rs) after) next
+    (each_more name version refusal old rs i path before one after e h (subst (λ (history : List TreeState). ExplainsBeside name version refusal history path one) same b) so)
 
--- one more line
-pub line_more : (name version : List ℕ) (rs : List Repository) (i : ℕ) (path lines now : List ℕ) → option_map (λ (r : Repository). r.path) (slice_get rs i) ≡ Some path → now ≡ lines ++ package_file_line name version path
-    → lines ++ package_file_lines name version (drop i rs) ≡ package_file_lines name version rs → now ++ package_file_lines name version (drop (i + 1) rs) ≡ package_file_lines name version rs
-line_more name version rs i path lines now e so h =
-    let one = path_at rs i path e in
-    ap (λ (l : List ℕ). l ++ package_file_lines name version (drop (i + 1) rs)) (so ∙ ap (λ (p : List ℕ). lines ++ package_file_line name version p) (sym one.is))
-    ∙ append_assoc lines (package_file_line name version one.repository.path) (package_file_lines name version (drop (i + 1) rs))
-    ∙ ap (λ (l : List Repository). lines ++ package_file_lines name version l) (sym (left_at rs i one.repository one.at)) ∙ h
-
--- there is one repository, whose index has this path
-pub only_one : (name version path : List ℕ) (rs : List Repository) → length rs ≡ 1 → option_map (λ (r : Repository). r.path) (slice_get rs 0) ≡ Some path → only_file name version rs ≡ if_name (package_path path name version)
-only_one name version path [] long e = absurd (omega (arith, long))
-only_one name version path (r ∷ []) long e = ap (λ (p : List ℕ). if_name (package_path p name version)) (same_Some _ _ e)
-only_one name version path (r ∷ (q ∷ rs)) long e = absurd (omega (arith, long))
-
--- there is not one repository
-pub not_one : (name version : List ℕ) (rs : List Repository) → (length rs ≡ 1 → ⊥) → only_file name version rs ≡ None
-not_one name version [] other = refl
-not_one name version (r ∷ []) other = absurd (other refl)
-not_one name version (r ∷ (q ∷ rs)) other = refl
+-- the lines of all repositories
+pub each_of_all : (name version : List ℕ) (refusal : Refusal) (history : List TreeState) (rs : List Repository) (i : ℕ) (lines : List ℕ) → length rs ≤ i → ExplainsEach name version refusal history (take i rs) lines → ExplainsEach name version refusal history rs lines
+each_of_all name version refusal history rs i lines past h = subst (λ (l : List Repository). ExplainsEach name version refusal history l lines) (take_all i rs past) h
 
 -- what is explained by the text of a file is explained by what is found under its name
 pub package_explained : (name version : List ℕ) (refusal : Refusal) (old mid : List TreeState) (file text : List ℕ) (found : Option (List ℕ)) (r : Result (Vec ℕ Global) TreeFault) → mid ≡ old → text ≡ text_of_found found → file ≡ repositories_name → IfObservable old (λ v. found ≡ files_of v file)

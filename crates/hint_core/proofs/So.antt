@@ -201,6 +201,7 @@ subject_so words refusal None (Line file line) s = tt
 subject_so words refusal (Some whole) (Line file line) s = line_so words refusal whole file line (slice_get (lines_of whole) (line - 1)) s refl
 subject_so words refusal found Database s = (s, refl)
 subject_so words refusal found AbsentDatabase s = absent_so words refusal found s
+subject_so words refusal found Subjects.SharedPath s = s
 subject_so words refusal found Subjects.Nothing s = tt
 
 -- ---- the field at a place
@@ -255,8 +256,24 @@ schema_is n which h =
     (with_schema n IDB_WORD Tables.Idb which _ refl
     (with_schema n INTENT_WORD Tables.Intent which _ refl (λ e. absurd (none-some which e))))) h
 
+-- the word of a table is the schema of no other
+not_of : (word n : ℕ) (which : Which) → root_of_schema word ≡ Some which → Some word ≡ Some n → root_of_schema n ≡ None → ⊥
+not_of word n which known same none = none-some which (sym none ∙ (ap root_of_schema (sym (same_Some _ _ same)) ∙ known))
+
+no_schema : (which : Which) (n : ℕ) → schema_word which ≡ Some n → root_of_schema n ≡ None → ⊥
+no_schema Tables.Dep n is none = none-some n is
+no_schema Tables.Acl n is none = none-some n is
+no_schema Tables.PkgInfo n is none = none-some n is
+no_schema Tables.File n is none = none-some n is
+no_schema Tables.Dir n is none = none-some n is
+no_schema Tables.Scripts n is none = none-some n is
+no_schema Tables.Package n is none = not_of PACKAGE_WORD n Tables.Package refl is none
+no_schema Tables.Index n is none = not_of INDEX_WORD n Tables.Index refl is none
+no_schema Tables.Idb n is none = not_of IDB_WORD n Tables.Idb refl is none
+no_schema Tables.Intent n is none = not_of INTENT_WORD n Tables.Intent refl is none
+
 schema_so : (words : List (List ℕ)) (refusal : Refusal) (found : Option (List ℕ)) (schema : ℕ) (o : Option Which) → cause_of refusal ≡ Some (WrongSchema schema) → root_of_schema schema ≡ o → IsSo words refusal found (found_schema o)
-schema_so words refusal found schema None c h = tt
+schema_so words refusal found schema None c h = (schema, c, λ which is. no_schema which schema is h)
 schema_so words refusal found schema (Some which) c h = (schema, c, schema_is schema which h)
 
 -- ---- the cause

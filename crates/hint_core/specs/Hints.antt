@@ -14,7 +14,7 @@ use Rattle.command_core.specs.declared.command.Applet.TheVariants.{Demo}
 use Rattle.dep_core.specs.World.{lines_of}
 use Rattle.pkg_core.specs.Whole.{root_of_schema}
 use Rattle.report_core.specs.declared.refusal.Refusal.{Refusal}
-use Rattle.report_core.specs.declared.refusal.Refusal.TheVariants.{IntentBad, FileMissing, FileBad, TextBad, VersionBad, InfoBad, NoDatabase, DatabaseBad, WorldBad, RepositoriesBad, IndexMissing, IndexBad, NotInstalled, PackageBad}
+use Rattle.report_core.specs.declared.refusal.Refusal.TheVariants.{IntentBad, FileMissing, FileBad, TextBad, VersionBad, InfoBad, NoDatabase, DatabaseBad, WorldBad, RepositoriesBad, IndexMissing, IndexBad, NotInstalled, Owned, PackageBad}
 use Rattle.root_names.specs.RootNames.{database_name, repositories_name, text_database_name, world_name}
 use Rattle.hint_core.specs.declared.find.RepositoryLine.{RepositoryLine}
 use Rattle.hint_core.specs.declared.hint.Hint.{Hint}
@@ -23,7 +23,7 @@ use Rattle.hint_core.specs.declared.hint.HintFile.{HintFile}
 use Rattle.hint_core.specs.declared.hint.HintFile.TheVariants as Files
 use Rattle.hint_core.specs.declared.hint.Hints.{Hints}
 use Rattle.hint_core.specs.declared.hint.Subject.{Subject}
-use Rattle.hint_core.specs.declared.hint.Subject.TheVariants.{Word, Information, Repository, Line, Database, AbsentDatabase, Nothing}
+use Rattle.hint_core.specs.declared.hint.Subject.TheVariants.{Word, Information, Repository, Line, Database, AbsentDatabase, SharedPath, Nothing}
 use Rattle.hint_core.specs.Repositories.{repository_at}
 
 -- ---- what a refusal is about
@@ -56,6 +56,7 @@ subject_of (IndexBad number cause) = Repository number
 subject_of (WorldBad line) = Line Files.World line
 subject_of (RepositoriesBad line) = Line Files.Repositories line
 subject_of NoDatabase = AbsentDatabase
+subject_of (Owned path first second) = SharedPath
 subject_of (DatabaseBad cause) = database_subject cause
 subject_of refusal = Nothing
 
@@ -133,6 +134,7 @@ subject_hint words found (Repository number) = repository_hint number found
 subject_hint words found (Line file line) = line_hint file line found
 subject_hint words found Database = Hinted.Database (is_some found)
 subject_hint words found AbsentDatabase = absent_database (is_some found)
+subject_hint words found SharedPath = Hinted.SharedPath
 subject_hint words found Nothing = Hinted.Nothing
 
 -- ---- the field at a place
@@ -173,10 +175,10 @@ place_hint place = field_hint place (table_numbered (place / 100))
 
 -- ---- the schema of a container
 
--- a table that has a schema
+-- a table that has a schema, if one has it
 abbrev pub found_schema : Option Which → Hint
 found_schema (Some which) = Hinted.Schema which
-found_schema None = Hinted.Nothing
+found_schema None = Hinted.UnknownSchema
 
 -- the table at the root of a container with a schema, if it is one of the four
 abbrev pub schema_hint : ℕ → Hint

@@ -9,7 +9,7 @@ use Rattle.adb_view.specs.declared.tables.Which.TheVariants as Tables
 use Rattle.root_names.specs.RootNames.{database_name, text_database_name}
 use Rattle.words_core.specs.Usage.{longest_shown, texts_joined}
 use Rattle.hint_core.specs.declared.hint.Hint.{Hint}
-use Rattle.hint_core.specs.declared.hint.Hint.TheVariants.{Word, Missing, Repository, Line, Database, AbsentDatabase, Field, Schema, Nothing}
+use Rattle.hint_core.specs.declared.hint.Hint.TheVariants.{Word, Missing, Repository, Line, Database, AbsentDatabase, SharedPath, Field, Schema, UnknownSchema, Nothing}
 use Rattle.hint_core.specs.declared.hint.HintFile.{HintFile}
 use Rattle.hint_core.specs.declared.hint.Hints.{Hints}
 use Rattle.hint_core.specs.Hints.{hint_file_name}
@@ -75,7 +75,8 @@ missing_line place = texts_joined
 abbrev pub repository_hint_line : ℕ → ℕ → List ℕ → List ℕ
 repository_hint_line number line path = texts_joined
     (codes "apk: repository " ∷ (decimal number ∷ (codes " is " ∷ (printed_text path
-    ∷ (codes ", line " ∷ (decimal line ∷ (codes " of etc/apk/repositories\n" ∷ [])))))))
+    ∷ (codes ", line " ∷ (decimal line
+    ∷ (codes " of etc/apk/repositories; apk mkndx makes an index\n" ∷ [])))))))
 
 -- the line of a line of a file
 abbrev pub line_line : HintFile → ℕ → List ℕ → List ℕ
@@ -102,7 +103,18 @@ field_line place table name = texts_joined
 -- the line of a schema
 abbrev pub schema_hint_line : Which → List ℕ
 schema_hint_line table = texts_joined
-    (codes "apk: the schema is that of " ∷ (table_text table ∷ (codes "\n" ∷ [])))
+    (codes "apk: the schema says what the file is: " ∷ (table_text table ∷ (codes "\n" ∷ [])))
+
+-- the line of a schema that no table has
+abbrev pub unknown_schema_line : List ℕ
+unknown_schema_line = texts_joined
+    (codes "apk: the schema says what the file is: nothing that apk reads\n" ∷ [])
+
+-- the line that says how one of two packages gets a path that both list
+abbrev pub shared_path_line : List ℕ
+shared_path_line = texts_joined
+    (codes "apk: to have both, make one again with mkpkg -I replaces:OTHER; it then owns the path\n"
+    ∷ [])
 
 -- the line of a hint, if it has one
 abbrev pub hint_line : Hint → List ℕ
@@ -112,8 +124,10 @@ hint_line (Repository number line path) = repository_hint_line number line path
 hint_line (Line file line text) = line_line file line text
 hint_line (Database is_container) = database_hint_line is_container
 hint_line AbsentDatabase = absent_database_line
+hint_line SharedPath = shared_path_line
 hint_line (Field place table name) = field_line place table (field_name_text name)
 hint_line (Schema table) = schema_hint_line table
+hint_line UnknownSchema = unknown_schema_line
 hint_line Nothing = []
 
 -- the lines of hints

@@ -1,9 +1,7 @@
 -- The file of a package that a refusal names. The rules are in `docs/commands.md`, "Hints"; where a
 -- change looks for the file is in "`add` and `del`" there, what is read.
-use Rattle.std.specs.Prelude.{◌≡◌, ℕ, ◌==◌, Bool, true, false, if◌then◌else◌, List, [], ◌∷◌, ◌++◌, codes, Option, Some, None, Result, Ok, Err}
-use Rattle.std.specs.List.{list_any}
+use Rattle.std.specs.Prelude.{◌≡◌, ℕ, Bool, true, false, List, [], ◌∷◌, ◌++◌, codes, Option, Result, Ok, Err}
 use Rattle.base_core.specs.Calls.{IfObservable}
-use Rattle.base_core.specs.Name.{is_name}
 use Rattle.base_core.specs.Tree.{TreeState, files_of}
 use Rattle.dep_core.specs.Repositories.{Repository, repositories_of}
 use Rattle.report_core.specs.Reports.{name_version}
@@ -18,43 +16,39 @@ use Rattle.hint_core.specs.Hints.{is_explained}
 use Rattle.hint_core.specs.Lines.{printed_bytes, printed_text}
 use Rattle.hint_core.specs.Warnings.{text_of_found}
 
--- ---- its path
-
--- the name of the package's file, if there is one repository
-abbrev pub only_file : List ℕ → List ℕ → List Repository → Option (List ℕ)
-only_file name version [] = None
-only_file name version (repository ∷ []) = if_name (package_path repository.path name version)
-only_file name version (repository ∷ (other ∷ repositories)) = None
-
 -- ---- lines
 
--- the line that says where the package's file is, beside an index; its path is whole
+-- the line that says where the package's file is looked for, beside an index; its path is whole
 abbrev pub package_file_line : List ℕ → List ℕ → List ℕ → List ℕ
 package_file_line name version index = texts_joined
-    (codes "apk: beside " ∷ (printed_text index ∷ (codes " the file of "
-    ∷ (printed_text (name_version name version) ∷ (codes " is "
-    ∷ (printed_bytes (package_path index name version) ∷ (codes "\n" ∷ [])))))))
+    (codes "apk: the file of " ∷ (printed_text (name_version name version)
+    ∷ (codes " is looked for at " ∷ (printed_bytes (package_path index name version)
+    ∷ (codes ", beside " ∷ (printed_text index ∷ (codes "\n" ∷ [])))))))
 
--- such a line for the index of each repository
-abbrev pub package_file_lines : List ℕ → List ℕ → List Repository → List ℕ
-package_file_lines name version [] = []
-package_file_lines name version (repository ∷ repositories) =
-    package_file_line name version repository.path ++ package_file_lines name version repositories
-
--- these lines say where the package's file is, by the repositories, and which of its files the
--- positions are that a refusal names
+-- these lines say where the package's file is looked for beside an index, and which files of the
+-- package there the positions are that a refusal names
 abbrev pub ExplainsBeside :
-    List ℕ → List ℕ → Refusal → List Repository → List TreeState → List ℕ → Type 0
-ExplainsBeside name version refusal repositories history lines =
+    List ℕ → List ℕ → Refusal → List TreeState → List ℕ → List ℕ → Type 0
+ExplainsBeside name version refusal history index lines =
     (contents : List ℕ)
-    × ExplainsMixedUp (only_file name version repositories) (mixed_up refusal) history contents
-    × (lines ≡ package_file_lines name version repositories ++ contents)
+    × ExplainsMixedUp (if_name (package_path index name version)) (mixed_up refusal) history contents
+    × (lines ≡ package_file_line name version index ++ contents)
+
+-- these lines say so beside the index of each repository, one after another
+abbrev pub ExplainsEach :
+    List ℕ → List ℕ → Refusal → List TreeState → List Repository → List ℕ → Type 0
+ExplainsEach name version refusal history [] lines = lines ≡ []
+ExplainsEach name version refusal history (repository ∷ repositories) lines =
+    (first : List ℕ) × (more : List ℕ)
+    × ExplainsBeside name version refusal history repository.path first
+    × ExplainsEach name version refusal history repositories more
+    × (lines ≡ first ++ more)
 
 -- the same, by the repositories that were read; there are no lines if they cannot be
 abbrev pub ExplainsByText :
     List ℕ → List ℕ → Refusal → Result (List Repository) ℕ → List TreeState → List ℕ → Type 0
 ExplainsByText name version refusal (Ok repositories) history lines =
-    ExplainsBeside name version refusal repositories history lines
+    ExplainsEach name version refusal history repositories lines
 ExplainsByText name version refusal (Err line) history lines = lines ≡ []
 
 -- ---- what is printed

@@ -14,7 +14,7 @@ use Rattle.pkg_core.specs.adb_schema.Soundness.{schema_word}
 use Rattle.report_core.specs.declared.refusal.Refusal.{Refusal}
 use Rattle.hint_core.specs.declared.hint.Hint.{Hint}
 use Rattle.hint_core.specs.declared.hint.Hint.TheVariants as Hinted
-use Rattle.hint_core.specs.declared.hint.Subject.TheVariants.{Word, Information, Line, Database, AbsentDatabase}
+use Rattle.hint_core.specs.declared.hint.Subject.TheVariants.{Word, Information, Line, Database, AbsentDatabase, SharedPath}
 use Rattle.hint_core.specs.declared.hint.Subject.TheVariants as Subjects
 use Rattle.hint_core.specs.Hints.{cause_of, cause_place, subject_of}
 
@@ -67,6 +67,8 @@ IsSo words refusal found (Hinted.Database is_container) =
 -- the refusal is that there is no database, and no container was found
 IsSo words refusal found Hinted.AbsentDatabase =
     (subject_of refusal ≡ AbsentDatabase) × (found ≡ None)
+-- the refusal is about a path that two packages list
+IsSo words refusal found Hinted.SharedPath = subject_of refusal ≡ SharedPath
 -- the place is 100 times the number of the table plus that of the field
 IsSo words refusal found (Hinted.Field place which name) =
     NamesPlace refusal place
@@ -76,4 +78,8 @@ IsSo words refusal found (Hinted.Field place which name) =
 IsSo words refusal found (Hinted.Schema which) =
     (schema : ℕ) × (cause_of refusal ≡ Some (WrongSchema schema))
     × (schema_word which ≡ Some schema)
+-- the refusal has a cause with a schema, which is the one of no table
+IsSo words refusal found Hinted.UnknownSchema =
+    (schema : ℕ) × (cause_of refusal ≡ Some (WrongSchema schema))
+    × ((which : Which) → schema_word which ≡ Some schema → ⊥)
 IsSo words refusal found Hinted.Nothing = Unit {0}

@@ -73,6 +73,7 @@ fn subject_hint(
             is_container: found.is_some(),
         }),
         Subject::AbsentDatabase => Ok(absent_database(found.is_some())),
+        Subject::SharedPath => Ok(Hint::SharedPath),
         Subject::Nothing => Ok(Hint::Nothing),
     }
 }

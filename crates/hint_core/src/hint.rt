@@ -23,6 +23,8 @@ pub enum Subject {
     Database,
     /// The database, which is absent.
     AbsentDatabase,
+    /// A path that two packages list.
+    SharedPath,
     /// Nothing that a number names.
     Nothing,
 }
@@ -68,6 +70,8 @@ pub enum Hint {
     },
     /// There is no database.
     AbsentDatabase,
+    /// How one of two packages gets a path that both list.
+    SharedPath,
     /// The field at this place of a container.
     Field {
         place: u16,
@@ -78,6 +82,8 @@ pub enum Hint {
     Schema {
         table: Which,
     },
+    /// The schema of a container is the one of no table.
+    UnknownSchema,
     /// No number, or nothing true and short is known.
     Nothing,
 }
@@ -120,6 +126,11 @@ pub(crate) fn subject_of(refusal: &Refusal) -> Subject
             line: *line,
         },
         Refusal::NoDatabase => Subject::AbsentDatabase,
+        Refusal::Owned {
+            path: _,
+            first: _,
+            second: _,
+        } => Subject::SharedPath,
         Refusal::DatabaseBad { cause } => database_subject(*cause),
         _ => Subject::Nothing,
     }

@@ -43,10 +43,24 @@ fn push_hint(alloc: Global, lines: &mut Vec<u8>, hint: &Hint) -> Result<(), Allo
             lines,
             &[b"apk: this folder has no lib/apk/db/installed.adb; apk add --initdb makes one\n"],
         ),
+        Hint::SharedPath => push_texts(
+            lines,
+            &[
+                b"apk: to have both, make one again with mkpkg -I replaces:OTHER; it then owns the path\n",
+            ],
+        ),
         Hint::Field { place, table, name } => push_field(lines, *place, *table, *name),
         Hint::Schema { table } => push_texts(
             lines,
-            &[b"apk: the schema is that of ", table_text(*table), b"\n"],
+            &[
+                b"apk: the schema says what the file is: ",
+                table_text(*table),
+                b"\n",
+            ],
+        ),
+        Hint::UnknownSchema => push_texts(
+            lines,
+            &[b"apk: the schema says what the file is: nothing that apk reads\n"],
         ),
         Hint::Nothing => Ok(()),
     }
@@ -108,7 +122,7 @@ fn push_repository(
             &shown,
             b", line ",
             line_digits.format(line).as_bytes(),
-            b" of etc/apk/repositories\n",
+            b" of etc/apk/repositories; apk mkndx makes an index\n",
         ],
     )
 }

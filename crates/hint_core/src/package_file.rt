@@ -7,7 +7,7 @@ ghost use Rattle.base_core.specs.Sink.{sink_change};
 ghost use Rattle.dep_core.specs.Repositories.{repositories_of};
 ghost use Rattle.report_core.specs.Reports.{name_version};
 ghost use Rattle.root_names.specs.PackagePath.{package_path};
-ghost use Rattle.hint_core.specs.PackageFile.{ExplainsBeside, ExplainsByText, ExplainsIfPackage, ExplainsPackage, ExplainsPackageFile, only_file, package_file_line, package_file_lines};
+ghost use Rattle.hint_core.specs.PackageFile.{ExplainsBeside, ExplainsByText, ExplainsEach, ExplainsIfPackage, ExplainsPackage, ExplainsPackageFile, package_file_line};
 ghost use Rattle.hint_core.specs.Lines.{printed_bytes, printed_text};
 ghost use Rattle.hint_core.specs.Told.{Tells};
 
@@ -21,10 +21,10 @@ use report_core::Refusal;
 use root_names::{package_file_beside, package_path, repositories_name};
 use std::alloc::{AllocError, Global};
 
-/// Writes where the file of a package is that a refusal names: the path beside the index of each
-/// repository. If there is one repository, the lines say too which files of the package the
-/// positions are that the refusal names. The list of repositories is read once, and so is the front
-/// of the package; nothing of the tree is changed.
+/// Writes where the file of a package is looked for that a refusal names: the path beside the index
+/// of each repository. If the refusal names positions of files, the lines say too which files of
+/// the package at this path they are. The list of repositories is read once, and so is the front of
+/// each package; nothing of the tree is changed.
 ///
 /// # Errors
 ///
@@ -134,14 +134,16 @@ fn lines_by_text<T: Tree>(
         (T.counts tree.old) (T.counts tree.new) result }
 {
     match Repos::read(alloc, text) {
-        Ok(repositories) => lines_beside(alloc, name, version, refusal, &repositories, tree),
+        Ok(repositories) => {
+            lines_beside_each(alloc, name, version, refusal, &repositories, tree)
+        }
         Err(ReposFault::Bad { line: _ }) => Ok(Vec::new(alloc)),
         Err(ReposFault::Memory) => Err(TreeFault::Memory),
     }
 }
 
-// The lines on the file of a package, by the repositories.
-fn lines_beside<T: Tree>(
+// The lines on the file of a package, repository by repository.
+fn lines_beside_each<T: Tree>(
     alloc: Global,
     name: &[u8],
     version: &[u8],
@@ -149,47 +151,38 @@ fn lines_beside<T: Tree>(
     repositories: &Repos,
     tree: &mut T,
 ) -> Result<Vec<u8>, TreeFault>
-    ensures lines { IfOk result (λ lines. ExplainsBeside name.now version.now refusal.now
-        repositories.now (T.history tree.old) lines.items) }
+    ensures lines { IfOk result (λ lines. ExplainsEach name.now version.now refusal.now
+        (T.history tree.old) repositories.now lines.items) }
     ensures tree { OnlyReads TreeFault.Disk (T.history tree.old) (T.history tree.new)
         (T.counts tree.old) (T.counts tree.new) result }
 {
-    let mut lines = package_file_lines(alloc, name, version, repositories)?;
-    let file = only_file(alloc, name, version, repositories)?;
-    let contents = lines_of_contents(alloc, &file, refusal, tree)?;
-    lines.extend_from_slice(&contents)?;
+    let mut lines = Vec::new(alloc);
+    for i in 0..repositories.len() {
+        let more = lines_beside(alloc, name, version, refusal, repositories.path(i), tree)?;
+        lines.extend_from_slice(&more)?;
+    }
     Ok(lines)
 }
 
-// The name of the package's file, if there is one repository.
-fn only_file(
+// The lines on the file of a package beside an index.
+fn lines_beside<T: Tree>(
     alloc: Global,
     name: &[u8],
     version: &[u8],
-    repositories: &Repos,
-) -> Result<Option<Name>, AllocError>
-    ensures { IfOk result (λ file. file ≡ only_file name.now version.now repositories.now) }
-{
-    if repositories.len() != 1 {
-        return Ok(None);
-    }
-    package_file_beside(alloc, repositories.path(0), name, version)
-}
-
-// The lines that say where the package's file is.
-fn package_file_lines(
-    alloc: Global,
-    name: &[u8],
-    version: &[u8],
-    repositories: &Repos,
-) -> Result<Vec<u8>, AllocError>
-    ensures { IfOk result (λ lines.
-        lines.items ≡ package_file_lines name.now version.now repositories.now) }
+    refusal: &Refusal,
+    index: &Name,
+    tree: &mut T,
+) -> Result<Vec<u8>, TreeFault>
+    ensures lines { IfOk result (λ lines. ExplainsBeside name.now version.now refusal.now
+        (T.history tree.old) index.now lines.items) }
+    ensures tree { OnlyReads TreeFault.Disk (T.history tree.old) (T.history tree.new)
+        (T.counts tree.old) (T.counts tree.new) result }
 {
     let mut lines = Vec::new(alloc);
-    for i in 0..repositories.len() {
-        push_package_file_line(alloc, &mut lines, name, version, repositories.path(i))?;
-    }
+    push_package_file_line(alloc, &mut lines, name, version, index)?;
+    let file = package_file_beside(alloc, index, name, version)?;
+    let contents = lines_of_contents(alloc, &file, refusal, tree)?;
+    lines.extend_from_slice(&contents)?;
     Ok(lines)
 }
 
@@ -210,12 +203,12 @@ fn push_package_file_line(
     push_texts(
         lines,
         &[
-            b"apk: beside ",
-            &shown_index,
-            b" the file of ",
+            b"apk: the file of ",
             &shown_package,
-            b" is ",
+            b" is looked for at ",
             &shown_path,
+            b", beside ",
+            &shown_index,
             b"\n",
         ],
     )

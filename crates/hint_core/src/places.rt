@@ -60,6 +60,6 @@ pub(crate) fn schema_hint(found: u32) -> Hint
 {
     match root_of_schema(found) {
         Some(table) => Hint::Schema { table },
-        None => Hint::Nothing,
+        None => Hint::UnknownSchema,
     }
 }

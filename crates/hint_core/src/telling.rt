@@ -135,9 +135,10 @@ fn subject_file(alloc: Global, subject: Subject) -> Result<Option<Name>, AllocEr
         Subject::Repository { number: _ } => Ok(Some(repositories_name(alloc)?)),
         Subject::Line { file, line: _ } => Ok(Some(hint_file_name(alloc, file)?)),
         Subject::Database | Subject::AbsentDatabase => Ok(Some(database_name(alloc)?)),
-        Subject::Word { place: _ } | Subject::Information { place: _ } | Subject::Nothing => {
-            Ok(None)
-        }
+        Subject::Word { place: _ }
+        | Subject::Information { place: _ }
+        | Subject::SharedPath
+        | Subject::Nothing => Ok(None),
     }
 }
 

@@ -8,7 +8,7 @@ use Rattle.search_tables.proofs.candidate_core.Steps.{take_one_more}
 use Rattle.dep_core.specs.Dependency.{Dependency}
 use Rattle.dep_core.specs.DependencyText.{dep_text}
 use Rattle.unmet_world.specs.Refutation.{if_positive}
-use Rattle.unmet_world.specs.Lines.{joined_texts, with_text_once, with_texts, world_lines, world_lines_of}
+use Rattle.unmet_world.specs.Lines.{entry_origin_text, joined_texts, with_text_once, with_texts, world_lines, world_lines_of}
 
 pub with_texts-append : (so_far xs ys : List (List ℕ)) → with_texts so_far (xs ++ ys) ≡ with_texts (with_texts so_far xs) ys
 with_texts-append so_far [] ys = refl
@@ -69,23 +69,23 @@ joined_next (y ∷ ys) (suc i) x first before comma after at some was between is
 -- ---- entries of world
 
 -- the line of an entry that is no conflict
-pub line_of : (d : Dependency) (line : List ℕ) → d.conflict ≡ false → line ≡ codes "world needs " ++ dep_text d → world_lines_of (if_positive (Some d)) ≡ line ∷ []
-line_of d line is e = by d.conflict is
+pub line_of : (listed : List Dependency) (d : Dependency) (line : List ℕ) → d.conflict ≡ false → line ≡ entry_origin_text listed d ++ codes " needs " ++ dep_text d → world_lines_of listed (if_positive (Some d)) ≡ line ∷ []
+line_of listed d line is e = by d.conflict is
   where
-    by : (b : Bool) → b ≡ false → world_lines_of (if b then None else Some d) ≡ line ∷ []
+    by : (b : Bool) → b ≡ false → world_lines_of listed (if b then None else Some d) ≡ line ∷ []
     by true h = absurd (cc)
     by false h = ap (λ z. z ∷ []) (sym e)
 
-pub no_line_of : (d : Dependency) → d.conflict ≡ true → world_lines_of (if_positive (Some d)) ≡ []
-no_line_of d is = by d.conflict is
+pub no_line_of : (listed : List Dependency) (d : Dependency) → d.conflict ≡ true → world_lines_of listed (if_positive (Some d)) ≡ []
+no_line_of listed d is = by d.conflict is
   where
-    by : (b : Bool) → b ≡ true → world_lines_of (if b then None else Some d) ≡ []
+    by : (b : Bool) → b ≡ true → world_lines_of listed (if b then None else Some d) ≡ []
     by true h = refl
     by false h = absurd (cc)
 
-pub entry_next : (world : List Dependency) (i : ℕ) (d : Dependency) (before after : List (List ℕ)) → slice_get world i ≡ Some d → before ≡ world_lines (take i world) → after ≡ before ++ world_lines_of (if_positive (Some d)) → after ≡ world_lines (take (i + 1) world)
-entry_next world i d before after at was is =
-    is ∙ (ap (λ z. z ++ world_lines_of (if_positive (Some d))) was ∙ sym (flat_next (λ (e : Dependency). world_lines_of (if_positive (Some e))) world i d at))
+pub entry_next : (listed world : List Dependency) (i : ℕ) (d : Dependency) (before after : List (List ℕ)) → slice_get world i ≡ Some d → before ≡ world_lines listed (take i world) → after ≡ before ++ world_lines_of listed (if_positive (Some d)) → after ≡ world_lines listed (take (i + 1) world)
+entry_next listed world i d before after at was is =
+    is ∙ (ap (λ z. z ++ world_lines_of listed (if_positive (Some d))) was ∙ sym (flat_next (λ (e : Dependency). world_lines_of listed (if_positive (Some e))) world i d at))
 
 -- three texts that are added in turn, of which the last may fail
 pub three_added : {T E : Type 0} (r : Result T E) (t0 t1 t2 t3 a b c : List ℕ) → t1 ≡ t0 ++ a → t2 ≡ t1 ++ b → t3 ≡ (if is_ok r then t2 ++ c else t2) → OnOk r (t3 ≡ t0 ++ ((a ++ b) ++ c))

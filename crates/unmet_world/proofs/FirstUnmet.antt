@@ -77,6 +77,6 @@ never pool (Ok found) none = λ index first. absurd (none index first.unmet)
 never pool (Err e) none = tt
 
 -- the text that is printed of what was found explains the world
-pub explained : {E : Type 0} (pool : SealedPool) (repositories : List Repository) (found : Option Refutation) (r : Result (Vec ℕ Global) E) → IfSome found (IsRefutation pool) → ((index : ℕ) → IsFirstUnmetOfWorld pool index → MatchOption found ⊥ (λ x. (x.steps.items ≡ []) × (x.end ≡ world_want index))) → IfOk r (λ text. text.items ≡ explanation_text pool repositories found) → IfOk r (λ text. ExplainsWorld pool repositories text.items)
-explained pool repositories found (Ok text) refutes named says = record { found = found; refutes = refutes; named = named; says = says }
-explained pool repositories found (Err e) refutes named says = tt
+pub explained : {E : Type 0} (pool : SealedPool) (listed : List Dependency) (repositories : List Repository) (found : Option Refutation) (r : Result (Vec ℕ Global) E) → IfSome found (IsRefutation pool) → ((index : ℕ) → IsFirstUnmetOfWorld pool index → MatchOption found ⊥ (λ x. (x.steps.items ≡ []) × (x.end ≡ world_want index))) → IfOk r (λ text. text.items ≡ explanation_text pool listed repositories found) → IfOk r (λ text. ExplainsWorld pool listed repositories text.items)
+explained pool listed repositories found (Ok text) refutes named says = record { found = found; refutes = refutes; named = named; says = says }
+explained pool listed repositories found (Err e) refutes named says = tt

@@ -18,11 +18,11 @@ use Rattle.unmet_world.specs.declared.refutation.Refutation.{Refutation}
 not_empty : {X : Type 0} (x : X) (xs : List X) → x ∷ xs ≡ [] → ⊥
 not_empty x xs e = cc
 
-no_line_no_need : (world : List Dependency) → world_lines world ≡ [] → positive_needs world ≡ []
-no_line_no_need [] none = refl
-no_line_no_need (d ∷ world) none = by d.conflict refl (no_line_no_need world)
+no_line_no_need : (listed world : List Dependency) → world_lines listed world ≡ [] → positive_needs world ≡ []
+no_line_no_need listed [] none = refl
+no_line_no_need listed (d ∷ world) none = by d.conflict refl (no_line_no_need listed world)
   where
-    by : (b : Bool) → d.conflict ≡ b → (world_lines world ≡ [] → positive_needs world ≡ []) → positive_needs (d ∷ world) ≡ []
+    by : (b : Bool) → d.conflict ≡ b → (world_lines listed world ≡ [] → positive_needs world ≡ []) → positive_needs (d ∷ world) ≡ []
     by true is rest = rw is (rest (rw is at none))
     by false is rest = absurd (not_empty _ _ (rw is at none))
 
@@ -79,17 +79,17 @@ kept : (texts ys : List (List ℕ)) → (texts ≡ [] → ⊥) → with_texts te
 kept [] ys some e = some refl
 kept (x ∷ xs) ys some e = more_than_none x xs ys e
 
-refutation_has_line : (pool : SealedPool) (repositories : List Repository) (r : Refutation) → IsRefutation pool r → refutation_lines pool repositories r ≡ [] → ⊥
-refutation_has_line pool repositories r is none =
-    kept (with_texts [] (want_lines pool repositories r.end)) (flat_map (step_lines pool repositories) (take most_lines r.steps.items)) (first (wanted pool r.end) is.none_left.0 is.none_left.1) none
+refutation_has_line : (pool : SealedPool) (listed : List Dependency) (repositories : List Repository) (r : Refutation) → IsRefutation pool r → refutation_lines pool listed repositories r ≡ [] → ⊥
+refutation_has_line pool listed repositories r is none =
+    kept (with_texts [] (want_lines pool listed repositories r.end)) (flat_map (step_lines pool listed repositories) (take most_lines r.steps.items)) (first (wanted pool r.end) is.none_left.0 is.none_left.1) none
   where
-    first : (o : Option Dependency) (d : Dependency) → o ≡ Some d → with_texts [] (need_lines pool repositories r.end.owner o) ≡ [] → ⊥
+    first : (o : Option Dependency) (d : Dependency) → o ≡ Some d → with_texts [] (need_lines pool listed repositories r.end.owner o) ≡ [] → ⊥
     first None d at e = absurd (cc)
-    first (Some found) d at e = more_than_none _ [] (missing_lines pool found) e
+    first (Some found) d at e = more_than_none _ [] (missing_lines pool listed found) e
 
-pub has_line : (pool : SealedPool) (repositories : List Repository) (text : List ℕ) → ExplainsWorld pool repositories text → ((selection : List ℕ) → IsSatisfying pool selection → ⊥) → text ≡ [] → ⊥
-has_line pool repositories text h unmet empty = by h.found h.refutes (sym h.says ∙ empty)
+pub has_line : (pool : SealedPool) (listed : List Dependency) (repositories : List Repository) (text : List ℕ) → ExplainsWorld pool listed repositories text → ((selection : List ℕ) → IsSatisfying pool selection → ⊥) → text ≡ [] → ⊥
+has_line pool listed repositories text h unmet empty = by h.found h.refutes (sym h.says ∙ empty)
   where
-    by : (found : Option Refutation) → IfSome found (IsRefutation pool) → explanation_text pool repositories found ≡ [] → ⊥
-    by None refutes e = unmet [] (nothing_satisfies pool (no_line_no_need pool.world (none_printed (world_lines pool.world) e)))
-    by (Some r) refutes e = refutation_has_line pool repositories r refutes (none_printed (refutation_lines pool repositories r) e)
+    by : (found : Option Refutation) → IfSome found (IsRefutation pool) → explanation_text pool listed repositories found ≡ [] → ⊥
+    by None refutes e = unmet [] (nothing_satisfies pool (no_line_no_need listed pool.world (none_printed (world_lines listed pool.world) e)))
+    by (Some r) refutes e = refutation_has_line pool listed repositories r refutes (none_printed (refutation_lines pool listed repositories r) e)

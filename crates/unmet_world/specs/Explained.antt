@@ -3,6 +3,7 @@
 use Rattle.std.specs.Prelude.{◌≡◌, ℕ, ◌==◌, if◌then◌else◌, List, [], ◌++◌, length, codes, Result, Ok, Err}
 use Rattle.base_core.specs.Tree.{TreeState}
 use Rattle.search_tables.specs.candidate_core.Rank.{SealedPool, no_names}
+use Rattle.dep_core.specs.Dependency.{Dependency}
 use Rattle.dep_core.specs.Repositories.{Repository}
 use Rattle.change_inputs.specs.Candidates.{root_pool}
 use Rattle.change_inputs.specs.Inputs.{Inputs, inputs_of}
@@ -24,24 +25,27 @@ no_index_line repositories =
     if length repositories == 0 then
     codes "apk: etc/apk/repositories names no index; a line such as main/index.adb names one\n" else []
 
--- a text explains the world of a pool, whose candidates are of these repositories
-pub record ExplainsPool (repositories : List Repository) (pool : SealedPool) (text : List ℕ) :
-    Type 0 where
+-- a text explains the world of a pool, of which a file lists some entries, and whose candidates are of
+-- these repositories
+pub record ExplainsPool (listed : List Dependency) (repositories : List Repository)
+    (pool : SealedPool) (text : List ℕ) : Type 0 where
   -- the explanation itself
   pub front : List ℕ
-  pub explains : ExplainsWorld pool repositories front
+  pub explains : ExplainsWorld pool listed repositories front
   -- the line on repositories follows it
   pub whole : text ≡ front ++ no_index_line repositories
 
 -- a text explains the world of a pool; it is empty if there are too many candidates for one
-abbrev pub ExplainsIfPool : List Repository → Result SealedPool Refusal → List ℕ → Type 0
-ExplainsIfPool repositories (Ok pool) text = ExplainsPool repositories pool text
-ExplainsIfPool repositories (Err refusal) text = text ≡ []
+abbrev pub ExplainsIfPool :
+    List Dependency → List Repository → Result SealedPool Refusal → List ℕ → Type 0
+ExplainsIfPool listed repositories (Ok pool) text = ExplainsPool listed repositories pool text
+ExplainsIfPool listed repositories (Err refusal) text = text ≡ []
 
 -- a text explains the world that a command asks for, by what was read of a root. Which names the command
 -- upgrades makes no difference
 abbrev pub ExplainsInputs : Inputs → List ℕ → Type 0
-ExplainsInputs inputs text = ExplainsIfPool inputs.root.repositories (root_pool inputs no_names) text
+ExplainsInputs inputs text =
+    ExplainsIfPool inputs.root.world inputs.root.repositories (root_pool inputs no_names) text
 
 -- the same, by the result of reading a root in the program; the text is empty if the root is refused
 abbrev pub ExplainsResult : Result Loaded Refused → List ℕ → Type 0

@@ -42,40 +42,67 @@ abbrev pub candidate_text_at : SealedPool → List Repository → ℕ → List �
 candidate_text_at pool repositories c =
     option_map_or (candidate_text repositories) (candidate_at pool c) []
 
--- who has a dependency
-abbrev pub dependency_owner_text : SealedPool → List Repository → Owner → List ℕ
-dependency_owner_text pool repositories World = codes "world"
-dependency_owner_text pool repositories (Package c) = candidate_text_at pool repositories c
+-- ---- entries of world
 
--- an owner needs a dependency: `world needs app>=2`
-abbrev pub needs_text : SealedPool → List Repository → Owner → Dependency → List ℕ
-needs_text pool repositories owner d =
-    dependency_owner_text pool repositories owner ++ codes " needs " ++ dep_text d
+-- whether an entry has this name
+abbrev pub is_named : List ℕ → Dependency → Bool
+is_named name d = bytes_eq name d.name
+
+-- whether two entries have the same text
+abbrev pub is_same_text : Dependency → Dependency → Bool
+is_same_text d e = bytes_eq (dep_text d) (dep_text e)
+
+-- whether an entry of world is one of these: of world as its file lists it
+abbrev pub is_listed : List Dependency → Dependency → Bool
+is_listed listed d = option_map_or (is_same_text d) (find (is_named d.name) listed) false
+
+-- where an entry of world is from: the file of world has it, or else the command asks for it
+abbrev pub entry_origin : Bool → List ℕ
+entry_origin true = codes "etc/apk/world"
+entry_origin false = codes "this command"
+
+-- where an entry of world is from, given the entries that the file of world lists
+abbrev pub entry_origin_text : List Dependency → Dependency → List ℕ
+entry_origin_text listed d = entry_origin (is_listed listed d)
+
+-- who has a dependency
+abbrev pub dependency_owner_text :
+    SealedPool → List Dependency → List Repository → Owner → Dependency → List ℕ
+dependency_owner_text pool listed repositories World d = entry_origin_text listed d
+dependency_owner_text pool listed repositories (Package c) d = candidate_text_at pool repositories c
+
+-- an owner needs a dependency: `etc/apk/world needs app>=2`
+abbrev pub needs_text :
+    SealedPool → List Dependency → List Repository → Owner → Dependency → List ℕ
+needs_text pool listed repositories owner d =
+    dependency_owner_text pool listed repositories owner d ++ codes " needs " ++ dep_text d
 
 -- ---- what there is of a name
 
 -- the conflict of world that a candidate meets
-abbrev pub bar_text : Option Dependency → List ℕ
-bar_text None = []
-bar_text (Some d) = codes " (world has " ++ dep_text d ++ codes ")"
+abbrev pub bar_text : List Dependency → Option Dependency → List ℕ
+bar_text listed None = []
+bar_text listed (Some d) =
+    codes " (" ++ entry_origin_text listed d ++ codes " has " ++ dep_text d ++ codes ")"
 
 -- why a candidate may not be selected: its tag, which world does not use, or a conflict of world;
 -- nothing if it may
-abbrev pub bar_reason_text : List Dependency → Candidate → List ℕ
-bar_reason_text world c =
+abbrev pub bar_reason_text : List Dependency → List Dependency → Candidate → List ℕ
+bar_reason_text listed world c =
     if is_allowed world c then
-    bar_text (find (is_conflict_met_by c) world) else
+    bar_text listed (find (is_conflict_met_by c) world) else
     codes " (tagged @" ++ unwrap_or c.tag [] ++ codes ")"
 
 -- a candidate that offers a name: its version, or the package if it has another name
-abbrev pub offer_text : List Dependency → List ℕ → Candidate → List ℕ
-offer_text world name c =
+abbrev pub offer_text : List Dependency → List Dependency → List ℕ → Candidate → List ℕ
+offer_text listed world name c =
     (if bytes_eq name c.name then unwrap_or c.version [] else name_and_version_text c)
-    ++ bar_reason_text world c
+    ++ bar_reason_text listed world c
 
 -- the candidate at a place, which offers a name
-abbrev pub offer_text_at : SealedPool → List ℕ → ℕ → List ℕ
-offer_text_at pool name c = option_map_or (offer_text pool.world name) (candidate_at pool c) []
+abbrev pub offer_text_at : SealedPool → List Dependency → List ℕ → ℕ → List ℕ
+offer_text_at pool listed name c =
+    option_map_or (offer_text listed pool.world name) (candidate_at pool c) []
 
 -- some texts with one more, unless they have it
 abbrev pub with_text_once : List (List ℕ) → List ℕ → List (List ℕ)
@@ -107,42 +134,45 @@ no_package_text None = codes "no package"
 no_package_text (Some similar) = codes "no package" ++ codes "; a similar name is " ++ similar
 
 -- the candidates at some places, which offer a name
-abbrev pub offered_text : SealedPool → List ℕ → List ℕ → List ℕ
-offered_text pool name [] = no_package_text (similar_name name pool.candidates)
-offered_text pool name (c ∷ cs) =
+abbrev pub offered_text : SealedPool → List Dependency → List ℕ → List ℕ → List ℕ
+offered_text pool listed name [] = no_package_text (similar_name name pool.candidates)
+offered_text pool listed name (c ∷ cs) =
     codes "only "
-    ++ joined_texts (with_texts [] (map (offer_text_at pool name) (take most_offers (c ∷ cs))))
+    ++ joined_texts (with_texts [] (map (offer_text_at pool listed name) (take most_offers (c ∷ cs))))
     ++ dots_if (nat_lt most_offers (length (c ∷ cs)))
 
 -- what there is of a name: `lib: only 1.0-r0, 1.2-r0`
-abbrev pub offers_line : SealedPool → List ℕ → List ℕ
-offers_line pool name =
-    name ++ codes ": " ++ offered_text pool name (places_offering name pool.candidates)
+abbrev pub offers_line : SealedPool → List Dependency → List ℕ → List ℕ
+offers_line pool listed name =
+    name ++ codes ": " ++ offered_text pool listed name (places_offering name pool.candidates)
 
 -- ---- steps
 
 -- what there is of the name of a dependency, if no candidate that may be selected meets it
-abbrev pub missing_lines : SealedPool → Dependency → List (List ℕ)
-missing_lines pool d =
-    if length (options_for pool (entry d)) == 0 then offers_line pool d.name ∷ [] else []
+abbrev pub missing_lines : SealedPool → List Dependency → Dependency → List (List ℕ)
+missing_lines pool listed d =
+    if length (options_for pool (entry d)) == 0 then offers_line pool listed d.name ∷ [] else []
 
 -- what an owner needs, and, if nothing meets it, what there is
-abbrev pub need_lines : SealedPool → List Repository → Owner → Option Dependency → List (List ℕ)
-need_lines pool repositories owner None = []
-need_lines pool repositories owner (Some d) =
-    needs_text pool repositories owner d ∷ missing_lines pool d
+abbrev pub need_lines :
+    SealedPool → List Dependency → List Repository → Owner → Option Dependency → List (List ℕ)
+need_lines pool listed repositories owner None = []
+need_lines pool listed repositories owner (Some d) =
+    needs_text pool listed repositories owner d ∷ missing_lines pool listed d
 
 -- what is wanted
-abbrev pub want_lines : SealedPool → List Repository → Want → List (List ℕ)
-want_lines pool repositories want =
-    need_lines pool repositories want.owner (wanted pool want)
+abbrev pub want_lines :
+    SealedPool → List Dependency → List Repository → Want → List (List ℕ)
+want_lines pool listed repositories want =
+    need_lines pool listed repositories want.owner (wanted pool want)
 
 -- the only candidate that is left for what is wanted
 abbrev pub only_lines :
-    SealedPool → List Repository → Owner → ℕ → Option Dependency → List (List ℕ)
-only_lines pool repositories owner id None = []
-only_lines pool repositories owner id (Some d) =
-    (needs_text pool repositories owner d ++ codes ": only " ++ candidate_text_at pool repositories id) ∷ []
+    SealedPool → List Dependency → List Repository → Owner → ℕ → Option Dependency →
+    List (List ℕ)
+only_lines pool listed repositories owner id None = []
+only_lines pool listed repositories owner id (Some d) =
+    (needs_text pool listed repositories owner d ++ codes ": only " ++ candidate_text_at pool repositories id) ∷ []
 
 -- a candidate has a conflict that another one meets
 abbrev pub conflict_text : SealedPool → List Repository → ℕ → ℕ → Dependency → List ℕ
@@ -169,14 +199,15 @@ exclusion_lines pool repositories a b None None (Some name) =
 exclusion_lines pool repositories a b None None None = []
 
 -- a step
-abbrev pub step_lines : SealedPool → List Repository → Step → List (List ℕ)
-step_lines pool repositories (Broken id index) =
-    want_lines pool repositories (record { owner = Package id; index = index })
-step_lines pool repositories (Excluded id by) =
+abbrev pub step_lines :
+    SealedPool → List Dependency → List Repository → Step → List (List ℕ)
+step_lines pool listed repositories (Broken id index) =
+    want_lines pool listed repositories (record { owner = Package id; index = index })
+step_lines pool listed repositories (Excluded id by) =
     exclusion_lines pool repositories by id (conflict_between pool by id)
     (conflict_between pool id by) (name_of_both pool by id)
-step_lines pool repositories (Sure id want) =
-    only_lines pool repositories want.owner id (wanted pool want)
+step_lines pool listed repositories (Sure id want) =
+    only_lines pool listed repositories want.owner id (wanted pool want)
 
 -- ---- all lines
 
@@ -185,20 +216,22 @@ abbrev pub most_lines : ℕ
 most_lines = 10
 
 -- the lines of a refutation, each once: those of its end, and of its first steps
-abbrev pub refutation_lines : SealedPool → List Repository → Refutation → List (List ℕ)
-refutation_lines pool repositories r =
-    with_texts (with_texts [] (want_lines pool repositories r.end))
-    (flat_map (step_lines pool repositories) (take most_lines r.steps.items))
+abbrev pub refutation_lines :
+    SealedPool → List Dependency → List Repository → Refutation → List (List ℕ)
+refutation_lines pool listed repositories r =
+    with_texts (with_texts [] (want_lines pool listed repositories r.end))
+    (flat_map (step_lines pool listed repositories) (take most_lines r.steps.items))
 
 -- an entry of world
-abbrev pub world_lines_of : Option Dependency → List (List ℕ)
-world_lines_of None = []
-world_lines_of (Some d) = (codes "world needs " ++ dep_text d) ∷ []
+abbrev pub world_lines_of : List Dependency → Option Dependency → List (List ℕ)
+world_lines_of listed None = []
+world_lines_of listed (Some d) =
+    (entry_origin_text listed d ++ codes " needs " ++ dep_text d) ∷ []
 
 -- the entries of world that are no conflicts
-abbrev pub world_lines : List Dependency → List (List ℕ)
-world_lines world =
-    flat_map (λ (d : Dependency). world_lines_of (if_positive (Some d))) world
+abbrev pub world_lines : List Dependency → List Dependency → List (List ℕ)
+world_lines listed world =
+    flat_map (λ (d : Dependency). world_lines_of listed (if_positive (Some d))) world
 
 -- a line as it is printed: bytes that do not print are escaped
 abbrev pub printed_line : List ℕ → List ℕ
@@ -213,22 +246,24 @@ printed_lines lines =
 
 -- the explanation of a refutation that was found, or else the entries of world
 abbrev pub explanation_lines :
-    SealedPool → List Repository → Option Refutation → List (List ℕ)
-explanation_lines pool repositories None = world_lines pool.world
-explanation_lines pool repositories (Some r) = refutation_lines pool repositories r
+    SealedPool → List Dependency → List Repository → Option Refutation → List (List ℕ)
+explanation_lines pool listed repositories None = world_lines listed pool.world
+explanation_lines pool listed repositories (Some r) = refutation_lines pool listed repositories r
 
 -- the explanation, as it is printed
-abbrev pub explanation_text : SealedPool → List Repository → Option Refutation → List ℕ
-explanation_text pool repositories found =
-    printed_lines (explanation_lines pool repositories found)
+abbrev pub explanation_text :
+    SealedPool → List Dependency → List Repository → Option Refutation → List ℕ
+explanation_text pool listed repositories found =
+    printed_lines (explanation_lines pool listed repositories found)
 
--- a text explains a world: it is that of a refutation, or without one that of the entries of world
-pub record ExplainsWorld (pool : SealedPool) (repositories : List Repository) (text : List ℕ) :
-    Type 0 where
+-- a text explains a world, of which a file lists some entries: the text is that of a refutation, or
+-- without one that of the entries of world
+pub record ExplainsWorld (pool : SealedPool) (listed : List Dependency)
+    (repositories : List Repository) (text : List ℕ) : Type 0 where
   pub found : Option Refutation
   pub refutes : IfSome found (IsRefutation pool)
   -- the first entry of world that no candidate meets is the whole reason, if there is one
   pub named :
       (index : ℕ) → IsFirstUnmetOfWorld pool index →
       MatchOption found ⊥ (λ r. (r.steps.items ≡ []) × (r.end ≡ world_want index))
-  pub says : text ≡ explanation_text pool repositories found
+  pub says : text ≡ explanation_text pool listed repositories found

@@ -127,23 +127,31 @@ fn explanation_of_loaded(alloc: Global, loaded: &Loaded) -> Result<Vec<u8>, Allo
     ensures { IfOk result (λ text. ExplainsInputs (inputs_seen loaded.now) text.items) }
 {
     match loaded.pool(alloc, Upgrade::Nothing) {
-        Ok(pool) => explanation_of_pool(alloc, &pool, loaded.new_world(), loaded.repositories()),
+        Ok(pool) => explanation_of_pool(
+            alloc,
+            &pool,
+            loaded.new_world(),
+            loaded.world(),
+            loaded.repositories(),
+        ),
         Err(Refused::Refusal(_)) => Ok(Vec::new(alloc)),
         Err(_) => Err(AllocError),
     }
 }
 
-// The explanation of the world of a pool.
+// The explanation of the world of a pool, of which the file of world lists some entries.
 fn explanation_of_pool(
     alloc: Global,
     pool: &Sealed<'_>,
     world: &World,
+    listed: &World,
     repositories: &Repos,
 ) -> Result<Vec<u8>, AllocError>
     requires { world.now ≡ pool.now.world }
-    ensures { IfOk result (λ text. ExplainsPool repositories.now pool.now text.items) }
+    ensures { IfOk result (λ text.
+        ExplainsPool listed.now repositories.now pool.now text.items) }
 {
-    let mut text = explanation_of(alloc, pool, world, repositories)?;
+    let mut text = explanation_of(alloc, pool, world, listed, repositories)?;
     text.extend_from_slice(no_index_line(repositories))?;
     Ok(text)
 }

@@ -1,6 +1,7 @@
 //! Theorems about refutations, each proved as the contract of an empty function. The rules are in
 //! `docs/selection.md`, "What satisfies world".
 ghost use Rattle.std.specs.Prelude.{◌≡◌, ℕ, List, []};
+ghost use Rattle.dep_core.specs.Dependency.{Dependency};
 ghost use Rattle.dep_core.specs.Repositories.{Repository};
 ghost use Rattle.search_tables.specs.candidate_core.Rank.{SealedPool};
 ghost use Rattle.search_tables.specs.Selection.{IsSatisfying};
@@ -20,7 +21,7 @@ pub fn a_refuted_world_has_no_selection()
 
 /// If no selection satisfies a world, each text that explains the world has a line.
 pub fn an_explanation_has_a_line()
-    ensures { (pool : SealedPool) (repositories : List Repository) (text : List ℕ) →
-        ExplainsWorld pool repositories text →
+    ensures { (pool : SealedPool) (listed : List Dependency) (repositories : List Repository)
+        (text : List ℕ) → ExplainsWorld pool listed repositories text →
         ((selection : List ℕ) → IsSatisfying pool selection → ⊥) → text ≡ [] → ⊥ }
 {}

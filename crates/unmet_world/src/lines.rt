@@ -28,10 +28,11 @@ fn needs(
     dep: &Dep<'_>,
 ) -> Result<Vec<u8>, AllocError>
     ensures { IfOk result (λ line. line.items
-        ≡ needs_text sources.now.pool.now sources.now.repositories.now owner (dependency dep.now)) }
+        ≡ needs_text sources.now.pool.now sources.now.listed.now sources.now.repositories.now owner
+        (dependency dep.now)) }
 {
     let mut line = Vec::new(alloc);
-    add_owner(&mut line, sources, owner)?;
+    add_owner(&mut line, sources, owner, dep)?;
     line.extend_from_slice(b" needs ")?;
     add_dep(&mut line, dep)?;
     Ok(line)
@@ -46,7 +47,7 @@ fn add_missing(
 ) -> Result<(), AllocError>
     requires { sources.now.world.now ≡ sources.now.pool.now.world }
     ensures { OnOk result (lines.new.items ≡ with_texts lines.old.items
-        (missing_lines sources.now.pool.now (dependency dep.now))) }
+        (missing_lines sources.now.pool.now sources.now.listed.now (dependency dep.now))) }
 {
     let options = sources.pool.options_for(alloc, &NeedRef::Entry(dep))?;
     if !options.is_empty() {
@@ -65,7 +66,7 @@ fn add_want(
 ) -> Result<(), AllocError>
     requires { sources.now.world.now ≡ sources.now.pool.now.world }
     ensures { OnOk result (lines.new.items ≡ with_texts lines.old.items
-        (want_lines sources.now.pool.now sources.now.repositories.now want)) }
+        (want_lines sources.now.pool.now sources.now.listed.now sources.now.repositories.now want)) }
 {
     let owner = want.owner;
     match wanted(sources.pool, sources.world, want) {
@@ -88,8 +89,8 @@ fn add_only(
 ) -> Result<(), AllocError>
     requires { sources.now.world.now ≡ sources.now.pool.now.world }
     ensures { OnOk result (lines.new.items ≡ with_texts lines.old.items
-        (only_lines sources.now.pool.now sources.now.repositories.now want.owner id
-        (wanted sources.now.pool.now want))) }
+        (only_lines sources.now.pool.now sources.now.listed.now sources.now.repositories.now
+        want.owner id (wanted sources.now.pool.now want))) }
 {
     let owner = want.owner;
     match wanted(sources.pool, sources.world, want) {
@@ -194,7 +195,7 @@ fn add_step(
 ) -> Result<(), AllocError>
     requires { sources.now.world.now ≡ sources.now.pool.now.world }
     ensures { OnOk result (lines.new.items ≡ with_texts lines.old.items
-        (step_lines sources.now.pool.now sources.now.repositories.now step)) }
+        (step_lines sources.now.pool.now sources.now.listed.now sources.now.repositories.now step)) }
 {
     match step {
         Step::Broken { id, index } => {
@@ -217,7 +218,8 @@ fn add_steps(
 ) -> Result<(), AllocError>
     requires { sources.now.world.now ≡ sources.now.pool.now.world }
     ensures { OnOk result (lines.new.items ≡ with_texts lines.old.items
-        (flat_map (step_lines sources.now.pool.now sources.now.repositories.now) steps.now)) }
+        (flat_map (step_lines sources.now.pool.now sources.now.listed.now
+        sources.now.repositories.now) steps.now)) }
 {
     for step in steps {
         add_step(alloc, lines, sources, *step)?;
@@ -244,7 +246,8 @@ fn refutation_lines(
 ) -> Result<Vec<Text>, AllocError>
     requires { sources.now.world.now ≡ sources.now.pool.now.world }
     ensures { IfOk result (λ lines. lines.items
-        ≡ refutation_lines sources.now.pool.now sources.now.repositories.now refutation.now) }
+        ≡ refutation_lines sources.now.pool.now sources.now.listed.now
+        sources.now.repositories.now refutation.now) }
 {
     let mut lines = Vec::new(alloc);
     add_want(alloc, &mut lines, sources, refutation.end)?;
@@ -256,7 +259,7 @@ fn refutation_lines(
 fn world_lines(alloc: Global, sources: &Sources<'_>) -> Result<Vec<Text>, AllocError>
     requires { sources.now.world.now ≡ sources.now.pool.now.world }
     ensures { IfOk result (λ lines. lines.items
-        ≡ world_lines sources.now.pool.now.world) }
+        ≡ world_lines sources.now.listed.now sources.now.pool.now.world) }
 {
     let mut lines = Vec::new(alloc);
     let world = sources.world;
@@ -313,7 +316,7 @@ pub(crate) fn explanation(
 ) -> Result<Vec<u8>, AllocError>
     requires { sources.now.world.now ≡ sources.now.pool.now.world }
     ensures { IfOk result (λ text. text.items ≡ explanation_text sources.now.pool.now
-        sources.now.repositories.now found.now) }
+        sources.now.listed.now sources.now.repositories.now found.now) }
 {
     let lines = lines_of(alloc, sources, found)?;
     printed(alloc, &lines)
@@ -327,7 +330,7 @@ fn lines_of(
 ) -> Result<Vec<Text>, AllocError>
     requires { sources.now.world.now ≡ sources.now.pool.now.world }
     ensures { IfOk result (λ lines. lines.items ≡ explanation_lines sources.now.pool.now
-        sources.now.repositories.now found.now) }
+        sources.now.listed.now sources.now.repositories.now found.now) }
 {
     match found {
         None => world_lines(alloc, sources),

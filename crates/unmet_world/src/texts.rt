@@ -7,7 +7,7 @@ ghost use Rattle.dep_core.specs.DependencyText.{dep_text};
 ghost use Rattle.dep_core.specs.Meets.{dependency};
 ghost use Rattle.search_tables.specs.candidate_core.Candidates.{uses_tag, is_allowed};
 ghost use Rattle.unmet_world.specs.Exclusion.{is_conflict_met_by};
-ghost use Rattle.unmet_world.specs.Lines.{origin_text, name_and_version_text, candidate_text, candidate_text_at, dependency_owner_text, bar_text, bar_reason_text, offer_text, offer_text_at, with_text_once, with_texts, joined_texts, most_offers, dots_if, no_package_text, offered_text, offers_line};
+ghost use Rattle.unmet_world.specs.Lines.{origin_text, name_and_version_text, candidate_text, candidate_text_at, is_named, is_same_text, is_listed, entry_origin, entry_origin_text, dependency_owner_text, bar_text, bar_reason_text, offer_text, offer_text_at, with_text_once, with_texts, joined_texts, most_offers, dots_if, no_package_text, offered_text, offers_line};
 
 use crate::exclusion::is_conflict_met_by;
 use crate::refutation::{Owner, candidate};
@@ -27,6 +27,8 @@ pub(crate) struct Sources<'a> {
     pub(crate) pool: &'a Sealed<'a>,
     /// The world that the pool was sealed with.
     pub(crate) world: &'a World,
+    /// World as its file lists it, before the command.
+    pub(crate) listed: &'a World,
     /// The repositories, in the order of their numbers.
     pub(crate) repositories: &'a Repos,
 }
@@ -110,27 +112,92 @@ pub(crate) fn add_candidate_at(
     }
 }
 
-/// Adds who has a dependency.
-pub(crate) fn add_owner(
-    text: &mut Vec<u8>,
-    sources: &Sources<'_>,
-    owner: Owner,
-) -> Result<(), AllocError>
-    ensures { OnOk result (text.new.items ≡ text.old.items
-        ++ dependency_owner_text sources.now.pool.now sources.now.repositories.now owner) }
-{
-    match owner {
-        Owner::World => text.extend_from_slice(b"world"),
-        Owner::Package(id) => add_candidate_at(text, sources, candidate(id)),
-    }
-}
-
 /// Adds a dependency.
 pub(crate) fn add_dep(text: &mut Vec<u8>, dep: &Dep<'_>) -> Result<(), AllocError>
     ensures { OnOk result (text.new.items ≡ text.old.items ++ dep_text (dependency dep.now)) }
 {
     let alloc = *text.allocator();
     text.extend_from_slice(dep_text(alloc, dep)?.as_bytes())
+}
+
+// ---- entries of world
+
+// The entry of world that has a name.
+fn entry_named<'a>(world: &'a World, name: &[u8]) -> Option<Dep<'a>>
+    ensures { option_map dependency result ≡ find (is_named name.now) world.now }
+{
+    for i in 0..world.len() {
+        let dep = world.entry(i);
+        if is_named(&dep, name) {
+            return Some(dep);
+        }
+    }
+    None
+}
+
+// Whether a dependency has a name.
+fn is_named(dep: &Dep<'_>, name: &[u8]) -> bool
+    ensures { result ≡ is_named name.now (dependency dep.now) }
+{
+    name == dep.name
+}
+
+// Whether two dependencies have the same text.
+fn is_same_text(alloc: Global, dep: &Dep<'_>, other: &Dep<'_>) -> Result<bool, AllocError>
+    ensures { IfOk result (λ same.
+        same ≡ is_same_text (dependency dep.now) (dependency other.now)) }
+{
+    let text = dep_text(alloc, dep)?;
+    let other_text = dep_text(alloc, other)?;
+    Ok(text.as_bytes() == other_text.as_bytes())
+}
+
+// Whether an entry of world is one that the file of world lists.
+fn is_listed(alloc: Global, listed: &World, dep: &Dep<'_>) -> Result<bool, AllocError>
+    ensures { IfOk result (λ is. is ≡ is_listed listed.now (dependency dep.now)) }
+{
+    match entry_named(listed, dep.name) {
+        None => Ok(false),
+        Some(entry) => is_same_text(alloc, dep, &entry),
+    }
+}
+
+// Where an entry of world is from: its file, or else the command.
+fn entry_origin(in_file: bool) -> &'static [u8]
+    ensures { result.now ≡ entry_origin in_file }
+{
+    if in_file {
+        b"etc/apk/world"
+    } else {
+        b"this command"
+    }
+}
+
+// Adds where an entry of world is from.
+fn add_entry_origin(text: &mut Vec<u8>, listed: &World, dep: &Dep<'_>) -> Result<(), AllocError>
+    ensures { OnOk result (text.new.items ≡ text.old.items
+        ++ entry_origin_text listed.now (dependency dep.now)) }
+{
+    let alloc = *text.allocator();
+    let in_file = is_listed(alloc, listed, dep)?;
+    text.extend_from_slice(entry_origin(in_file))
+}
+
+/// Adds who has a dependency.
+pub(crate) fn add_owner(
+    text: &mut Vec<u8>,
+    sources: &Sources<'_>,
+    owner: Owner,
+    dep: &Dep<'_>,
+) -> Result<(), AllocError>
+    ensures { OnOk result (text.new.items ≡ text.old.items
+        ++ dependency_owner_text sources.now.pool.now sources.now.listed.now
+        sources.now.repositories.now owner (dependency dep.now)) }
+{
+    match owner {
+        Owner::World => add_entry_origin(text, sources.listed, dep),
+        Owner::Package(id) => add_candidate_at(text, sources, candidate(id)),
+    }
 }
 
 // ---- what there is of a name
@@ -185,12 +252,16 @@ fn bar<'a>(world: &'a World, details: &Details<'_>) -> Option<Dep<'a>>
 }
 
 // Adds why a candidate may not be selected; nothing if it may.
-fn add_refusal(text: &mut Vec<u8>, world: &World, details: &Details<'_>) -> Result<(), AllocError>
-    ensures { OnOk result (text.new.items
-        ≡ text.old.items ++ bar_reason_text world.now details.now) }
+fn add_refusal(
+    text: &mut Vec<u8>,
+    sources: &Sources<'_>,
+    details: &Details<'_>,
+) -> Result<(), AllocError>
+    ensures { OnOk result (text.new.items ≡ text.old.items
+        ++ bar_reason_text sources.now.listed.now sources.now.world.now details.now) }
 {
-    if is_allowed(world, details) {
-        return add_bar(text, bar(world, details));
+    if is_allowed(sources.world, details) {
+        return add_bar(text, sources.listed, bar(sources.world, details));
     }
     text.extend_from_slice(b" (tagged @")?;
     text.extend_from_slice(details.tag().unwrap_or(b""))?;
@@ -198,28 +269,37 @@ fn add_refusal(text: &mut Vec<u8>, world: &World, details: &Details<'_>) -> Resu
 }
 
 // Adds the conflict of world that a candidate meets, if it meets one.
-fn add_bar(text: &mut Vec<u8>, bar: Option<Dep<'_>>) -> Result<(), AllocError>
+fn add_bar(text: &mut Vec<u8>, listed: &World, bar: Option<Dep<'_>>) -> Result<(), AllocError>
     ensures { OnOk result (text.new.items ≡ text.old.items
-        ++ bar_text (option_map dependency bar.entry)) }
+        ++ bar_text listed.now (option_map dependency bar.entry)) }
 {
     match bar {
         None => Ok(()),
-        Some(dep) => {
-            text.extend_from_slice(b" (world has ")?;
-            add_dep(text, &dep)?;
-            text.extend_from_slice(b")")
-        }
+        Some(dep) => add_barring_entry(text, listed, &dep),
     }
+}
+
+// Adds a conflict of world that a candidate meets.
+fn add_barring_entry(text: &mut Vec<u8>, listed: &World, dep: &Dep<'_>) -> Result<(), AllocError>
+    ensures { OnOk result (text.new.items ≡ text.old.items
+        ++ bar_text listed.now (Some (dependency dep.now))) }
+{
+    text.extend_from_slice(b" (")?;
+    add_entry_origin(text, listed, dep)?;
+    text.extend_from_slice(b" has ")?;
+    add_dep(text, dep)?;
+    text.extend_from_slice(b")")
 }
 
 // The text of a candidate that offers a name.
 fn offer(
     alloc: Global,
-    world: &World,
+    sources: &Sources<'_>,
     name: &[u8],
     details: &Details<'_>,
 ) -> Result<Text, AllocError>
-    ensures { IfOk result (λ text. text ≡ offer_text world.now name.now details.now) }
+    ensures { IfOk result (λ text. text
+        ≡ offer_text sources.now.listed.now sources.now.world.now name.now details.now) }
 {
     let mut text = Vec::new(alloc);
     if name == details.name() {
@@ -227,7 +307,7 @@ fn offer(
     } else {
         add_package(&mut text, details)?;
     }
-    add_refusal(&mut text, world, details)?;
+    add_refusal(&mut text, sources, details)?;
     Ok(Text::from_vec(text))
 }
 
@@ -239,11 +319,12 @@ fn offer_at(
     id: CandId,
 ) -> Result<Text, AllocError>
     requires { sources.now.world.now ≡ sources.now.pool.now.world }
-    ensures { IfOk result (λ text. text ≡ offer_text_at sources.now.pool.now name.now id) }
+    ensures { IfOk result (λ text. text
+        ≡ offer_text_at sources.now.pool.now sources.now.listed.now name.now id) }
 {
     match sources.pool.at(id) {
         None => Text::of(alloc, b""),
-        Some(details) => offer(alloc, sources.world, name, &details),
+        Some(details) => offer(alloc, sources, name, &details),
     }
 }
 
@@ -278,8 +359,8 @@ fn offers(
     ids: &[CandId],
 ) -> Result<Vec<Text>, AllocError>
     requires { sources.now.world.now ≡ sources.now.pool.now.world }
-    ensures { IfOk result (λ texts. texts.items
-        ≡ with_texts [] (map (offer_text_at sources.now.pool.now name.now) ids.now)) }
+    ensures { IfOk result (λ texts. texts.items ≡ with_texts []
+        (map (offer_text_at sources.now.pool.now sources.now.listed.now name.now) ids.now)) }
 {
     let mut texts = Vec::new(alloc);
     for id in ids {
@@ -311,7 +392,7 @@ fn add_offers(
 ) -> Result<(), AllocError>
     requires { sources.now.world.now ≡ sources.now.pool.now.world }
     ensures { OnOk result (line.new.items ≡ line.old.items
-        ++ offered_text sources.now.pool.now name.now ids.now) }
+        ++ offered_text sources.now.pool.now sources.now.listed.now name.now ids.now) }
 {
     if ids.is_empty() {
         return add_no_package(line, similar_name(sources.pool, name));
@@ -362,7 +443,8 @@ pub(crate) fn offers_line(
     name: &[u8],
 ) -> Result<Text, AllocError>
     requires { sources.now.world.now ≡ sources.now.pool.now.world }
-    ensures { IfOk result (λ line. line ≡ offers_line sources.now.pool.now name.now) }
+    ensures { IfOk result (λ line. line
+        ≡ offers_line sources.now.pool.now sources.now.listed.now name.now) }
 {
     let mut line = Vec::new(alloc);
     line.extend_from_slice(name)?;

@@ -41,7 +41,7 @@ pub fn why_unmet(
     longer(alloc, pool, world)
 }
 
-/// The explanation of a world, as it is printed.
+/// The explanation of a world, as it is printed. The file of world lists some of its entries.
 ///
 /// # Errors
 ///
@@ -50,15 +50,18 @@ pub fn explanation_of(
     alloc: Global,
     pool: &Sealed<'_>,
     world: &World,
+    listed: &World,
     repositories: &Repos,
 ) -> Result<Vec<u8>, AllocError>
     requires { world.now ≡ pool.now.world }
-    ensures { IfOk result (λ text. ExplainsWorld pool.now repositories.now text.items) }
+    ensures { IfOk result (λ text.
+        ExplainsWorld pool.now listed.now repositories.now text.items) }
 {
     let found = why_unmet(alloc, pool, world)?;
     let sources = Sources {
         pool,
         world,
+        listed,
         repositories,
     };
     explanation(alloc, &sources, &found)

@@ -9,4 +9,4 @@ explanation_of_pool-requires c = c.new_world.ensures ∙ sym (pool_world (inputs
 
 pub returns-in-Ok : goal.returns-in-Ok
 returns-in-Ok c =
-    of_pool (inputs_seen c.args.loaded.now) c.in-Ok.pool _ c.explanation_of_pool.result c.in-Ok.ensures c.repositories.ensures c.explanation_of_pool.ensures
+    of_pool (inputs_seen c.args.loaded.now) c.in-Ok.pool _ _ c.explanation_of_pool.result c.in-Ok.ensures c.world.ensures c.repositories.ensures c.explanation_of_pool.ensures

@@ -10,17 +10,18 @@ use Rattle.unmet_world.proofs.lines.world_lines.Goals.{then-not-dep+in_ok-line+i
 pub loop-i-preserved : goal.loop-i-preserved
 loop-i-preserved c =
     let world : List Dependency = c.args.sources.now.world.now in
+    let listed : List Dependency = c.args.sources.now.listed.now in
     elim c.if-not-dep.branch [
       | then-not-dep+in_ok-line+in_ok-push w ↦
-          entry_next world c.loop-i.i (dependency c.entry-dep.result) c.loop-i.lines.items _ c.entry-dep.ensures c.loop-i.invariant
-          (ap (λ v. v.items) w.lines-is ∙ (w.in_ok-push.ensures.items ∙ ap (λ z. c.loop-i.lines.items ++ z) (sym (line_of (dependency c.entry-dep.result) _ w.if-not-dep.true (w.from_vec.ensures ∙ w.in_ok-line.ensures)))))
+          entry_next listed world c.loop-i.i (dependency c.entry-dep.result) c.loop-i.lines.items _ c.entry-dep.ensures c.loop-i.invariant
+          (ap (λ v. v.items) w.lines-is ∙ (w.in_ok-push.ensures.items ∙ ap (λ z. c.loop-i.lines.items ++ z) (sym (line_of listed (dependency c.entry-dep.result) _ w.if-not-dep.true (w.from_vec.ensures ∙ w.in_ok-line.ensures)))))
       | else-not-dep w ↦
-          entry_next world c.loop-i.i (dependency c.entry-dep.result) c.loop-i.lines.items _ c.entry-dep.ensures c.loop-i.invariant
-          (ap (λ v. v.items) w.lines-is ∙ (sym (append-nil c.loop-i.lines.items) ∙ ap (λ z. c.loop-i.lines.items ++ z) (sym (no_line_of (dependency c.entry-dep.result) w.if-not-dep.false))))
+          entry_next listed world c.loop-i.i (dependency c.entry-dep.result) c.loop-i.lines.items _ c.entry-dep.ensures c.loop-i.invariant
+          (ap (λ v. v.items) w.lines-is ∙ (sym (append-nil c.loop-i.lines.items) ∙ ap (λ z. c.loop-i.lines.items ++ z) (sym (no_line_of listed (dependency c.entry-dep.result) w.if-not-dep.false))))
     ]
 
 pub returns : goal.returns
 returns c =
     let world : List Dependency = c.args.sources.now.world.now in
     let past : length world ≤ c.loop-i.i = omega (arith, c.len-i-end.ensures.value, c.loop-i-test.false) in
-    c.loop-i.invariant ∙ (ap world_lines (take_all c.loop-i.i world past) ∙ ap world_lines c.requires)
+    c.loop-i.invariant ∙ (ap (world_lines c.args.sources.now.listed.now) (take_all c.loop-i.i world past) ∙ ap (world_lines c.args.sources.now.listed.now) c.requires)

@@ -1,0 +1,13 @@
+-- The lines of the repositories so far; the tree was only read.
+use Rattle.std.proofs.Common.{ℕ, Ok, take}
+use Rattle.base_core.specs.Read.{OnlyReads}
+use Rattle.base_core.specs.declared.tree.TreeFault.{TreeFault}
+use Rattle.base_core.specs.declared.tree.TreeFault.TheVariants.{Disk}
+use Rattle.hint_core.specs.PackageFile.{ExplainsEach}
+use Rattle.hint_core.proofs.package_file.lines_beside_each.Given as goal
+
+abbrev pub invariant-loop-i : goal.invariant-loop-i
+invariant-loop-i g l = record {
+  so_far : ExplainsEach l.name l.version l.refusal (g.T.Tree.history l.initial.tree) (take l.i l.repositories) l.lines.items;
+  tree : OnlyReads {A = ℕ} {E = TreeFault} Disk (g.T.Tree.history l.initial.tree) (g.T.Tree.history l.tree) (g.T.Tree.counts l.initial.tree) (g.T.Tree.counts l.tree) (Ok 0);
+}
