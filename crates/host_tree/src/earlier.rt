@@ -1,6 +1,5 @@
 //! The folders in which an earlier run may have changed names without syncing them, since it was
-//! killed or failed. The rules are in `docs/crash-safety.md`, "What the host's tree does", the
-//! point of earlier runs.
+//! killed or failed. The rules are in `docs/crash-safety.md`, "What an earlier run may have left".
 
 use host_root::{Host, HostFault, Root};
 use journal_intent::{PreparedIntent, ReadFault, intent_name};

@@ -74,7 +74,7 @@ fn read_named<T: Tree>(
 {
     match read_front(alloc, tree, name, PACKAGE_WORD) {
         Ok(Some(front)) => {
-            let test = append_file_to(alloc, tree, name, &front)?;
+            let test = test_values_and_files(alloc, tree, name, &front)?;
             Ok(read_by(own_name, front, test))
         }
         Ok(None) => Ok(PackageRead::Absent),
@@ -101,7 +101,7 @@ fn read_by(name: Name, front: Front, test: FilesTest) -> PackageRead
 }
 
 /// Tests the values after a front and, if they are good, the blocks after them.
-fn append_file_to<T: Tree>(
+fn test_values_and_files<T: Tree>(
     alloc: Global,
     tree: &mut T,
     name: &Name,

@@ -1,7 +1,7 @@
 -- By the values, and by what follows them.
 use Rattle.package_reader.specs.pkg_core.Values.{value_of_contents}
 use Rattle.package_verifier.proofs.WholeTested.{whole_by_contents, whole_by_values}
-use Rattle.package_verifier.proofs.read.append_file_to.Goals as goal
+use Rattle.package_verifier.proofs.read.test_values_and_files.Goals as goal
 
 pub returns-in-Ok-clause-whole : goal.returns-in-Ok-clause-whole
 returns-in-Ok-clause-whole g c = whole_by_contents _ _ c.args.front.now (value_of_contents c.in-Ok.contents) c.read_files.result c.in-Ok.ensures.sound c.in-Ok.ensures.value c.read_files.ensures.files
