@@ -6,9 +6,9 @@ use Rattle.adb_block.specs.Container.{IsNotFirst, SpellsBlocks}
 use Rattle.adb_block.specs.Piece.{Piece}
 use Rattle.adb_block.specs.Framing.{ended, failed, block, next_step}
 use Rattle.adb_block.specs.ReaderPosition.{ReaderPosition}
-use Rattle.adb_block.specs.Reading.{reading_of}
-use Rattle.adb_block.specs.AllBlocks.{rest_of}
-use Rattle.adb_block.specs.Reader.{piece_of, BeginsWith, Continues, IsStep, Advances, Ends, ContinuesReading, ContinuesRest, reader_after_block}
+use Rattle.adb_block.specs.Reading.{block_stream_from}
+use Rattle.adb_block.specs.AllBlocks.{blocks_from_position}
+use Rattle.adb_block.specs.Reader.{piece_of, BeginsWith, ReturnsNextSpelledBlock, IsNextStepResult, Advances, Ends, ContinuesReading, AreBlocksFromCall, reader_after_block}
 use Rattle.adb_block.specs.declared.block.Block.{Block}
 use Rattle.adb_block.specs.declared.block.BlockKind.{BlockKind}
 use Rattle.adb_block.proofs.Sound.{step_sound, step_ended}
@@ -50,10 +50,10 @@ some_later (Some kind) later = refl
 
 -- at the end
 pub record IsEnd (s : ReaderPosition) : Type 0 where
-  pub blocks : Continues s (Ok None) s
+  pub blocks : ReturnsNextSpelledBlock s (Ok None) s
   pub none : Ends s s
-  pub reading : ContinuesReading (reading_of s) (Ok None) (reading_of s)
-  pub rest : ContinuesRest (rest_of s) (Ok None) (rest_of s)
+  pub reading : ContinuesReading (block_stream_from s) (Ok None) (block_stream_from s)
+  pub rest : AreBlocksFromCall (blocks_from_position s) (Ok None) (blocks_from_position s)
 
 pub at_end : (s : ReaderPosition) → next_step s.last s.at s.left ≡ ended → IsEnd s
 at_end s e = record {
@@ -65,9 +65,9 @@ at_end s e = record {
 
 -- at a failed test
 pub record PrintsOnlyErrorLine (s : ReaderPosition) (c : Cause) : Type 0 where
-  pub blocks : Continues s (Err c) s
-  pub reading : ContinuesReading (reading_of s) (Err c) (reading_of s)
-  pub rest : ContinuesRest (rest_of s) (Err c) (rest_of s)
+  pub blocks : ReturnsNextSpelledBlock s (Err c) s
+  pub reading : ContinuesReading (block_stream_from s) (Err c) (block_stream_from s)
+  pub rest : AreBlocksFromCall (blocks_from_position s) (Err c) (blocks_from_position s)
 
 pub at_fault : (s : ReaderPosition) (c : Cause) → next_step s.last s.at s.left ≡ failed c → PrintsOnlyErrorLine s c
 at_fault s c e = record {
@@ -78,12 +78,12 @@ at_fault s c e = record {
 
 -- at a block
 pub record IsFound (s : ReaderPosition) (b : Block) (t : ReaderPosition) : Type 0 where
-  pub blocks : Continues s (Ok (Some b)) t
-  pub exact : IsStep s (Ok (Some b)) t
+  pub blocks : ReturnsNextSpelledBlock s (Ok (Some b)) t
+  pub exact : IsNextStepResult s (Ok (Some b)) t
   pub found : Advances s b t
   pub filled : s.left ≡ [] → ⊥
-  pub reading : ContinuesReading (reading_of s) (Ok (Some b)) (reading_of t)
-  pub rest : ContinuesRest (rest_of s) (Ok (Some b)) (rest_of t)
+  pub reading : ContinuesReading (block_stream_from s) (Ok (Some b)) (block_stream_from t)
+  pub rest : AreBlocksFromCall (blocks_from_position s) (Ok (Some b)) (blocks_from_position t)
 
 found_after : (s : ReaderPosition) (b : Block) (size : ℕ) → b.at ≡ s.at → next_step s.last s.at s.left ≡ block (piece_of b) size → IsFound s b (reader_after_block s b.kind size)
 found_after s b size at e =

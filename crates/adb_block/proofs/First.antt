@@ -9,9 +9,9 @@ use Rattle.adb_block.specs.Container.{IsBlock, MayFollow}
 use Rattle.adb_block.specs.Header.{header_of}
 use Rattle.adb_block.specs.Framing.{HeadFields, head_of, kind_of_number, Step, ended, failed, block, step_by_size, step_by_order, step_by_head, step_at_end, next_step}
 use Rattle.adb_block.specs.FirstFraming.{BeginWithBlocks, last_kind, IsWrongSize, HaveBlockFault, IsFirstFramingFault}
-use Rattle.adb_block.specs.ReaderPosition.{start_of}
-use Rattle.adb_block.specs.Reading.{reading_by_step, reading_from, reading_of}
-use Rattle.adb_block.specs.AllBlocks.{with_block, pieces_of, rest_of, blocks_of}
+use Rattle.adb_block.specs.ReaderPosition.{first_block_position}
+use Rattle.adb_block.specs.Reading.{block_stream_after_step, block_stream_from_offset, block_stream_from}
+use Rattle.adb_block.specs.AllBlocks.{with_block, blocks_of_stream, blocks_from_position, blocks_of}
 use Rattle.adb_block.specs.declared.block.BlockKind.{BlockKind}
 use Rattle.adb_block.proofs.Choices.{chosen}
 use Rattle.adb_block.proofs.Sound.{step_sound}
@@ -90,18 +90,18 @@ fails_behind total last bytes c b behind may is f =
     record { blocks = b ∷ f.blocks; rest = f.rest; before = (behind, may, is, f.before); at = f.at; located = f.located; fault = f.fault }
 
 -- nothing fails at the end after a block
-nothing_fails : (n at : ℕ) (kind : BlockKind) (bytes : List ℕ) (c : Cause) → bytes ≡ [] → length bytes < n → pieces_of (reading_from n (Some kind) at bytes) ≡ Err c → ⊥
-unfolding reading_from next_step
+nothing_fails : (n at : ℕ) (kind : BlockKind) (bytes : List ℕ) (c : Cause) → bytes ≡ [] → length bytes < n → blocks_of_stream (block_stream_from_offset n (Some kind) at bytes) ≡ Err c → ⊥
+unfolding block_stream_from_offset next_step
 nothing_fails zero at kind bytes c none enough e = omega arith
 nothing_fails (suc n) at kind bytes c none enough e =
-    let same : pieces_of (reading_from (suc n) (Some kind) at []) ≡ Err c = ap (λ (x : List ℕ). pieces_of (reading_from (suc n) (Some kind) at x)) (sym none) ∙ e in
+    let same : blocks_of_stream (block_stream_from_offset (suc n) (Some kind) at []) ≡ Err c = ap (λ (x : List ℕ). blocks_of_stream (block_stream_from_offset (suc n) (Some kind) at x)) (sym none) ∙ e in
     cc
 
 -- that later readings fail so
 abbrev FailsLater : ℕ → ℕ → Cause → Type 0
-FailsLater n total c = (kind : BlockKind) (at : ℕ) (bytes : List ℕ) → length bytes < n → at + length bytes ≡ total → pieces_of (reading_from n (Some kind) at bytes) ≡ Err c → Fails total (Some kind) bytes c
+FailsLater n total c = (kind : BlockKind) (at : ℕ) (bytes : List ℕ) → length bytes < n → at + length bytes ≡ total → blocks_of_stream (block_stream_from_offset n (Some kind) at bytes) ≡ Err c → Fails total (Some kind) bytes c
 
-after_fails : (n total : ℕ) (kind : BlockKind) (at size : ℕ) (bytes : List ℕ) (c : Cause) → FailsLater n total c → length (drop size bytes) < n → at + length bytes ≡ total → pieces_of (reading_from n (Some kind) (at + size) (drop size bytes)) ≡ Err c
+after_fails : (n total : ℕ) (kind : BlockKind) (at size : ℕ) (bytes : List ℕ) (c : Cause) → FailsLater n total c → length (drop size bytes) < n → at + length bytes ≡ total → blocks_of_stream (block_stream_from_offset n (Some kind) (at + size) (drop size bytes)) ≡ Err c
     → Fails total (Some kind) (drop size bytes) c
 after_fails n total kind at size bytes c ih enough sum e =
     elim (cases_lt (length bytes) size) [
@@ -110,7 +110,7 @@ after_fails n total kind at size bytes c ih enough sum e =
     ]
 
 stepped_fails : (n total : ℕ) (last : Option BlockKind) (at : ℕ) (bytes : List ℕ) (c : Cause) → FailsLater n total c → length bytes < suc n → at + length bytes ≡ total → (s : Step) → next_step last at bytes ≡ s
-    → pieces_of (reading_by_step at (λ b size. reading_from n (Some b.kind) (at + size) (drop size bytes)) s) ≡ Err c → Fails total last bytes c
+    → blocks_of_stream (block_stream_after_step at (λ b size. block_stream_from_offset n (Some b.kind) (at + size) (drop size bytes)) s) ≡ Err c → Fails total last bytes c
 stepped_fails n total last at bytes c ih enough sum ended is e = absurd cc
 stepped_fails n total last at bytes c ih enough sum (failed d) is e =
     let same : d ≡ c = cc in
@@ -118,19 +118,19 @@ stepped_fails n total last at bytes c ih enough sum (failed d) is e =
 stepped_fails n total last at bytes c ih enough sum (block b size) is e =
     let sound = step_sound last at bytes b size is in
     let shorter = step_shorter last at bytes b size is in
-    let later = with_err b (pieces_of (reading_from n (Some b.kind) (at + size) (drop size bytes))) c e in
+    let later = with_err b (blocks_of_stream (block_stream_from_offset n (Some b.kind) (at + size) (drop size bytes))) c e in
     fails_behind total last bytes c b (drop size bytes) sound.0 sound.1 (after_fails n total b.kind at size bytes c ih (omega arith) sum later)
 
-reading_fails : (n total : ℕ) (last : Option BlockKind) (at : ℕ) (bytes : List ℕ) (c : Cause) → length bytes < n → at + length bytes ≡ total → pieces_of (reading_from n last at bytes) ≡ Err c → Fails total last bytes c
-unfolding reading_from
+reading_fails : (n total : ℕ) (last : Option BlockKind) (at : ℕ) (bytes : List ℕ) (c : Cause) → length bytes < n → at + length bytes ≡ total → blocks_of_stream (block_stream_from_offset n last at bytes) ≡ Err c → Fails total last bytes c
+unfolding block_stream_from_offset
 reading_fails zero total last at bytes c enough sum e = absurd (omega arith)
 reading_fails (suc n) total last at bytes c enough sum e =
     stepped_fails n total last at bytes c (λ kind at bytes. reading_fails n total (Some kind) at bytes c) enough sum (next_step last at bytes) refl e
 
 -- ---- the whole file
 
-rest_fails : (schema : ℕ) (file : List ℕ) (c : Cause) → 8 ≤ length file → rest_of (start_of schema file) ≡ Err c → Fails (length file) None (drop 8 file) c
-unfolding rest_of reading_of
+rest_fails : (schema : ℕ) (file : List ℕ) (c : Cause) → 8 ≤ length file → blocks_from_position (first_block_position schema file) ≡ Err c → Fails (length file) None (drop 8 file) c
+unfolding blocks_from_position block_stream_from
 rest_fails schema file c long e = reading_fails (suc (length (drop 8 file))) (length file) None 8 (drop 8 file) c (omega arith) (omega (arith, length-drop 8 file)) e
 
 pub first_told : (file : List ℕ) (schema : ℕ) (c : Cause) → header_of file ≡ Ok schema → blocks_of file ≡ Err c → IsFirstFramingFault file c

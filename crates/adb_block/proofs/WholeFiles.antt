@@ -10,9 +10,9 @@ use Rattle.base_core.specs.declared.Cause.TheVariants.{NotAdb, Compressed, Trunc
 use Rattle.adb_block.specs.Container.{Spells, SpellsBlocks}
 use Rattle.adb_block.specs.Piece.{Piece}
 use Rattle.adb_block.specs.Header.{word_at, is_compressed, header_of}
-use Rattle.adb_block.specs.ReaderPosition.{start_of}
-use Rattle.adb_block.specs.Reading.{reading_of}
-use Rattle.adb_block.specs.AllBlocks.{rest_of, blocks_after_header, blocks_of}
+use Rattle.adb_block.specs.ReaderPosition.{first_block_position}
+use Rattle.adb_block.specs.Reading.{block_stream_from}
+use Rattle.adb_block.specs.AllBlocks.{blocks_from_position, blocks_after_header, blocks_of}
 use Rattle.adb_block.proofs.Choices.{passed}
 use Rattle.adb_block.proofs.Runs.{pieces_sound, pieces_again}
 
@@ -52,12 +52,12 @@ parts file = sym (ap (λ r. take 4 file ++ r) (ap (λ r. take 4 (drop 4 file) ++
 
 -- ---- all blocks
 
-blocks_by : (file : List ℕ) (r : Result ℕ Cause) (schema : ℕ) (bs : List Piece) → r ≡ Ok schema → blocks_after_header file r ≡ Ok bs → rest_of (start_of schema file) ≡ Ok bs
+blocks_by : (file : List ℕ) (r : Result ℕ Cause) (schema : ℕ) (bs : List Piece) → r ≡ Ok schema → blocks_after_header file r ≡ Ok bs → blocks_from_position (first_block_position schema file) ≡ Ok bs
 blocks_by file (Ok found) schema bs e is = let same : found ≡ schema = cc in rw (← same) is
 blocks_by file (Err c) schema bs e is = absurd cc
 
 pub read_is_spelled : (file : List ℕ) (schema : ℕ) (bs : List Piece) → header_of file ≡ Ok schema → blocks_of file ≡ Ok bs → Spells file schema bs
-unfolding blocks_of rest_of reading_of
+unfolding blocks_of blocks_from_position block_stream_from
 read_is_spelled file schema bs e is =
     let h = header_sound file schema e in
     let whole = h.whole in
@@ -81,7 +81,7 @@ text_body : (word body : List ℕ) → length word ≡ 4 → drop 8 (codes "ADB.
 text_body word body four = drop_at word body 4 four
 
 pub spelled_is_read : (file : List ℕ) (schema : ℕ) (bs : List Piece) → Spells file schema bs → (header_of file ≡ Ok schema) × (blocks_of file ≡ Ok bs)
-unfolding blocks_of rest_of reading_of
+unfolding blocks_of blocks_from_position block_stream_from
 spelled_is_read file schema bs s =
     let text : List ℕ = codes "ADB." ++ (s.word ++ s.body) in
     let header : header_of file ≡ Ok schema = ap header_of s.parts ∙ header_by text schema (text_header s.word s.body schema s.four s.is_schema) in
@@ -100,7 +100,7 @@ one_reading file schema other bs others s t =
 
 -- ---- the reader of the header
 
-pub whole_from : (file : List ℕ) (schema : ℕ) → header_of file ≡ Ok schema → blocks_of file ≡ rest_of (start_of schema file)
+pub whole_from : (file : List ℕ) (schema : ℕ) → header_of file ≡ Ok schema → blocks_of file ≡ blocks_from_position (first_block_position schema file)
 unfolding blocks_of
 whole_from file schema e = ap (blocks_after_header file) e
 

@@ -4,8 +4,8 @@ use Rattle.std.specs.Prelude.{ℕ, List, [], ◌∷◌, Result, Ok, Err}
 use Rattle.base_core.specs.declared.Cause.{Cause}
 use Rattle.adb_block.specs.Piece.{Piece}
 use Rattle.adb_block.specs.Header.{header_of}
-use Rattle.adb_block.specs.ReaderPosition.{ReaderPosition, start_of}
-use Rattle.adb_block.specs.Reading.{Reading, done, fault, more, reading_of}
+use Rattle.adb_block.specs.ReaderPosition.{ReaderPosition, first_block_position}
+use Rattle.adb_block.specs.Reading.{Reading, done, fault, more, block_stream_from}
 
 -- all blocks of a reading, with one more in front, or the test that failed after it
 abbrev pub with_block : Piece → Result (List Piece) Cause → Result (List Piece) Cause
@@ -13,18 +13,18 @@ with_block b (Ok bs) = Ok (b ∷ bs)
 with_block b (Err c) = Err c
 
 -- all blocks of a reading, or its first failed test
-abbrev pub pieces_of : Reading → Result (List Piece) Cause
-pieces_of done = Ok []
-pieces_of (fault c) = Err c
-pieces_of (more b at r) = with_block b (pieces_of r)
+abbrev pub blocks_of_stream : Reading → Result (List Piece) Cause
+blocks_of_stream done = Ok []
+blocks_of_stream (fault c) = Err c
+blocks_of_stream (more b at r) = with_block b (blocks_of_stream r)
 
 -- all blocks of a file from a reader's position on, or the first failed test
-unfoldable pub rest_of : ReaderPosition → Result (List Piece) Cause
-rest_of s = pieces_of (reading_of s)
+unfoldable pub blocks_from_position : ReaderPosition → Result (List Piece) Cause
+blocks_from_position s = blocks_of_stream (block_stream_from s)
 
 -- all blocks after a header of the file, or the fault of the header
 abbrev pub blocks_after_header : List ℕ → Result ℕ Cause → Result (List Piece) Cause
-blocks_after_header file (Ok schema) = rest_of (start_of schema file)
+blocks_after_header file (Ok schema) = blocks_from_position (first_block_position schema file)
 blocks_after_header file (Err c) = Err c
 
 -- all blocks of a file, or the first failed test of its header or of its blocks

@@ -33,18 +33,18 @@ framed_piece frame bytes =
     record { kind = frame.kind; payload = take frame.payload_len (drop frame.head_len bytes) }
 
 -- the result for the rest of a file is that of the tests: a frame, the end, or the first failed test
-abbrev pub IsFramed : Result (Option Frame) Cause → List ℕ → Step → Type 0
-IsFramed (Ok None) bytes s = s ≡ ended
-IsFramed (Ok (Some frame)) bytes s =
+abbrev pub IsFrameOrEndOfStep : Result (Option Frame) Cause → List ℕ → Step → Type 0
+IsFrameOrEndOfStep (Ok None) bytes s = s ≡ ended
+IsFrameOrEndOfStep (Ok (Some frame)) bytes s =
     s ≡ block (framed_piece frame bytes) (raw_size frame + padding_of (raw_size frame))
-IsFramed (Err c) bytes s = s ≡ failed c
+IsFrameOrEndOfStep (Err c) bytes s = s ≡ failed c
 
 -- the result is that of the tests: the frame of the block at the front of these bytes, or the first
 -- failed test; it cannot be the end
-abbrev pub IsFramedBy : Result Frame Cause → List ℕ → Step → Type 0
-IsFramedBy (Ok frame) bytes s =
+abbrev pub IsFrameOfStep : Result Frame Cause → List ℕ → Step → Type 0
+IsFrameOfStep (Ok frame) bytes s =
     s ≡ block (framed_piece frame bytes) (raw_size frame + padding_of (raw_size frame))
-IsFramedBy (Err c) bytes s = s ≡ failed c
+IsFrameOfStep (Err c) bytes s = s ≡ failed c
 
 -- ---- a block in a file in memory
 

@@ -8,7 +8,7 @@ use Rattle.adb_block.specs.Piece.{Piece}
 use Rattle.adb_block.specs.Framing.{ended, failed, block, next_step}
 use Rattle.adb_block.specs.ReaderPosition.{ReaderPosition}
 use Rattle.adb_block.specs.Reading.{Reading, done, fault, more}
-use Rattle.adb_block.specs.AllBlocks.{with_block, rest_of}
+use Rattle.adb_block.specs.AllBlocks.{with_block, blocks_from_position}
 use Rattle.adb_block.specs.declared.block.Block.{Block}
 use Rattle.adb_block.specs.declared.block.BlockKind.{BlockKind}
 
@@ -37,18 +37,18 @@ BeginsWith b Goes (c ∷ bs) = (c ≡ b) × Goes bs
 -- a call of the reader returns the blocks of the grammar and no others. If it returns a block, the
 -- spelled blocks begin with it and go on with those from the new position. If it returns None, no block
 -- is left; and if it returns an error, the file spells nothing at all
-abbrev pub Continues : ReaderPosition → Result (Option Block) Cause → ReaderPosition → Type 0
-Continues s (Ok None) t = (bs : List Piece) → SpelledFrom s bs ↔ (bs ≡ [])
-Continues s (Ok (Some b)) t =
+abbrev pub ReturnsNextSpelledBlock : ReaderPosition → Result (Option Block) Cause → ReaderPosition → Type 0
+ReturnsNextSpelledBlock s (Ok None) t = (bs : List Piece) → SpelledFrom s bs ↔ (bs ≡ [])
+ReturnsNextSpelledBlock s (Ok (Some b)) t =
     (bs : List Piece) → SpelledFrom s bs ↔ BeginsWith (piece_of b) (SpelledFrom t) bs
-Continues s (Err c) t = (bs : List Piece) → ¬ SpelledFrom s bs
+ReturnsNextSpelledBlock s (Err c) t = (bs : List Piece) → ¬ SpelledFrom s bs
 
 -- the result of a call is that of the tests at the old position: nothing after the last block, a block
 -- and the distance to the next one, or the first failed test
-abbrev pub IsStep : ReaderPosition → Result (Option Block) Cause → ReaderPosition → Type 0
-IsStep s (Ok None) t = next_step s.last s.at s.left ≡ ended
-IsStep s (Ok (Some b)) t = next_step s.last s.at s.left ≡ block (piece_of b) (t.at - s.at)
-IsStep s (Err c) t = next_step s.last s.at s.left ≡ failed c
+abbrev pub IsNextStepResult : ReaderPosition → Result (Option Block) Cause → ReaderPosition → Type 0
+IsNextStepResult s (Ok None) t = next_step s.last s.at s.left ≡ ended
+IsNextStepResult s (Ok (Some b)) t = next_step s.last s.at s.left ≡ block (piece_of b) (t.at - s.at)
+IsNextStepResult s (Err c) t = next_step s.last s.at s.left ≡ failed c
 
 -- a call of the reader has read a block, and moved to the position after it
 pub record Advances (s : ReaderPosition) (b : Block) (t : ReaderPosition) : Type 0 where
@@ -80,13 +80,13 @@ ContinuesReading r (Ok (Some b)) q = r ≡ more (piece_of b) b.at q
 ContinuesReading r (Err c) q = r ≡ fault c
 
 -- all blocks from the old position, by the result of a call and all blocks from the new position
-abbrev pub ContinuesRest : Result (List Piece) Cause → Result (Option Block) Cause
+abbrev pub AreBlocksFromCall : Result (List Piece) Cause → Result (Option Block) Cause
     → Result (List Piece) Cause → Type 0
-ContinuesRest r (Ok None) q = r ≡ Ok []
-ContinuesRest r (Ok (Some b)) q = r ≡ with_block (piece_of b) q
-ContinuesRest r (Err c) q = r ≡ Err c
+AreBlocksFromCall r (Ok None) q = r ≡ Ok []
+AreBlocksFromCall r (Ok (Some b)) q = r ≡ with_block (piece_of b) q
+AreBlocksFromCall r (Err c) q = r ≡ Err c
 
 -- all blocks of a file, by the result for its header: those from the first position, or the fault
-abbrev pub BeginsRest : Result (List Piece) Cause → Result ReaderPosition Cause → Type 0
-BeginsRest r (Ok s) = r ≡ rest_of s
-BeginsRest r (Err c) = r ≡ Err c
+abbrev pub AreBlocksAfterHeader : Result (List Piece) Cause → Result ReaderPosition Cause → Type 0
+AreBlocksAfterHeader r (Ok s) = r ≡ blocks_from_position s
+AreBlocksAfterHeader r (Err c) = r ≡ Err c

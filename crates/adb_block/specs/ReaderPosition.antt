@@ -17,5 +17,5 @@ pub record ReaderPosition : Type 0 where
 
 -- the first position of a reader: after the file's header, which has 8 bytes, and before the first
 -- block
-abbrev pub start_of : ℕ → List ℕ → ReaderPosition
-start_of schema file = record { schema = schema; last = None; at = 8; left = drop 8 file }
+abbrev pub first_block_position : ℕ → List ℕ → ReaderPosition
+first_block_position schema file = record { schema = schema; last = None; at = 8; left = drop 8 file }

@@ -16,19 +16,19 @@ pub data Reading : Type 0 where
   more : Piece → ℕ → Reading → Reading
 
 -- the reading by the result at one offset: the end or a fault ends it; after a block it goes on
-abbrev pub reading_by_step : ℕ → (Piece → ℕ → Reading) → Step → Reading
-reading_by_step at further ended = done
-reading_by_step at further (failed c) = fault c
-reading_by_step at further (block b size) = more b at (further b size)
+abbrev pub block_stream_after_step : ℕ → (Piece → ℕ → Reading) → Step → Reading
+block_stream_after_step at further ended = done
+block_stream_after_step at further (failed c) = fault c
+block_stream_after_step at further (block b size) = more b at (further b size)
 
 -- the reading from an offset on, after a block of the kind `last`. The number bounds the blocks; the
 -- number of bytes plus one is always enough
-unfoldable pub reading_from : ℕ → Option BlockKind → ℕ → List ℕ → Reading
-reading_from zero last at bytes = fault (Truncated at)
-reading_from (suc n) last at bytes =
-    reading_by_step at (λ b size. reading_from n (Some b.kind) (at + size) (drop size bytes))
+unfoldable pub block_stream_from_offset : ℕ → Option BlockKind → ℕ → List ℕ → Reading
+block_stream_from_offset zero last at bytes = fault (Truncated at)
+block_stream_from_offset (suc n) last at bytes =
+    block_stream_after_step at (λ b size. block_stream_from_offset n (Some b.kind) (at + size) (drop size bytes))
     (next_step last at bytes)
 
 -- the reading of a file from a reader's position on
-unfoldable pub reading_of : ReaderPosition → Reading
-reading_of s = reading_from (suc (length s.left)) s.last s.at s.left
+unfoldable pub block_stream_from : ReaderPosition → Reading
+block_stream_from s = block_stream_from_offset (suc (length s.left)) s.last s.at s.left

@@ -10,7 +10,7 @@ ghost use Rattle.std.specs.Option.{option_map};
 ghost use Rattle.adb_block.specs.Container.{IsHead};
 ghost use Rattle.adb_block.specs.Piece.{may_be_next_kind, least_payload, padding_of, kind_number};
 ghost use Rattle.adb_block.specs.Framing.{HeadFields, head_of, kind_of_number, step_by_order, next_step};
-ghost use Rattle.adb_block.specs.Frames.{IsHeadPrefix, IsFramed, IsFramedBy, IsReadBlock, fields_of, head_len, raw_size};
+ghost use Rattle.adb_block.specs.Frames.{IsHeadPrefix, IsFrameOrEndOfStep, IsFrameOfStep, IsReadBlock, fields_of, head_len, raw_size};
 ghost use Rattle.adb_block.specs.Written.{head_bytes};
 ghost use Rattle.adb_block.specs.Header.{word_at, long_at};
 
@@ -131,7 +131,7 @@ pub fn frame_of(
     requires { IsHeadPrefix head.now left }
     // It holds for any rest of the file that begins with these bytes.
     ensures exact { (bytes : List ℕ) → length bytes ≡ left → take (length head.now) bytes ≡ head.now
-        → IsFramed result bytes (next_step last at bytes) }
+        → IsFrameOrEndOfStep result bytes (next_step last at bytes) }
     // A file has at least one block, else it is an error.
     ensures first { last ≡ None → IfOk result (λ found. IsSome found) }
     ensures order { IfOk result (λ found. IfSome found (λ frame.
@@ -192,7 +192,7 @@ fn frame_by_head(
     left: u64,
     head: BlockHead,
 ) -> Result<Frame, Cause>
-    ensures exact { (bytes : List ℕ) → length bytes ≡ left → IsFramedBy result bytes
+    ensures exact { (bytes : List ℕ) → length bytes ≡ left → IsFrameOfStep result bytes
         (step_by_order last at bytes (fields_of head) (kind_of_number head.kind)) }
     ensures order { IfOk result (λ frame. may_be_next_kind last frame.kind ≡ true) }
     ensures len { IfOk result (λ frame. frame.head_len ≡ head.len) }

@@ -4,10 +4,10 @@
 
 ghost use Rattle.std.specs.Prelude.{◌≡◌, ◌↔◌, [], drop, IfOk, IfErr, IfSome, IfNone, IsNone, OnErr, ◌<◌, ◌^◌, ℕ, List};
 ghost use Rattle.adb_block.specs.Header.{header_of};
-ghost use Rattle.adb_block.specs.ReaderPosition.{start_of};
+ghost use Rattle.adb_block.specs.ReaderPosition.{first_block_position};
 ghost use Rattle.adb_block.specs.Reader.{next_offset};
-ghost use Rattle.adb_block.specs.Reading.{reading_of};
-ghost use Rattle.adb_block.specs.AllBlocks.{blocks_of, rest_of};
+ghost use Rattle.adb_block.specs.Reading.{block_stream_from};
+ghost use Rattle.adb_block.specs.AllBlocks.{blocks_of, blocks_from_position};
 ghost use Rattle.base_core.specs.declared.Cause.{Cause};
 ghost use Rattle.adb_block.specs.Container.{Spells, CanBeWrittenAfter};
 ghost use Rattle.adb_block.specs.FirstFraming.{IsFirstFramingFault};
@@ -45,7 +45,7 @@ impl<'a> Model for Blocks<'a> {
 }
 
 impl<'a> Blocks<'a> {
-    ghost use Rattle.adb_block.specs.Reader.{Continues, IsStep, Advances, Ends, ContinuesReading, ContinuesRest, BeginsRest};
+    ghost use Rattle.adb_block.specs.Reader.{ReturnsNextSpelledBlock, IsNextStepResult, Advances, Ends, ContinuesReading, AreBlocksFromCall, AreBlocksAfterHeader};
 
     /// Reads the header of a file (apk-v3(5)): the four bytes `ADB.` and the schema. The error is
     /// that of the first failed test. Fewer than 4 bytes are truncated at 0. `ADBd` and `ADBc`
@@ -54,10 +54,10 @@ impl<'a> Blocks<'a> {
     #[tactic(auto, unfolding(crate::specs::AllBlocks::blocks_of))]
     pub fn new(bytes: &'a [u8]) -> Result<Blocks<'a>, Cause>
         ensures ok { IfOk result (λ blocks. header_of bytes.entry.now ≡ Ok blocks.schema) }
-        ensures start { IfOk result (λ blocks. blocks ≡ start_of blocks.schema bytes.entry.now) }
+        ensures start { IfOk result (λ blocks. blocks ≡ first_block_position blocks.schema bytes.entry.now) }
         ensures cause { IfErr result (λ cause. header_of bytes.entry.now ≡ Err cause) }
         // For a caller's loop over all blocks: its start.
-        ensures rest { BeginsRest (blocks_of bytes.entry.now) result }
+        ensures rest { AreBlocksAfterHeader (blocks_of bytes.entry.now) result }
     {
         let schema = read_header(bytes)?;
         Ok(Blocks {
@@ -86,9 +86,9 @@ impl<'a> Blocks<'a> {
     /// After an error the reader has not moved, so the next call returns the same error.
     pub fn next(&mut self) -> Result<Option<Block<'a>>, Cause>
         // It returns the blocks of the grammar and no others.
-        ensures blocks { Continues self.old result self.new }
+        ensures blocks { ReturnsNextSpelledBlock self.old result self.new }
         // The result is the first failed test, or the block that passed them all.
-        ensures exact { IsStep self.old result self.new }
+        ensures exact { IsNextStepResult self.old result self.new }
 
         // The block is a range of the file; None if and only if nothing is left.
         ensures found { IfOk result
@@ -99,8 +99,8 @@ impl<'a> Blocks<'a> {
         ensures err { OnErr result (self.new ≡ self.old) }
 
         // For a caller's loop over all blocks: its step.
-        ensures reading { ContinuesReading (reading_of self.old) result (reading_of self.new) }
-        ensures rest { ContinuesRest (rest_of self.old) result (rest_of self.new) }
+        ensures reading { ContinuesReading (block_stream_from self.old) result (block_stream_from self.new) }
+        ensures rest { AreBlocksFromCall (blocks_from_position self.old) result (blocks_from_position self.new) }
     {
         let at = self.at as u64;
         let left = left_from(self.bytes, self.at);

@@ -8,30 +8,30 @@ use Rattle.adb_view.specs.declared.tables.Kind.TheVariants.{Text}
 use Rattle.adb_values.specs.Drafts.{DraftState, draft_with, draft_with_all, draft_with_open_list}
 use Rattle.adb_values.specs.Words.{HasBlob}
 use Rattle.adb_values.proofs.Words.{has_closed_array, has_closed_object, has_more, has_opened}
-use Rattle.adb_copy.specs.Known.{AreBlobsOf, IsKnownFor}
+use Rattle.adb_copy.specs.Known.{AreRememberedBlobsOfDraft, IsRememberedTextWord}
 use Rattle.adb_copy.specs.declared.known_texts.KnownTexts.{KnownTexts}
 
-module _ (payload : List ℕ) (texts : KnownTexts) (d later : DraftState) (known : AreBlobsOf payload d texts) where
-  pub known_more : (v : Plain) → later ≡ draft_with v d → AreBlobsOf payload later texts
+module _ (payload : List ℕ) (texts : KnownTexts) (d later : DraftState) (known : AreRememberedBlobsOfDraft payload d texts) where
+  pub known_more : (v : Plain) → later ≡ draft_with v d → AreRememberedBlobsOfDraft payload later texts
   known_more v e = record { known = λ word x at. has_more v d later _ x (known.known word x at) e; periodic = known.periodic }
 
-  pub known_opened : later ≡ draft_with_open_list d → AreBlobsOf payload later texts
+  pub known_opened : later ≡ draft_with_open_list d → AreRememberedBlobsOfDraft payload later texts
   known_opened e = record { known = λ word x at. has_opened d later _ x (known.known word x at) e; periodic = known.periodic }
 
-  pub known_closed_array : (vs : Plains) (before : DraftState) → d ≡ draft_with_all vs (draft_with_open_list before) → later ≡ draft_with (arr_value vs) before → AreBlobsOf payload later texts
+  pub known_closed_array : (vs : Plains) (before : DraftState) → d ≡ draft_with_all vs (draft_with_open_list before) → later ≡ draft_with (arr_value vs) before → AreRememberedBlobsOfDraft payload later texts
   known_closed_array vs before is e = record { known = λ word x at. has_closed_array vs before d later _ x (known.known word x at) is e; periodic = known.periodic }
 
-  pub known_closed_object : (vs : Plains) (before : DraftState) → d ≡ draft_with_all vs (draft_with_open_list before) → later ≡ draft_with (obj_value vs) before → AreBlobsOf payload later texts
+  pub known_closed_object : (vs : Plains) (before : DraftState) → d ≡ draft_with_all vs (draft_with_open_list before) → later ≡ draft_with (obj_value vs) before → AreRememberedBlobsOfDraft payload later texts
   known_closed_object vs before is e = record { known = λ word x at. has_closed_object vs before d later _ x (known.known word x at) is e; periodic = known.periodic }
 
 -- some values more
-pub known_all : (payload : List ℕ) (texts : KnownTexts) (vs : Plains) (d later : DraftState) → AreBlobsOf payload d texts → later ≡ draft_with_all vs d → AreBlobsOf payload later texts
-known_all payload texts none d later known e = subst (λ (x : DraftState). AreBlobsOf payload x texts) (sym e) known
+pub known_all : (payload : List ℕ) (texts : KnownTexts) (vs : Plains) (d later : DraftState) → AreRememberedBlobsOfDraft payload d texts → later ≡ draft_with_all vs d → AreRememberedBlobsOfDraft payload later texts
+known_all payload texts none d later known e = subst (λ (x : DraftState). AreRememberedBlobsOfDraft payload x texts) (sym e) known
 known_all payload texts (more v vs) d later known e =
     known_all payload texts vs (draft_with v d) later (known_more payload texts d (draft_with v d) known v refl) e
 
 -- a text for which a word is kept
-pub known_blob : (payload : List ℕ) (texts : KnownTexts) (d : DraftState) → AreBlobsOf payload d texts → (word x : ℕ) → IsKnownFor payload texts.words word x → HasBlob d (text_in (value_at payload Text word)) x
+pub known_blob : (payload : List ℕ) (texts : KnownTexts) (d : DraftState) → AreRememberedBlobsOfDraft payload d texts → (word x : ℕ) → IsRememberedTextWord payload texts.words word x → HasBlob d (text_in (value_at payload Text word)) x
 known_blob payload texts d known word x h = subst (λ (bytes : List ℕ). HasBlob d bytes x) h.same (known.known h.kept x h.has)
 
 -- one text more is known

@@ -4,7 +4,7 @@ use Rattle.std.specs.Prelude.{take, drop}
 use Rattle.std.specs.Bool.{OnTrue}
 use Rattle.std.proofs.lemmas.List.{take-take, drop-drop, drop-take}
 use Rattle.std.proofs.lemmas.Nat.{div-add-mod'}
-use Rattle.adb_copy.specs.Known.{HasPeriod, IsPhaseOf, AreEqualUnder}
+use Rattle.adb_copy.specs.Known.{HasPeriod, IsPhaseOf, AreEqualByPeriod}
 use Rattle.adb_copy.specs.declared.overlaps.PeriodicRange.{PeriodicRange}
 use Rattle.adb_copy.specs.declared.overlaps.TextPlace.{TextPlace}
 
@@ -57,13 +57,13 @@ module _ (payload : List ℕ) (r : PeriodicRange) (has : HasPeriod payload r) wh
       ap (λ (i : ℕ). take t.len (drop i payload)) e ∙ many (d / r.period) (r.from + phase) t.len from fits
 
 -- two texts of one phase and one length
-pub equal_under : (r : PeriodicRange) (left right : TextPlace) (phase : ℕ) → IsPhaseOf r left phase → IsPhaseOf r right phase → left.len ≡ right.len → AreEqualUnder r left right
+pub equal_under : (r : PeriodicRange) (left right : TextPlace) (phase : ℕ) → IsPhaseOf r left phase → IsPhaseOf r right phase → left.len ≡ right.len → AreEqualByPeriod r left right
 equal_under r left right phase a b len payload has =
     first payload r has left phase a
     ∙ (ap (λ (n : ℕ). take n (drop (r.from + phase) payload)) len ∙ sym (first payload r has right phase b))
 
 pub equal_if : (r : PeriodicRange) (left right : TextPlace) (phase other : ℕ) → IsPhaseOf r left phase → IsPhaseOf r right other → phase ≡ other
-    → (same : Bool) → same ≡ nat_eq left.len right.len → OnTrue same (AreEqualUnder r left right)
+    → (same : Bool) → same ≡ nat_eq left.len right.len → OnTrue same (AreEqualByPeriod r left right)
 equal_if r left right phase other a b e true same =
     let len : left.len ≡ right.len = grind (arith, same) in
     equal_under r left right phase a (subst (IsPhaseOf r right) (sym e) b) len

@@ -26,19 +26,19 @@ pub record IsPhaseOf (range : PeriodicRange) (text : TextPlace) (phase : ℕ) : 
   pub is : phase ≡ (text.from - range.from) % range.period
 
 -- the range proves that two texts are equal: they are in each payload in which the range has its period
-abbrev pub AreEqualUnder : PeriodicRange → TextPlace → TextPlace → Type 0
-AreEqualUnder range left right = (payload : List ℕ) → HasPeriod payload range
+abbrev pub AreEqualByPeriod : PeriodicRange → TextPlace → TextPlace → Type 0
+AreEqualByPeriod range left right = (payload : List ℕ) → HasPeriod payload range
     → take left.len (drop left.from payload) ≡ take right.len (drop right.from payload)
 
 -- `known` is remembered for a text of the payload that equals the text of the word
-pub record IsKnownFor (payload : List ℕ) (words : BTreeMap ℕ ℕ) (word known : ℕ) : Type 0 where
+pub record IsRememberedTextWord (payload : List ℕ) (words : BTreeMap ℕ ℕ) (word known : ℕ) : Type 0 where
   pub kept : ℕ
   pub has : get nat_cmp words kept ≡ Some known
   pub same : text_in (value_at payload Text kept) ≡ text_in (value_at payload Text word)
 
 -- the remembered texts are blobs of the draft: each has there the word that is remembered for it; and
 -- the remembered ranges have their periods
-pub record AreBlobsOf (payload : List ℕ) (draft : DraftState) (texts : KnownTexts) : Type 0 where
+pub record AreRememberedBlobsOfDraft (payload : List ℕ) (draft : DraftState) (texts : KnownTexts) : Type 0 where
   pub known : (word known : ℕ) → get nat_cmp texts.words word ≡ Some known
       → HasBlob draft (text_in (value_at payload Text word)) known
   pub periodic : All (HasPeriod payload) texts.overlaps.ranges.items

@@ -26,15 +26,15 @@ unfoldable mutual
   all_without_zeros (more v vs) = more (without_zeros v) (all_without_zeros vs)
 
 -- values with another one at an index, which counts from 0; if there are too few, Nulls precede it
-abbrev pub with_at : ℕ → Plain → Plains → Plains
-with_at zero v none = more v none
-with_at zero v (more u us) = more v us
-with_at (suc i) v none = more null (with_at i v none)
-with_at (suc i) v (more u us) = more u (with_at i v us)
+abbrev pub with_value_at_index : ℕ → Plain → Plains → Plains
+with_value_at_index zero v none = more v none
+with_value_at_index zero v (more u us) = more v us
+with_value_at_index (suc i) v none = more null (with_value_at_index i v none)
+with_value_at_index (suc i) v (more u us) = more u (with_value_at_index i v us)
 
 -- the information of a package without zeros, with `id` as its field `hashes` and `len` as its field
 -- `file-size`. Their indexes, 2 and 12, count from 0; table 3 of `docs/formats.md`, "Schemas", has them
 -- as 3 and 13
-unfoldable pub info_with : Plain → List ℕ → ℕ → Plain
-info_with info id len =
-    without_zeros (obj (with_at 12 (int len) (with_at 2 (blob id) (entries_in info))))
+unfoldable pub info_with_id_and_size : Plain → List ℕ → ℕ → Plain
+info_with_id_and_size info id len =
+    without_zeros (obj (with_value_at_index 12 (int len) (with_value_at_index 2 (blob id) (entries_in info))))

@@ -7,9 +7,9 @@ ghost use Rattle.adb_view.specs.Values.{entry_in, is_sound, kind_at, value_at};
 ghost use Rattle.adb_view.specs.declared.tables.Kind.TheVariants as Kinds;
 ghost use Rattle.adb_view.specs.declared.tables.Which.TheVariants as Tables;
 ghost use Rattle.adb_values.specs.Drafts.{draft_with, draft_with_all};
-ghost use Rattle.adb_copy.specs.Zeros.{int_or_null, without_zeros, info_with};
+ghost use Rattle.adb_copy.specs.Zeros.{int_or_null, without_zeros, info_with_id_and_size};
 ghost use Rattle.adb_copy.specs.Fields.{info_texts, int_plains};
-ghost use Rattle.adb_copy.specs.Known.{AreBlobsOf};
+ghost use Rattle.adb_copy.specs.Known.{AreRememberedBlobsOfDraft};
 ghost use Rattle.adb_view.specs.Adb.{payload_of};
 ghost use Rattle.adb_view.specs.Entries.{array_entries};
 ghost use Rattle.adb_view.specs.Plain.{text_plains};
@@ -37,10 +37,10 @@ pub fn write_info(
     len: u64,
 ) -> Result<(), AllocError>
     requires sound { is_sound (payload_of adb) (Kinds.Obj Tables.PkgInfo) info ≡ true }
-    requires known { AreBlobsOf (payload_of adb) draft.old known.old }
-    ensures info { OnOk result (draft.new ≡ draft_with (info_with
+    requires known { AreRememberedBlobsOfDraft (payload_of adb) draft.old known.old }
+    ensures info { OnOk result (draft.new ≡ draft_with (info_with_id_and_size
         (value_at (payload_of adb.entry) (Kinds.Obj Tables.PkgInfo) info) id.now len) draft.old) }
-    ensures known { OnOk result (AreBlobsOf (payload_of adb.entry) draft.new known.new) }
+    ensures known { OnOk result (AreRememberedBlobsOfDraft (payload_of adb.entry) draft.new known.new) }
 {
     values_have_their_shape();
     draft.open_list()?;
@@ -79,10 +79,10 @@ fn write_info_texts(
     id: &[u8],
 ) -> Result<(), AllocError>
     requires sound { is_sound (payload_of adb) (Kinds.Obj Tables.PkgInfo) info ≡ true }
-    requires known { AreBlobsOf (payload_of adb) draft.old known.old }
+    requires known { AreRememberedBlobsOfDraft (payload_of adb) draft.old known.old }
     ensures texts { OnOk result (draft.new ≡ draft_with_all (text_plains (info_texts
         (value_at (payload_of adb.entry) (Kinds.Obj Tables.PkgInfo) info) id.now)) draft.old) }
-    ensures known { OnOk result (AreBlobsOf (payload_of adb.entry) draft.new known.new) }
+    ensures known { OnOk result (AreRememberedBlobsOfDraft (payload_of adb.entry) draft.new known.new) }
 {
     known.write_field(draft, adb, Which::PkgInfo, info, INFO_NAME)?;
     known.write_field(draft, adb, Which::PkgInfo, info, INFO_VERSION)?;
@@ -125,10 +125,10 @@ pub fn write_text_list<'a>(
     texts: Arr<'a>,
 ) -> Result<(), AllocError>
     requires sound { are_all_sound (payload_of adb) Kinds.Text (array_entries texts) ≡ true }
-    requires known { AreBlobsOf (payload_of adb) draft.old known.old }
+    requires known { AreRememberedBlobsOfDraft (payload_of adb) draft.old known.old }
     ensures texts { OnOk result (draft.new ≡ draft_with (without_zeros
         (array_at (payload_of adb.entry) Kinds.Text (array_entries texts.entry))) draft.old) }
-    ensures known { OnOk result (AreBlobsOf (payload_of adb.entry) draft.new known.new) }
+    ensures known { OnOk result (AreRememberedBlobsOfDraft (payload_of adb.entry) draft.new known.new) }
 {
     values_have_their_shape();
     draft.open_list()?;
@@ -148,10 +148,10 @@ fn write_deps(
 ) -> Result<(), AllocError>
     requires sound { is_sound (payload_of adb) (Kinds.Obj Tables.PkgInfo) info ≡ true }
     requires kind { kind_at Tables.PkgInfo field ≡ Some (Kinds.ObjArr Tables.Dep) }
-    requires known { AreBlobsOf (payload_of adb) draft.old known.old }
+    requires known { AreRememberedBlobsOfDraft (payload_of adb) draft.old known.old }
     ensures deps { OnOk result (draft.new ≡ draft_with (without_zeros (entry_in
         (value_at (payload_of adb.entry) (Kinds.Obj Tables.PkgInfo) info) field)) draft.old) }
-    ensures known { OnOk result (AreBlobsOf (payload_of adb.entry) draft.new known.new) }
+    ensures known { OnOk result (AreRememberedBlobsOfDraft (payload_of adb.entry) draft.new known.new) }
 {
     let deps = objects_field(adb, Which::PkgInfo, info, field, Which::Dep);
     write_dep_list(draft, adb, known, deps)
@@ -166,10 +166,10 @@ fn write_dep_list<'a>(
 ) -> Result<(), AllocError>
     requires sound { are_all_sound (payload_of adb) (Kinds.Obj Tables.Dep) (array_entries deps)
         ≡ true }
-    requires known { AreBlobsOf (payload_of adb) draft.old known.old }
+    requires known { AreRememberedBlobsOfDraft (payload_of adb) draft.old known.old }
     ensures deps { OnOk result (draft.new ≡ draft_with (without_zeros (array_at
         (payload_of adb.entry) (Kinds.Obj Tables.Dep) (array_entries deps.entry))) draft.old) }
-    ensures known { OnOk result (AreBlobsOf (payload_of adb.entry) draft.new known.new) }
+    ensures known { OnOk result (AreRememberedBlobsOfDraft (payload_of adb.entry) draft.new known.new) }
 {
     values_have_their_shape();
     draft.open_list()?;
@@ -187,10 +187,10 @@ fn write_dep(
     dep: Val,
 ) -> Result<(), AllocError>
     requires sound { is_sound (payload_of adb) (Kinds.Obj Tables.Dep) dep ≡ true }
-    requires known { AreBlobsOf (payload_of adb) draft.old known.old }
+    requires known { AreRememberedBlobsOfDraft (payload_of adb) draft.old known.old }
     ensures dep { OnOk result (draft.new ≡ draft_with (without_zeros
         (value_at (payload_of adb.entry) (Kinds.Obj Tables.Dep) dep)) draft.old) }
-    ensures known { OnOk result (AreBlobsOf (payload_of adb.entry) draft.new known.new) }
+    ensures known { OnOk result (AreRememberedBlobsOfDraft (payload_of adb.entry) draft.new known.new) }
 {
     values_have_their_shape();
     draft.open_list()?;

@@ -1,7 +1,7 @@
 //! Copies files and their access lists, and scripts, value by value. The rules are in
 //! `docs/formats.md`: "The database after a change" (a file in a database; an integer 0 is NULL)
 //! and "Schemas", tables 2, 4 and 6 (the fields in their order).
-ghost use Rattle.adb_copy.specs.Known.{AreBlobsOf};
+ghost use Rattle.adb_copy.specs.Known.{AreRememberedBlobsOfDraft};
 ghost use Rattle.adb_copy.specs.Zeros.{without_zeros};
 ghost use Rattle.adb_view.specs.Values.{is_sound, value_at};
 ghost use Rattle.adb_view.specs.declared.tables.Kind.TheVariants as Kinds;
@@ -31,10 +31,10 @@ pub fn write_acl(
     acl: Val,
 ) -> Result<(), AllocError>
     requires sound { is_sound (payload_of adb) (Kinds.Obj Tables.Acl) acl ≡ true }
-    requires known { AreBlobsOf (payload_of adb) draft.old known.old }
+    requires known { AreRememberedBlobsOfDraft (payload_of adb) draft.old known.old }
     ensures acl { OnOk result (draft.new ≡ draft_with (without_zeros
         (value_at (payload_of adb.entry) (Kinds.Obj Tables.Acl) acl)) draft.old) }
-    ensures known { OnOk result (AreBlobsOf (payload_of adb.entry) draft.new known.new) }
+    ensures known { OnOk result (AreRememberedBlobsOfDraft (payload_of adb.entry) draft.new known.new) }
 {
     values_have_their_shape();
     draft.open_list()?;
@@ -59,10 +59,10 @@ pub fn write_file(
     file: Val,
 ) -> Result<(), AllocError>
     requires sound { is_sound (payload_of adb) (Kinds.Obj Tables.File) file ≡ true }
-    requires known { AreBlobsOf (payload_of adb) draft.old known.old }
+    requires known { AreRememberedBlobsOfDraft (payload_of adb) draft.old known.old }
     ensures file { OnOk result (draft.new ≡ draft_with (without_zeros
         (value_at (payload_of adb.entry) (Kinds.Obj Tables.File) file)) draft.old) }
-    ensures known { OnOk result (AreBlobsOf (payload_of adb.entry) draft.new known.new) }
+    ensures known { OnOk result (AreRememberedBlobsOfDraft (payload_of adb.entry) draft.new known.new) }
 {
     values_have_their_shape();
     draft.open_list()?;
@@ -89,10 +89,10 @@ pub fn write_scripts(
     scripts: Val,
 ) -> Result<(), AllocError>
     requires sound { is_sound (payload_of adb) (Kinds.Obj Tables.Scripts) scripts ≡ true }
-    requires known { AreBlobsOf (payload_of adb) draft.old known.old }
+    requires known { AreRememberedBlobsOfDraft (payload_of adb) draft.old known.old }
     ensures scripts { OnOk result (draft.new ≡ draft_with (without_zeros
         (value_at (payload_of adb.entry) (Kinds.Obj Tables.Scripts) scripts)) draft.old) }
-    ensures known { OnOk result (AreBlobsOf (payload_of adb.entry) draft.new known.new) }
+    ensures known { OnOk result (AreRememberedBlobsOfDraft (payload_of adb.entry) draft.new known.new) }
 {
     values_have_their_shape();
     draft.open_list()?;

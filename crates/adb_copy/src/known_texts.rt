@@ -35,11 +35,11 @@ pub struct KnownTexts {
 }
 
 impl KnownTexts {
-    ghost use Rattle.adb_copy.specs.Known.{AreBlobsOf, HasPeriod, IsKnownFor};
+    ghost use Rattle.adb_copy.specs.Known.{AreRememberedBlobsOfDraft, HasPeriod, IsRememberedTextWord};
 
     /// No text is known.
     pub fn new(alloc: Global) -> KnownTexts
-        ensures { (payload : List ℕ) (draft : DraftState) → AreBlobsOf payload draft result }
+        ensures { (payload : List ℕ) (draft : DraftState) → AreRememberedBlobsOfDraft payload draft result }
     {
         KnownTexts {
             words: BTreeMap::new(alloc),
@@ -56,10 +56,10 @@ impl KnownTexts {
         word: Val,
     ) -> Result<(), AllocError>
         requires sound { is_sound (payload_of adb) Kinds.Text word ≡ true }
-        requires known { AreBlobsOf (payload_of adb) draft.old self.old }
+        requires known { AreRememberedBlobsOfDraft (payload_of adb) draft.old self.old }
         ensures text { OnOk result (draft.new ≡ draft_with
             (blob_or_null (text_in (value_at (payload_of adb.entry) Kinds.Text word))) draft.old) }
-        ensures known { OnOk result (AreBlobsOf (payload_of adb.entry) draft.new self.new) }
+        ensures known { OnOk result (AreRememberedBlobsOfDraft (payload_of adb.entry) draft.new self.new) }
     {
         let text = text_word(adb, word);
         if text.len() <= SHORT {
@@ -82,10 +82,10 @@ impl KnownTexts {
     ) -> Result<(), AllocError>
         requires sound { is_sound (payload_of adb) (Kinds.Obj which) object ≡ true }
         requires kind { kind_at which field ≡ Some Kinds.Text }
-        requires known { AreBlobsOf (payload_of adb) draft.old self.old }
+        requires known { AreRememberedBlobsOfDraft (payload_of adb) draft.old self.old }
         ensures text { OnOk result (draft.new ≡ draft_with (blob_or_null (text_in (entry_in
             (value_at (payload_of adb.entry) (Kinds.Obj which) object) field))) draft.old) }
-        ensures known { OnOk result (AreBlobsOf (payload_of adb.entry) draft.new self.new) }
+        ensures known { OnOk result (AreRememberedBlobsOfDraft (payload_of adb.entry) draft.new self.new) }
     {
         self.write(draft, adb, field_word(adb, which, object, field))
     }
@@ -94,7 +94,7 @@ impl KnownTexts {
     /// with an equal text.
     fn known_word(&self, adb: Adb<'_>, word: Val) -> Option<u32>
         requires { All (HasPeriod (payload_of adb)) self.now.overlaps.ranges.items }
-        ensures { IfSome result (IsKnownFor (payload_of adb.entry) self.now.words word) }
+        ensures { IfSome result (IsRememberedTextWord (payload_of adb.entry) self.now.words word) }
     {
         match self.words.get(&word.word()) {
             Some(known) => Some(*known),
@@ -112,7 +112,7 @@ impl KnownTexts {
         ensures ranges { OnOk result
             (All (HasPeriod (payload_of adb.entry)) self.new.overlaps.ranges.items) }
         ensures known { IfOk result (λ known. IfSome known
-            (IsKnownFor (payload_of adb.entry) self.old.words word)) }
+            (IsRememberedTextWord (payload_of adb.entry) self.old.words word)) }
     {
         let Some(kept) = self.fingerprints.likely_equal(adb, word) else {
             return Ok(None);
@@ -134,10 +134,10 @@ impl KnownTexts {
         word: Val,
     ) -> Result<(), AllocError>
         requires sound { is_sound (payload_of adb) Kinds.Text word ≡ true }
-        requires known { AreBlobsOf (payload_of adb) draft.old self.old }
+        requires known { AreRememberedBlobsOfDraft (payload_of adb) draft.old self.old }
         ensures text { OnOk result (draft.new ≡ draft_with
             (blob_or_null (text_in (value_at (payload_of adb.entry) Kinds.Text word))) draft.old) }
-        ensures known { OnOk result (AreBlobsOf (payload_of adb.entry) draft.new self.new) }
+        ensures known { OnOk result (AreRememberedBlobsOfDraft (payload_of adb.entry) draft.new self.new) }
     {
         match self.word_of_equal(adb, word)? {
             Some(known) => {
@@ -151,10 +151,10 @@ impl KnownTexts {
     /// Writes a text that is not known, and remembers its word in the draft.
     fn write_new(&mut self, draft: &mut Draft, adb: Adb<'_>, word: Val) -> Result<(), AllocError>
         requires sound { is_sound (payload_of adb) Kinds.Text word ≡ true }
-        requires known { AreBlobsOf (payload_of adb) draft.old self.old }
+        requires known { AreRememberedBlobsOfDraft (payload_of adb) draft.old self.old }
         ensures text { OnOk result (draft.new ≡ draft_with
             (blob_or_null (text_in (value_at (payload_of adb.entry) Kinds.Text word))) draft.old) }
-        ensures known { OnOk result (AreBlobsOf (payload_of adb.entry) draft.new self.new) }
+        ensures known { OnOk result (AreRememberedBlobsOfDraft (payload_of adb.entry) draft.new self.new) }
     {
         let known = draft.blob_word(text_word(adb, word))?;
         self.words.insert(word.word(), known.word())?;

@@ -6,7 +6,7 @@
 
 ghost use Rattle.std.specs.Prelude.{◌≡◌, ◌<◌, ◌≤◌, ◌+◌, ℕ, List, [], All, length, take, drop, IfOk, IfSome, OnOk};
 ghost use Rattle.std.specs.Bool.{OnTrue};
-ghost use Rattle.adb_copy.specs.Known.{HasPeriod, AreEqualUnder, IsPhaseOf};
+ghost use Rattle.adb_copy.specs.Known.{HasPeriod, AreEqualByPeriod, IsPhaseOf};
 ghost use Rattle.adb_view.specs.Values.{text_in, value_at};
 ghost use Rattle.adb_view.specs.declared.tables.Kind.TheVariants as Kinds;
 ghost use Rattle.adb_view.specs.Adb.{payload_of};
@@ -68,7 +68,7 @@ impl PeriodicRange {
     /// Whether the range proves that two texts are equal: both are in it, with one phase and one
     /// length.
     fn shows_equal(self, left: TextPlace, right: TextPlace) -> bool
-        ensures { OnTrue result (AreEqualUnder self left right) }
+        ensures { OnTrue result (AreEqualByPeriod self left right) }
     {
         match (self.phase_of(left), self.phase_of(right)) {
             (Some(phase), Some(other)) => phase == other && left.len == right.len,

@@ -15,7 +15,7 @@ use Rattle.adb_view.specs.declared.tables.Which.{Which}
 use Rattle.adb_view.specs.declared.tables.Kind.{Kind}
 use Rattle.adb_view.specs.declared.tables.Kind.TheVariants.{Int, Text, Hash, Obj, TextArr, ObjArr}
 use Rattle.adb_view.specs.Shapes.{object_shape}
-use Rattle.adb_dump.specs.Dump.{Line, block_lines, with_dash, array_lines, fields_lines, indent, named_lines, or_null, text_form, unless_absent}
+use Rattle.adb_dump.specs.Dump.{Line, block_lines, with_dash, array_lines, fields_lines, indent, named_lines, entry_lines_or_null_line, bare_or_quoted_text, field_lines_unless_null}
 use Rattle.adb_dump.specs.Words.{is_null, are_null, fields_at}
 use Rattle.adb_dump.proofs.Nulls.{obj_null}
 use Rattle.adb_dump.proofs.WordReads.{hash_plain, int_plain, text_plain}
@@ -24,7 +24,7 @@ pub int_lines : (p : List ℕ) (w n : ℕ) → n ≡ int_in (value_at p Int w) �
 unfolding block_lines shape_of
 int_lines p w n e some = ap (λ (v : Plain). block_lines number v) (int_plain p w some) ∙ ap (λ (k : ℕ). decimal k ∷ []) (sym e)
 
-text_line_of : (v : Plain) (b : List ℕ) → v ≡ blob_or_null b → is_null v ≡ false → block_lines text v ≡ text_form b ∷ []
+text_line_of : (v : Plain) (b : List ℕ) → v ≡ blob_or_null b → is_null v ≡ false → block_lines text v ≡ bare_or_quoted_text b ∷ []
 unfolding block_lines
 text_line_of v [] e some = let no : is_null null ≡ false = (rw e at some) in absurd cc
 text_line_of v (c ∷ cs) e some = rw e refl
@@ -34,7 +34,7 @@ unfolding block_lines
 hash_line_of v [] e some = let no : is_null null ≡ false = (rw e at some) in absurd cc
 hash_line_of v (c ∷ cs) e some = rw e refl
 
-pub text_lines : (p : List ℕ) (w : ℕ) (b : List ℕ) → b ≡ text_in (value_at p Text w) → is_null (value_at p Text w) ≡ false → block_lines (shape_of Text) (value_at p Text w) ≡ text_form b ∷ []
+pub text_lines : (p : List ℕ) (w : ℕ) (b : List ℕ) → b ≡ text_in (value_at p Text w) → is_null (value_at p Text w) ≡ false → block_lines (shape_of Text) (value_at p Text w) ≡ bare_or_quoted_text b ∷ []
 unfolding shape_of
 text_lines p w b e some = text_line_of (value_at p Text w) b (text_plain p w ∙ ap blob_or_null (sym e)) some
 
@@ -57,7 +57,7 @@ unfolding fields_lines
 no_lines no_fields = refl
 no_lines (field name s fs) = refl
 
-kept_lines : (name : List ℕ) (s : Shape) (fs : Fields) (v : Plain) (vs : Plains) → fields_lines (field name s fs) (put_first_without_last_null v vs) ≡ unless_absent v (named_lines s name v) ++ fields_lines fs vs
+kept_lines : (name : List ℕ) (s : Shape) (fs : Fields) (v : Plain) (vs : Plains) → fields_lines (field name s fs) (put_first_without_last_null v vs) ≡ field_lines_unless_null v (named_lines s name v) ++ fields_lines fs vs
 unfolding fields_lines
 kept_lines name s fs null none = sym (no_lines fs)
 kept_lines name s fs null (more v vs) = refl
@@ -70,7 +70,7 @@ trimmed_lines : (fs : Fields) (vs : Plains) → fields_lines fs (without_last_nu
 unfolding fields_lines
 trimmed_lines no_fields vs = refl
 trimmed_lines (field name s fs) none = refl
-trimmed_lines (field name s fs) (more v vs) = kept_lines name s fs v (without_last_nulls vs) ∙ ap (λ (ls : List Line). unless_absent v (named_lines s name v) ++ ls) (trimmed_lines fs vs)
+trimmed_lines (field name s fs) (more v vs) = kept_lines name s fs v (without_last_nulls vs) ∙ ap (λ (ls : List Line). field_lines_unless_null v (named_lines s name v) ++ ls) (trimmed_lines fs vs)
 
 object_value_lines : (fs : Fields) (vs : Plains) → fields_lines fs (entries_in (obj_value vs)) ≡ fields_lines fs vs
 object_value_lines fs vs = ap (fields_lines fs) (entries_obj (without_last_nulls vs)) ∙ trimmed_lines fs vs
@@ -94,7 +94,7 @@ pub record HasLine (ls : List Line) : Type 0 where
 dashed_line : (ls : List Line) (rest : List Line) → HasLine ls → HasLine (with_dash ls ++ rest)
 dashed_line ls rest h = record { first = codes "- " ++ h.first; others = indent h.others ++ rest; is = ap (λ (x : List Line). with_dash x ++ rest) h.is }
 
-pub or_null_line : (v : Plain) (ls : List Line) → (is_null v ≡ false → HasLine ls) → HasLine (or_null v ls)
+pub or_null_line : (v : Plain) (ls : List Line) → (is_null v ≡ false → HasLine ls) → HasLine (entry_lines_or_null_line v ls)
 or_null_line null ls h = record { first = codes "null"; others = []; is = refl }
 or_null_line (int n) ls h = h refl
 or_null_line (blob b) ls h = h refl
@@ -112,7 +112,7 @@ named_line (object n fs) name v = record { first = _; others = _; is = refl }
 append_line : (xs ys : List Line) → HasLine xs → HasLine (xs ++ ys)
 append_line xs ys h = record { first = h.first; others = h.others ++ ys; is = ap (λ (x : List Line). x ++ ys) h.is }
 
-first_or_later : (v : Plain) (xs ys : List Line) (b : Bool) → (is_null v && b) ≡ false → HasLine xs → (b ≡ false → HasLine ys) → HasLine (unless_absent v xs ++ ys)
+first_or_later : (v : Plain) (xs ys : List Line) (b : Bool) → (is_null v && b) ≡ false → HasLine xs → (b ≡ false → HasLine ys) → HasLine (field_lines_unless_null v xs ++ ys)
 first_or_later null xs ys b e h k = k e
 first_or_later (int n) xs ys b e h k = append_line xs ys h
 first_or_later (blob x) xs ys b e h k = append_line xs ys h
@@ -146,7 +146,7 @@ entries_line f g h [] vs v e is some = let same : none ≡ vs = cc in absurd (le
 entries_line f g h (w ∷ ws) vs v e is some =
     let (u, us, one, others, parts) = then_more_is (g w) (each_plain g ws) vs e in
     let lines : array_lines f (entries_in v) ≡ array_lines f (more u us) = ap (λ (x : Plain). array_lines f (entries_in x)) (sym is) ∙ ap (λ (x : Plains). array_lines f (entries_in (arr_value x))) parts in
-    rw lines (dashed_line (or_null u (f u)) (array_lines f us) (or_null_line u (f u) (h w u one)))
+    rw lines (dashed_line (entry_lines_or_null_line u (f u)) (array_lines f us) (or_null_line u (f u) (h w u one)))
 
 plain_line : (p : List ℕ) (s : Shape) (w : ℕ) (v : Plain) → plain_of p s w ≡ Some v → is_null v ≡ false → HasLine (block_lines s v)
 unfolding plain_of block_lines

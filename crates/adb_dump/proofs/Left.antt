@@ -8,7 +8,7 @@ use Rattle.adb_view.specs.Schema.{field_name_text, shape_of, shapes_of}
 use Rattle.adb_view.specs.Values.{is_sound, value_at}
 use Rattle.adb_view.specs.declared.tables.Kind.{Kind}
 use Rattle.adb_view.specs.declared.tables.Field.{Field}
-use Rattle.adb_dump.specs.Dump.{Line, block_lines, with_dash, array_lines, fields_lines, named_lines, or_null, unless_absent}
+use Rattle.adb_dump.specs.Dump.{Line, block_lines, with_dash, array_lines, fields_lines, named_lines, entry_lines_or_null_line, field_lines_unless_null}
 use Rattle.adb_dump.specs.Words.{is_null, are_null, fields_sound, fields_at}
 
 abbrev pub entries_left : List ℕ → Kind → List ℕ → ℕ → List Line
@@ -45,7 +45,7 @@ entry_step p k words i lt h =
     rw e (first_entry p k (get_or words i 0) (drop (i + 1) words) (rw e at h))
 
 pub entries_more : (p : List ℕ) (k : Kind) (words : List ℕ) (i : ℕ) → i < length words → are_all_sound p k (drop i words) ≡ true
-    → entries_left p k words i ≡ with_dash (or_null (value_at p k (get_or words i 0)) (block_lines (shape_of k) (value_at p k (get_or words i 0)))) ++ entries_left p k words (i + 1)
+    → entries_left p k words i ≡ with_dash (entry_lines_or_null_line (value_at p k (get_or words i 0)) (block_lines (shape_of k) (value_at p k (get_or words i 0)))) ++ entries_left p k words (i + 1)
 entries_more p k words i lt h = ap (array_lines (block_lines (shape_of k))) (entry_step p k words i lt h).value
 
 pub entries_done : (p : List ℕ) (k : Kind) (words : List ℕ) (i : ℕ) → length words ≤ i → entries_left p k words i ≡ []
@@ -95,40 +95,40 @@ pub fields_over : (p : List ℕ) (fields : List Field) (words : List ℕ) (i : �
 fields_over p fields words i le = ap (fields_lines (shapes_of (drop i fields))) (fields_past p fields words i le) ∙ lines_of_none (drop i fields)
 
 -- the lines of a field, if it is Null and if it is not
-fields_first : (f : Field) (others : List Field) (v : Plain) (vs : Plains) → fields_lines (shapes_of (f ∷ others)) (more v vs) ≡ unless_absent v (named_lines (shape_of f.kind) (field_name_text f.name) v) ++ fields_lines (shapes_of others) vs
+fields_first : (f : Field) (others : List Field) (v : Plain) (vs : Plains) → fields_lines (shapes_of (f ∷ others)) (more v vs) ≡ field_lines_unless_null v (named_lines (shape_of f.kind) (field_name_text f.name) v) ++ fields_lines (shapes_of others) vs
 unfolding fields_lines
 fields_first f others v vs = refl
 
 fields_more : (p : List ℕ) (fields : List Field) (words : List ℕ) (i : ℕ) (d : Field) → i < length fields → i < length words → fields_sound p (drop i fields) (drop i words) ≡ true
-    → fields_left p fields words i ≡ unless_absent (value_at p (get_or fields i d).kind (get_or words i 0)) (named_lines (shape_of (get_or fields i d).kind) (field_name_text (get_or fields i d).name) (value_at p (get_or fields i d).kind (get_or words i 0))) ++ fields_left p fields words (i + 1)
+    → fields_left p fields words i ≡ field_lines_unless_null (value_at p (get_or fields i d).kind (get_or words i 0)) (named_lines (shape_of (get_or fields i d).kind) (field_name_text (get_or fields i d).name) (value_at p (get_or fields i d).kind (get_or words i 0))) ++ fields_left p fields words (i + 1)
 fields_more p fields words i d lt lt' h =
     let s = field_step p fields words i d lt lt' h in
     ap (fields_lines (shapes_of (drop i fields))) s.value ∙ ap (λ (fs : List Field). fields_lines (shapes_of fs) (more (value_at p (get_or fields i d).kind (get_or words i 0)) (fields_at p (drop (i + 1) fields) (drop (i + 1) words)))) (drop_more fields i d lt)
     ∙ fields_first (get_or fields i d) (drop (i + 1) fields) (value_at p (get_or fields i d).kind (get_or words i 0)) (fields_at p (drop (i + 1) fields) (drop (i + 1) words))
 
-pub unless_absent-true : (v : Plain) (ls : List Line) → is_null v ≡ true → unless_absent v ls ≡ []
-unless_absent-true null ls e = refl
-unless_absent-true (int n) ls e = absurd cc
-unless_absent-true (blob b) ls e = absurd cc
-unless_absent-true (arr vs) ls e = absurd cc
-unless_absent-true (obj vs) ls e = absurd cc
+pub field_lines_unless_null-true : (v : Plain) (ls : List Line) → is_null v ≡ true → field_lines_unless_null v ls ≡ []
+field_lines_unless_null-true null ls e = refl
+field_lines_unless_null-true (int n) ls e = absurd cc
+field_lines_unless_null-true (blob b) ls e = absurd cc
+field_lines_unless_null-true (arr vs) ls e = absurd cc
+field_lines_unless_null-true (obj vs) ls e = absurd cc
 
-pub unless_absent-false : (v : Plain) (ls : List Line) → is_null v ≡ false → unless_absent v ls ≡ ls
-unless_absent-false null ls e = absurd cc
-unless_absent-false (int n) ls e = refl
-unless_absent-false (blob b) ls e = refl
-unless_absent-false (arr vs) ls e = refl
-unless_absent-false (obj vs) ls e = refl
+pub field_lines_unless_null-false : (v : Plain) (ls : List Line) → is_null v ≡ false → field_lines_unless_null v ls ≡ ls
+field_lines_unless_null-false null ls e = absurd cc
+field_lines_unless_null-false (int n) ls e = refl
+field_lines_unless_null-false (blob b) ls e = refl
+field_lines_unless_null-false (arr vs) ls e = refl
+field_lines_unless_null-false (obj vs) ls e = refl
 
 pub fields_skip : (p : List ℕ) (fields : List Field) (words : List ℕ) (i : ℕ) (d : Field) → i < length fields → i < length words → fields_sound p (drop i fields) (drop i words) ≡ true → is_null (value_at p (get_or fields i d).kind (get_or words i 0)) ≡ true
     → fields_left p fields words i ≡ fields_left p fields words (i + 1)
 fields_skip p fields words i d lt lt' h n =
-    fields_more p fields words i d lt lt' h ∙ ap (λ (ls : List Line). ls ++ fields_left p fields words (i + 1)) (unless_absent-true (value_at p (get_or fields i d).kind (get_or words i 0)) _ n)
+    fields_more p fields words i d lt lt' h ∙ ap (λ (ls : List Line). ls ++ fields_left p fields words (i + 1)) (field_lines_unless_null-true (value_at p (get_or fields i d).kind (get_or words i 0)) _ n)
 
 pub fields_next : (p : List ℕ) (fields : List Field) (words : List ℕ) (i : ℕ) (d : Field) → i < length fields → i < length words → fields_sound p (drop i fields) (drop i words) ≡ true → is_null (value_at p (get_or fields i d).kind (get_or words i 0)) ≡ false
     → fields_left p fields words i ≡ named_lines (shape_of (get_or fields i d).kind) (field_name_text (get_or fields i d).name) (value_at p (get_or fields i d).kind (get_or words i 0)) ++ fields_left p fields words (i + 1)
 fields_next p fields words i d lt lt' h n =
-    fields_more p fields words i d lt lt' h ∙ ap (λ (ls : List Line). ls ++ fields_left p fields words (i + 1)) (unless_absent-false (value_at p (get_or fields i d).kind (get_or words i 0)) _ n)
+    fields_more p fields words i d lt lt' h ∙ ap (λ (ls : List Line). ls ++ fields_left p fields words (i + 1)) (field_lines_unless_null-false (value_at p (get_or fields i d).kind (get_or words i 0)) _ n)
 
 -- ---- which of them are Null
 

@@ -11,21 +11,21 @@ use Rattle.std.proofs.lemmas.Str.Parse.{digit_at}
 use Rattle.hex.specs.Hex.{encode_with, encode_lower, lower_digits}
 use Rattle.base_core.proofs.AtName.{own_name}
 use Rattle.adb_view.specs.Plain.{Plain, int, blob}
-use Rattle.adb_dump.specs.Dump.{is_printable, begins_with_byte, is_bare, escape_of, text_form, int_line, text_line, hash_line}
-use Rattle.adb_dump.specs.ReadBack.{hex_value, quoted_read, unhex, blob_read, int_read, text_read, hash_read, if_form}
+use Rattle.adb_dump.specs.Dump.{is_printable, begins_with_byte, needs_no_quotes, escape_of, bare_or_quoted_text, int_line, text_line, hash_line}
+use Rattle.adb_dump.specs.ReadBack.{hex_value, quoted_read, unhex, blob_read, int_read, text_read, hash_read, if_line_prints_value}
 
 abbrev pub AreBytes : List ℕ → Type 0
 AreBytes b = AllByRecursion (λ c. c < 256) b
 
-pub if_form-same : (form : Plain → List ℕ) (v : Plain) → if_form form (form v) (Some v) ≡ Ok v
-if_form-same form v = rw own_name refl
+pub if_line_prints_value-same : (form : Plain → List ℕ) (v : Plain) → if_line_prints_value form (form v) (Some v) ≡ Ok v
+if_line_prints_value-same form v = rw own_name refl
 
 -- ---- numbers
 
-pub int_back : (n : ℕ) → n < 2 ^ 64 → if_form int_line (decimal n) (int_read (decimal n)) ≡ Ok (int n)
+pub int_back : (n : ℕ) → n < 2 ^ 64 → if_line_prints_value int_line (decimal n) (int_read (decimal n)) ≡ Ok (int n)
 int_back n lt =
     let t : ltb n (2 ^ 64) ≡ true = lt-ltb _ _ lt in
-    ap (λ (k : ℕ). if_form int_line (decimal n) (cond (ltb k (2 ^ 64)) (Some (int k)) None)) (decimal_is_IsNumeral n lt).1 ∙ rw t (if_form-same int_line (int n))
+    ap (λ (k : ℕ). if_line_prints_value int_line (decimal n) (cond (ltb k (2 ^ 64)) (Some (int k)) None)) (decimal_is_IsNumeral n lt).1 ∙ rw t (if_line_prints_value-same int_line (int n))
 
 -- ---- hexadecimal digits
 
@@ -74,8 +74,8 @@ made_blob-is : (b : List ℕ) → b ≢ [] → blob_read b ≡ Some (blob b)
 made_blob-is [] ne = absurd (ne refl)
 made_blob-is (c ∷ cs) ne = refl
 
-pub hash_back : (b : List ℕ) → AreBytes b → b ≢ [] → if_form hash_line (encode_lower b) (hash_read (encode_lower b)) ≡ Ok (blob b)
-hash_back b fits ne = ap (λ (x : List ℕ). if_form hash_line (encode_lower b) (blob_read x)) (unhex-pairs b fits) ∙ ap (if_form hash_line (encode_lower b)) (made_blob-is b ne) ∙ if_form-same hash_line (blob b)
+pub hash_back : (b : List ℕ) → AreBytes b → b ≢ [] → if_line_prints_value hash_line (encode_lower b) (hash_read (encode_lower b)) ≡ Ok (blob b)
+hash_back b fits ne = ap (λ (x : List ℕ). if_line_prints_value hash_line (encode_lower b) (blob_read x)) (unhex-pairs b fits) ∙ ap (if_line_prints_value hash_line (encode_lower b)) (made_blob-is b ne) ∙ if_line_prints_value-same hash_line (blob b)
 
 -- ---- texts
 
@@ -122,10 +122,10 @@ unquoted-all (c ∷ cs) (suc n) fits lt =
     let regroup : flat_map escape_of (c ∷ cs) ++ 34 ∷ [] ≡ escape_of c ++ (flat_map escape_of cs ++ 34 ∷ []) = ap (λ (x : List ℕ). x ++ 34 ∷ []) (flat_map-cons escape_of c cs) ∙ append_assoc (escape_of c) (flat_map escape_of cs) (34 ∷ []) in
     ap (quoted_read (suc n)) regroup ∙ unquoted-escaped n c (flat_map escape_of cs ++ 34 ∷ []) fits.0 ∙ ap (option_map (λ b. c ∷ b)) (unquoted-all cs n fits.1 (omega arith))
 
-pub text_back : (b : List ℕ) → AreBytes b → b ≢ [] → if_form text_line (text_form b) (text_read (text_form b)) ≡ Ok (blob b)
-text_back b fits ne = ap (if_form text_line (text_form b)) (go (is_bare b) refl) ∙ if_form-same text_line (blob b)
+pub text_back : (b : List ℕ) → AreBytes b → b ≢ [] → if_line_prints_value text_line (bare_or_quoted_text b) (text_read (bare_or_quoted_text b)) ≡ Ok (blob b)
+text_back b fits ne = ap (if_line_prints_value text_line (bare_or_quoted_text b)) (go (needs_no_quotes b) refl) ∙ if_line_prints_value-same text_line (blob b)
   where
-    go : (t : Bool) → is_bare b ≡ t → text_read (cond t b (34 ∷ (flat_map escape_of b ++ 34 ∷ []))) ≡ Some (blob b)
+    go : (t : Bool) → needs_no_quotes b ≡ t → text_read (cond t b (34 ∷ (flat_map escape_of b ++ 34 ∷ []))) ≡ Some (blob b)
     go true e =
         let four = and_parts _ _ e in
         let three = and_parts _ _ four.0 in
@@ -139,10 +139,10 @@ text_back b fits ne = ap (if_form text_line (text_form b)) (go (is_bare b) refl)
 begins_otherwise : (c : ℕ) (cs : List ℕ) → c ≢ 110 → bytes_eq (c ∷ cs) (codes "null") ≡ false
 begins_otherwise c cs ne = let t : eqb c 110 ≡ false = ne_eqb c 110 ne in rw t refl
 
-pub text_not_null : (b : List ℕ) → bytes_eq (text_form b) (codes "null") ≡ false
-text_not_null b = go (is_bare b) refl
+pub text_not_null : (b : List ℕ) → bytes_eq (bare_or_quoted_text b) (codes "null") ≡ false
+text_not_null b = go (needs_no_quotes b) refl
   where
-    go : (t : Bool) → is_bare b ≡ t → bytes_eq (cond t b (34 ∷ (flat_map escape_of b ++ 34 ∷ []))) (codes "null") ≡ false
+    go : (t : Bool) → needs_no_quotes b ≡ t → bytes_eq (cond t b (34 ∷ (flat_map escape_of b ++ 34 ∷ []))) (codes "null") ≡ false
     go true e = not-true _ (and_parts _ _ e).1
     go false e = refl
 

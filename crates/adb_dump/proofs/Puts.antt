@@ -3,7 +3,7 @@ use Rattle.std.proofs.Common.{◌≡◌, ℕ, List, [], ◌++◌, refl, sym, ap,
 use Rattle.std.specs.Prelude.{Result, Ok, Err, OnOk}
 use Rattle.adb_view.specs.Adb.{payload_of}
 use Rattle.adb_view.specs.declared.adb.Adb.{Adb}
-use Rattle.adb_dump.specs.Out.{Puts, PutsForAny}
+use Rattle.adb_dump.specs.Out.{Puts, PutsForAnyPayload}
 
 -- the same bytes, told otherwise
 told : {O : Type 0} (holds : O → List ℕ → Type 0) (out : O) (xs ys : List ℕ) → xs ≡ ys → holds out xs → holds out ys
@@ -57,10 +57,10 @@ so_far_all holds old new left all e s = puts_told holds old new s.bytes all (sym
 
 -- ---- the same, whatever payload it is of
 
-pub any_told : {O : Type 0} (holds : List ℕ → O → List ℕ → Type 0) (old new : O) (xs ys : List ℕ) → xs ≡ ys → PutsForAny holds old new xs → PutsForAny holds old new ys
+pub any_told : {O : Type 0} (holds : List ℕ → O → List ℕ → Type 0) (old new : O) (xs ys : List ℕ) → xs ≡ ys → PutsForAnyPayload holds old new xs → PutsForAnyPayload holds old new ys
 any_told holds old new xs ys e put p = puts_told (holds p) old new xs ys e (put p)
 
-pub any_on : {O : Type 0} (holds : List ℕ → O → List ℕ → Type 0) (old mid new : O) (xs ys : List ℕ) → PutsForAny holds old mid xs → PutsForAny holds mid new ys → PutsForAny holds old new (xs ++ ys)
+pub any_on : {O : Type 0} (holds : List ℕ → O → List ℕ → Type 0) (old mid new : O) (xs ys : List ℕ) → PutsForAnyPayload holds old mid xs → PutsForAnyPayload holds mid new ys → PutsForAnyPayload holds old new (xs ++ ys)
 any_on holds old mid new xs ys put then p = puts_on (holds p) old mid new xs ys (put p) (then p)
 
 abbrev pub IsSoFarForAny : {O : Type 0} → (List ℕ → O → List ℕ → Type 0) → O → O → List ℕ → List ℕ → Type 0
@@ -69,11 +69,11 @@ IsSoFarForAny holds old new left all = (p : List ℕ) → IsSoFar (holds p) old 
 pub any_so_far_none : {O : Type 0} (holds : List ℕ → O → List ℕ → Type 0) (out : O) (all : List ℕ) → IsSoFarForAny holds out out all all
 any_so_far_none holds out all p = so_far_none (holds p) out all
 
-pub any_so_far_more : {O : Type 0} (holds : List ℕ → O → List ℕ → Type 0) (old mid new : O) (piece left left' all : List ℕ) → left ≡ piece ++ left' → PutsForAny holds mid new piece → IsSoFarForAny holds old mid left all → IsSoFarForAny holds old new left' all
+pub any_so_far_more : {O : Type 0} (holds : List ℕ → O → List ℕ → Type 0) (old mid new : O) (piece left left' all : List ℕ) → left ≡ piece ++ left' → PutsForAnyPayload holds mid new piece → IsSoFarForAny holds old mid left all → IsSoFarForAny holds old new left' all
 any_so_far_more holds old mid new piece left left' all e put s p = so_far_more (holds p) old mid new piece left left' all e (put p) (s p)
 
 pub any_so_far_told : {O : Type 0} (holds : List ℕ → O → List ℕ → Type 0) (old new : O) (left left' all : List ℕ) → left ≡ left' → IsSoFarForAny holds old new left all → IsSoFarForAny holds old new left' all
 any_so_far_told holds old new left left' all e s p = so_far_told (holds p) old new left left' all e (s p)
 
-pub any_so_far_all : {O : Type 0} (holds : List ℕ → O → List ℕ → Type 0) (old new : O) (left all : List ℕ) → left ≡ [] → IsSoFarForAny holds old new left all → PutsForAny holds old new all
+pub any_so_far_all : {O : Type 0} (holds : List ℕ → O → List ℕ → Type 0) (old new : O) (left all : List ℕ) → left ≡ [] → IsSoFarForAny holds old new left all → PutsForAnyPayload holds old new all
 any_so_far_all holds old new left all e s p = so_far_all (holds p) old new left all e (s p)

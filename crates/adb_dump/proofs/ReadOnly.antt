@@ -7,10 +7,10 @@ use Rattle.std.proofs.lemmas.List.{length-append}
 use Rattle.adb_view.specs.Plain.{Plain, null, int, blob, arr, obj, Plains, none, more, put_first_without_last_null, without_last_nulls, Shape, number, text, hash, array, object, Fields, no_fields, field, IsNormal, AreNormal}
 use Rattle.adb_view.specs.Shaped.{Each, HasShape, HaveShapes}
 use Rattle.adb_view.proofs.FoundShapes.{shape_null}
-use Rattle.adb_dump.specs.Dump.{Line, begins_with_byte, int_line, text_line, hash_line, indent, with_dash, or_null, array_lines, named_line, named_block, unless_absent, block_lines, named_lines, fields_lines}
+use Rattle.adb_dump.specs.Dump.{Line, begins_with_byte, int_line, text_line, hash_line, indent, with_dash, entry_lines_or_null_line, array_lines, named_line, named_block, field_lines_unless_null, block_lines, named_lines, fields_lines}
 use Rattle.base_core.specs.Lists.{and_then}
 use Rattle.base_core.proofs.AtName.{is_name}
-use Rattle.adb_dump.specs.ReadBack.{ResultOrBadLine, after_lines, strip_prefix, stop_or_add, split_block, quoted_read, unhex, blob_read, int_read, text_read, hash_read, if_form, only_line, entry_read, after_dash, entries_read, arr_read, obj_read, field_on_line, field_below, if_named, block_read, named_read, fields_read}
+use Rattle.adb_dump.specs.ReadBack.{ResultOrBadLine, after_lines, strip_prefix, end_block_or_add_line, split_block, quoted_read, unhex, blob_read, int_read, text_read, hash_read, if_line_prints_value, single_line_value, entry_read, entries_after_dash, entries_read, arr_read, obj_read, field_on_line, field_with_value_below, if_named, block_read, named_read, fields_read}
 use Rattle.adb_dump.proofs.Booleans.{chosen}
 
 bind_ok : {A B : Type 0} (r : ResultOrBadLine A) (f : A → ResultOrBadLine B) (y : B) → and_then r f ≡ Ok y → (x : A) × (r ≡ Ok x) × (f x ≡ Ok y)
@@ -21,7 +21,7 @@ behind_ok : {A B : Type 0} (n : ℕ) (f : A → B) (r : ResultOrBadLine A) (y : 
 behind_ok n f (Ok x) y e = (x, refl, cc)
 behind_ok n f (Err k) y e = absurd cc
 
-pub if_form_ok : (form : Plain → Line) (l : Line) (o : Option Plain) (v : Plain) → if_form form l o ≡ Ok v → (o ≡ Some v) × (form v ≡ l)
+pub if_form_ok : (form : Plain → Line) (l : Line) (o : Option Plain) (v : Plain) → if_line_prints_value form l o ≡ Ok v → (o ≡ Some v) × (form v ≡ l)
 if_form_ok form l None v e = absurd cc
 if_form_ok form l (Some u) v e =
     elim (chosen (bytes_eq (form u) l) _ _ _ e) [
@@ -29,7 +29,7 @@ if_form_ok form l (Some u) v e =
       | inr x ↦ absurd (let f = x.1 in cc)
     ]
 
-only_line_ok : (f : Line → ResultOrBadLine Plain) (ls : List Line) (v : Plain) → only_line f ls ≡ Ok v → (l : Line) × (ls ≡ l ∷ []) × (f l ≡ Ok v)
+only_line_ok : (f : Line → ResultOrBadLine Plain) (ls : List Line) (v : Plain) → single_line_value f ls ≡ Ok v → (l : Line) × (ls ≡ l ∷ []) × (f l ≡ Ok v)
 only_line_ok f [] v e = absurd cc
 only_line_ok f (l ∷ []) v e = (l, refl, e)
 only_line_ok f (l ∷ m ∷ ls) v e = absurd (let (x, a, b) = bind_ok (f l) (λ v. Err 1) v e in cc)
@@ -47,7 +47,7 @@ pub split_block_parts : (ls : List Line) → ls ≡ indent (split_block ls).0 ++
 split_block_parts [] = refl
 split_block_parts (l ∷ ls) = go (strip_prefix (32 ∷ 32 ∷ []) l) refl (split_block_parts ls)
   where
-    go : (o : Option Line) → strip_prefix (32 ∷ 32 ∷ []) l ≡ o → ls ≡ indent (split_block ls).0 ++ (split_block ls).1 → l ∷ ls ≡ indent (stop_or_add l ls o (split_block ls)).0 ++ (stop_or_add l ls o (split_block ls)).1
+    go : (o : Option Line) → strip_prefix (32 ∷ 32 ∷ []) l ≡ o → ls ≡ indent (split_block ls).0 ++ (split_block ls).1 → l ∷ ls ≡ indent (end_block_or_add_line l ls o (split_block ls)).0 ++ (end_block_or_add_line l ls o (split_block ls)).1
     go None e h = refl
     go (Some inner) e h = let is = strip_prefix_some (32 ∷ 32 ∷ []) l inner e in cc
 
@@ -92,10 +92,10 @@ hash_fits l v e = blob_fits hash (unhex l) v (λ y. tt) (made_blob_some (unhex l
 
 -- what reading an entry says
 abbrev EntryOnly : (Plain → List Line) → (List Line → ResultOrBadLine Plain) → (Plain → Type 0) → Type 0
-EntryOnly f r Q = (l : Line) (ls : List Line) (v : Plain) → entry_read r l ls ≡ Ok v → (or_null v (f v) ≡ l ∷ ls) × Q v
+EntryOnly f r Q = (l : Line) (ls : List Line) (v : Plain) → entry_read r l ls ≡ Ok v → (entry_lines_or_null_line v (f v) ≡ l ∷ ls) × Q v
 
 dash_only : (f : Plain → List Line) (r : List Line → ResultOrBadLine Plain) (Q : Plain → Type 0) → EntryOnly f r Q → (n : ℕ) (l : Line) (ls : List Line) (o : Option Line) (vs : Plains) → strip_prefix (45 ∷ 32 ∷ []) l ≡ o
-    → ((us : Plains) → entries_read r n (split_block ls).1 ≡ Ok us → (array_lines f us ≡ (split_block ls).1) × Each Q us) → after_dash r (entries_read r n) (split_block ls) o ≡ Ok vs → (array_lines f vs ≡ l ∷ ls) × Each Q vs
+    → ((us : Plains) → entries_read r n (split_block ls).1 ≡ Ok us → (array_lines f us ≡ (split_block ls).1) × Each Q us) → entries_after_dash r (entries_read r n) (split_block ls) o ≡ Ok vs → (array_lines f vs ≡ l ∷ ls) × Each Q vs
 dash_only f r Q h n l ls None vs i g e = absurd cc
 dash_only f r Q h n l ls (Some inner) vs i g e =
     let (v, one, a) = bind_ok (entry_read r inner (split_block ls).0) (λ v. after_lines (1 + length (split_block ls).0) (more v) (entries_read r n (split_block ls).1)) vs e in
@@ -130,19 +130,19 @@ keeps (blob b) us ne = refl
 keeps (arr a) us ne = refl
 keeps (obj a) us ne = refl
 
-pub or_null-is : (v : Plain) (ls : List Line) → v ≢ null → or_null v ls ≡ ls
-or_null-is null ls ne = absurd (ne refl)
-or_null-is (int n) ls ne = refl
-or_null-is (blob b) ls ne = refl
-or_null-is (arr a) ls ne = refl
-or_null-is (obj a) ls ne = refl
+pub entry_lines_or_null_line-is : (v : Plain) (ls : List Line) → v ≢ null → entry_lines_or_null_line v ls ≡ ls
+entry_lines_or_null_line-is null ls ne = absurd (ne refl)
+entry_lines_or_null_line-is (int n) ls ne = refl
+entry_lines_or_null_line-is (blob b) ls ne = refl
+entry_lines_or_null_line-is (arr a) ls ne = refl
+entry_lines_or_null_line-is (obj a) ls ne = refl
 
-unless_absent-is : (v : Plain) (ls : List Line) → v ≢ null → unless_absent v ls ≡ ls
-unless_absent-is null ls ne = absurd (ne refl)
-unless_absent-is (int n) ls ne = refl
-unless_absent-is (blob b) ls ne = refl
-unless_absent-is (arr a) ls ne = refl
-unless_absent-is (obj a) ls ne = refl
+field_lines_unless_null-is : (v : Plain) (ls : List Line) → v ≢ null → field_lines_unless_null v ls ≡ ls
+field_lines_unless_null-is null ls ne = absurd (ne refl)
+field_lines_unless_null-is (int n) ls ne = refl
+field_lines_unless_null-is (blob b) ls ne = refl
+field_lines_unless_null-is (arr a) ls ne = refl
+field_lines_unless_null-is (obj a) ls ne = refl
 
 -- an entry: `null`, or a value
 abbrev EntryFits : Shape → Plain → Type 0
@@ -157,8 +157,8 @@ entry_only s h l ls v e =
           let nothing : v ≡ null = cc in
           let word = is_name l (codes "null") x.0 in
           let lines : codes "null" ∷ [] ≡ l ∷ ls = cc in
-          subst (λ (u : Plain). (or_null u (block_lines s u) ≡ l ∷ ls) × EntryFits s u) (sym nothing) (lines, (tt, shape_null s))
-      | inr x ↦ let r = h (l ∷ ls) v x.1 in (or_null-is v (block_lines s v) r.1.0 ∙ r.0, (r.1.1, r.1.2))
+          subst (λ (u : Plain). (entry_lines_or_null_line u (block_lines s u) ≡ l ∷ ls) × EntryFits s u) (sym nothing) (lines, (tt, shape_null s))
+      | inr x ↦ let r = h (l ∷ ls) v x.1 in (entry_lines_or_null_line-is v (block_lines s v) r.1.0 ∙ r.0, (r.1.1, r.1.2))
     ]
 
 each_split : (s : Shape) (vs : Plains) → Each (EntryFits s) vs → AreNormal vs × Each (HasShape s) vs
@@ -166,9 +166,9 @@ unfolding IsNormal
 each_split s none h = (tt, tt)
 each_split s (more v vs) h = let r = each_split s vs h.1 in ((h.0.0, r.0), (h.0.1, r.1))
 
-one_only : (form : Plain → Line) (read : Line → Option Plain) (s : Shape) → ((l : Line) (v : Plain) → read l ≡ Some v → Fits1 s v) → (ls : List Line) (v : Plain) → only_line (λ l. if_form form l (read l)) ls ≡ Ok v → (form v ∷ [] ≡ ls) × Fits1 s v
+one_only : (form : Plain → Line) (read : Line → Option Plain) (s : Shape) → ((l : Line) (v : Plain) → read l ≡ Some v → Fits1 s v) → (ls : List Line) (v : Plain) → single_line_value (λ l. if_line_prints_value form l (read l)) ls ≡ Ok v → (form v ∷ [] ≡ ls) × Fits1 s v
 one_only form read s h ls v e =
-    let (l, is, ok) = only_line_ok (λ l. if_form form l (read l)) ls v e in
+    let (l, is, ok) = only_line_ok (λ l. if_line_prints_value form l (read l)) ls v e in
     let (some, line) = if_form_ok form l (read l) v ok in
     (ap (λ (x : Line). x ∷ []) line ∙ sym is, h l v some)
 
@@ -215,10 +215,10 @@ record NamedOnly (s : Shape) (fs : Fields) (name : List ℕ) (rest : Line) (ls :
   lines : named_lines s name v ++ others ≡ (name ++ 58 ∷ rest) ∷ ls
 
 line_only : (s : Shape) (fs : Fields) (name : List ℕ) (form : Plain → Line) (read : Line → Option Plain) → ((l : Line) (v : Plain) → read l ≡ Some v → Fits1 s v) → ((v : Plain) → named_lines s name v ≡ named_line name (form v)) → (rest : Line) (ls : List Line) (vs : Plains) (o : Option Line)
-    → strip_prefix (32 ∷ []) rest ≡ o → field_on_line (λ l. if_form form l (read l)) (fields_read fs) ls o ≡ Ok vs → NamedOnly s fs name rest ls vs
+    → strip_prefix (32 ∷ []) rest ≡ o → field_on_line (λ l. if_line_prints_value form l (read l)) (fields_read fs) ls o ≡ Ok vs → NamedOnly s fs name rest ls vs
 line_only s fs name form read h k rest ls vs None i e = absurd cc
 line_only s fs name form read h k rest ls vs (Some l) i e =
-    let (v, one, a) = bind_ok (if_form form l (read l)) (λ v. after_lines 1 (more v) (fields_read fs ls)) vs e in
+    let (v, one, a) = bind_ok (if_line_prints_value form l (read l)) (λ v. after_lines 1 (more v) (fields_read fs ls)) vs e in
     let (us, others, is) = behind_ok 1 (more v) (fields_read fs ls) vs a in
     let (some, line) = if_form_ok form l (read l) v one in
     let word = strip_prefix_some (32 ∷ []) rest l i in
@@ -233,7 +233,7 @@ line_only s fs name form read h k rest ls vs (Some l) i e =
     }
 
 below_only : (s : Shape) (fs : Fields) (name : List ℕ) → BlockOnly s → ((v : Plain) → named_lines s name v ≡ named_block name (block_lines s v)) → (rest : Line) (ls : List Line) (vs : Plains)
-    → field_below (block_read s) (fields_read fs) (split_block ls) rest ≡ Ok vs → NamedOnly s fs name rest ls vs
+    → field_with_value_below (block_read s) (fields_read fs) (split_block ls) rest ≡ Ok vs → NamedOnly s fs name rest ls vs
 below_only s fs name h k (c ∷ cs) ls vs e = absurd cc
 below_only s fs name h k [] ls vs e =
     let (v, one, a) = bind_ok (after_lines 1 (λ v. v) (block_read s (split_block ls).0)) (λ v. after_lines (1 + length (split_block ls).0) (more v) (fields_read fs (split_block ls).1)) vs e in
@@ -279,8 +279,8 @@ one_field s fs name h k l ls vs (Some rest) i e =
     let n = named_only s fs name h rest ls vs e in
     let r = k n.others n.us n.read in
     let line : l ≡ name ++ 58 ∷ rest = strip_prefix_some (name ++ 58 ∷ []) l rest i ∙ append_assoc name (58 ∷ []) rest in
-    let lines : unless_absent n.v (named_lines s name n.v) ++ fields_lines fs n.us ≡ l ∷ ls =
-    ap (λ (x : List Line). x ++ fields_lines fs n.us) (unless_absent-is n.v (named_lines s name n.v) n.fits.0) ∙ ap (λ (x : List Line). named_lines s name n.v ++ x) r.lines ∙ n.lines ∙ ap (λ (x : Line). x ∷ ls) (sym line) in
+    let lines : field_lines_unless_null n.v (named_lines s name n.v) ++ fields_lines fs n.us ≡ l ∷ ls =
+    ap (λ (x : List Line). x ++ fields_lines fs n.us) (field_lines_unless_null-is n.v (named_lines s name n.v) n.fits.0) ∙ ap (λ (x : List Line). named_lines s name n.v ++ x) r.lines ∙ n.lines ∙ ap (λ (x : Line). x ∷ ls) (sym line) in
     subst (FieldsOnly (field name s fs) (l ∷ ls)) (sym n.is) (record { lines = lines; trim = ap (put_first_without_last_null n.v) r.trim ∙ keeps n.v n.us n.fits.0; normal = (n.fits.1, r.normal); shapes = (n.fits.2, r.shapes) })
 
 no_fields_only : (ls : List Line) (vs : Plains) → fields_read no_fields ls ≡ Ok vs → FieldsOnly no_fields ls vs

@@ -11,7 +11,7 @@ use Rattle.std.proofs.lemmas.Str.Parse.{digit_at}
 use Rattle.hex.specs.Hex.{encode_with, encode_lower}
 use Rattle.adb_view.specs.Plain.{Plain, null, int, blob, arr, obj, Plains, none, more, Shape, number, text, hash, array, object, Fields, no_fields, field, IsNormal, AreNormal}
 use Rattle.adb_view.specs.Values.{entries_in}
-use Rattle.adb_dump.specs.Dump.{Line, is_printable, is_bare, escape_of, text_form, int_line, text_line, hash_line, indent, with_dash, or_null, array_lines, named_line, named_block, unless_absent, block_lines, named_lines, fields_lines, text_of}
+use Rattle.adb_dump.specs.Dump.{Line, is_printable, needs_no_quotes, escape_of, bare_or_quoted_text, int_line, text_line, hash_line, indent, with_dash, entry_lines_or_null_line, array_lines, named_line, named_block, field_lines_unless_null, block_lines, named_lines, fields_lines, text_of}
 use Rattle.adb_dump.specs.ReadBack.{split_lines, add_char}
 use Rattle.adb_dump.proofs.LineBack.{digit_not_end}
 use Rattle.adb_dump.proofs.Booleans.{chosen}
@@ -79,10 +79,10 @@ printable_end (c ∷ cs) h =
     let le : 0x20 ≤ c = leb-true _ _ (and_parts (leb 0x20 c) (leb c 0x7e) a.0).0 in
     and_from _ _ (not_end c (λ e. absurd (omega arith))) (printable_end cs a.1)
 
-text_end : (b : List ℕ) → no_end (text_form b) ≡ true
-text_end b = go (is_bare b) refl
+text_end : (b : List ℕ) → no_end (bare_or_quoted_text b) ≡ true
+text_end b = go (needs_no_quotes b) refl
   where
-    go : (t : Bool) → is_bare b ≡ t → no_end (cond t b (34 ∷ (flat_map escape_of b ++ 34 ∷ []))) ≡ true
+    go : (t : Bool) → needs_no_quotes b ≡ t → no_end (cond t b (34 ∷ (flat_map escape_of b ++ 34 ∷ []))) ≡ true
     go true e = printable_end b (and_parts _ _ (and_parts _ _ (and_parts _ _ (and_parts _ _ e).0).0).0).0
     go false e = append_chars (flat_map escape_of b) (34 ∷ []) (escapes_end b) refl
 
@@ -115,14 +115,14 @@ hash_line_end (blob b) = hash_end b
 hash_line_end (arr vs) = refl
 hash_line_end (obj vs) = refl
 
-or_null_lines : (v : Plain) (ls : List Line) → are_lines ls ≡ true → are_lines (or_null v ls) ≡ true
+or_null_lines : (v : Plain) (ls : List Line) → are_lines ls ≡ true → are_lines (entry_lines_or_null_line v ls) ≡ true
 or_null_lines null ls h = refl
 or_null_lines (int k) ls h = h
 or_null_lines (blob b) ls h = h
 or_null_lines (arr vs) ls h = h
 or_null_lines (obj vs) ls h = h
 
-absent_lines : (v : Plain) (ls : List Line) → are_lines ls ≡ true → are_lines (unless_absent v ls) ≡ true
+absent_lines : (v : Plain) (ls : List Line) → are_lines ls ≡ true → are_lines (field_lines_unless_null v ls) ≡ true
 absent_lines null ls h = refl
 absent_lines (int k) ls h = h
 absent_lines (blob b) ls h = h
@@ -132,7 +132,7 @@ absent_lines (obj vs) ls h = h
 entries_lines : (f : Plain → List Line) → ((v : Plain) → IsNormal v → are_lines (f v) ≡ true) → (vs : Plains) → AreNormal vs → are_lines (array_lines f vs) ≡ true
 unfolding IsNormal
 entries_lines f h none n = refl
-entries_lines f h (more v vs) n = append_lines (with_dash (or_null v (f v))) (array_lines f vs) (dashed_lines (or_null v (f v)) (or_null_lines v (f v) (h v n.0))) (entries_lines f h vs n.1)
+entries_lines f h (more v vs) n = append_lines (with_dash (entry_lines_or_null_line v (f v))) (array_lines f vs) (dashed_lines (entry_lines_or_null_line v (f v)) (or_null_lines v (f v) (h v n.0))) (entries_lines f h vs n.1)
 
 items_normal : (v : Plain) → IsNormal v → AreNormal (entries_in v)
 unfolding IsNormal
@@ -165,7 +165,7 @@ named_end name (object which fs) v n a h = below_end name (fields_lines fs (entr
 
 field_end : (name : List ℕ) (s : Shape) (fs : Fields) (v : Plain) (vs : Plains) → is_name name ≡ true → AreNormal (more v vs) → ((u : Plain) → IsNormal u → are_lines (block_lines s u) ≡ true) → (AreNormal vs → are_lines (fields_lines fs vs) ≡ true) → are_lines (fields_lines (field name s fs) (more v vs)) ≡ true
 unfolding fields_lines IsNormal
-field_end name s fs v vs n a f g = append_lines (unless_absent v (named_lines s name v)) (fields_lines fs vs) (absent_lines v (named_lines s name v) (named_end name s v n a.0 (f v a.0))) (g a.1)
+field_end name s fs v vs n a f g = append_lines (field_lines_unless_null v (named_lines s name v)) (fields_lines fs vs) (absent_lines v (named_lines s name v) (named_end name s v n a.0 (f v a.0))) (g a.1)
 
 mutual
   unfolding block_lines is_named

@@ -7,10 +7,10 @@ use Rattle.std.proofs.lemmas.List.{length-append}
 use Rattle.adb_view.specs.Plain.{Plain, null, int, blob, arr, obj, Plains, none, more, without_last_nulls, Shape, number, text, hash, array, object, Fields, no_fields, field, IsNormal, AreNormal}
 use Rattle.adb_view.specs.Shaped.{Each, HasShape, HaveShapes}
 use Rattle.adb_view.proofs.Normal.{trimmed-more}
-use Rattle.adb_dump.specs.Dump.{Line, int_line, text_line, hash_line, text_form, indent, with_dash, or_null, array_lines, block_lines, named_lines, fields_lines}
+use Rattle.adb_dump.specs.Dump.{Line, int_line, text_line, hash_line, bare_or_quoted_text, indent, with_dash, entry_lines_or_null_line, array_lines, block_lines, named_lines, fields_lines}
 use Rattle.base_core.specs.Lists.{and_then}
 use Rattle.base_core.proofs.AtName.{own_name, other_name as differs}
-use Rattle.adb_dump.specs.ReadBack.{ResultOrBadLine, after_lines, strip_prefix, split_block, entry_read, entries_read, arr_read, obj_read, field_below, block_read, named_read, fields_read}
+use Rattle.adb_dump.specs.ReadBack.{ResultOrBadLine, after_lines, strip_prefix, split_block, entry_read, entries_read, arr_read, obj_read, field_with_value_below, block_read, named_read, fields_read}
 use Rattle.adb_dump.specs.Values.{IsOfBytes, AreOfBytes}
 use Rattle.adb_dump.proofs.LineBack.{AreBytes, int_back, text_back, hash_back, int_not_null, text_not_null, hash_not_null}
 
@@ -64,7 +64,7 @@ split_block-indent (x ∷ xs) ys h = rw (split_block-indent xs ys h) refl
 pub record EntryBack (f : Plain → List Line) (r : List Line → ResultOrBadLine Plain) (v : Plain) : Type 0 where
   pub first : Line
   pub others : List Line
-  pub lines : or_null v (f v) ≡ first ∷ others
+  pub lines : entry_lines_or_null_line v (f v) ≡ first ∷ others
   pub back : entry_read r first others ≡ Ok v
 
 entries-fresh : (f : Plain → List Line) (r : List Line → ResultOrBadLine Plain) (vs : Plains) → Each (EntryBack f r) vs → IsFresh (array_lines f vs)
@@ -264,7 +264,7 @@ named_back (array s) name v g ls b fresh =
       rest = [];
       lines = refl;
       is = refl;
-      back = λ vs h. ap (λ r. field_below (block_read (array s)) g r []) split ∙ ap (λ (r : ResultOrBadLine Plain). and_then (after_lines 1 (λ u. u) r) (λ u. after_lines (1 + length block) (more u) (g ls))) b.back ∙ ap (after_lines (1 + length block) (more v)) h;
+      back = λ vs h. ap (λ r. field_with_value_below (block_read (array s)) g r []) split ∙ ap (λ (r : ResultOrBadLine Plain). and_then (after_lines 1 (λ u. u) r) (λ u. after_lines (1 + length block) (more u) (g ls))) b.back ∙ ap (after_lines (1 + length block) (more v)) h;
     }
 named_back (object which fs) name v g ls b fresh =
     let block = block_lines (object which fs) v in
@@ -275,7 +275,7 @@ named_back (object which fs) name v g ls b fresh =
       rest = [];
       lines = refl;
       is = refl;
-      back = λ vs h. ap (λ r. field_below (block_read (object which fs)) g r []) split ∙ ap (λ (r : ResultOrBadLine Plain). and_then (after_lines 1 (λ u. u) r) (λ u. after_lines (1 + length block) (more u) (g ls))) b.back ∙ ap (after_lines (1 + length block) (more v)) h;
+      back = λ vs h. ap (λ r. field_with_value_below (block_read (object which fs)) g r []) split ∙ ap (λ (r : ResultOrBadLine Plain). and_then (after_lines 1 (λ u. u) r) (λ u. after_lines (1 + length block) (more u) (g ls))) b.back ∙ ap (after_lines (1 + length block) (more v)) h;
     }
 
 -- one field more
@@ -301,7 +301,7 @@ number_back n lt = record { first = decimal n; others = []; lines = refl; not_nu
 
 text_block_back : (b : List ℕ) → AreBytes b → b ≢ [] → BlockBack text (blob b)
 unfolding block_lines block_read
-text_block_back b fits ne = record { first = text_form b; others = []; lines = refl; not_null = text_not_null b; back = text_back b fits ne }
+text_block_back b fits ne = record { first = bare_or_quoted_text b; others = []; lines = refl; not_null = text_not_null b; back = text_back b fits ne }
 
 hash_block_back : (b : List ℕ) → AreBytes b → b ≢ [] → BlockBack hash (blob b)
 unfolding block_lines block_read

@@ -13,7 +13,7 @@ use Rattle.adb_view.specs.Shapes.{object_shape}
 use Rattle.adb_dump.specs.Dump.{Line, block_lines, dump_lines, dump_text, schema_line, value_lines}
 use Rattle.base_core.specs.Lists.{and_then}
 use Rattle.adb_dump.specs.ReadBack.{block_read, split_lines, value_read}
-use Rattle.adb_dump.specs.Values.{IsOfBytes, IsValueOf}
+use Rattle.adb_dump.specs.Values.{IsOfBytes, IsNormalValueOfTable}
 use Rattle.adb_dump.proofs.BlockLines.{no_lines, object_block}
 use Rattle.adb_dump.proofs.ValueBack.{no_end, is_named, block_back}
 use Rattle.adb_dump.proofs.TextLines.{block_end, lines_of-text}
@@ -36,26 +36,26 @@ table_named Intent = refl
 null_lines : (which : Which) → value_lines which null ≡ []
 null_lines which = ap (λ (s : Shape). block_lines s null) (object_shape which) ∙ object_block _ (shapes_of (table which)) null ∙ no_lines (shapes_of (table which))
 
-some_back : (which : Which) (v : Plain) → v ≢ null → IsValueOf which v → IsOfBytes v → value_read which (value_lines which v) ≡ Ok v
+some_back : (which : Which) (v : Plain) → v ≢ null → IsNormalValueOfTable which v → IsOfBytes v → value_read which (value_lines which v) ≡ Ok v
 some_back which v ne is b =
     let r = block_back (shape_of (Obj which)) (table_named which) v ne is.0 is.1 b in
     ap (value_read which) r.lines ∙ ap (block_read (shape_of (Obj which))) (sym r.lines) ∙ r.back
 
-pub read_back : (which : Which) (v : Plain) → IsValueOf which v → IsOfBytes v → value_read which (value_lines which v) ≡ Ok v
+pub read_back : (which : Which) (v : Plain) → IsNormalValueOfTable which v → IsOfBytes v → value_read which (value_lines which v) ≡ Ok v
 read_back which null is b = ap (value_read which) (null_lines which)
 read_back which (int n) is b = some_back which (int n) (λ e. cc) is b
 read_back which (blob x) is b = some_back which (blob x) (λ e. cc) is b
 read_back which (arr vs) is b = some_back which (arr vs) (λ e. cc) is b
 read_back which (obj vs) is b = some_back which (obj vs) (λ e. cc) is b
 
-null_value : (which : Which) → IsValueOf which null
+null_value : (which : Which) → IsNormalValueOfTable which null
 unfolding IsNormal
 null_value which = (tt, shape_null (shape_of (Obj which)))
 
-pub only_values : (which : Which) (ls : List Line) (v : Plain) → value_read which ls ≡ Ok v → (value_lines which v ≡ ls) × IsValueOf which v
+pub only_values : (which : Which) (ls : List Line) (v : Plain) → value_read which ls ≡ Ok v → (value_lines which v ≡ ls) × IsNormalValueOfTable which v
 only_values which [] v e =
     let same : null ≡ v = cc in
-    subst (λ (u : Plain). (value_lines which u ≡ []) × IsValueOf which u) same (null_lines which, null_value which)
+    subst (λ (u : Plain). (value_lines which u ≡ []) × IsNormalValueOfTable which u) same (null_lines which, null_value which)
 only_values which (l ∷ ls) v e = let r = block_only (shape_of (Obj which)) (l ∷ ls) v e in (r.0, (r.1.1, r.1.2))
 
 schema_end : (which : Which) → no_end (schema_line (schema_word which)) ≡ true
@@ -80,7 +80,7 @@ same_lines x y xs ys e = cc
 same_value : (x y : Plain) → and_then {E = ℕ} (Ok x) (λ (v : Plain). Ok v) ≡ and_then {E = ℕ} (Ok y) (λ (v : Plain). Ok v) → x ≡ y
 same_value x y e = cc
 
-pub one_text_one_value : (which : Which) (v u : Plain) → IsValueOf which v → IsOfBytes v → IsValueOf which u → IsOfBytes u → dump_text which v ≡ dump_text which u → v ≡ u
+pub one_text_one_value : (which : Which) (v u : Plain) → IsNormalValueOfTable which v → IsOfBytes v → IsNormalValueOfTable which u → IsOfBytes u → dump_text which v ≡ dump_text which u → v ≡ u
 one_text_one_value which v u is b is' b' e =
     let lines : split_lines (dump_text which v) ≡ split_lines (dump_text which u) = ap split_lines e in
     let whole = sym (text_split which v is.0) ∙ lines ∙ text_split which u is'.0 in

@@ -6,7 +6,7 @@ use Rattle.std.specs.List.{AllByRecursion}
 use Rattle.std.proofs.lemmas.List.Elements.{All-head, All-tail, All-take, All-drop}
 use Rattle.adb_view.specs.Bytes.{number_at, range_at}
 use Rattle.adb_view.specs.Plain.{Plain, null, int, blob, arr, obj, Plains, none, more, Shape, number, text, hash, array, object, Fields, no_fields, field, blob_or_null, arr_value, obj_of, put_first_without_last_null, without_last_nulls, obj_value, from_answer, then_more, each_plain, plain_of, plains_of}
-use Rattle.adb_view.specs.Readers.{counted_at, or_outside, int_of, blob_of, run_of, kind_of, low_of, ARRAY, OBJECT}
+use Rattle.adb_view.specs.Readers.{counted_at, or_outside_cause, int_of, blob_of, run_of, kind_of, low_of, ARRAY, OBJECT}
 use Rattle.adb_view.proofs.FoundShapes.{unless_null-all, mapped, run_found}
 use Rattle.base_core.specs.declared.cause.Cause.{Cause}
 use Rattle.adb_dump.specs.Values.{IsOfBytes, AreOfBytes}
@@ -39,7 +39,7 @@ abbrev OkBytes : Result (List ℕ) Cause → Type 0
 OkBytes (Ok b) = AreBytes b
 OkBytes (Err c) = Unit {0}
 
-inside_bytes : (w : ℕ) (o : Option (List ℕ)) → IfSome o AreBytes → OkBytes (or_outside w o)
+inside_bytes : (w : ℕ) (o : Option (List ℕ)) → IfSome o AreBytes → OkBytes (or_outside_cause w o)
 inside_bytes w (Some b) h = h
 inside_bytes w None h = tt
 

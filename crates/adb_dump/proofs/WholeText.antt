@@ -15,7 +15,7 @@ use Rattle.adb_view.specs.declared.tables.Which.{Which}
 use Rattle.adb_view.specs.declared.tables.Kind.TheVariants.{Obj}
 use Rattle.adb_view.specs.declared.tables.Field.{Field}
 use Rattle.adb_dump.specs.Dump.{Line, dump_text, fields_lines, schema_line, text_of, value_lines}
-use Rattle.adb_dump.specs.Margin.{lines_at}
+use Rattle.adb_dump.specs.Margin.{indented_lines_text}
 use Rattle.adb_dump.specs.Words.{fields_at}
 use Rattle.adb_dump.proofs.BlockLines.{object_lines}
 use Rattle.adb_dump.proofs.Placed.{laid_text}
@@ -23,15 +23,15 @@ use Rattle.adb_dump.proofs.Placed.{laid_text}
 first_line : (line : Line) (ls : List Line) → text_of (line ∷ ls) ≡ (line ++ codes "\n") ++ text_of ls
 first_line line ls = flat_map-cons (λ (x : Line). x ++ codes "\n") line ls
 
-lines_put : (line : Line) (ls : List Line) → (line ++ codes "\n") ++ lines_at 0 false ls ≡ text_of (line ∷ ls)
+lines_put : (line : Line) (ls : List Line) → (line ++ codes "\n") ++ indented_lines_text 0 false ls ≡ text_of (line ∷ ls)
 lines_put line ls = ap (λ (t : List ℕ). (line ++ codes "\n") ++ t) (laid_text ls) ∙ sym (first_line line ls)
 
 pub whole_text : (shaped : Shaped) (adb : Adb) (which : Which) (root : ℕ) (fields : List Field) (words : List ℕ) → adb ≡ adb_of shaped → which ≡ table_of shaped → root ≡ root_of (payload_of adb) → fields ≡ table which
     → value_at (payload_of adb) (Obj which) root ≡ obj_value (fields_at (payload_of adb) (table which) words)
-    → (schema_line (schema_word which) ++ codes "\n") ++ lines_at 0 false (fields_lines (shapes_of fields) (fields_at (payload_of adb) fields words)) ≡ dump_text (table_of shaped) (shaped_value shaped)
+    → (schema_line (schema_word which) ++ codes "\n") ++ indented_lines_text 0 false (fields_lines (shapes_of fields) (fields_at (payload_of adb) fields words)) ≡ dump_text (table_of shaped) (shaped_value shaped)
 whole_text shaped adb which root fields words adb_is which_is root_is fields_is value =
     let value_is : value_lines which (value_at (payload_of adb) (Obj which) root) ≡ fields_lines (shapes_of (table which)) (fields_at (payload_of adb) (table which) words) = object_lines (payload_of adb) which root words value in
-    ap (λ (fs : List Field). (schema_line (schema_word which) ++ codes "\n") ++ lines_at 0 false (fields_lines (shapes_of fs) (fields_at (payload_of adb) fs words))) fields_is
+    ap (λ (fs : List Field). (schema_line (schema_word which) ++ codes "\n") ++ indented_lines_text 0 false (fields_lines (shapes_of fs) (fields_at (payload_of adb) fs words))) fields_is
     ∙ lines_put (schema_line (schema_word which)) (fields_lines (shapes_of (table which)) (fields_at (payload_of adb) (table which) words))
     ∙ ap (λ (ls : List Line). text_of (schema_line (schema_word which) ∷ ls)) (sym value_is) ∙ same
   where

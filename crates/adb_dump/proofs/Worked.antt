@@ -5,7 +5,7 @@ use Rattle.std.specs.Fmt.{decimal}
 use Rattle.adb_view.specs.Plain.{null, int, blob, arr, obj, none, more}
 use Rattle.adb_view.specs.Schema.{shape_of}
 use Rattle.adb_view.specs.declared.tables.Which.TheVariants.{Package, Index, Idb, Intent}
-use Rattle.adb_dump.specs.Dump.{block_lines, named_lines, fields_lines, text_form, value_lines, dump_text}
+use Rattle.adb_dump.specs.Dump.{block_lines, named_lines, fields_lines, bare_or_quoted_text, value_lines, dump_text}
 use Rattle.hex.specs.Hex.{encode_with}
 
 package_of_two_texts : dump_text Package (obj (more (obj (more (blob (codes "a")) (more (blob (codes "1")) none))) none)) ≡ codes "#%SCHEMA: 676b6370\ninfo:\n  name: a\n  version: 1\n"
@@ -30,24 +30,24 @@ deep : value_lines Idb (obj (more (arr (more (obj (more null (more (arr (more (o
 unfolding block_lines named_lines fields_lines shape_of
 deep = refl
 
-line_end : text_form (codes "a\nb") ≡ codes "\"a\\nb\""
+line_end : bare_or_quoted_text (codes "a\nb") ≡ codes "\"a\\nb\""
 line_end = refl
 
-quote_and_backslash : text_form (codes "\"\\") ≡ codes "\"\\\"\\\\\""
+quote_and_backslash : bare_or_quoted_text (codes "\"\\") ≡ codes "\"\\\"\\\\\""
 quote_and_backslash = refl
 
-quote_inside : text_form (codes "a\"\\b") ≡ codes "a\"\\b"
+quote_inside : bare_or_quoted_text (codes "a\"\\b") ≡ codes "a\"\\b"
 quote_inside = refl
 
-space_first : text_form (codes " a") ≡ codes "\" a\""
+space_first : bare_or_quoted_text (codes " a") ≡ codes "\" a\""
 space_first = refl
 
-space_last : text_form (codes "a ") ≡ codes "\"a \""
+space_last : bare_or_quoted_text (codes "a ") ≡ codes "\"a \""
 space_last = refl
 
-word_null : text_form (codes "null") ≡ codes "\"null\""
+word_null : bare_or_quoted_text (codes "null") ≡ codes "\"null\""
 word_null = refl
 
-other_bytes : text_form (0xc3 ∷ 0xbc ∷ 0x00 ∷ 0x7f ∷ []) ≡ codes "\"\\xc3\\xbc\\x00\\x7f\""
+other_bytes : bare_or_quoted_text (0xc3 ∷ 0xbc ∷ 0x00 ∷ 0x7f ∷ []) ≡ codes "\"\\xc3\\xbc\\x00\\x7f\""
 unfolding encode_with
 other_bytes = refl

@@ -35,8 +35,8 @@ ends_with_byte c (d ∷ e ∷ ds) = ends_with_byte c (e ∷ ds)
 
 -- whether a text may be written as it is: each byte is printable, no space is first or last, no quote
 -- is first, and it is not `null`
-abbrev pub is_bare : List ℕ → Bool
-is_bare b =
+abbrev pub needs_no_quotes : List ℕ → Bool
+needs_no_quotes b =
     list_all is_printable b && not (begins_with_byte 0x20 b) && not (ends_with_byte 0x20 b)
     && not (begins_with_byte 0x22 b) && not (bytes_eq b (codes "null"))
 
@@ -55,8 +55,8 @@ abbrev pub quoted_text : List ℕ → Line
 quoted_text b = codes "\"" ++ flat_map escape_of b ++ codes "\""
 
 -- a text in its line: as it is if it may be, else between quotes
-abbrev pub text_form : List ℕ → Line
-text_form b = if is_bare b then b else quoted_text b
+abbrev pub bare_or_quoted_text : List ℕ → Line
+bare_or_quoted_text b = if needs_no_quotes b then b else quoted_text b
 
 -- the line of an integer, in decimal; `null` if there is no value
 abbrev pub int_line : Plain → Line
@@ -65,7 +65,7 @@ int_line v = codes "null"
 
 -- the line of a text; `null` if there is no value
 abbrev pub text_line : Plain → Line
-text_line (blob b) = text_form b
+text_line (blob b) = bare_or_quoted_text b
 text_line v = codes "null"
 
 -- the line of a hash, two digits for each byte; `null` if there is no value
@@ -86,14 +86,14 @@ with_dash (l ∷ ls) = (codes "- " ++ l) ∷ indent ls
 
 -- the lines of an entry of an array: Null has the line `null`, so that the positions of entries are
 -- unchanged
-abbrev pub or_null : Plain → List Line → List Line
-or_null null ls = codes "null" ∷ []
-or_null v ls = ls
+abbrev pub entry_lines_or_null_line : Plain → List Line → List Line
+entry_lines_or_null_line null ls = codes "null" ∷ []
+entry_lines_or_null_line v ls = ls
 
 -- the lines of an array: each entry after a dash
 abbrev pub array_lines : (Plain → List Line) → Plains → List Line
 array_lines f none = []
-array_lines f (more v vs) = with_dash (or_null v (f v)) ++ array_lines f vs
+array_lines f (more v vs) = with_dash (entry_lines_or_null_line v (f v)) ++ array_lines f vs
 
 -- the line of a field whose value has one line: the value after the field's name
 abbrev pub named_line : List ℕ → Line → List Line
@@ -105,9 +105,9 @@ abbrev pub named_block : List ℕ → List Line → List Line
 named_block name ls = (name ++ codes ":") ∷ indent ls
 
 -- the lines of a field; none if its value is Null
-abbrev pub unless_absent : Plain → List Line → List Line
-unless_absent null ls = []
-unless_absent v ls = ls
+abbrev pub field_lines_unless_null : Plain → List Line → List Line
+field_lines_unless_null null ls = []
+field_lines_unless_null v ls = ls
 
 unfoldable mutual
   -- the lines of a value that is not Null
@@ -130,7 +130,7 @@ unfoldable mutual
   pub fields_lines : Fields → Plains → List Line
   fields_lines no_fields vs = []
   fields_lines (field name s fs) none = []
-  fields_lines (field name s fs) (more v vs) = unless_absent v (named_lines s name v)
+  fields_lines (field name s fs) (more v vs) = field_lines_unless_null v (named_lines s name v)
       ++ fields_lines fs vs
 
 -- ---- the whole text

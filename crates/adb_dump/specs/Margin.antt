@@ -15,9 +15,9 @@ margin_unless_begun depth true = []
 margin_unless_begun depth false = margin depth
 
 -- the bytes of lines at a depth, of which the first may have begun
-abbrev pub lines_at : ℕ → Bool → List Line → List ℕ
-lines_at depth begun [] = []
-lines_at depth begun (l ∷ ls) = margin_unless_begun depth begun ++ (l ++ (codes "\n" ++ lines_at depth false ls))
+abbrev pub indented_lines_text : ℕ → Bool → List Line → List ℕ
+indented_lines_text depth begun [] = []
+indented_lines_text depth begun (l ∷ ls) = margin_unless_begun depth begun ++ (l ++ (codes "\n" ++ indented_lines_text depth false ls))
 
 -- a depth that all lines are below. Tables are nested a few levels deep (`docs/formats.md`, "Schemas"),
 -- so any such number serves; it keeps the depth of a line within 32 bits

@@ -5,20 +5,20 @@ use Rattle.std.specs.BTreeMap.{BTreeMap, get}
 use Rattle.std.specs.Ordering.{nat_cmp}
 use Rattle.adb_view.specs.Values.{text_in, value_at}
 use Rattle.adb_view.specs.declared.tables.Kind.TheVariants.{Text}
-use Rattle.adb_dump.specs.Dump.{text_form}
+use Rattle.adb_dump.specs.Dump.{bare_or_quoted_text}
 
 -- a call appends bytes to an output: whatever bytes it had before, it has these after them
 abbrev pub Puts : {O : Type 0} → (O → List ℕ → Type 0) → O → O → List ℕ → Type 0
 Puts holds old new bytes = (before : List ℕ) → holds old before → holds new (before ++ bytes)
 
 -- a call appends bytes to an output, whatever payload the texts are of
-abbrev pub PutsForAny : {O : Type 0} → (List ℕ → O → List ℕ → Type 0) → O → O → List ℕ → Type 0
-PutsForAny holds old new bytes = (payload : List ℕ) → Puts (holds payload) old new bytes
+abbrev pub PutsForAnyPayload : {O : Type 0} → (List ℕ → O → List ℕ → Type 0) → O → O → List ℕ → Type 0
+PutsForAnyPayload holds old new bytes = (payload : List ℕ) → Puts (holds payload) old new bytes
 
 -- each length that is remembered for a word is that of the word's text in a line
 abbrev pub AreLineLengths : List ℕ → BTreeMap ℕ ℕ → Type 0
 AreLineLengths payload lens = (word len : ℕ) → get nat_cmp lens word ≡ Some len
-    → len ≡ length (text_form (text_in (value_at payload Text word)))
+    → len ≡ length (bare_or_quoted_text (text_in (value_at payload Text word)))
 
 -- lengths that were right for a payload before a call are right after it, if the payload has this text
 -- for the word

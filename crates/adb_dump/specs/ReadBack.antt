@@ -27,20 +27,20 @@ strip_prefix (p ∷ ps) [] = None
 strip_prefix (p ∷ ps) (c ∷ cs) = if p == c then strip_prefix ps cs else None
 
 -- a block and the lines after it, with one line more in front of the block
-abbrev pub with_line : Line → List Line × List Line → List Line × List Line
-with_line l r = (l ∷ r.0, r.1)
+abbrev pub with_line_before_block : Line → List Line × List Line → List Line × List Line
+with_line_before_block l r = (l ∷ r.0, r.1)
 
 -- a block and the lines after it, with one line more in front. An indented line (`inner` is its text
 -- after the spaces) belongs to the block; another one ends it, and is the first after it
-abbrev pub stop_or_add : Line → List Line → Option Line → List Line × List Line
+abbrev pub end_block_or_add_line : Line → List Line → Option Line → List Line × List Line
     → List Line × List Line
-stop_or_add l ls None r = ([], l ∷ ls)
-stop_or_add l ls (Some inner) r = with_line inner r
+end_block_or_add_line l ls None r = ([], l ∷ ls)
+end_block_or_add_line l ls (Some inner) r = with_line_before_block inner r
 
 -- the indented lines in front, without their two spaces, which are a block; and the lines after them
 abbrev pub split_block : List Line → List Line × List Line
 split_block [] = ([], [])
-split_block (l ∷ ls) = stop_or_add l ls (strip_prefix (codes "  ") l) (split_block ls)
+split_block (l ∷ ls) = end_block_or_add_line l ls (strip_prefix (codes "  ") l) (split_block ls)
 
 -- ---- a value on one line
 
@@ -86,7 +86,7 @@ abbrev pub blob_read : List ℕ → Option Plain
 blob_read [] = None
 blob_read (c ∷ cs) = Some (blob (c ∷ cs))
 
--- the value of a number below 2^64 in decimal digits; *if_form* tests that the line has nothing else
+-- the value of a number below 2^64 in decimal digits; *if_line_prints_value* tests that the line has nothing else
 abbrev pub int_read : Line → Option Plain
 int_read l = if nat_lt (digits_value 10 l) (2 ^ 64) then Some (int (digits_value 10 l)) else None
 
@@ -101,15 +101,15 @@ abbrev pub hash_read : Line → Option Plain
 hash_read l = blob_read (unhex l)
 
 -- the value of a line, if the line is the one form of the value; else the line is bad
-abbrev pub if_form : (Plain → Line) → Line → Option Plain → ResultOrBadLine Plain
-if_form form l None = Err 0
-if_form form l (Some v) = if bytes_eq (form v) l then Ok v else Err 0
+abbrev pub if_line_prints_value : (Plain → Line) → Line → Option Plain → ResultOrBadLine Plain
+if_line_prints_value form l None = Err 0
+if_line_prints_value form l (Some v) = if bytes_eq (form v) l then Ok v else Err 0
 
 -- A value on one line. A second line is bad, and is reported as line 1 (lines count from 0).
-abbrev pub only_line : (Line → ResultOrBadLine Plain) → List Line → ResultOrBadLine Plain
-only_line f [] = Err 0
-only_line f (l ∷ []) = f l
-only_line f (l ∷ m ∷ ls) = and_then (f l) (λ v. Err 1)
+abbrev pub single_line_value : (Line → ResultOrBadLine Plain) → List Line → ResultOrBadLine Plain
+single_line_value f [] = Err 0
+single_line_value f (l ∷ []) = f l
+single_line_value f (l ∷ m ∷ ls) = and_then (f l) (λ v. Err 1)
 
 -- ---- lists
 
@@ -117,13 +117,13 @@ only_line f (l ∷ m ∷ ls) = and_then (f l) (λ v. Err 1)
 -- line of its entry
 abbrev pub entry_read : (List Line → ResultOrBadLine Plain) → Line → List Line → ResultOrBadLine Plain
 entry_read f l ls =
-    if bytes_eq l (codes "null") then only_line (λ x. Ok null) (l ∷ ls) else f (l ∷ ls)
+    if bytes_eq l (codes "null") then single_line_value (λ x. Ok null) (l ∷ ls) else f (l ∷ ls)
 
 -- an entry of an array and the entries after it; a line without a dash begins no entry
-abbrev pub after_dash : (List Line → ResultOrBadLine Plain) → (List Line → ResultOrBadLine Plains)
+abbrev pub entries_after_dash : (List Line → ResultOrBadLine Plain) → (List Line → ResultOrBadLine Plains)
     → List Line × List Line → Option Line → ResultOrBadLine Plains
-after_dash f g r None = Err 0
-after_dash f g r (Some l) =
+entries_after_dash f g r None = Err 0
+entries_after_dash f g r (Some l) =
     and_then (entry_read f l r.0) (λ v. after_lines (1 + length r.0) (more v) (g r.1))
 
 -- the entries of an array by their lines. The number `n` bounds the turns; the number of lines is
@@ -132,7 +132,7 @@ abbrev pub entries_read : (List Line → ResultOrBadLine Plain) → ℕ → List
 entries_read f zero ls = Ok none
 entries_read f (suc n) [] = Ok none
 entries_read f (suc n) (l ∷ ls) =
-    after_dash f (entries_read f n) (split_block ls) (strip_prefix (codes "- ") l)
+    entries_after_dash f (entries_read f n) (split_block ls) (strip_prefix (codes "- ") l)
 
 -- the value of an array; one without an entry has no lines, so it cannot be read
 abbrev pub arr_read : Plains → ResultOrBadLine Plain
@@ -152,11 +152,11 @@ field_on_line f g ls None = Err 0
 field_on_line f g ls (Some l) = and_then (f l) (λ v. after_lines 1 (more v) (g ls))
 
 -- a field whose value is below its name, which is alone on its line, and then the other fields
-abbrev pub field_below : (List Line → ResultOrBadLine Plain) → (List Line → ResultOrBadLine Plains)
+abbrev pub field_with_value_below : (List Line → ResultOrBadLine Plain) → (List Line → ResultOrBadLine Plains)
     → List Line × List Line → Line → ResultOrBadLine Plains
-field_below f g r [] =
+field_with_value_below f g r [] =
     and_then (after_lines 1 (λ v. v) (f r.0)) (λ v. after_lines (1 + length r.0) (more v) (g r.1))
-field_below f g r (c ∷ cs) = Err 0
+field_with_value_below f g r (c ∷ cs) = Err 0
 
 -- the fields from a line on: if the line does not have the name of this field, those after it
 -- (`other`), else this one (`this`, of the text after `name:`)
@@ -168,24 +168,24 @@ if_named other this (Some rest) = this rest
 unfoldable mutual
   -- the value of a shape with exactly these lines
   pub block_read : Shape → List Line → ResultOrBadLine Plain
-  block_read number ls = only_line (λ l. if_form int_line l (int_read l)) ls
-  block_read text ls = only_line (λ l. if_form text_line l (text_read l)) ls
-  block_read hash ls = only_line (λ l. if_form hash_line l (hash_read l)) ls
+  block_read number ls = single_line_value (λ l. if_line_prints_value int_line l (int_read l)) ls
+  block_read text ls = single_line_value (λ l. if_line_prints_value text_line l (text_read l)) ls
+  block_read hash ls = single_line_value (λ l. if_line_prints_value hash_line l (hash_read l)) ls
   block_read (array s) ls = and_then (entries_read (block_read s) (length ls) ls) arr_read
   block_read (object schema fs) ls = and_then (fields_read fs ls) obj_read
 
   -- the value of a field, from after `name:` on (`l`), and then the other fields (`g`)
   pub named_read :
       Shape → (List Line → ResultOrBadLine Plains) → List Line → Line → ResultOrBadLine Plains
-  named_read number g ls l = field_on_line (λ l. if_form int_line l (int_read l)) g ls
+  named_read number g ls l = field_on_line (λ l. if_line_prints_value int_line l (int_read l)) g ls
       (strip_prefix (codes " ") l)
-  named_read text g ls l = field_on_line (λ l. if_form text_line l (text_read l)) g ls
+  named_read text g ls l = field_on_line (λ l. if_line_prints_value text_line l (text_read l)) g ls
       (strip_prefix (codes " ") l)
-  named_read hash g ls l = field_on_line (λ l. if_form hash_line l (hash_read l)) g ls
+  named_read hash g ls l = field_on_line (λ l. if_line_prints_value hash_line l (hash_read l)) g ls
       (strip_prefix (codes " ") l)
-  named_read (array s) g ls l = field_below
+  named_read (array s) g ls l = field_with_value_below
       (λ ls. and_then (entries_read (block_read s) (length ls) ls) arr_read) g (split_block ls) l
-  named_read (object schema fs) g ls l = field_below (λ ls. and_then (fields_read fs ls) obj_read) g
+  named_read (object schema fs) g ls l = field_with_value_below (λ ls. and_then (fields_read fs ls) obj_read) g
       (split_block ls) l
 
   -- the fields of an object in order; a field whose name is not next is Null

@@ -23,5 +23,5 @@ unfoldable mutual
   AreOfBytes (more v vs) = IsOfBytes v × AreOfBytes vs
 
 -- whether a value is a normal one of this table
-abbrev pub IsValueOf : Which → Plain → Type 0
-IsValueOf which v = IsNormal v × HasShape (shape_of (Obj which)) v
+abbrev pub IsNormalValueOfTable : Which → Plain → Type 0
+IsNormalValueOfTable which v = IsNormal v × HasShape (shape_of (Obj which)) v

@@ -6,15 +6,15 @@
 ghost use Rattle.std.specs.Prelude.{◌≡◌, ◌++◌, true, codes, is_some, length, IfOk, OnOk, ◌<◌, ◌≤◌, ◌+◌, false};
 ghost use Rattle.adb_view.specs.ShapedPayload.{adb_of, shaped_value, table_of};
 ghost use Rattle.adb_schema.specs.Soundness.{schema_word};
-ghost use Rattle.adb_dump.specs.Dump.{dump_text, schema_line, block_lines, array_lines, fields_lines, named_lines, or_null, unless_absent};
+ghost use Rattle.adb_dump.specs.Dump.{dump_text, schema_line, block_lines, array_lines, fields_lines, named_lines, entry_lines_or_null_line, field_lines_unless_null};
 ghost use Rattle.adb_view.specs.Adb.{payload_of};
 ghost use Rattle.adb_view.specs.Entries.{array_entries};
 ghost use Rattle.adb_schema.specs.adb_fields.Fields.{are_all_sound, values_at};
 ghost use Rattle.adb_view.specs.Rank.{rank, rank_of_all};
 ghost use Rattle.adb_view.specs.Schema.{field_name_text, shape_of, shapes_of};
 ghost use Rattle.adb_view.specs.Values.{is_sound, value_at};
-ghost use Rattle.adb_dump.specs.Margin.{lines_at, DEPTH_LIMIT};
-ghost use Rattle.adb_dump.specs.Out.{Puts, PutsForAny};
+ghost use Rattle.adb_dump.specs.Margin.{indented_lines_text, DEPTH_LIMIT};
+ghost use Rattle.adb_dump.specs.Out.{Puts, PutsForAnyPayload};
 ghost use Rattle.adb_view.specs.declared.tables.Kind.TheVariants as Kinds;
 ghost use Rattle.adb_dump.specs.Words.{are_null, is_null, fields_sound, fields_at, has_one_line};
 
@@ -116,7 +116,7 @@ fn write_dump<O: BlobOut>(out: &mut O, shaped: &Shaped<'_>) -> Result<(), AllocE
 /// Writes the first line of a text, with the schema of its root.
 fn write_schema<O: Out>(out: &mut O, which: Which) -> Result<(), AllocError>
     requires { is_some (schema_word which) ≡ true }
-    ensures { OnOk result (PutsForAny O.holds out.old out.new
+    ensures { OnOk result (PutsForAnyPayload O.holds out.old out.new
         (schema_line (schema_word which) ++ codes "\n")) }
 {
     match schema_word(which) {
@@ -147,7 +147,7 @@ fn write_block<O: BlobOut>(
     // No value is so deep that its lines exceed the greatest depth.
     requires deep { start.depth + rank kind ≤ DEPTH_LIMIT }
     ensures { OnOk result (Puts (O.holds (payload_of adb.entry)) out.old out.new
-        (lines_at start.depth start.begun
+        (indented_lines_text start.depth start.begun
         (block_lines (shape_of kind) (value_at (payload_of adb.entry) kind word)))) }
 {
     match kind {
@@ -180,7 +180,7 @@ fn write_entries<O: BlobOut>(
     requires sound { are_all_sound (payload_of adb) kind (array_entries words) ≡ true }
     requires deep { start.depth + rank kind < DEPTH_LIMIT }
     ensures { OnOk result (Puts (O.holds (payload_of adb.entry)) out.old out.new
-        (lines_at start.depth start.begun
+        (indented_lines_text start.depth start.begun
         (array_lines (block_lines (shape_of kind))
         (values_at (payload_of adb.entry) kind (array_entries words.entry))))) }
 {
@@ -207,8 +207,8 @@ fn write_entry<O: BlobOut>(
     requires sound { is_sound (payload_of adb) kind word ≡ true }
     requires deep { depth + rank kind ≤ DEPTH_LIMIT }
     ensures { OnOk result (Puts (O.holds (payload_of adb.entry)) out.old out.new
-        (lines_at depth true
-        (or_null (value_at (payload_of adb.entry) kind word)
+        (indented_lines_text depth true
+        (entry_lines_or_null_line (value_at (payload_of adb.entry) kind word)
         (block_lines (shape_of kind) (value_at (payload_of adb.entry) kind word))))) }
 {
     if let Kind::Obj(which) = kind {
@@ -233,8 +233,8 @@ fn write_object_entry<O: BlobOut>(
     requires sound { is_sound (payload_of adb) (Kinds.Obj which) word ≡ true }
     requires deep { depth + rank (Kinds.Obj which) ≤ DEPTH_LIMIT }
     ensures { OnOk result (Puts (O.holds (payload_of adb.entry)) out.old out.new
-        (lines_at depth true
-        (or_null (value_at (payload_of adb.entry) (Kinds.Obj which) word)
+        (indented_lines_text depth true
+        (entry_lines_or_null_line (value_at (payload_of adb.entry) (Kinds.Obj which) word)
         (block_lines (shape_of (Kinds.Obj which))
         (value_at (payload_of adb.entry) (Kinds.Obj which) word))))) }
 {
@@ -262,7 +262,7 @@ pub(crate) fn write_fields<O: BlobOut>(
     ensures null { IfOk result (λ null. null
         ≡ are_null (fields_at (payload_of adb.entry) fields.now (array_entries words.entry))) }
     ensures put { IfOk result (λ _. Puts (O.holds (payload_of adb.entry)) out.old out.new
-        (lines_at start.depth start.begun
+        (indented_lines_text start.depth start.begun
         (fields_lines (shapes_of fields.now)
         (fields_at (payload_of adb.entry) fields.now (array_entries words.entry))))) }
 {
@@ -298,8 +298,8 @@ fn write_field<O: BlobOut>(
     ensures null { IfOk result (λ null. null
         ≡ is_null (value_at (payload_of adb.entry) field.kind word)) }
     ensures put { IfOk result (λ _. Puts (O.holds (payload_of adb.entry)) out.old out.new
-        (lines_at start.depth start.begun
-        (unless_absent (value_at (payload_of adb.entry) field.kind word)
+        (indented_lines_text start.depth start.begun
+        (field_lines_unless_null (value_at (payload_of adb.entry) field.kind word)
         (named_lines (shape_of field.kind) (field_name_text field.name)
         (value_at (payload_of adb.entry) field.kind word))))) }
 {
@@ -327,8 +327,8 @@ fn write_text_field<O: BlobOut>(
     ensures null { IfOk result (λ null. null
         ≡ is_null (value_at (payload_of adb.entry) Kinds.Text word)) }
     ensures put { IfOk result (λ _. Puts (O.holds (payload_of adb.entry)) out.old out.new
-        (lines_at start.depth start.begun
-        (unless_absent (value_at (payload_of adb.entry) Kinds.Text word)
+        (indented_lines_text start.depth start.begun
+        (field_lines_unless_null (value_at (payload_of adb.entry) Kinds.Text word)
         (named_lines (shape_of Kinds.Text) (field_name_text name)
         (value_at (payload_of adb.entry) Kinds.Text word))))) }
 {
@@ -344,7 +344,7 @@ fn write_text_field<O: BlobOut>(
 
 /// Writes the lines of a field whose value is not Null: after its name, or below it.
 #[cycle(block)]
-#[tactic(auto, using(crate::proofs::Turns::field_after, crate::proofs::Turns::field_below))]
+#[tactic(auto, using(crate::proofs::Turns::field_after, crate::proofs::Turns::field_with_value_below))]
 #[inline(always)]
 fn write_named<O: BlobOut>(
     out: &mut O,
@@ -357,7 +357,7 @@ fn write_named<O: BlobOut>(
     requires some { is_null (value_at (payload_of adb) field.kind word) ≡ false }
     requires deep { start.depth + rank field.kind < DEPTH_LIMIT }
     ensures { OnOk result (Puts (O.holds (payload_of adb.entry)) out.old out.new
-        (lines_at start.depth start.begun
+        (indented_lines_text start.depth start.begun
         (named_lines (shape_of field.kind) (field_name_text field.name)
         (value_at (payload_of adb.entry) field.kind word)))) }
 {

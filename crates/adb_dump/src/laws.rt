@@ -9,27 +9,27 @@ ghost use Rattle.adb_view.specs.declared.tables.Which.{Which};
 ghost use Rattle.adb_view.specs.declared.tables.Kind.TheVariants as Kinds;
 ghost use Rattle.adb_dump.specs.Dump.{Line, dump_lines, dump_text, text_of, value_lines};
 ghost use Rattle.adb_dump.specs.ReadBack.{split_lines, value_read};
-ghost use Rattle.adb_dump.specs.Values.{IsOfBytes, IsValueOf};
+ghost use Rattle.adb_dump.specs.Values.{IsOfBytes, IsNormalValueOfTable};
 
 use adb_view::{values_are_normal, values_have_their_shape};
 
 /// Two normal values of one table with the same text are equal.
 pub fn values_of_one_text_are_equal()
     ensures { (which : Which) (v u : Plain)
-        → IsValueOf which v → IsOfBytes v → IsValueOf which u → IsOfBytes u
+        → IsNormalValueOfTable which v → IsOfBytes v → IsNormalValueOfTable which u → IsOfBytes u
         → dump_text which v ≡ dump_text which u → v ≡ u }
 {}
 
 /// The lines of each normal value of a table are read back as the value.
 pub fn lines_of_values_are_read_back()
-    ensures { (which : Which) (v : Plain) → IsValueOf which v → IsOfBytes v
+    ensures { (which : Which) (v : Plain) → IsNormalValueOfTable which v → IsOfBytes v
         → value_read which (value_lines which v) ≡ Ok v }
 {}
 
 /// Only the lines of normal values of the table are read.
 pub fn only_lines_of_values_are_read()
     ensures { (which : Which) (ls : List Line) (v : Plain) → value_read which ls ≡ Ok v
-        → (value_lines which v ≡ ls) × IsValueOf which v }
+        → (value_lines which v ≡ ls) × IsNormalValueOfTable which v }
 {}
 
 /// The text of a normal value is split into exactly its lines, and the lines that a text is split
@@ -47,7 +47,7 @@ pub fn texts_are_split_into_their_lines()
 pub fn values_found_in_bytes_are_of_their_table()
     ensures { (payload : List ℕ) → All (λ b. b < 256) payload → (which : Which) (word : ℕ)
         → IfSome (plain_of payload (shape_of (Kinds.Obj which)) word)
-        (λ v. IsValueOf which v × IsOfBytes v) }
+        (λ v. IsNormalValueOfTable which v × IsOfBytes v) }
 {
     values_are_normal();
     values_have_their_shape();

@@ -37,4 +37,4 @@ pub use laws::{
     lines_of_values_are_read_back, only_lines_of_values_are_read, texts_are_split_into_their_lines,
     values_found_in_bytes_are_of_their_table, values_of_one_text_are_equal,
 };
-pub use line::is_bare;
+pub use line::needs_no_quotes;

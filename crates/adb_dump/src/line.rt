@@ -6,9 +6,9 @@ ghost use Rattle.std.specs.Prelude.{◌≡◌, ◌+◌, ◌≤◌, [], ◌∷◌
 ghost use Rattle.std.specs.Fmt.{decimal};
 ghost use Rattle.std.specs.List.{flat_map, list_all};
 ghost use Rattle.hex.specs.Hex.{encode_lower};
-ghost use Rattle.adb_dump.specs.Dump.{begins_with_byte, ends_with_byte, escape_of, is_bare, is_printable, quoted_text, text_form};
-ghost use Rattle.adb_dump.specs.Margin.{lines_at, margin_unless_begun, margin};
-ghost use Rattle.adb_dump.specs.Out.{Puts, PutsForAny};
+ghost use Rattle.adb_dump.specs.Dump.{begins_with_byte, ends_with_byte, escape_of, needs_no_quotes, is_printable, quoted_text, bare_or_quoted_text};
+ghost use Rattle.adb_dump.specs.Margin.{indented_lines_text, margin_unless_begun, margin};
+ghost use Rattle.adb_dump.specs.Out.{Puts, PutsForAnyPayload};
 ghost use Rattle.adb_view.specs.Values.{text_in, value_at};
 ghost use Rattle.adb_view.specs.declared.tables.Kind.TheVariants as Kinds;
 ghost use Rattle.adb_view.specs.Adb.{payload_of};
@@ -31,8 +31,8 @@ pub(crate) fn write_number_line<O: Out>(
     start: LineStart,
     number: u64,
 ) -> Result<(), AllocError>
-    ensures { OnOk result (PutsForAny O.holds out.old out.new
-        (lines_at start.depth start.begun (decimal number ∷ []))) }
+    ensures { OnOk result (PutsForAnyPayload O.holds out.old out.new
+        (indented_lines_text start.depth start.begun (decimal number ∷ []))) }
 {
     write_lead(out, start)?;
     write_number(out, number)?;
@@ -51,7 +51,7 @@ pub(crate) fn write_text_line<O: BlobOut>(
 ) -> Result<(), AllocError>
     requires { text.now ≡ text_in (value_at (payload_of adb) Kinds.Text word) }
     ensures { OnOk result (Puts (O.holds (payload_of adb.entry)) out.old out.new
-        (lines_at start.depth start.begun (text_form text.now ∷ []))) }
+        (indented_lines_text start.depth start.begun (bare_or_quoted_text text.now ∷ []))) }
 {
     write_lead(out, start)?;
     out.put_text(adb, word, text)?;
@@ -65,8 +65,8 @@ pub(crate) fn write_hash_line<O: BlobOut>(
     start: LineStart,
     hash: &[u8],
 ) -> Result<(), AllocError>
-    ensures { OnOk result (PutsForAny O.holds out.old out.new
-        (lines_at start.depth start.begun (encode_lower hash.now ∷ []))) }
+    ensures { OnOk result (PutsForAnyPayload O.holds out.old out.new
+        (indented_lines_text start.depth start.begun (encode_lower hash.now ∷ []))) }
 {
     write_lead(out, start)?;
     out.put_hash(hash)?;
@@ -76,7 +76,7 @@ pub(crate) fn write_hash_line<O: BlobOut>(
 
 /// Puts an integer in decimal digits.
 fn write_number<O: Out>(out: &mut O, number: u64) -> Result<(), AllocError>
-    ensures { OnOk result (PutsForAny O.holds out.old out.new (decimal number)) }
+    ensures { OnOk result (PutsForAnyPayload O.holds out.old out.new (decimal number)) }
 {
     let mut digits = Buffer::new();
     out.put(digits.format(number).as_bytes())
@@ -84,7 +84,7 @@ fn write_number<O: Out>(out: &mut O, number: u64) -> Result<(), AllocError>
 
 /// Puts bytes, each in two lower-case hexadecimal digits.
 pub(crate) fn write_hex<O: Out>(out: &mut O, bytes: &[u8]) -> Result<(), AllocError>
-    ensures { OnOk result (PutsForAny O.holds out.old out.new (encode_lower bytes.now)) }
+    ensures { OnOk result (PutsForAnyPayload O.holds out.old out.new (encode_lower bytes.now)) }
 {
     // Most hashes have this length, and are written at once.
     if bytes.len() == HASH_LEN {
@@ -119,9 +119,9 @@ fn hex_digits(byte: u8) -> [u8; 2]
 /// Writes a text as it is if it is bare, else between quotes.
 #[inline(always)]
 pub(crate) fn write_text<O: Out>(out: &mut O, text: &[u8]) -> Result<(), AllocError>
-    ensures { OnOk result (PutsForAny O.holds out.old out.new (text_form text.now)) }
+    ensures { OnOk result (PutsForAnyPayload O.holds out.old out.new (bare_or_quoted_text text.now)) }
 {
-    if is_bare(text) {
+    if needs_no_quotes(text) {
         out.put(text)
     } else {
         write_quoted(out, text)
@@ -132,7 +132,7 @@ pub(crate) fn write_text<O: Out>(out: &mut O, text: &[u8]) -> Result<(), AllocEr
 #[cold]
 #[inline(never)]
 fn write_quoted<O: Out>(out: &mut O, text: &[u8]) -> Result<(), AllocError>
-    ensures { OnOk result (PutsForAny O.holds out.old out.new (quoted_text text.now)) }
+    ensures { OnOk result (PutsForAnyPayload O.holds out.old out.new (quoted_text text.now)) }
 {
     out.put_byte(b'"')?;
     for byte in text {
@@ -144,7 +144,7 @@ fn write_quoted<O: Out>(out: &mut O, text: &[u8]) -> Result<(), AllocError>
 
 /// Writes a byte of a text between quotes: as it is, or its escape.
 fn write_escaped<O: Out>(out: &mut O, byte: u8) -> Result<(), AllocError>
-    ensures { OnOk result (PutsForAny O.holds out.old out.new (escape_of byte)) }
+    ensures { OnOk result (PutsForAnyPayload O.holds out.old out.new (escape_of byte)) }
 {
     match byte {
         b'\n' => out.put(b"\\n"),
@@ -161,8 +161,8 @@ fn write_escaped<O: Out>(out: &mut O, byte: u8) -> Result<(), AllocError>
 
 /// Whether a text may be written as it is: every byte is printable, no space is first or last, no
 /// quote is first, and the text is not `null`.
-pub fn is_bare(text: &[u8]) -> bool
-    ensures { result ≡ is_bare text.now }
+pub fn needs_no_quotes(text: &[u8]) -> bool
+    ensures { result ≡ needs_no_quotes text.now }
 {
     if !is_printable(text) {
         return false;
@@ -298,7 +298,7 @@ fn write_front<O: Out>(out: &mut O, start: LineStart, front: &[u8]) -> Result<()
     // Eight levels (`FRONT_LEVELS`) are sixteen spaces (`FRONT_LEN`).
     requires spaces { front.now ≡ margin 8 ++ drop 16 front.now }
     requires len { 16 ≤ length front.now }
-    ensures { OnOk result (PutsForAny O.holds out.old out.new
+    ensures { OnOk result (PutsForAnyPayload O.holds out.old out.new
         (margin_unless_begun start.depth start.begun ++ drop 16 front.now)) }
 {
     let levels = start.levels();
@@ -315,7 +315,7 @@ fn write_front<O: Out>(out: &mut O, start: LineStart, front: &[u8]) -> Result<()
 #[cold]
 #[inline(never)]
 fn write_levels<O: Out>(out: &mut O, levels: u32) -> Result<(), AllocError>
-    ensures { OnOk result (PutsForAny O.holds out.old out.new (margin levels)) }
+    ensures { OnOk result (PutsForAnyPayload O.holds out.old out.new (margin levels)) }
 {
     for _level in 0..levels {
         out.put(b"  ")?;
@@ -326,7 +326,7 @@ fn write_levels<O: Out>(out: &mut O, levels: u32) -> Result<(), AllocError>
 /// Writes the missing spaces before an entry of an array, and its dash and a space.
 #[inline(always)]
 pub(crate) fn write_dash<O: Out>(out: &mut O, depth: u32, begun: bool) -> Result<(), AllocError>
-    ensures { OnOk result (PutsForAny O.holds out.old out.new
+    ensures { OnOk result (PutsForAnyPayload O.holds out.old out.new
         (margin_unless_begun depth begun ++ codes "- ")) }
 {
     write_front(out, LineStart { depth, begun }, dash_front())
@@ -340,7 +340,7 @@ pub(crate) fn write_name<O: Out>(
     start: LineStart,
     name: FieldName,
 ) -> Result<(), AllocError>
-    ensures { OnOk result (PutsForAny O.holds out.old out.new
+    ensures { OnOk result (PutsForAnyPayload O.holds out.old out.new
         (margin_unless_begun start.depth start.begun ++ field_name_text name ++ codes ": ")) }
 {
     write_front(out, start, name_front(name))
@@ -353,7 +353,7 @@ pub(crate) fn write_name_line<O: Out>(
     start: LineStart,
     name: FieldName,
 ) -> Result<(), AllocError>
-    ensures { OnOk result (PutsForAny O.holds out.old out.new
+    ensures { OnOk result (PutsForAnyPayload O.holds out.old out.new
         (margin_unless_begun start.depth start.begun ++ field_name_text name ++ codes ":\n")) }
 {
     write_lead(out, start)?;
@@ -364,7 +364,7 @@ pub(crate) fn write_name_line<O: Out>(
 
 /// Writes the missing front of the next line: its spaces, or nothing if the line has begun.
 fn write_lead<O: Out>(out: &mut O, start: LineStart) -> Result<(), AllocError>
-    ensures { OnOk result (PutsForAny O.holds out.old out.new
+    ensures { OnOk result (PutsForAnyPayload O.holds out.old out.new
         (margin_unless_begun start.depth start.begun)) }
 {
     if start.begun {

@@ -8,8 +8,8 @@ ghost use Rattle.std.specs.BTreeMap.{get};
 ghost use Rattle.std.specs.Ordering.{nat_cmp};
 ghost use Rattle.hex.specs.Hex.{encode_lower};
 ghost use Rattle.adb_view.specs.Adb.{payload_of};
-ghost use Rattle.adb_dump.specs.Dump.{text_form};
-ghost use Rattle.adb_dump.specs.Out.{AreLineLengths, Puts, PutsForAny};
+ghost use Rattle.adb_dump.specs.Dump.{bare_or_quoted_text};
+ghost use Rattle.adb_dump.specs.Out.{AreLineLengths, Puts, PutsForAnyPayload};
 ghost use Rattle.adb_view.specs.Values.{text_in, value_at};
 ghost use Rattle.adb_view.specs.declared.tables.Kind.TheVariants as Kinds;
 
@@ -32,11 +32,11 @@ pub(crate) trait Out {
 
     /// Appends bytes.
     fn put(&mut self, bytes: &[u8]) -> Result<(), AllocError>
-        ensures { OnOk result (PutsForAny holds self.old self.new bytes.now) };
+        ensures { OnOk result (PutsForAnyPayload holds self.old self.new bytes.now) };
 
     /// Appends a byte.
     fn put_byte(&mut self, byte: u8) -> Result<(), AllocError>
-        ensures { OnOk result (PutsForAny holds self.old self.new (byte ∷ [])) };
+        ensures { OnOk result (PutsForAnyPayload holds self.old self.new (byte ∷ [])) };
 }
 
 /// An output for the blobs of a payload, in their form in lines.
@@ -45,11 +45,11 @@ pub(crate) trait BlobOut: Out {
     fn put_text(&mut self, adb: Adb<'_>, word: Val, text: &[u8]) -> Result<(), AllocError>
         requires { text.now ≡ text_in (value_at (payload_of adb) Kinds.Text word) }
         ensures { OnOk result (Puts (Self.holds (payload_of adb.entry)) self.old self.new
-            (text_form text.now)) };
+            (bare_or_quoted_text text.now)) };
 
     /// Puts a hash as it is in a line, in hexadecimal digits.
     fn put_hash(&mut self, hash: &[u8]) -> Result<(), AllocError>
-        ensures { OnOk result (PutsForAny Self.holds self.old self.new (encode_lower hash.now)) };
+        ensures { OnOk result (PutsForAnyPayload Self.holds self.old self.new (encode_lower hash.now)) };
 }
 
 /// The bytes themselves, in memory that grows on demand, or was allocated for all of them.
@@ -232,7 +232,7 @@ impl Count {
     fn line_len(&mut self, word: Val, text: &[u8]) -> Result<usize, AllocError>
         ensures len { IfOk result (λ len. (payload : List ℕ)
             → text.now ≡ text_in (value_at payload Kinds.Text word)
-            → AreLineLengths payload self.old.lens → len ≡ length (text_form text.now)) }
+            → AreLineLengths payload self.old.lens → len ≡ length (bare_or_quoted_text text.now)) }
         // The other remembered lengths are right too, if they were.
         ensures kept { KeepLineLengths self.old.lens self.new.lens word text.now }
         ensures put { self.new.len ≡ self.old.len }
@@ -255,7 +255,7 @@ impl Count {
 
 /// How long a text is in a line, counted byte by byte.
 fn line_len(text: &[u8]) -> Result<usize, AllocError>
-    ensures { IfOk result (λ len. len ≡ length (text_form text.now)) }
+    ensures { IfOk result (λ len. len ≡ length (bare_or_quoted_text text.now)) }
 {
     let mut len = Length { bytes: 0 };
     write_text(&mut len, text)?;

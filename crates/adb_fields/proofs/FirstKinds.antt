@@ -5,73 +5,73 @@ use Rattle.adb_view.specs.Plain.{Plain, null}
 use Rattle.adb_view.specs.Values.{value_at}
 use Rattle.adb_fields.specs.Fields.{are_all_sound}
 use Rattle.adb_fields.specs.declared.pairs.Pair.{Pair}
-use Rattle.adb_fields.specs.Pairs.{NameWithPosition, first_reported, reported_of_two}
-use Rattle.adb_fields.specs.FirstPair.{IsFirstOf}
-use Rattle.adb_fields.specs.FirstPair.{IsPair}
+use Rattle.adb_fields.specs.Pairs.{NameWithPosition, least_pair, lesser_pair}
+use Rattle.adb_fields.specs.FirstPair.{IsLeastPairIfAny}
+use Rattle.adb_fields.specs.FirstPair.{IsPairOfEqualNames}
 use Rattle.adb_fields.specs.FirstPair.{IsIn}
 use Rattle.adb_view.specs.declared.tables.Which.TheVariants as Tables
 use Rattle.adb_view.specs.FieldIndexes.{DIR_NAME, FILE_NAME}
-use Rattle.adb_fields.specs.Repeated.{field_number, numbered_from, first_repeat, twice_in_one, repeated_at, name_of, folders_in, files_in, inside_fault}
+use Rattle.adb_fields.specs.Repeated.{field_number, numbered_from, first_repeat, repeated_pair_in_one_list, repeated_cause, name_of, folders_in, files_in, repeated_within_package_fault}
 use Rattle.adb_fields.specs.FirstPair.{IsPairInOne}
 use Rattle.std.specs.Option.{option_or}
 use Rattle.adb_fields.specs.NamedTexts.{plains_at}
 use Rattle.adb_view.specs.declared.tables.Kind.{Kind}
 use Rattle.adb_fields.proofs.NameLists.{plain_count, plain_is}
-use Rattle.adb_fields.proofs.FirstPair.{Either, alike, reported_of_two-first, first_pair-first, reported_of_two-assoc, reported_of_two-none}
+use Rattle.adb_fields.proofs.FirstPair.{Either, alike, lesser_pair-first, least_pair_of_equal_names-first, lesser_pair-assoc, lesser_pair-none}
 
-more_firsts : (g : Plain → Option Pair) (values : List Plain) (i : ℕ) → i < length values → first_reported (map g (drop i values)) ≡ reported_of_two (g (get_or values i null)) (first_reported (map g (drop (i + 1) values)))
+more_firsts : (g : Plain → Option Pair) (values : List Plain) (i : ℕ) → i < length values → least_pair (map g (drop i values)) ≡ lesser_pair (g (get_or values i null)) (least_pair (map g (drop (i + 1) values)))
 more_firsts g [] i h = absurd (omega arith)
 more_firsts g (v ∷ vs) zero h = refl
 more_firsts g (v ∷ vs) (suc i) h =
     let e : suc i + 1 ≡ suc (i + 1) = omega arith in
-    let P : ℕ → Type 0 = λ n. first_reported (map g (drop i vs)) ≡ reported_of_two (g (get_or vs i null)) (first_reported (map g (drop n (v ∷ vs)))) in
+    let P : ℕ → Type 0 = λ n. least_pair (map g (drop i vs)) ≡ lesser_pair (g (get_or vs i null)) (least_pair (map g (drop n (v ∷ vs)))) in
     subst P (sym e) (more_firsts g vs i (omega arith))
 
-no_firsts : (g : Plain → Option Pair) (values : List Plain) (i : ℕ) → length values ≤ i → first_reported (map g (drop i values)) ≡ None
+no_firsts : (g : Plain → Option Pair) (values : List Plain) (i : ℕ) → length values ≤ i → least_pair (map g (drop i values)) ≡ None
 no_firsts g [] zero h = refl
 no_firsts g [] (suc i) h = refl
 no_firsts g (v ∷ vs) zero h = absurd (omega arith)
 no_firsts g (v ∷ vs) (suc i) h = no_firsts g vs i (omega arith)
 
 -- a step of a loop that keeps the first pair
-pub one_first : (p : List ℕ) (kind : Kind) (g : Plain → Option Pair) (ws : List ℕ) (i w : ℕ) (first pair next all : Option Pair) → are_all_sound p kind ws ≡ true → i < length ws → w ≡ get_or ws i 0 → pair ≡ g (value_at p kind w) → next ≡ reported_of_two first pair → reported_of_two first (first_reported (map g (drop i (plains_at p kind ws)))) ≡ all → reported_of_two next (first_reported (map g (drop (i + 1) (plains_at p kind ws)))) ≡ all
+pub one_first : (p : List ℕ) (kind : Kind) (g : Plain → Option Pair) (ws : List ℕ) (i w : ℕ) (first pair next all : Option Pair) → are_all_sound p kind ws ≡ true → i < length ws → w ≡ get_or ws i 0 → pair ≡ g (value_at p kind w) → next ≡ lesser_pair first pair → lesser_pair first (least_pair (map g (drop i (plains_at p kind ws)))) ≡ all → lesser_pair next (least_pair (map g (drop (i + 1) (plains_at p kind ws)))) ≡ all
 one_first p kind g ws i w first pair next all sound lt word e n so =
     let c : length (plains_at p kind ws) ≡ length ws = plain_count p kind ws sound in
     let here : value_at p kind w ≡ get_or (plains_at p kind ws) i null = ap (value_at p kind) word ∙ plain_is p kind ws i sound lt in
-    let left : Option Pair = first_reported (map g (drop (i + 1) (plains_at p kind ws))) in
-    ap (λ o. reported_of_two o left) (n ∙ ap (reported_of_two first) (e ∙ ap g here))
-    ∙ (reported_of_two-assoc first (g (get_or (plains_at p kind ws) i null)) left
-    ∙ (ap (reported_of_two first) (sym (more_firsts g (plains_at p kind ws) i (omega arith))) ∙ so))
+    let left : Option Pair = least_pair (map g (drop (i + 1) (plains_at p kind ws))) in
+    ap (λ o. lesser_pair o left) (n ∙ ap (lesser_pair first) (e ∙ ap g here))
+    ∙ (lesser_pair-assoc first (g (get_or (plains_at p kind ws) i null)) left
+    ∙ (ap (lesser_pair first) (sym (more_firsts g (plains_at p kind ws) i (omega arith))) ∙ so))
 
-pub no_first : (p : List ℕ) (kind : Kind) (g : Plain → Option Pair) (ws : List ℕ) (i : ℕ) (first all : Option Pair) → are_all_sound p kind ws ≡ true → length ws ≤ i → reported_of_two first (first_reported (map g (drop i (plains_at p kind ws)))) ≡ all → first ≡ all
+pub no_first : (p : List ℕ) (kind : Kind) (g : Plain → Option Pair) (ws : List ℕ) (i : ℕ) (first all : Option Pair) → are_all_sound p kind ws ≡ true → length ws ≤ i → lesser_pair first (least_pair (map g (drop i (plains_at p kind ws)))) ≡ all → first ≡ all
 no_first p kind g ws i first all sound past so =
     let c : length (plains_at p kind ws) ≡ length ws = plain_count p kind ws sound in
-    sym (reported_of_two-none first) ∙ (ap (reported_of_two first) (sym (no_firsts g (plains_at p kind ws) i (omega arith))) ∙ so)
+    sym (lesser_pair-none first) ∙ (ap (lesser_pair first) (sym (no_firsts g (plains_at p kind ws) i (omega arith))) ∙ so)
 
 -- ---- one list for each value, and several
 
-pub one_each : (f : Plain → List (List ℕ)) (values : List Plain) → first_reported (map (λ v. first_repeat (f v)) values) ≡ twice_in_one (map f values)
+pub one_each : (f : Plain → List (List ℕ)) (values : List Plain) → least_pair (map (λ v. first_repeat (f v)) values) ≡ repeated_pair_in_one_list (map f values)
 one_each f [] = refl
-one_each f (v ∷ vs) = ap (reported_of_two (first_repeat (f v))) (one_each f vs)
+one_each f (v ∷ vs) = ap (lesser_pair (first_repeat (f v))) (one_each f vs)
 
-first_reported-append : (xs ys : List (Option Pair)) → first_reported (xs ++ ys) ≡ reported_of_two (first_reported xs) (first_reported ys)
-first_reported-append [] ys = refl
-first_reported-append (x ∷ xs) ys = ap (reported_of_two x) (first_reported-append xs ys) ∙ sym (reported_of_two-assoc x (first_reported xs) (first_reported ys))
+least_pair-append : (xs ys : List (Option Pair)) → least_pair (xs ++ ys) ≡ lesser_pair (least_pair xs) (least_pair ys)
+least_pair-append [] ys = refl
+least_pair-append (x ∷ xs) ys = ap (lesser_pair x) (least_pair-append xs ys) ∙ sym (lesser_pair-assoc x (least_pair xs) (least_pair ys))
 
-twice_in_one-append : (xs ys : List (List (List ℕ))) → twice_in_one (xs ++ ys) ≡ reported_of_two (twice_in_one xs) (twice_in_one ys)
-twice_in_one-append [] ys = refl
-twice_in_one-append (x ∷ xs) ys = ap (reported_of_two (first_repeat x)) (twice_in_one-append xs ys) ∙ sym (reported_of_two-assoc (first_repeat x) (twice_in_one xs) (twice_in_one ys))
+repeated_pair_in_one_list-append : (xs ys : List (List (List ℕ))) → repeated_pair_in_one_list (xs ++ ys) ≡ lesser_pair (repeated_pair_in_one_list xs) (repeated_pair_in_one_list ys)
+repeated_pair_in_one_list-append [] ys = refl
+repeated_pair_in_one_list-append (x ∷ xs) ys = ap (lesser_pair (first_repeat x)) (repeated_pair_in_one_list-append xs ys) ∙ sym (lesser_pair-assoc (first_repeat x) (repeated_pair_in_one_list xs) (repeated_pair_in_one_list ys))
 
-pub several_each : (f : Plain → List (List (List ℕ))) (values : List Plain) → first_reported (map (λ v. twice_in_one (f v)) values) ≡ twice_in_one (flat_map f values)
+pub several_each : (f : Plain → List (List (List ℕ))) (values : List Plain) → least_pair (map (λ v. repeated_pair_in_one_list (f v)) values) ≡ repeated_pair_in_one_list (flat_map f values)
 several_each f [] = refl
-several_each f (v ∷ vs) = ap (reported_of_two (twice_in_one (f v))) (several_each f vs) ∙ sym (twice_in_one-append (f v) (flat_map f vs))
+several_each f (v ∷ vs) = ap (lesser_pair (repeated_pair_in_one_list (f v))) (several_each f vs) ∙ sym (repeated_pair_in_one_list-append (f v) (flat_map f vs))
 
 -- of one list alone
-pub alone : (names : List (List ℕ)) → first_repeat names ≡ twice_in_one (names ∷ [])
-alone names = sym (reported_of_two-none (first_repeat names))
+pub alone : (names : List (List ℕ)) → first_repeat names ≡ repeated_pair_in_one_list (names ∷ [])
+alone names = sym (lesser_pair-none (first_repeat names))
 
-pub alone_several : (lists : List (List (List ℕ))) → twice_in_one lists ≡ twice_in_one (lists ++ [])
-alone_several lists = ap twice_in_one (sym (append-nil lists))
+pub alone_several : (lists : List (List (List ℕ))) → repeated_pair_in_one_list lists ≡ repeated_pair_in_one_list (lists ++ [])
+alone_several lists = ap repeated_pair_in_one_list (sym (append-nil lists))
 
 -- ---- names after names
 
@@ -88,21 +88,21 @@ texts_after a b one two m e l h =
 
 -- ---- kind after kind
 
-pub one_package : (pkg : Plain) → option_or (repeated_at (field_number Tables.Dir DIR_NAME) (first_repeat (map name_of (folders_in pkg)))) (repeated_at (field_number Tables.File FILE_NAME) (twice_in_one (map (λ folder. map name_of (files_in folder)) (folders_in pkg)))) ≡ inside_fault (pkg ∷ [])
-one_package pkg = λ i. option_or (repeated_at (field_number Tables.Dir DIR_NAME) (alone (map name_of (folders_in pkg)) i)) (repeated_at (field_number Tables.File FILE_NAME) (alone_several (map (λ folder. map name_of (files_in folder)) (folders_in pkg)) i))
+pub one_package : (pkg : Plain) → option_or (repeated_cause (field_number Tables.Dir DIR_NAME) (first_repeat (map name_of (folders_in pkg)))) (repeated_cause (field_number Tables.File FILE_NAME) (repeated_pair_in_one_list (map (λ folder. map name_of (files_in folder)) (folders_in pkg)))) ≡ repeated_within_package_fault (pkg ∷ [])
+one_package pkg = λ i. option_or (repeated_cause (field_number Tables.Dir DIR_NAME) (alone (map name_of (folders_in pkg)) i)) (repeated_cause (field_number Tables.File FILE_NAME) (alone_several (map (λ folder. map name_of (files_in folder)) (folders_in pkg)) i))
 
 -- ---- what is reported of several lists is the first pair of all
 
-from-here : (names : List (List ℕ)) (others : List (List (List ℕ))) (p : Pair) → Either (IsPair (numbered_from 1 names)) (IsPairInOne others) p → IsPairInOne (names ∷ others) p
+from-here : (names : List (List ℕ)) (others : List (List (List ℕ))) (p : Pair) → Either (IsPairOfEqualNames (numbered_from 1 names)) (IsPairInOne others) p → IsPairInOne (names ∷ others) p
 from-here names others p (inl k) = record { names = names; names_in = inl refl; is_pair = k }
 from-here names others p (inr k) = record { names = k.names; names_in = inr k.names_in; is_pair = k.is_pair }
 
-here-by : (names : List (List ℕ)) (others : List (List (List ℕ))) (p : Pair) (found : List (List ℕ)) → IsIn found (names ∷ others) → IsPair (numbered_from 1 found) p → Either (IsPair (numbered_from 1 names)) (IsPairInOne others) p
-here-by names others p found (inl e) k = let P : List (List ℕ) → Type 0 = λ l. IsPair (numbered_from 1 l) p in inl (subst P e k)
+here-by : (names : List (List ℕ)) (others : List (List (List ℕ))) (p : Pair) (found : List (List ℕ)) → IsIn found (names ∷ others) → IsPairOfEqualNames (numbered_from 1 found) p → Either (IsPairOfEqualNames (numbered_from 1 names)) (IsPairInOne others) p
+here-by names others p found (inl e) k = let P : List (List ℕ) → Type 0 = λ l. IsPairOfEqualNames (numbered_from 1 l) p in inl (subst P e k)
 here-by names others p found (inr h) k = inr (record { names = found; names_in = h; is_pair = k })
 
-pub twice_in_one-first : (lists : List (List (List ℕ))) → IsFirstOf (IsPairInOne lists) (twice_in_one lists)
-twice_in_one-first [] = λ p k. k.names_in
-twice_in_one-first (names ∷ others) =
-    alike (Either (IsPair (numbered_from 1 names)) (IsPairInOne others)) (IsPairInOne (names ∷ others)) (twice_in_one (names ∷ others)) (from-here names others) (λ p k. here-by names others p k.names k.names_in k.is_pair)
-    (reported_of_two-first (IsPair (numbered_from 1 names)) (IsPairInOne others) (first_repeat names) (twice_in_one others) (first_pair-first (numbered_from 1 names)) (twice_in_one-first others))
+pub repeated_pair_in_one_list-first : (lists : List (List (List ℕ))) → IsLeastPairIfAny (IsPairInOne lists) (repeated_pair_in_one_list lists)
+repeated_pair_in_one_list-first [] = λ p k. k.names_in
+repeated_pair_in_one_list-first (names ∷ others) =
+    alike (Either (IsPairOfEqualNames (numbered_from 1 names)) (IsPairInOne others)) (IsPairInOne (names ∷ others)) (repeated_pair_in_one_list (names ∷ others)) (from-here names others) (λ p k. here-by names others p k.names k.names_in k.is_pair)
+    (lesser_pair-first (IsPairOfEqualNames (numbered_from 1 names)) (IsPairInOne others) (first_repeat names) (repeated_pair_in_one_list others) (least_pair_of_equal_names-first (numbered_from 1 names)) (repeated_pair_in_one_list-first others))

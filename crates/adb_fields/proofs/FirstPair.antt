@@ -4,10 +4,10 @@ use Rattle.std.specs.Prelude.{bytes_eq, ◌&&◌, nat_lt}
 use Rattle.std.specs.List.{flat_map}
 use Rattle.std.specs.List.Sorted.{IsPermutation, IsSortedBy}
 use Rattle.adb_fields.specs.declared.pairs.Pair.{Pair}
-use Rattle.adb_fields.specs.Pairs.{NameWithPosition, is_reported_before, reported_of_two, first_reported, pair_of, first_pair}
-use Rattle.adb_fields.specs.FirstPair.{IsFirstOf}
-use Rattle.adb_fields.specs.FirstPair.{IsFirst}
-use Rattle.adb_fields.specs.FirstPair.{IsPair}
+use Rattle.adb_fields.specs.Pairs.{NameWithPosition, is_lesser_pair, lesser_pair, least_pair, pair_if_same_name, least_pair_of_equal_names}
+use Rattle.adb_fields.specs.FirstPair.{IsLeastPairIfAny}
+use Rattle.adb_fields.specs.FirstPair.{IsLeastPair}
+use Rattle.adb_fields.specs.FirstPair.{IsPairOfEqualNames}
 use Rattle.adb_fields.specs.FirstPair.{IsIn}
 use Rattle.adb_fields.proofs.Members.{in-map, from-map, in-flat_map, from-flat_map, in-permuted}
 use borrow.Author.Tests.{ltb-true, ltb-false, eqb-true, eqb-false, lt-ltb}
@@ -19,7 +19,7 @@ use Rattle.std.specs.declared.cmp.Ordering.{Ordering}
 use Rattle.std.specs.declared.cmp.Ordering.TheVariants.{Less, Equal, Greater}
 use Rattle.std.proofs.lemmas.Cmp.{upto, then_total, on_total, nat_list_cmp_total, nat_cmp_total, tied_itself}
 use Rattle.std.proofs.lemmas.Map.Keys.{le_from_not_gt}
-use Rattle.adb_fields.specs.NamedTexts.{named_cmp, neighbours_from, neighbours}
+use Rattle.adb_fields.specs.NamedTexts.{name_with_position_cmp, neighbours_from, neighbours}
 
 -- ---- two sets with the same first pair
 
@@ -30,7 +30,7 @@ pub record NotAfter (p q : Pair) : Type 0 where
 pub same-pair : (p q : Pair) → p.first ≡ q.first → p.second ≡ q.second → p ≡ q
 same-pair p q f s = λ i. record { first = f i; second = s i }
 
-pub unique : (P : Pair → Type 0) (a b : Option Pair) → IsFirstOf P a → IsFirstOf P b → a ≡ b
+pub unique : (P : Pair → Type 0) (a b : Option Pair) → IsLeastPairIfAny P a → IsLeastPairIfAny P b → a ≡ b
 unique P None None h g = refl
 unique P None (Some q) h g = absurd (h q g.is_one)
 unique P (Some p) None h g = absurd (g p h.is_one)
@@ -42,7 +42,7 @@ unique P (Some p) (Some q) h g =
     let o : q.first ≤ p.first = g.first p h.is_one e in
     ap Some (same-pair p q (omega arith) e)
 
-pub covered : (P Q : Pair → Type 0) (a : Option Pair) → ((p : Pair) → P p → Q p) → ((q : Pair) → Q q → (p : Pair) × P p × NotAfter p q) → IsFirstOf P a → IsFirstOf Q a
+pub covered : (P Q : Pair → Type 0) (a : Option Pair) → ((p : Pair) → P p → Q p) → ((q : Pair) → Q q → (p : Pair) × P p × NotAfter p q) → IsLeastPairIfAny P a → IsLeastPairIfAny Q a
 covered P Q None f g h = λ q k. let r = g q k in h r.0 r.1
 covered P Q (Some p) f g h = record {
   is_one = f p h.is_one;
@@ -58,19 +58,19 @@ covered P Q (Some p) f g h = record {
       omega arith;
 }
 
-pub alike : (P Q : Pair → Type 0) (a : Option Pair) → ((p : Pair) → P p → Q p) → ((p : Pair) → Q p → P p) → IsFirstOf P a → IsFirstOf Q a
+pub alike : (P Q : Pair → Type 0) (a : Option Pair) → ((p : Pair) → P p → Q p) → ((p : Pair) → Q p → P p) → IsLeastPairIfAny P a → IsLeastPairIfAny Q a
 alike P Q a f g h = covered P Q a f (λ q k. (q, g q k, record { second = omega arith; first = λ e. omega arith })) h
 
 -- ---- the earliest of a list
 
-pub is-before : (p q : Pair) (t : Bool) → is_reported_before p q ≡ t → cond t (NotAfter p q) (NotAfter q p)
+pub is-before : (p q : Pair) (t : Bool) → is_lesser_pair p q ≡ t → cond t (NotAfter p q) (NotAfter q p)
 is-before p q true h = record { second = grind (arith, ltb-true, eqb-true); first = λ e. grind (arith, ltb-true, eqb-true) }
 is-before p q false h = record { second = grind (arith, ltb-false, eqb-false); first = λ e. grind (arith, ltb-false, eqb-false) }
 
 abbrev pub Either : (Pair → Type 0) → (Pair → Type 0) → Pair → Type 0
 Either P Q p = P p ⊎ Q p
 
-either-by : (P Q : Pair → Type 0) (p q : Pair) (t : Bool) → is_reported_before q p ≡ t → IsFirst P p → IsFirst Q q → IsFirst (Either P Q) (cond t q p)
+either-by : (P Q : Pair → Type 0) (p q : Pair) (t : Bool) → is_lesser_pair q p ≡ t → IsLeastPair P p → IsLeastPair Q q → IsLeastPair (Either P Q) (cond t q p)
 either-by P Q p q true e h g =
     let n : NotAfter q p = is-before q p true e in
     record {
@@ -90,33 +90,33 @@ cond-some : (t : Bool) (p q : Pair) → cond t (Some q) (Some p) ≡ Some (cond 
 cond-some true p q = refl
 cond-some false p q = refl
 
-pub reported_of_two-first : (P Q : Pair → Type 0) (a b : Option Pair) → IsFirstOf P a → IsFirstOf Q b → IsFirstOf (Either P Q) (reported_of_two a b)
-reported_of_two-first P Q None None h g = λ q k. elim k [ inl k ↦ h q k | inr k ↦ g q k ]
-reported_of_two-first P Q None (Some q) h g = record { is_one = inr g.is_one; second = λ r k. elim k [ inl k ↦ absurd (h r k) | inr k ↦ g.second r k ]; first = λ r k s. elim k [ inl k ↦ absurd (h r k) | inr k ↦ g.first r k s ] }
-reported_of_two-first P Q (Some p) None h g = record { is_one = inl h.is_one; second = λ r k. elim k [ inl k ↦ h.second r k | inr k ↦ absurd (g r k) ]; first = λ r k s. elim k [ inl k ↦ h.first r k s | inr k ↦ absurd (g r k) ] }
-reported_of_two-first P Q (Some p) (Some q) h g = let F = λ (o : Option Pair). IsFirstOf (Either P Q) o in subst F (sym (cond-some (is_reported_before q p) p q)) (either-by P Q p q (is_reported_before q p) refl h g)
+pub lesser_pair-first : (P Q : Pair → Type 0) (a b : Option Pair) → IsLeastPairIfAny P a → IsLeastPairIfAny Q b → IsLeastPairIfAny (Either P Q) (lesser_pair a b)
+lesser_pair-first P Q None None h g = λ q k. elim k [ inl k ↦ h q k | inr k ↦ g q k ]
+lesser_pair-first P Q None (Some q) h g = record { is_one = inr g.is_one; second = λ r k. elim k [ inl k ↦ absurd (h r k) | inr k ↦ g.second r k ]; first = λ r k s. elim k [ inl k ↦ absurd (h r k) | inr k ↦ g.first r k s ] }
+lesser_pair-first P Q (Some p) None h g = record { is_one = inl h.is_one; second = λ r k. elim k [ inl k ↦ h.second r k | inr k ↦ absurd (g r k) ]; first = λ r k s. elim k [ inl k ↦ h.first r k s | inr k ↦ absurd (g r k) ] }
+lesser_pair-first P Q (Some p) (Some q) h g = let F = λ (o : Option Pair). IsLeastPairIfAny (Either P Q) o in subst F (sym (cond-some (is_lesser_pair q p) p q)) (either-by P Q p q (is_lesser_pair q p) refl h g)
 
 -- the pair that one place of a list has
 abbrev pub IsThis : Option Pair → Pair → Type 0
 IsThis o p = Some p ≡ o
 
-some-first : (p : Pair) → IsFirst (IsThis (Some p)) p
+some-first : (p : Pair) → IsLeastPair (IsThis (Some p)) p
 some-first p = record { is_one = refl; second = λ q e. let f : q ≡ p = (cc) in let g = ap (λ r. r.second) f in omega arith; first = λ q e s. let f : q ≡ p = (cc) in let g = ap (λ r. r.first) f in omega arith }
 
-pub this-first : (o : Option Pair) → IsFirstOf (IsThis o) o
+pub this-first : (o : Option Pair) → IsLeastPairIfAny (IsThis o) o
 this-first None = λ q e. (cc)
 this-first (Some p) = some-first p
 
-pub first_reported-first : (ps : List (Option Pair)) → IsFirstOf (λ p. IsIn (Some p) ps) (first_reported ps)
-first_reported-first [] = λ q k. k
-first_reported-first (p ∷ ps) = reported_of_two-first (IsThis p) (λ q. IsIn (Some q) ps) p (first_reported ps) (this-first p) (first_reported-first ps)
+pub least_pair-first : (ps : List (Option Pair)) → IsLeastPairIfAny (λ p. IsIn (Some p) ps) (least_pair ps)
+least_pair-first [] = λ q k. k
+least_pair-first (p ∷ ps) = lesser_pair-first (IsThis p) (λ q. IsIn (Some q) ps) p (least_pair ps) (this-first p) (least_pair-first ps)
 
-pub reported_of_two-assoc : (a b c : Option Pair) → reported_of_two (reported_of_two a b) c ≡ reported_of_two a (reported_of_two b c)
-reported_of_two-assoc a b c =
+pub lesser_pair-assoc : (a b c : Option Pair) → lesser_pair (lesser_pair a b) c ≡ lesser_pair a (lesser_pair b c)
+lesser_pair-assoc a b c =
     let P : Pair → Type 0 = Either (Either (IsThis a) (IsThis b)) (IsThis c) in
     let Q : Pair → Type 0 = Either (IsThis a) (Either (IsThis b) (IsThis c)) in
-    let left : IsFirstOf P (reported_of_two (reported_of_two a b) c) = reported_of_two-first _ _ (reported_of_two a b) c (reported_of_two-first _ _ a b (this-first a) (this-first b)) (this-first c) in
-    let right : IsFirstOf Q (reported_of_two a (reported_of_two b c)) = reported_of_two-first _ _ a (reported_of_two b c) (this-first a) (reported_of_two-first _ _ b c (this-first b) (this-first c)) in
+    let left : IsLeastPairIfAny P (lesser_pair (lesser_pair a b) c) = lesser_pair-first _ _ (lesser_pair a b) c (lesser_pair-first _ _ a b (this-first a) (this-first b)) (this-first c) in
+    let right : IsLeastPairIfAny Q (lesser_pair a (lesser_pair b c)) = lesser_pair-first _ _ a (lesser_pair b c) (this-first a) (lesser_pair-first _ _ b c (this-first b) (this-first c)) in
     unique Q _ _ (alike P Q _ (λ p k. from_left p k) (λ p k. from_right p k) left) right
   where
     from_left : (p : Pair) → Either (Either (IsThis a) (IsThis b)) (IsThis c) p → Either (IsThis a) (Either (IsThis b) (IsThis c)) p
@@ -141,47 +141,47 @@ alike-by x y p true true e l h =
 alike-by x y p true false e l h = absurd (let b : None ≡ Some p = (cc) in (cc))
 alike-by x y p false t e l h = absurd (let b : None ≡ Some p = (cc) in (cc))
 
-pub are-alike : (x y : NameWithPosition) (p : Pair) → Some p ≡ pair_of x y → AreAlike x y p
+pub are-alike : (x y : NameWithPosition) (p : Pair) → Some p ≡ pair_if_same_name x y → AreAlike x y p
 are-alike x y p h = alike-by x y p (bytes_eq x.name y.name) (nat_lt x.position y.position) refl refl h
 
 made-by : (q : Pair) (s t : Bool) → s ≡ true → t ≡ true → cond (s && t) (Some q) None ≡ Some q
 made-by q s t e l = λ i. cond (e i && l i) (Some q) None
 
-pub pair-made : (x y : NameWithPosition) → x.name ≡ y.name → x.position < y.position → pair_of x y ≡ Some (record { first = x.position; second = y.position })
+pub pair-made : (x y : NameWithPosition) → x.name ≡ y.name → x.position < y.position → pair_if_same_name x y ≡ Some (record { first = x.position; second = y.position })
 pair-made x y e l = made-by (record { first = x.position; second = y.position }) (bytes_eq x.name y.name) (nat_lt x.position y.position) ((bytes_decides x.name y.name).1 e) (lt-ltb x.position y.position l)
 
 -- ---- all pairs of a list
 
 abbrev all_pairs : List NameWithPosition → List (Option Pair)
-all_pairs names = flat_map (λ x. map (pair_of x) names) names
+all_pairs names = flat_map (λ x. map (pair_if_same_name x) names) names
 
-is-pair : (names : List NameWithPosition) (p : Pair) → IsIn (Some p) (all_pairs names) → IsPair names p
+is-pair : (names : List NameWithPosition) (p : Pair) → IsIn (Some p) (all_pairs names) → IsPairOfEqualNames names p
 is-pair names p h =
-    let r = from-flat_map (λ x. map (pair_of x) names) (Some p) names h in
-    let s = from-map (pair_of r.0) (Some p) names r.2 in
+    let r = from-flat_map (λ x. map (pair_if_same_name x) names) (Some p) names h in
+    let s = from-map (pair_if_same_name r.0) (Some p) names r.2 in
     let t : AreAlike r.0 s.0 p = are-alike r.0 s.0 p s.2 in
     record { one = r.0; other = s.0; one_in = r.1; other_in = s.1; alike = t.0; first = t.2; second = t.3; rises = (let l : r.0.position < s.0.position = t.1 in let e = t.2 in let f = t.3 in omega arith) }
 
-has-pair : (names : List NameWithPosition) (p : Pair) → IsPair names p → IsIn (Some p) (all_pairs names)
+has-pair : (names : List NameWithPosition) (p : Pair) → IsPairOfEqualNames names p → IsIn (Some p) (all_pairs names)
 has-pair names p k =
     let l : k.one.position < k.other.position = (let e = k.first in let f = k.second in let g = k.rises in omega arith) in
     let made = pair-made k.one k.other k.alike l in
     let q : Pair = record { first = k.one.position; second = k.other.position } in
     let same : p ≡ q = same-pair p q k.first k.second in
     let P : Option Pair → Type 0 = λ o. IsIn o (all_pairs names) in
-    subst P (made ∙ ap Some (sym same)) (in-flat_map (λ x. map (pair_of x) names) (pair_of k.one k.other) k.one names k.one_in (in-map (pair_of k.one) k.other names k.other_in))
+    subst P (made ∙ ap Some (sym same)) (in-flat_map (λ x. map (pair_if_same_name x) names) (pair_if_same_name k.one k.other) k.one names k.one_in (in-map (pair_if_same_name k.one) k.other names k.other_in))
 
-pub first_pair-first : (names : List NameWithPosition) → IsFirstOf (IsPair names) (first_pair names)
-unfolding first_pair
-first_pair-first names = alike (λ p. IsIn (Some p) (all_pairs names)) (IsPair names) (first_reported (all_pairs names)) (is-pair names) (has-pair names) (first_reported-first (all_pairs names))
+pub least_pair_of_equal_names-first : (names : List NameWithPosition) → IsLeastPairIfAny (IsPairOfEqualNames names) (least_pair_of_equal_names names)
+unfolding least_pair_of_equal_names
+least_pair_of_equal_names-first names = alike (λ p. IsIn (Some p) (all_pairs names)) (IsPairOfEqualNames names) (least_pair (all_pairs names)) (is-pair names) (has-pair names) (least_pair-first (all_pairs names))
 
 -- ---- neighbours in a sorted list
 
 abbrev pub Rises : NameWithPosition → List NameWithPosition → Type 0
 Rises x [] = Unit {0}
-Rises x (y ∷ ys) = (is_gt (named_cmp x y) ≡ false) × Rises y ys
+Rises x (y ∷ ys) = (is_gt (name_with_position_cmp x y) ≡ false) × Rises y ys
 
-named_total : IsTotalOrder named_cmp
+named_total : IsTotalOrder name_with_position_cmp
 named_total = then_total (on_total (λ (x : NameWithPosition). x.name) nat_list_cmp_total) (on_total (λ (x : NameWithPosition). x.position) nat_cmp_total)
 
 gt-back : (o : Ordering) → is_lt o ≡ false → is_gt (ordering_reverse o) ≡ false
@@ -189,22 +189,22 @@ gt-back Less h = (cc)
 gt-back Equal h = refl
 gt-back Greater h = refl
 
-not-gt : (x y : NameWithPosition) → is_lt (named_cmp y x) ≡ false → is_gt (named_cmp x y) ≡ false
-not-gt x y h = ap is_gt (named_total.antisymm x y) ∙ gt-back (named_cmp y x) h
+not-gt : (x y : NameWithPosition) → is_lt (name_with_position_cmp y x) ≡ false → is_gt (name_with_position_cmp x y) ≡ false
+not-gt x y h = ap is_gt (named_total.antisymm x y) ∙ gt-back (name_with_position_cmp y x) h
 
-pub rises-from : {X : Type 0} (f : X → NameWithPosition) (x : X) (xs : List X) → IsSortedBy (λ a b. is_lt (named_cmp (f a) (f b))) (x ∷ xs) → Rises (f x) (map f xs)
+pub rises-from : {X : Type 0} (f : X → NameWithPosition) (x : X) (xs : List X) → IsSortedBy (λ a b. is_lt (name_with_position_cmp (f a) (f b))) (x ∷ xs) → Rises (f x) (map f xs)
 rises-from f x [] h = tt
 rises-from {X} f x (y ∷ ys) h = (
   not-gt (f x) (f y) (h 0 x (omega arith) (omega arith)),
   rises-from f y ys (λ k d l m.
       let e : suc k + 1 ≡ suc (k + 1) = omega arith in
-      let P : ℕ → Type 0 = λ n. is_lt (named_cmp (f (get_or (x ∷ y ∷ ys) n d)) (f (get_or (y ∷ ys) k d))) ≡ false in
+      let P : ℕ → Type 0 = λ n. is_lt (name_with_position_cmp (f (get_or (x ∷ y ∷ ys) n d)) (f (get_or (y ∷ ys) k d))) ≡ false in
       subst P e (h (suc k) d (omega arith) (omega arith))),
 )
 
-rises-in : (x : NameWithPosition) (xs : List NameWithPosition) (y : NameWithPosition) → Rises x xs → IsIn y xs → is_gt (named_cmp x y) ≡ false
+rises-in : (x : NameWithPosition) (xs : List NameWithPosition) (y : NameWithPosition) → Rises x xs → IsIn y xs → is_gt (name_with_position_cmp x y) ≡ false
 rises-in x [] y h k = absurd k
-rises-in x (z ∷ zs) y h (inl e) = ap (λ (w : NameWithPosition). is_gt (named_cmp x w)) e ∙ h.0
+rises-in x (z ∷ zs) y h (inl e) = ap (λ (w : NameWithPosition). is_gt (name_with_position_cmp x w)) e ∙ h.0
 rises-in x (z ∷ zs) y h (inr k) = upto named_total x z y h.0 (rises-in z zs y h.1 k)
 
 then-gt : (a b : Ordering) → is_gt (ordering_then a b) ≡ false → is_gt a ≡ false
@@ -221,7 +221,7 @@ both-equal a Equal e h g = e
 both-equal a Greater e h g = (cc)
 
 -- a name between two equal ones is equal to them
-between : (x z y : NameWithPosition) → is_gt (named_cmp x z) ≡ false → is_gt (named_cmp z y) ≡ false → x.name ≡ y.name → slice_cmp nat_cmp x.name z.name ≡ Equal
+between : (x z y : NameWithPosition) → is_gt (name_with_position_cmp x z) ≡ false → is_gt (name_with_position_cmp z y) ≡ false → x.name ≡ y.name → slice_cmp nat_cmp x.name z.name ≡ Equal
 between x z y h g e =
     let to : is_gt (slice_cmp nat_cmp x.name z.name) ≡ false = then-gt _ _ h in
     let back : is_gt (slice_cmp nat_cmp z.name y.name) ≡ false = then-gt _ _ g in
@@ -231,7 +231,7 @@ between x z y h g e =
 cmp-equal : (a b : List ℕ) → slice_cmp nat_cmp a b ≡ Equal → a ≡ b
 cmp-equal a b h = (bytes_decides a b).0 (texts_ties a b ∙ ap is_eq h)
 
-positions-rise : (x y : NameWithPosition) → slice_cmp nat_cmp x.name y.name ≡ Equal → is_gt (named_cmp x y) ≡ false → x.position ≤ y.position
+positions-rise : (x y : NameWithPosition) → slice_cmp nat_cmp x.name y.name ≡ Equal → is_gt (name_with_position_cmp x y) ≡ false → x.position ≤ y.position
 positions-rise x y e h = le_from_not_gt x.position y.position (then-second (slice_cmp nat_cmp x.name y.name) (nat_cmp x.position y.position) e h)
 
 -- of a name that stands twice, two neighbours are no later pair
@@ -257,14 +257,14 @@ covers x (z ∷ zs) y h (inl k) e l =
     let p : y.position ≡ z.position = ap (λ (w : NameWithPosition). w.position) k in
     cover-by x z zs y (nat_lt x.position z.position) refl (subst Q k e) (omega arith) s (λ m. absurd (omega arith)) l
 covers x (z ∷ zs) y h (inr k) e l =
-    let up : is_gt (named_cmp z y) ≡ false = rises-in z zs y h.1 k in
+    let up : is_gt (name_with_position_cmp z y) ≡ false = rises-in z zs y h.1 k in
     let same : slice_cmp nat_cmp x.name z.name ≡ Equal = between x z y h.0 up e in
     let names : x.name ≡ z.name = cmp-equal x.name z.name same in
     let on : z.name ≡ y.name = sym names ∙ e in
     let tied : slice_cmp nat_cmp z.name y.name ≡ Equal = (let P : List ℕ → Type 0 = λ n. slice_cmp nat_cmp z.name n ≡ Equal in subst P on (tied_itself nat_list_cmp_total z.name)) in
     cover-by x z zs y (nat_lt x.position z.position) refl names (positions-rise x z same h.0) (positions-rise z y tied up) (λ m. covers z zs y h.1 k on m) l
 
-neighbour-is : (x : NameWithPosition) (xs : List NameWithPosition) (p : Pair) → IsIn (Some p) (neighbours_from x xs) → IsPair (x ∷ xs) p
+neighbour-is : (x : NameWithPosition) (xs : List NameWithPosition) (p : Pair) → IsIn (Some p) (neighbours_from x xs) → IsPairOfEqualNames (x ∷ xs) p
 neighbour-is x [] p h = absurd h
 neighbour-is x (y ∷ ys) p (inl e) =
     let t : AreAlike x y p = are-alike x y p e in
@@ -299,7 +299,7 @@ covers-any x xs one other h (inr a) (inl b) e l =
 covers-any x [] one other h (inr a) (inr b) e l = absurd a
 covers-any x (y ∷ ys) one other h (inr a) (inr b) e l = further x y ys one other (covers-any y ys one other h.1 a b e l)
 
-covers-pair : (x : NameWithPosition) (xs : List NameWithPosition) (q : Pair) → Rises x xs → IsPair (x ∷ xs) q → (p : Pair) × IsIn (Some p) (neighbours_from x xs) × NotAfter p q
+covers-pair : (x : NameWithPosition) (xs : List NameWithPosition) (q : Pair) → Rises x xs → IsPairOfEqualNames (x ∷ xs) q → (p : Pair) × IsIn (Some p) (neighbours_from x xs) × NotAfter p q
 covers-pair x xs q h k =
     let l : k.one.position < k.other.position = (let e = k.first in let f = k.second in let g = k.rises in omega arith) in
     let r = covers-any x xs k.one k.other h k.one_in k.other_in k.alike l in
@@ -307,59 +307,59 @@ covers-pair x xs q h k =
     let f = k.second in
     (r.0, r.1, record { second = (let u = r.2.second in omega arith); first = λ s. (let u = r.2.first (omega arith) in omega arith) })
 
-neighbours-first : (x : NameWithPosition) (xs : List NameWithPosition) → Rises x xs → IsFirstOf (IsPair (x ∷ xs)) (first_reported (neighbours_from x xs))
-neighbours-first x xs h = covered (λ p. IsIn (Some p) (neighbours_from x xs)) (IsPair (x ∷ xs)) (first_reported (neighbours_from x xs)) (neighbour-is x xs) (λ q k. covers-pair x xs q h k) (first_reported-first (neighbours_from x xs))
+neighbours-first : (x : NameWithPosition) (xs : List NameWithPosition) → Rises x xs → IsLeastPairIfAny (IsPairOfEqualNames (x ∷ xs)) (least_pair (neighbours_from x xs))
+neighbours-first x xs h = covered (λ p. IsIn (Some p) (neighbours_from x xs)) (IsPairOfEqualNames (x ∷ xs)) (least_pair (neighbours_from x xs)) (neighbour-is x xs) (λ q k. covers-pair x xs q h k) (least_pair-first (neighbours_from x xs))
 
-sorted-first : {X : Type 0} (f : X → NameWithPosition) (xs : List X) → IsSortedBy (λ a b. is_lt (named_cmp (f a) (f b))) xs → IsFirstOf (IsPair (map f xs)) (first_reported (neighbours (map f xs)))
+sorted-first : {X : Type 0} (f : X → NameWithPosition) (xs : List X) → IsSortedBy (λ a b. is_lt (name_with_position_cmp (f a) (f b))) xs → IsLeastPairIfAny (IsPairOfEqualNames (map f xs)) (least_pair (neighbours (map f xs)))
 sorted-first f [] h = λ q k. k.one_in
 sorted-first f (x ∷ xs) h = neighbours-first (f x) (map f xs) (rises-from f x xs h)
 
-pair-permuted : (xs ys : List NameWithPosition) (p : Pair) → IsPermutation xs ys → IsPair xs p → IsPair ys p
+pair-permuted : (xs ys : List NameWithPosition) (p : Pair) → IsPermutation xs ys → IsPairOfEqualNames xs p → IsPairOfEqualNames ys p
 pair-permuted xs ys p m k = record { one = k.one; other = k.other; one_in = in-permuted k.one xs ys m k.one_in; other_in = in-permuted k.other xs ys m k.other_in; alike = k.alike; first = k.first; second = k.second; rises = k.rises }
 
 -- the names in any order, and the same names sorted
-pub first_in_sorted : {X : Type 0} (f : X → NameWithPosition) (xs ys : List X) → IsPermutation xs ys → IsSortedBy (λ a b. is_lt (named_cmp (f a) (f b))) ys → first_reported (neighbours (map f ys)) ≡ first_pair (map f xs)
+pub first_in_sorted : {X : Type 0} (f : X → NameWithPosition) (xs ys : List X) → IsPermutation xs ys → IsSortedBy (λ a b. is_lt (name_with_position_cmp (f a) (f b))) ys → least_pair (neighbours (map f ys)) ≡ least_pair_of_equal_names (map f xs)
 first_in_sorted f xs ys m h =
     let moved = IsPermutation-map f xs ys m in
-    unique (IsPair (map f xs)) (first_reported (neighbours (map f ys))) (first_pair (map f xs))
-    (alike (IsPair (map f ys)) (IsPair (map f xs)) (first_reported (neighbours (map f ys))) (λ p k. pair-permuted (map f ys) (map f xs) p (IsPermutation-sym (map f xs) (map f ys) moved) k) (λ p k. pair-permuted (map f xs) (map f ys) p moved k) (sorted-first f ys h))
-    (first_pair-first (map f xs))
+    unique (IsPairOfEqualNames (map f xs)) (least_pair (neighbours (map f ys))) (least_pair_of_equal_names (map f xs))
+    (alike (IsPairOfEqualNames (map f ys)) (IsPairOfEqualNames (map f xs)) (least_pair (neighbours (map f ys))) (λ p k. pair-permuted (map f ys) (map f xs) p (IsPermutation-sym (map f xs) (map f ys) moved) k) (λ p k. pair-permuted (map f xs) (map f ys) p moved k) (sorted-first f ys h))
+    (least_pair_of_equal_names-first (map f xs))
 
-pub named_order : {X : Type 0} (f : X → NameWithPosition) → IsStrictWeakOrder (λ a b. is_lt (named_cmp (f a) (f b)))
+pub named_order : {X : Type 0} (f : X → NameWithPosition) → IsStrictWeakOrder (λ a b. is_lt (name_with_position_cmp (f a) (f b)))
 named_order f = ranks_by named_total f
 
 -- ---- going over the neighbours
 
-pub turn : {X : Type 0} (f : X → NameWithPosition) (xs : List X) (j : ℕ) (d : X) → j + 1 < length xs → first_reported (neighbours (map f (drop j xs))) ≡ reported_of_two (pair_of (f (get_or xs j d)) (f (get_or xs (j + 1) d))) (first_reported (neighbours (map f (drop (j + 1) xs))))
+pub turn : {X : Type 0} (f : X → NameWithPosition) (xs : List X) (j : ℕ) (d : X) → j + 1 < length xs → least_pair (neighbours (map f (drop j xs))) ≡ lesser_pair (pair_if_same_name (f (get_or xs j d)) (f (get_or xs (j + 1) d))) (least_pair (neighbours (map f (drop (j + 1) xs))))
 turn f [] j d h = absurd (omega arith)
 turn f (x ∷ []) j d h = absurd (omega arith)
 turn f (x ∷ y ∷ xs) zero d h = refl
 turn {X} f (x ∷ y ∷ xs) (suc j) d h =
     let e : suc j + 1 ≡ suc (j + 1) = omega arith in
-    let P : ℕ → Type 0 = λ n. first_reported (neighbours (map f (drop j (y ∷ xs)))) ≡ reported_of_two (pair_of (f (get_or (y ∷ xs) j d)) (f (get_or (x ∷ y ∷ xs) n d))) (first_reported (neighbours (map f (drop n (x ∷ y ∷ xs))))) in
+    let P : ℕ → Type 0 = λ n. least_pair (neighbours (map f (drop j (y ∷ xs)))) ≡ lesser_pair (pair_if_same_name (f (get_or (y ∷ xs) j d)) (f (get_or (x ∷ y ∷ xs) n d))) (least_pair (neighbours (map f (drop n (x ∷ y ∷ xs))))) in
     subst P (sym e) (turn f (y ∷ xs) j d (omega arith))
 
-last_alone : {X : Type 0} (f : X → NameWithPosition) (xs : List X) (j : ℕ) → length xs ≤ j + 1 → first_reported (neighbours (map f (drop j xs))) ≡ None
+last_alone : {X : Type 0} (f : X → NameWithPosition) (xs : List X) (j : ℕ) → length xs ≤ j + 1 → least_pair (neighbours (map f (drop j xs))) ≡ None
 last_alone f [] zero h = refl
 last_alone f [] (suc j) h = refl
 last_alone f (x ∷ []) zero h = refl
 last_alone f (x ∷ y ∷ xs) zero h = absurd (omega arith)
 last_alone f (x ∷ xs) (suc j) h = last_alone f xs j (omega arith)
 
-pub reported_of_two-none : (a : Option Pair) → reported_of_two a None ≡ a
-reported_of_two-none None = refl
-reported_of_two-none (Some p) = refl
+pub lesser_pair-none : (a : Option Pair) → lesser_pair a None ≡ a
+lesser_pair-none None = refl
+lesser_pair-none (Some p) = refl
 
-pub next_pair : {X : Type 0} (f : X → NameWithPosition) (xs : List X) (j : ℕ) (d : X) (best : Option Pair) (o : Option Pair) → j + 1 < length xs → reported_of_two best (first_reported (neighbours (map f (drop j xs)))) ≡ o → reported_of_two (reported_of_two best (pair_of (f (get_or xs j d)) (f (get_or xs (j + 1) d)))) (first_reported (neighbours (map f (drop (j + 1) xs)))) ≡ o
-next_pair f xs j d best o h e = reported_of_two-assoc best (pair_of (f (get_or xs j d)) (f (get_or xs (j + 1) d))) _ ∙ (ap (reported_of_two best) (sym (turn f xs j d h)) ∙ e)
+pub next_pair : {X : Type 0} (f : X → NameWithPosition) (xs : List X) (j : ℕ) (d : X) (best : Option Pair) (o : Option Pair) → j + 1 < length xs → lesser_pair best (least_pair (neighbours (map f (drop j xs)))) ≡ o → lesser_pair (lesser_pair best (pair_if_same_name (f (get_or xs j d)) (f (get_or xs (j + 1) d)))) (least_pair (neighbours (map f (drop (j + 1) xs)))) ≡ o
+next_pair f xs j d best o h e = lesser_pair-assoc best (pair_if_same_name (f (get_or xs j d)) (f (get_or xs (j + 1) d))) _ ∙ (ap (lesser_pair best) (sym (turn f xs j d h)) ∙ e)
 
-pub no_next_pair : {X : Type 0} (f : X → NameWithPosition) (xs : List X) (j : ℕ) (best o : Option Pair) → length xs ≤ j + 1 → reported_of_two best (first_reported (neighbours (map f (drop j xs)))) ≡ o → best ≡ o
-no_next_pair f xs j best o h e = sym (reported_of_two-none best) ∙ (ap (reported_of_two best) (sym (last_alone f xs j h)) ∙ e)
+pub no_next_pair : {X : Type 0} (f : X → NameWithPosition) (xs : List X) (j : ℕ) (best o : Option Pair) → length xs ≤ j + 1 → lesser_pair best (least_pair (neighbours (map f (drop j xs)))) ≡ o → best ≡ o
+no_next_pair f xs j best o h e = sym (lesser_pair-none best) ∙ (ap (lesser_pair best) (sym (last_alone f xs j h)) ∙ e)
 
 -- the same by the index of the later name
-pub step_pair : {X : Type 0} (f : X → NameWithPosition) (xs : List X) (i : ℕ) (d : X) (best next o p : Option Pair) → 1 ≤ i → i < length xs → p ≡ pair_of (f (get_or xs (i - 1) d)) (f (get_or xs i d)) → next ≡ reported_of_two best p → reported_of_two best (first_reported (neighbours (map f (drop (i - 1) xs)))) ≡ o → reported_of_two next (first_reported (neighbours (map f (drop (i + 1 - 1) xs)))) ≡ o
+pub step_pair : {X : Type 0} (f : X → NameWithPosition) (xs : List X) (i : ℕ) (d : X) (best next o p : Option Pair) → 1 ≤ i → i < length xs → p ≡ pair_if_same_name (f (get_or xs (i - 1) d)) (f (get_or xs i d)) → next ≡ lesser_pair best p → lesser_pair best (least_pair (neighbours (map f (drop (i - 1) xs)))) ≡ o → lesser_pair next (least_pair (neighbours (map f (drop (i + 1 - 1) xs)))) ≡ o
 step_pair f xs i d best next o p one lt e n h =
     let a : i + 1 - 1 ≡ i - 1 + 1 = omega arith in
     let b : i ≡ i - 1 + 1 = omega arith in
-    let same : p ≡ pair_of (f (get_or xs (i - 1) d)) (f (get_or xs (i - 1 + 1) d)) = e ∙ ap (λ k. pair_of (f (get_or xs (i - 1) d)) (f (get_or xs k d))) b in
-    (λ k. reported_of_two ((n ∙ ap (reported_of_two best) same) k) (first_reported (neighbours (map f (drop (a k) xs))))) ∙ next_pair f xs (i - 1) d best o (omega arith) h
+    let same : p ≡ pair_if_same_name (f (get_or xs (i - 1) d)) (f (get_or xs (i - 1 + 1) d)) = e ∙ ap (λ k. pair_if_same_name (f (get_or xs (i - 1) d)) (f (get_or xs k d))) b in
+    (λ k. lesser_pair ((n ∙ ap (lesser_pair best) same) k) (least_pair (neighbours (map f (drop (a k) xs))))) ∙ next_pair f xs (i - 1) d best o (omega arith) h

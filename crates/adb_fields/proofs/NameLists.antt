@@ -4,10 +4,10 @@ use Rattle.adb_view.specs.Plain.{Plain, null, Plains, none, more}
 use Rattle.adb_view.specs.Values.{value_at, entry_in, entries_in, count_of, nth}
 use Rattle.adb_fields.specs.Fields.{are_all_sound, array_at}
 use Rattle.adb_fields.specs.Pairs.{NameWithPosition}
-use Rattle.adb_fields.specs.Repeated.{list_of, numbered_from, all_at, by_list_from, name_of, paths_under, paths_in}
+use Rattle.adb_fields.specs.Repeated.{list_of, numbered_from, all_with_position, names_with_list_positions, name_of, paths_under, paths_in}
 use Rattle.adb_fields.specs.Paths.{path_of}
 use Rattle.std.specs.List.{flat_map}
-use Rattle.adb_fields.specs.NamedTexts.{plains_at, named_at}
+use Rattle.adb_fields.specs.NamedTexts.{plains_at, name_with_position}
 use Rattle.adb_view.specs.declared.tables.Kind.{Kind}
 use Rattle.adb_fields.proofs.FieldReads.{entry_value, entry_count}
 
@@ -28,12 +28,12 @@ plain_is p k ws i h l = entry_value p k ws i h l ∙ nth-listed (entries_in (arr
 
 -- ---- names by position
 
-more_names : (f : Plain → List ℕ) (values : List Plain) (i m : ℕ) → i < length values → numbered_from m (map f (drop i values)) ≡ named_at (f (get_or values i null)) m ∷ numbered_from (m + 1) (map f (drop (i + 1) values))
+more_names : (f : Plain → List ℕ) (values : List Plain) (i m : ℕ) → i < length values → numbered_from m (map f (drop i values)) ≡ name_with_position (f (get_or values i null)) m ∷ numbered_from (m + 1) (map f (drop (i + 1) values))
 more_names f [] i m h = absurd (omega arith)
 more_names f (v ∷ vs) zero m h = refl
 more_names f (v ∷ vs) (suc i) m h =
     let e : suc i + 1 ≡ suc (i + 1) = omega arith in
-    let P : ℕ → Type 0 = λ n. numbered_from m (map f (drop i vs)) ≡ named_at (f (get_or vs i null)) m ∷ numbered_from (m + 1) (map f (drop n (v ∷ vs))) in
+    let P : ℕ → Type 0 = λ n. numbered_from m (map f (drop i vs)) ≡ name_with_position (f (get_or vs i null)) m ∷ numbered_from (m + 1) (map f (drop n (v ∷ vs))) in
     subst P (sym e) (more_names f vs i m (omega arith))
 
 no_names : (f : Plain → List ℕ) (values : List Plain) (i m : ℕ) → length values ≤ i → numbered_from m (map f (drop i values)) ≡ []
@@ -43,12 +43,12 @@ no_names f (v ∷ vs) zero m h = absurd (omega arith)
 no_names f (v ∷ vs) (suc i) m h = no_names f vs i m (omega arith)
 
 -- after m names, the next one
-pub one_more : (f : Plain → List ℕ) (values : List Plain) (i m k : ℕ) (x : List ℕ) (done next all : List NameWithPosition) → i < length values → x ≡ f (get_or values i null) → next ≡ done ++ (named_at x (m + 1) ∷ []) → k ≡ m + 1 → done ++ numbered_from (m + 1) (map f (drop i values)) ≡ all → next ++ numbered_from (k + 1) (map f (drop (i + 1) values)) ≡ all
+pub one_more : (f : Plain → List ℕ) (values : List Plain) (i m k : ℕ) (x : List ℕ) (done next all : List NameWithPosition) → i < length values → x ≡ f (get_or values i null) → next ≡ done ++ (name_with_position x (m + 1) ∷ []) → k ≡ m + 1 → done ++ numbered_from (m + 1) (map f (drop i values)) ≡ all → next ++ numbered_from (k + 1) (map f (drop (i + 1) values)) ≡ all
 one_more f values i m k x done next all h e n l so =
     let left : List NameWithPosition = numbered_from (m + 1 + 1) (map f (drop (i + 1) values)) in
     (λ j. n j ++ numbered_from (l j + 1) (map f (drop (i + 1) values)))
-    ∙ (append_assoc done (named_at x (m + 1) ∷ []) left
-    ∙ (ap (λ y. done ++ (named_at y (m + 1) ∷ left)) e
+    ∙ (append_assoc done (name_with_position x (m + 1) ∷ []) left
+    ∙ (ap (λ y. done ++ (name_with_position y (m + 1) ∷ left)) e
     ∙ (ap (λ rest. done ++ rest) (sym (more_names f values i (m + 1) h)) ∙ so)))
 
 -- and none after the last
@@ -56,7 +56,7 @@ pub no_more : (f : Plain → List ℕ) (values : List Plain) (i m : ℕ) (done a
 no_more f values i m done all h so = sym (append-nil done) ∙ (ap (λ rest. done ++ rest) (sym (no_names f values i m h)) ∙ so)
 
 -- the same by the words of an array
-pub one_word : (p : List ℕ) (kind : Kind) (f : Plain → List ℕ) (ws : List ℕ) (i m k w : ℕ) (x : List ℕ) (done next all : List NameWithPosition) → are_all_sound p kind ws ≡ true → i < length ws → w ≡ get_or ws i 0 → x ≡ f (value_at p kind w) → next ≡ done ++ (named_at x (m + 1) ∷ []) → k ≡ m + 1 → done ++ numbered_from (m + 1) (map f (drop i (plains_at p kind ws))) ≡ all → next ++ numbered_from (k + 1) (map f (drop (i + 1) (plains_at p kind ws))) ≡ all
+pub one_word : (p : List ℕ) (kind : Kind) (f : Plain → List ℕ) (ws : List ℕ) (i m k w : ℕ) (x : List ℕ) (done next all : List NameWithPosition) → are_all_sound p kind ws ≡ true → i < length ws → w ≡ get_or ws i 0 → x ≡ f (value_at p kind w) → next ≡ done ++ (name_with_position x (m + 1) ∷ []) → k ≡ m + 1 → done ++ numbered_from (m + 1) (map f (drop i (plains_at p kind ws))) ≡ all → next ++ numbered_from (k + 1) (map f (drop (i + 1) (plains_at p kind ws))) ≡ all
 one_word p kind f ws i m k w x done next all sound lt word e n l so =
     let c : length (plains_at p kind ws) ≡ length ws = plain_count p kind ws sound in
     let here : value_at p kind w ≡ get_or (plains_at p kind ws) i null = ap (value_at p kind) word ∙ plain_is p kind ws i sound lt in
@@ -69,9 +69,9 @@ no_word p kind f ws i m done all sound past so =
 
 -- ---- names at one position
 
-pub all_at-append : (n : ℕ) (xs ys : List (List ℕ)) → all_at n (xs ++ ys) ≡ all_at n xs ++ all_at n ys
-all_at-append n [] ys = refl
-all_at-append n (x ∷ xs) ys = ap (λ rest. named_at x n ∷ rest) (all_at-append n xs ys)
+pub all_with_position-append : (n : ℕ) (xs ys : List (List ℕ)) → all_with_position n (xs ++ ys) ≡ all_with_position n xs ++ all_with_position n ys
+all_with_position-append n [] ys = refl
+all_with_position-append n (x ∷ xs) ys = ap (λ rest. name_with_position x n ∷ rest) (all_with_position-append n xs ys)
 
 -- the piece of the value at a place, and those after
 pub pieces : {X : Type 0} (piece : Plain → List X) (values : List Plain) (i : ℕ) → i < length values → flat_map piece (drop i values) ≡ piece (get_or values i null) ++ flat_map piece (drop (i + 1) values)
@@ -107,50 +107,50 @@ pub map_pieces : {X : Type 0} (f : Plain → X) (values : List Plain) → flat_m
 map_pieces f [] = refl
 map_pieces f (v ∷ vs) = ap (λ rest. f v ∷ rest) (map_pieces f vs)
 
-pub all_at-pieces : (n : ℕ) (piece : Plain → List (List ℕ)) (values : List Plain) → flat_map (λ v. all_at n (piece v)) values ≡ all_at n (flat_map piece values)
-all_at-pieces n piece [] = refl
-all_at-pieces n piece (v ∷ vs) = ap (λ rest. all_at n (piece v) ++ rest) (all_at-pieces n piece vs) ∙ sym (all_at-append n (piece v) (flat_map piece vs))
+pub all_with_position-pieces : (n : ℕ) (piece : Plain → List (List ℕ)) (values : List Plain) → flat_map (λ v. all_with_position n (piece v)) values ≡ all_with_position n (flat_map piece values)
+all_with_position-pieces n piece [] = refl
+all_with_position-pieces n piece (v ∷ vs) = ap (λ rest. all_with_position n (piece v) ++ rest) (all_with_position-pieces n piece vs) ∙ sym (all_with_position-append n (piece v) (flat_map piece vs))
 
-pub all_at-map : (n : ℕ) (f : Plain → List ℕ) (values : List Plain) → flat_map (λ v. named_at (f v) n ∷ []) values ≡ all_at n (map f values)
-all_at-map n f [] = refl
-all_at-map n f (v ∷ vs) = ap (λ rest. named_at (f v) n ∷ rest) (all_at-map n f vs)
+pub all_with_position-map : (n : ℕ) (f : Plain → List ℕ) (values : List Plain) → flat_map (λ v. name_with_position (f v) n ∷ []) values ≡ all_with_position n (map f values)
+all_with_position-map n f [] = refl
+all_with_position-map n f (v ∷ vs) = ap (λ rest. name_with_position (f v) n ∷ rest) (all_with_position-map n f vs)
 
 -- ---- lists of names, each at the position of its value
 
-more_lists : (f : Plain → List (List ℕ)) (values : List Plain) (i m : ℕ) → i < length values → by_list_from m (map f (drop i values)) ≡ all_at m (f (get_or values i null)) ++ by_list_from (m + 1) (map f (drop (i + 1) values))
+more_lists : (f : Plain → List (List ℕ)) (values : List Plain) (i m : ℕ) → i < length values → names_with_list_positions m (map f (drop i values)) ≡ all_with_position m (f (get_or values i null)) ++ names_with_list_positions (m + 1) (map f (drop (i + 1) values))
 more_lists f [] i m h = absurd (omega arith)
 more_lists f (v ∷ vs) zero m h = refl
 more_lists f (v ∷ vs) (suc i) m h =
     let e : suc i + 1 ≡ suc (i + 1) = omega arith in
-    let P : ℕ → Type 0 = λ n. by_list_from m (map f (drop i vs)) ≡ all_at m (f (get_or vs i null)) ++ by_list_from (m + 1) (map f (drop n (v ∷ vs))) in
+    let P : ℕ → Type 0 = λ n. names_with_list_positions m (map f (drop i vs)) ≡ all_with_position m (f (get_or vs i null)) ++ names_with_list_positions (m + 1) (map f (drop n (v ∷ vs))) in
     subst P (sym e) (more_lists f vs i m (omega arith))
 
-no_lists : (f : Plain → List (List ℕ)) (values : List Plain) (i m : ℕ) → length values ≤ i → by_list_from m (map f (drop i values)) ≡ []
+no_lists : (f : Plain → List (List ℕ)) (values : List Plain) (i m : ℕ) → length values ≤ i → names_with_list_positions m (map f (drop i values)) ≡ []
 no_lists f [] zero m h = refl
 no_lists f [] (suc i) m h = refl
 no_lists f (v ∷ vs) zero m h = absurd (omega arith)
 no_lists f (v ∷ vs) (suc i) m h = no_lists f vs i m (omega arith)
 
-pub one_list : (p : List ℕ) (kind : Kind) (f : Plain → List (List ℕ)) (ws : List ℕ) (i w : ℕ) (done next all : List NameWithPosition) → are_all_sound p kind ws ≡ true → i < length ws → w ≡ get_or ws i 0 → next ≡ done ++ all_at (i + 1) (f (value_at p kind w)) → done ++ by_list_from (i + 1) (map f (drop i (plains_at p kind ws))) ≡ all → next ++ by_list_from (i + 1 + 1) (map f (drop (i + 1) (plains_at p kind ws))) ≡ all
+pub one_list : (p : List ℕ) (kind : Kind) (f : Plain → List (List ℕ)) (ws : List ℕ) (i w : ℕ) (done next all : List NameWithPosition) → are_all_sound p kind ws ≡ true → i < length ws → w ≡ get_or ws i 0 → next ≡ done ++ all_with_position (i + 1) (f (value_at p kind w)) → done ++ names_with_list_positions (i + 1) (map f (drop i (plains_at p kind ws))) ≡ all → next ++ names_with_list_positions (i + 1 + 1) (map f (drop (i + 1) (plains_at p kind ws))) ≡ all
 one_list p kind f ws i w done next all sound lt word n so =
     let c : length (plains_at p kind ws) ≡ length ws = plain_count p kind ws sound in
     let here : value_at p kind w ≡ get_or (plains_at p kind ws) i null = ap (value_at p kind) word ∙ plain_is p kind ws i sound lt in
-    let left : List NameWithPosition = by_list_from (i + 1 + 1) (map f (drop (i + 1) (plains_at p kind ws))) in
-    ap (λ front. front ++ left) (n ∙ ap (λ v. done ++ all_at (i + 1) (f v)) here)
-    ∙ (append_assoc done (all_at (i + 1) (f (get_or (plains_at p kind ws) i null))) left
+    let left : List NameWithPosition = names_with_list_positions (i + 1 + 1) (map f (drop (i + 1) (plains_at p kind ws))) in
+    ap (λ front. front ++ left) (n ∙ ap (λ v. done ++ all_with_position (i + 1) (f v)) here)
+    ∙ (append_assoc done (all_with_position (i + 1) (f (get_or (plains_at p kind ws) i null))) left
     ∙ (ap (λ rest. done ++ rest) (sym (more_lists f (plains_at p kind ws) i (i + 1) (omega arith))) ∙ so))
 
-pub no_list : (p : List ℕ) (kind : Kind) (f : Plain → List (List ℕ)) (ws : List ℕ) (i m : ℕ) (done all : List NameWithPosition) → are_all_sound p kind ws ≡ true → length ws ≤ i → done ++ by_list_from m (map f (drop i (plains_at p kind ws))) ≡ all → done ≡ all
+pub no_list : (p : List ℕ) (kind : Kind) (f : Plain → List (List ℕ)) (ws : List ℕ) (i m : ℕ) (done all : List NameWithPosition) → are_all_sound p kind ws ≡ true → length ws ≤ i → done ++ names_with_list_positions m (map f (drop i (plains_at p kind ws))) ≡ all → done ≡ all
 no_list p kind f ws i m done all sound past so =
     let c : length (plains_at p kind ws) ≡ length ws = plain_count p kind ws sound in
     sym (append-nil done) ∙ (ap (λ rest. done ++ rest) (sym (no_lists f (plains_at p kind ws) i m (omega arith))) ∙ so)
 
 -- ---- the paths of a folder, and of a package
 
-pub under_folder : (n : ℕ) (name : List ℕ) (folder files : Plain) → name ≡ name_of folder → files ≡ entry_in folder 2 → flat_map (λ file. named_at (path_of name (name_of file)) n ∷ []) (list_of (entries_in files)) ≡ all_at n (paths_under folder)
+pub under_folder : (n : ℕ) (name : List ℕ) (folder files : Plain) → name ≡ name_of folder → files ≡ entry_in folder 2 → flat_map (λ file. name_with_position (path_of name (name_of file)) n ∷ []) (list_of (entries_in files)) ≡ all_with_position n (paths_under folder)
 under_folder n name folder files e v =
-    all_at-map n (λ file. path_of name (name_of file)) (list_of (entries_in files))
-    ∙ (λ i. all_at n (map (λ file. path_of (e i) (name_of file)) (list_of (entries_in (v i)))))
+    all_with_position-map n (λ file. path_of name (name_of file)) (list_of (entries_in files))
+    ∙ (λ i. all_with_position n (map (λ file. path_of (e i) (name_of file)) (list_of (entries_in (v i)))))
 
-pub in_package : (n : ℕ) (pkg folders : Plain) → folders ≡ entry_in pkg 1 → flat_map (λ folder. all_at n (paths_under folder)) (list_of (entries_in folders)) ≡ all_at n (paths_in pkg)
-in_package n pkg folders v = all_at-pieces n paths_under (list_of (entries_in folders)) ∙ (λ i. all_at n (flat_map paths_under (list_of (entries_in (v i)))))
+pub in_package : (n : ℕ) (pkg folders : Plain) → folders ≡ entry_in pkg 1 → flat_map (λ folder. all_with_position n (paths_under folder)) (list_of (entries_in folders)) ≡ all_with_position n (paths_in pkg)
+in_package n pkg folders v = all_with_position-pieces n paths_under (list_of (entries_in folders)) ∙ (λ i. all_with_position n (flat_map paths_under (list_of (entries_in (v i)))))

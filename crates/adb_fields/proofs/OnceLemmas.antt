@@ -6,20 +6,20 @@ use Rattle.base_core.proofs.Causes.{both_none, none_both}
 use Rattle.adb_view.specs.declared.tables.Which.{Which}
 use Rattle.adb_view.specs.declared.tables.Which.TheVariants.{Dep, Acl, PkgInfo, File, Dir, Scripts, Package, Index, Idb, Intent}
 use Rattle.adb_fields.specs.declared.pairs.Pair.{Pair}
-use Rattle.adb_fields.specs.Pairs.{NameWithPosition, is_reported_before, reported_of_two}
-use Rattle.adb_fields.specs.FirstPair.{IsFirstOf}
-use Rattle.adb_fields.specs.FirstPair.{IsPair}
+use Rattle.adb_fields.specs.Pairs.{NameWithPosition, is_lesser_pair, lesser_pair}
+use Rattle.adb_fields.specs.FirstPair.{IsLeastPairIfAny}
+use Rattle.adb_fields.specs.FirstPair.{IsPairOfEqualNames}
 use Rattle.adb_fields.specs.FirstPair.{IsIn}
 use Rattle.adb_view.specs.FieldIndexes.{DIR_NAME, FILE_NAME, IDB_PACKAGES, INTENT_WRITES}
-use Rattle.adb_fields.specs.Repeated.{field_number, numbered_from, all_at, by_list_from, first_repeat, twice_in_one, first_name_in_two_lists, entries_at, folder_twice, file_twice, package_twice, path_in_two, name_twice, repeated_at, inside_fault, between_fault, repeated_fault}
-use Rattle.adb_fields.specs.Once.{AreDistinctNames, AllDistinct, IsInOneOf, AreApart, HaveNoRepeatInside, HaveNoRepeatBetween, HasNoRepeatedName}
+use Rattle.adb_fields.specs.Repeated.{field_number, numbered_from, all_with_position, names_with_list_positions, first_repeat, repeated_pair_in_one_list, first_name_in_two_lists, entries_at, folder_twice, file_twice, package_twice, path_of_two_packages, repeated_intent_name, repeated_cause, repeated_within_package_fault, repeated_between_packages_fault, repeated_fault}
+use Rattle.adb_fields.specs.Once.{AreDistinctNames, EachHasDistinctNames, IsInOneOf, ShareNoName, HaveNoRepeatInside, HaveNoRepeatBetween, HasNoRepeatedName}
 use Rattle.adb_fields.proofs.Members.{in-front, in-behind, in-either, in-map, from-map}
-use Rattle.adb_fields.proofs.FirstPair.{first_pair-first}
+use Rattle.adb_fields.proofs.FirstPair.{least_pair_of_equal_names-first}
 
 -- ---- one list
 
 abbrev NoPair : List NameWithPosition → Type 0
-NoPair names = (q : Pair) → ¬ IsPair names q
+NoPair names = (q : Pair) → ¬ IsPairOfEqualNames names q
 
 -- a name after is at a later position
 pub record IsInTreeAt (name : List ℕ) (n : ℕ) (names : List NameWithPosition) : Type 0 where
@@ -51,10 +51,10 @@ of_numbered one n (x ∷ xs) (inr h) =
     let l : n + 1 ≤ one.position = r.later in
     record { inside = inr r.inside; later = omega arith }
 
-pair_of_two : (names : List NameWithPosition) (a b : NameWithPosition) → IsIn a names → IsIn b names → a.name ≡ b.name → a.position < b.position → IsPair names (record { first = a.position; second = b.position })
+pair_of_two : (names : List NameWithPosition) (a b : NameWithPosition) → IsIn a names → IsIn b names → a.name ≡ b.name → a.position < b.position → IsPairOfEqualNames names (record { first = a.position; second = b.position })
 pair_of_two names a b h k e l = record { one = a; other = b; one_in = h; other_in = k; alike = e; first = refl; second = refl; rises = l }
 
-wider : (x : NameWithPosition) (xs : List NameWithPosition) (q : Pair) → IsPair xs q → IsPair (x ∷ xs) q
+wider : (x : NameWithPosition) (xs : List NameWithPosition) (q : Pair) → IsPairOfEqualNames xs q → IsPairOfEqualNames (x ∷ xs) q
 wider x xs q k = record { one = k.one; other = k.other; one_in = inr k.one_in; other_in = inr k.other_in; alike = k.alike; first = k.first; second = k.second; rises = k.rises }
 
 distinct : (n : ℕ) (names : List (List ℕ)) → NoPair (numbered_from n names) → AreDistinctNames names
@@ -89,18 +89,18 @@ no_pair n (x ∷ xs) d = λ q k.
     let e = k.first in let f = k.second in let g = k.rises in
     no_pair_by n x xs k.one k.other d.0 (no_pair (n + 1) xs d.1) k.one_in k.other_in k.alike (omega arith)
 
-none_of : (IsOne : Pair → Type 0) (o : Option Pair) → IsFirstOf IsOne o → o ≡ None → (q : Pair) → ¬ IsOne q
-none_of IsOne o first e = let P : Option Pair → Type 0 = λ p. IsFirstOf IsOne p in subst P e first
+none_of : (IsOne : Pair → Type 0) (o : Option Pair) → IsLeastPairIfAny IsOne o → o ≡ None → (q : Pair) → ¬ IsOne q
+none_of IsOne o first e = let P : Option Pair → Type 0 = λ p. IsLeastPairIfAny IsOne p in subst P e first
 
-is_none_by : (IsOne : Pair → Type 0) (o : Option Pair) → IsFirstOf IsOne o → ((q : Pair) → ¬ IsOne q) → o ≡ None
+is_none_by : (IsOne : Pair → Type 0) (o : Option Pair) → IsLeastPairIfAny IsOne o → ((q : Pair) → ¬ IsOne q) → o ≡ None
 is_none_by IsOne None first h = refl
 is_none_by IsOne (Some p) first h = absurd (h p first.is_one)
 
 pub twice_none : (names : List (List ℕ)) → first_repeat names ≡ None → AreDistinctNames names
-twice_none names e = distinct 1 names (none_of (IsPair (numbered_from 1 names)) (first_repeat names) (first_pair-first (numbered_from 1 names)) e)
+twice_none names e = distinct 1 names (none_of (IsPairOfEqualNames (numbered_from 1 names)) (first_repeat names) (least_pair_of_equal_names-first (numbered_from 1 names)) e)
 
 pub none_twice : (names : List (List ℕ)) → AreDistinctNames names → first_repeat names ≡ None
-none_twice names d = is_none_by (IsPair (numbered_from 1 names)) (first_repeat names) (first_pair-first (numbered_from 1 names)) (no_pair 1 names d)
+none_twice names d = is_none_by (IsPairOfEqualNames (numbered_from 1 names)) (first_repeat names) (least_pair_of_equal_names-first (numbered_from 1 names)) (no_pair 1 names d)
 
 -- ---- several lists, each for itself
 
@@ -108,38 +108,38 @@ never_none : (b : Bool) (p q : Pair) → cond b (Some q) (Some p) ≡ None → �
 never_none true p q e = cc
 never_none false p q e = cc
 
-earlier_none : (a b : Option Pair) → reported_of_two a b ≡ None → (a ≡ None) × (b ≡ None)
+earlier_none : (a b : Option Pair) → lesser_pair a b ≡ None → (a ≡ None) × (b ≡ None)
 earlier_none None b e = (refl, e)
 earlier_none (Some p) None e = absurd (cc)
-earlier_none (Some p) (Some q) e = absurd (never_none (is_reported_before q p) p q e)
+earlier_none (Some p) (Some q) e = absurd (never_none (is_lesser_pair q p) p q e)
 
-none_earlier : (a b : Option Pair) → a ≡ None → b ≡ None → reported_of_two a b ≡ None
+none_earlier : (a b : Option Pair) → a ≡ None → b ≡ None → lesser_pair a b ≡ None
 none_earlier None b e f = f
 none_earlier (Some p) b e f = absurd (cc)
 
-each_none : (lists : List (List (List ℕ))) → twice_in_one lists ≡ None → AllDistinct lists
+each_none : (lists : List (List (List ℕ))) → repeated_pair_in_one_list lists ≡ None → EachHasDistinctNames lists
 each_none [] e = tt
 each_none (names ∷ lists) e =
-    let (one, others) = earlier_none (first_repeat names) (twice_in_one lists) e in (twice_none names one, each_none lists others)
+    let (one, others) = earlier_none (first_repeat names) (repeated_pair_in_one_list lists) e in (twice_none names one, each_none lists others)
 
-none_each : (lists : List (List (List ℕ))) → AllDistinct lists → twice_in_one lists ≡ None
+none_each : (lists : List (List (List ℕ))) → EachHasDistinctNames lists → repeated_pair_in_one_list lists ≡ None
 none_each [] d = refl
-none_each (names ∷ lists) d = none_earlier (first_repeat names) (twice_in_one lists) (none_twice names d.0) (none_each lists d.1)
+none_each (names ∷ lists) d = none_earlier (first_repeat names) (repeated_pair_in_one_list lists) (none_twice names d.0) (none_each lists d.1)
 
 -- ---- between several lists
 
-stands_in_one : (name : List ℕ) (n : ℕ) (lists : List (List (List ℕ))) → IsInOneOf name lists → IsInTreeAt name n (by_list_from n lists)
+stands_in_one : (name : List ℕ) (n : ℕ) (lists : List (List (List ℕ))) → IsInOneOf name lists → IsInTreeAt name n (names_with_list_positions n lists)
 stands_in_one name n [] h = absurd h
 stands_in_one name n (names ∷ lists) (inl h) = record {
   one = record { name = name; position = n };
-  inside = in-front _ (all_at n names) (by_list_from (n + 1) lists) (in-map (λ m. record { name = m; position = n }) name names h);
+  inside = in-front _ (all_with_position n names) (names_with_list_positions (n + 1) lists) (in-map (λ m. record { name = m; position = n }) name names h);
   alike = refl;
   later = omega arith;
 }
 stands_in_one name n (names ∷ lists) (inr h) =
     let r = stands_in_one name (n + 1) lists h in
     let l : n + 1 ≤ r.one.position = r.later in
-    record { one = r.one; inside = in-behind r.one (all_at n names) (by_list_from (n + 1) lists) r.inside; alike = r.alike; later = omega arith }
+    record { one = r.one; inside = in-behind r.one (all_with_position n names) (names_with_list_positions (n + 1) lists) r.inside; alike = r.alike; later = omega arith }
 
 pub record IsOfOne (one : NameWithPosition) (n : ℕ) (lists : List (List (List ℕ))) : Type 0 where
   pub inside : IsInOneOf one.name lists
@@ -150,36 +150,36 @@ pub record IsHere (one : NameWithPosition) (n : ℕ) (names : List (List ℕ)) :
   pub inside : IsIn one.name names
   pub at : one.position ≡ n
 
-here : (one : NameWithPosition) (n : ℕ) (names : List (List ℕ)) → IsIn one (all_at n names) → IsHere one n names
+here : (one : NameWithPosition) (n : ℕ) (names : List (List ℕ)) → IsIn one (all_with_position n names) → IsHere one n names
 here one n names h =
     let r = from-map (λ m. record { name = m; position = n }) one names h in
     let P : List ℕ → Type 0 = λ m. IsIn m names in
     record { inside = subst P (sym (ap (λ m. m.name) r.2)) r.1; at = ap (λ m. m.position) r.2 }
 
-of_lists : (one : NameWithPosition) (n : ℕ) (lists : List (List (List ℕ))) → IsIn one (by_list_from n lists) → IsOfOne one n lists
+of_lists : (one : NameWithPosition) (n : ℕ) (lists : List (List (List ℕ))) → IsIn one (names_with_list_positions n lists) → IsOfOne one n lists
 of_lists one n [] h = absurd h
 of_lists one n (names ∷ lists) h =
-    elim (in-either one (all_at n names) (by_list_from (n + 1) lists) h) [
+    elim (in-either one (all_with_position n names) (names_with_list_positions (n + 1) lists) h) [
       | inl k ↦ let r = here one n names k in let e = r.at in record { inside = inl r.inside; later = omega arith }
       | inr k ↦ let r = of_lists one (n + 1) lists k in let l : n + 1 ≤ one.position = r.later in record { inside = inr r.inside; later = omega arith }
     ]
 
-apart : (n : ℕ) (lists : List (List (List ℕ))) → NoPair (by_list_from n lists) → AreApart lists
+apart : (n : ℕ) (lists : List (List (List ℕ))) → NoPair (names_with_list_positions n lists) → ShareNoName lists
 apart n [] h = tt
 apart n (names ∷ lists) h = (
   λ name k others.
       let r = stands_in_one name (n + 1) lists others in
       let l : n + 1 ≤ r.one.position = r.later in
       h _
-      (pair_of_two (by_list_from n (names ∷ lists)) (record { name = name; position = n }) r.one
-      (in-front _ (all_at n names) (by_list_from (n + 1) lists) (in-map (λ m. record { name = m; position = n }) name names k))
-      (in-behind r.one (all_at n names) (by_list_from (n + 1) lists) r.inside) r.alike (omega arith)),
+      (pair_of_two (names_with_list_positions n (names ∷ lists)) (record { name = name; position = n }) r.one
+      (in-front _ (all_with_position n names) (names_with_list_positions (n + 1) lists) (in-map (λ m. record { name = m; position = n }) name names k))
+      (in-behind r.one (all_with_position n names) (names_with_list_positions (n + 1) lists) r.inside) r.alike (omega arith)),
   apart (n + 1) lists
       (λ q k. h q (record {
         one = k.one;
         other = k.other;
-        one_in = in-behind k.one (all_at n names) (by_list_from (n + 1) lists) k.one_in;
-        other_in = in-behind k.other (all_at n names) (by_list_from (n + 1) lists) k.other_in;
+        one_in = in-behind k.one (all_with_position n names) (names_with_list_positions (n + 1) lists) k.one_in;
+        other_in = in-behind k.other (all_with_position n names) (names_with_list_positions (n + 1) lists) k.other_in;
         alike = k.alike;
         first = k.first;
         second = k.second;
@@ -187,8 +187,8 @@ apart n (names ∷ lists) h = (
       })),
 )
 
-no_pair_between : (n : ℕ) (names : List (List ℕ)) (lists : List (List (List ℕ))) (a b : NameWithPosition) → ((name : List ℕ) → IsIn name names → ¬ IsInOneOf name lists) → NoPair (by_list_from (n + 1) lists)
-    → IsIn a (all_at n names) ⊎ IsIn a (by_list_from (n + 1) lists) → IsIn b (all_at n names) ⊎ IsIn b (by_list_from (n + 1) lists) → a.name ≡ b.name → a.position < b.position → ⊥
+no_pair_between : (n : ℕ) (names : List (List ℕ)) (lists : List (List (List ℕ))) (a b : NameWithPosition) → ((name : List ℕ) → IsIn name names → ¬ IsInOneOf name lists) → NoPair (names_with_list_positions (n + 1) lists)
+    → IsIn a (all_with_position n names) ⊎ IsIn a (names_with_list_positions (n + 1) lists) → IsIn b (all_with_position n names) ⊎ IsIn b (names_with_list_positions (n + 1) lists) → a.name ≡ b.name → a.position < b.position → ⊥
 no_pair_between n names lists a b once none (inl h) (inl k) same less =
     let e = (here a n names h).at in let f = (here b n names k).at in omega arith
 no_pair_between n names lists a b once none (inl h) (inr k) same less =
@@ -196,51 +196,51 @@ no_pair_between n names lists a b once none (inl h) (inr k) same less =
     once a.name (here a n names h).inside (subst P (sym same) (of_lists b (n + 1) lists k).inside)
 no_pair_between n names lists a b once none (inr h) (inl k) same less =
     let l : n + 1 ≤ a.position = (of_lists a (n + 1) lists h).later in let f = (here b n names k).at in omega arith
-no_pair_between n names lists a b once none (inr h) (inr k) same less = none _ (pair_of_two (by_list_from (n + 1) lists) a b h k same less)
+no_pair_between n names lists a b once none (inr h) (inr k) same less = none _ (pair_of_two (names_with_list_positions (n + 1) lists) a b h k same less)
 
-none_between : (n : ℕ) (lists : List (List (List ℕ))) → AreApart lists → NoPair (by_list_from n lists)
+none_between : (n : ℕ) (lists : List (List (List ℕ))) → ShareNoName lists → NoPair (names_with_list_positions n lists)
 none_between n [] d = λ q k. k.one_in
 none_between n (names ∷ lists) d = λ q k.
     let e = k.first in let f = k.second in let g = k.rises in
     no_pair_between n names lists k.one k.other d.0 (none_between (n + 1) lists d.1)
-    (in-either k.one (all_at n names) (by_list_from (n + 1) lists) k.one_in) (in-either k.other (all_at n names) (by_list_from (n + 1) lists) k.other_in) k.alike (omega arith)
+    (in-either k.one (all_with_position n names) (names_with_list_positions (n + 1) lists) k.one_in) (in-either k.other (all_with_position n names) (names_with_list_positions (n + 1) lists) k.other_in) k.alike (omega arith)
 
-two_none : (lists : List (List (List ℕ))) → first_name_in_two_lists lists ≡ None → AreApart lists
-two_none lists e = apart 1 lists (none_of (IsPair (by_list_from 1 lists)) (first_name_in_two_lists lists) (first_pair-first (by_list_from 1 lists)) e)
+two_none : (lists : List (List (List ℕ))) → first_name_in_two_lists lists ≡ None → ShareNoName lists
+two_none lists e = apart 1 lists (none_of (IsPairOfEqualNames (names_with_list_positions 1 lists)) (first_name_in_two_lists lists) (least_pair_of_equal_names-first (names_with_list_positions 1 lists)) e)
 
-none_two : (lists : List (List (List ℕ))) → AreApart lists → first_name_in_two_lists lists ≡ None
-none_two lists d = is_none_by (IsPair (by_list_from 1 lists)) (first_name_in_two_lists lists) (first_pair-first (by_list_from 1 lists)) (none_between 1 lists d)
+none_two : (lists : List (List (List ℕ))) → ShareNoName lists → first_name_in_two_lists lists ≡ None
+none_two lists d = is_none_by (IsPairOfEqualNames (names_with_list_positions 1 lists)) (first_name_in_two_lists lists) (least_pair_of_equal_names-first (names_with_list_positions 1 lists)) (none_between 1 lists d)
 
 -- ---- kind by kind
 
-at_none : (n : ℕ) (o : Option Pair) → repeated_at n o ≡ None → o ≡ None
+at_none : (n : ℕ) (o : Option Pair) → repeated_cause n o ≡ None → o ≡ None
 at_none n None e = refl
 at_none n (Some p) e = absurd (cc)
 
-none_at : (n : ℕ) (o : Option Pair) → o ≡ None → repeated_at n o ≡ None
+none_at : (n : ℕ) (o : Option Pair) → o ≡ None → repeated_cause n o ≡ None
 none_at n None e = refl
 none_at n (Some p) e = absurd (cc)
 
-inside_once : (packages : List Plain) → inside_fault packages ≡ None → HaveNoRepeatInside packages
+inside_once : (packages : List Plain) → repeated_within_package_fault packages ≡ None → HaveNoRepeatInside packages
 inside_once packages e =
-    let (a, b) = both_none (repeated_at (field_number Dir DIR_NAME) (folder_twice packages)) (repeated_at (field_number File FILE_NAME) (file_twice packages)) e in
+    let (a, b) = both_none (repeated_cause (field_number Dir DIR_NAME) (folder_twice packages)) (repeated_cause (field_number File FILE_NAME) (file_twice packages)) e in
     record { folders = each_none _ (at_none (field_number Dir DIR_NAME) (folder_twice packages) a); files = each_none _ (at_none (field_number File FILE_NAME) (file_twice packages) b) }
 
-once_inside : (packages : List Plain) → HaveNoRepeatInside packages → inside_fault packages ≡ None
+once_inside : (packages : List Plain) → HaveNoRepeatInside packages → repeated_within_package_fault packages ≡ None
 once_inside packages d =
-    none_both (repeated_at (field_number Dir DIR_NAME) (folder_twice packages)) (repeated_at (field_number File FILE_NAME) (file_twice packages)) (none_at (field_number Dir DIR_NAME) (folder_twice packages) (none_each _ d.folders)) (none_at (field_number File FILE_NAME) (file_twice packages) (none_each _ d.files))
+    none_both (repeated_cause (field_number Dir DIR_NAME) (folder_twice packages)) (repeated_cause (field_number File FILE_NAME) (file_twice packages)) (none_at (field_number Dir DIR_NAME) (folder_twice packages) (none_each _ d.folders)) (none_at (field_number File FILE_NAME) (file_twice packages) (none_each _ d.files))
 
-between_once : (packages : List Plain) → between_fault packages ≡ None → HaveNoRepeatBetween packages
+between_once : (packages : List Plain) → repeated_between_packages_fault packages ≡ None → HaveNoRepeatBetween packages
 between_once packages e =
-    let (a, b) = both_none (repeated_at (field_number Idb IDB_PACKAGES) (package_twice packages)) (repeated_at (field_number File FILE_NAME) (path_in_two packages)) e in
-    record { packages_once = twice_none _ (at_none (field_number Idb IDB_PACKAGES) (package_twice packages) a); paths_once = two_none _ (at_none (field_number File FILE_NAME) (path_in_two packages) b) }
+    let (a, b) = both_none (repeated_cause (field_number Idb IDB_PACKAGES) (package_twice packages)) (repeated_cause (field_number File FILE_NAME) (path_of_two_packages packages)) e in
+    record { packages_once = twice_none _ (at_none (field_number Idb IDB_PACKAGES) (package_twice packages) a); paths_once = two_none _ (at_none (field_number File FILE_NAME) (path_of_two_packages packages) b) }
 
-once_between : (packages : List Plain) → HaveNoRepeatBetween packages → between_fault packages ≡ None
+once_between : (packages : List Plain) → HaveNoRepeatBetween packages → repeated_between_packages_fault packages ≡ None
 once_between packages d =
-    none_both (repeated_at (field_number Idb IDB_PACKAGES) (package_twice packages)) (repeated_at (field_number File FILE_NAME) (path_in_two packages)) (none_at (field_number Idb IDB_PACKAGES) (package_twice packages) (none_twice _ d.packages_once)) (none_at (field_number File FILE_NAME) (path_in_two packages) (none_two _ d.paths_once))
+    none_both (repeated_cause (field_number Idb IDB_PACKAGES) (package_twice packages)) (repeated_cause (field_number File FILE_NAME) (path_of_two_packages packages)) (none_at (field_number Idb IDB_PACKAGES) (package_twice packages) (none_twice _ d.packages_once)) (none_at (field_number File FILE_NAME) (path_of_two_packages packages) (none_two _ d.paths_once))
 
-database_once : (packages : List Plain) → option_or (inside_fault packages) (between_fault packages) ≡ None → HaveNoRepeatInside packages × HaveNoRepeatBetween packages
-database_once packages e = let (a, b) = both_none (inside_fault packages) (between_fault packages) e in (inside_once packages a, between_once packages b)
+database_once : (packages : List Plain) → option_or (repeated_within_package_fault packages) (repeated_between_packages_fault packages) ≡ None → HaveNoRepeatInside packages × HaveNoRepeatBetween packages
+database_once packages e = let (a, b) = both_none (repeated_within_package_fault packages) (repeated_between_packages_fault packages) e in (inside_once packages a, between_once packages b)
 
 pub names_once : (which : Which) (v : Plain) → (repeated_fault which v ≡ None) ↔ HasNoRepeatedName which v
 unfolding repeated_fault
@@ -254,6 +254,6 @@ names_once Package v = (inside_once (v ∷ []), once_inside (v ∷ []))
 names_once Index v = (λ e. tt, λ d. refl)
 names_once Idb v = (
   database_once (entries_at 0 v),
-  λ d. none_both (inside_fault (entries_at 0 v)) (between_fault (entries_at 0 v)) (once_inside (entries_at 0 v) d.0) (once_between (entries_at 0 v) d.1),
+  λ d. none_both (repeated_within_package_fault (entries_at 0 v)) (repeated_between_packages_fault (entries_at 0 v)) (once_inside (entries_at 0 v) d.0) (once_between (entries_at 0 v) d.1),
 )
-names_once Intent v = (λ e. twice_none _ (at_none (field_number Intent INTENT_WRITES) (name_twice v) e), λ d. none_at (field_number Intent INTENT_WRITES) (name_twice v) (none_twice _ d))
+names_once Intent v = (λ e. twice_none _ (at_none (field_number Intent INTENT_WRITES) (repeated_intent_name v) e), λ d. none_at (field_number Intent INTENT_WRITES) (repeated_intent_name v) (none_twice _ d))

@@ -7,7 +7,7 @@ use Rattle.adb_fields.specs.Repeated.{numbered_from}
 use Rattle.adb_fields.specs.declared.pairs.Pair.{Pair}
 
 -- one name is at both positions of the pair, the first of which is the smaller
-pub record IsPair (names : List NameWithPosition) (p : Pair) : Type 0 where
+pub record IsPairOfEqualNames (names : List NameWithPosition) (p : Pair) : Type 0 where
   -- the name at the first position
   pub one : NameWithPosition
   -- the name at the second one
@@ -22,7 +22,7 @@ pub record IsPair (names : List NameWithPosition) (p : Pair) : Type 0 where
 
 -- a pair of a kind is the first: none has a smaller second position, and none with the same second
 -- position has a smaller first one
-pub record IsFirst (IsOne : Pair → Type 0) (p : Pair) : Type 0 where
+pub record IsLeastPair (IsOne : Pair → Type 0) (p : Pair) : Type 0 where
   pub is_one : IsOne p
   -- no pair has a smaller second position
   pub second : (q : Pair) → IsOne q → p.second ≤ q.second
@@ -30,13 +30,13 @@ pub record IsFirst (IsOne : Pair → Type 0) (p : Pair) : Type 0 where
   pub first : (q : Pair) → IsOne q → q.second ≡ p.second → p.first ≤ q.first
 
 -- this is the first of all pairs of a kind, or None if there is none
-abbrev pub IsFirstOf : (Pair → Type 0) → Option Pair → Type 0
-IsFirstOf IsOne None = (q : Pair) → ¬ IsOne q
-IsFirstOf IsOne (Some p) = IsFirst IsOne p
+abbrev pub IsLeastPairIfAny : (Pair → Type 0) → Option Pair → Type 0
+IsLeastPairIfAny IsOne None = (q : Pair) → ¬ IsOne q
+IsLeastPairIfAny IsOne (Some p) = IsLeastPair IsOne p
 
 -- one of several lists has one name at both positions of the pair
 pub record IsPairInOne (lists : List (List (List ℕ))) (p : Pair) : Type 0 where
   -- the list that has the name twice
   pub names : List (List ℕ)
   pub names_in : IsIn names lists
-  pub is_pair : IsPair (numbered_from 1 names) p
+  pub is_pair : IsPairOfEqualNames (numbered_from 1 names) p

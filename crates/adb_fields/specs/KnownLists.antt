@@ -10,11 +10,11 @@ use Rattle.adb_fields.specs.Repeated.{first_repeat, list_of, name_of}
 use Rattle.adb_fields.specs.declared.pairs.Pair.{Pair}
 
 -- the first pair of positions of one name in the list of objects of a word
-abbrev pub twice_at : List ℕ → Which → ℕ → Option Pair
-twice_at payload which word = first_repeat (map name_of
+abbrev pub repeated_name_pair_at : List ℕ → Which → ℕ → Option Pair
+repeated_name_pair_at payload which word = first_repeat (map name_of
     (list_of (entries_in (value_at payload (ObjArr which) word))))
 
 -- each result that is remembered for a word is that of the word's list
-abbrev pub ArePairsOf : List ℕ → Which → BTreeMap ℕ (Option Pair) → Type 0
-ArePairsOf payload which pairs = (word : ℕ) → (pair : Option Pair)
-    → get nat_cmp pairs word ≡ Some pair → pair ≡ twice_at payload which word
+abbrev pub AreRepeatedPairsOfWords : List ℕ → Which → BTreeMap ℕ (Option Pair) → Type 0
+AreRepeatedPairsOfWords payload which pairs = (word : ℕ) → (pair : Option Pair)
+    → get nat_cmp pairs word ≡ Some pair → pair ≡ repeated_name_pair_at payload which word

@@ -5,5 +5,5 @@ use Rattle.adb_view.specs.declared.tables.Which.{Which}
 use Rattle.adb_fields.specs.declared.known_lists.KnownLists.{KnownLists}
 
 -- the remembered lists are those of objects of this table in this payload
-abbrev pub AreListsOf : Adb → Which → KnownLists → Type 0
-AreListsOf adb which lists = (lists.adb ≡ adb) × (lists.which ≡ which)
+abbrev pub AreRememberedListsOf : Adb → Which → KnownLists → Type 0
+AreRememberedListsOf adb which lists = (lists.adb ≡ adb) × (lists.which ≡ which)

@@ -6,7 +6,7 @@ use Rattle.adb_fields.specs.JoinedPath.{joined_path}
 use Rattle.std.specs.Ordering.{nat_cmp, ordering_then}
 use Rattle.std.specs.declared.cmp.Ordering.{Ordering}
 use Rattle.std.specs.Cmp.Lexicographic.{slice_cmp}
-use Rattle.adb_fields.specs.Pairs.{NameWithPosition, pair_of}
+use Rattle.adb_fields.specs.Pairs.{NameWithPosition, pair_if_same_name}
 use Rattle.adb_fields.specs.declared.pairs.Pair.{Pair}
 use Rattle.adb_view.specs.Plain.{Plain}
 use Rattle.adb_view.specs.Values.{entries_in}
@@ -16,18 +16,18 @@ use Rattle.adb_fields.specs.declared.pairs.PathWithPosition.{PathWithPosition}
 
 -- the name that an entry of the program's list represents, with its position: if there is a folder, a
 -- path
-abbrev pub named_by : PathWithPosition → NameWithPosition
-named_by e = record { name = joined_path e.path; position = e.position }
+abbrev pub joined_name_with_position : PathWithPosition → NameWithPosition
+joined_name_with_position e = record { name = joined_path e.path; position = e.position }
 
 -- the order in which names are sorted: by name, and equal names by position
-abbrev pub named_cmp : NameWithPosition → NameWithPosition → Ordering
-named_cmp x y = ordering_then (slice_cmp nat_cmp x.name y.name) (nat_cmp x.position y.position)
+abbrev pub name_with_position_cmp : NameWithPosition → NameWithPosition → Ordering
+name_with_position_cmp x y = ordering_then (slice_cmp nat_cmp x.name y.name) (nat_cmp x.position y.position)
 
 -- the pairs of positions of a name and the next one, and so on while the names are equal; None between
--- two names that differ. *first_reported* returns the pair that is reported
+-- two names that differ. *least_pair* returns the pair that is reported
 abbrev pub neighbours_from : NameWithPosition → List NameWithPosition → List (Option Pair)
 neighbours_from x [] = []
-neighbours_from x (y ∷ ys) = pair_of x y ∷ neighbours_from y ys
+neighbours_from x (y ∷ ys) = pair_if_same_name x y ∷ neighbours_from y ys
 
 -- the pairs of positions that each name of a list makes with the next one; None if the two names differ
 abbrev pub neighbours : List NameWithPosition → List (Option Pair)
@@ -35,8 +35,8 @@ neighbours [] = []
 neighbours (x ∷ xs) = neighbours_from x xs
 
 -- a name with its position
-abbrev pub named_at : List ℕ → ℕ → NameWithPosition
-named_at name position = record { name = name; position = position }
+abbrev pub name_with_position : List ℕ → ℕ → NameWithPosition
+name_with_position name position = record { name = name; position = position }
 
 -- the plain values of an array's words under the kind, as a list
 abbrev pub plains_at : List ℕ → Kind → List ℕ → List Plain

@@ -16,9 +16,9 @@ AreDistinctNames [] = Unit {0}
 AreDistinctNames (name ∷ names) = (¬ IsIn name names) × AreDistinctNames names
 
 -- no name occurs twice in one of these lists
-abbrev pub AllDistinct : List (List (List ℕ)) → Type 0
-AllDistinct [] = Unit {0}
-AllDistinct (names ∷ lists) = AreDistinctNames names × AllDistinct lists
+abbrev pub EachHasDistinctNames : List (List (List ℕ)) → Type 0
+EachHasDistinctNames [] = Unit {0}
+EachHasDistinctNames (names ∷ lists) = AreDistinctNames names × EachHasDistinctNames lists
 
 -- a name is in one of the lists
 abbrev pub IsInOneOf : List ℕ → List (List (List ℕ)) → Type 0
@@ -26,17 +26,17 @@ IsInOneOf name [] = ⊥
 IsInOneOf name (names ∷ lists) = IsIn name names ⊎ IsInOneOf name lists
 
 -- no name is in two of the lists
-abbrev pub AreApart : List (List (List ℕ)) → Type 0
-AreApart [] = Unit {0}
-AreApart (names ∷ lists) = ((name : List ℕ) → IsIn name names → ¬ IsInOneOf name lists)
-    × AreApart lists
+abbrev pub ShareNoName : List (List (List ℕ)) → Type 0
+ShareNoName [] = Unit {0}
+ShareNoName (names ∷ lists) = ((name : List ℕ) → IsIn name names → ¬ IsInOneOf name lists)
+    × ShareNoName lists
 
 -- no package lists a folder twice, and no folder lists a file twice
 pub record HaveNoRepeatInside (packages : List Plain) : Type 0 where
   -- each package lists a folder once
-  pub folders : AllDistinct (map (λ pkg. map name_of (folders_in pkg)) packages)
+  pub folders : EachHasDistinctNames (map (λ pkg. map name_of (folders_in pkg)) packages)
   -- each folder lists a file once
-  pub files : AllDistinct
+  pub files : EachHasDistinctNames
       (flat_map (λ pkg. map (λ folder. map name_of (files_in folder)) (folders_in pkg)) packages)
 
 -- no two packages have one name, and no two list one path
@@ -44,7 +44,7 @@ pub record HaveNoRepeatBetween (packages : List Plain) : Type 0 where
   -- each package occurs once
   pub packages_once : AreDistinctNames (map package_name packages)
   -- no path is in two packages
-  pub paths_once : AreApart (map paths_in packages)
+  pub paths_once : ShareNoName (map paths_in packages)
 
 -- no name that must not repeat occurs twice in a container, by the table of its root; other tables
 -- demand nothing

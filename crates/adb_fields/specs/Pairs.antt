@@ -10,25 +10,25 @@ pub record NameWithPosition : Type 0 where
   pub position : ℕ
 
 -- whether a pair has priority over another: by the smaller second position, then the smaller first one
-abbrev pub is_reported_before : Pair → Pair → Bool
-is_reported_before p q = nat_lt p.second q.second || (p.second == q.second && nat_lt p.first q.first)
+abbrev pub is_lesser_pair : Pair → Pair → Bool
+is_lesser_pair p q = nat_lt p.second q.second || (p.second == q.second && nat_lt p.first q.first)
 
 -- the pair of two that is reported; None if there is neither
-abbrev pub reported_of_two : Option Pair → Option Pair → Option Pair
-reported_of_two None q = q
-reported_of_two (Some p) None = Some p
-reported_of_two (Some p) (Some q) = if is_reported_before q p then Some q else Some p
+abbrev pub lesser_pair : Option Pair → Option Pair → Option Pair
+lesser_pair None q = q
+lesser_pair (Some p) None = Some p
+lesser_pair (Some p) (Some q) = if is_lesser_pair q p then Some q else Some p
 
 -- the pair of several that is reported; None if there is none
-abbrev pub first_reported : List (Option Pair) → Option Pair
-first_reported [] = None
-first_reported (p ∷ ps) = reported_of_two p (first_reported ps)
+abbrev pub least_pair : List (Option Pair) → Option Pair
+least_pair [] = None
+least_pair (p ∷ ps) = lesser_pair p (least_pair ps)
 
 -- the positions of two entries, if they have one name and the first precedes the second
-abbrev pub pair_of : NameWithPosition → NameWithPosition → Option Pair
-pair_of x y = if bytes_eq x.name y.name && nat_lt x.position y.position
+abbrev pub pair_if_same_name : NameWithPosition → NameWithPosition → Option Pair
+pair_if_same_name x y = if bytes_eq x.name y.name && nat_lt x.position y.position
     then Some (record { first = x.position; second = y.position }) else None
 
 -- the pair that is reported of all pairs of positions of one name
-unfoldable pub first_pair : List NameWithPosition → Option Pair
-first_pair names = first_reported (flat_map (λ x. map (pair_of x) names) names)
+unfoldable pub least_pair_of_equal_names : List NameWithPosition → Option Pair
+least_pair_of_equal_names names = least_pair (flat_map (λ x. map (pair_if_same_name x) names) names)

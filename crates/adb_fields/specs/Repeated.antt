@@ -10,7 +10,7 @@ use Rattle.adb_view.specs.FieldIndexes.{DIR_FILES, DIR_NAME, FILE_NAME, IDB_PACK
 use Rattle.adb_view.specs.Schema.{table_number}
 use Rattle.adb_view.specs.Values.{entries_in, entry_in, text_in}
 use Rattle.adb_fields.specs.Paths.{path_of}
-use Rattle.adb_fields.specs.Pairs.{NameWithPosition, first_pair, first_reported}
+use Rattle.adb_fields.specs.Pairs.{NameWithPosition, least_pair_of_equal_names, least_pair}
 use Rattle.adb_fields.specs.declared.pairs.Pair.{Pair}
 use Rattle.adb_view.specs.declared.tables.Which.{Which}
 use Rattle.adb_view.specs.declared.tables.Which.TheVariants.{File, Dir, Package, Idb, Intent}
@@ -24,25 +24,25 @@ numbered_from n (name ∷ names) = record { name = name; position = n } ∷ numb
 
 -- the pair that is reported of the names of a list; None if each occurs once
 abbrev pub first_repeat : List (List ℕ) → Option Pair
-first_repeat names = first_pair (numbered_from 1 names)
+first_repeat names = least_pair_of_equal_names (numbered_from 1 names)
 
 -- the pair that is reported of several lists, if a name occurs twice in one of them
-abbrev pub twice_in_one : List (List (List ℕ)) → Option Pair
-twice_in_one lists = first_reported (map first_repeat lists)
+abbrev pub repeated_pair_in_one_list : List (List (List ℕ)) → Option Pair
+repeated_pair_in_one_list lists = least_pair (map first_repeat lists)
 
 -- these names, all of them at position n
-abbrev pub all_at : ℕ → List (List ℕ) → List NameWithPosition
-all_at n names = map (λ name. record { name = name; position = n }) names
+abbrev pub all_with_position : ℕ → List (List ℕ) → List NameWithPosition
+all_with_position n names = map (λ name. record { name = name; position = n }) names
 
 -- the names of several lists, each at the position of its list; the first list has position n
-abbrev pub by_list_from : ℕ → List (List (List ℕ)) → List NameWithPosition
-by_list_from n [] = []
-by_list_from n (names ∷ lists) = all_at n names ++ by_list_from (n + 1) lists
+abbrev pub names_with_list_positions : ℕ → List (List (List ℕ)) → List NameWithPosition
+names_with_list_positions n [] = []
+names_with_list_positions n (names ∷ lists) = all_with_position n names ++ names_with_list_positions (n + 1) lists
 
 -- the positions of two lists with a common name, of all such pairs the one that is reported; None if there
 -- is none
 abbrev pub first_name_in_two_lists : List (List (List ℕ)) → Option Pair
-first_name_in_two_lists lists = first_pair (by_list_from 1 lists)
+first_name_in_two_lists lists = least_pair_of_equal_names (names_with_list_positions 1 lists)
 
 -- ---- the names of a container
 
@@ -87,11 +87,11 @@ paths_in pkg = flat_map paths_under (folders_in pkg)
 
 -- the pair of positions in `paths` at which one of these packages lists a folder twice
 abbrev pub folder_twice : List Plain → Option Pair
-folder_twice packages = twice_in_one (map (λ pkg. map name_of (folders_in pkg)) packages)
+folder_twice packages = repeated_pair_in_one_list (map (λ pkg. map name_of (folders_in pkg)) packages)
 
 -- the pair of positions in `files` at which a folder of one of these packages lists a file twice
 abbrev pub file_twice : List Plain → Option Pair
-file_twice packages = twice_in_one
+file_twice packages = repeated_pair_in_one_list
     (flat_map (λ pkg. map (λ folder. map name_of (files_in folder)) (folders_in pkg)) packages)
 
 -- the pair of positions of two packages of one name in a database
@@ -99,12 +99,12 @@ abbrev pub package_twice : List Plain → Option Pair
 package_twice packages = first_repeat (map package_name packages)
 
 -- the pair of positions of two packages that list one path
-abbrev pub path_in_two : List Plain → Option Pair
-path_in_two packages = first_name_in_two_lists (map paths_in packages)
+abbrev pub path_of_two_packages : List Plain → Option Pair
+path_of_two_packages packages = first_name_in_two_lists (map paths_in packages)
 
 -- the pair of positions at which an intent has one name, in its removals followed by its writes
-abbrev pub name_twice : Plain → Option Pair
-name_twice intent = first_repeat
+abbrev pub repeated_intent_name : Plain → Option Pair
+repeated_intent_name intent = first_repeat
     (map text_in (entries_at INTENT_REMOVALS intent) ++ map text_in (entries_at INTENT_WRITES intent))
 
 -- ---- the fault of a container
@@ -114,26 +114,26 @@ abbrev pub field_number : Which → ℕ → ℕ
 field_number which index = 100 * table_number which + (index + 1)
 
 -- the cause of a pair, if there is one, with the number of the field whose texts must not repeat
-abbrev pub repeated_at : ℕ → Option Pair → Option Cause
-repeated_at number pair = option_map (λ p. Repeated number p.first p.second) pair
+abbrev pub repeated_cause : ℕ → Option Pair → Option Cause
+repeated_cause number pair = option_map (λ p. Repeated number p.first p.second) pair
 
 -- the cause for names within one package: a folder, or else a file of a folder
-abbrev pub inside_fault : List Plain → Option Cause
-inside_fault packages =
-    option_or (repeated_at (field_number Dir DIR_NAME) (folder_twice packages))
-    (repeated_at (field_number File FILE_NAME) (file_twice packages))
+abbrev pub repeated_within_package_fault : List Plain → Option Cause
+repeated_within_package_fault packages =
+    option_or (repeated_cause (field_number Dir DIR_NAME) (folder_twice packages))
+    (repeated_cause (field_number File FILE_NAME) (file_twice packages))
 
 -- the cause for names in two packages: the name of a package, or else a path
-abbrev pub between_fault : List Plain → Option Cause
-between_fault packages =
-    option_or (repeated_at (field_number Idb IDB_PACKAGES) (package_twice packages))
-    (repeated_at (field_number File FILE_NAME) (path_in_two packages))
+abbrev pub repeated_between_packages_fault : List Plain → Option Cause
+repeated_between_packages_fault packages =
+    option_or (repeated_cause (field_number Idb IDB_PACKAGES) (package_twice packages))
+    (repeated_cause (field_number File FILE_NAME) (path_of_two_packages packages))
 
 -- the cause for a container with this table at its root: that of the first kind of names of which one
 -- repeats
 unfoldable pub repeated_fault : Which → Plain → Option Cause
-repeated_fault Package v = inside_fault (v ∷ [])
-repeated_fault Idb v = option_or (inside_fault (entries_at IDB_PACKAGES v))
-    (between_fault (entries_at IDB_PACKAGES v))
-repeated_fault Intent v = repeated_at (field_number Intent INTENT_WRITES) (name_twice v)
+repeated_fault Package v = repeated_within_package_fault (v ∷ [])
+repeated_fault Idb v = option_or (repeated_within_package_fault (entries_at IDB_PACKAGES v))
+    (repeated_between_packages_fault (entries_at IDB_PACKAGES v))
+repeated_fault Intent v = repeated_cause (field_number Intent INTENT_WRITES) (repeated_intent_name v)
 repeated_fault which v = None

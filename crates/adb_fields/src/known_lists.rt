@@ -8,13 +8,13 @@ ghost use Rattle.adb_view.specs.Adb.{payload_of};
 ghost use Rattle.adb_view.specs.Entries.{array_entries};
 ghost use Rattle.adb_view.specs.Values.{is_sound, kind_at};
 ghost use Rattle.adb_fields.specs.Fields.{are_all_sound};
-ghost use Rattle.adb_fields.specs.KnownLists.{ArePairsOf, twice_at};
+ghost use Rattle.adb_fields.specs.KnownLists.{AreRepeatedPairsOfWords, repeated_name_pair_at};
 ghost use Rattle.adb_fields.specs.NamedTexts.{plains_at};
 ghost use Rattle.adb_fields.specs.Repeated.{NAME_INDEX, first_repeat, name_of};
 ghost use Rattle.adb_view.specs.declared.tables.Kind.TheVariants as Kinds;
 
 use crate::name_lists::object_names;
-use crate::pairs::{Pair, first_pair};
+use crate::pairs::{Pair, least_pair_of_equal_names};
 use crate::reads::objects_word;
 use adb_view::{Adb, Arr, Val, Which};
 use std::alloc::{AllocError, Global};
@@ -35,17 +35,17 @@ pub(crate) struct KnownLists<'a> {
     /// By the word of a list: its first pair, or None if no name occurs twice in it.
     pairs: BTreeMap<u32, Option<Pair>>,
     ghost named: { kind_at which NAME_INDEX ≡ Some Kinds.Text },
-    ghost exact: { ArePairsOf (payload_of adb) which pairs },
+    ghost exact: { AreRepeatedPairsOfWords (payload_of adb) which pairs },
 }
 
 impl<'a> KnownLists<'a> {
-    ghost use Rattle.adb_fields.specs.ListsOf.{AreListsOf};
+    ghost use Rattle.adb_fields.specs.ListsOf.{AreRememberedListsOf};
 
     /// The lists of a payload before any was searched. The first field of the table must be a text,
     /// which is the name.
     pub(crate) fn new(alloc: Global, adb: Adb<'a>, which: Which) -> KnownLists<'a>
         requires { kind_at which NAME_INDEX ≡ Some Kinds.Text }
-        ensures { AreListsOf adb.entry which result }
+        ensures { AreRememberedListsOf adb.entry which result }
     {
         KnownLists {
             adb,
@@ -63,8 +63,8 @@ impl<'a> KnownLists<'a> {
     ) -> Result<Option<Pair>, AllocError>
         requires { is_sound (payload_of self.old.adb) (Kinds.ObjArr self.old.which) list ≡ true }
         ensures value { IfOk result (λ pair. pair
-            ≡ twice_at (payload_of self.old.adb) self.old.which list) }
-        ensures lists { AreListsOf self.old.adb self.old.which self.new }
+            ≡ repeated_name_pair_at (payload_of self.old.adb) self.old.which list) }
+        ensures lists { AreRememberedListsOf self.old.adb self.old.which self.new }
     {
         let objects = objects_word(self.adb, self.which, list);
         if objects.len() <= LONGEST_SHORT_LIST {
@@ -82,7 +82,7 @@ impl<'a> KnownLists<'a> {
     /// no pair.
     fn kept_pair(&self, list: Val) -> Option<Option<Pair>>
         ensures { IfSome result (λ pair. pair
-            ≡ twice_at (payload_of self.now.adb) self.now.which list) }
+            ≡ repeated_name_pair_at (payload_of self.now.adb) self.now.which list) }
     {
         self.pairs.get(&list.word()).copied()
     }
@@ -103,5 +103,5 @@ fn name_twice_in_list(
         (array_entries objects.entry)))) }
 {
     let mut names = object_names(alloc, adb, which, objects)?;
-    Ok(first_pair(&mut names))
+    Ok(least_pair_of_equal_names(&mut names))
 }

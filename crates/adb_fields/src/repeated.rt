@@ -7,10 +7,10 @@ ghost use Rattle.adb_view.specs.Adb.{payload_of};
 ghost use Rattle.adb_view.specs.Entries.{array_entries};
 ghost use Rattle.adb_view.specs.Values.{count_of, entries_in, entry_in, is_sound, kind_at, value_at};
 ghost use Rattle.adb_fields.specs.Fields.{are_all_sound};
-ghost use Rattle.adb_fields.specs.ListsOf.{AreListsOf};
+ghost use Rattle.adb_fields.specs.ListsOf.{AreRememberedListsOf};
 ghost use Rattle.adb_view.specs.ShapedPayload.{shaped_value, table_of};
 ghost use Rattle.adb_view.specs.FieldIndexes.{INTENT_REMOVALS, INTENT_WRITES};
-ghost use Rattle.adb_fields.specs.Repeated.{between_fault, field_number, file_twice, files_in, first_repeat, folder_twice, folders_in, inside_fault, name_of, name_twice, package_twice, path_in_two, repeated_at, repeated_fault, twice_in_one};
+ghost use Rattle.adb_fields.specs.Repeated.{repeated_between_packages_fault, field_number, file_twice, files_in, first_repeat, folder_twice, folders_in, repeated_within_package_fault, name_of, repeated_intent_name, package_twice, path_of_two_packages, repeated_cause, repeated_fault, repeated_pair_in_one_list};
 ghost use Rattle.adb_fields.specs.Once.{HasNoRepeatedName};
 ghost use Rattle.adb_view.specs.Plain.{Plain};
 ghost use Rattle.adb_view.specs.declared.tables.Which.{Which};
@@ -20,7 +20,7 @@ ghost use Rattle.adb_view.specs.declared.tables.Which.TheVariants as Tables;
 
 use crate::known_lists::KnownLists;
 use crate::name_lists::{add_texts, all_paths, package_names};
-use crate::pairs::{Pair, first_pair, reported_of_two};
+use crate::pairs::{Pair, least_pair_of_equal_names, lesser_pair};
 use crate::reads::{field_word, objects_field, texts_field};
 use adb_view::field_indexes::{
     DIR_FILES, IDB_PACKAGES, INTENT_REMOVALS, INTENT_WRITES, PACKAGE_PATHS,
@@ -77,8 +77,8 @@ pub fn repeated_names(alloc: Global, shaped: &Shaped<'_>) -> Result<Option<Cause
 }
 
 /// The cause for a pair, with the number of the field whose texts must not repeat.
-fn repeated_at(number: u16, pair: Option<Pair>) -> Option<Cause>
-    ensures { result ≡ repeated_at number pair }
+fn repeated_cause(number: u16, pair: Option<Pair>) -> Option<Cause>
+    ensures { result ≡ repeated_cause number pair }
 {
     match pair {
         Some(Pair { first, second }) => Some(Cause::Repeated {
@@ -94,10 +94,10 @@ fn repeated_at(number: u16, pair: Option<Pair>) -> Option<Cause>
 fn in_package(alloc: Global, adb: Adb<'_>, pkg: Val) -> Result<Option<Cause>, AllocError>
     requires { is_sound (payload_of adb) (Kinds.Obj Tables.Package) pkg ≡ true }
     ensures { IfOk result (λ cause. cause
-        ≡ inside_fault (value_at (payload_of adb.entry) (Kinds.Obj Tables.Package) pkg ∷ [])) }
+        ≡ repeated_within_package_fault (value_at (payload_of adb.entry) (Kinds.Obj Tables.Package) pkg ∷ [])) }
 {
     let mut folders = KnownLists::new(alloc, adb, Which::Dir);
-    match repeated_at(
+    match repeated_cause(
         field_numbers::DIR_NAME,
         folder_twice_in_package(alloc, adb, &mut folders, pkg)?,
     ) {
@@ -105,7 +105,7 @@ fn in_package(alloc: Global, adb: Adb<'_>, pkg: Val) -> Result<Option<Cause>, Al
         None => {
             let mut files = KnownLists::new(alloc, adb, Which::File);
             let pair = file_twice_in_package(alloc, adb, &mut files, pkg)?;
-            Ok(repeated_at(field_numbers::FILE_NAME, pair))
+            Ok(repeated_cause(field_numbers::FILE_NAME, pair))
         }
     }
 }
@@ -116,9 +116,9 @@ fn in_database(alloc: Global, adb: Adb<'_>, packages: Arr<'_>) -> Result<Option<
         ≡ true }
     ensures { IfOk result (λ cause. cause
         ≡ option_or
-        (inside_fault (plains_at (payload_of adb.entry) (Kinds.Obj Tables.Package)
+        (repeated_within_package_fault (plains_at (payload_of adb.entry) (Kinds.Obj Tables.Package)
         (array_entries packages.entry)))
-        (between_fault (plains_at (payload_of adb.entry) (Kinds.Obj Tables.Package)
+        (repeated_between_packages_fault (plains_at (payload_of adb.entry) (Kinds.Obj Tables.Package)
         (array_entries packages.entry)))) }
 {
     match inside_packages(alloc, adb, packages)? {
@@ -136,12 +136,12 @@ fn inside_packages(
     requires { are_all_sound (payload_of adb) (Kinds.Obj Tables.Package) (array_entries packages)
         ≡ true }
     ensures { IfOk result (λ cause. cause
-        ≡ inside_fault (plains_at (payload_of adb.entry) (Kinds.Obj Tables.Package)
+        ≡ repeated_within_package_fault (plains_at (payload_of adb.entry) (Kinds.Obj Tables.Package)
         (array_entries packages.entry))) }
 {
-    match repeated_at(field_numbers::DIR_NAME, folder_twice(alloc, adb, packages)?) {
+    match repeated_cause(field_numbers::DIR_NAME, folder_twice(alloc, adb, packages)?) {
         Some(cause) => Ok(Some(cause)),
-        None => Ok(repeated_at(field_numbers::FILE_NAME, file_twice(alloc, adb, packages)?)),
+        None => Ok(repeated_cause(field_numbers::FILE_NAME, file_twice(alloc, adb, packages)?)),
     }
 }
 
@@ -154,15 +154,21 @@ fn between_packages(
     requires { are_all_sound (payload_of adb) (Kinds.Obj Tables.Package) (array_entries packages)
         ≡ true }
     ensures { IfOk result (λ cause. cause
-        ≡ between_fault (plains_at (payload_of adb.entry) (Kinds.Obj Tables.Package)
+        ≡ repeated_between_packages_fault (plains_at (payload_of adb.entry) (Kinds.Obj Tables.Package)
         (array_entries packages.entry))) }
 {
     let mut names = package_names(alloc, adb, packages)?;
-    match repeated_at(field_numbers::IDB_PACKAGES, first_pair(&mut names)) {
+    match repeated_cause(
+        field_numbers::IDB_PACKAGES,
+        least_pair_of_equal_names(&mut names),
+    ) {
         Some(cause) => Ok(Some(cause)),
         None => {
             let mut paths = all_paths(alloc, adb, packages)?;
-            Ok(repeated_at(field_numbers::FILE_NAME, first_pair(&mut paths)))
+            Ok(repeated_cause(
+                field_numbers::FILE_NAME,
+                least_pair_of_equal_names(&mut paths),
+            ))
         }
     }
 }
@@ -177,15 +183,18 @@ fn in_intent(alloc: Global, adb: Adb<'_>, intent: Val) -> Result<Option<Cause>, 
         (entry_in (value_at (payload_of adb) (Kinds.Obj Tables.Intent) intent) INTENT_WRITES))
         < 2 ^ 32 }
     ensures { IfOk result (λ cause. cause
-        ≡ repeated_at (field_number Tables.Intent INTENT_WRITES)
-        (name_twice (value_at (payload_of adb.entry) (Kinds.Obj Tables.Intent) intent))) }
+        ≡ repeated_cause (field_number Tables.Intent INTENT_WRITES)
+        (repeated_intent_name (value_at (payload_of adb.entry) (Kinds.Obj Tables.Intent) intent))) }
 {
     let removals = texts_field(adb, Which::Intent, intent, INTENT_REMOVALS);
     let writes = texts_field(adb, Which::Intent, intent, INTENT_WRITES);
     let mut names = Vec::new(alloc);
     add_texts(&mut names, adb, removals)?;
     add_texts(&mut names, adb, writes)?;
-    Ok(repeated_at(field_numbers::INTENT_WRITES, first_pair(&mut names)))
+    Ok(repeated_cause(
+        field_numbers::INTENT_WRITES,
+        least_pair_of_equal_names(&mut names),
+    ))
 }
 
 /// The pair of positions at which a package lists one folder.
@@ -196,11 +205,11 @@ fn folder_twice_in_package(
     pkg: Val,
 ) -> Result<Option<Pair>, AllocError>
     requires sound { is_sound (payload_of adb) (Kinds.Obj Tables.Package) pkg ≡ true }
-    requires lists { AreListsOf adb Tables.Dir lists.old }
+    requires lists { AreRememberedListsOf adb Tables.Dir lists.old }
     ensures pair { IfOk result (λ pair. pair
         ≡ first_repeat (map name_of (folders_in
         (value_at (payload_of adb.entry) (Kinds.Obj Tables.Package) pkg)))) }
-    ensures lists { AreListsOf adb.entry Tables.Dir lists.new }
+    ensures lists { AreRememberedListsOf adb.entry Tables.Dir lists.new }
 {
     lists.first_repeat(alloc, field_word(adb, Which::Package, pkg, PACKAGE_PATHS))
 }
@@ -214,17 +223,17 @@ fn file_twice_in_package(
     pkg: Val,
 ) -> Result<Option<Pair>, AllocError>
     requires sound { is_sound (payload_of adb) (Kinds.Obj Tables.Package) pkg ≡ true }
-    requires lists { AreListsOf adb Tables.File lists.old }
+    requires lists { AreRememberedListsOf adb Tables.File lists.old }
     ensures pair { IfOk result (λ pair. pair
-        ≡ twice_in_one (map (λ folder. map name_of (files_in folder))
+        ≡ repeated_pair_in_one_list (map (λ folder. map name_of (files_in folder))
         (folders_in (value_at (payload_of adb.entry) (Kinds.Obj Tables.Package) pkg)))) }
-    ensures lists { AreListsOf adb.entry Tables.File lists.new }
+    ensures lists { AreRememberedListsOf adb.entry Tables.File lists.new }
 {
     let folders = objects_field(adb, Which::Package, pkg, PACKAGE_PATHS, Which::Dir);
     let mut first = None;
     for i in 0..folders.len() {
         let folder = entry_word(folders, i);
-        first = reported_of_two(first, file_twice_in_folder(alloc, adb, lists, folder)?);
+        first = lesser_pair(first, file_twice_in_folder(alloc, adb, lists, folder)?);
     }
     Ok(first)
 }
@@ -237,11 +246,11 @@ fn file_twice_in_folder(
     folder: Val,
 ) -> Result<Option<Pair>, AllocError>
     requires sound { is_sound (payload_of adb) (Kinds.Obj Tables.Dir) folder ≡ true }
-    requires lists { AreListsOf adb Tables.File lists.old }
+    requires lists { AreRememberedListsOf adb Tables.File lists.old }
     ensures pair { IfOk result (λ pair. pair
         ≡ first_repeat (map name_of (files_in
         (value_at (payload_of adb.entry) (Kinds.Obj Tables.Dir) folder)))) }
-    ensures lists { AreListsOf adb.entry Tables.File lists.new }
+    ensures lists { AreRememberedListsOf adb.entry Tables.File lists.new }
 {
     lists.first_repeat(alloc, field_word(adb, Which::Dir, folder, DIR_FILES))
 }
@@ -259,7 +268,7 @@ fn folder_twice(alloc: Global, adb: Adb<'_>, packages: Arr<'_>) -> Result<Option
     let mut first = None;
     for i in 0..packages.len() {
         let pkg = entry_word(packages, i);
-        first = reported_of_two(first, folder_twice_in_package(alloc, adb, &mut lists, pkg)?);
+        first = lesser_pair(first, folder_twice_in_package(alloc, adb, &mut lists, pkg)?);
     }
     Ok(first)
 }
@@ -277,7 +286,7 @@ fn file_twice(alloc: Global, adb: Adb<'_>, packages: Arr<'_>) -> Result<Option<P
     let mut first = None;
     for i in 0..packages.len() {
         let pkg = entry_word(packages, i);
-        first = reported_of_two(first, file_twice_in_package(alloc, adb, &mut lists, pkg)?);
+        first = lesser_pair(first, file_twice_in_package(alloc, adb, &mut lists, pkg)?);
     }
     Ok(first)
 }

@@ -3,12 +3,12 @@ use Rattle.std.proofs.Common.{◌≡◌, ℕ, zero, suc, ◌<◌, Bool, true, fa
 use Rattle.std.specs.Prelude.{slice_get, if◌then◌else◌}
 use Rattle.base_core.specs.declared.cause.Cause.{Cause}
 use Rattle.base_core.specs.declared.cause.Cause.TheVariants.{BadText}
-use Rattle.adb_schema.specs.Texts.{Leaf, keeps_rule, number_of_leaf, first_bad}
-use Rattle.adb_schema.specs.FirstBad.{IsFirstBadOf}
-use Rattle.adb_schema.specs.FirstBad.{IsFirstBad}
+use Rattle.adb_schema.specs.Texts.{Leaf, keeps_rule, number_of_leaf, first_bad_leaf}
+use Rattle.adb_schema.specs.FirstBad.{IsFirstBadLeafIfAny}
+use Rattle.adb_schema.specs.FirstBad.{IsFirstBadLeaf}
 
 -- one leaf more in front
-after_kept : (x : Leaf) (xs : List Leaf) (c : Cause) → keeps_rule x ≡ true → IsFirstBad xs c → IsFirstBad (x ∷ xs) c
+after_kept : (x : Leaf) (xs : List Leaf) (c : Cause) → keeps_rule x ≡ true → IsFirstBadLeaf xs c → IsFirstBadLeaf (x ∷ xs) c
 after_kept x xs c kept f = record {
   i = suc f.i;
   leaf = f.leaf;
@@ -22,7 +22,7 @@ after_kept x xs c kept f = record {
     earlier zero other lt e = let same : x ≡ other = cc in cc
     earlier (suc j) other lt e = f.before j other (omega arith) e
 
-told : (x : Leaf) (xs : List Leaf) (b : Bool) → keeps_rule x ≡ b → (o : Option Cause) → IsFirstBadOf xs o → IsFirstBadOf (x ∷ xs) (if b then o else Some (BadText (number_of_leaf x)))
+told : (x : Leaf) (xs : List Leaf) (b : Bool) → keeps_rule x ≡ b → (o : Option Cause) → IsFirstBadLeafIfAny xs o → IsFirstBadLeafIfAny (x ∷ xs) (if b then o else Some (BadText (number_of_leaf x)))
 told x xs true e None h = rw (e, h) refl
 told x xs true e (Some c) h = after_kept x xs c e h
 told x xs false e o h = record {
@@ -34,6 +34,6 @@ told x xs false e o h = record {
   before = λ j other lt at. absurd (omega arith);
 }
 
-pub tells_first_bad : (all : List Leaf) → IsFirstBadOf all (first_bad all)
+pub tells_first_bad : (all : List Leaf) → IsFirstBadLeafIfAny all (first_bad_leaf all)
 tells_first_bad [] = refl
-tells_first_bad (x ∷ xs) = told x xs (keeps_rule x) refl (first_bad xs) (tells_first_bad xs)
+tells_first_bad (x ∷ xs) = told x xs (keeps_rule x) refl (first_bad_leaf xs) (tells_first_bad xs)

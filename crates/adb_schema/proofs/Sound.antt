@@ -7,8 +7,8 @@ use Rattle.adb_block.specs.declared.block.BlockKind.{BlockKind}
 use Rattle.adb_block.specs.Framing.{HeadFields, Step, ended, failed, block, step_by_size, step_by_order, step_by_head, next_step, head_of, kind_of_number}
 use Rattle.adb_block.specs.Piece.{Piece, may_be_next_kind, least_payload}
 use Rattle.adb_block.specs.Header.{header_of}
-use Rattle.adb_block.specs.ReaderPosition.{start_of}
-use Rattle.adb_block.specs.Reading.{Reading, done, fault, more as further, reading_by_step, reading_from, reading_of}
+use Rattle.adb_block.specs.ReaderPosition.{first_block_position}
+use Rattle.adb_block.specs.Reading.{Reading, done, fault, more as further, block_stream_after_step, block_stream_from_offset, block_stream_from}
 use Rattle.adb_view.specs.Head.{head_fault, root_of}
 use Rattle.adb_view.specs.Plain.{Plain, null, Shape, plain_of, IsNormal}
 use Rattle.adb_view.specs.Shaped.{HasShape}
@@ -22,7 +22,7 @@ use Rattle.adb_fields.specs.Once.{HasNoRepeatedName}
 use Rattle.adb_fields.specs.Repeated.{repeated_fault}
 use Rattle.adb_schema.specs.Texts.{text_fault}
 use Rattle.adb_schema.specs.SoundValues.{KeepsRules}
-use Rattle.adb_schema.specs.Soundness.{blocks_fault, file_fault, first_fault, first_payload, payload_after_header, payload_fault, payload_in, rest_fault, root_value, schema_fault}
+use Rattle.adb_schema.specs.Soundness.{blocks_fault, file_fault_after_header, first_fault, first_block_payload, payload_after_header, payload_fault, payload_in, fault_after_first_block, root_value, schema_fault}
 use Rattle.adb_schema.specs.SoundContainers.{IsSoundValue}
 
 -- ---- the first of two tests
@@ -61,25 +61,25 @@ step_on : (at : ℕ) (bytes : List ℕ) → CountsOnlyRise (next_step None at by
 unfolding next_step
 step_on at bytes = if_on (length bytes == 0) _ _ tt (headed_on None at bytes (head_of bytes))
 
-stepped_read : (which : Which) (rest : Plain → Reading → Option Cause) (at : ℕ) (f : Piece → ℕ → Reading) (s : Step) → CountsOnlyRise s → blocks_fault rest which (reading_by_step at f s) ≡ None → IsReadAt which (reading_by_step at f s)
+stepped_read : (which : Which) (rest : Plain → Reading → Option Cause) (at : ℕ) (f : Piece → ℕ → Reading) (s : Step) → CountsOnlyRise s → blocks_fault rest which (block_stream_after_step at f s) ≡ None → IsReadAt which (block_stream_after_step at f s)
 stepped_read which rest at f ended g h = absurd g
 stepped_read which rest at f (failed c) g h = some_none c h
 stepped_read which rest at f (block b size) g h = first_none (payload_fault which b.payload) _ h
 
-read_payload : (which : Which) (r : Reading) → IsReadAt which r → payload_fault which (first_payload r) ≡ None
+read_payload : (which : Which) (r : Reading) → IsReadAt which r → payload_fault which (first_block_payload r) ≡ None
 read_payload which done h = absurd h
 read_payload which (fault c) h = absurd h
 read_payload which (further b at r) h = h
 
-file_payload : (rest : Plain → Reading → Option Cause) (which : Which) (file : List ℕ) (header : Result ℕ Cause) → file_fault rest which file header ≡ None → payload_fault which (payload_after_header file header) ≡ None
-unfolding reading_of reading_from
+file_payload : (rest : Plain → Reading → Option Cause) (which : Which) (file : List ℕ) (header : Result ℕ Cause) → file_fault_after_header rest which file header ≡ None → payload_fault which (payload_after_header file header) ≡ None
+unfolding block_stream_from block_stream_from_offset
 file_payload rest which file (Err c) h = absurd (some_none c h)
 file_payload rest which file (Ok schema) h =
-    read_payload which (reading_of (start_of schema file)) (stepped_read which rest _ _ (next_step None 8 (drop 8 file)) (step_on 8 (drop 8 file)) (second_none (schema_fault which schema) _ h))
+    read_payload which (block_stream_from (first_block_position schema file)) (stepped_read which rest _ _ (next_step None 8 (drop 8 file)) (step_on 8 (drop 8 file)) (second_none (schema_fault which schema) _ h))
 
 pub sound_payload : (which : Which) (file : List ℕ) → first_fault which file ≡ None → payload_fault which (payload_in file) ≡ None
 unfolding first_fault payload_in
-sound_payload which file h = file_payload (λ v r. rest_fault which r) which file (header_of file) h
+sound_payload which file h = file_payload (λ v r. fault_after_first_block which r) which file (header_of file) h
 
 -- ---- its value
 

@@ -12,15 +12,15 @@ use Rattle.adb_view.specs.Schema.{shape_of, shapes_of, table}
 use Rattle.adb_view.specs.declared.tables.Which.{Which}
 use Rattle.adb_view.specs.declared.tables.Which.TheVariants as Tables
 use Rattle.adb_view.specs.declared.tables.Kind.TheVariants.{Obj, ObjArr, TextArr}
-use Rattle.adb_schema.specs.Texts.{Surroundings, Leaf, each_leaf, leaves, field_leaves, first_bad, text_fault, text_rule, surroundings_of_root, surroundings_of_fields, may_list}
-use Rattle.dep_core.specs.Value.{is_matching}
+use Rattle.adb_schema.specs.Texts.{Surroundings, Leaf, each_leaf, leaves, field_leaves, first_bad_leaf, text_fault, text_rule, surroundings_of_root, surroundings_of_fields, may_list}
+use Rattle.dep_core.specs.Value.{is_match_number}
 use Rattle.adb_fields.specs.Paths.{path_of}
 use Rattle.adb_schema.specs.Rules.{is_file_name}
-use Rattle.adb_schema.specs.SoundValues.{IsSoundDependency, IsInformation, IsFileOf, IsFolder, IsPackage, IsIndex, IsIntent, IsChangeName, KeepsRules}
-use Rattle.adb_schema.proofs.TextSteps.{first_bad-append, behind, behind-zero, nth-behind, behind-behind}
+use Rattle.adb_schema.specs.SoundValues.{IsSoundDependency, IsSoundInformation, IsSoundFileOf, IsSoundFolder, IsSoundPackage, IsSoundIndex, IsSoundIntent, IsChangeableName, KeepsRules}
+use Rattle.adb_schema.proofs.TextSteps.{first_bad_leaf-append, behind, behind-zero, nth-behind, behind-behind}
 
 abbrev pub Good : List Leaf → Type 0
-Good xs = first_bad xs ≡ None
+Good xs = first_bad_leaf xs ≡ None
 
 -- ---- lists of leaves
 
@@ -33,10 +33,10 @@ good_if true c e = refl
 good_if false c e = absurd cc
 
 good-parts : (xs ys : List Leaf) → Good (xs ++ ys) → Good xs × Good ys
-good-parts xs ys h = both_none (first_bad xs) (first_bad ys) (sym (first_bad-append xs ys) ∙ h)
+good-parts xs ys h = both_none (first_bad_leaf xs) (first_bad_leaf ys) (sym (first_bad_leaf-append xs ys) ∙ h)
 
 good-append : (xs ys : List Leaf) → Good xs → Good ys → Good (xs ++ ys)
-good-append xs ys h k = first_bad-append xs ys ∙ none_both (first_bad xs) (first_bad ys) h k
+good-append xs ys h k = first_bad_leaf-append xs ys ∙ none_both (first_bad_leaf xs) (first_bad_leaf ys) h k
 
 -- ---- the entries of an array
 
@@ -74,20 +74,20 @@ field_at n s fs k a vs i =
 good_fields_from : (fs : Fields) (k : ℕ) (a : Surroundings) (vs : Plains) (i : ℕ) → Good (field_leaves fs k a (behind i vs)) → AreGood fs k a vs i
 good_fields_from no_fields k a vs i g = tt
 good_fields_from (field n s fs) k a vs i g =
-    let (here, later) = good-parts (leaves s k a (nth vs i)) (field_leaves fs (k + 1) a (behind (suc i) vs)) (ap first_bad (sym (field_at n s fs k a vs i)) ∙ g) in
+    let (here, later) = good-parts (leaves s k a (nth vs i)) (field_leaves fs (k + 1) a (behind (suc i) vs)) (ap first_bad_leaf (sym (field_at n s fs k a vs i)) ∙ g) in
     (here, good_fields_from fs (k + 1) a vs (suc i) later)
 
 fields_good_from : (fs : Fields) (k : ℕ) (a : Surroundings) (vs : Plains) (i : ℕ) → AreGood fs k a vs i → Good (field_leaves fs k a (behind i vs))
 unfolding field_leaves
 fields_good_from no_fields k a vs i g = refl
 fields_good_from (field n s fs) k a vs i g =
-    ap first_bad (field_at n s fs k a vs i) ∙ good-append (leaves s k a (nth vs i)) (field_leaves fs (k + 1) a (behind (suc i) vs)) g.0 (fields_good_from fs (k + 1) a vs (suc i) g.1)
+    ap first_bad_leaf (field_at n s fs k a vs i) ∙ good-append (leaves s k a (nth vs i)) (field_leaves fs (k + 1) a (behind (suc i) vs)) g.0 (fields_good_from fs (k + 1) a vs (suc i) g.1)
 
 good_fields : (fs : Fields) (k : ℕ) (a : Surroundings) (vs : Plains) → Good (field_leaves fs k a vs) → AreGood fs k a vs 0
-good_fields fs k a vs g = good_fields_from fs k a vs 0 (ap (λ us. first_bad (field_leaves fs k a us)) (behind-zero vs) ∙ g)
+good_fields fs k a vs g = good_fields_from fs k a vs 0 (ap (λ us. first_bad_leaf (field_leaves fs k a us)) (behind-zero vs) ∙ g)
 
 fields_good : (fs : Fields) (k : ℕ) (a : Surroundings) (vs : Plains) → AreGood fs k a vs 0 → Good (field_leaves fs k a vs)
-fields_good fs k a vs g = sym (ap (λ us. first_bad (field_leaves fs k a us)) (behind-zero vs)) ∙ fields_good_from fs k a vs 0 g
+fields_good fs k a vs g = sym (ap (λ us. first_bad_leaf (field_leaves fs k a us)) (behind-zero vs)) ∙ fields_good_from fs k a vs 0 g
 
 -- ---- texts
 
@@ -117,7 +117,7 @@ dependency_of k a v g =
     record {
       name = text_kept 101 b (entry_in v 0) h.0;
       version = text_kept 102 b (entry_in v 1) h.1.0;
-      matching = kept (is_matching (int_in (entry_in v 2))) (BadText 103) h.1.1.0;
+      matching = kept (is_match_number (int_in (entry_in v 2))) (BadText 103) h.1.1.0;
     }
 
 of_dependency : (k : ℕ) (a : Surroundings) (v : Plain) → IsSoundDependency v → Good (leaves (shape_of (Obj Tables.Dep)) k a v)
@@ -125,7 +125,7 @@ unfolding leaves shape_of text_rule
 of_dependency k a v d =
     let b : Surroundings = surroundings_of_fields 1 a v in
     fields_good (shapes_of (table Tables.Dep)) 101 b (entries_in v)
-    (kept_text 101 b (entry_in v 0) d.name, (kept_text 102 b (entry_in v 1) d.version, (good_if (is_matching (int_in (entry_in v 2))) (BadText 103) d.matching, tt)))
+    (kept_text 101 b (entry_in v 0) d.name, (kept_text 102 b (entry_in v 1) d.version, (good_if (is_match_number (int_in (entry_in v 2))) (BadText 103) d.matching, tt)))
 
 dependencies_of : (k : ℕ) (a : Surroundings) (v : Plain) → Good (leaves (shape_of (ObjArr Tables.Dep)) k a v) → Each IsSoundDependency (entries_in v)
 unfolding leaves shape_of
@@ -140,7 +140,7 @@ plain_texts : (k : ℕ) (a : Surroundings) (v : Plain) → ((bytes : List ℕ) �
 unfolding leaves shape_of
 plain_texts k a v h = always_each (leaves text k a) (λ u. kept_text k a u (h (text_in u))) (entries_in v)
 
-information_of : (k : ℕ) (a : Surroundings) (v : Plain) → Good (leaves (shape_of (Obj Tables.PkgInfo)) k a v) → IsInformation a.root v
+information_of : (k : ℕ) (a : Surroundings) (v : Plain) → Good (leaves (shape_of (Obj Tables.PkgInfo)) k a v) → IsSoundInformation a.root v
 unfolding leaves shape_of text_rule
 information_of k a v g =
     let b : Surroundings = surroundings_of_fields 3 a v in
@@ -157,7 +157,7 @@ information_of k a v g =
       recommends = dependencies_of 319 b (entry_in v 18) d.1.1.1.1.0;
     }
 
-of_information : (k : ℕ) (a : Surroundings) (v : Plain) → IsInformation a.root v → Good (leaves (shape_of (Obj Tables.PkgInfo)) k a v)
+of_information : (k : ℕ) (a : Surroundings) (v : Plain) → IsSoundInformation a.root v → Good (leaves (shape_of (Obj Tables.PkgInfo)) k a v)
 unfolding leaves shape_of text_rule
 of_information k a v d =
     let b : Surroundings = surroundings_of_fields 3 a v in
@@ -172,7 +172,7 @@ scripts_good : (k : ℕ) (a : Surroundings) (v : Plain) → Good (leaves (shape_
 unfolding leaves shape_of text_rule
 scripts_good k a v = fields_good (shapes_of (table Tables.Scripts)) 601 (surroundings_of_fields 6 a v) (entries_in v) (refl, (refl, (refl, (refl, (refl, (refl, (refl, tt)))))))
 
-file_of : (k : ℕ) (a : Surroundings) (v : Plain) → Good (leaves (shape_of (Obj Tables.File)) k a v) → IsFileOf a.root a.folder v
+file_of : (k : ℕ) (a : Surroundings) (v : Plain) → Good (leaves (shape_of (Obj Tables.File)) k a v) → IsSoundFileOf a.root a.folder v
 unfolding leaves shape_of text_rule
 file_of k a v g =
     let b : Surroundings = surroundings_of_fields 4 a v in
@@ -185,7 +185,7 @@ file_of k a v g =
       target = text_kept 406 b (entry_in v 5) h.1.1.1.1.1.0;
     }
 
-of_file : (k : ℕ) (a : Surroundings) (v : Plain) → IsFileOf a.root a.folder v → Good (leaves (shape_of (Obj Tables.File)) k a v)
+of_file : (k : ℕ) (a : Surroundings) (v : Plain) → IsSoundFileOf a.root a.folder v → Good (leaves (shape_of (Obj Tables.File)) k a v)
 unfolding leaves shape_of text_rule
 of_file k a v d =
     let b : Surroundings = surroundings_of_fields 4 a v in
@@ -193,87 +193,87 @@ of_file k a v d =
     fields_good (shapes_of (table Tables.File)) 401 b (entries_in v)
     (kept_text 401 b (entry_in v 0) named, (rights_good 402 b (entry_in v 1), (refl, (refl, (kept_hash 405 b (entry_in v 4) d.hash, (kept_text 406 b (entry_in v 5) d.target, (refl, tt)))))))
 
-folder_of : (k : ℕ) (a : Surroundings) (v : Plain) → Good (leaves (shape_of (Obj Tables.Dir)) k a v) → IsFolder a.root v
+folder_of : (k : ℕ) (a : Surroundings) (v : Plain) → Good (leaves (shape_of (Obj Tables.Dir)) k a v) → IsSoundFolder a.root v
 unfolding leaves shape_of text_rule
 folder_of k a v g =
     let b : Surroundings = surroundings_of_fields 5 a v in
     let h = good_fields (shapes_of (table Tables.Dir)) 501 b (entries_in v) g in
     record {
       name = text_kept 501 b (entry_in v 0) h.0;
-      files = each_good (IsFileOf b.root b.folder) (leaves (shape_of (Obj Tables.File)) 503 b) (file_of 503 b) (entries_in (entry_in v 2)) h.1.1.0;
+      files = each_good (IsSoundFileOf b.root b.folder) (leaves (shape_of (Obj Tables.File)) 503 b) (file_of 503 b) (entries_in (entry_in v 2)) h.1.1.0;
     }
 
-of_folder : (k : ℕ) (a : Surroundings) (v : Plain) → IsFolder a.root v → Good (leaves (shape_of (Obj Tables.Dir)) k a v)
+of_folder : (k : ℕ) (a : Surroundings) (v : Plain) → IsSoundFolder a.root v → Good (leaves (shape_of (Obj Tables.Dir)) k a v)
 unfolding leaves shape_of text_rule
 of_folder k a v d =
     let b : Surroundings = surroundings_of_fields 5 a v in
     fields_good (shapes_of (table Tables.Dir)) 501 b (entries_in v)
-    (kept_text 501 b (entry_in v 0) d.name, (rights_good 502 b (entry_in v 1), (good_each (IsFileOf b.root b.folder) (leaves (shape_of (Obj Tables.File)) 503 b) (of_file 503 b) (entries_in (entry_in v 2)) d.files, tt)))
+    (kept_text 501 b (entry_in v 0) d.name, (rights_good 502 b (entry_in v 1), (good_each (IsSoundFileOf b.root b.folder) (leaves (shape_of (Obj Tables.File)) 503 b) (of_file 503 b) (entries_in (entry_in v 2)) d.files, tt)))
 
-package_of : (k : ℕ) (a : Surroundings) (v : Plain) → Good (leaves (shape_of (Obj Tables.Package)) k a v) → IsPackage a.root v
+package_of : (k : ℕ) (a : Surroundings) (v : Plain) → Good (leaves (shape_of (Obj Tables.Package)) k a v) → IsSoundPackage a.root v
 unfolding leaves shape_of text_rule
 package_of k a v g =
     let b : Surroundings = surroundings_of_fields 7 a v in
     let h = good_fields (shapes_of (table Tables.Package)) 701 b (entries_in v) g in
     record {
       info = information_of 701 b (entry_in v 0) h.0;
-      folders = each_good (IsFolder b.root) (leaves (shape_of (Obj Tables.Dir)) 702 b) (folder_of 702 b) (entries_in (entry_in v 1)) h.1.0;
+      folders = each_good (IsSoundFolder b.root) (leaves (shape_of (Obj Tables.Dir)) 702 b) (folder_of 702 b) (entries_in (entry_in v 1)) h.1.0;
     }
 
-of_package : (k : ℕ) (a : Surroundings) (v : Plain) → IsPackage a.root v → Good (leaves (shape_of (Obj Tables.Package)) k a v)
+of_package : (k : ℕ) (a : Surroundings) (v : Plain) → IsSoundPackage a.root v → Good (leaves (shape_of (Obj Tables.Package)) k a v)
 unfolding leaves shape_of text_rule
 of_package k a v d =
     let b : Surroundings = surroundings_of_fields 7 a v in
     fields_good (shapes_of (table Tables.Package)) 701 b (entries_in v)
-    (of_information 701 b (entry_in v 0) d.info, (good_each (IsFolder b.root) (leaves (shape_of (Obj Tables.Dir)) 702 b) (of_folder 702 b) (entries_in (entry_in v 1)) d.folders, (scripts_good 703 b (entry_in v 2), (plain_texts 704 b (entry_in v 3) (λ bytes. refl), (refl, tt)))))
+    (of_information 701 b (entry_in v 0) d.info, (good_each (IsSoundFolder b.root) (leaves (shape_of (Obj Tables.Dir)) 702 b) (of_folder 702 b) (entries_in (entry_in v 1)) d.folders, (scripts_good 703 b (entry_in v 2), (plain_texts 704 b (entry_in v 3) (λ bytes. refl), (refl, tt)))))
 
-index_of : (v : Plain) → Good (leaves (shape_of (Obj Tables.Index)) 0 (surroundings_of_root Tables.Index) v) → IsIndex v
+index_of : (v : Plain) → Good (leaves (shape_of (Obj Tables.Index)) 0 (surroundings_of_root Tables.Index) v) → IsSoundIndex v
 unfolding leaves shape_of text_rule
 index_of v g =
     let b : Surroundings = surroundings_of_fields 8 (surroundings_of_root Tables.Index) v in
     let h = good_fields (shapes_of (table Tables.Index)) 801 b (entries_in v) g in
     record {
-      packages = each_good (IsInformation Tables.Index) (leaves (shape_of (Obj Tables.PkgInfo)) 802 b) (information_of 802 b) (entries_in (entry_in v 1)) h.1.0;
+      packages = each_good (IsSoundInformation Tables.Index) (leaves (shape_of (Obj Tables.PkgInfo)) 802 b) (information_of 802 b) (entries_in (entry_in v 1)) h.1.0;
       pattern = text_kept 803 b (entry_in v 2) h.1.1.0;
     }
 
-of_index : (v : Plain) → IsIndex v → Good (leaves (shape_of (Obj Tables.Index)) 0 (surroundings_of_root Tables.Index) v)
+of_index : (v : Plain) → IsSoundIndex v → Good (leaves (shape_of (Obj Tables.Index)) 0 (surroundings_of_root Tables.Index) v)
 unfolding leaves shape_of text_rule
 of_index v d =
     let b : Surroundings = surroundings_of_fields 8 (surroundings_of_root Tables.Index) v in
     fields_good (shapes_of (table Tables.Index)) 801 b (entries_in v)
-    (refl, (good_each (IsInformation Tables.Index) (leaves (shape_of (Obj Tables.PkgInfo)) 802 b) (of_information 802 b) (entries_in (entry_in v 1)) d.packages, (kept_text 803 b (entry_in v 2) d.pattern, tt)))
+    (refl, (good_each (IsSoundInformation Tables.Index) (leaves (shape_of (Obj Tables.PkgInfo)) 802 b) (of_information 802 b) (entries_in (entry_in v 1)) d.packages, (kept_text 803 b (entry_in v 2) d.pattern, tt)))
 
-database_of : (v : Plain) → Good (leaves (shape_of (Obj Tables.Idb)) 0 (surroundings_of_root Tables.Idb) v) → Each (IsPackage Tables.Idb) (entries_in (entry_in v 0))
+database_of : (v : Plain) → Good (leaves (shape_of (Obj Tables.Idb)) 0 (surroundings_of_root Tables.Idb) v) → Each (IsSoundPackage Tables.Idb) (entries_in (entry_in v 0))
 unfolding leaves shape_of text_rule
 database_of v g =
     let b : Surroundings = surroundings_of_fields 9 (surroundings_of_root Tables.Idb) v in
     let h = good_fields (shapes_of (table Tables.Idb)) 901 b (entries_in v) g in
-    each_good (IsPackage Tables.Idb) (leaves (shape_of (Obj Tables.Package)) 901 b) (package_of 901 b) (entries_in (entry_in v 0)) h.0
+    each_good (IsSoundPackage Tables.Idb) (leaves (shape_of (Obj Tables.Package)) 901 b) (package_of 901 b) (entries_in (entry_in v 0)) h.0
 
-of_database : (v : Plain) → Each (IsPackage Tables.Idb) (entries_in (entry_in v 0)) → Good (leaves (shape_of (Obj Tables.Idb)) 0 (surroundings_of_root Tables.Idb) v)
+of_database : (v : Plain) → Each (IsSoundPackage Tables.Idb) (entries_in (entry_in v 0)) → Good (leaves (shape_of (Obj Tables.Idb)) 0 (surroundings_of_root Tables.Idb) v)
 unfolding leaves shape_of text_rule
 of_database v d =
     let b : Surroundings = surroundings_of_fields 9 (surroundings_of_root Tables.Idb) v in
     fields_good (shapes_of (table Tables.Idb)) 901 b (entries_in v)
-    (good_each (IsPackage Tables.Idb) (leaves (shape_of (Obj Tables.Package)) 901 b) (of_package 901 b) (entries_in (entry_in v 0)) d, tt)
+    (good_each (IsSoundPackage Tables.Idb) (leaves (shape_of (Obj Tables.Package)) 901 b) (of_package 901 b) (entries_in (entry_in v 0)) d, tt)
 
-intent_of : (v : Plain) → Good (leaves (shape_of (Obj Tables.Intent)) 0 (surroundings_of_root Tables.Intent) v) → IsIntent v
+intent_of : (v : Plain) → Good (leaves (shape_of (Obj Tables.Intent)) 0 (surroundings_of_root Tables.Intent) v) → IsSoundIntent v
 unfolding leaves shape_of text_rule
 intent_of v g =
     let b : Surroundings = surroundings_of_fields 10 (surroundings_of_root Tables.Intent) v in
     let h = good_fields (shapes_of (table Tables.Intent)) 1001 b (entries_in v) g in
     record {
-      removals = each_good IsChangeName (leaves text 1001 b) (text_kept 1001 b) (entries_in (entry_in v 0)) h.0;
-      writes = each_good IsChangeName (leaves text 1002 b) (text_kept 1002 b) (entries_in (entry_in v 1)) h.1.0;
+      removals = each_good IsChangeableName (leaves text 1001 b) (text_kept 1001 b) (entries_in (entry_in v 0)) h.0;
+      writes = each_good IsChangeableName (leaves text 1002 b) (text_kept 1002 b) (entries_in (entry_in v 1)) h.1.0;
     }
 
-of_intent : (v : Plain) → IsIntent v → Good (leaves (shape_of (Obj Tables.Intent)) 0 (surroundings_of_root Tables.Intent) v)
+of_intent : (v : Plain) → IsSoundIntent v → Good (leaves (shape_of (Obj Tables.Intent)) 0 (surroundings_of_root Tables.Intent) v)
 unfolding leaves shape_of text_rule
 of_intent v d =
     let b : Surroundings = surroundings_of_fields 10 (surroundings_of_root Tables.Intent) v in
     fields_good (shapes_of (table Tables.Intent)) 1001 b (entries_in v)
-    (good_each IsChangeName (leaves text 1001 b) (kept_text 1001 b) (entries_in (entry_in v 0)) d.removals, (good_each IsChangeName (leaves text 1002 b) (kept_text 1002 b) (entries_in (entry_in v 1)) d.writes, tt))
+    (good_each IsChangeableName (leaves text 1001 b) (kept_text 1001 b) (entries_in (entry_in v 0)) d.removals, (good_each IsChangeableName (leaves text 1002 b) (kept_text 1002 b) (entries_in (entry_in v 1)) d.writes, tt))
 
 pub rules_kept : (which : Which) (v : Plain) → (text_fault which v ≡ None) ↔ KeepsRules which v
 rules_kept Tables.Dep v = (dependency_of 0 (surroundings_of_root Tables.Dep) v, of_dependency 0 (surroundings_of_root Tables.Dep) v)

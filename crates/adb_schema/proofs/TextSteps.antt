@@ -12,8 +12,8 @@ use Rattle.adb_view.specs.Values.{is_sound, value_at, entries_in, nth, int_in, t
 use Rattle.adb_view.specs.Rank.{rank, rank_of_all}
 use Rattle.adb_view.proofs.ValueEntries.{entries_arr}
 use Rattle.adb_view.proofs.WalkSteps.{field_rank}
-use Rattle.adb_schema.specs.TextWalk.{IsSameAsBefore, bad_text_at}
-use Rattle.adb_schema.specs.Texts.{Surroundings, Leaf, number_leaf, text_leaf, keeps_rule, number_of_leaf, each_leaf, leaves, field_leaves, surroundings_of_fields, first_bad}
+use Rattle.adb_schema.specs.TextWalk.{IsSameWordAsPrevious, bad_text_at}
+use Rattle.adb_schema.specs.Texts.{Surroundings, Leaf, number_leaf, text_leaf, keeps_rule, number_of_leaf, each_leaf, leaves, field_leaves, surroundings_of_fields, first_bad_leaf}
 use Rattle.adb_view.specs.Shapes.{object_shape, objects_shape, texts_shape, int_shape, text_shape, hash_shape}
 use Rattle.adb_view.specs.declared.tables.Which.{Which}
 use Rattle.adb_view.specs.declared.tables.Which.TheVariants.{Dep, Acl, PkgInfo, File, Dir, Scripts, Package, Index, Idb, Intent}
@@ -49,20 +49,20 @@ object_leaves which field_number a v = ap (λ s. leaves s field_number a v) (obj
 
 -- ---- the first bad leaf of two lists
 
-pub first_bad-append : (xs ys : List Leaf) → first_bad (xs ++ ys) ≡ option_or (first_bad xs) (first_bad ys)
-first_bad-append [] ys = refl
-first_bad-append (x ∷ xs) ys = go (keeps_rule x) (first_bad-append xs ys)
+pub first_bad_leaf-append : (xs ys : List Leaf) → first_bad_leaf (xs ++ ys) ≡ option_or (first_bad_leaf xs) (first_bad_leaf ys)
+first_bad_leaf-append [] ys = refl
+first_bad_leaf-append (x ∷ xs) ys = go (keeps_rule x) (first_bad_leaf-append xs ys)
   where
-    go : (b : Bool) → first_bad (xs ++ ys) ≡ option_or (first_bad xs) (first_bad ys)
-        → (if b then first_bad (xs ++ ys) else Some (BadText (number_of_leaf x))) ≡ option_or (if b then first_bad xs else Some (BadText (number_of_leaf x))) (first_bad ys)
+    go : (b : Bool) → first_bad_leaf (xs ++ ys) ≡ option_or (first_bad_leaf xs) (first_bad_leaf ys)
+        → (if b then first_bad_leaf (xs ++ ys) else Some (BadText (number_of_leaf x))) ≡ option_or (if b then first_bad_leaf xs else Some (BadText (number_of_leaf x))) (first_bad_leaf ys)
     go true h = h
     go false h = refl
 
-pub behind_good : (xs ys : List Leaf) → first_bad xs ≡ None → first_bad (xs ++ ys) ≡ first_bad ys
-behind_good xs ys e = first_bad-append xs ys ∙ ap (λ o. option_or o (first_bad ys)) e
+pub behind_good : (xs ys : List Leaf) → first_bad_leaf xs ≡ None → first_bad_leaf (xs ++ ys) ≡ first_bad_leaf ys
+behind_good xs ys e = first_bad_leaf-append xs ys ∙ ap (λ o. option_or o (first_bad_leaf ys)) e
 
-after_bad : (xs ys : List Leaf) (c : Cause) → first_bad xs ≡ Some c → first_bad (xs ++ ys) ≡ Some c
-after_bad xs ys c e = first_bad-append xs ys ∙ ap (λ o. option_or o (first_bad ys)) e
+after_bad : (xs ys : List Leaf) (c : Cause) → first_bad_leaf xs ≡ Some c → first_bad_leaf (xs ++ ys) ≡ Some c
+after_bad xs ys c e = first_bad_leaf-append xs ys ∙ ap (λ o. option_or o (first_bad_leaf ys)) e
 
 -- ---- the entries of an array
 
@@ -99,17 +99,17 @@ at_entry p k ws i lt h = are_sound-cons p k (get_or ws i 0) (drop (i + 1) ws) (a
 values_here : (p : List ℕ) (k : Kind) (ws : List ℕ) (i : ℕ) → i < length ws → are_all_sound p k (drop i ws) ≡ true → values_at p k (drop i ws) ≡ more (value_at p k (get_or ws i 0)) (values_at p k (drop (i + 1) ws))
 values_here p k ws i lt h = let r = at_entry p k ws i lt h in ap (values_at p k) (drop_more ws i 0 lt) ∙ r.values
 
-pub entries_more : (p : List ℕ) (k : Kind) (f : Plain → List Leaf) (ws : List ℕ) (i : ℕ) → i < length ws → are_all_sound p k (drop i ws) ≡ true → first_bad (f (value_at p k (get_or ws i 0))) ≡ None
-    → first_bad (each_leaf f (values_at p k (drop i ws))) ≡ first_bad (each_leaf f (values_at p k (drop (i + 1) ws)))
+pub entries_more : (p : List ℕ) (k : Kind) (f : Plain → List Leaf) (ws : List ℕ) (i : ℕ) → i < length ws → are_all_sound p k (drop i ws) ≡ true → first_bad_leaf (f (value_at p k (get_or ws i 0))) ≡ None
+    → first_bad_leaf (each_leaf f (values_at p k (drop i ws))) ≡ first_bad_leaf (each_leaf f (values_at p k (drop (i + 1) ws)))
 entries_more p k f ws i lt h good =
-    ap (λ vs. first_bad (each_leaf f vs)) (values_here p k ws i lt h) ∙ behind_good (f (value_at p k (get_or ws i 0))) (each_leaf f (values_at p k (drop (i + 1) ws))) good
+    ap (λ vs. first_bad_leaf (each_leaf f vs)) (values_here p k ws i lt h) ∙ behind_good (f (value_at p k (get_or ws i 0))) (each_leaf f (values_at p k (drop (i + 1) ws))) good
 
-pub entries_stop : (p : List ℕ) (k : Kind) (f : Plain → List Leaf) (ws : List ℕ) (i : ℕ) (c : Cause) → i < length ws → are_all_sound p k (drop i ws) ≡ true → first_bad (f (value_at p k (get_or ws i 0))) ≡ Some c
-    → first_bad (each_leaf f (values_at p k (drop i ws))) ≡ Some c
+pub entries_stop : (p : List ℕ) (k : Kind) (f : Plain → List Leaf) (ws : List ℕ) (i : ℕ) (c : Cause) → i < length ws → are_all_sound p k (drop i ws) ≡ true → first_bad_leaf (f (value_at p k (get_or ws i 0))) ≡ Some c
+    → first_bad_leaf (each_leaf f (values_at p k (drop i ws))) ≡ Some c
 entries_stop p k f ws i c lt h bad =
-    ap (λ vs. first_bad (each_leaf f vs)) (values_here p k ws i lt h) ∙ after_bad (f (value_at p k (get_or ws i 0))) (each_leaf f (values_at p k (drop (i + 1) ws))) c bad
+    ap (λ vs. first_bad_leaf (each_leaf f vs)) (values_here p k ws i lt h) ∙ after_bad (f (value_at p k (get_or ws i 0))) (each_leaf f (values_at p k (drop (i + 1) ws))) c bad
 
-pub entries_end : (p : List ℕ) (k : Kind) (f : Plain → List Leaf) (ws : List ℕ) (i : ℕ) → length ws ≤ i → first_bad (each_leaf f (values_at p k (drop i ws))) ≡ None
+pub entries_end : (p : List ℕ) (k : Kind) (f : Plain → List Leaf) (ws : List ℕ) (i : ℕ) → length ws ≤ i → first_bad_leaf (each_leaf f (values_at p k (drop i ws))) ≡ None
 unfolding values_at
 entries_end p k f ws i le = rw (drop_all i ws le) refl
 
@@ -151,17 +151,17 @@ field_here fs field_number a vs i d lt =
     ∙ ap (λ v. leaves (shape_of (get_or fs i d).kind) field_number a v ++ field_leaves (shapes_of (drop (i + 1) fs)) (field_number + 1) a (behind 1 (behind i vs))) (nth-behind i vs)
     ∙ ap (λ us. leaves (shape_of (get_or fs i d).kind) field_number a (nth vs i) ++ field_leaves (shapes_of (drop (i + 1) fs)) (field_number + 1) a us) (behind-behind i vs ∙ ap (λ (j : ℕ). behind j vs) (omega arith))
 
-pub fields_more : (fs : List Field) (field_number : ℕ) (a : Surroundings) (vs : Plains) (i : ℕ) (d : Field) → i < length fs → first_bad (leaves (shape_of (get_or fs i d).kind) field_number a (nth vs i)) ≡ None
-    → first_bad (field_leaves (shapes_of (drop i fs)) field_number a (behind i vs)) ≡ first_bad (field_leaves (shapes_of (drop (i + 1) fs)) (field_number + 1) a (behind (i + 1) vs))
+pub fields_more : (fs : List Field) (field_number : ℕ) (a : Surroundings) (vs : Plains) (i : ℕ) (d : Field) → i < length fs → first_bad_leaf (leaves (shape_of (get_or fs i d).kind) field_number a (nth vs i)) ≡ None
+    → first_bad_leaf (field_leaves (shapes_of (drop i fs)) field_number a (behind i vs)) ≡ first_bad_leaf (field_leaves (shapes_of (drop (i + 1) fs)) (field_number + 1) a (behind (i + 1) vs))
 fields_more fs field_number a vs i d lt good =
-    ap first_bad (field_here fs field_number a vs i d lt) ∙ behind_good (leaves (shape_of (get_or fs i d).kind) field_number a (nth vs i)) (field_leaves (shapes_of (drop (i + 1) fs)) (field_number + 1) a (behind (i + 1) vs)) good
+    ap first_bad_leaf (field_here fs field_number a vs i d lt) ∙ behind_good (leaves (shape_of (get_or fs i d).kind) field_number a (nth vs i)) (field_leaves (shapes_of (drop (i + 1) fs)) (field_number + 1) a (behind (i + 1) vs)) good
 
-pub fields_stop : (fs : List Field) (field_number : ℕ) (a : Surroundings) (vs : Plains) (i : ℕ) (d : Field) (c : Cause) → i < length fs → first_bad (leaves (shape_of (get_or fs i d).kind) field_number a (nth vs i)) ≡ Some c
-    → first_bad (field_leaves (shapes_of (drop i fs)) field_number a (behind i vs)) ≡ Some c
+pub fields_stop : (fs : List Field) (field_number : ℕ) (a : Surroundings) (vs : Plains) (i : ℕ) (d : Field) (c : Cause) → i < length fs → first_bad_leaf (leaves (shape_of (get_or fs i d).kind) field_number a (nth vs i)) ≡ Some c
+    → first_bad_leaf (field_leaves (shapes_of (drop i fs)) field_number a (behind i vs)) ≡ Some c
 fields_stop fs field_number a vs i d c lt bad =
-    ap first_bad (field_here fs field_number a vs i d lt) ∙ after_bad (leaves (shape_of (get_or fs i d).kind) field_number a (nth vs i)) (field_leaves (shapes_of (drop (i + 1) fs)) (field_number + 1) a (behind (i + 1) vs)) c bad
+    ap first_bad_leaf (field_here fs field_number a vs i d lt) ∙ after_bad (leaves (shape_of (get_or fs i d).kind) field_number a (nth vs i)) (field_leaves (shapes_of (drop (i + 1) fs)) (field_number + 1) a (behind (i + 1) vs)) c bad
 
-pub fields_end : (fs : List Field) (field_number : ℕ) (a : Surroundings) (vs : Plains) (i : ℕ) → length fs ≤ i → first_bad (field_leaves (shapes_of (drop i fs)) field_number a vs) ≡ None
+pub fields_end : (fs : List Field) (field_number : ℕ) (a : Surroundings) (vs : Plains) (i : ℕ) → length fs ≤ i → first_bad_leaf (field_leaves (shapes_of (drop i fs)) field_number a vs) ≡ None
 unfolding field_leaves
 fields_end fs field_number a vs i le = rw (drop_all i fs le) refl
 
@@ -191,17 +191,17 @@ entry_sound p k ws i word lt h e = let r = at_entry p k ws i lt h in ap (is_soun
 pub others_sound : (p : List ℕ) (k : Kind) (ws : List ℕ) (i : ℕ) → i < length ws → are_all_sound p k (drop i ws) ≡ true → are_all_sound p k (drop (i + 1) ws) ≡ true
 others_sound p k ws i lt h = let r = at_entry p k ws i lt h in r.others
 
-pub entry_good : (p : List ℕ) (k : Kind) (f : Plain → List Leaf) (ws : List ℕ) (i word : ℕ) → i < length ws → are_all_sound p k (drop i ws) ≡ true → word ≡ get_or ws i 0 → None ≡ first_bad (f (value_at p k word))
-    → first_bad (each_leaf f (values_at p k (drop i ws))) ≡ first_bad (each_leaf f (values_at p k (drop (i + 1) ws)))
-entry_good p k f ws i word lt h e good = entries_more p k f ws i lt h (ap (λ (w : ℕ). first_bad (f (value_at p k w))) (sym e) ∙ sym good)
+pub entry_good : (p : List ℕ) (k : Kind) (f : Plain → List Leaf) (ws : List ℕ) (i word : ℕ) → i < length ws → are_all_sound p k (drop i ws) ≡ true → word ≡ get_or ws i 0 → None ≡ first_bad_leaf (f (value_at p k word))
+    → first_bad_leaf (each_leaf f (values_at p k (drop i ws))) ≡ first_bad_leaf (each_leaf f (values_at p k (drop (i + 1) ws)))
+entry_good p k f ws i word lt h e good = entries_more p k f ws i lt h (ap (λ (w : ℕ). first_bad_leaf (f (value_at p k w))) (sym e) ∙ sym good)
 
-pub entry_bad : (p : List ℕ) (k : Kind) (f : Plain → List Leaf) (ws : List ℕ) (i word : ℕ) (c : Cause) → i < length ws → are_all_sound p k (drop i ws) ≡ true → word ≡ get_or ws i 0 → Some c ≡ first_bad (f (value_at p k word))
-    → first_bad (each_leaf f (values_at p k (drop i ws))) ≡ Some c
-entry_bad p k f ws i word c lt h e bad = entries_stop p k f ws i c lt h (ap (λ (w : ℕ). first_bad (f (value_at p k w))) (sym e) ∙ sym bad)
+pub entry_bad : (p : List ℕ) (k : Kind) (f : Plain → List Leaf) (ws : List ℕ) (i word : ℕ) (c : Cause) → i < length ws → are_all_sound p k (drop i ws) ≡ true → word ≡ get_or ws i 0 → Some c ≡ first_bad_leaf (f (value_at p k word))
+    → first_bad_leaf (each_leaf f (values_at p k (drop i ws))) ≡ Some c
+entry_bad p k f ws i word c lt h e bad = entries_stop p k f ws i c lt h (ap (λ (w : ℕ). first_bad_leaf (f (value_at p k w))) (sym e) ∙ sym bad)
 
 -- ---- entries that are the same word as the one before
 
-pub before_good : (bad : ℕ → Option Cause) (ws : List ℕ) (i : ℕ) → IsSameAsBefore ws i → ((j : ℕ) → i ≡ suc j → None ≡ bad (get_or ws j 0)) → None ≡ bad (get_or ws i 0)
+pub before_good : (bad : ℕ → Option Cause) (ws : List ℕ) (i : ℕ) → IsSameWordAsPrevious ws i → ((j : ℕ) → i ≡ suc j → None ≡ bad (get_or ws j 0)) → None ≡ bad (get_or ws i 0)
 before_good bad ws zero same before = let behind = same.behind in absurd (omega arith)
 before_good bad ws (suc j) same before =
     let one : suc j - 1 ≡ j = omega arith in
@@ -221,18 +221,18 @@ field_value : (p : List ℕ) (which : Which) (w i word : ℕ) (d : Field) → i 
 field_value p which w i word d lt is = (is (get_or (table which) i d).kind (kind_here (table which) i d lt)).1
 
 pub field_good : (p : List ℕ) (which : Which) (w i word : ℕ) (d : Field) (field_number : ℕ) (a : Surroundings) → i < length (table which) → IsFieldOf p which w i word
-    → None ≡ first_bad (leaves (shape_of (get_or (table which) i d).kind) field_number a (value_at p (get_or (table which) i d).kind word))
-    → first_bad (field_leaves (shapes_of (drop i (table which))) field_number a (behind i (entries_in (value_at p (Obj which) w)))) ≡ first_bad (field_leaves (shapes_of (drop (i + 1) (table which))) (field_number + 1) a (behind (i + 1) (entries_in (value_at p (Obj which) w))))
+    → None ≡ first_bad_leaf (leaves (shape_of (get_or (table which) i d).kind) field_number a (value_at p (get_or (table which) i d).kind word))
+    → first_bad_leaf (field_leaves (shapes_of (drop i (table which))) field_number a (behind i (entries_in (value_at p (Obj which) w)))) ≡ first_bad_leaf (field_leaves (shapes_of (drop (i + 1) (table which))) (field_number + 1) a (behind (i + 1) (entries_in (value_at p (Obj which) w))))
 field_good p which w i word d field_number a lt is good =
     fields_more (table which) field_number a (entries_in (value_at p (Obj which) w)) i d lt
-    (ap (λ v. first_bad (leaves (shape_of (get_or (table which) i d).kind) field_number a v)) (sym (field_value p which w i word d lt is)) ∙ sym good)
+    (ap (λ v. first_bad_leaf (leaves (shape_of (get_or (table which) i d).kind) field_number a v)) (sym (field_value p which w i word d lt is)) ∙ sym good)
 
 pub field_bad : (p : List ℕ) (which : Which) (w i word : ℕ) (d : Field) (field_number : ℕ) (a : Surroundings) (c : Cause) → i < length (table which) → IsFieldOf p which w i word
-    → Some c ≡ first_bad (leaves (shape_of (get_or (table which) i d).kind) field_number a (value_at p (get_or (table which) i d).kind word))
-    → first_bad (field_leaves (shapes_of (drop i (table which))) field_number a (behind i (entries_in (value_at p (Obj which) w)))) ≡ Some c
+    → Some c ≡ first_bad_leaf (leaves (shape_of (get_or (table which) i d).kind) field_number a (value_at p (get_or (table which) i d).kind word))
+    → first_bad_leaf (field_leaves (shapes_of (drop i (table which))) field_number a (behind i (entries_in (value_at p (Obj which) w)))) ≡ Some c
 field_bad p which w i word d field_number a c lt is bad =
     fields_stop (table which) field_number a (entries_in (value_at p (Obj which) w)) i d c lt
-    (ap (λ v. first_bad (leaves (shape_of (get_or (table which) i d).kind) field_number a v)) (sym (field_value p which w i word d lt is)) ∙ sym bad)
+    (ap (λ v. first_bad_leaf (leaves (shape_of (get_or (table which) i d).kind) field_number a v)) (sym (field_value p which w i word d lt is)) ∙ sym bad)
 
 -- the same of a list of fields that is the table's
 
@@ -245,25 +245,25 @@ field_below which i d fs e lt =
     subst (λ (gs : List Field). i < length gs → rank (get_or gs i d).kind ≤ rank_of_all (table which)) (sym e) (λ lt. field_rank (table which) i d lt) lt
 
 pub field_good_of : (p : List ℕ) (which : Which) (w i word : ℕ) (d : Field) (field_number : ℕ) (a : Surroundings) (fs : List Field) → fs ≡ table which → i < length fs → IsFieldOf p which w i word
-    → None ≡ first_bad (leaves (shape_of (get_or fs i d).kind) field_number a (value_at p (get_or fs i d).kind word))
-    → first_bad (field_leaves (shapes_of (drop i (table which))) field_number a (behind i (entries_in (value_at p (Obj which) w)))) ≡ first_bad (field_leaves (shapes_of (drop (i + 1) (table which))) (field_number + 1) a (behind (i + 1) (entries_in (value_at p (Obj which) w))))
+    → None ≡ first_bad_leaf (leaves (shape_of (get_or fs i d).kind) field_number a (value_at p (get_or fs i d).kind word))
+    → first_bad_leaf (field_leaves (shapes_of (drop i (table which))) field_number a (behind i (entries_in (value_at p (Obj which) w)))) ≡ first_bad_leaf (field_leaves (shapes_of (drop (i + 1) (table which))) (field_number + 1) a (behind (i + 1) (entries_in (value_at p (Obj which) w))))
 field_good_of p which w i word d field_number a fs e lt is good =
     subst
-    (λ (gs : List Field). i < length gs → None ≡ first_bad (leaves (shape_of (get_or gs i d).kind) field_number a (value_at p (get_or gs i d).kind word)) → first_bad (field_leaves (shapes_of (drop i (table which))) field_number a (behind i (entries_in (value_at p (Obj which) w)))) ≡ first_bad (field_leaves (shapes_of (drop (i + 1) (table which))) (field_number + 1) a (behind (i + 1) (entries_in (value_at p (Obj which) w)))))
+    (λ (gs : List Field). i < length gs → None ≡ first_bad_leaf (leaves (shape_of (get_or gs i d).kind) field_number a (value_at p (get_or gs i d).kind word)) → first_bad_leaf (field_leaves (shapes_of (drop i (table which))) field_number a (behind i (entries_in (value_at p (Obj which) w)))) ≡ first_bad_leaf (field_leaves (shapes_of (drop (i + 1) (table which))) (field_number + 1) a (behind (i + 1) (entries_in (value_at p (Obj which) w)))))
     (sym e) (λ lt good. field_good p which w i word d field_number a lt is good) lt good
 
 pub field_bad_of : (p : List ℕ) (which : Which) (w i word : ℕ) (d : Field) (field_number : ℕ) (a : Surroundings) (c : Cause) (fs : List Field) → fs ≡ table which → i < length fs → IsFieldOf p which w i word
-    → Some c ≡ first_bad (leaves (shape_of (get_or fs i d).kind) field_number a (value_at p (get_or fs i d).kind word))
-    → first_bad (field_leaves (shapes_of (drop i (table which))) field_number a (behind i (entries_in (value_at p (Obj which) w)))) ≡ Some c
+    → Some c ≡ first_bad_leaf (leaves (shape_of (get_or fs i d).kind) field_number a (value_at p (get_or fs i d).kind word))
+    → first_bad_leaf (field_leaves (shapes_of (drop i (table which))) field_number a (behind i (entries_in (value_at p (Obj which) w)))) ≡ Some c
 field_bad_of p which w i word d field_number a c fs e lt is bad =
     subst
-    (λ (gs : List Field). i < length gs → Some c ≡ first_bad (leaves (shape_of (get_or gs i d).kind) field_number a (value_at p (get_or gs i d).kind word)) → first_bad (field_leaves (shapes_of (drop i (table which))) field_number a (behind i (entries_in (value_at p (Obj which) w)))) ≡ Some c)
+    (λ (gs : List Field). i < length gs → Some c ≡ first_bad_leaf (leaves (shape_of (get_or gs i d).kind) field_number a (value_at p (get_or gs i d).kind word)) → first_bad_leaf (field_leaves (shapes_of (drop i (table which))) field_number a (behind i (entries_in (value_at p (Obj which) w)))) ≡ Some c)
     (sym e) (λ lt bad. field_bad p which w i word d field_number a c lt is bad) lt bad
 
 -- ---- a value, by its kind
 
-at_kind : (p : List ℕ) (k j : Kind) (field_number : ℕ) (a : Surroundings) (w : ℕ) → k ≡ j → first_bad (leaves (shape_of j) field_number a (value_at p j w)) ≡ first_bad (leaves (shape_of k) field_number a (value_at p k w))
-at_kind p k j field_number a w e = sym (ap (λ (x : Kind). first_bad (leaves (shape_of x) field_number a (value_at p x w))) e)
+at_kind : (p : List ℕ) (k j : Kind) (field_number : ℕ) (a : Surroundings) (w : ℕ) → k ≡ j → first_bad_leaf (leaves (shape_of j) field_number a (value_at p j w)) ≡ first_bad_leaf (leaves (shape_of k) field_number a (value_at p k w))
+at_kind p k j field_number a w e = sym (ap (λ (x : Kind). first_bad_leaf (leaves (shape_of x) field_number a (value_at p x w))) e)
 
 -- what is answered, if memory sufficed
 along : {E : Type 0} (r : Result (Option ℕ) E) (x y : Option Cause) → x ≡ y → IfOk r (λ o. bad_text_at o ≡ x) → IfOk r (λ o. bad_text_at o ≡ y)
@@ -274,30 +274,30 @@ pub hash_is_text : (p : List ℕ) (w : ℕ) → value_at p Hash w ≡ value_at p
 unfolding value_at plain_of shape_of
 hash_is_text p w = refl
 
-pub int_done : (p : List ℕ) (k : Kind) (field_number : ℕ) (a : Surroundings) (w n : ℕ) (o : Option Cause) → k ≡ Int → n ≡ int_in (value_at p Int w) → o ≡ first_bad (number_leaf field_number n ∷ []) → o ≡ first_bad (leaves (shape_of k) field_number a (value_at p k w))
+pub int_done : (p : List ℕ) (k : Kind) (field_number : ℕ) (a : Surroundings) (w n : ℕ) (o : Option Cause) → k ≡ Int → n ≡ int_in (value_at p Int w) → o ≡ first_bad_leaf (number_leaf field_number n ∷ []) → o ≡ first_bad_leaf (leaves (shape_of k) field_number a (value_at p k w))
 int_done p k field_number a w n o is read e =
-    e ∙ ap (λ (m : ℕ). first_bad (number_leaf field_number m ∷ [])) read ∙ ap first_bad (sym (int_leaves field_number a (value_at p Int w))) ∙ at_kind p k Int field_number a w is
+    e ∙ ap (λ (m : ℕ). first_bad_leaf (number_leaf field_number m ∷ [])) read ∙ ap first_bad_leaf (sym (int_leaves field_number a (value_at p Int w))) ∙ at_kind p k Int field_number a w is
 
-pub text_done : (p : List ℕ) (k : Kind) (field_number : ℕ) (a : Surroundings) (w : ℕ) (bs : List ℕ) {E : Type 0} (r : Result (Option ℕ) E) → k ≡ Text → bs ≡ text_in (value_at p Text w) → IfOk r (λ o. bad_text_at o ≡ first_bad (text_leaf field_number a bs ∷ [])) → IfOk r (λ o. bad_text_at o ≡ first_bad (leaves (shape_of k) field_number a (value_at p k w)))
+pub text_done : (p : List ℕ) (k : Kind) (field_number : ℕ) (a : Surroundings) (w : ℕ) (bs : List ℕ) {E : Type 0} (r : Result (Option ℕ) E) → k ≡ Text → bs ≡ text_in (value_at p Text w) → IfOk r (λ o. bad_text_at o ≡ first_bad_leaf (text_leaf field_number a bs ∷ [])) → IfOk r (λ o. bad_text_at o ≡ first_bad_leaf (leaves (shape_of k) field_number a (value_at p k w)))
 text_done p k field_number a w bs r is read e =
-    along r _ _ (ap (λ (b : List ℕ). first_bad (text_leaf field_number a b ∷ [])) read ∙ ap first_bad (sym (text_leaves field_number a (value_at p Text w))) ∙ at_kind p k Text field_number a w is) e
+    along r _ _ (ap (λ (b : List ℕ). first_bad_leaf (text_leaf field_number a b ∷ [])) read ∙ ap first_bad_leaf (sym (text_leaves field_number a (value_at p Text w))) ∙ at_kind p k Text field_number a w is) e
 
-pub hash_done : (p : List ℕ) (k : Kind) (field_number : ℕ) (a : Surroundings) (w : ℕ) (bs : List ℕ) {E : Type 0} (r : Result (Option ℕ) E) → k ≡ Hash → bs ≡ text_in (value_at p Hash w) → IfOk r (λ o. bad_text_at o ≡ first_bad (text_leaf field_number a bs ∷ [])) → IfOk r (λ o. bad_text_at o ≡ first_bad (leaves (shape_of k) field_number a (value_at p k w)))
+pub hash_done : (p : List ℕ) (k : Kind) (field_number : ℕ) (a : Surroundings) (w : ℕ) (bs : List ℕ) {E : Type 0} (r : Result (Option ℕ) E) → k ≡ Hash → bs ≡ text_in (value_at p Hash w) → IfOk r (λ o. bad_text_at o ≡ first_bad_leaf (text_leaf field_number a bs ∷ [])) → IfOk r (λ o. bad_text_at o ≡ first_bad_leaf (leaves (shape_of k) field_number a (value_at p k w)))
 hash_done p k field_number a w bs r is read e =
-    along r _ _ (ap (λ (b : List ℕ). first_bad (text_leaf field_number a b ∷ [])) read ∙ ap first_bad (sym (hash_leaves field_number a (value_at p Hash w))) ∙ at_kind p k Hash field_number a w is) e
+    along r _ _ (ap (λ (b : List ℕ). first_bad_leaf (text_leaf field_number a b ∷ [])) read ∙ ap first_bad_leaf (sym (hash_leaves field_number a (value_at p Hash w))) ∙ at_kind p k Hash field_number a w is) e
 
-pub texts_done : (p : List ℕ) (k : Kind) (field_number : ℕ) (a : Surroundings) (w : ℕ) (ws : List ℕ) {E : Type 0} (r : Result (Option ℕ) E) → k ≡ TextArr → array_at p Text ws ≡ value_at p TextArr w → IfOk r (λ o. bad_text_at o ≡ first_bad (each_leaf (leaves (shape_of Text) field_number a) (values_at p Text ws)))
-    → IfOk r (λ o. bad_text_at o ≡ first_bad (leaves (shape_of k) field_number a (value_at p k w)))
+pub texts_done : (p : List ℕ) (k : Kind) (field_number : ℕ) (a : Surroundings) (w : ℕ) (ws : List ℕ) {E : Type 0} (r : Result (Option ℕ) E) → k ≡ TextArr → array_at p Text ws ≡ value_at p TextArr w → IfOk r (λ o. bad_text_at o ≡ first_bad_leaf (each_leaf (leaves (shape_of Text) field_number a) (values_at p Text ws)))
+    → IfOk r (λ o. bad_text_at o ≡ first_bad_leaf (leaves (shape_of k) field_number a (value_at p k w)))
 texts_done p k field_number a w ws r is read e =
-    along r _ _ (ap (λ vs. first_bad (each_leaf (leaves (shape_of Text) field_number a) vs)) (sym (entries_arr (values_at p Text ws)) ∙ ap entries_in read) ∙ ap first_bad (sym (texts_leaves field_number a (value_at p TextArr w))) ∙ at_kind p k TextArr field_number a w is) e
+    along r _ _ (ap (λ vs. first_bad_leaf (each_leaf (leaves (shape_of Text) field_number a) vs)) (sym (entries_arr (values_at p Text ws)) ∙ ap entries_in read) ∙ ap first_bad_leaf (sym (texts_leaves field_number a (value_at p TextArr w))) ∙ at_kind p k TextArr field_number a w is) e
 
 pub objects_done : (p : List ℕ) (k : Kind) (which : Which) (field_number : ℕ) (a : Surroundings) (w : ℕ) (ws : List ℕ) {E : Type 0} (r : Result (Option ℕ) E) → k ≡ ObjArr which → array_at p (Obj which) ws ≡ value_at p (ObjArr which) w
-    → IfOk r (λ o. bad_text_at o ≡ first_bad (each_leaf (leaves (shape_of (Obj which)) field_number a) (values_at p (Obj which) ws))) → IfOk r (λ o. bad_text_at o ≡ first_bad (leaves (shape_of k) field_number a (value_at p k w)))
+    → IfOk r (λ o. bad_text_at o ≡ first_bad_leaf (each_leaf (leaves (shape_of (Obj which)) field_number a) (values_at p (Obj which) ws))) → IfOk r (λ o. bad_text_at o ≡ first_bad_leaf (leaves (shape_of k) field_number a (value_at p k w)))
 objects_done p k which field_number a w ws r is read e =
-    along r _ _ (ap (λ vs. first_bad (each_leaf (leaves (shape_of (Obj which)) field_number a) vs)) (sym (entries_arr (values_at p (Obj which) ws)) ∙ ap entries_in read) ∙ ap first_bad (sym (objects_leaves which field_number a (value_at p (ObjArr which) w))) ∙ at_kind p k (ObjArr which) field_number a w is) e
+    along r _ _ (ap (λ vs. first_bad_leaf (each_leaf (leaves (shape_of (Obj which)) field_number a) vs)) (sym (entries_arr (values_at p (Obj which) ws)) ∙ ap entries_in read) ∙ ap first_bad_leaf (sym (objects_leaves which field_number a (value_at p (ObjArr which) w))) ∙ at_kind p k (ObjArr which) field_number a w is) e
 
 pub object_done : (p : List ℕ) (k : Kind) (which : Which) (field_number : ℕ) (a inside : Surroundings) (w : ℕ) {E : Type 0} (r : Result (Option ℕ) E) → k ≡ Obj which → inside ≡ surroundings_of_fields (table_number which) a (value_at p (Obj which) w)
-    → IfOk r (λ o. bad_text_at o ≡ first_bad (field_leaves (shapes_of (table which)) (100 * table_number which + 1) inside (entries_in (value_at p (Obj which) w)))) → IfOk r (λ o. bad_text_at o ≡ first_bad (leaves (shape_of k) field_number a (value_at p k w)))
+    → IfOk r (λ o. bad_text_at o ≡ first_bad_leaf (field_leaves (shapes_of (table which)) (100 * table_number which + 1) inside (entries_in (value_at p (Obj which) w)))) → IfOk r (λ o. bad_text_at o ≡ first_bad_leaf (leaves (shape_of k) field_number a (value_at p k w)))
 object_done p k which field_number a inside w r is made e =
-    along r _ _ (ap (λ (b : Surroundings). first_bad (field_leaves (shapes_of (table which)) (100 * table_number which + 1) b (entries_in (value_at p (Obj which) w)))) made
-    ∙ ap first_bad (sym (object_leaves which field_number a (value_at p (Obj which) w))) ∙ at_kind p k (Obj which) field_number a w is) e
+    along r _ _ (ap (λ (b : Surroundings). first_bad_leaf (field_leaves (shapes_of (table which)) (100 * table_number which + 1) b (entries_in (value_at p (Obj which) w)))) made
+    ∙ ap first_bad_leaf (sym (object_leaves which field_number a (value_at p (Obj which) w))) ∙ at_kind p k (Obj which) field_number a w is) e

@@ -8,7 +8,7 @@ use Rattle.base_core.specs.declared.cause.Cause.TheVariants.{BadText}
 use Rattle.adb_schema.specs.Texts.{Leaf, keeps_rule, number_of_leaf}
 
 -- a number or a text (a leaf) breaks the rule of its field, and none before it does
-pub record IsFirstBad (all : List Leaf) (c : Cause) : Type 0 where
+pub record IsFirstBadLeaf (all : List Leaf) (c : Cause) : Type 0 where
   -- how many leaves precede it
   pub i : ℕ
   -- the leaf that breaks its rule
@@ -21,6 +21,6 @@ pub record IsFirstBad (all : List Leaf) (c : Cause) : Type 0 where
       ≡ true
 
 -- the cause is that of the first leaf that breaks its rule; without a cause each leaf obeys its rule
-abbrev pub IsFirstBadOf : List Leaf → Option Cause → Type 0
-IsFirstBadOf all None = list_all keeps_rule all ≡ true
-IsFirstBadOf all (Some c) = IsFirstBad all c
+abbrev pub IsFirstBadLeafIfAny : List Leaf → Option Cause → Type 0
+IsFirstBadLeafIfAny all None = list_all keeps_rule all ≡ true
+IsFirstBadLeafIfAny all (Some c) = IsFirstBadLeaf all c

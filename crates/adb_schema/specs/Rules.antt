@@ -39,22 +39,22 @@ abbrev pub is_file_name : List ℕ → List ℕ → Bool
 is_file_name folder name = is_one_part name && nat_le (length (path_of folder name)) 1024
 
 -- whether a change may remove or write the path: a name that is not in the journal or the staging area
-abbrev pub is_change_name : List ℕ → Bool
-is_change_name path = is_name path && not (is_intent_or_stage_name path)
+abbrev pub is_changeable_name : List ℕ → Bool
+is_changeable_name path = is_name path && not (is_intent_or_stage_name path)
 
 -- ---- other texts
 
 -- whether bytes are a link's target: 0 and 160, which are the type 0xa000 of a symbolic link with the
 -- low byte first, and a UTF-8 text that is not empty
-abbrev pub is_link : List ℕ → Bool
-is_link [] = false
-is_link (low ∷ []) = false
-is_link (low ∷ high ∷ text) = (low == 0) && (high == 160) && nat_lt 0 (length text) && is_utf8 text
+abbrev pub is_link_target : List ℕ → Bool
+is_link_target [] = false
+is_link_target (low ∷ []) = false
+is_link_target (low ∷ high ∷ text) = (low == 0) && (high == 160) && nat_lt 0 (length text) && is_utf8 text
 
 -- whether bytes are a file's target: empty for a file that is no link
-abbrev pub is_target : List ℕ → Bool
-is_target [] = true
-is_target (b ∷ rest) = is_link (b ∷ rest)
+abbrev pub is_link_target_or_none : List ℕ → Bool
+is_link_target_or_none [] = true
+is_link_target_or_none (b ∷ rest) = is_link_target (b ∷ rest)
 
 -- whether bytes are a pattern by which an index names its packages' files: empty, or the only known
 -- pattern

@@ -4,7 +4,7 @@
 use Rattle.std.specs.Prelude.{◌≡◌, ℕ, true, if◌then◌else◌, List, [], length}
 use Rattle.version_core.specs.Order.{is_version}
 use Rattle.dep_core.specs.Dependency.{is_dep_name, is_package_name}
-use Rattle.dep_core.specs.Value.{is_matching, is_version_or_empty}
+use Rattle.dep_core.specs.Value.{is_match_number, is_version_or_empty}
 use Rattle.adb_view.specs.Plain.{Plain}
 use Rattle.adb_view.specs.Shaped.{Each}
 use Rattle.adb_view.specs.FieldIndexes.{DEP_MATCH, DEP_NAME, DEP_VERSION, DIR_FILES, DIR_NAME, FILE_HASHES, FILE_NAME, FILE_TARGET, IDB_PACKAGES, INDEX_PACKAGES, INDEX_PKGNAME_SPEC, INFO_DEPENDS, INFO_HASHES, INFO_INSTALL_IF, INFO_NAME, INFO_PROVIDES, INFO_RECOMMENDS, INFO_REPLACES, INFO_VERSION, INTENT_REMOVALS, INTENT_WRITES, PACKAGE_INFO, PACKAGE_PATHS}
@@ -12,7 +12,7 @@ use Rattle.adb_view.specs.Values.{entries_in, entry_in, int_in, text_in}
 use Rattle.adb_view.specs.declared.tables.Which.{Which}
 use Rattle.adb_view.specs.declared.tables.Which.TheVariants.{Dep, Acl, PkgInfo, File, Dir, Scripts, Package, Index, Idb, Intent}
 use Rattle.adb_fields.specs.Paths.{path_of}
-use Rattle.adb_schema.specs.Rules.{is_change_name, is_digest_length, is_digest_length_or_none, is_file_name, is_folder_name, is_name_pattern, is_target}
+use Rattle.adb_schema.specs.Rules.{is_changeable_name, is_digest_length, is_digest_length_or_none, is_file_name, is_folder_name, is_name_pattern, is_link_target_or_none}
 use Rattle.adb_schema.specs.Texts.{is_package_hash, is_with_contents, may_list, needs_hash}
 
 -- a dependency in a tested container: a name, a version or none, and a match number with an operator
@@ -22,11 +22,11 @@ pub record IsSoundDependency (v : Plain) : Type 0 where
   -- 102
   pub version : is_version_or_empty (text_in (entry_in v DEP_VERSION)) ≡ true
   -- 103
-  pub matching : is_matching (int_in (entry_in v DEP_MATCH)) ≡ true
+  pub matching : is_match_number (int_in (entry_in v DEP_MATCH)) ≡ true
 
 -- the information of a package obeys its rules, in a container with this table at its root: in an index
 -- it has its hash
-pub record IsInformation (root : Which) (v : Plain) : Type 0 where
+pub record IsSoundInformation (root : Which) (v : Plain) : Type 0 where
   -- 301
   pub name : is_package_name (text_in (entry_in v INFO_NAME)) ≡ true
   -- 302
@@ -42,7 +42,7 @@ pub record IsInformation (root : Which) (v : Plain) : Type 0 where
 
 -- a file of the folder with this name obeys its rules; if it has contents, it has their hash, which may
 -- be missing in a database
-pub record IsFileOf (root : Which) (folder : List ℕ) (v : Plain) : Type 0 where
+pub record IsSoundFileOf (root : Which) (folder : List ℕ) (v : Plain) : Type 0 where
   -- 401
   pub name : is_file_name folder (text_in (entry_in v FILE_NAME)) ≡ true
   -- 401, in a database
@@ -52,48 +52,48 @@ pub record IsFileOf (root : Which) (folder : List ℕ) (v : Plain) : Type 0 wher
       then is_digest_length (length (text_in (entry_in v FILE_HASHES)))
       else is_digest_length_or_none (length (text_in (entry_in v FILE_HASHES)))) ≡ true
   -- 406
-  pub target : is_target (text_in (entry_in v FILE_TARGET)) ≡ true
+  pub target : is_link_target_or_none (text_in (entry_in v FILE_TARGET)) ≡ true
 
 -- a folder obeys its rules: its name is a path or empty, and each of its files obeys its own
-pub record IsFolder (root : Which) (v : Plain) : Type 0 where
+pub record IsSoundFolder (root : Which) (v : Plain) : Type 0 where
   -- 501
   pub name : is_folder_name (text_in (entry_in v DIR_NAME)) ≡ true
-  pub files : Each (IsFileOf root (text_in (entry_in v DIR_NAME)))
+  pub files : Each (IsSoundFileOf root (text_in (entry_in v DIR_NAME)))
       (entries_in (entry_in v DIR_FILES))
 
 -- a package obeys its rules: its information and its folders do
-pub record IsPackage (root : Which) (v : Plain) : Type 0 where
-  pub info : IsInformation root (entry_in v PACKAGE_INFO)
-  pub folders : Each (IsFolder root) (entries_in (entry_in v PACKAGE_PATHS))
+pub record IsSoundPackage (root : Which) (v : Plain) : Type 0 where
+  pub info : IsSoundInformation root (entry_in v PACKAGE_INFO)
+  pub folders : Each (IsSoundFolder root) (entries_in (entry_in v PACKAGE_PATHS))
 
 -- an index obeys its rules: the information of each of its packages does, and so does its pattern of
 -- file names
-pub record IsIndex (v : Plain) : Type 0 where
+pub record IsSoundIndex (v : Plain) : Type 0 where
   -- 802: the rules of table 3
-  pub packages : Each (IsInformation Index) (entries_in (entry_in v INDEX_PACKAGES))
+  pub packages : Each (IsSoundInformation Index) (entries_in (entry_in v INDEX_PACKAGES))
   -- 803
   pub pattern : is_name_pattern (text_in (entry_in v INDEX_PKGNAME_SPEC)) ≡ true
 
 -- the text is a name that a change may remove or write
-abbrev pub IsChangeName : Plain → Type 0
-IsChangeName v = is_change_name (text_in v) ≡ true
+abbrev pub IsChangeableName : Plain → Type 0
+IsChangeableName v = is_changeable_name (text_in v) ≡ true
 
 -- a journal entry obeys its rules: a change may remove or write each of its names
-pub record IsIntent (v : Plain) : Type 0 where
+pub record IsSoundIntent (v : Plain) : Type 0 where
   -- 1001
-  pub removals : Each IsChangeName (entries_in (entry_in v INTENT_REMOVALS))
+  pub removals : Each IsChangeableName (entries_in (entry_in v INTENT_REMOVALS))
   -- 1002
-  pub writes : Each IsChangeName (entries_in (entry_in v INTENT_WRITES))
+  pub writes : Each IsChangeableName (entries_in (entry_in v INTENT_WRITES))
 
 -- the value of a payload with this table at its root obeys the rules of its fields
 abbrev pub KeepsRules : Which → Plain → Type 0
 KeepsRules Dep v = IsSoundDependency v
 KeepsRules Acl v = Unit {0}
-KeepsRules PkgInfo v = IsInformation PkgInfo v
-KeepsRules File v = IsFileOf File [] v
-KeepsRules Dir v = IsFolder Dir v
+KeepsRules PkgInfo v = IsSoundInformation PkgInfo v
+KeepsRules File v = IsSoundFileOf File [] v
+KeepsRules Dir v = IsSoundFolder Dir v
 KeepsRules Scripts v = Unit {0}
-KeepsRules Package v = IsPackage Package v
-KeepsRules Index v = IsIndex v
-KeepsRules Idb v = Each (IsPackage Idb) (entries_in (entry_in v IDB_PACKAGES))
-KeepsRules Intent v = IsIntent v
+KeepsRules Package v = IsSoundPackage Package v
+KeepsRules Index v = IsSoundIndex v
+KeepsRules Idb v = Each (IsSoundPackage Idb) (entries_in (entry_in v IDB_PACKAGES))
+KeepsRules Intent v = IsSoundIntent v

@@ -7,8 +7,8 @@ use Rattle.std.specs.Int.{w32, from_le_bytes}
 use Rattle.base_core.specs.declared.cause.Cause.{Cause}
 use Rattle.base_core.specs.declared.cause.Cause.TheVariants.{Truncated, WrongSchema, DataOrder}
 use Rattle.adb_block.specs.Header.{header_of}
-use Rattle.adb_block.specs.ReaderPosition.{start_of}
-use Rattle.adb_block.specs.Reading.{Reading, done, fault, more, reading_of}
+use Rattle.adb_block.specs.ReaderPosition.{first_block_position}
+use Rattle.adb_block.specs.Reading.{Reading, done, fault, more, block_stream_from}
 use Rattle.adb_block.specs.declared.block.BlockKind.{BlockKind}
 use Rattle.adb_block.specs.declared.block.BlockKind.TheVariants.{Contents}
 use Rattle.adb_view.specs.Head.{head_fault, root_of}
@@ -50,34 +50,34 @@ payload_fault which payload =
 
 -- the two numbers that contents begin with: the positions of the folder and of the file in it,
 -- which count from 1
-abbrev pub file_pair : List ℕ → ℕ × ℕ
-file_pair payload = (
+abbrev pub contents_positions : List ℕ → ℕ × ℕ
+contents_positions payload = (
   from_le_bytes w32 (take 4 payload),
   from_le_bytes w32 (take 4 (drop 4 payload)),
 )
 
 -- the cause for contents that are not allowed: they are too short for their two numbers (8 bytes), or
 -- they are those of a file although 0.0, which is no file, was expected
-abbrev pub undue_contents : List ℕ → ℕ → Cause
-undue_contents payload at = if nat_lt (length payload) 8 then Truncated at
-    else DataOrder (0, 0) (file_pair payload)
+abbrev pub unexpected_contents_cause : List ℕ → ℕ → Cause
+unexpected_contents_cause payload at = if nat_lt (length payload) 8 then Truncated at
+    else DataOrder (0, 0) (contents_positions payload)
 
 -- why a block is not allowed after the first in a container without files; only contents are not
-abbrev pub block_fault : BlockKind → List ℕ → ℕ → Option Cause
-block_fault Contents payload at = Some (undue_contents payload at)
-block_fault kind payload at = None
+abbrev pub further_block_fault : BlockKind → List ℕ → ℕ → Option Cause
+further_block_fault Contents payload at = Some (unexpected_contents_cause payload at)
+further_block_fault kind payload at = None
 
 -- the first fault of the blocks after the first: of their framing, or contents
-unfoldable pub further_fault : Reading → Option Cause
-further_fault done = None
-further_fault (fault c) = Some c
-further_fault (more b at r) = option_or (block_fault b.kind b.payload at) (further_fault r)
+unfoldable pub further_blocks_fault : Reading → Option Cause
+further_blocks_fault done = None
+further_blocks_fault (fault c) = Some c
+further_blocks_fault (more b at r) = option_or (further_block_fault b.kind b.payload at) (further_blocks_fault r)
 
 -- the first fault of the blocks after the first. For a package `pkg_core` tests them against its list
 -- of files
-abbrev pub rest_fault : Which → Reading → Option Cause
-rest_fault Package r = None
-rest_fault which r = further_fault r
+abbrev pub fault_after_first_block : Which → Reading → Option Cause
+fault_after_first_block Package r = None
+fault_after_first_block which r = further_blocks_fault r
 
 -- ---- all tests in order
 
@@ -99,32 +99,32 @@ blocks_fault rest which (more b at r) = option_or (payload_fault which b.payload
     (rest (root_value which b.payload) r)
 
 -- the first fault of a file by its header: of the header, of the schema, or of the blocks
-abbrev pub file_fault : (Plain → Reading → Option Cause) → Which → List ℕ → Result ℕ Cause
+abbrev pub file_fault_after_header : (Plain → Reading → Option Cause) → Which → List ℕ → Result ℕ Cause
     → Option Cause
-file_fault rest which file (Err c) = Some c
-file_fault rest which file (Ok schema) = option_or (schema_fault which schema)
-    (blocks_fault rest which (reading_of (start_of schema file)))
+file_fault_after_header rest which file (Err c) = Some c
+file_fault_after_header rest which file (Ok schema) = option_or (schema_fault which schema)
+    (blocks_fault rest which (block_stream_from (first_block_position schema file)))
 
 -- the first fault of a file, if `rest` tests the blocks after the first
-abbrev pub fault_with : (Plain → Reading → Option Cause) → Which → List ℕ → Option Cause
-fault_with rest which file = file_fault rest which file (header_of file)
+abbrev pub file_fault_with_rest_test : (Plain → Reading → Option Cause) → Which → List ℕ → Option Cause
+file_fault_with_rest_test rest which file = file_fault_after_header rest which file (header_of file)
 
 -- the first failed test of a file as a container of this table; for a package, without the contents
 -- after its first block
 unfoldable pub first_fault : Which → List ℕ → Option Cause
-first_fault which file = fault_with (λ v r. rest_fault which r) which file
+first_fault which file = file_fault_with_rest_test (λ v r. fault_after_first_block which r) which file
 
 -- ---- what is read
 
 -- the payload of the first block of a reading; empty if there is no block
-abbrev pub first_payload : Reading → List ℕ
-first_payload done = []
-first_payload (fault c) = []
-first_payload (more b at r) = b.payload
+abbrev pub first_block_payload : Reading → List ℕ
+first_block_payload done = []
+first_block_payload (fault c) = []
+first_block_payload (more b at r) = b.payload
 
 -- the payload of the first block after a header; empty if the header has a fault
 abbrev pub payload_after_header : List ℕ → Result ℕ Cause → List ℕ
-payload_after_header file (Ok schema) = first_payload (reading_of (start_of schema file))
+payload_after_header file (Ok schema) = first_block_payload (block_stream_from (first_block_position schema file))
 payload_after_header file (Err c) = []
 
 -- the payload of the first block of a file; empty if it has none

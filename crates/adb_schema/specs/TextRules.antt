@@ -7,7 +7,7 @@ use Rattle.dep_core.specs.Dependency.{is_dep_name, is_package_name}
 use Rattle.dep_core.specs.Value.{is_version_or_empty}
 use Rattle.adb_view.specs.Values.{text_in, value_at}
 use Rattle.adb_view.specs.declared.tables.Kind.TheVariants.{Text}
-use Rattle.adb_schema.specs.Rules.{is_folder_name, is_one_part, is_target}
+use Rattle.adb_schema.specs.Rules.{is_folder_name, is_one_part, is_link_target_or_none}
 use Rattle.adb_schema.specs.declared.judged.TextRule.{TextRule}
 use Rattle.adb_schema.specs.declared.judged.TextRule.TheVariants.{DependencyName, PackageName, Version, VersionOrEmpty, Name, FolderName, OnePart, Target}
 
@@ -20,7 +20,7 @@ keeps_text_rule VersionOrEmpty bytes = is_version_or_empty bytes
 keeps_text_rule Name bytes = is_name bytes
 keeps_text_rule FolderName bytes = is_folder_name bytes
 keeps_text_rule OnePart bytes = is_one_part bytes
-keeps_text_rule Target bytes = is_target bytes
+keeps_text_rule Target bytes = is_link_target_or_none bytes
 
 -- the text of a word in a payload; empty for NULL
 abbrev pub text_at : List ℕ → ℕ → List ℕ

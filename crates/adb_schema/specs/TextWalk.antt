@@ -6,7 +6,7 @@ use Rattle.base_core.specs.declared.cause.Cause.TheVariants.{BadText}
 use Rattle.adb_view.specs.Plain.{Plain}
 use Rattle.adb_view.specs.Schema.{shape_of}
 use Rattle.adb_view.specs.declared.tables.Kind.{Kind}
-use Rattle.adb_schema.specs.Texts.{Surroundings, first_bad, leaves, text_rule}
+use Rattle.adb_schema.specs.Texts.{Surroundings, first_bad_leaf, leaves, text_rule}
 
 -- the cause that is reported for the field with this number, if one is
 abbrev pub bad_text_at : Option ℕ → Option Cause
@@ -14,16 +14,16 @@ bad_text_at None = None
 bad_text_at (Some place) = Some (BadText place)
 
 -- the entry with index i is the same word as the one before it
-pub record IsSameAsBefore (words : List ℕ) (i : ℕ) : Type 0 where
+pub record IsSameWordAsPrevious (words : List ℕ) (i : ℕ) : Type 0 where
   pub behind : 0 < i
   pub same : slice_index words i ≡ slice_index words (i - 1)
 
 -- no text breaks the rule of the field with this number, whatever its surroundings
-abbrev pub TakesEachText : ℕ → Type 0
-TakesEachText field_number = (around : Surroundings) (text : List ℕ)
+abbrev pub AllowsEachText : ℕ → Type 0
+AllowsEachText field_number = (around : Surroundings) (text : List ℕ)
     → text_rule field_number around text ≡ true
 
 -- no value of the kind breaks a rule as the field with this number, whatever its surroundings
-abbrev pub TakesEachValue : Kind → ℕ → Type 0
-TakesEachValue kind field_number = (around : Surroundings) (v : Plain)
-    → first_bad (leaves (shape_of kind) field_number around v) ≡ None
+abbrev pub AllowsEachValueOfKind : Kind → ℕ → Type 0
+AllowsEachValueOfKind kind field_number = (around : Surroundings) (v : Plain)
+    → first_bad_leaf (leaves (shape_of kind) field_number around v) ≡ None

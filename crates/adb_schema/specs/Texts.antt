@@ -5,14 +5,14 @@
 use Rattle.std.specs.Prelude.{ℕ, ◌+◌, ◌*◌, ◌==◌, nat_lt, Bool, true, false, not, ◌&&◌, if◌then◌else◌, List, [], ◌∷◌, ◌++◌, length, Option, Some, None}
 use Rattle.version_core.specs.Order.{is_version}
 use Rattle.dep_core.specs.Dependency.{is_dep_name, is_package_name}
-use Rattle.dep_core.specs.Value.{is_matching, is_version_or_empty}
+use Rattle.dep_core.specs.Value.{is_match_number, is_version_or_empty}
 use Rattle.base_core.specs.declared.cause.Cause.{Cause}
 use Rattle.base_core.specs.declared.cause.Cause.TheVariants.{BadText}
 use Rattle.adb_view.specs.Plain.{Plain, null, Plains, none, more, Shape, number, text, hash, array, object, Fields, no_fields, field}
 use Rattle.adb_schema.specs.Reserved.{is_reserved}
 use Rattle.adb_fields.specs.Paths.{path_of}
 use Rattle.adb_fields.specs.Repeated.{field_number}
-use Rattle.adb_schema.specs.Rules.{is_change_name, is_digest_length, is_digest_length_or_none, is_file_name, is_folder_name, is_id_length, is_name_pattern, is_target}
+use Rattle.adb_schema.specs.Rules.{is_changeable_name, is_digest_length, is_digest_length_or_none, is_file_name, is_folder_name, is_id_length, is_name_pattern, is_link_target_or_none}
 use Rattle.adb_view.specs.FieldIndexes.{DEP_MATCH, DEP_NAME, DEP_VERSION, DIR_NAME, FILE_HASHES, FILE_NAME, FILE_SIZE, FILE_TARGET, INDEX_PKGNAME_SPEC, INFO_HASHES, INFO_NAME, INFO_VERSION, INTENT_REMOVALS, INTENT_WRITES}
 use Rattle.adb_view.specs.Schema.{shape_of, table_number}
 use Rattle.adb_view.specs.Values.{entries_in, entry_in, int_in, text_in}
@@ -45,8 +45,8 @@ may_list Idb path = not (is_reserved path)
 may_list root path = true
 
 -- whether the container may list a file of this name in the folder around it
-abbrev pub is_listed_file : Surroundings → List ℕ → Bool
-is_listed_file around name = is_file_name around.folder name
+abbrev pub is_allowed_file_name : Surroundings → List ℕ → Bool
+is_allowed_file_name around name = is_file_name around.folder name
     && may_list around.root (path_of around.folder name)
 
 -- whether a file needs a hash: one with contents does, except in a database, which may be imported from
@@ -65,7 +65,7 @@ is_file_hash around len = if needs_hash around.root around.has_contents then is_
 -- whether a number obeys the rule of the field with the number `place`; only the match number of a
 -- dependency has one
 abbrev pub number_rule : ℕ → ℕ → Bool
-number_rule place n = if place == field_number Dep DEP_MATCH then is_matching n else true
+number_rule place n = if place == field_number Dep DEP_MATCH then is_match_number n else true
 
 -- whether a text obeys the rule of the field with the number `place`; the other fields have no rule
 unfoldable pub text_rule : ℕ → Surroundings → List ℕ → Bool
@@ -75,13 +75,13 @@ text_rule place around bytes =
     else if place == field_number PkgInfo INFO_NAME then is_package_name bytes
     else if place == field_number PkgInfo INFO_VERSION then is_version bytes
     else if place == field_number PkgInfo INFO_HASHES then is_package_hash around.root (length bytes)
-    else if place == field_number File FILE_NAME then is_listed_file around bytes
+    else if place == field_number File FILE_NAME then is_allowed_file_name around bytes
     else if place == field_number File FILE_HASHES then is_file_hash around (length bytes)
-    else if place == field_number File FILE_TARGET then is_target bytes
+    else if place == field_number File FILE_TARGET then is_link_target_or_none bytes
     else if place == field_number Dir DIR_NAME then is_folder_name bytes
     else if place == field_number Index INDEX_PKGNAME_SPEC then is_name_pattern bytes
-    else if place == field_number Intent INTENT_REMOVALS then is_change_name bytes
-    else if place == field_number Intent INTENT_WRITES then is_change_name bytes
+    else if place == field_number Intent INTENT_REMOVALS then is_changeable_name bytes
+    else if place == field_number Intent INTENT_WRITES then is_changeable_name bytes
     else true
 
 -- ---- the leaves of the walk, in order
@@ -150,11 +150,11 @@ leaves_of which v = leaves (shape_of (Obj which)) 0 (surroundings_of_root which)
 
 -- the cause of the first number or text that breaks its rule, with the number of its field; None if
 -- each obeys its own
-abbrev pub first_bad : List Leaf → Option Cause
-first_bad [] = None
-first_bad (leaf ∷ others) = if keeps_rule leaf then first_bad others
+abbrev pub first_bad_leaf : List Leaf → Option Cause
+first_bad_leaf [] = None
+first_bad_leaf (leaf ∷ others) = if keeps_rule leaf then first_bad_leaf others
     else Some (BadText (number_of_leaf leaf))
 
 -- the cause of the first text or number of a container that breaks its rule
 abbrev pub text_fault : Which → Plain → Option Cause
-text_fault which v = first_bad (leaves_of which v)
+text_fault which v = first_bad_leaf (leaves_of which v)

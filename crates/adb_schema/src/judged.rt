@@ -9,7 +9,9 @@ ghost use Rattle.dep_core.specs.Value.{is_version_or_empty};
 ghost use Rattle.adb_view.specs.Adb.{payload_of};
 ghost use Rattle.adb_schema.specs.TextRules.{KeepsTextRule, keeps_text_rule, text_at};
 
-use crate::rules::{is_folder_name, is_one_part, is_target, is_version, is_version_or_empty};
+use crate::rules::{
+    is_folder_name, is_link_target_or_none, is_one_part, is_version, is_version_or_empty,
+};
 use adb_view::{Adb, Val};
 use base_core::is_name;
 use dep_core::{is_dep_name, is_package_name};
@@ -55,7 +57,7 @@ impl TextRule {
             TextRule::Name => is_name(text),
             TextRule::FolderName => is_folder_name(text),
             TextRule::OnePart => is_one_part(text),
-            TextRule::Target => is_target(text),
+            TextRule::Target => is_link_target_or_none(text),
         }
     }
 }

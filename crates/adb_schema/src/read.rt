@@ -7,14 +7,14 @@ ghost use Rattle.std.specs.Prelude.{ℕ, List, All, ◌<◌, ◌≡◌, ◌≤�
 ghost use Rattle.std.specs.Result.{result_err};
 ghost use Rattle.std.specs.Int.{w32, to_le_bytes};
 ghost use Rattle.adb_fields.specs.Repeated.{repeated_fault};
-ghost use Rattle.adb_block.specs.Reading.{reading_of};
+ghost use Rattle.adb_block.specs.Reading.{block_stream_from};
 ghost use Rattle.adb_view.specs.Adb.{payload_of};
 ghost use Rattle.adb_view.specs.ShapedPayload.{adb_of};
 ghost use Rattle.adb_schema.specs.Checked.{checked_value, table_of_checked};
 ghost use Rattle.adb_view.specs.Plain.{IsNormal};
 ghost use Rattle.adb_view.specs.declared.tables.Which.{Which};
 ghost use Rattle.adb_schema.specs.SoundContainers.{IsSoundValue};
-ghost use Rattle.adb_schema.specs.Soundness.{block_fault, file_pair, first_fault, further_fault, payload_fault, is_schema_wanted, payload_in, rest_fault, root_value, schema_word, undue_contents};
+ghost use Rattle.adb_schema.specs.Soundness.{further_block_fault, contents_positions, first_fault, further_blocks_fault, payload_fault, is_schema_wanted, payload_in, fault_after_first_block, root_value, schema_word, unexpected_contents_cause};
 ghost use Rattle.adb_schema.specs.ReadFaults.{first_block_fault};
 ghost use Rattle.adb_schema.specs.ReadFaults.{IsAfterFirstBlock};
 ghost use Rattle.adb_schema.specs.ReadFaults.{IsReadFault};
@@ -157,12 +157,12 @@ fn read_first<'a>(
 ) -> Result<Checked<'a>, ReadFault>
     requires { blocks.old.last ≡ None }
     ensures bad { IfErr result
-        (λ fault. IsReadFault fault (first_block_fault which (reading_of blocks.old))) }
+        (λ fault. IsReadFault fault (first_block_fault which (block_stream_from blocks.old))) }
     ensures table { IfOk result (λ checked. table_of_checked checked ≡ which) }
     ensures behind { IfOk result
-        (λ checked. IsAfterFirstBlock which (payload_of (adb_of checked.shaped)) (reading_of
+        (λ checked. IsAfterFirstBlock which (payload_of (adb_of checked.shaped)) (block_stream_from
         blocks.old)
-        (reading_of blocks.new)) }
+        (block_stream_from blocks.new)) }
 {
     match blocks.next()? {
         Some(block) => check_payload(alloc, block.payload, which),
@@ -195,7 +195,7 @@ fn check_payload<'a>(
 /// Tests the blocks after the first; those of a package `pkg_core` tests, against the files that it
 /// lists.
 fn check_rest(blocks: &mut Blocks<'_>, which: Which) -> Result<(), Cause>
-    ensures { result_err result ≡ rest_fault which (reading_of blocks.old) }
+    ensures { result_err result ≡ fault_after_first_block which (block_stream_from blocks.old) }
 {
     match which {
         Which::Package => Ok(()),
@@ -204,49 +204,49 @@ fn check_rest(blocks: &mut Blocks<'_>, which: Which) -> Result<(), Cause>
 }
 
 /// Tests the blocks after the first of a container without files, if it needs no contents.
-#[tactic(auto, unfolding(crate::specs::Soundness::further_fault))]
+#[tactic(auto, unfolding(crate::specs::Soundness::further_blocks_fault))]
 fn check_further(blocks: &mut Blocks<'_>) -> Result<(), Cause>
-    ensures { result_err result ≡ further_fault (reading_of blocks.old) }
+    ensures { result_err result ≡ further_blocks_fault (block_stream_from blocks.old) }
 {
     loop {
         let Some(block) = blocks.next()? else {
             return Ok(());
         };
-        if let Some(cause) = block_fault(&block) {
+        if let Some(cause) = further_block_fault(&block) {
             return Err(cause);
         }
     }
 }
 
 /// Why a block is not allowed after the first, if it is not.
-fn block_fault(block: &Block<'_>) -> Option<Cause>
-    ensures { result ≡ block_fault block.now.kind block.now.payload.now block.now.at }
+fn further_block_fault(block: &Block<'_>) -> Option<Cause>
+    ensures { result ≡ further_block_fault block.now.kind block.now.payload.now block.now.at }
 {
     match block.kind {
-        BlockKind::Contents => Some(undue_contents(block.payload, block.at)),
+        BlockKind::Contents => Some(unexpected_contents_cause(block.payload, block.at)),
         BlockKind::Adb | BlockKind::Signature => None,
     }
 }
 
 /// The cause for contents that are not allowed. Contents shorter than their two positions (8 bytes)
 /// are reported as too short; others as a file where none (0.0) was expected.
-fn undue_contents(payload: &[u8], at: u64) -> Cause
-    ensures { result ≡ undue_contents payload.now at }
+fn unexpected_contents_cause(payload: &[u8], at: u64) -> Cause
+    ensures { result ≡ unexpected_contents_cause payload.now at }
 {
     if payload.len() < 8 {
         return Cause::Truncated { at };
     }
     Cause::DataOrder {
         expected: (0, 0),
-        found: file_pair(payload),
+        found: contents_positions(payload),
     }
 }
 
 /// The two numbers at the front of contents (apk-v3(5)): the positions of the folder and of its
 /// file, which count from 1.
-pub fn file_pair(payload: &[u8]) -> (u32, u32)
+pub fn contents_positions(payload: &[u8]) -> (u32, u32)
     requires { 8 ≤ length payload.now }
-    ensures { result ≡ file_pair payload.now }
+    ensures { result ≡ contents_positions payload.now }
 {
     (
         u32::from_le_bytes([payload[0], payload[1], payload[2], payload[3]]),

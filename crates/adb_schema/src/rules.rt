@@ -5,9 +5,9 @@
 ghost use Rattle.std.specs.Prelude.{◌≡◌, ◌==◌, nat_le, length, ◌∷◌};
 ghost use Rattle.std.specs.Str.{is_utf8};
 ghost use Rattle.version_core.specs.Order.{is_version};
-ghost use Rattle.dep_core.specs.Value.{is_matching, is_version_or_empty};
+ghost use Rattle.dep_core.specs.Value.{is_match_number, is_version_or_empty};
 ghost use Rattle.adb_fields.specs.Paths.{path_of};
-ghost use Rattle.adb_schema.specs.Rules.{is_digest_length, is_digest_length_or_none, is_folder_name, is_id_length, is_link, is_name_pattern, is_one_part, is_target};
+ghost use Rattle.adb_schema.specs.Rules.{is_digest_length, is_digest_length_or_none, is_folder_name, is_id_length, is_link_target, is_name_pattern, is_one_part, is_link_target_or_none};
 ghost use Rattle.adb_schema.specs.Reserved.{is_at_or_below, is_intent_or_stage_name, is_reserved};
 
 use base_core::is_name;
@@ -65,8 +65,8 @@ pub(crate) fn is_version_or_empty(text: &[u8]) -> bool
 
 /// Whether the number is a dependency's match number: below 32, and its low four bits are an
 /// operator.
-pub(crate) fn is_matching(number: u64) -> bool
-    ensures { result ≡ is_matching number }
+pub(crate) fn is_match_number(number: u64) -> bool
+    ensures { result ≡ is_match_number number }
 {
     if number >= 32 {
         return false;
@@ -102,15 +102,15 @@ pub(crate) fn fits_in(folder: &[u8], name: &[u8]) -> bool
 }
 
 /// Whether the bytes are a file's target: empty, or a link's.
-pub(crate) fn is_target(bytes: &[u8]) -> bool
-    ensures { result ≡ is_target bytes.now }
+pub(crate) fn is_link_target_or_none(bytes: &[u8]) -> bool
+    ensures { result ≡ is_link_target_or_none bytes.now }
 {
-    bytes.is_empty() || is_link(bytes)
+    bytes.is_empty() || is_link_target(bytes)
 }
 
 /// Whether bytes are the mark of a link and after it a text, which is not empty.
-fn is_link(bytes: &[u8]) -> bool
-    ensures { result ≡ is_link bytes.now }
+fn is_link_target(bytes: &[u8]) -> bool
+    ensures { result ≡ is_link_target bytes.now }
 {
     match bytes.strip_prefix(LINK.as_slice()) {
         Some(text) => !text.is_empty() && is_text(text),

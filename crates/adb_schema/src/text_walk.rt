@@ -8,15 +8,15 @@ ghost use Rattle.adb_view.specs.Adb.{payload_of};
 ghost use Rattle.adb_view.specs.Schema.{shape_of, shapes_of, table, table_number};
 ghost use Rattle.adb_view.specs.Values.{is_sound, value_at, entries_in, entry_in, count_of};
 ghost use Rattle.adb_fields.specs.Paths.{path_of};
-ghost use Rattle.adb_schema.specs.Rules.{is_change_name, is_one_part};
+ghost use Rattle.adb_schema.specs.Rules.{is_changeable_name, is_one_part};
 ghost use Rattle.adb_schema.specs.Surroundings.{surroundings_of};
 ghost use Rattle.adb_schema.specs.TextRules.{text_at};
-ghost use Rattle.adb_schema.specs.TextWalk.{IsSameAsBefore, TakesEachText, TakesEachValue, bad_text_at};
+ghost use Rattle.adb_schema.specs.TextWalk.{IsSameWordAsPrevious, AllowsEachText, AllowsEachValueOfKind, bad_text_at};
 ghost use Rattle.adb_view.specs.ShapedPayload.{shaped_value, table_of};
 ghost use Rattle.adb_view.specs.Shaped.{Each};
-ghost use Rattle.adb_schema.specs.SoundValues.{IsChangeName, IsSoundDependency, IsFileOf, IsFolder, IsInformation, IsPackage, KeepsRules};
-ghost use Rattle.adb_schema.specs.Texts.{surroundings_of_root, surroundings_of_fields, is_file_hash, is_listed_file, is_package_hash, is_with_contents, may_list, needs_hash, number_rule, text_rule, each_leaf, field_leaves, first_bad, leaves, number_leaf, text_leaf, leaves_of, text_fault};
-ghost use Rattle.adb_schema.specs.FirstBad.{IsFirstBadOf};
+ghost use Rattle.adb_schema.specs.SoundValues.{IsChangeableName, IsSoundDependency, IsSoundFileOf, IsSoundFolder, IsSoundInformation, IsSoundPackage, KeepsRules};
+ghost use Rattle.adb_schema.specs.Texts.{surroundings_of_root, surroundings_of_fields, is_file_hash, is_allowed_file_name, is_package_hash, is_with_contents, may_list, needs_hash, number_rule, text_rule, each_leaf, field_leaves, first_bad_leaf, leaves, number_leaf, text_leaf, leaves_of, text_fault};
+ghost use Rattle.adb_schema.specs.FirstBad.{IsFirstBadLeafIfAny};
 ghost use Rattle.adb_view.specs.Entries.{array_entries};
 ghost use Rattle.adb_fields.specs.Fields.{are_all_sound, values_at};
 ghost use Rattle.adb_view.specs.Plain.{Plain};
@@ -126,7 +126,7 @@ impl<'a> Surroundings<'a> {
     /// Whether a file of the folder may have this name, which is one part of a path.
     fn takes_file_name(&self, name: &[u8]) -> bool
         requires { is_one_part name.now ≡ true }
-        ensures { result ≡ is_listed_file (surroundings_of self.now) name.now }
+        ensures { result ≡ is_allowed_file_name (surroundings_of self.now) name.now }
     {
         fits_in(self.folder, name) && self.may_list(name)
     }
@@ -180,7 +180,7 @@ pub(crate) fn keeps_number_rule(field_number: u16, n: u64) -> bool
     ensures { result ≡ number_rule field_number n }
 {
     match field_number {
-        field_numbers::DEP_MATCH => is_matching(n),
+        field_numbers::DEP_MATCH => is_match_number(n),
         _ => true,
     }
 }
@@ -227,7 +227,7 @@ fn keeps_file_name(
 ) -> Result<bool, AllocError>
     requires { text.now ≡ text_at (payload_of judged.old.adb) word }
     ensures value { IfOk result (λ kept.
-        kept ≡ is_listed_file (surroundings_of around.now) text.now) }
+        kept ≡ is_allowed_file_name (surroundings_of around.now) text.now) }
     ensures payload { judged.new.adb ≡ judged.old.adb }
 {
     if !judged.keeps(TextRule::OnePart, word, text)? {
@@ -240,7 +240,7 @@ fn keeps_file_name(
 /// the staging area.
 fn keeps_change_name(judged: &mut Judged<'_>, word: Val, text: &[u8]) -> Result<bool, AllocError>
     requires { text.now ≡ text_at (payload_of judged.old.adb) word }
-    ensures value { IfOk result (λ kept. kept ≡ is_change_name text.now) }
+    ensures value { IfOk result (λ kept. kept ≡ is_changeable_name text.now) }
     ensures payload { judged.new.adb ≡ judged.old.adb }
 {
     if !judged.keeps(TextRule::Name, word, text)? {
@@ -281,7 +281,7 @@ fn check_value<'a>(
     requires sound { is_sound (payload_of adb) kind word ≡ true }
     requires payload { payload_of judged.old.adb ≡ payload_of adb }
     ensures place { IfOk result (λ place. bad_text_at place
-        ≡ first_bad (leaves (shape_of kind) field_number (surroundings_of around.now)
+        ≡ first_bad_leaf (leaves (shape_of kind) field_number (surroundings_of around.now)
         (value_at (payload_of adb.entry) kind word))) }
     ensures payload { judged.new.adb ≡ judged.old.adb }
 {
@@ -317,7 +317,7 @@ fn check_entries<'a>(
     requires sound { are_all_sound (payload_of adb) kind (array_entries entries) ≡ true }
     requires payload { payload_of judged.old.adb ≡ payload_of adb }
     ensures place { IfOk result (λ place. bad_text_at place
-        ≡ first_bad (each_leaf (leaves (shape_of kind) field_number (surroundings_of around.now))
+        ≡ first_bad_leaf (each_leaf (leaves (shape_of kind) field_number (surroundings_of around.now))
         (values_at (payload_of adb.entry) kind (array_entries entries.entry)))) }
     ensures payload { judged.new.adb ≡ judged.old.adb }
 {
@@ -336,7 +336,7 @@ fn check_entries<'a>(
 /// Whether an entry is the same word as the one before it.
 fn is_same_as_before(entries: Arr<'_>, i: usize) -> bool
     requires { i < length (array_entries entries) }
-    ensures { OnTrue result (IsSameAsBefore (array_entries entries.entry) i) }
+    ensures { OnTrue result (IsSameWordAsPrevious (array_entries entries.entry) i) }
 {
     if i == 0 {
         return false;
@@ -356,7 +356,7 @@ fn check_fields<'a>(
     requires sound { is_sound (payload_of adb) (Kinds.Obj which) object ≡ true }
     requires payload { payload_of judged.old.adb ≡ payload_of adb }
     ensures place { IfOk result (λ place. bad_text_at place
-        ≡ first_bad (field_leaves (shapes_of (table which)) (100 * table_number which + 1)
+        ≡ first_bad_leaf (field_leaves (shapes_of (table which)) (100 * table_number which + 1)
         (surroundings_of around.now)
         (entries_in (value_at (payload_of adb.entry) (Kinds.Obj which) object)))) }
     ensures payload { judged.new.adb ≡ judged.old.adb }
@@ -379,7 +379,7 @@ fn check_fields<'a>(
 /// Whether a value of this kind in this field may break a rule: the field, or a field below it, has
 /// one.
 fn has_rule(kind: Kind, field_number: u16) -> bool
-    ensures { result ≡ false → TakesEachValue kind field_number }
+    ensures { result ≡ false → AllowsEachValueOfKind kind field_number }
 {
     match kind {
         Kind::Int => field_number == field_numbers::DEP_MATCH,
@@ -393,7 +393,7 @@ fn has_rule(kind: Kind, field_number: u16) -> bool
 
 /// Whether the objects of a table may break a rule.
 fn has_rule_below(which: Which) -> bool
-    ensures { result ≡ false → (field_number : ℕ) → TakesEachValue (Kinds.Obj which) field_number }
+    ensures { result ≡ false → (field_number : ℕ) → AllowsEachValueOfKind (Kinds.Obj which) field_number }
 {
     match which {
         // No field of these two tables has a rule.
@@ -406,7 +406,7 @@ fn has_rule_below(which: Which) -> bool
 /// Whether there is a rule for the texts of a field.
 #[tactic(auto, unfolding(crate::specs::Texts::text_rule))]
 fn has_text_rule(field_number: u16) -> bool
-    ensures { result ≡ false → TakesEachText field_number }
+    ensures { result ≡ false → AllowsEachText field_number }
 {
     matches!(
         field_number,
@@ -427,7 +427,7 @@ fn has_text_rule(field_number: u16) -> bool
 
 /// Checks a number, and returns the number of its field if it breaks the rule.
 fn check_number(field_number: u16, n: u64) -> Option<u16>
-    ensures { bad_text_at result ≡ first_bad (number_leaf field_number n ∷ []) }
+    ensures { bad_text_at result ≡ first_bad_leaf (number_leaf field_number n ∷ []) }
 {
     if keeps_number_rule(field_number, n) {
         None
@@ -446,7 +446,7 @@ fn check_text(
 ) -> Result<Option<u16>, AllocError>
     requires { text.now ≡ text_at (payload_of judged.old.adb) word }
     ensures place { IfOk result (λ place. bad_text_at place
-        ≡ first_bad (text_leaf field_number (surroundings_of around.now) text.now ∷ [])) }
+        ≡ first_bad_leaf (text_leaf field_number (surroundings_of around.now) text.now ∷ [])) }
     ensures payload { judged.new.adb ≡ judged.old.adb }
 {
     if keeps_rule_of_field(judged, field_number, around, word, text)? {
@@ -460,7 +460,7 @@ fn check_text(
 /// field, depth first and field by field. There is none if and only if each obeys its rule.
 pub fn the_first_bad_text_is_reported()
     ensures { (which : Which) (value : Plain)
-        → IsFirstBadOf (leaves_of which value) (text_fault which value) }
+        → IsFirstBadLeafIfAny (leaves_of which value) (text_fault which value) }
 {}
 
 /// A law: no text or number of a value is bad if and only if each obeys the rule of its field,
@@ -478,18 +478,18 @@ pub fn entries_keep_the_rule_of_their_list()
         → Each IsSoundDependency (entries_in list) → i < count_of (entries_in list)
         → IsSoundDependency (entry_in list i) }
     ensures information { (root : Which) (list : Plain) (i : ℕ)
-        → Each (IsInformation root) (entries_in list) → i < count_of (entries_in list)
-        → IsInformation root (entry_in list i) }
+        → Each (IsSoundInformation root) (entries_in list) → i < count_of (entries_in list)
+        → IsSoundInformation root (entry_in list i) }
     ensures file { (root : Which) (folder : List ℕ) (list : Plain) (i : ℕ)
-        → Each (IsFileOf root folder) (entries_in list) → i < count_of (entries_in list)
-        → IsFileOf root folder (entry_in list i) }
+        → Each (IsSoundFileOf root folder) (entries_in list) → i < count_of (entries_in list)
+        → IsSoundFileOf root folder (entry_in list i) }
     ensures folder { (root : Which) (list : Plain) (i : ℕ)
-        → Each (IsFolder root) (entries_in list) → i < count_of (entries_in list)
-        → IsFolder root (entry_in list i) }
+        → Each (IsSoundFolder root) (entries_in list) → i < count_of (entries_in list)
+        → IsSoundFolder root (entry_in list i) }
     ensures package { (root : Which) (list : Plain) (i : ℕ)
-        → Each (IsPackage root) (entries_in list) → i < count_of (entries_in list)
-        → IsPackage root (entry_in list i) }
+        → Each (IsSoundPackage root) (entries_in list) → i < count_of (entries_in list)
+        → IsSoundPackage root (entry_in list i) }
     ensures change_name { (list : Plain) (i : ℕ)
-        → Each IsChangeName (entries_in list) → i < count_of (entries_in list)
-        → IsChangeName (entry_in list i) }
+        → Each IsChangeableName (entries_in list) → i < count_of (entries_in list)
+        → IsChangeableName (entry_in list i) }
 {}

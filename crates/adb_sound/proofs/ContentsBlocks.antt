@@ -6,11 +6,11 @@ use Rattle.std.proofs.lemmas.Nat.{from_le_bytes-to_le_bytes_4}
 use Rattle.base_core.specs.declared.cause.Cause.{Cause}
 use Rattle.adb_block.specs.Piece.{Piece}
 use Rattle.adb_block.specs.Reading.{Reading, done, fault, more}
-use Rattle.adb_block.specs.AllBlocks.{with_block, pieces_of}
+use Rattle.adb_block.specs.AllBlocks.{with_block, blocks_of_stream}
 use Rattle.adb_block.specs.Container.{CanBeWrittenAfter}
 use Rattle.adb_block.specs.declared.block.BlockKind.TheVariants as Kinds
-use Rattle.pkg_core.specs.adb_schema.Soundness.{file_pair}
-use Rattle.pkg_core.specs.Contents.{Expected, Contents, contents_bytes, contents_block_fault, contents_fault, fault_in, expected_fault, files_by_blocks, has_positions_of, unless_fault, with_next}
+use Rattle.pkg_core.specs.adb_schema.Soundness.{contents_positions}
+use Rattle.pkg_core.specs.Contents.{Expected, Contents, contents_bytes, contents_block_fault, contents_fault, fault_of_files_read, expected_fault, files_read_from_blocks, has_positions_of, unless_fault, with_contents_of_next}
 use Rattle.pkg_core.specs.GoodContents.{IsContentsOf, AreContentsOf}
 use Rattle.adb_sound.specs.Container.{contents_payload, contents_piece}
 use Rattle.adb_sound.proofs.LaidSizes.{AreShort}
@@ -22,7 +22,7 @@ pub record IsFirstOf (r : Reading) (b : Piece) (bs : List Piece) : Type 0 where
   pub at : ℕ
   pub later : Reading
   pub is : r ≡ more b at later
-  pub others : pieces_of later ≡ Ok bs
+  pub others : blocks_of_stream later ≡ Ok bs
 
 in_front_is : (c b : Piece) (bs : List Piece) (o : Result (List Piece) Cause) → with_block c o ≡ Ok (b ∷ bs) → (c ≡ b) × (o ≡ Ok bs)
 in_front_is c b bs (Ok cs) e = (cc, cc)
@@ -32,21 +32,21 @@ in_front_some : (c : Piece) (o : Result (List Piece) Cause) → with_block c o �
 in_front_some c (Ok cs) e = cc
 in_front_some c (Err f) e = cc
 
-pub first_of : (r : Reading) (b : Piece) (bs : List Piece) → pieces_of r ≡ Ok (b ∷ bs) → IsFirstOf r b bs
+pub first_of : (r : Reading) (b : Piece) (bs : List Piece) → blocks_of_stream r ≡ Ok (b ∷ bs) → IsFirstOf r b bs
 first_of done b bs e = absurd cc
 first_of (fault c) b bs e = absurd cc
 first_of (more c at r) b bs e =
-    let p = in_front_is c b bs (pieces_of r) e in
+    let p = in_front_is c b bs (blocks_of_stream r) e in
     record { at = at; later = r; is = ap (λ (d : Piece). more d at r) p.0; others = p.1 }
 
-pub none_of_blocks : (r : Reading) → pieces_of r ≡ Ok [] → r ≡ done
+pub none_of_blocks : (r : Reading) → blocks_of_stream r ≡ Ok [] → r ≡ done
 none_of_blocks done e = refl
 none_of_blocks (fault c) e = absurd cc
-none_of_blocks (more c at r) e = absurd (in_front_some c (pieces_of r) e)
+none_of_blocks (more c at r) e = absurd (in_front_some c (blocks_of_stream r) e)
 
 -- ---- a block of contents
 
-pair_again : (c : Contents) → c.folder < 2 ^ 32 → c.file < 2 ^ 32 → ((file_pair (contents_payload c)).0 ≡ c.folder) × ((file_pair (contents_payload c)).1 ≡ c.file)
+pair_again : (c : Contents) → c.folder < 2 ^ 32 → c.file < 2 ^ 32 → ((contents_positions (contents_payload c)).0 ≡ c.folder) × ((contents_positions (contents_payload c)).1 ≡ c.file)
 pair_again c a b = (from_le_bytes-to_le_bytes_4 c.folder a, from_le_bytes-to_le_bytes_4 c.file b)
 
 bytes_again : (c : Contents) → contents_bytes (contents_payload c) ≡ c.bytes
@@ -69,8 +69,8 @@ block_good c at e es a b is =
 
 -- ---- all of them
 
-pub blocks_good : (es : List Expected) (cs : List Contents) (r : Reading) → pieces_of r ≡ Ok (map contents_piece cs) → AreBelow (2 ^ 32) es → AreContentsOf es cs → contents_fault es r ≡ None
-unfolding files_by_blocks
+pub blocks_good : (es : List Expected) (cs : List Contents) (r : Reading) → blocks_of_stream r ≡ Ok (map contents_piece cs) → AreBelow (2 ^ 32) es → AreContentsOf es cs → contents_fault es r ≡ None
+unfolding files_read_from_blocks
 blocks_good [] [] r p small all = subst (λ (q : Reading). contents_fault [] q ≡ None) (sym (none_of_blocks r p)) refl
 blocks_good [] (c ∷ cs) r p small all = absurd all
 blocks_good (e ∷ es) [] r p small all = absurd all
@@ -78,7 +78,7 @@ blocks_good (e ∷ es) (c ∷ cs) r p small all =
     let first = first_of r (contents_piece c) (map contents_piece cs) p in
     let good = block_good c first.at e es small.0 small.1 all.0 in
     subst (λ (q : Reading). contents_fault (e ∷ es) q ≡ None) (sym first.is)
-    (ap (λ (o : Option Cause). fault_in (unless_fault o (with_next (contents_payload c) (λ left. files_by_blocks left first.later) (e ∷ es)))) good ∙ blocks_good es cs first.later first.others small.2 all.1)
+    (ap (λ (o : Option Cause). fault_of_files_read (unless_fault o (with_contents_of_next (contents_payload c) (λ left. files_read_from_blocks left first.later) (e ∷ es)))) good ∙ blocks_good es cs first.later first.others small.2 all.1)
 
 -- and they may follow the value
 more_contents : (cs : List Contents) → AreShort cs → CanBeWrittenAfter (Some Kinds.Contents) (map contents_piece cs)

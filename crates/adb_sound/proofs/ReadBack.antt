@@ -4,20 +4,20 @@ use Rattle.std.specs.Prelude.{map}
 use Rattle.base_core.specs.declared.cause.Cause.{Cause}
 use Rattle.adb_block.specs.Piece.{Piece}
 use Rattle.adb_block.specs.Header.{header_of}
-use Rattle.adb_block.specs.ReaderPosition.{start_of}
-use Rattle.adb_block.specs.Reading.{Reading, reading_of}
-use Rattle.adb_block.specs.AllBlocks.{pieces_of}
+use Rattle.adb_block.specs.ReaderPosition.{first_block_position}
+use Rattle.adb_block.specs.Reading.{Reading, block_stream_from}
+use Rattle.adb_block.specs.AllBlocks.{blocks_of_stream}
 use Rattle.adb_view.specs.Plain.{Plain}
-use Rattle.pkg_core.specs.adb_schema.Soundness.{first_payload, payload_after_header, payload_in, root_value, schema_word}
+use Rattle.pkg_core.specs.adb_schema.Soundness.{first_block_payload, payload_after_header, payload_in, root_value, schema_word}
 use Rattle.pkg_core.specs.adb_schema.declared.read.TheConstants.{PACKAGE_WORD}
 use Rattle.adb_view.specs.declared.tables.Which.{Which}
 use Rattle.adb_view.specs.declared.tables.Which.TheVariants.{Package}
 use Rattle.adb_write.specs.Canonical.{canonical, write, empty_layout}
 use Rattle.adb_write.specs.File.{adb_piece, file_of}
-use Rattle.pkg_core.specs.Contents.{Expected, Contents, contents_in, expected_contents, files_by_blocks, unless_fault, with_next}
+use Rattle.pkg_core.specs.Contents.{Expected, Contents, contents_in, expected_contents, files_read_from_blocks, unless_fault, with_contents_of_next}
 use Rattle.pkg_core.specs.GoodContents.{AreContentsOf}
-use Rattle.pkg_core.specs.Whole.{files_after_first, files_by_header, files_in_file, package_with_contents}
-use Rattle.adb_sound.specs.Container.{contents_payload, contents_piece, container_of, package_by}
+use Rattle.pkg_core.specs.Whole.{files_after_first_block, files_after_header, files_in_file, package_with_contents}
+use Rattle.adb_sound.specs.Container.{contents_payload, contents_piece, container_of, packed_from_parts}
 use Rattle.adb_sound.specs.Root.{IsRootOf}
 use Rattle.adb_sound.proofs.ContentsBlocks.{IsFirstOf, block_good, contents_stand, first_of, none_of_blocks}
 use Rattle.adb_sound.proofs.LaidSizes.{AreShort, laid_short}
@@ -30,7 +30,7 @@ use Rattle.adb_sound.proofs.SoundFiles.{IsWord, reading_is, word_is}
 
 record IsLaid (schema : ℕ) (v : Plain) (contents : List Contents) : Type 0 where
   header : header_of (container_of schema v contents) ≡ Ok schema
-  first : IsFirstOf (reading_of (start_of schema (container_of schema v contents))) (adb_piece (canonical v)) (map contents_piece contents)
+  first : IsFirstOf (block_stream_from (first_block_position schema (container_of schema v contents))) (adb_piece (canonical v)) (map contents_piece contents)
 
 laid : Lower → (which : Which) (schema : ℕ) (v : Plain) (contents : List Contents) → IsWord which schema → IsRootOf which v → AreShort contents → IsLaid schema v contents
 laid laws which schema v contents word g short =
@@ -41,7 +41,7 @@ laid laws which schema v contents word g short =
     let read = laws.read (container_of schema v contents) schema pieces spelled in
     record {
       header = read.0;
-      first = first_of (reading_of (start_of schema (container_of schema v contents))) (adb_piece (canonical v)) (map contents_piece contents)
+      first = first_of (block_stream_from (first_block_position schema (container_of schema v contents))) (adb_piece (canonical v)) (map contents_piece contents)
           (reading_is (container_of schema v contents) schema pieces read.0 read.1);
     }
 
@@ -50,7 +50,7 @@ laid laws which schema v contents word g short =
 payload_back : (schema : ℕ) (v : Plain) (contents : List Contents) → IsLaid schema v contents → payload_in (container_of schema v contents) ≡ canonical v
 unfolding payload_in
 payload_back schema v contents l =
-    ap (payload_after_header (container_of schema v contents)) l.header ∙ ap first_payload l.first.is
+    ap (payload_after_header (container_of schema v contents)) l.header ∙ ap first_block_payload l.first.is
 
 root_back : Lower → (which : Which) (schema : ℕ) (v : Plain) (contents : List Contents) → IsRootOf which v → IsLaid schema v contents → root_value which (payload_in (container_of schema v contents)) ≡ v
 root_back laws which schema v contents g l = ap (root_value which) (payload_back schema v contents l) ∙ value_is laws which v g
@@ -63,9 +63,9 @@ value_back laws which schema v word g = root_back laws which schema v [] g (laid
 same_contents : (c : Contents) (folder file : ℕ) → c.folder ≡ folder → c.file ≡ file → record { folder = folder; file = file; bytes = c.bytes } ≡ c
 same_contents c folder file a b = λ k. record { folder = sym a k; file = sym b k; bytes = c.bytes }
 
-contents_back : (es : List Expected) (cs : List Contents) (r : Reading) → pieces_of r ≡ Ok (map contents_piece cs) → AreBelow (2 ^ 32) es → AreContentsOf es cs → contents_in (files_by_blocks es r) ≡ cs
-unfolding files_by_blocks
-contents_back [] [] r p small all = subst (λ (q : Reading). contents_in (files_by_blocks [] q) ≡ []) (sym (none_of_blocks r p)) refl
+contents_back : (es : List Expected) (cs : List Contents) (r : Reading) → blocks_of_stream r ≡ Ok (map contents_piece cs) → AreBelow (2 ^ 32) es → AreContentsOf es cs → contents_in (files_read_from_blocks es r) ≡ cs
+unfolding files_read_from_blocks
+contents_back [] [] r p small all = subst (λ (q : Reading). contents_in (files_read_from_blocks [] q) ≡ []) (sym (none_of_blocks r p)) refl
 contents_back [] (c ∷ cs) r p small all = absurd all
 contents_back (e ∷ es) [] r p small all = absurd all
 contents_back (e ∷ es) (c ∷ cs) r p small all =
@@ -73,10 +73,10 @@ contents_back (e ∷ es) (c ∷ cs) r p small all =
     let good = block_good c first.at e es small.0 small.1 all.0 in
     let same = same_contents c e.folder e.file all.0.folder all.0.file in
     let rest = contents_back es cs first.later first.others small.2 all.1 in
-    subst (λ (q : Reading). contents_in (files_by_blocks (e ∷ es) q) ≡ c ∷ cs) (sym first.is)
-    (ap (λ (o : Option Cause). contents_in (unless_fault o (with_next (contents_payload c) (λ left. files_by_blocks left first.later) (e ∷ es)))) good ∙ (λ k. same k ∷ rest k))
+    subst (λ (q : Reading). contents_in (files_read_from_blocks (e ∷ es) q) ≡ c ∷ cs) (sym first.is)
+    (ap (λ (o : Option Cause). contents_in (unless_fault o (with_contents_of_next (contents_payload c) (λ left. files_read_from_blocks left first.later) (e ∷ es)))) good ∙ (λ k. same k ∷ rest k))
 
-pub package_back : Lower → (v : Plain) (contents : List Contents) → IsRootOf Package v → AreContentsOf (expected_contents v) contents → length (container_of PACKAGE_WORD v contents) < 2 ^ 64 → package_with_contents (container_of PACKAGE_WORD v contents) ≡ package_by v contents
+pub package_back : Lower → (v : Plain) (contents : List Contents) → IsRootOf Package v → AreContentsOf (expected_contents v) contents → length (container_of PACKAGE_WORD v contents) < 2 ^ 64 → package_with_contents (container_of PACKAGE_WORD v contents) ≡ packed_from_parts v contents
 unfolding files_in_file
 package_back laws v contents g all short =
     let few = g.few in
@@ -84,9 +84,9 @@ package_back laws v contents g all short =
     let l = laid laws Package PACKAGE_WORD v contents (word_is Package PACKAGE_WORD refl) g (laid_short PACKAGE_WORD v contents short) in
     let read = contents_back (expected_contents v) contents l.first.later l.first.others (expected_below (2 ^ 32) v (omega arith)) all in
     let value = root_back laws Package PACKAGE_WORD v contents g l in
-    let by_root = ap (λ (u : Plain). contents_in (files_by_blocks (expected_contents u) l.first.later)) (value_is laws Package v g) in
+    let by_root = ap (λ (u : Plain). contents_in (files_read_from_blocks (expected_contents u) l.first.later)) (value_is laws Package v g) in
     let back : contents_in (files_in_file file) ≡ contents =
-    ap (λ o. contents_in (files_by_header file o)) l.header
-    ∙ ap (λ r. contents_in (files_after_first r)) l.first.is
+    ap (λ o. contents_in (files_after_header file o)) l.header
+    ∙ ap (λ r. contents_in (files_after_first_block r)) l.first.is
     ∙ by_root ∙ read in
     λ k. record { value = value k; contents = back k }

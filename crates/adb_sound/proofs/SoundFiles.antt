@@ -4,11 +4,11 @@ use Rattle.std.specs.Prelude.{map}
 use Rattle.base_core.proofs.Causes.{none_both}
 use Rattle.adb_block.specs.Piece.{Piece}
 use Rattle.adb_block.specs.Header.{header_of}
-use Rattle.adb_block.specs.ReaderPosition.{start_of}
-use Rattle.adb_block.specs.Reading.{Reading, done, more, reading_of}
-use Rattle.adb_block.specs.AllBlocks.{pieces_of, rest_of, blocks_after_header, blocks_of}
+use Rattle.adb_block.specs.ReaderPosition.{first_block_position}
+use Rattle.adb_block.specs.Reading.{Reading, done, more, block_stream_from}
+use Rattle.adb_block.specs.AllBlocks.{blocks_of_stream, blocks_from_position, blocks_after_header, blocks_of}
 use Rattle.adb_view.specs.Plain.{Plain}
-use Rattle.pkg_core.specs.adb_schema.Soundness.{blocks_fault, file_fault, further_fault, payload_fault, root_value, schema_word}
+use Rattle.pkg_core.specs.adb_schema.Soundness.{blocks_fault, file_fault_after_header, further_blocks_fault, payload_fault, root_value, schema_word}
 use Rattle.pkg_core.specs.adb_schema.Soundness as S
 use Rattle.adb_view.specs.declared.tables.Which.{Which}
 use Rattle.adb_view.specs.declared.tables.Which.TheVariants.{Dep, Acl, PkgInfo, File, Dir, Scripts, Package, Index, Idb, Intent}
@@ -17,7 +17,7 @@ use Rattle.adb_write.specs.Canonical.{canonical, write, empty_layout}
 use Rattle.adb_write.specs.File.{adb_piece, file_of}
 use Rattle.pkg_core.specs.Contents.{Contents, expected_contents}
 use Rattle.pkg_core.specs.GoodContents.{AreContentsOf}
-use Rattle.pkg_core.specs.Whole.{fault_after_first, container_fault, fault_by_header, root_of_schema, fault_by_schema, whole_fault}
+use Rattle.pkg_core.specs.Whole.{fault_of_further_blocks, container_fault, container_fault_after_header, table_of_schema, container_fault_after_schema, container_fault_of_table}
 use Rattle.adb_sound.specs.Container.{contents_piece, container_of}
 use Rattle.adb_sound.specs.Root.{IsRootOf}
 use Rattle.adb_sound.proofs.LaidSizes.{AreShort, laid_short}
@@ -29,7 +29,7 @@ use Rattle.adb_sound.proofs.ContentsBlocks.{blocks_good, contents_stand, first_o
 -- ---- a schema's word
 
 pub record IsWord (which : Which) (schema : ℕ) : Type 0 where
-  pub root : root_of_schema schema ≡ Some which
+  pub root : table_of_schema schema ≡ Some which
   pub wanted : S.schema_fault which schema ≡ None
   pub small : schema < 2 ^ 32
 
@@ -48,25 +48,25 @@ word_is Intent schema e = let same : INTENT_WORD ≡ schema = cc in subst (IsWor
 -- ---- by its header, and then by its blocks
 
 whole_good : (which : Which) (schema : ℕ) (file : List ℕ) → IsWord which schema → header_of file ≡ Ok schema
-    → blocks_fault (fault_after_first which) which (reading_of (start_of schema file)) ≡ None → container_fault file ≡ None
-unfolding container_fault whole_fault
+    → blocks_fault (fault_of_further_blocks which) which (block_stream_from (first_block_position schema file)) ≡ None → container_fault file ≡ None
+unfolding container_fault container_fault_of_table
 whole_good which schema file word h blocks =
-    ap (fault_by_header file) h
-    ∙ (ap (fault_by_schema file schema) word.root
-    ∙ (ap (file_fault (fault_after_first which) which file) h
-    ∙ none_both (S.schema_fault which schema) (blocks_fault (fault_after_first which) which (reading_of (start_of schema file))) word.wanted blocks))
+    ap (container_fault_after_header file) h
+    ∙ (ap (container_fault_after_schema file schema) word.root
+    ∙ (ap (file_fault_after_header (fault_of_further_blocks which) which file) h
+    ∙ none_both (S.schema_fault which schema) (blocks_fault (fault_of_further_blocks which) which (block_stream_from (first_block_position schema file))) word.wanted blocks))
 
 blocks_by_first : (which : Which) (r : Reading) (b : Piece) (at : ℕ) (later : Reading) → r ≡ more b at later → payload_fault which b.payload ≡ None
-    → fault_after_first which (root_value which b.payload) later ≡ None → blocks_fault (fault_after_first which) which r ≡ None
-blocks_by_first which r b at later is payload behind = ap (blocks_fault (fault_after_first which) which) is ∙ none_both _ _ payload behind
+    → fault_of_further_blocks which (root_value which b.payload) later ≡ None → blocks_fault (fault_of_further_blocks which) which r ≡ None
+blocks_by_first which r b at later is payload behind = ap (blocks_fault (fault_of_further_blocks which) which) is ∙ none_both _ _ payload behind
 
 -- the reader gives these blocks
-pub reading_is : (file : List ℕ) (schema : ℕ) (pieces : List Piece) → header_of file ≡ Ok schema → blocks_of file ≡ Ok pieces → pieces_of (reading_of (start_of schema file)) ≡ Ok pieces
-unfolding blocks_of rest_of
+pub reading_is : (file : List ℕ) (schema : ℕ) (pieces : List Piece) → header_of file ≡ Ok schema → blocks_of file ≡ Ok pieces → blocks_of_stream (block_stream_from (first_block_position schema file)) ≡ Ok pieces
+unfolding blocks_of blocks_from_position
 reading_is file schema pieces h b = sym (ap (blocks_after_header file) h) ∙ b
 
 pub laid_good : Lower → (which : Which) (schema : ℕ) (v : Plain) (contents : List Contents) → IsWord which schema → IsRootOf which v → AreShort contents
-    → ((r : Reading) → pieces_of r ≡ Ok (map contents_piece contents) → fault_after_first which v r ≡ None)
+    → ((r : Reading) → blocks_of_stream r ≡ Ok (map contents_piece contents) → fault_of_further_blocks which v r ≡ None)
     → container_fault (container_of schema v contents) ≡ None
 laid_good laws which schema v contents word g short behind =
     let pieces : List Piece = adb_piece (canonical v) ∷ map contents_piece contents in
@@ -74,9 +74,9 @@ laid_good laws which schema v contents word g short behind =
     let fits = g.fits in
     let spelled = laws.written schema pieces word.small (record { order = refl; long = long }, omega arith, contents_stand contents short) in
     let read = laws.read (container_of schema v contents) schema pieces spelled in
-    let r : Reading = reading_of (start_of schema (container_of schema v contents)) in
+    let r : Reading = block_stream_from (first_block_position schema (container_of schema v contents)) in
     let first = first_of r (adb_piece (canonical v)) (map contents_piece contents) (reading_is (container_of schema v contents) schema pieces read.0 read.1) in
-    let rest = ap (λ (u : Plain). fault_after_first which u first.later) (value_is laws which v g) ∙ behind first.later first.others in
+    let rest = ap (λ (u : Plain). fault_of_further_blocks which u first.later) (value_is laws which v g) ∙ behind first.later first.others in
     whole_good which schema (container_of schema v contents) word read.0 (blocks_by_first which r (adb_piece (canonical v)) first.at first.later first.is (payload_good laws which v g) rest)
 
 -- ---- a package, and the others
@@ -87,8 +87,8 @@ package_good laws v contents g all short =
     laid_good laws Package PACKAGE_WORD v contents (word_is Package PACKAGE_WORD refl) g (laid_short PACKAGE_WORD v contents short)
     (λ r p. blocks_good (expected_contents v) contents r p (expected_below (2 ^ 32) v (omega arith)) all)
 
-behind_good : (which : Which) (schema : ℕ) (v : Plain) → schema_word which ≡ Some schema → which ≢ Package → fault_after_first which v done ≡ None
-unfolding further_fault
+behind_good : (which : Which) (schema : ℕ) (v : Plain) → schema_word which ≡ Some schema → which ≢ Package → fault_of_further_blocks which v done ≡ None
+unfolding further_blocks_fault
 behind_good Dep schema v e ne = absurd cc
 behind_good Acl schema v e ne = absurd cc
 behind_good PkgInfo schema v e ne = absurd cc
@@ -103,4 +103,4 @@ behind_good Intent schema v e ne = refl
 pub value_good : Lower → (which : Which) (schema : ℕ) (v : Plain) → schema_word which ≡ Some schema → which ≢ Package → IsRootOf which v → container_fault (file_of schema (canonical v)) ≡ None
 value_good laws which schema v word ne g =
     laid_good laws which schema v [] (word_is which schema word) g tt
-    (λ r p. subst (λ (q : Reading). fault_after_first which v q ≡ None) (sym (none_of_blocks r p)) (behind_good which schema v word ne))
+    (λ r p. subst (λ (q : Reading). fault_of_further_blocks which v q ≡ None) (sym (none_of_blocks r p)) (behind_good which schema v word ne))

@@ -27,5 +27,5 @@ container_of schema v contents =
     container schema (adb_piece (canonical v) ∷ map contents_piece contents)
 
 -- a package in its container: its value, and the contents of its files
-abbrev pub package_by : Plain → List Contents → Packed
-package_by v contents = record { value = v; contents = contents }
+abbrev pub packed_from_parts : Plain → List Contents → Packed
+packed_from_parts v contents = record { value = v; contents = contents }

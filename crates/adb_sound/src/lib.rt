@@ -14,7 +14,7 @@ ghost use Rattle.pkg_core.specs.adb_schema.Soundness.{payload_in, root_value, sc
 ghost use Rattle.pkg_core.specs.adb_schema.declared.read.TheConstants.{PACKAGE_WORD};
 ghost use Rattle.adb_view.specs.declared.tables.Which.{Which};
 ghost use Rattle.adb_view.specs.declared.tables.Which.TheVariants as Tables;
-ghost use Rattle.adb_sound.specs.Container.{contents_piece, container_of, package_by};
+ghost use Rattle.adb_sound.specs.Container.{contents_piece, container_of, packed_from_parts};
 ghost use Rattle.adb_sound.specs.Contents.{contents_size};
 ghost use Rattle.adb_sound.specs.Root.{IsRootOf};
 ghost use Rattle.adb_view.specs.Plain.{Plain};
@@ -77,7 +77,7 @@ pub fn what_a_container_is_made_of_is_read_back()
     ensures contents { (v : Plain) (contents : List Contents)
         → IsRootOf Tables.Package v → AreContentsOf (expected_contents v) contents
         → length (container_of PACKAGE_WORD v contents) < 2 ^ 64
-        → package_with_contents (container_of PACKAGE_WORD v contents) ≡ package_by v contents }
+        → package_with_contents (container_of PACKAGE_WORD v contents) ≡ packed_from_parts v contents }
 {
     what_is_written_is_spelled();
     what_is_spelled_is_read();

@@ -5,8 +5,8 @@ use Rattle.std.proofs.Math.Seq.{take-append_seam, drop-append_seam}
 use Rattle.adb_view.specs.Plain.{Plain, Plains}
 use Rattle.adb_write.specs.DepthFirst.{WritesValue, WritesValues}
 use Rattle.adb_write.specs.Writing.{Writing, calls_all}
-use Rattle.adb_values.specs.Drafts.{DraftState, draft_by, draft_with, draft_with_all, draft_with_open_list}
-use Rattle.adb_values.specs.LastList.{last_of, last_start, start_within}
+use Rattle.adb_values.specs.Drafts.{DraftState, draft_from_parts, draft_with, draft_with_all, draft_with_open_list}
+use Rattle.adb_values.specs.LastList.{last_of, last_open_list_start, open_list_start_within}
 use Rattle.adb_values.proofs.Taken.{takes, takes_all}
 
 get_end : (xs : List ℕ) (x : ℕ) → slice_get (xs ++ x ∷ []) (length xs) ≡ Some x
@@ -39,26 +39,26 @@ record IsOpen (d before : DraftState) (xs : List ℕ) (later : Writing) : Type 0
 is_open : (vs : Plains) (d before : DraftState) → d ≡ draft_with_all vs (draft_with_open_list before) → IsOpen d before (calls_all vs before.writing).0 (calls_all vs before.writing).1
 unfolding draft_with_open_list
 is_open vs d before is =
-    let all : d ≡ draft_by (calls_all vs before.writing).1 (before.words ++ (calls_all vs before.writing).0) (before.starts ++ length before.words ∷ []) = is ∙ takes_all vs before.writing before.words (before.starts ++ length before.words ∷ []) in
+    let all : d ≡ draft_from_parts (calls_all vs before.writing).1 (before.words ++ (calls_all vs before.writing).0) (before.starts ++ length before.words ∷ []) = is ∙ takes_all vs before.writing before.words (before.starts ++ length before.words ∷ []) in
     record {
       writing = ap (λ (e : DraftState). e.writing) all;
       words = ap (λ (e : DraftState). e.words) all;
       starts = ap (λ (e : DraftState). e.starts) all;
     }
 
-start_of : (d before : DraftState) (xs : List ℕ) (later : Writing) → IsOpen d before xs later → last_start d ≡ length before.words
+start_of : (d before : DraftState) (xs : List ℕ) (later : Writing) → IsOpen d before xs later → last_open_list_start d ≡ length before.words
 start_of d before xs later o =
-    ap (λ (l : List ℕ). start_within (last_of l) (length d.words)) o.starts
-    ∙ ap (λ (s : Option ℕ). start_within s (length d.words)) (last-push before.starts (length before.words))
+    ap (λ (l : List ℕ). open_list_start_within (last_of l) (length d.words)) o.starts
+    ∙ ap (λ (s : Option ℕ). open_list_start_within s (length d.words)) (last-push before.starts (length before.words))
     ∙ min_front (length before.words) (length xs) (length d.words) (ap (λ (l : List ℕ). length l) o.words ∙ length-append before.words xs)
 
 -- The words from the start on are those of the values of the list: so the list is closed with what
 -- the writer makes of them.
 pub closes : (v : Plain) (vs : Plains) (before old : DraftState) (tail : List ℕ) (word start : ℕ) (new : Writing) (words starts : List ℕ)
-    → old ≡ draft_with_all vs (draft_with_open_list before) → start ≡ last_start old → tail ≡ drop start old.words
+    → old ≡ draft_with_all vs (draft_with_open_list before) → start ≡ last_open_list_start old → tail ≡ drop start old.words
     → (WritesValues before.writing vs tail old.writing → WritesValue before.writing v word new)
     → words ≡ take start old.words ++ word ∷ [] → starts ≡ take (length old.starts - 1) old.starts
-    → draft_by new words starts ≡ draft_with v before
+    → draft_from_parts new words starts ≡ draft_with v before
 closes v vs before old tail word start new words starts is at tail_at wrote words_is starts_is =
     let xs : List ℕ = (calls_all vs before.writing).0 in
     let later : Writing = (calls_all vs before.writing).1 in
@@ -68,5 +68,5 @@ closes v vs before old tail word start new words starts is at tail_at wrote word
     let front : take start old.words ≡ before.words = ap (λ (k : ℕ). take k old.words) begin ∙ ap (λ (l : List ℕ). take (length before.words) l) o.words ∙ take-append_seam before.words xs in
     let lists : starts ≡ before.starts = starts_is ∙ ap (λ (l : List ℕ). take (length l - 1) l) o.starts ∙ but_last before.starts (length before.words) in
     let both : ◌≡◌ {A = List ℕ × Writing} (tail, old.writing) (xs, later) = ap (λ (l : List ℕ). (l, old.writing)) rest ∙ ap (λ (w : Writing). (xs, w)) o.writing in
-    ap (λ (l : List ℕ). draft_by new words l) lists
+    ap (λ (l : List ℕ). draft_from_parts new words l) lists
     ∙ takes v before.writing new before.words words before.starts word (wrote (record { is = both })) (words_is ∙ ap (λ (l : List ℕ). l ++ word ∷ []) front)

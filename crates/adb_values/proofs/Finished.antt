@@ -1,20 +1,20 @@
 -- A draft of one value ends with what the writer makes of it.
 use Rattle.std.proofs.Common.{◌≡◌, ◌≤◌, ℕ, List, [], ◌∷◌, length, Result, Ok, Err, IfOk, sym, ap, subst, ◌∙◌, inl, inr, arith}
 use Rattle.adb_view.specs.Plain.{Plain}
-use Rattle.adb_write.specs.Canonical.{PayloadCounts, MOST_BYTES, canonical, empty_layout, end_offset, layout_counts, or_overflow, counts_after_values, write, written_of}
+use Rattle.adb_write.specs.Canonical.{PayloadCounts, MOST_BYTES, canonical, empty_layout, end_offset, layout_counts, or_overflow, counts_after_values, write, payload_or_overflow}
 use Rattle.adb_write.specs.DepthFirst.{WritesValue}
-use Rattle.adb_write.specs.WriterState.{IsFinished}
+use Rattle.adb_write.specs.WriterState.{IsFinishResult}
 use Rattle.adb_write.specs.Writing.{Writing, calls, empty_writing, finish_result}
 use Rattle.adb_write.specs.declared.writer.WriteFault.{WriteFault}
 use Rattle.adb_write.specs.declared.writer.WriteFault.TheVariants.{TooLarge, Memory}
 use Rattle.adb_write.proofs.AnyOrder.{fits_of}
 use Rattle.adb_write.proofs.Limits.{Ends, calls-end, start_fine}
 use Rattle.adb_write.proofs.DepthFirst.{writes_finished}
-use Rattle.adb_values.specs.Drafts.{DraftState, draft_by, empty_draft, draft_with}
+use Rattle.adb_values.specs.Drafts.{DraftState, draft_from_parts, empty_draft, draft_with}
 use Rattle.adb_values.specs.LastList.{last_word}
 use Rattle.adb_values.specs.Written.{IsWrittenAs}
 
-pub only_value : (v : Plain) (w : Writing) (words starts : List ℕ) (root : ℕ) → draft_by w words starts ≡ draft_with v empty_draft → root ≡ last_word words → WritesValue empty_writing v root w
+pub only_value : (v : Plain) (w : Writing) (words starts : List ℕ) (root : ℕ) → draft_from_parts w words starts ≡ draft_with v empty_draft → root ≡ last_word words → WritesValue empty_writing v root w
 unfolding draft_with
 only_value v w words starts root is root_is =
     let x : ℕ = (calls v empty_writing).0 in
@@ -23,19 +23,19 @@ only_value v w words starts root is root_is =
     let later : w ≡ (calls v empty_writing).1 = ap (λ (d : DraftState). d.writing) is in
     record { is = ap (λ (k : ℕ). (k, w)) word ∙ ap (λ (e : Writing). (x, e)) later }
 
-told : {A : Type 0} (view : A → List ℕ) (w : Writing) (r : Result A WriteFault) (answer : Result (List ℕ) PayloadCounts) → IsFinished view w r answer → IsWrittenAs view r answer
+told : {A : Type 0} (view : A → List ℕ) (w : Writing) (r : Result A WriteFault) (answer : Result (List ℕ) PayloadCounts) → IsFinishResult view w r answer → IsWrittenAs view r answer
 told view w (Ok payload) answer h = h
 told view w (Err (TooLarge bytes values)) answer h = h
 told view w (Err Memory) answer h = tt
 
 pub finishes : {A : Type 0} (view : A → List ℕ) (v : Plain) (w : Writing) (words starts : List ℕ) (root : ℕ) (r : Result A WriteFault)
-    → draft_by w words starts ≡ draft_with v empty_draft → root ≡ last_word words → IsFinished view w r (finish_result root w) → IsWrittenAs view r (written_of v)
+    → draft_from_parts w words starts ≡ draft_with v empty_draft → root ≡ last_word words → IsFinishResult view w r (finish_result root w) → IsWrittenAs view r (payload_or_overflow v)
 finishes view v w words starts root r is root_is h =
-    told view w r (written_of v) (subst (λ (a : Result (List ℕ) PayloadCounts). IsFinished view w r a) (writes_finished v root w (only_value v w words starts root is root_is)) h)
+    told view w r (payload_or_overflow v) (subst (λ (a : Result (List ℕ) PayloadCounts). IsFinishResult view w r a) (writes_finished v root w (only_value v w words starts root is root_is)) h)
 
 -- what is written within the limits is short
-pub payload_small : (v : Plain) (payload : List ℕ) → written_of v ≡ Ok payload → length payload ≤ MOST_BYTES
-unfolding written_of
+pub payload_small : (v : Plain) (payload : List ℕ) → payload_or_overflow v ≡ Ok payload → length payload ≤ MOST_BYTES
+unfolding payload_or_overflow
 payload_small v payload is = go (calls-end v empty_layout start_fine)
   where
     go : Ends (counts_after_values v empty_layout) (calls v empty_writing) (write v empty_layout) → length payload ≤ MOST_BYTES
@@ -47,6 +47,6 @@ payload_small v payload is = go (calls-end v empty_layout start_fine)
         subst (λ (p : List ℕ). length p ≤ MOST_BYTES) (sym same) (subst (λ (k : ℕ). k ≤ MOST_BYTES) size fits)
     go (inr b) = absurd (let e = sym is ∙ ap (or_overflow (canonical v)) b.1 in cc)
 
-pub finish_small : {A : Type 0} (view : A → List ℕ) (v : Plain) (r : Result A WriteFault) → IsWrittenAs view r (written_of v) → IfOk r (λ payload. length (view payload) ≤ MOST_BYTES)
+pub finish_small : {A : Type 0} (view : A → List ℕ) (v : Plain) (r : Result A WriteFault) → IsWrittenAs view r (payload_or_overflow v) → IfOk r (λ payload. length (view payload) ≤ MOST_BYTES)
 finish_small view v (Ok payload) h = payload_small v (view payload) h
 finish_small view v (Err fault) h = tt

@@ -1,13 +1,13 @@
 -- For callers: a blob has its word in whatever a draft becomes.
 use Rattle.std.proofs.Common.{◌≡◌, ℕ, Bool, true, false, List, [], ◌∷◌, ◌++◌, length, refl, sym, ap, subst, ◌∙◌}
 use Rattle.adb_view.specs.Plain.{Plain, null, int, blob, arr, obj, Plains, none, more, arr_value, blob_or_null, obj_value}
-use Rattle.adb_write.specs.Again.{HasWholeItemsWithinLimit, IsWordOfBlob}
+use Rattle.adb_write.specs.Again.{HasAllItemsUnlessPastLimit, IsWordOfBlob}
 use Rattle.adb_write.specs.Canonical.{Cell, in_place, apart, blob_cell}
 use Rattle.adb_write.specs.DepthFirst.{WritesValue}
 use Rattle.adb_write.specs.Writing.{Writing, call, blob_call, arr_call, obj_call, calls, calls_all, is_past_limit}
 use Rattle.adb_write.proofs.DepthFirst.{calls_arr, calls_blob, calls_obj}
 use Rattle.adb_write.proofs.Kept.{LeavesWords, arr_keeps, blob_keeps, int_keeps, new_word, obj_keeps}
-use Rattle.adb_values.specs.Drafts.{DraftState, draft_by, draft_with, draft_with_all, draft_with_open_list}
+use Rattle.adb_values.specs.Drafts.{DraftState, draft_from_parts, draft_with, draft_with_all, draft_with_open_list}
 use Rattle.adb_values.specs.Words.{HasBlob}
 use Rattle.adb_values.proofs.Taken.{takes_all}
 
@@ -27,10 +27,10 @@ written_again b word x w is within over = go (is_past_limit w) refl
 
 -- ---- a blob that is added and has its word from then on
 
-pub call_whole : (x : ℕ) (w later : Writing) (r : ℕ × Writing) → LeavesWords w r.1 → ◌≡◌ {A = ℕ × Writing} (x, later) r → HasWholeItemsWithinLimit later
-call_whole x w later r p e = subst (λ (s : ℕ × Writing). HasWholeItemsWithinLimit s.1) (sym e) p.whole
+pub call_whole : (x : ℕ) (w later : Writing) (r : ℕ × Writing) → LeavesWords w r.1 → ◌≡◌ {A = ℕ × Writing} (x, later) r → HasAllItemsUnlessPastLimit later
+call_whole x w later r p e = subst (λ (s : ℕ × Writing). HasAllItemsUnlessPastLimit s.1) (sym e) p.whole
 
-pub blob_has : (b : List ℕ) (x : ℕ) (w later : Writing) (words starts : List ℕ) → HasWholeItemsWithinLimit w → ◌≡◌ {A = ℕ × Writing} (x, later) (blob_call b w) → HasBlob (draft_by later words starts) b x
+pub blob_has : (b : List ℕ) (x : ℕ) (w later : Writing) (words starts : List ℕ) → HasAllItemsUnlessPastLimit w → ◌≡◌ {A = ℕ × Writing} (x, later) (blob_call b w) → HasBlob (draft_from_parts later words starts) b x
 blob_has b x w later words starts h e = record {
   is = subst (λ (r : ℕ × Writing). IsWordOfBlob r.1 b r.0) (sym e) (new_word b w h);
   whole = call_whole x w later (blob_call b w) (blob_keeps b w h) e;
@@ -38,7 +38,7 @@ blob_has b x w later words starts h e = record {
 
 -- ---- what calls leave
 
-left : (w : Writing) → HasWholeItemsWithinLimit w → LeavesWords w w
+left : (w : Writing) → HasAllItemsUnlessPastLimit w → LeavesWords w w
 left w h = record { whole = h; words = λ b word is. is }
 
 then : (a b c : Writing) → LeavesWords a b → LeavesWords b c → LeavesWords a c
@@ -47,7 +47,7 @@ then a b c p q = record { whole = q.whole; words = λ bytes word is. q.words byt
 mutual
   unfolding calls
 
-  pub keeps : (v : Plain) (w : Writing) → HasWholeItemsWithinLimit w → LeavesWords w (calls v w).1
+  pub keeps : (v : Plain) (w : Writing) → HasAllItemsUnlessPastLimit w → LeavesWords w (calls v w).1
   keeps null w h = left w h
   keeps (int n) w h = int_keeps n w h
   keeps (blob b) w h = blob_keeps b w h
@@ -58,7 +58,7 @@ mutual
       let p = keeps_all vs w h in
       then w (calls_all vs w).1 (calls (obj vs) w).1 p (obj_keeps (calls_all vs w).0 (calls_all vs w).1 p.whole)
 
-  pub keeps_all : (vs : Plains) (w : Writing) → HasWholeItemsWithinLimit w → LeavesWords w (calls_all vs w).1
+  pub keeps_all : (vs : Plains) (w : Writing) → HasAllItemsUnlessPastLimit w → LeavesWords w (calls_all vs w).1
   keeps_all none w h = left w h
   keeps_all (more v vs) w h =
       let p = keeps v w h in
@@ -69,7 +69,7 @@ mutual
 has_by : (d : DraftState) (w : Writing) (b : List ℕ) (word : ℕ) → LeavesWords d.writing w → HasBlob d b word → (later : DraftState) → later.writing ≡ w → HasBlob later b word
 has_by d w b word p h later e = record {
   is = subst (λ (x : Writing). IsWordOfBlob x b word) (sym e) (p.words b word h.is);
-  whole = subst HasWholeItemsWithinLimit (sym e) p.whole;
+  whole = subst HasAllItemsUnlessPastLimit (sym e) p.whole;
 }
 
 -- a value is added

@@ -16,17 +16,17 @@ pub record DraftState : Type 0 where
   pub starts : List ℕ
 
 -- the draft of a writer that has written this, with these words and these beginnings of open lists
-abbrev pub draft_by : Writing → List ℕ → List ℕ → DraftState
-draft_by writing words starts = record { writing = writing; words = words; starts = starts }
+abbrev pub draft_from_parts : Writing → List ℕ → List ℕ → DraftState
+draft_from_parts writing words starts = record { writing = writing; words = words; starts = starts }
 
 -- a draft without a value
 abbrev pub empty_draft : DraftState
-empty_draft = draft_by empty_writing [] []
+empty_draft = draft_from_parts empty_writing [] []
 
 -- a draft with one value more, which is written depth first
 unfoldable pub draft_with : Plain → DraftState → DraftState
 draft_with v d =
-    draft_by (calls v d.writing).1 (d.words ++ (calls v d.writing).0 ∷ []) d.starts
+    draft_from_parts (calls v d.writing).1 (d.words ++ (calls v d.writing).0 ∷ []) d.starts
 
 -- a draft with these values more, in order
 abbrev pub draft_with_all : Plains → DraftState → DraftState
@@ -35,4 +35,4 @@ draft_with_all (more v vs) d = draft_with_all vs (draft_with v d)
 
 -- a draft with one more open list, to which the following values are added
 unfoldable pub draft_with_open_list : DraftState → DraftState
-draft_with_open_list d = draft_by d.writing d.words (d.starts ++ length d.words ∷ [])
+draft_with_open_list d = draft_from_parts d.writing d.words (d.starts ++ length d.words ∷ [])

@@ -8,13 +8,13 @@ last_of xs = slice_get xs (length xs - 1)
 
 -- where the list that was opened last begins among `len` words, at most at their end; at 0 if no list
 -- is open
-abbrev pub start_within : Option ℕ → ℕ → ℕ
-start_within None len = 0
-start_within (Some start) len = min start len
+abbrev pub open_list_start_within : Option ℕ → ℕ → ℕ
+open_list_start_within None len = 0
+open_list_start_within (Some start) len = min start len
 
 -- how many words precede the list that was opened last: none if no list is open
-abbrev pub last_start : DraftState → ℕ
-last_start d = start_within (last_of d.starts) (length d.words)
+abbrev pub last_open_list_start : DraftState → ℕ
+last_open_list_start d = open_list_start_within (last_of d.starts) (length d.words)
 
 -- a word, or NULL (0) if there is none
 abbrev pub word_or_null : Option ℕ → ℕ

@@ -6,10 +6,10 @@
 ghost use Rattle.std.specs.Prelude.{◌≡◌, ℕ, ◌<◌, ◌≤◌, List, ◌∷◌, ◌++◌, [], length, take, true, false, IfOk, OnErr, OnOk, vec_capacity, vec_len};
 ghost use Rattle.adb_view.specs.Plain.{Plain, Plains, arr_value, blob_or_null, int, null, obj_value};
 ghost use Rattle.adb_values.specs.Drafts.{empty_draft, draft_with_open_list, draft_with, draft_with_all, DraftState};
-ghost use Rattle.adb_values.specs.LastList.{last_start, last_word};
+ghost use Rattle.adb_values.specs.LastList.{last_open_list_start, last_word};
 ghost use Rattle.adb_values.specs.Words.{HasBlob};
 ghost use Rattle.adb_values.specs.Written.{IsWrittenAs};
-ghost use Rattle.adb_write.specs.Canonical.{written_of, MOST_BYTES};
+ghost use Rattle.adb_write.specs.Canonical.{payload_or_overflow, MOST_BYTES};
 ghost use Rattle.adb_write.specs.Writing.{is_past_limit};
 
 use adb_view::Val;
@@ -30,14 +30,14 @@ pub struct Draft {
 }
 
 impl Model for Draft {
-    ghost use Rattle.adb_values.specs.Drafts.{draft_by, DraftState};
-    ghost use Rattle.adb_write.specs.Again.{HasWholeItemsWithinLimit};
+    ghost use Rattle.adb_values.specs.Drafts.{draft_from_parts, DraftState};
+    ghost use Rattle.adb_write.specs.Again.{HasAllItemsUnlessPastLimit};
 
     ghost Value = { DraftState };
 
-    ghost view = { λ d. draft_by d.writer d.words.items d.starts.items };
+    ghost view = { λ d. draft_from_parts d.writer d.words.items d.starts.items };
 
-    ghost invariant = { λ d. HasWholeItemsWithinLimit d.writer };
+    ghost invariant = { λ d. HasAllItemsUnlessPastLimit d.writer };
 }
 
 impl Draft {
@@ -122,7 +122,7 @@ impl Draft {
         ensures err { OnErr result (self.new ≡ self.old) }
     {
         self.words.reserve(1)?;
-        let start = self.last_start();
+        let start = self.last_open_list_start();
         let word = self.writer.arr(&self.words[start..])?;
         replace_from(&mut self.words, start, word);
         self.starts.pop();
@@ -139,7 +139,7 @@ impl Draft {
         ensures err { OnErr result (self.new ≡ self.old) }
     {
         self.words.reserve(1)?;
-        let start = self.last_start();
+        let start = self.last_open_list_start();
         let word = self.writer.obj(&self.words[start..])?;
         replace_from(&mut self.words, start, word);
         self.starts.pop();
@@ -147,8 +147,8 @@ impl Draft {
     }
 
     /// How many words precede the list that was opened last; 0 if no list is open.
-    fn last_start(&self) -> usize
-        ensures is { result ≡ last_start self.now }
+    fn last_open_list_start(&self) -> usize
+        ensures is { result ≡ last_open_list_start self.now }
         ensures within { result ≤ length self.now.words }
     {
         let len = self.words.len();
@@ -162,7 +162,7 @@ impl Draft {
     /// value that passes a limit.
     pub fn finish(self) -> Result<Vec<u8>, WriteFault>
         ensures written { (v : Plain) → self ≡ draft_with v empty_draft
-            → IsWrittenAs (λ payload. payload.items) result (written_of v) }
+            → IsWrittenAs (λ payload. payload.items) result (payload_or_overflow v) }
         ensures short { (v : Plain) → self ≡ draft_with v empty_draft
             → IfOk result (λ payload. length payload.items ≤ MOST_BYTES) }
     {

@@ -5,7 +5,7 @@ use Rattle.std.proofs.lemmas.List.Elements.{All-head, All-tail, All-take, All-dr
 use Rattle.std.specs.Int.{Width, w32, w64, byte_len, from_le_bytes}
 use Rattle.adb_view.specs.Bytes.{number_at}
 use Rattle.adb_view.specs.Plain.{Plain, null, int, blob, arr, obj, Plains, none, more, Shape, number, text, hash, array, object, Fields, no_fields, field, blob_or_null, arr_value, obj_of, put_first_without_last_null, without_last_nulls, obj_value, from_answer, then_more, each_plain, plain_of, plains_of, IsNormal, AreNormal}
-use Rattle.adb_view.specs.Readers.{kind_of, low_of, or_outside, int_of, blob_of, run_of, ARRAY, OBJECT}
+use Rattle.adb_view.specs.Readers.{kind_of, low_of, or_outside_cause, int_of, blob_of, run_of, ARRAY, OBJECT}
 use Rattle.adb_view.proofs.FoundShapes.{unless_null-all, mapped, run_found}
 use Rattle.base_core.specs.declared.cause.Cause.{Cause}
 
@@ -39,7 +39,7 @@ number_fits w bytes at n fit h e =
     let same : from_le_bytes w bs ≡ n = read_bytes (leb (at + byte_len w) (length bytes)) bs w n e in
     subst (λ k. k < 2 ^ 64) same small
 
-inside_fits : (word n : ℕ) (o : Option ℕ) → ((k : ℕ) → o ≡ Some k → k < 2 ^ 64) → or_outside word o ≡ Ok n → n < 2 ^ 64
+inside_fits : (word n : ℕ) (o : Option ℕ) → ((k : ℕ) → o ≡ Some k → k < 2 ^ 64) → or_outside_cause word o ≡ Ok n → n < 2 ^ 64
 inside_fits word n (Some k) h e = let same : k ≡ n = cc in subst (λ i. i < 2 ^ 64) same (h k refl)
 inside_fits word n None h e = absurd cc
 

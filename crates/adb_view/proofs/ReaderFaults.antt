@@ -4,7 +4,7 @@ use Rattle.std.specs.Prelude.{if◌then◌else◌, ◌==◌}
 use Rattle.std.specs.Result.{result_ok}
 use Rattle.std.specs.Int.{w8, w16, w32, w64}
 use Rattle.adb_view.specs.Bytes.{number_at}
-use Rattle.adb_view.specs.Readers.{int_of, blob_of, run_of, run_at, counted_at, kind_of, low_of, or_outside}
+use Rattle.adb_view.specs.Readers.{int_of, blob_of, run_of, run_at, counted_at, kind_of, low_of, or_outside_cause}
 use Rattle.adb_view.specs.VisitFault.{is_reader_fault}
 use Rattle.base_core.specs.declared.cause.Cause.{Cause}
 
@@ -16,7 +16,7 @@ either : {A : Type 0} (b : Bool) (x y : Result A Cause) → IsReaderAnswer x →
 either true x y hx hy = hx
 either false x y hx hy = hy
 
-inside_answer : {A : Type 0} (w : ℕ) (o : Option A) → IsReaderAnswer (or_outside w o)
+inside_answer : {A : Type 0} (w : ℕ) (o : Option A) → IsReaderAnswer (or_outside_cause w o)
 inside_answer w (Some x) = tt
 inside_answer w None = refl
 

@@ -13,7 +13,7 @@ use Rattle.adb_view.specs.declared.tables.Kind.{Kind}
 use Rattle.adb_view.specs.Walk.{visit_fault, first_fault_from, shape_fault}
 use Rattle.adb_view.specs.CountedWalk.{fields_walk}
 use Rattle.adb_view.specs.CountedWalk.{walk}
-use Rattle.adb_view.specs.CountedWalk.{each_walk}
+use Rattle.adb_view.specs.CountedWalk.{walk_each_word}
 use Rattle.adb_view.specs.CountedWalk.{walk_visit}
 use Rattle.adb_view.specs.CountedWalk.{ok_unless}
 use Rattle.base_core.specs.Lists.{and_then}
@@ -55,10 +55,10 @@ bind_ok : {A : Type 0} (r : Result A Cause) → (and_then r (λ x. Ok x)) ≡ r
 bind_ok (Ok x) = refl
 bind_ok (Err c) = refl
 
-each_walk-counted : (p : List ℕ) (f : ℕ → ℕ → Result ℕ Cause) (g : ℕ → List Visit) → ((n w : ℕ) → f n w ≡ counted p n (g w)) → (n : ℕ) (ws : List ℕ) → each_walk f n ws ≡ counted p n (each_visit g ws)
-each_walk-counted p f g h n [] = refl
-each_walk-counted p f g h n (w ∷ ws) =
-    ap (λ r. and_then r (λ m. each_walk f m ws)) (h n w) ∙ bind_same (counted p n (g w)) _ _ (λ m. each_walk-counted p f g h m ws) ∙ sym (counted-append p n (g w) (each_visit g ws))
+walk_each_word-counted : (p : List ℕ) (f : ℕ → ℕ → Result ℕ Cause) (g : ℕ → List Visit) → ((n w : ℕ) → f n w ≡ counted p n (g w)) → (n : ℕ) (ws : List ℕ) → walk_each_word f n ws ≡ counted p n (each_visit g ws)
+walk_each_word-counted p f g h n [] = refl
+walk_each_word-counted p f g h n (w ∷ ws) =
+    ap (λ r. and_then r (λ m. walk_each_word f m ws)) (h n w) ∙ bind_same (counted p n (g w)) _ _ (λ m. walk_each_word-counted p f g h m ws) ∙ sym (counted-append p n (g w) (each_visit g ws))
 
 mutual
   unfolding walk visits
@@ -68,7 +68,7 @@ mutual
   walk-counted p number n w = sym (bind_ok (walk_visit p n number w))
   walk-counted p text n w = sym (bind_ok (walk_visit p n text w))
   walk-counted p hash n w = sym (bind_ok (walk_visit p n hash w))
-  walk-counted p (array s) n w = bind_same (walk_visit p n (array s) w) _ _ (λ m. each_walk-counted p (walk p s) (visits p s) (walk-counted p s) m (or_empty (run_of ARRAY p w)))
+  walk-counted p (array s) n w = bind_same (walk_visit p n (array s) w) _ _ (λ m. walk_each_word-counted p (walk p s) (visits p s) (walk-counted p s) m (or_empty (run_of ARRAY p w)))
   walk-counted p (object which fs) n w = bind_same (walk_visit p n (object which fs) w) _ _ (λ m. fields_walk-counted p fs m (or_empty (run_of OBJECT p w)))
 
   pub fields_walk-counted : (p : List ℕ) (fs : Fields) (n : ℕ) (ws : List ℕ) → fields_walk p fs n ws ≡ counted p n (field_visits p fs ws)

@@ -7,7 +7,7 @@ use Rattle.adb_view.specs.Plain.{Shape, number, text, hash, array, object}
 use Rattle.adb_view.specs.Readers.{int_of, blob_of, run_of, ARRAY, OBJECT}
 use Rattle.adb_view.specs.CountedWalk.{fields_walk}
 use Rattle.adb_view.specs.CountedWalk.{walk}
-use Rattle.adb_view.specs.CountedWalk.{each_walk}
+use Rattle.adb_view.specs.CountedWalk.{walk_each_word}
 use Rattle.adb_view.specs.CountedWalk.{walk_visit}
 use Rattle.base_core.specs.Lists.{and_then}
 use Rattle.adb_view.specs.Visits.{or_empty, fault_at, MOST_VALUES}
@@ -28,13 +28,13 @@ use Rattle.adb_view.proofs.Found.{run_of-null}
 
 -- ---- over a list
 
-pub each_more : (f : ℕ → ℕ → Result ℕ Cause) (n : ℕ) (ws : List ℕ) (i m : ℕ) → i < length ws → f n (get_or ws i 0) ≡ Ok m → each_walk f n (drop i ws) ≡ each_walk f m (drop (i + 1) ws)
+pub each_more : (f : ℕ → ℕ → Result ℕ Cause) (n : ℕ) (ws : List ℕ) (i m : ℕ) → i < length ws → f n (get_or ws i 0) ≡ Ok m → walk_each_word f n (drop i ws) ≡ walk_each_word f m (drop (i + 1) ws)
 each_more f n ws i m lt e = rw (drop_more ws i 0 lt, e) refl
 
-pub each_stops : (f : ℕ → ℕ → Result ℕ Cause) (n : ℕ) (ws : List ℕ) (i : ℕ) (c : Cause) → i < length ws → f n (get_or ws i 0) ≡ Err c → each_walk f n (drop i ws) ≡ Err c
+pub each_stops : (f : ℕ → ℕ → Result ℕ Cause) (n : ℕ) (ws : List ℕ) (i : ℕ) (c : Cause) → i < length ws → f n (get_or ws i 0) ≡ Err c → walk_each_word f n (drop i ws) ≡ Err c
 each_stops f n ws i c lt e = rw (drop_more ws i 0 lt, e) refl
 
-pub each_done : (f : ℕ → ℕ → Result ℕ Cause) (n : ℕ) (ws : List ℕ) (i : ℕ) → length ws ≤ i → each_walk f n (drop i ws) ≡ Ok n
+pub each_done : (f : ℕ → ℕ → Result ℕ Cause) (n : ℕ) (ws : List ℕ) (i : ℕ) → length ws ≤ i → walk_each_word f n (drop i ws) ≡ Ok n
 each_done f n ws i le = rw (drop_all i ws le) refl
 
 pub fields_more : (p : List ℕ) (fs : List Field) (n : ℕ) (ws : List ℕ) (i m : ℕ) (d : Field) → i < length fs → i < length ws → walk p (shape_of (get_or fs i d).kind) n (get_or ws i 0) ≡ Ok m
@@ -83,7 +83,7 @@ unfolding walk
 walk_full p number n w le = full_step p n number w le
 walk_full p text n w le = full_step p n text w le
 walk_full p hash n w le = full_step p n hash w le
-walk_full p (array s) n w le = ap (λ r. and_then r (λ m. each_walk (walk p s) m (or_empty (run_of ARRAY p w)))) (full_step p n (array s) w le)
+walk_full p (array s) n w le = ap (λ r. and_then r (λ m. walk_each_word (walk p s) m (or_empty (run_of ARRAY p w)))) (full_step p n (array s) w le)
 walk_full p (object which fs) n w le = ap (λ r. and_then r (λ m. fields_walk p fs m (or_empty (run_of OBJECT p w)))) (full_step p n (object which fs) w le)
 
 pub walk_int : (p : List ℕ) (n w : ℕ) → n < MOST_VALUES → walk p (shape_of Int) n w ≡ (and_then (int_of p w) (λ x. Ok (n + 1)))
@@ -98,14 +98,14 @@ pub walk_hash : (p : List ℕ) (n w : ℕ) → n < MOST_VALUES → walk p (shape
 unfolding walk
 walk_hash p n w lt = ap (λ s. walk p s n w) hash_shape ∙ ok_step n hash w p (blob_of p w) refl lt
 
-array_step : (p : List ℕ) (s : Shape) (n w : ℕ) → n < MOST_VALUES → walk p (array s) n w ≡ (and_then (run_of ARRAY p w) (λ ws. each_walk (walk p s) (n + 1) ws))
+array_step : (p : List ℕ) (s : Shape) (n w : ℕ) → n < MOST_VALUES → walk p (array s) n w ≡ (and_then (run_of ARRAY p w) (λ ws. walk_each_word (walk p s) (n + 1) ws))
 unfolding walk
-array_step p s n w lt = ap (λ r. and_then r (λ m. each_walk (walk p s) m (or_empty (run_of ARRAY p w)))) (ok_step n (array s) w p (run_of ARRAY p w) refl lt) ∙ bind_run (run_of ARRAY p w) n (λ m ws. each_walk (walk p s) m ws)
+array_step p s n w lt = ap (λ r. and_then r (λ m. walk_each_word (walk p s) m (or_empty (run_of ARRAY p w)))) (ok_step n (array s) w p (run_of ARRAY p w) refl lt) ∙ bind_run (run_of ARRAY p w) n (λ m ws. walk_each_word (walk p s) m ws)
 
-pub walk_texts : (p : List ℕ) (n w : ℕ) → n < MOST_VALUES → walk p (shape_of TextArr) n w ≡ (and_then (run_of ARRAY p w) (λ ws. each_walk (walk p (shape_of Text)) (n + 1) ws))
+pub walk_texts : (p : List ℕ) (n w : ℕ) → n < MOST_VALUES → walk p (shape_of TextArr) n w ≡ (and_then (run_of ARRAY p w) (λ ws. walk_each_word (walk p (shape_of Text)) (n + 1) ws))
 walk_texts p n w lt = ap (λ s. walk p s n w) texts_shape ∙ array_step p (shape_of Text) n w lt
 
-pub walk_objects : (p : List ℕ) (which : Which) (n w : ℕ) → n < MOST_VALUES → walk p (shape_of (ObjArr which)) n w ≡ (and_then (run_of ARRAY p w) (λ ws. each_walk (walk p (shape_of (Obj which))) (n + 1) ws))
+pub walk_objects : (p : List ℕ) (which : Which) (n w : ℕ) → n < MOST_VALUES → walk p (shape_of (ObjArr which)) n w ≡ (and_then (run_of ARRAY p w) (λ ws. walk_each_word (walk p (shape_of (Obj which))) (n + 1) ws))
 walk_objects p which n w lt = ap (λ s. walk p s n w) (objects_shape which) ∙ array_step p (shape_of (Obj which)) n w lt
 
 pub walk_object : (p : List ℕ) (which : Which) (n w : ℕ) → n < MOST_VALUES → walk p (shape_of (Obj which)) n w ≡ (and_then (run_of OBJECT p w) (λ ws. fields_walk p (shapes_of (table which)) (n + 1) ws))
@@ -160,13 +160,13 @@ hash_ok p n w x lt e = walk_hash p n w lt ∙ bound_ok (blob_of p w) _ x e
 pub hash_err : (p : List ℕ) (n w : ℕ) (c : Cause) → n < MOST_VALUES → blob_of p w ≡ Err c → walk p (shape_of Hash) n w ≡ Err c
 hash_err p n w c lt e = walk_hash p n w lt ∙ bound_err (blob_of p w) _ c e
 
-pub texts_ok : (p : List ℕ) (n w : ℕ) (ws : List ℕ) → n < MOST_VALUES → run_of ARRAY p w ≡ Ok ws → walk p (shape_of TextArr) n w ≡ each_walk (walk p (shape_of Text)) (n + 1) ws
+pub texts_ok : (p : List ℕ) (n w : ℕ) (ws : List ℕ) → n < MOST_VALUES → run_of ARRAY p w ≡ Ok ws → walk p (shape_of TextArr) n w ≡ walk_each_word (walk p (shape_of Text)) (n + 1) ws
 texts_ok p n w ws lt e = walk_texts p n w lt ∙ bound_ok (run_of ARRAY p w) _ ws e
 
 pub texts_err : (p : List ℕ) (n w : ℕ) (c : Cause) → n < MOST_VALUES → run_of ARRAY p w ≡ Err c → walk p (shape_of TextArr) n w ≡ Err c
 texts_err p n w c lt e = walk_texts p n w lt ∙ bound_err (run_of ARRAY p w) _ c e
 
-pub objects_ok : (p : List ℕ) (which : Which) (n w : ℕ) (ws : List ℕ) → n < MOST_VALUES → run_of ARRAY p w ≡ Ok ws → walk p (shape_of (ObjArr which)) n w ≡ each_walk (walk p (shape_of (Obj which))) (n + 1) ws
+pub objects_ok : (p : List ℕ) (which : Which) (n w : ℕ) (ws : List ℕ) → n < MOST_VALUES → run_of ARRAY p w ≡ Ok ws → walk p (shape_of (ObjArr which)) n w ≡ walk_each_word (walk p (shape_of (Obj which))) (n + 1) ws
 objects_ok p which n w ws lt e = walk_objects p which n w lt ∙ bound_ok (run_of ARRAY p w) _ ws e
 
 pub objects_err : (p : List ℕ) (which : Which) (n w : ℕ) (c : Cause) → n < MOST_VALUES → run_of ARRAY p w ≡ Err c → walk p (shape_of (ObjArr which)) n w ≡ Err c
@@ -188,10 +188,10 @@ null_object : (p : List ℕ) (which : Which) (n : ℕ) → n < MOST_VALUES → w
 null_object p which n lt = walk_object p which n 0 lt ∙ ap (λ r. and_then r (λ ws. fields_walk p (shapes_of (table which)) (n + 1) ws)) (run_of-null OBJECT p) ∙ no_words p (table which) (n + 1)
 
 null_texts : (p : List ℕ) (n : ℕ) → n < MOST_VALUES → walk p (shape_of TextArr) n 0 ≡ Ok (n + 1)
-null_texts p n lt = walk_texts p n 0 lt ∙ ap (λ r. and_then r (λ ws. each_walk (walk p (shape_of Text)) (n + 1) ws)) (run_of-null ARRAY p)
+null_texts p n lt = walk_texts p n 0 lt ∙ ap (λ r. and_then r (λ ws. walk_each_word (walk p (shape_of Text)) (n + 1) ws)) (run_of-null ARRAY p)
 
 null_objects : (p : List ℕ) (which : Which) (n : ℕ) → n < MOST_VALUES → walk p (shape_of (ObjArr which)) n 0 ≡ Ok (n + 1)
-null_objects p which n lt = walk_objects p which n 0 lt ∙ ap (λ r. and_then r (λ ws. each_walk (walk p (shape_of (Obj which))) (n + 1) ws)) (run_of-null ARRAY p)
+null_objects p which n lt = walk_objects p which n 0 lt ∙ ap (λ r. and_then r (λ ws. walk_each_word (walk p (shape_of (Obj which))) (n + 1) ws)) (run_of-null ARRAY p)
 
 pub leaf_walk : (p : List ℕ) (kind : Kind) (n w : ℕ) → n < MOST_VALUES → is_sound_leaf p kind w ≡ true → walk p (shape_of kind) n w ≡ Ok (n + 1)
 leaf_walk p Int n w lt e = walk_int p n w lt ∙ leaf_step (int_of p w) n e
@@ -205,5 +205,5 @@ pub fields_leaf : (p : List ℕ) (fs : List Field) (n : ℕ) (ws : List ℕ) (i 
     → fields_walk p (shapes_of (drop i fs)) n (drop i ws) ≡ fields_walk p (shapes_of (drop (i + 1) fs)) (n + 1) (drop (i + 1) ws)
 fields_leaf p fs n ws i d lt lt' few e = fields_more p fs n ws i (n + 1) d lt lt' (leaf_walk p (get_or fs i d).kind n (get_or ws i 0) few e)
 
-pub texts_leaf : (p : List ℕ) (n : ℕ) (ws : List ℕ) (i : ℕ) → i < length ws → n < MOST_VALUES → is_sound_leaf p Text (get_or ws i 0) ≡ true → each_walk (walk p (shape_of Text)) n (drop i ws) ≡ each_walk (walk p (shape_of Text)) (n + 1) (drop (i + 1) ws)
+pub texts_leaf : (p : List ℕ) (n : ℕ) (ws : List ℕ) (i : ℕ) → i < length ws → n < MOST_VALUES → is_sound_leaf p Text (get_or ws i 0) ≡ true → walk_each_word (walk p (shape_of Text)) n (drop i ws) ≡ walk_each_word (walk p (shape_of Text)) (n + 1) (drop (i + 1) ws)
 texts_leaf p n ws i lt few e = each_more (walk p (shape_of Text)) n ws i (n + 1) lt (leaf_walk p Text n (get_or ws i 0) few e)

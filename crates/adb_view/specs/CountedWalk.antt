@@ -20,9 +20,9 @@ abbrev pub walk_visit : List ℕ → ℕ → Shape → ℕ → Result ℕ Cause
 walk_visit p n s w = ok_unless (n + 1) (visit_fault p (n + 1) (record { shape = s; word = w }))
 
 -- the walk over some words in order after n visits, where `f` walks over each
-abbrev pub each_walk : (ℕ → ℕ → Result ℕ Cause) → ℕ → List ℕ → Result ℕ Cause
-each_walk f n [] = Ok n
-each_walk f n (w ∷ ws) = and_then (f n w) (λ m. each_walk f m ws)
+abbrev pub walk_each_word : (ℕ → ℕ → Result ℕ Cause) → ℕ → List ℕ → Result ℕ Cause
+walk_each_word f n [] = Ok n
+walk_each_word f n (w ∷ ws) = and_then (f n w) (λ m. walk_each_word f m ws)
 
 -- the walk of the word `w` and the words below it, after n visits
 unfoldable mutual
@@ -31,7 +31,7 @@ unfoldable mutual
   walk p text n w = walk_visit p n text w
   walk p hash n w = walk_visit p n hash w
   walk p (array s) n w = and_then (walk_visit p n (array s) w)
-      (λ m. each_walk (walk p s) m (or_empty (run_of ARRAY p w)))
+      (λ m. walk_each_word (walk p s) m (or_empty (run_of ARRAY p w)))
   walk p (object schema fs) n w = and_then (walk_visit p n (object schema fs) w)
       (λ m. fields_walk p fs m (or_empty (run_of OBJECT p w)))
 

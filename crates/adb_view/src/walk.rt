@@ -15,7 +15,7 @@ ghost use Rattle.adb_view.specs.Schema.{table, shape_of, shapes_of, table_number
 ghost use Rattle.adb_view.specs.Walk.{first_fault_from, shape_fault};
 ghost use Rattle.adb_view.specs.CountedWalk.{fields_walk};
 ghost use Rattle.adb_view.specs.CountedWalk.{walk};
-ghost use Rattle.adb_view.specs.CountedWalk.{each_walk};
+ghost use Rattle.adb_view.specs.CountedWalk.{walk_each_word};
 ghost use Rattle.adb_view.specs.Leaves.{leading_leaves};
 ghost use Rattle.adb_view.specs.FirstFault.{IsFirstFault};
 ghost use Rattle.adb_view.specs.VisitFault.{with_cause};
@@ -118,7 +118,7 @@ fn walk_value(adb: Adb<'_>, kind: Kind, before: u32, word: Val) -> Result<u32, V
 fn walk_texts(adb: Adb<'_>, before: u32, texts: Arr<'_>) -> Result<u32, VisitFault>
     requires { before ≤ MOST_VALUES }
     ensures exact { with_cause result
-        ≡ each_walk (walk (payload_of adb.entry) (shape_of Kinds.Text)) before
+        ≡ walk_each_word (walk (payload_of adb.entry) (shape_of Kinds.Text)) before
         (array_entries texts.entry) }
     ensures bound { IfOk result (λ n. n ≤ MOST_VALUES) }
 {
@@ -145,7 +145,7 @@ fn walk_objects(
 ) -> Result<u32, VisitFault>
     requires { before ≤ MOST_VALUES }
     ensures exact { with_cause result
-        ≡ each_walk (walk (payload_of adb.entry) (shape_of (Kinds.Obj which))) before
+        ≡ walk_each_word (walk (payload_of adb.entry) (shape_of (Kinds.Obj which))) before
         (array_entries objects.entry) }
     ensures bound { IfOk result (λ n. n ≤ MOST_VALUES) }
 {

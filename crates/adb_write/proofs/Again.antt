@@ -8,8 +8,8 @@ use Rattle.std.proofs.lemmas.List.{take_at, drop_at, length-append, length-drop,
 use Rattle.std.proofs.lemmas.Slice.Eq.{bytes_eq-Decides}
 use Rattle.adb_view.specs.Plain.{Plain, null, int, blob, arr, obj, Plains, none, more, IsNormal, AreNormal, count_of}
 use Rattle.adb_view.specs.Readers.{ARRAY, OBJECT}
-use Rattle.adb_write.specs.Canonical.{gap, Item, WrittenItem, Cell, in_place, apart, int_item, int_cell, blob_item, blob_cell, run_bytes, run_item, run_cell, trimmed_words, Layout, empty_layout, end_offset, is_equal_item, word_of_item, put_new, put_unless, put_item, put_cell, put_run, write, write_all, payload_with_root, MOST_BYTES}
-use Rattle.adb_write.specs.Again.{front_len, HasLengthInFront, IsThere, HasItemsInBytes, len_by}
+use Rattle.adb_write.specs.Canonical.{gap, Item, WrittenItem, Cell, in_place, apart, int_item, int_cell, blob_item, blob_cell, run_bytes, run_item, run_cell, trimmed_words, Layout, empty_layout, end_offset, is_equal_item, word_of_item, put_new, put_unless_written, put_item, put_cell, put_run, write, write_all, payload_with_root, MOST_BYTES}
+use Rattle.adb_write.specs.Again.{len_of_length_field, HasLengthInFront, IsItemInBytes, HasItemsInBytes, item_len_from_front}
 use Rattle.adb_write.specs.Size.{entries_of, entries_of_all, with_value_count_raised}
 use Rattle.adb_write.proofs.Found.{equal_kind, equal_bytes, equal_within}
 use Rattle.adb_write.proofs.Placed.{wide8, wide16, wide32, wide64}
@@ -26,9 +26,9 @@ IsFramedCell (apart i) = HasLengthInFront i
 -- two items of one kind that are at one place are equal
 same_bytes : (i j : Item) (x : List ℕ) → HasLengthInFront i → HasLengthInFront j → i.kind ≡ j.kind → take (length i.bytes) x ≡ i.bytes → take (length j.bytes) x ≡ j.bytes → i.bytes ≡ j.bytes
 same_bytes i j x f g kind a b =
-    let front : take (front_len i.kind) i.bytes ≡ take (front_len j.kind) j.bytes =
-    ap (take (front_len i.kind)) (sym a) ∙ take-take (front_len i.kind) (length i.bytes) x f.long ∙ ap (λ (k : ℕ). take (front_len k) x) kind ∙ sym (take-take (front_len j.kind) (length j.bytes) x g.long) ∙ ap (take (front_len j.kind)) b in
-    let len : length i.bytes ≡ length j.bytes = f.len ∙ ap (λ (k : ℕ). len_by k (take (front_len i.kind) i.bytes)) kind ∙ ap (len_by j.kind) front ∙ sym g.len in
+    let front : take (len_of_length_field i.kind) i.bytes ≡ take (len_of_length_field j.kind) j.bytes =
+    ap (take (len_of_length_field i.kind)) (sym a) ∙ take-take (len_of_length_field i.kind) (length i.bytes) x f.long ∙ ap (λ (k : ℕ). take (len_of_length_field k) x) kind ∙ sym (take-take (len_of_length_field j.kind) (length j.bytes) x g.long) ∙ ap (take (len_of_length_field j.kind)) b in
+    let len : length i.bytes ≡ length j.bytes = f.len ∙ ap (λ (k : ℕ). item_len_from_front k (take (len_of_length_field i.kind) i.bytes)) kind ∙ ap (item_len_from_front j.kind) front ∙ sym g.len in
     sym a ∙ ap (λ (n : ℕ). take n x) len ∙ b
 
 -- ---- each item is framed
@@ -121,7 +121,7 @@ equal_more body q i x some e =
     is_equal (body ++ q) i x (equal_kind body i x e)
     (ap (take (length i.bytes)) (drop-append-le x.offset body q (omega arith)) ∙ take-append-le (length i.bytes) (drop x.offset body) q (omega (arith, length-drop x.offset body)) ∙ bytes)
 
-there_more : (body q : List ℕ) (x : WrittenItem) → IsThere body x → IsThere (body ++ q) x
+there_more : (body q : List ℕ) (x : WrittenItem) → IsItemInBytes body x → IsItemInBytes (body ++ q) x
 there_more body q x t = record { what = t.what; framed = t.framed; equal = equal_more body q t.what x t.framed.some t.equal }
 
 -- items that are equal to one written item have one kind and the same bytes
@@ -135,7 +135,7 @@ same_test body i j x kind bytes =
     ap (λ (k : ℕ). eqb x.kind k && bytes_eq (take (length i.bytes) (drop x.offset body)) i.bytes) kind
     ∙ ap (λ (b : List ℕ). eqb x.kind j.kind && bytes_eq (take (length b) (drop x.offset body)) b) bytes
 
-equal_stays : (body q : List ℕ) (i : Item) (x : WrittenItem) → HasLengthInFront i → IsThere body x → is_equal_item body i x ≡ is_equal_item (body ++ q) i x
+equal_stays : (body q : List ℕ) (i : Item) (x : WrittenItem) → HasLengthInFront i → IsItemInBytes body x → is_equal_item body i x ≡ is_equal_item (body ++ q) i x
 equal_stays body q i x f t = go (is_equal_item body i x) (is_equal_item (body ++ q) i x) refl refl
   where
     go : (a b : Bool) → is_equal_item body i x ≡ a → is_equal_item (body ++ q) i x ≡ b → a ≡ b
@@ -186,7 +186,7 @@ new_whole : (i : Item) (out : Layout) → HasLengthInFront i → HasItemsInBytes
 new_whole i out f w = record {
   all = (
     record { what = i; framed = f; equal = new_equal i out },
-    all_from (IsThere out.body) (IsThere (out.body ++ added i out)) (there_more out.body (added i out)) out.items w.all,
+    all_from (IsItemInBytes out.body) (IsItemInBytes (out.body ++ added i out)) (there_more out.body (added i out)) out.items w.all,
   );
 }
 
@@ -197,10 +197,10 @@ new_keeps i out f w absent = record { found = λ j x g e. go j x g e (is_equal_i
         → cond b (Some (new_item i out)) (find (is_equal_item (out.body ++ added i out) j) out.items) ≡ Some x
     go j x g e true h =
         let same = one_item (out.body ++ added i out) i j (new_item i out) f g (new_equal i out) h in
-        let no : None ≡ Some x = sym absent ∙ find_same (is_equal_item out.body i) (is_equal_item out.body j) out.items (all_from (IsThere out.body) (λ y. is_equal_item out.body i y ≡ is_equal_item out.body j y) (λ y t. same_test out.body i j y same.0 same.1) out.items w.all) ∙ e in
+        let no : None ≡ Some x = sym absent ∙ find_same (is_equal_item out.body i) (is_equal_item out.body j) out.items (all_from (IsItemInBytes out.body) (λ y. is_equal_item out.body i y ≡ is_equal_item out.body j y) (λ y t. same_test out.body i j y same.0 same.1) out.items w.all) ∙ e in
         absurd cc
     go j x g e false h =
-        sym (find_same (is_equal_item out.body j) (is_equal_item (out.body ++ added i out) j) out.items (all_from (IsThere out.body) (λ y. is_equal_item out.body j y ≡ is_equal_item (out.body ++ added i out) j y) (λ y t. equal_stays out.body (added i out) j y g t) out.items w.all)) ∙ e
+        sym (find_same (is_equal_item out.body j) (is_equal_item (out.body ++ added i out) j) out.items (all_from (IsItemInBytes out.body) (λ y. is_equal_item out.body j y ≡ is_equal_item (out.body ++ added i out) j y) (λ y t. equal_stays out.body (added i out) j y g t) out.items w.all)) ∙ e
 
 -- ---- one value more
 
@@ -211,7 +211,7 @@ pub record Stays (out later : Layout) : Type 0 where
 put_item_stays : (i : Item) (out : Layout) → HasLengthInFront i → HasItemsInBytes out → Stays out (put_item i out).1
 put_item_stays i out f w = go (find (is_equal_item out.body i) out.items) refl
   where
-    go : (found : Option WrittenItem) → find (is_equal_item out.body i) out.items ≡ found → Stays out (put_unless found i out).1
+    go : (found : Option WrittenItem) → find (is_equal_item out.body i) out.items ≡ found → Stays out (put_unless_written found i out).1
     go None e = record { whole = new_whole i out f w; keeps = new_keeps i out f w e }
     go (Some there) e = record { whole = record { all = w.all }; keeps = record { found = λ j x g h. h } }
 
@@ -228,7 +228,7 @@ pub record IsFoundAgain (i : Item) (r : ℕ × Layout) : Type 0 where
 pub put_item_found : (i : Item) (out : Layout) → IsFoundAgain i (put_item i out)
 put_item_found i out = go (find (is_equal_item out.body i) out.items) refl
   where
-    go : (found : Option WrittenItem) → find (is_equal_item out.body i) out.items ≡ found → IsFoundAgain i (put_unless found i out)
+    go : (found : Option WrittenItem) → find (is_equal_item out.body i) out.items ≡ found → IsFoundAgain i (put_unless_written found i out)
     go None e =
         let t = new_equal i out in
         record { item = new_item i out; is = ap (λ (b : Bool). cond b (Some (new_item i out)) (find (is_equal_item (out.body ++ added i out) i) out.items)) t; word = omega arith }
@@ -246,7 +246,7 @@ cell_again : (c : Cell) (out later : Layout) → IsFramedCell c → Keeps (put_c
 cell_again (in_place word) out later f k = ap (λ (l : Layout). (word, l)) (with_none later)
 cell_again (apart i) out later f k =
     let found = put_item_found i out in
-    ap (λ (o : Option WrittenItem). put_unless o i later) (k.found i found.item f found.is) ∙ ap (λ (word : ℕ). (word, with_value_count_raised i.entries later)) found.word
+    ap (λ (o : Option WrittenItem). put_unless_written o i later) (k.found i found.item f found.is) ∙ ap (λ (word : ℕ). (word, with_value_count_raised i.entries later)) found.word
 
 -- the entries of a cell, as a value counts them
 cell_counts : (c : Cell) (out later : Layout) (n : ℕ) → entries_in c ≡ n → IsFramedCell c → Keeps (put_cell c out).1 later → put_cell c later ≡ ((put_cell c out).0, with_value_count_raised n later)

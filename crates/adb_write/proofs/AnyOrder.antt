@@ -6,7 +6,7 @@ use Rattle.std.specs.List.{AllByRecursion}
 use Rattle.std.proofs.lemmas.Bool.{ltb-false, ne_eqb}
 use Rattle.adb_view.specs.Plain.{Plain, null, int, blob, arr, obj, Plains, none, more, without_last_nulls, put_first_without_last_null, blob_or_null, arr_value, obj_of, obj_value, Shape, IsNormal, plain_of, value_of}
 use Rattle.adb_view.specs.Readers.{ARRAY, OBJECT}
-use Rattle.adb_write.specs.Canonical.{Cell, in_place, apart, int_cell, blob_cell, run_cell, keep_word, trimmed_words, Layout, end_offset, put_item, put_cell, put_run, PayloadCounts, layout_counts, exceeds_a_limit, payload_with_root, MOST_BYTES, MOST_VALUES}
+use Rattle.adb_write.specs.Canonical.{Cell, in_place, apart, int_cell, blob_cell, run_cell, prepend_unless_last_null, trimmed_words, Layout, end_offset, put_item, put_cell, put_run, PayloadCounts, layout_counts, exceeds_a_limit, payload_with_root, MOST_BYTES, MOST_VALUES}
 use Rattle.adb_view.specs.Shaped.{HasShape}
 use Rattle.adb_write.specs.Denotes.{Holds, HoldAll, IsWordOf, Denotes, AllDenote}
 use Rattle.adb_write.specs.Writing.{Writing, writing_counts, is_past_limit, layout_of, writing_of, unless_past_limit, call, finish_result, int_call, blob_call, arr_call, obj_call}
@@ -120,7 +120,7 @@ null_word : (p : List ℕ) (x : ℕ) → Holds p null x → x ≡ 0
 unfolding Holds
 null_word p x h = h
 
-kept_pair : (w : Writing) → is_past_limit w ≡ false → (v : Plain) (vs : Plains) (x : ℕ) (xs : List ℕ) → Denotes w v x → AllDenote w vs xs → AllDenote w (put_first_without_last_null v vs) (keep_word x xs)
+kept_pair : (w : Writing) → is_past_limit w ≡ false → (v : Plain) (vs : Plains) (x : ℕ) (xs : List ℕ) → Denotes w v x → AllDenote w vs xs → AllDenote w (put_first_without_last_null v vs) (prepend_unless_last_null x xs)
 kept_pair w e null none x [] h a = let zero_is : x ≡ 0 = null_word (payload_with_root 0 (layout_of w)) x ((h e).holds 0) in rw zero_is tt
 kept_pair w e null (more u us) x (y ∷ ys) h a = (h, a)
 kept_pair w e v none x (y ∷ ys) h a = absurd a

@@ -8,8 +8,8 @@ use Rattle.adb_write.specs.Items.{item_of, HasNumbersInRange}
 use Rattle.adb_write.specs.declared.item.Parts.{Parts}
 use Rattle.adb_write.specs.declared.word_pages.Slot.{Slot}
 use Rattle.adb_write.specs.Keys.{fingerprint_of, fingerprint_of_locator, key_of, locator_of, HaveRisingKeys, word_of_locator}
-use Rattle.adb_write.specs.WordPages.{words_before, words_from_slot, IsBetween}
-use Rattle.adb_write.specs.WriterState.{HasHead, AreStored, written_item, items_of_locators}
+use Rattle.adb_write.specs.WordPages.{locators_before_slot, locators_from_slot, IsBetween}
+use Rattle.adb_write.specs.WriterState.{IsEmptyOrHasHead, AreStored, written_item, items_of_locators}
 use Rattle.adb_write.proofs.Placed.{word_kind, word_low}
 use Rattle.adb_write.proofs.Grown.{Grown, grown}
 use Rattle.adb_write.proofs.Pages.{parts_at}
@@ -40,16 +40,16 @@ new_there p new bytes g at h is =
     ap (λ (k : ℕ). drop k new) (is ∙ omega arith) ∙ sym (drop-drop (length body + g) 8 new) ∙ ap (drop (length body + g)) parted ∙ drop_at (body ++ zeros) bytes (length body + g) front in
     ap (take (length bytes)) (far ∙ sym (append-nil bytes)) ∙ take_at bytes [] (length bytes) refl
 
-pub appended : (p new : List ℕ) (pages new_pages : List (List ℕ)) (parts : Parts) (slot : Slot) (bytes g w : ℕ) → HasHead p → bytes ≡ 8 + length (drop 8 p) → g ≡ gap (item_of parts).align bytes
+pub appended : (p new : List ℕ) (pages new_pages : List (List ℕ)) (parts : Parts) (slot : Slot) (bytes g w : ℕ) → IsEmptyOrHasHead p → bytes ≡ 8 + length (drop 8 p) → g ≡ gap (item_of parts).align bytes
     → HaveRisingKeys p (concat pages) → AreStored p (concat pages) → HasNumbersInRange parts → bytes + g + length (item_of parts).bytes ≤ MOST_BYTES → IsBetween p pages (key_of parts) slot
     → new ≡ p ++ (replicate (bytes + g - length p) 0 ++ (item_of parts).bytes)
-    → concat new_pages ≡ words_before pages slot.page slot.index ++ w ∷ words_from_slot pages slot.page slot.index
+    → concat new_pages ≡ locators_before_slot pages slot.page slot.index ++ w ∷ locators_from_slot pages slot.page slot.index
     → fingerprint_of_locator w ≡ fingerprint_of parts → word_of_locator w ≡ (item_of parts).kind * 2 ^ 28 + (bytes + g) → Appended p new pages new_pages (item_of parts)
 appended p new pages new_pages parts slot bytes g w head agree gap_is rising stored room few between new_is words_are print word_is =
     let i : Item = item_of parts in
     let q : List ℕ = replicate (bytes + g - length p) 0 ++ i.bytes in
-    let before : List ℕ = words_before pages slot.page slot.index in
-    let behind : List ℕ = words_from_slot pages slot.page slot.index in
+    let before : List ℕ = locators_before_slot pages slot.page slot.index in
+    let behind : List ℕ = locators_from_slot pages slot.page slot.index in
     let whole : before ++ behind ≡ concat pages = parts_at pages slot.page slot.index in
     let at : bytes + g < 2 ^ 28 = omega arith in
     let kind : kind_of (word_of_locator w) ≡ i.kind = ap kind_of word_is ∙ word_kind i.kind (bytes + g) at in

@@ -4,7 +4,7 @@ use Rattle.std.specs.List.{flat_map}
 use Rattle.std.specs.Int.{w8, w16, w32, w64, to_le_bytes}
 use Rattle.std.proofs.lemmas.Bool.{le-ltb, ne_eqb}
 use Rattle.std.proofs.lemmas.List.{take_more}
-use Rattle.adb_write.specs.Canonical.{Item, apart, int_item, int_cell, blob_item, blob_cell, run_item, run_bytes, run_cell, keep_word, trimmed_words}
+use Rattle.adb_write.specs.Canonical.{Item, apart, int_item, int_cell, blob_item, blob_cell, run_item, run_bytes, run_cell, prepend_unless_last_null, trimmed_words}
 
 -- ---- the number in an item's front, and what follows it
 
@@ -50,17 +50,17 @@ run_bytes_are ws n e = let is : n ≡ suc (length ws) = omega arith in rw is ref
 
 -- ---- an object's words without the NULLs that are last
 
-keep_last : (w v : ℕ) (ws : List ℕ) → keep_word w (ws ++ v ∷ []) ≡ w ∷ ws ++ v ∷ []
+keep_last : (w v : ℕ) (ws : List ℕ) → prepend_unless_last_null w (ws ++ v ∷ []) ≡ w ∷ ws ++ v ∷ []
 keep_last w v [] = refl
 keep_last w v (x ∷ xs) = refl
 
 pub trimmed_null : (ws : List ℕ) → trimmed_words (ws ++ 0 ∷ []) ≡ trimmed_words ws
 trimmed_null [] = refl
-trimmed_null (w ∷ ws) = ap (keep_word w) (trimmed_null ws)
+trimmed_null (w ∷ ws) = ap (prepend_unless_last_null w) (trimmed_null ws)
 
 pub trimmed_some : (w : ℕ) (ws : List ℕ) → w ≢ 0 → trimmed_words (ws ++ w ∷ []) ≡ ws ++ w ∷ []
 trimmed_some w [] ne = let t : eqb w 0 ≡ false = ne_eqb w 0 ne in rw t refl
-trimmed_some w (x ∷ xs) ne = ap (keep_word x) (trimmed_some w xs ne) ∙ keep_last x w xs
+trimmed_some w (x ∷ xs) ne = ap (prepend_unless_last_null x) (trimmed_some w xs ne) ∙ keep_last x w xs
 
 -- the first n words are one fewer and the last of them
 one_more : (ws : List ℕ) (n x : ℕ) → 0 < n → n ≤ length ws → x ≡ get_or ws (n - 1) x → take n ws ≡ take (n - 1) ws ++ x ∷ []

@@ -2,7 +2,7 @@
 use Rattle.std.proofs.Common.{◌≡◌, ℕ, ◌+◌, ◌^◌, ◌<◌, true, ltb, List, [], ◌∷◌, ◌++◌, length, arith, refl, sym, ap, subst, ◌∙◌}
 use Rattle.adb_view.specs.Plain.{Plain, null, int, blob, arr, obj, Plains, none, more, without_last_nulls, put_first_without_last_null, blob_or_null, arr_value, obj_of, obj_value}
 use Rattle.adb_view.specs.Readers.{OBJECT}
-use Rattle.adb_write.specs.Canonical.{Cell, in_place, int_cell, run_cell, keep_word, trimmed_words, written_of}
+use Rattle.adb_write.specs.Canonical.{Cell, in_place, int_cell, run_cell, prepend_unless_last_null, trimmed_words, payload_or_overflow}
 use Rattle.adb_write.specs.Writing.{Writing, empty_writing, call, int_call, blob_call, arr_call, obj_call, finish_result, calls, calls_all}
 use Rattle.adb_write.specs.DepthFirst.{WritesValue, WritesValues, push}
 use Rattle.adb_write.proofs.WriterSteps.{call_null}
@@ -43,12 +43,12 @@ pub record Same (us vs : Plains) (w : Writing) : Type 0 where
 
 keep_same : (v : Plain) (us vs : Plains) (w : Writing) → Same us vs (calls v w).1 → Same (put_first_without_last_null v us) (more v vs) w
 unfolding calls
-keep_same null none vs w s = record { words = ap (keep_word 0) s.words; state = s.state }
-keep_same null (more u us) vs w s = record { words = ap (keep_word 0) s.words; state = s.state }
-keep_same (int n) us vs w s = record { words = ap (keep_word (calls (int n) w).0) s.words; state = s.state }
-keep_same (blob b) us vs w s = record { words = ap (keep_word (calls (blob b) w).0) s.words; state = s.state }
-keep_same (arr xs) us vs w s = record { words = ap (keep_word (calls (arr xs) w).0) s.words; state = s.state }
-keep_same (obj xs) us vs w s = record { words = ap (keep_word (calls (obj xs) w).0) s.words; state = s.state }
+keep_same null none vs w s = record { words = ap (prepend_unless_last_null 0) s.words; state = s.state }
+keep_same null (more u us) vs w s = record { words = ap (prepend_unless_last_null 0) s.words; state = s.state }
+keep_same (int n) us vs w s = record { words = ap (prepend_unless_last_null (calls (int n) w).0) s.words; state = s.state }
+keep_same (blob b) us vs w s = record { words = ap (prepend_unless_last_null (calls (blob b) w).0) s.words; state = s.state }
+keep_same (arr xs) us vs w s = record { words = ap (prepend_unless_last_null (calls (arr xs) w).0) s.words; state = s.state }
+keep_same (obj xs) us vs w s = record { words = ap (prepend_unless_last_null (calls (obj xs) w).0) s.words; state = s.state }
 
 trimmed_same : (vs : Plains) (w : Writing) → Same (without_last_nulls vs) vs w
 trimmed_same none w = record { words = refl; state = refl }
@@ -114,7 +114,7 @@ writes_arr vs xs a b x c p e = record { is = e ∙ run_of_all vs xs a b arr_call
 pub writes_obj : (vs : Plains) (xs : List ℕ) (a b : Writing) (x : ℕ) (c : Writing) → WritesValues a vs xs b → ◌≡◌ {A = ℕ × Writing} (x, c) (obj_call xs b) → WritesValue a (obj_value vs) x c
 writes_obj vs xs a b x c p e = record { is = e ∙ run_of_all vs xs a b obj_call p ∙ sym (calls_obj vs a) }
 
-pub writes_finished : (v : Plain) (root : ℕ) (w : Writing) → WritesValue empty_writing v root w → finish_result root w ≡ written_of v
+pub writes_finished : (v : Plain) (root : ℕ) (w : Writing) → WritesValue empty_writing v root w → finish_result root w ≡ payload_or_overflow v
 writes_finished v root w p = ap (λ (r : ℕ × Writing). finish_result r.0 r.1) p.is ∙ calls-written v
 
 -- ---- the answers of the calls

@@ -1,14 +1,14 @@
 -- What a writer keeps while it grows.
 use Rattle.std.proofs.Common.{◌≡◌, ℕ, ◌+◌, ◌-◌, ◌≤◌, List, ◌++◌, length, take, drop, replicate, refl, sym, ap, ◌∙◌, append_assoc, arith, inl, inr}
 use Rattle.std.proofs.lemmas.List.{length-append, length-replicate, length-take, length-drop, replicate-append-replicate, take-append-le, drop-append-le, take_at, drop_at}
-use Rattle.adb_write.specs.WriterState.{HasHead}
+use Rattle.adb_write.specs.WriterState.{IsEmptyOrHasHead}
 
 -- eight bytes are in front
 long : (payload : List ℕ) → take 8 payload ≡ replicate {A = ℕ} 8 0 → 8 ≤ length payload
 long payload h = let l : length (take 8 payload) ≡ 8 = ap length h in omega (arith, length-take 8 payload)
 
 pub record Grown (payload new : List ℕ) (g : ℕ) (x : List ℕ) : Type 0 where
-  pub head : HasHead new
+  pub head : IsEmptyOrHasHead new
   pub body : drop 8 new ≡ drop 8 payload ++ (replicate g 0 ++ x)
 
 -- the first zeros are the head
@@ -16,10 +16,10 @@ first : (g : ℕ) (x : List ℕ) → replicate {A = ℕ} (8 + g) 0 ++ x ≡ repl
 first g x = ap (λ (y : List ℕ). y ++ x) (sym (replicate-append-replicate {A = ℕ} 8 g 0)) ∙ append_assoc (replicate {A = ℕ} 8 0) (replicate {A = ℕ} g 0) x
 
 -- zeros up to an offset, and something there
-pub grown : (payload : List ℕ) (bytes g : ℕ) (x : List ℕ) → HasHead payload → bytes ≡ 8 + length (drop 8 payload) → Grown payload (payload ++ (replicate (bytes + g - length payload) 0 ++ x)) g x
+pub grown : (payload : List ℕ) (bytes g : ℕ) (x : List ℕ) → IsEmptyOrHasHead payload → bytes ≡ 8 + length (drop 8 payload) → Grown payload (payload ++ (replicate (bytes + g - length payload) 0 ++ x)) g x
 grown payload bytes g x h e = go h
   where
-    go : HasHead payload → Grown payload (payload ++ (replicate (bytes + g - length payload) 0 ++ x)) g x
+    go : IsEmptyOrHasHead payload → Grown payload (payload ++ (replicate (bytes + g - length payload) 0 ++ x)) g x
     go (inl none) =
         let nothing : length payload ≡ 0 = ap length none in
         let dropped : length (drop 8 payload) ≡ 0 = ap (λ (p : List ℕ). length (drop 8 p)) none in

@@ -12,9 +12,9 @@ use Rattle.adb_view.specs.Readers.{low_of}
 use Rattle.adb_write.specs.Canonical.{WrittenItem, is_equal_item, word_of_item, MOST_BYTES}
 use Rattle.adb_write.specs.Items.{item_of, HasNumbersInRange}
 use Rattle.adb_write.specs.declared.item.Parts.{Parts}
-use Rattle.adb_write.specs.Keys.{key_of, key_at, HaveRisingKeys, word_of_locator}
-use Rattle.adb_write.specs.WordPages.{HaveNoEmptyPage, AllCompare, IsFoundIn, IsBetween}
-use Rattle.adb_write.specs.WriterState.{HasHead, IsStored, AreStored, written_item, with_item, items_of_locators}
+use Rattle.adb_write.specs.Keys.{key_of, key_of_locator, HaveRisingKeys, word_of_locator}
+use Rattle.adb_write.specs.WordPages.{HaveNoEmptyPage, AllCompareToKey, IsLocatorWithKey, IsBetween}
+use Rattle.adb_write.specs.WriterState.{IsEmptyOrHasHead, IsStored, AreStored, written_item, with_item, items_of_locators}
 use Rattle.adb_write.proofs.Found.{find-none, Has}
 use Rattle.adb_write.proofs.Rising.{cmp, flipped, IsBelow, all_both, all_first, all_last, all_into, all_two, rising_none, rising_head, rising_rest, rising_more, rising_before, rising_with, rising_last}
 use Rattle.adb_write.proofs.StoredWords.{stored_ends, item_some, stored_more, key_more, equal_key, key_equal}
@@ -84,48 +84,48 @@ new_item (v ∷ before) w behind a =
 
 -- no item equals one that is neither lower nor higher
 pub not_found : (p : List ℕ) (parts : Parts) (ws : List ℕ) (before behind : List ℕ) → before ++ behind ≡ ws → AreStored p ws → HasNumbersInRange parts → length p ≤ MOST_BYTES
-    → AllCompare Greater p (key_of parts) before → AllCompare Less p (key_of parts) behind → find (is_equal_item (drop 8 p) (item_of parts)) (items_of_locators ws) ≡ None
+    → AllCompareToKey Greater p (key_of parts) before → AllCompareToKey Less p (key_of parts) behind → find (is_equal_item (drop 8 p) (item_of parts)) (items_of_locators ws) ≡ None
 not_found p parts ws before behind is stored room few low high =
     find-none (is_equal_item (drop 8 p) (item_of parts)) (items_of_locators ws)
-    (all_items (λ x. is_equal_item (drop 8 p) (item_of parts) x ≡ false) ws (all_two (IsStored p) (λ w. cmp (key_of parts) (key_at p w) ≢ Equal) (λ w. is_equal_item (drop 8 p) (item_of parts) (written_item w) ≡ false)
+    (all_items (λ x. is_equal_item (drop 8 p) (item_of parts) x ≡ false) ws (all_two (IsStored p) (λ w. cmp (key_of parts) (key_of_locator p w) ≢ Equal) (λ w. is_equal_item (drop 8 p) (item_of parts) (written_item w) ≡ false)
     (λ w s ne. not_equal w s ne (is_equal_item (drop 8 p) (item_of parts) (written_item w)) refl) ws stored
-    (subst (AllByRecursion (λ w. cmp (key_of parts) (key_at p w) ≢ Equal)) is
-    (all_both (λ w. cmp (key_of parts) (key_at p w) ≢ Equal) before behind
-    (all_into (λ w. cmp (key_of parts) (key_at p w) ≡ Greater) (λ w. cmp (key_of parts) (key_at p w) ≢ Equal) (λ w g e. let no : Greater ≡ Equal = sym g ∙ e in absurd cc) before low)
-    (all_into (λ w. cmp (key_of parts) (key_at p w) ≡ Less) (λ w. cmp (key_of parts) (key_at p w) ≢ Equal) (λ w g e. let no : Less ≡ Equal = sym g ∙ e in absurd cc) behind high)))))
+    (subst (AllByRecursion (λ w. cmp (key_of parts) (key_of_locator p w) ≢ Equal)) is
+    (all_both (λ w. cmp (key_of parts) (key_of_locator p w) ≢ Equal) before behind
+    (all_into (λ w. cmp (key_of parts) (key_of_locator p w) ≡ Greater) (λ w. cmp (key_of parts) (key_of_locator p w) ≢ Equal) (λ w g e. let no : Greater ≡ Equal = sym g ∙ e in absurd cc) before low)
+    (all_into (λ w. cmp (key_of parts) (key_of_locator p w) ≡ Less) (λ w. cmp (key_of parts) (key_of_locator p w) ≢ Equal) (λ w g e. let no : Less ≡ Equal = sym g ∙ e in absurd cc) behind high)))))
   where
-    not_equal : (w : ℕ) → IsStored p w → cmp (key_of parts) (key_at p w) ≢ Equal → (b : Bool) → is_equal_item (drop 8 p) (item_of parts) (written_item w) ≡ b → is_equal_item (drop 8 p) (item_of parts) (written_item w) ≡ false
+    not_equal : (w : ℕ) → IsStored p w → cmp (key_of parts) (key_of_locator p w) ≢ Equal → (b : Bool) → is_equal_item (drop 8 p) (item_of parts) (written_item w) ≡ b → is_equal_item (drop 8 p) (item_of parts) (written_item w) ≡ false
     not_equal w s ne true e = absurd (ne (equal_key p w parts s room few e))
     not_equal w s ne false e = e
 
 -- the words with the key of the one that is found
-pub found_item : (p : List ℕ) (parts : Parts) (ws : List ℕ) (w : ℕ) → AreStored p ws → HaveRisingKeys p ws → HasNumbersInRange parts → length p ≤ MOST_BYTES → IsFoundIn p ws (key_of parts) w
+pub found_item : (p : List ℕ) (parts : Parts) (ws : List ℕ) (w : ℕ) → AreStored p ws → HaveRisingKeys p ws → HasNumbersInRange parts → length p ≤ MOST_BYTES → IsLocatorWithKey p ws (key_of parts) w
     → find (is_equal_item (drop 8 p) (item_of parts)) (items_of_locators ws) ≡ Some (written_item w)
 found_item p parts ws w stored rising room few f =
     let rs = subst (HaveRisingKeys p) f.is rising in
     let ss = subst (AreStored p) f.is stored in
     let own : IsStored p w = (all_last (IsStored p) f.before (w ∷ f.behind) ss).0 in
-    let below = all_into (λ v. IsBelow p v w) (λ v. cmp (key_of parts) (key_at p v) ≢ Equal) (λ v b e. differ v b e) f.before (rising_before p f.before w f.behind rs) in
-    let higher = all_into (IsBelow p w) (λ v. cmp (key_of parts) (key_at p v) ≢ Equal) (λ v b e. differ_up v b e) f.behind (rising_head p w f.behind (rising_last p f.before (w ∷ f.behind) rs)) in
+    let below = all_into (λ v. IsBelow p v w) (λ v. cmp (key_of parts) (key_of_locator p v) ≢ Equal) (λ v b e. differ v b e) f.before (rising_before p f.before w f.behind rs) in
+    let higher = all_into (IsBelow p w) (λ v. cmp (key_of parts) (key_of_locator p v) ≢ Equal) (λ v b e. differ_up v b e) f.behind (rising_head p w f.behind (rising_last p f.before (w ∷ f.behind) rs)) in
     let one = all_both (λ v. is_equal_item (drop 8 p) (item_of parts) (written_item v) ≡ true → written_item v ≡ written_item w) f.before (w ∷ f.behind)
-    (all_two (IsStored p) (λ v. cmp (key_of parts) (key_at p v) ≢ Equal) (λ v. is_equal_item (drop 8 p) (item_of parts) (written_item v) ≡ true → written_item v ≡ written_item w) (λ v s ne e. absurd (ne (equal_key p v parts s room few e))) f.before (all_first (IsStored p) f.before (w ∷ f.behind) ss) below)
-    (λ e. refl, all_two (IsStored p) (λ v. cmp (key_of parts) (key_at p v) ≢ Equal) (λ v. is_equal_item (drop 8 p) (item_of parts) (written_item v) ≡ true → written_item v ≡ written_item w) (λ v s ne e. absurd (ne (equal_key p v parts s room few e))) f.behind (all_last (IsStored p) f.before (w ∷ f.behind) ss).1 higher) in
+    (all_two (IsStored p) (λ v. cmp (key_of parts) (key_of_locator p v) ≢ Equal) (λ v. is_equal_item (drop 8 p) (item_of parts) (written_item v) ≡ true → written_item v ≡ written_item w) (λ v s ne e. absurd (ne (equal_key p v parts s room few e))) f.before (all_first (IsStored p) f.before (w ∷ f.behind) ss) below)
+    (λ e. refl, all_two (IsStored p) (λ v. cmp (key_of parts) (key_of_locator p v) ≢ Equal) (λ v. is_equal_item (drop 8 p) (item_of parts) (written_item v) ≡ true → written_item v ≡ written_item w) (λ v s ne e. absurd (ne (equal_key p v parts s room few e))) f.behind (all_last (IsStored p) f.before (w ∷ f.behind) ss).1 higher) in
     ap (λ (l : List ℕ). find (is_equal_item (drop 8 p) (item_of parts)) (items_of_locators l)) f.is
     ∙ find-one (is_equal_item (drop 8 p) (item_of parts)) (items_of_locators (f.before ++ w ∷ f.behind)) (written_item w)
     (all_items (λ x. is_equal_item (drop 8 p) (item_of parts) x ≡ true → x ≡ written_item w) (f.before ++ w ∷ f.behind) one)
     (has_item f.before w f.behind) (key_equal p w parts own f.equal)
   where
     -- the key equals that of w
-    with_key : (v : ℕ) → cmp (key_of parts) (key_at p v) ≡ cmp (key_at p w) (key_at p v)
-    with_key v = nat_list_cmp_total.congr (key_of parts) (key_at p w) (key_at p v) f.equal
+    with_key : (v : ℕ) → cmp (key_of parts) (key_of_locator p v) ≡ cmp (key_of_locator p w) (key_of_locator p v)
+    with_key v = nat_list_cmp_total.congr (key_of parts) (key_of_locator p w) (key_of_locator p v) f.equal
 
-    differ : (v : ℕ) → IsBelow p v w → cmp (key_of parts) (key_at p v) ≡ Equal → ⊥
-    differ v b e = let no : Equal ≡ Greater = sym e ∙ with_key v ∙ flipped (key_at p v) (key_at p w) Less b in absurd cc
+    differ : (v : ℕ) → IsBelow p v w → cmp (key_of parts) (key_of_locator p v) ≡ Equal → ⊥
+    differ v b e = let no : Equal ≡ Greater = sym e ∙ with_key v ∙ flipped (key_of_locator p v) (key_of_locator p w) Less b in absurd cc
 
-    differ_up : (v : ℕ) → IsBelow p w v → cmp (key_of parts) (key_at p v) ≡ Equal → ⊥
+    differ_up : (v : ℕ) → IsBelow p w v → cmp (key_of parts) (key_of_locator p v) ≡ Equal → ⊥
     differ_up v b e = let no : Equal ≡ Less = sym e ∙ with_key v ∙ b in absurd cc
 
-pub found_word : (p : List ℕ) (ws : List ℕ) (key : List ℕ) (w : ℕ) → AreStored p ws → IsFoundIn p ws key w → word_of_item (written_item w) ≡ word_of_locator w
+pub found_word : (p : List ℕ) (ws : List ℕ) (key : List ℕ) (w : ℕ) → AreStored p ws → IsLocatorWithKey p ws key w → word_of_item (written_item w) ≡ word_of_locator w
 found_word p ws key w stored f =
     let own : IsStored p w = (all_last (IsStored p) f.before (w ∷ f.behind) (subst (AreStored p) f.is stored)).0 in
     omega (arith, own.stored.behind_head)
@@ -142,17 +142,17 @@ rising_on : (p q : List ℕ) (ws : List ℕ) → AreStored p ws → HaveRisingKe
 rising_on p q [] s r = rising_none (p ++ q)
 rising_on p q (w ∷ ws) s r =
     rising_more (p ++ q) w ws
-    (all_two (IsStored p) (IsBelow p w) (IsBelow (p ++ q) w) (λ v t b. ap (λ (k : List ℕ). cmp k (key_at (p ++ q) v)) (key_more p q w s.0) ∙ ap (cmp (key_at p w)) (key_more p q v t) ∙ b) ws s.1 (rising_head p w ws r))
+    (all_two (IsStored p) (IsBelow p w) (IsBelow (p ++ q) w) (λ v t b. ap (λ (k : List ℕ). cmp k (key_of_locator (p ++ q) v)) (key_more p q w s.0) ∙ ap (cmp (key_of_locator p w)) (key_more p q v t) ∙ b) ws s.1 (rising_head p w ws r))
     (rising_on p q ws s.1 (rising_rest p w ws r))
 
-pub rising_new : (p q : List ℕ) (key : List ℕ) (w : ℕ) (before behind : List ℕ) → AreStored p (before ++ behind) → HaveRisingKeys p (before ++ behind) → key_at (p ++ q) w ≡ key
-    → AllCompare Greater p key before → AllCompare Less p key behind → HaveRisingKeys (p ++ q) (before ++ w ∷ behind)
+pub rising_new : (p q : List ℕ) (key : List ℕ) (w : ℕ) (before behind : List ℕ) → AreStored p (before ++ behind) → HaveRisingKeys p (before ++ behind) → key_of_locator (p ++ q) w ≡ key
+    → AllCompareToKey Greater p key before → AllCompareToKey Less p key behind → HaveRisingKeys (p ++ q) (before ++ w ∷ behind)
 rising_new p q key w before behind s r is low high =
     rising_with (p ++ q) before w behind (rising_on p q (before ++ behind) s r)
-    (all_two (IsStored p) (λ v. cmp key (key_at p v) ≡ Greater) (λ v. IsBelow (p ++ q) v w)
-    (λ v t g. ap (λ (k : List ℕ). cmp k (key_at (p ++ q) w)) (key_more p q v t) ∙ ap (cmp (key_at p v)) is ∙ flipped key (key_at p v) Greater g) before (all_first (IsStored p) before behind s) low)
-    (all_two (IsStored p) (λ v. cmp key (key_at p v) ≡ Less) (IsBelow (p ++ q) w)
-    (λ v t g. ap (λ (k : List ℕ). cmp k (key_at (p ++ q) v)) is ∙ ap (cmp key) (key_more p q v t) ∙ g) behind (all_last (IsStored p) before behind s) high)
+    (all_two (IsStored p) (λ v. cmp key (key_of_locator p v) ≡ Greater) (λ v. IsBelow (p ++ q) v w)
+    (λ v t g. ap (λ (k : List ℕ). cmp k (key_of_locator (p ++ q) w)) (key_more p q v t) ∙ ap (cmp (key_of_locator p v)) is ∙ flipped key (key_of_locator p v) Greater g) before (all_first (IsStored p) before behind s) low)
+    (all_two (IsStored p) (λ v. cmp key (key_of_locator p v) ≡ Less) (IsBelow (p ++ q) w)
+    (λ v t g. ap (λ (k : List ℕ). cmp k (key_of_locator (p ++ q) v)) is ∙ ap (cmp key) (key_more p q v t) ∙ g) behind (all_last (IsStored p) before behind s) high)
 
 -- what was written ends before what is written next
 pub all_lower : (p : List ℕ) (w : ℕ) (ws : List ℕ) → length p ≤ low_of (word_of_locator w) → AreStored p ws → AllByRecursion (λ v. (written_item v).offset < (written_item w).offset) ws
@@ -161,7 +161,7 @@ all_lower p w ws behind s =
 
 -- ---- without a head nothing was written
 
-pub nothing_between : (p key : List ℕ) (pages : List (List ℕ)) (c : Cause) → HasHead p → HaveNoEmptyPage pages → AreStored p (concat pages) → Some c ≡ head_fault p → IsBetween p pages key (record { page = 0; index = 0 })
+pub nothing_between : (p key : List ℕ) (pages : List (List ℕ)) (c : Cause) → IsEmptyOrHasHead p → HaveNoEmptyPage pages → AreStored p (concat pages) → Some c ≡ head_fault p → IsBetween p pages key (record { page = 0; index = 0 })
 nothing_between p key [] c h f s e = record { inside = (refl, refl); lower = tt; higher = tt }
 nothing_between p key ([] ∷ pages) c h f s e = absurd (let some = f.0 in omega arith)
 nothing_between p key ((w ∷ page) ∷ pages) c (inl none) f s e = absurd (let t = s.0 in omega (arith, ap length none, stored_ends p w t, t.stored.behind_head))

@@ -2,9 +2,9 @@
 use Rattle.std.proofs.Common.{◌≡◌, ℕ, ◌+◌, ◌<◌, ◌≤◌, Bool, true, false, cond, List, [], ◌∷◌, ◌++◌, length, replicate, Option, Some, None, refl, sym, ap, subst, ◌∙◌, length-append, arith}
 use Rattle.std.specs.Prelude.{find}
 use Rattle.adb_view.specs.Readers.{ARRAY, OBJECT}
-use Rattle.adb_write.specs.Canonical.{gap, Item, WrittenItem, Cell, in_place, apart, int_cell, blob_item, blob_cell, run_cell, trimmed_words, Layout, end_offset, is_equal_item, word_of_item, put_unless, put_item, layout_counts, exceeds_a_limit, MOST_BYTES}
-use Rattle.adb_write.specs.Writing.{Writing, empty_writing, writing_by, is_past_limit, layout_of, writing_of, unless_past_limit, call, int_call, blob_call, arr_call, obj_call}
-use Rattle.adb_write.specs.Again.{HasWholeItemsWithinLimit, HasLengthInFront, HasItemsInBytes, IsWholeWriting, IsWordOfBlob}
+use Rattle.adb_write.specs.Canonical.{gap, Item, WrittenItem, Cell, in_place, apart, int_cell, blob_item, blob_cell, run_cell, trimmed_words, Layout, end_offset, is_equal_item, word_of_item, put_unless_written, put_item, layout_counts, exceeds_a_limit, MOST_BYTES}
+use Rattle.adb_write.specs.Writing.{Writing, empty_writing, writing_from_parts, is_past_limit, layout_of, writing_of, unless_past_limit, call, int_call, blob_call, arr_call, obj_call}
+use Rattle.adb_write.specs.Again.{HasAllItemsUnlessPastLimit, HasLengthInFront, HasItemsInBytes, HasAllItemsInBytes, IsWordOfBlob}
 use Rattle.adb_write.proofs.Again.{array_cell_framed, blob_cell_framed, blob_framed, int_cell_framed, IsFoundAgain, IsFramedCell, Keeps, nothing_whole, object_cell_framed, put_cell_stays, put_item_found}
 use Rattle.adb_write.proofs.AnyOrder.{call_stored, fits_of}
 use Rattle.adb_write.proofs.Found.{equal_bytes, equal_within, find-passes}
@@ -30,10 +30,10 @@ call_bytes (apart i) w e o = go (is_past_limit w) o
     go false f = past (exceeds_a_limit (layout_counts (put_item i (layout_of w)).1)) (put_item i (layout_of w)) refl f
 
 record Left (c : Cell) (w : Writing) : Type 0 where
-  pub whole : IsWholeWriting (call c w).1
+  pub whole : HasAllItemsInBytes (call c w).1
   pub keeps : Keeps (layout_of w) (layout_of (call c w).1)
 
-left : (c : Cell) (w : Writing) → IsFramedCell c → IsWholeWriting w → is_past_limit (call c w).1 ≡ false → Left c w
+left : (c : Cell) (w : Writing) → IsFramedCell c → HasAllItemsInBytes w → is_past_limit (call c w).1 ≡ false → Left c w
 left c w f g o =
     let s = call_stored c w o in
     let t = put_cell_stays c (layout_of w) f g.whole in
@@ -58,15 +58,15 @@ object_is_framed (x ∷ xs) w o = object_cell_framed (x ∷ xs) (layout_of w) (c
 
 -- ---- an item that is found is written again for nothing
 
-found_call : (i : Item) (there : WrittenItem) (w : Writing) → IsWholeWriting w → is_past_limit w ≡ false → i.entries ≡ 0 → find (is_equal_item w.body i) w.items ≡ Some there → ◌≡◌ {A = ℕ × Writing} (call (apart i) w) (word_of_item there, w)
+found_call : (i : Item) (there : WrittenItem) (w : Writing) → HasAllItemsInBytes w → is_past_limit w ≡ false → i.entries ≡ 0 → find (is_equal_item w.body i) w.items ≡ Some there → ◌≡◌ {A = ℕ × Writing} (call (apart i) w) (word_of_item there, w)
 unfolding call
 found_call i there w g o none found =
-    let put : ◌≡◌ {A = ℕ × Layout} (put_item i (layout_of w)) (word_of_item there, record (layout_of w) { values = w.values + i.entries }) = ap (λ (f : Option WrittenItem). put_unless f i (layout_of w)) found in
+    let put : ◌≡◌ {A = ℕ × Layout} (put_item i (layout_of w)) (word_of_item there, record (layout_of w) { values = w.values + i.entries }) = ap (λ (f : Option WrittenItem). put_unless_written f i (layout_of w)) found in
     let same : w.values + i.entries ≡ w.values = omega (arith, none) in
     let again : ◌≡◌ {A = ℕ × Layout} (put_item i (layout_of w)) (word_of_item there, layout_of w) = put ∙ ap (λ (n : ℕ). (word_of_item there, record (layout_of w) { values = n })) same in
     let fine : exceeds_a_limit (8 + length w.body, w.values) ≡ false = ap (λ (n : ℕ). exceeds_a_limit (n, w.values)) (sym g.bytes) ∙ o in
     let stays : ◌≡◌ {A = ℕ × Writing} (unless_past_limit w (word_of_item there, layout_of w)) (word_of_item there, w) =
-    rw fine (ap (λ (n : ℕ). (word_of_item there, writing_by w.body w.items n w.values)) (sym g.bytes)) in
+    rw fine (ap (λ (n : ℕ). (word_of_item there, writing_from_parts w.body w.items n w.values)) (sym g.bytes)) in
     rw o (ap (unless_past_limit w) again ∙ stays)
 
 call_step : (i : Item) (w : Writing) → is_past_limit w ≡ false → ◌≡◌ {A = ℕ × Writing} (call (apart i) w) (unless_past_limit w (put_item i (layout_of w)))
@@ -76,18 +76,18 @@ call_step i w o = rw o refl
 -- an item that is not found changes the writer
 new_call : (i : Item) (w : Writing) (word : ℕ) → is_past_limit w ≡ false → 0 < length i.bytes → find (is_equal_item w.body i) w.items ≡ None → ◌≡◌ {A = ℕ × Writing} (call (apart i) w) (word, w) → ⊥
 new_call i w word o some absent e =
-    let put : ◌≡◌ {A = ℕ × Layout} (put_item i (layout_of w)) (put_unless None i (layout_of w)) = ap (λ (f : Option WrittenItem). put_unless f i (layout_of w)) absent in
-    go (exceeds_a_limit (layout_counts (put_unless None i (layout_of w)).1)) refl (sym (ap (unless_past_limit w) put) ∙ sym (call_step i w o) ∙ e)
+    let put : ◌≡◌ {A = ℕ × Layout} (put_item i (layout_of w)) (put_unless_written None i (layout_of w)) = ap (λ (f : Option WrittenItem). put_unless_written f i (layout_of w)) absent in
+    go (exceeds_a_limit (layout_counts (put_unless_written None i (layout_of w)).1)) refl (sym (ap (unless_past_limit w) put) ∙ sym (call_step i w o) ∙ e)
   where
-    go : (b : Bool) → exceeds_a_limit (layout_counts (put_unless None i (layout_of w)).1) ≡ b
-        → ◌≡◌ {A = ℕ × Writing} (cond {A = ℕ × Writing} b (0, record (writing_of (put_unless None i (layout_of w)).1) { body = w.body; items = w.items }) ((put_unless None i (layout_of w)).0, writing_of (put_unless None i (layout_of w)).1)) (word, w) → ⊥
+    go : (b : Bool) → exceeds_a_limit (layout_counts (put_unless_written None i (layout_of w)).1) ≡ b
+        → ◌≡◌ {A = ℕ × Writing} (cond {A = ℕ × Writing} b (0, record (writing_of (put_unless_written None i (layout_of w)).1) { body = w.body; items = w.items }) ((put_unless_written None i (layout_of w)).0, writing_of (put_unless_written None i (layout_of w)).1)) (word, w) → ⊥
     go true q f = let over : true ≡ is_past_limit w = sym q ∙ ap (λ (r : ℕ × Writing). is_past_limit r.1) f in absurd cc
     go false q f =
         let zeros : List ℕ = replicate (gap i.align (end_offset (layout_of w))) 0 in
         let len : length (w.body ++ (zeros ++ i.bytes)) ≡ length w.body = ap (λ (r : ℕ × Writing). length r.1.body) f in
         absurd (omega (arith, len, some, length-append w.body (zeros ++ i.bytes), length-append zeros i.bytes))
 
-found_framed : (b : List ℕ) (there : WrittenItem) (w : Writing) → IsWholeWriting w → is_past_limit w ≡ false → find (is_equal_item w.body (blob_item b)) w.items ≡ Some there → HasLengthInFront (blob_item b)
+found_framed : (b : List ℕ) (there : WrittenItem) (w : Writing) → HasAllItemsInBytes w → is_past_limit w ≡ false → find (is_equal_item w.body (blob_item b)) w.items ≡ Some there → HasLengthInFront (blob_item b)
 found_framed b there w g o found =
     let equal = find-passes (is_equal_item w.body (blob_item b)) w.items there found in
     let long = blob_long b in
@@ -105,7 +105,7 @@ empty_call w = ap (λ (x : ℕ). (x, w)) (same (is_past_limit w))
     same true = refl
     same false = refl
 
-word_stays : (b : List ℕ) (word : ℕ) (w later : Writing) → IsWholeWriting w → IsWholeWriting later → Keeps (layout_of w) (layout_of later) → is_past_limit w ≡ false → is_past_limit later ≡ false
+word_stays : (b : List ℕ) (word : ℕ) (w later : Writing) → HasAllItemsInBytes w → HasAllItemsInBytes later → Keeps (layout_of w) (layout_of later) → is_past_limit w ≡ false → is_past_limit later ≡ false
     → ◌≡◌ {A = ℕ × Writing} (blob_call b w) (word, w) → ◌≡◌ {A = ℕ × Writing} (blob_call b later) (word, later)
 word_stays [] word w later g h k o p e =
     let zero : 0 ≡ word = ap (λ (r : ℕ × Writing). r.0) (sym (empty_call w) ∙ e) in
@@ -123,10 +123,10 @@ word_stays (y ∷ ys) word w later g h k o p e = go (find (is_equal_item w.body 
 
 -- what a call leaves of the words of blobs
 pub record LeavesWords (w later : Writing) : Type 0 where
-  pub whole : HasWholeItemsWithinLimit later
+  pub whole : HasAllItemsUnlessPastLimit later
   pub words : (b : List ℕ) (word : ℕ) → IsWordOfBlob w b word → IsWordOfBlob later b word
 
-kept : (c : Cell) (w : Writing) → (is_past_limit (call c w).1 ≡ false → IsFramedCell c) → HasWholeItemsWithinLimit w → LeavesWords w (call c w).1
+kept : (c : Cell) (w : Writing) → (is_past_limit (call c w).1 ≡ false → IsFramedCell c) → HasAllItemsUnlessPastLimit w → LeavesWords w (call c w).1
 kept c w framed h = record {
   whole = λ o. (left c w (framed o) (h (call_stored c w o).before) o).whole;
   words = λ b word is o.
@@ -135,23 +135,23 @@ kept c w framed h = record {
       word_stays b word w (call c w).1 (h before) l.whole l.keeps before o (is before);
 }
 
-pub int_keeps : (n : ℕ) (w : Writing) → HasWholeItemsWithinLimit w → LeavesWords w (int_call n w).1
+pub int_keeps : (n : ℕ) (w : Writing) → HasAllItemsUnlessPastLimit w → LeavesWords w (int_call n w).1
 int_keeps n w h = kept (int_cell n) w (λ o. int_cell_framed n) h
 
-pub blob_keeps : (b : List ℕ) (w : Writing) → HasWholeItemsWithinLimit w → LeavesWords w (blob_call b w).1
+pub blob_keeps : (b : List ℕ) (w : Writing) → HasAllItemsUnlessPastLimit w → LeavesWords w (blob_call b w).1
 blob_keeps b w h = kept (blob_cell b) w (blob_is_framed b w) h
 
-pub arr_keeps : (ws : List ℕ) (w : Writing) → HasWholeItemsWithinLimit w → LeavesWords w (arr_call ws w).1
+pub arr_keeps : (ws : List ℕ) (w : Writing) → HasAllItemsUnlessPastLimit w → LeavesWords w (arr_call ws w).1
 arr_keeps ws w h = kept (run_cell ARRAY ws) w (array_is_framed ws w) h
 
-pub obj_keeps : (ws : List ℕ) (w : Writing) → HasWholeItemsWithinLimit w → LeavesWords w (obj_call ws w).1
+pub obj_keeps : (ws : List ℕ) (w : Writing) → HasAllItemsUnlessPastLimit w → LeavesWords w (obj_call ws w).1
 obj_keeps ws w h = kept (run_cell OBJECT (trimmed_words ws)) w (object_is_framed (trimmed_words ws) w) h
 
-pub empty_whole : HasWholeItemsWithinLimit empty_writing
+pub empty_whole : HasAllItemsUnlessPastLimit empty_writing
 empty_whole o = record { whole = nothing_whole; bytes = refl }
 
 -- the answer is the blob's word from then on
-pub new_word : (b : List ℕ) (w : Writing) → HasWholeItemsWithinLimit w → IsWordOfBlob (blob_call b w).1 b (blob_call b w).0
+pub new_word : (b : List ℕ) (w : Writing) → HasAllItemsUnlessPastLimit w → IsWordOfBlob (blob_call b w).1 b (blob_call b w).0
 unfolding call
 new_word [] w h o = rw o refl
 new_word (y ∷ ys) w h o =

@@ -4,7 +4,7 @@ use Rattle.std.proofs.Common.{◌≡◌, ℕ, Bool, true, false, cond, List, [],
 use Rattle.std.specs.Prelude.{find}
 use Rattle.adb_view.specs.Plain.{Plain, null, int, blob, arr, obj, Plains, none, more}
 use Rattle.adb_view.specs.Readers.{ARRAY, OBJECT}
-use Rattle.adb_write.specs.Canonical.{Cell, in_place, apart, int_cell, blob_cell, run_cell, trimmed_words, Layout, empty_layout, put_cell, put_run, write, write_all, payload_with_root, canonical, PayloadCounts, layout_counts, exceeds_a_limit, counts_after_values, trace_all, overflow_of, or_overflow, written_of}
+use Rattle.adb_write.specs.Canonical.{Cell, in_place, apart, int_cell, blob_cell, run_cell, trimmed_words, Layout, empty_layout, put_cell, put_run, write, write_all, payload_with_root, canonical, PayloadCounts, layout_counts, exceeds_a_limit, counts_after_values, trace_all, overflow_of, or_overflow, payload_or_overflow}
 use Rattle.adb_write.specs.Writing.{Writing, empty_writing, writing_counts, is_past_limit, writing_of, call, finish_result, calls, calls_all}
 
 find-none : (xs ys : List PayloadCounts) → find exceeds_a_limit xs ≡ None → find exceeds_a_limit (xs ++ ys) ≡ find exceeds_a_limit ys
@@ -123,8 +123,8 @@ mutual
 pub start_fine : Within empty_layout
 start_fine = record { fine = refl }
 
-pub calls-written : (v : Plain) → finish_result (calls v empty_writing).0 (calls v empty_writing).1 ≡ written_of v
-unfolding written_of
+pub calls-written : (v : Plain) → finish_result (calls v empty_writing).0 (calls v empty_writing).1 ≡ payload_or_overflow v
+unfolding payload_or_overflow
 calls-written v = go (calls-end v empty_layout start_fine)
   where
     fitting : (r : ℕ × Writing) (s : ℕ × Layout) → r.0 ≡ s.0 → r.1 ≡ writing_of s.1 → Within s.1 → finish_result r.0 r.1 ≡ Ok (payload_with_root s.0 s.1)

@@ -6,7 +6,7 @@ use Rattle.std.proofs.lemmas.Bool.{cases_lt, lt-ltb, le-ltb, ltb-true, or_cases}
 use Rattle.std.proofs.Math.Bool.{or-true}
 use Rattle.adb_view.specs.Plain.{Plain, null, int, blob, arr, obj, Plains, none, more, IsNormal, AreNormal, count_of}
 use Rattle.adb_view.specs.Readers.{ARRAY, OBJECT}
-use Rattle.adb_write.specs.Canonical.{Item, WrittenItem, Cell, in_place, apart, int_cell, blob_cell, run_cell, trimmed_words, Layout, empty_layout, end_offset, is_equal_item, put_unless, put_cell, write, write_all, payload_with_root, PayloadCounts, layout_counts, exceeds_a_limit, counts_after_values, trace_all, overflow_of, canonical, or_overflow, written_of, MOST_BYTES, MOST_VALUES}
+use Rattle.adb_write.specs.Canonical.{Item, WrittenItem, Cell, in_place, apart, int_cell, blob_cell, run_cell, trimmed_words, Layout, empty_layout, end_offset, is_equal_item, put_unless_written, put_cell, write, write_all, payload_with_root, PayloadCounts, layout_counts, exceeds_a_limit, counts_after_values, trace_all, overflow_of, canonical, or_overflow, payload_or_overflow, MOST_BYTES, MOST_VALUES}
 use Rattle.adb_write.specs.Size.{size_of, entries_of, entries_of_all, value_count}
 use Rattle.adb_write.specs.Writing.{empty_writing, calls}
 use Rattle.adb_write.proofs.RoundTrip.{Grows-here, stored-grows, put_run-grows, write_all-grows, write_all-made, words_stay}
@@ -18,7 +18,7 @@ abbrev pub entries_in : Cell → ℕ
 entries_in (in_place w) = 0
 entries_in (apart i) = i.entries
 
-unless_values : (found : Option WrittenItem) (i : Item) (out : Layout) → (put_unless found i out).1.values ≡ out.values + i.entries
+unless_values : (found : Option WrittenItem) (i : Item) (out : Layout) → (put_unless_written found i out).1.values ≡ out.values + i.entries
 unless_values None i out = refl
 unless_values (Some there) i out = refl
 
@@ -173,8 +173,8 @@ overflow_exact v n = overflow_final v ∙ same
 
 -- ---- up to both limits
 
-pub fits_written : (v : Plain) → IsNormal v → size_of v < 2 ^ 28 → value_count v ≤ 2 ^ 22 → written_of v ≡ Ok (canonical v)
-unfolding written_of
+pub fits_written : (v : Plain) → IsNormal v → size_of v < 2 ^ 28 → value_count v ≤ 2 ^ 22 → payload_or_overflow v ≡ Ok (canonical v)
+unfolding payload_or_overflow
 fits_written v n size values = ap (or_overflow (canonical v)) (nothing (overflow_of v) (overflow_exact v n ∙ fine))
   where
     fine : exceeds_a_limit (size_of v, value_count v) ≡ false

@@ -8,7 +8,7 @@ use Rattle.std.specs.declared.cmp.Ordering.{Ordering}
 use Rattle.std.specs.declared.cmp.Ordering.TheVariants.{Less}
 use Rattle.std.proofs.lemmas.Cmp.{nat_list_cmp_total}
 use Rattle.std.proofs.lemmas.List.Sorted.{searchable_from_sorted}
-use Rattle.adb_write.specs.Keys.{key_at, HaveRisingKeys}
+use Rattle.adb_write.specs.Keys.{key_of_locator, HaveRisingKeys}
 
 abbrev pub cmp : List ℕ → List ℕ → Ordering
 cmp = slice_cmp nat_cmp
@@ -67,11 +67,11 @@ all_back P (x ∷ xs) (suc i) h = all_back P xs i (λ k d low high. h (suc k) d 
 
 -- a word is below another
 abbrev pub IsBelow : List ℕ → ℕ → ℕ → Type 0
-IsBelow p v w = cmp (key_at p v) (key_at p w) ≡ Less
+IsBelow p v w = cmp (key_of_locator p v) (key_of_locator p w) ≡ Less
 
 pub rising_head : (p : List ℕ) (w : ℕ) (ws : List ℕ) → HaveRisingKeys p (w ∷ ws) → AllByRecursion (IsBelow p w) ws
 unfolding IsStrictlySortedBy
-rising_head p w ws r = all_mapped (key_at p) (λ k. cmp (key_at p w) k ≡ Less) ws r.0
+rising_head p w ws r = all_mapped (key_of_locator p) (λ k. cmp (key_of_locator p w) k ≡ Less) ws r.0
 
 pub rising_rest : (p : List ℕ) (w : ℕ) (ws : List ℕ) → HaveRisingKeys p (w ∷ ws) → HaveRisingKeys p ws
 unfolding IsStrictlySortedBy
@@ -79,7 +79,7 @@ rising_rest p w ws r = r.1
 
 pub rising_more : (p : List ℕ) (w : ℕ) (ws : List ℕ) → AllByRecursion (IsBelow p w) ws → HaveRisingKeys p ws → HaveRisingKeys p (w ∷ ws)
 unfolding IsStrictlySortedBy
-rising_more p w ws a r = (map_all (key_at p) (λ k. cmp (key_at p w) k ≡ Less) ws a, r)
+rising_more p w ws a r = (map_all (key_of_locator p) (λ k. cmp (key_of_locator p w) k ≡ Less) ws a, r)
 
 pub rising_none : (p : List ℕ) → HaveRisingKeys p []
 unfolding IsStrictlySortedBy
@@ -113,10 +113,10 @@ rising_pair p (w ∷ ws) r (suc i) zero d less within = absurd (omega arith)
 rising_pair p (w ∷ ws) r (suc i) (suc j) d less within = rising_pair p ws (rising_rest p w ws r) i j d (omega arith) (omega arith)
 
 -- rising words may be searched in halves
-pub searchable : (p : List ℕ) (ws key : List ℕ) → HaveRisingKeys p ws → IsNonDecreasingBy (λ w. ordering_index (ordering_reverse (cmp key (key_at p w)))) ws
+pub searchable : (p : List ℕ) (ws key : List ℕ) → HaveRisingKeys p ws → IsNonDecreasingBy (λ w. ordering_index (ordering_reverse (cmp key (key_of_locator p w)))) ws
 searchable p ws key r i j d upto within =
-    let by = searchable_from_sorted nat_list_cmp_total (key_at p) ws key (λ k d low high. ap is_lt (flipped (key_at p (get_or ws k d)) (key_at p (get_or ws (k + 1) d)) Less (rising_pair p ws r k (k + 1) d (omega arith) high))) i j d upto within in
-    omega (arith, ap ordering_index (nat_list_cmp_total.antisymm (key_at p (get_or ws i d)) key), ap ordering_index (nat_list_cmp_total.antisymm (key_at p (get_or ws j d)) key))
+    let by = searchable_from_sorted nat_list_cmp_total (key_of_locator p) ws key (λ k d low high. ap is_lt (flipped (key_of_locator p (get_or ws k d)) (key_of_locator p (get_or ws (k + 1) d)) Less (rising_pair p ws r k (k + 1) d (omega arith) high))) i j d upto within in
+    omega (arith, ap ordering_index (nat_list_cmp_total.antisymm (key_of_locator p (get_or ws i d)) key), ap ordering_index (nat_list_cmp_total.antisymm (key_of_locator p (get_or ws j d)) key))
 
 -- ---- three keys
 

@@ -8,8 +8,8 @@ use Rattle.std.proofs.lemmas.List.{append-nil, take_at, drop_at, length-append, 
 use Rattle.adb_view.specs.Bytes.{range_at, number_at, words}
 use Rattle.adb_view.specs.Plain.{IsNormal, AreNormal, Plain, null, int, blob, arr, obj, Plains, none, more, without_last_nulls, blob_or_null, arr_value, obj_of, obj_value, Shape, number, text, hash, array, object, Fields, no_fields, field, unless_null, from_answer, each_plain, plain_of, plains_of, value_of}
 use Rattle.adb_view.specs.Head.{root_of}
-use Rattle.adb_view.specs.Readers.{kind_of, low_of, or_outside, counted_at, counted_words, run_at, int_of, blob_of, run_of, ARRAY, OBJECT}
-use Rattle.adb_write.specs.Canonical.{gap, Item, WrittenItem, Cell, in_place, apart, int_cell, blob_cell, run_cell, run_bytes, keep_word, trimmed_words, Layout, empty_layout, end_offset, is_equal_item, word_of_item, put_new, put_unless, put_item, put_cell, put_run, write, write_all, payload_with_root, canonical, MOST_BYTES}
+use Rattle.adb_view.specs.Readers.{kind_of, low_of, or_outside_cause, counted_at, counted_words, run_at, int_of, blob_of, run_of, ARRAY, OBJECT}
+use Rattle.adb_write.specs.Canonical.{gap, Item, WrittenItem, Cell, in_place, apart, int_cell, blob_cell, run_cell, run_bytes, prepend_unless_last_null, trimmed_words, Layout, empty_layout, end_offset, is_equal_item, word_of_item, put_new, put_unless_written, put_item, put_cell, put_run, write, write_all, payload_with_root, canonical, MOST_BYTES}
 use Rattle.adb_view.specs.Shaped.{Each, HasShape, HaveShapes}
 use Rattle.adb_view.proofs.Normal.{trimmed-more}
 use Rattle.adb_write.specs.Denotes.{Holds, HoldAll, IsWordOf}
@@ -61,12 +61,12 @@ run_at-append p q at ws e =
     let (n, is, y) = some_then (counted_words p at) (number_at w32 p at) ws e in
     ap (option_and_then (counted_words (p ++ q) at)) (number_at-append w32 p q at n is) ∙ counted_words-append p q at n ws y
 
-inside_ok : {A : Type 0} (w : ℕ) (o : Option A) (x : A) → or_outside w o ≡ Ok x → o ≡ Some x
+inside_ok : {A : Type 0} (w : ℕ) (o : Option A) (x : A) → or_outside_cause w o ≡ Ok x → o ≡ Some x
 inside_ok w (Some y) x e = cc
 inside_ok w None x e = absurd cc
 
-inside-append : {A : Type 0} (w : ℕ) (o o' : Option A) (x : A) → ((y : A) → o ≡ Some y → o' ≡ Some y) → or_outside w o ≡ Ok x → or_outside w o' ≡ Ok x
-inside-append w o o' x h e = ap (or_outside w) (h x (inside_ok w o x e))
+inside-append : {A : Type 0} (w : ℕ) (o o' : Option A) (x : A) → ((y : A) → o ≡ Some y → o' ≡ Some y) → or_outside_cause w o ≡ Ok x → or_outside_cause w o' ≡ Ok x
+inside-append w o o' x h e = ap (or_outside_cause w) (h x (inside_ok w o x e))
 
 -- one test of a reader, the same on both sides
 test_same : {A : Type 0} (b : Bool) (x x' y y' : A) (z : A) → (x ≡ z → x' ≡ z) → (y ≡ z → y' ≡ z) → cond b x y ≡ z → cond b x' y' ≡ z
@@ -194,7 +194,7 @@ Grows-then a b c p q = record { more = p.more ++ q.more; is = q.is ∙ ap (λ (x
 pub Grows-here : (a b : Layout) → Grows a b → end_offset a ≤ end_offset b
 Grows-here a b g = omega (arith, ap length g.is, length-append a.body g.more)
 
-unless-grows : (found : Option WrittenItem) (i : Item) (out : Layout) → Grows out (put_unless found i out).1
+unless-grows : (found : Option WrittenItem) (i : Item) (out : Layout) → Grows out (put_unless_written found i out).1
 unless-grows None i out = record { more = replicate (gap i.align (end_offset out)) 0 ++ i.bytes; is = refl }
 unless-grows (Some there) i out = record { more = []; is = sym (append-nil out.body) }
 
@@ -267,8 +267,8 @@ found_leads i out root there pos few some fits e =
 pub placed_leads : (i : Item) (out : Layout) (root : ℕ) → 0 < i.kind → i.kind < 15 → 0 < length i.bytes → end_offset (put_item i out).1 ≤ MOST_BYTES → Leads (payload_with_root root (put_item i out).1) i (put_item i out).0
 placed_leads i out root pos few some fits = go (find (is_equal_item out.body i) out.items) refl fits
   where
-    go : (found : Option WrittenItem) → find (is_equal_item out.body i) out.items ≡ found → end_offset (put_unless found i out).1 ≤ MOST_BYTES
-        → Leads (payload_with_root root (put_unless found i out).1) i (put_unless found i out).0
+    go : (found : Option WrittenItem) → find (is_equal_item out.body i) out.items ≡ found → end_offset (put_unless_written found i out).1 ≤ MOST_BYTES
+        → Leads (payload_with_root root (put_unless_written found i out).1) i (put_unless_written found i out).0
     go None is within = new_leads i out root pos few within
     go (Some there) is within = found_leads i out root there pos few some within (find-passes (is_equal_item out.body i) out.items there is)
 
@@ -368,7 +368,7 @@ new_len i out =
 pub item_within : (i : Item) (out : Layout) → 0 < length i.bytes → length i.bytes ≤ end_offset (put_item i out).1
 item_within i out some = go (find (is_equal_item out.body i) out.items) refl
   where
-    go : (found : Option WrittenItem) → find (is_equal_item out.body i) out.items ≡ found → length i.bytes ≤ end_offset (put_unless found i out).1
+    go : (found : Option WrittenItem) → find (is_equal_item out.body i) out.items ≡ found → length i.bytes ≤ end_offset (put_unless_written found i out).1
     go None is = omega (arith, new_len i out)
     go (Some there) is = omega (arith, equal_within out.body there.offset i.bytes some (equal_bytes out.body i there (find-passes (is_equal_item out.body i) out.items there is)))
 
@@ -430,9 +430,9 @@ not_null_word p (blob b) w ne h = h.0
 not_null_word p (arr vs) w ne h = h.0
 not_null_word p (obj vs) w ne h = h.0
 
-keep_word-is : (w : ℕ) (ws : List ℕ) → (ws ≡ [] → w ≢ 0) → keep_word w ws ≡ w ∷ ws
-keep_word-is w (v ∷ vs) h = refl
-keep_word-is w [] h = let t : eqb w 0 ≡ false = ne_eqb w 0 (h refl) in rw t refl
+prepend_unless_last_null-is : (w : ℕ) (ws : List ℕ) → (ws ≡ [] → w ≢ 0) → prepend_unless_last_null w ws ≡ w ∷ ws
+prepend_unless_last_null-is w (v ∷ vs) h = refl
+prepend_unless_last_null-is w [] h = let t : eqb w 0 ≡ false = ne_eqb w 0 (h refl) in rw t refl
 
 pub words_stay : (p : List ℕ) (vs : Plains) (ws : List ℕ) → without_last_nulls vs ≡ vs → HoldAll p vs ws → trimmed_words ws ≡ ws
 unfolding Holds
@@ -441,7 +441,7 @@ words_stay p none (w ∷ ws) e h = absurd h
 words_stay p (more v vs) [] e h = absurd h
 words_stay p (more v vs) (w ∷ ws) e h =
     let t = trimmed-more v vs e in
-    ap (keep_word w) (words_stay p vs ws t.0 h.1) ∙ keep_word-is w ws (last vs ws t.1 h.1)
+    ap (prepend_unless_last_null w) (words_stay p vs ws t.0 h.1) ∙ prepend_unless_last_null-is w ws (last vs ws t.1 h.1)
   where
     last : (us : Plains) (xs : List ℕ) → ((us ≡ none) → v ≢ null) → HoldAll p us xs → xs ≡ [] → w ≢ 0
     last none [] n a e = not_null_word p v w (n refl) h.0

@@ -18,8 +18,8 @@ use Rattle.adb_write.specs.declared.item.ListKind.{ListKind}
 use Rattle.adb_write.specs.declared.item.ListKind.TheVariants.{Array, Object}
 use Rattle.adb_write.specs.declared.item.Parts.{Parts}
 use Rattle.adb_write.specs.declared.item.Parts.TheVariants.{Int, Blob, List as Listed}
-use Rattle.adb_write.specs.Keys.{low_words, content_of, content_key_of, key_of, content_at, content_key_at, key_at, single_or_empty, blob_fingerprint, list_fingerprint, fingerprint_of, fingerprint_of_locator, word_of_locator}
-use Rattle.adb_write.specs.WriterState.{Stored, stored_int, stored_blob, stored_list, item_of_stored, fingerprint_of_stored, IsSmall, IsStoredAt, IsStored, written_item}
+use Rattle.adb_write.specs.Keys.{low_words, comparison_numbers, kind_and_comparison_numbers, key_of, comparison_numbers_at, kind_and_comparison_numbers_at, key_of_locator, single_or_empty, blob_fingerprint, list_fingerprint, fingerprint_of, fingerprint_of_locator, word_of_locator}
+use Rattle.adb_write.specs.WriterState.{Stored, stored_int, stored_blob, stored_list, item_of_stored, fingerprint_of_stored, HasNumbersThatFit, IsStoredAt, IsStored, written_item}
 use Rattle.adb_write.proofs.Rising.{cmp}
 use Rattle.adb_write.proofs.Placed.{words_len}
 use Rattle.adb_write.proofs.Found.{equal_kind, equal_bytes, equal_within}
@@ -78,7 +78,7 @@ read_blob p w b small =
           ]
     ]
 
-pub read_content : (p : List ℕ) (w : ℕ) (s : Stored) → IsSmall s → Leads p (item_of_stored s) w → content_at (item_of_stored s).kind p w ≡ content_of_stored s
+pub read_content : (p : List ℕ) (w : ℕ) (s : Stored) → HasNumbersThatFit s → Leads p (item_of_stored s) w → comparison_numbers_at (item_of_stored s).kind p w ≡ content_of_stored s
 read_content p w (stored_int n) small l =
     elim (int_kind n) [
       | inl k ↦ rw k (ap single_or_empty (read_int p w n small l))
@@ -147,13 +147,13 @@ placed_leads p what w s =
       );
     }
 
-placed_key : (p : List ℕ) (what : Stored) (w : ℕ) → IsStoredAt p what w → content_key_at p w ≡ (item_of_stored what).kind ∷ content_of_stored what
+placed_key : (p : List ℕ) (what : Stored) (w : ℕ) → IsStoredAt p what w → kind_and_comparison_numbers_at p w ≡ (item_of_stored what).kind ∷ content_of_stored what
 placed_key p what w s =
-    ap (λ (k : ℕ). k ∷ content_at k p w) s.kind ∙ ap (λ (c : List ℕ). (item_of_stored what).kind ∷ c) (read_content p w what s.small (placed_leads p what w s))
+    ap (λ (k : ℕ). k ∷ comparison_numbers_at k p w) s.kind ∙ ap (λ (c : List ℕ). (item_of_stored what).kind ∷ c) (read_content p w what s.small (placed_leads p what w s))
 
-stored_key : (p : List ℕ) (l : ℕ) → (s : IsStored p l) → key_at p l ≡ fingerprint_of_stored s.what ∷ (item_of_stored s.what).kind ∷ content_of_stored s.what
+stored_key : (p : List ℕ) (l : ℕ) → (s : IsStored p l) → key_of_locator p l ≡ fingerprint_of_stored s.what ∷ (item_of_stored s.what).kind ∷ content_of_stored s.what
 stored_key p l s =
-    ap (λ (f : ℕ). f ∷ content_key_at p (word_of_locator l)) s.fingerprint ∙ ap (λ (c : List ℕ). fingerprint_of_stored s.what ∷ c) (placed_key p s.what (word_of_locator l) s.stored)
+    ap (λ (f : ℕ). f ∷ kind_and_comparison_numbers_at p (word_of_locator l)) s.fingerprint ∙ ap (λ (c : List ℕ). fingerprint_of_stored s.what ∷ c) (placed_key p s.what (word_of_locator l) s.stored)
 
 -- more bytes at the end change nothing
 placed_more : (p q : List ℕ) (what : Stored) (w : ℕ) → IsStoredAt p what w → IsStoredAt (p ++ q) what w
@@ -170,7 +170,7 @@ placed_more p q what w s =
 pub stored_more : (p q : List ℕ) (l : ℕ) → IsStored p l → IsStored (p ++ q) l
 stored_more p q l s = record { what = s.what; fingerprint = s.fingerprint; stored = placed_more p q s.what (word_of_locator l) s.stored }
 
-pub key_more : (p q : List ℕ) (w : ℕ) → IsStored p w → key_at (p ++ q) w ≡ key_at p w
+pub key_more : (p q : List ℕ) (w : ℕ) → IsStored p w → key_of_locator (p ++ q) w ≡ key_of_locator p w
 unfolding stored_more
 key_more p q w s = stored_key (p ++ q) w (stored_more p q w s) ∙ sym (stored_key p w s)
 
@@ -208,7 +208,7 @@ parts_bytes (Int n) = refl
 parts_bytes (Blob b) = refl
 parts_bytes (Listed kind ws) = low_run ws.now
 
-pub parts_content : (parts : Parts) → content_of_stored (stored_of parts) ≡ content_of parts
+pub parts_content : (parts : Parts) → content_of_stored (stored_of parts) ≡ comparison_numbers parts
 parts_content (Int n) = refl
 parts_content (Blob b) = refl
 parts_content (Listed kind ws) = refl
@@ -217,7 +217,7 @@ low_small : (ws : List ℕ) → AllByRecursion (λ w. w < 2 ^ 32) (low_words ws)
 low_small [] = tt
 low_small (w ∷ ws) = (omega arith, low_small ws)
 
-pub parts_small : (parts : Parts) → HasNumbersInRange parts → length (item_of parts).bytes ≤ MOST_BYTES → IsSmall (stored_of parts)
+pub parts_small : (parts : Parts) → HasNumbersInRange parts → length (item_of parts).bytes ≤ MOST_BYTES → HasNumbersThatFit (stored_of parts)
 parts_small (Int n) room few = room
 parts_small (Blob b) room few = omega (arith, blob_long b.now)
 parts_small (Listed kind ws) room few = (low_small ws.now, omega (arith, run_long ws.now, length-map ws.now (λ w. w % 2 ^ 32)))
@@ -232,7 +232,7 @@ parts_fingerprint (Blob b) = refl
 parts_fingerprint (Listed kind ws) = refl
 
 -- a word of this kind, at whose offset the bytes stand
-parts_placed : (p : List ℕ) (w : ℕ) (parts : Parts) → IsSmall (stored_of parts) → kind_of w ≡ (item_of parts).kind → 8 ≤ low_of w → take (length (item_of parts).bytes) (drop (low_of w) p) ≡ (item_of parts).bytes → IsStoredAt p (stored_of parts) w
+parts_placed : (p : List ℕ) (w : ℕ) (parts : Parts) → HasNumbersThatFit (stored_of parts) → kind_of w ≡ (item_of parts).kind → 8 ≤ low_of w → take (length (item_of parts).bytes) (drop (low_of w) p) ≡ (item_of parts).bytes → IsStoredAt p (stored_of parts) w
 parts_placed p w parts small kind head there = record {
   small = small;
   kind = kind ∙ sym (parts_kind parts);
@@ -240,24 +240,24 @@ parts_placed p w parts small kind head there = record {
   there = subst (λ (b : List ℕ). take (length b) (drop (low_of w) p) ≡ b) (sym (parts_bytes parts)) there;
 }
 
-pub parts_stored : (p : List ℕ) (l : ℕ) (parts : Parts) → IsSmall (stored_of parts) → fingerprint_of_locator l ≡ fingerprint_of parts → kind_of (word_of_locator l) ≡ (item_of parts).kind → 8 ≤ low_of (word_of_locator l)
+pub parts_stored : (p : List ℕ) (l : ℕ) (parts : Parts) → HasNumbersThatFit (stored_of parts) → fingerprint_of_locator l ≡ fingerprint_of parts → kind_of (word_of_locator l) ≡ (item_of parts).kind → 8 ≤ low_of (word_of_locator l)
     → take (length (item_of parts).bytes) (drop (low_of (word_of_locator l)) p) ≡ (item_of parts).bytes → IsStored p l
 parts_stored p l parts small print kind head there =
     record { what = stored_of parts; fingerprint = print ∙ sym (parts_fingerprint parts); stored = parts_placed p (word_of_locator l) parts small kind head there }
 
-parts_content_key : (p : List ℕ) (w : ℕ) (parts : Parts) → IsSmall (stored_of parts) → kind_of w ≡ (item_of parts).kind → 8 ≤ low_of w → take (length (item_of parts).bytes) (drop (low_of w) p) ≡ (item_of parts).bytes → content_key_at p w ≡ content_key_of parts
+parts_content_key : (p : List ℕ) (w : ℕ) (parts : Parts) → HasNumbersThatFit (stored_of parts) → kind_of w ≡ (item_of parts).kind → 8 ≤ low_of w → take (length (item_of parts).bytes) (drop (low_of w) p) ≡ (item_of parts).bytes → kind_and_comparison_numbers_at p w ≡ kind_and_comparison_numbers parts
 parts_content_key p w parts small kind head there =
     placed_key p (stored_of parts) w (parts_placed p w parts small kind head there)
     ∙ ap (λ (k : ℕ). k ∷ content_of_stored (stored_of parts)) (parts_kind parts) ∙ ap (λ (c : List ℕ). (item_of parts).kind ∷ c) (parts_content parts)
 
-pub parts_key : (p : List ℕ) (l : ℕ) (parts : Parts) → IsSmall (stored_of parts) → fingerprint_of_locator l ≡ fingerprint_of parts → kind_of (word_of_locator l) ≡ (item_of parts).kind → 8 ≤ low_of (word_of_locator l)
-    → take (length (item_of parts).bytes) (drop (low_of (word_of_locator l)) p) ≡ (item_of parts).bytes → key_at p l ≡ key_of parts
+pub parts_key : (p : List ℕ) (l : ℕ) (parts : Parts) → HasNumbersThatFit (stored_of parts) → fingerprint_of_locator l ≡ fingerprint_of parts → kind_of (word_of_locator l) ≡ (item_of parts).kind → 8 ≤ low_of (word_of_locator l)
+    → take (length (item_of parts).bytes) (drop (low_of (word_of_locator l)) p) ≡ (item_of parts).bytes → key_of_locator p l ≡ key_of parts
 parts_key p l parts small print kind head there =
-    ap (λ (f : ℕ). f ∷ content_key_at p (word_of_locator l)) print ∙ ap (λ (c : List ℕ). fingerprint_of parts ∷ c) (parts_content_key p (word_of_locator l) parts small kind head there)
+    ap (λ (f : ℕ). f ∷ kind_and_comparison_numbers_at p (word_of_locator l)) print ∙ ap (λ (c : List ℕ). fingerprint_of parts ∷ c) (parts_content_key p (word_of_locator l) parts small kind head there)
 
 -- ---- equal items have one key, and the other way round
 
-same_fingerprint : (parts : Parts) (s : Stored) → (item_of parts).kind ≡ (item_of_stored s).kind → content_of parts ≡ content_of_stored s → fingerprint_of parts ≡ fingerprint_of_stored s
+same_fingerprint : (parts : Parts) (s : Stored) → (item_of parts).kind ≡ (item_of_stored s).kind → comparison_numbers parts ≡ content_of_stored s → fingerprint_of parts ≡ fingerprint_of_stored s
 same_fingerprint (Int n) (stored_int m) k c = let same : n ≡ m = cc in ap (λ (x : ℕ). x % 2 ^ 32) same
 same_fingerprint (Int n) (stored_blob b) k c = absurd (elim (int_kind n) [ inl i ↦ omega (arith, (blob_kind b).0) | inr i ↦ omega (arith, (blob_kind b).0) ])
 same_fingerprint (Int n) (stored_list kind ws) k c = absurd (elim (int_kind n) [ inl i ↦ omega (arith, list_kinds kind) | inr i ↦ omega (arith, list_kinds kind) ])
@@ -273,7 +273,7 @@ same_fingerprint (Listed kind ws) (stored_list other vs) k c =
 there_is : (p : List ℕ) (w : ℕ) → 8 ≤ low_of w → drop (low_of w - 8) (drop 8 p) ≡ drop (low_of w) p
 there_is p w head = drop-drop (low_of w - 8) 8 p ∙ ap (λ (k : ℕ). drop k p) (omega arith)
 
-pub equal_key : (p : List ℕ) (l : ℕ) (parts : Parts) → IsStored p l → HasNumbersInRange parts → length p ≤ MOST_BYTES → is_equal_item (drop 8 p) (item_of parts) (written_item l) ≡ true → cmp (key_of parts) (key_at p l) ≡ Equal
+pub equal_key : (p : List ℕ) (l : ℕ) (parts : Parts) → IsStored p l → HasNumbersInRange parts → length p ≤ MOST_BYTES → is_equal_item (drop 8 p) (item_of parts) (written_item l) ≡ true → cmp (key_of parts) (key_of_locator p l) ≡ Equal
 equal_key p l parts s room few e =
     let w : ℕ = word_of_locator l in
     let head = s.stored.behind_head in
@@ -282,13 +282,13 @@ equal_key p l parts s room few e =
     let ends = equal_within p (low_of w) (item_of parts).bytes (parts_some parts) there in
     let small = parts_small parts room (omega arith) in
     let kind : kind_of w ≡ (item_of parts).kind = equal_kind (drop 8 p) (item_of parts) (written_item l) e in
-    let same : content_key_of parts ≡ (item_of_stored s.what).kind ∷ content_of_stored s.what = sym (parts_content_key p w parts small kind head there) ∙ placed_key p s.what w s.stored in
+    let same : kind_and_comparison_numbers parts ≡ (item_of_stored s.what).kind ∷ content_of_stored s.what = sym (parts_content_key p w parts small kind head there) ∙ placed_key p s.what w s.stored in
     let kinds : (item_of parts).kind ≡ (item_of_stored s.what).kind = cc in
-    let contents : content_of parts ≡ content_of_stored s.what = cc in
+    let contents : comparison_numbers parts ≡ content_of_stored s.what = cc in
     let print : fingerprint_of_locator l ≡ fingerprint_of parts = s.fingerprint ∙ sym (same_fingerprint parts s.what kinds contents) in
     ap (cmp (key_of parts)) (parts_key p l parts small print kind head there) ∙ tied_itself nat_list_cmp_total (key_of parts)
 
-same_bytes : (parts : Parts) (s : Stored) → (item_of parts).kind ≡ (item_of_stored s).kind → content_of parts ≡ content_of_stored s → (item_of parts).bytes ≡ (item_of_stored s).bytes
+same_bytes : (parts : Parts) (s : Stored) → (item_of parts).kind ≡ (item_of_stored s).kind → comparison_numbers parts ≡ content_of_stored s → (item_of parts).bytes ≡ (item_of_stored s).bytes
 same_bytes (Int n) (stored_int m) k c = let same : n ≡ m = cc in ap (λ (x : ℕ). (int_item x).bytes) same
 same_bytes (Int n) (stored_blob b) k c = absurd (elim (int_kind n) [ inl i ↦ omega (arith, (blob_kind b).0) | inr i ↦ omega (arith, (blob_kind b).0) ])
 same_bytes (Int n) (stored_list kind ws) k c = absurd (elim (int_kind n) [ inl i ↦ omega (arith, list_kinds kind) | inr i ↦ omega (arith, list_kinds kind) ])
@@ -301,12 +301,12 @@ same_bytes (Listed kind ws) (stored_list other vs) k c =
     let same : low_words ws.now ≡ vs = sym (reverse-reverse (low_words ws.now)) ∙ (ap reverse c ∙ reverse-reverse vs) in
     sym (low_run ws.now) ∙ ap run_bytes same
 
-pub key_equal : (p : List ℕ) (l : ℕ) (parts : Parts) → IsStored p l → cmp (key_of parts) (key_at p l) ≡ Equal → is_equal_item (drop 8 p) (item_of parts) (written_item l) ≡ true
+pub key_equal : (p : List ℕ) (l : ℕ) (parts : Parts) → IsStored p l → cmp (key_of parts) (key_of_locator p l) ≡ Equal → is_equal_item (drop 8 p) (item_of parts) (written_item l) ≡ true
 key_equal p l parts s e =
     let w : ℕ = word_of_locator l in
-    let same : fingerprint_of parts ∷ (item_of parts).kind ∷ content_of parts ≡ fingerprint_of_stored s.what ∷ (item_of_stored s.what).kind ∷ content_of_stored s.what = exact_bytes (key_of parts) (key_at p l) e ∙ stored_key p l s in
+    let same : fingerprint_of parts ∷ (item_of parts).kind ∷ comparison_numbers parts ≡ fingerprint_of_stored s.what ∷ (item_of_stored s.what).kind ∷ content_of_stored s.what = exact_bytes (key_of parts) (key_of_locator p l) e ∙ stored_key p l s in
     let kinds : (item_of parts).kind ≡ (item_of_stored s.what).kind = cc in
-    let contents : content_of parts ≡ content_of_stored s.what = cc in
+    let contents : comparison_numbers parts ≡ content_of_stored s.what = cc in
     let bytes : (item_of parts).bytes ≡ (item_of_stored s.what).bytes = same_bytes parts s.what kinds contents in
     let there : take (length (item_of parts).bytes) (drop (low_of w - 8) (drop 8 p)) ≡ (item_of parts).bytes =
     ap (take (length (item_of parts).bytes)) (there_is p w s.stored.behind_head) ∙ ap (λ (b : List ℕ). take (length b) (drop (low_of w) p)) bytes ∙ s.stored.there ∙ sym bytes in

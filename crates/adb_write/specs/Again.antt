@@ -10,13 +10,13 @@ use Rattle.adb_write.specs.Writing.{Writing, blob_call, is_past_limit, layout_of
 
 -- how many bytes at the front of an item of this kind give its length (the kinds 8 and 9 are blobs
 -- whose length has 1 or 2 bytes)
-abbrev pub front_len : ℕ → ℕ
-front_len kind = if kind == 8 then 1 else if kind == 9 then 2 else 4
+abbrev pub len_of_length_field : ℕ → ℕ
+len_of_length_field kind = if kind == 8 then 1 else if kind == 9 then 2 else 4
 
 -- the length in bytes of an item of this kind by its first bytes: an integer of 4 or 8 (kinds 2, 3), a
 -- blob with its length in 1, 2 or 4 bytes (8, 9, 10), or a run of words of 4
-abbrev pub len_by : ℕ → List ℕ → ℕ
-len_by kind front =
+abbrev pub item_len_from_front : ℕ → List ℕ → ℕ
+item_len_from_front kind front =
     if kind == 2 then 4 else
     if kind == 3 then 8 else
     if kind == 8 then 1 + from_le_bytes w8 front else
@@ -29,28 +29,28 @@ pub record HasLengthInFront (i : Item) : Type 0 where
   -- it has bytes
   pub some : 0 < length i.bytes
   -- the bytes that give its length are all there
-  pub long : front_len i.kind ≤ length i.bytes
+  pub long : len_of_length_field i.kind ≤ length i.bytes
   -- and its length is the one that they give
-  pub len : length i.bytes ≡ len_by i.kind (take (front_len i.kind) i.bytes)
+  pub len : length i.bytes ≡ item_len_from_front i.kind (take (len_of_length_field i.kind) i.bytes)
 
 -- an item that gives its length is at the place of the written item
-pub record IsThere (body : List ℕ) (x : WrittenItem) : Type 0 where
+pub record IsItemInBytes (body : List ℕ) (x : WrittenItem) : Type 0 where
   pub what : Item
   pub framed : HasLengthInFront what
   pub equal : is_equal_item body what x ≡ true
 
 -- each written item of a layout is in its bytes
 pub record HasItemsInBytes (out : Layout) : Type 0 where
-  pub all : AllByRecursion (IsThere out.body) out.items
+  pub all : AllByRecursion (IsItemInBytes out.body) out.items
 
 -- each written item of a writer is in its bytes, which are counted with the head of 8
-pub record IsWholeWriting (w : Writing) : Type 0 where
+pub record HasAllItemsInBytes (w : Writing) : Type 0 where
   pub whole : HasItemsInBytes (layout_of w)
   pub bytes : w.bytes ≡ 8 + length w.body
 
 -- unless it passed a limit, a writer has all its items
-abbrev pub HasWholeItemsWithinLimit : Writing → Type 0
-HasWholeItemsWithinLimit w = is_past_limit w ≡ false → IsWholeWriting w
+abbrev pub HasAllItemsUnlessPastLimit : Writing → Type 0
+HasAllItemsUnlessPastLimit w = is_past_limit w ≡ false → HasAllItemsInBytes w
 
 -- unless the writer passed a limit, a call for this blob returns this word and changes nothing
 abbrev pub IsWordOfBlob : Writing → List ℕ → ℕ → Type 0

@@ -68,14 +68,14 @@ run_cell kind [] = in_place 0
 run_cell kind (w ∷ ws) = apart (run_item kind (w ∷ ws))
 
 -- words with one more in front, which is dropped if it is NULL and would be last
-abbrev pub keep_word : ℕ → List ℕ → List ℕ
-keep_word w (v ∷ vs) = w ∷ v ∷ vs
-keep_word w [] = if w == 0 then [] else w ∷ []
+abbrev pub prepend_unless_last_null : ℕ → List ℕ → List ℕ
+prepend_unless_last_null w (v ∷ vs) = w ∷ v ∷ vs
+prepend_unless_last_null w [] = if w == 0 then [] else w ∷ []
 
 -- the words of an object without the NULLs at the end
 abbrev pub trimmed_words : List ℕ → List ℕ
 trimmed_words [] = []
-trimmed_words (w ∷ ws) = keep_word w (trimmed_words ws)
+trimmed_words (w ∷ ws) = prepend_unless_last_null w (trimmed_words ws)
 
 -- ---- the layout so far
 
@@ -131,14 +131,14 @@ put_new i out = (
 
 -- the word of an item, and the layout with it; one that is equal to a written one has that one's word,
 -- and only its entries are counted
-abbrev pub put_unless : Option WrittenItem → Item → Layout → ℕ × Layout
-put_unless None i out = put_new i out
-put_unless (Some there) i out =
+abbrev pub put_unless_written : Option WrittenItem → Item → Layout → ℕ × Layout
+put_unless_written None i out = put_new i out
+put_unless_written (Some there) i out =
     (word_of_item there, record out { values = out.values + i.entries })
 
 -- the word of an item, and the layout with it: it is written unless an equal one was
 abbrev pub put_item : Item → Layout → ℕ × Layout
-put_item i out = put_unless (find (is_equal_item out.body i) out.items) i out
+put_item i out = put_unless_written (find (is_equal_item out.body i) out.items) i out
 
 -- the word of a value, and the layout with its bytes outside the word
 abbrev pub put_cell : Cell → Layout → ℕ × Layout
@@ -215,5 +215,5 @@ or_overflow payload None = Ok payload
 or_overflow payload (Some counts) = Err counts
 
 -- the result of writing a value: its canonical payload, or the counts at which it overflows
-unfoldable pub written_of : Plain → Result (List ℕ) PayloadCounts
-written_of v = or_overflow (canonical v) (overflow_of v)
+unfoldable pub payload_or_overflow : Plain → Result (List ℕ) PayloadCounts
+payload_or_overflow v = or_overflow (canonical v) (overflow_of v)

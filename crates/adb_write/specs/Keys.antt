@@ -19,14 +19,14 @@ low_words = map (λ w. w % 2 ^ 32)
 
 -- the content of an item, as numbers that are compared in order; a list from its last entry on, since
 -- lists mostly differ there
-abbrev pub content_of : Parts → List ℕ
-content_of (Int n) = n ∷ []
-content_of (Blob b) = b.now
-content_of (Listed kind ws) = reverse (low_words ws.now)
+abbrev pub comparison_numbers : Parts → List ℕ
+comparison_numbers (Int n) = n ∷ []
+comparison_numbers (Blob b) = b.now
+comparison_numbers (Listed kind ws) = reverse (low_words ws.now)
 
 -- the part of an item's key after its fingerprint: its kind, and its content
-abbrev pub content_key_of : Parts → List ℕ
-content_key_of parts = (item_of parts).kind ∷ content_of parts
+abbrev pub kind_and_comparison_numbers : Parts → List ℕ
+kind_and_comparison_numbers parts = (item_of parts).kind ∷ comparison_numbers parts
 
 -- the content of an integer that was read; nothing if it could not be read
 abbrev pub single_or_empty : Result ℕ Cause → List ℕ
@@ -35,15 +35,15 @@ single_or_empty (Err c) = []
 
 -- the content of the item at a word of this kind: an integer (kinds below 8), a blob (below 13), or the
 -- entries of a list, the last first
-abbrev pub content_at : ℕ → List ℕ → ℕ → List ℕ
-content_at kind payload word =
+abbrev pub comparison_numbers_at : ℕ → List ℕ → ℕ → List ℕ
+comparison_numbers_at kind payload word =
     if nat_lt kind 8 then single_or_empty (int_of payload word)
     else if nat_lt kind 13 then or_empty (blob_of payload word)
     else reverse (or_empty (run_of kind payload word))
 
 -- the part of the key after the fingerprint, for the item at a word: its kind, and its content
-abbrev pub content_key_at : List ℕ → ℕ → List ℕ
-content_key_at payload word = kind_of word ∷ content_at (kind_of word) payload word
+abbrev pub kind_and_comparison_numbers_at : List ℕ → ℕ → List ℕ
+kind_and_comparison_numbers_at payload word = kind_of word ∷ comparison_numbers_at (kind_of word) payload word
 
 -- ---- the fingerprint of an item: it distinguishes most items, so that the payload is not read
 
@@ -103,19 +103,19 @@ fingerprint_of_locator locator = locator / 2 ^ 32
 -- ---- keys, which order the locators: fingerprint, kind, and the item's content
 
 -- the key of an item that has this fingerprint
-abbrev pub key_with : ℕ → Parts → List ℕ
-key_with fingerprint parts = fingerprint ∷ content_key_of parts
+abbrev pub key_with_fingerprint : ℕ → Parts → List ℕ
+key_with_fingerprint fingerprint parts = fingerprint ∷ kind_and_comparison_numbers parts
 
 -- the key of an item, by its own fingerprint
 abbrev pub key_of : Parts → List ℕ
-key_of parts = key_with (fingerprint_of parts) parts
+key_of parts = key_with_fingerprint (fingerprint_of parts) parts
 
 -- the key of the item that a locator names
-abbrev pub key_at : List ℕ → ℕ → List ℕ
-key_at payload locator =
-    fingerprint_of_locator locator ∷ content_key_at payload (word_of_locator locator)
+abbrev pub key_of_locator : List ℕ → ℕ → List ℕ
+key_of_locator payload locator =
+    fingerprint_of_locator locator ∷ kind_and_comparison_numbers_at payload (word_of_locator locator)
 
 -- the locators are in the order of their keys, no two of which are equal
 abbrev pub HaveRisingKeys : List ℕ → List ℕ → Type 0
 HaveRisingKeys payload locators =
-    IsStrictlySortedBy (slice_cmp nat_cmp) (map (key_at payload) locators)
+    IsStrictlySortedBy (slice_cmp nat_cmp) (map (key_of_locator payload) locators)

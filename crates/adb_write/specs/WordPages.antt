@@ -6,7 +6,7 @@ use Rattle.std.specs.Ordering.{nat_cmp, is_lt}
 use Rattle.std.specs.Cmp.Lexicographic.{slice_cmp}
 use Rattle.std.specs.declared.cmp.Ordering.{Ordering}
 use Rattle.std.specs.declared.cmp.Ordering.TheVariants.{Less, Equal, Greater}
-use Rattle.adb_write.specs.Keys.{key_at}
+use Rattle.adb_write.specs.Keys.{key_of_locator}
 use Rattle.adb_write.specs.declared.word_pages.Slot.{Slot}
 use Rattle.adb_write.specs.declared.word_pages.WordPages.{WordPages}
 
@@ -15,16 +15,16 @@ abbrev pub pages_of : WordPages → List (List ℕ)
 pages_of words = map (λ page. page.items) words.pages.items
 
 -- all locators before a slot: those of the first k pages, and the first `index` of page k (counted from 0)
-abbrev pub words_before : List (List ℕ) → ℕ → ℕ → List ℕ
-words_before [] k index = []
-words_before (page ∷ pages) zero index = take index page
-words_before (page ∷ pages) (suc k) index = page ++ words_before pages k index
+abbrev pub locators_before_slot : List (List ℕ) → ℕ → ℕ → List ℕ
+locators_before_slot [] k index = []
+locators_before_slot (page ∷ pages) zero index = take index page
+locators_before_slot (page ∷ pages) (suc k) index = page ++ locators_before_slot pages k index
 
 -- all locators from a slot on: those of page k from `index` on, and those of all later pages
-abbrev pub words_from_slot : List (List ℕ) → ℕ → ℕ → List ℕ
-words_from_slot [] k index = []
-words_from_slot (page ∷ pages) zero index = drop index page ++ concat pages
-words_from_slot (page ∷ pages) (suc k) index = words_from_slot pages k index
+abbrev pub locators_from_slot : List (List ℕ) → ℕ → ℕ → List ℕ
+locators_from_slot [] k index = []
+locators_from_slot (page ∷ pages) zero index = drop index page ++ concat pages
+locators_from_slot (page ∷ pages) (suc k) index = locators_from_slot pages k index
 
 -- the locators of the page at k, counted from 0; none if there is no such page
 abbrev pub page_at : List (List ℕ) → ℕ → List ℕ
@@ -45,35 +45,35 @@ HaveNoEmptyPage = AllByRecursion (λ page. 0 < length page)
 pub record IsSameSlot (old : List (List ℕ)) (slot : Slot) (new : List (List ℕ))
     (there : Slot) : Type 0 where
   pub inside : IsSlotIn new there.page there.index
-  pub before : words_before new there.page there.index ≡ words_before old slot.page slot.index
-  pub behind : words_from_slot new there.page there.index ≡ words_from_slot old slot.page slot.index
+  pub before : locators_before_slot new there.page there.index ≡ locators_before_slot old slot.page slot.index
+  pub behind : locators_from_slot new there.page there.index ≡ locators_from_slot old slot.page slot.index
 
 -- how many locators remain in a page that is split: half of a full one of 512
 abbrev pub HALF : ℕ
 HALF = 256
 
 -- the pages, after the one at k was split in two
-abbrev pub with_split : List (List ℕ) → ℕ → List (List ℕ)
-with_split [] k = []
-with_split (page ∷ pages) zero = take HALF page ∷ drop HALF page ∷ pages
-with_split (page ∷ pages) (suc k) = page ∷ with_split pages k
+abbrev pub with_page_split : List (List ℕ) → ℕ → List (List ℕ)
+with_page_split [] k = []
+with_page_split (page ∷ pages) zero = take HALF page ∷ drop HALF page ∷ pages
+with_page_split (page ∷ pages) (suc k) = page ∷ with_page_split pages k
 
 -- whether a page begins with a locator of a higher key than this one
-abbrev pub begins_above : List ℕ → List ℕ → List ℕ → Bool
-begins_above payload key [] = false
-begins_above payload key (word ∷ words) = is_lt (slice_cmp nat_cmp key (key_at payload word))
+abbrev pub page_begins_above_key : List ℕ → List ℕ → List ℕ → Bool
+page_begins_above_key payload key [] = false
+page_begins_above_key payload key (word ∷ words) = is_lt (slice_cmp nat_cmp key (key_of_locator payload word))
 
 -- an item with this key has this order to the item of each of the locators
-abbrev pub AllCompare : Ordering → List ℕ → List ℕ → List ℕ → Type 0
-AllCompare order payload key =
-    AllByRecursion (λ word. slice_cmp nat_cmp key (key_at payload word) ≡ order)
+abbrev pub AllCompareToKey : Ordering → List ℕ → List ℕ → List ℕ → Type 0
+AllCompareToKey order payload key =
+    AllByRecursion (λ word. slice_cmp nat_cmp key (key_of_locator payload word) ≡ order)
 
 -- this is one of the locators, and its item has this key
-pub record IsFoundIn (payload : List ℕ) (words : List ℕ) (key : List ℕ) (word : ℕ) : Type 0 where
+pub record IsLocatorWithKey (payload : List ℕ) (words : List ℕ) (key : List ℕ) (word : ℕ) : Type 0 where
   pub before : List ℕ
   pub behind : List ℕ
   pub is : words ≡ before ++ word ∷ behind
-  pub equal : slice_cmp nat_cmp key (key_at payload word) ≡ Equal
+  pub equal : slice_cmp nat_cmp key (key_of_locator payload word) ≡ Equal
 
 -- the slot is between the locators of lower keys and those of higher ones, so that none has this key
 pub record IsBetween (payload : List ℕ) (pages : List (List ℕ)) (key : List ℕ)
@@ -81,39 +81,39 @@ pub record IsBetween (payload : List ℕ) (pages : List (List ℕ)) (key : List 
   -- the slot is one of the pages
   pub inside : IsSlotIn pages slot.page slot.index
   -- all before it have lower keys
-  pub lower : AllCompare Greater payload key (words_before pages slot.page slot.index)
+  pub lower : AllCompareToKey Greater payload key (locators_before_slot pages slot.page slot.index)
   -- all after it have higher keys
-  pub higher : AllCompare Less payload key (words_from_slot pages slot.page slot.index)
+  pub higher : AllCompareToKey Less payload key (locators_from_slot pages slot.page slot.index)
 
 -- the page at k is the one into which a locator with this key belongs
 pub record IsPageFor (payload : List ℕ) (pages : List (List ℕ)) (key : List ℕ)
     (k : ℕ) : Type 0 where
   pub inside : IsSlotIn pages k 0
   -- all pages before it have lower keys
-  pub lower : AllCompare Greater payload key (words_before pages k 0)
+  pub lower : AllCompareToKey Greater payload key (locators_before_slot pages k 0)
   -- all pages after it have higher keys
-  pub higher : AllCompare Less payload key (words_from_slot pages (suc k) 0)
+  pub higher : AllCompareToKey Less payload key (locators_from_slot pages (suc k) 0)
 
 -- the page at k begins at or before this key, and the next one after it, if there is a next one
 pub record IsPageAt (payload : List ℕ) (pages : List (List ℕ)) (key : List ℕ)
     (k : ℕ) : Type 0 where
   pub inside : k < length pages
-  pub here : begins_above payload key (page_at pages k) ≡ false
-  pub next : suc k < length pages → begins_above payload key (page_at pages (suc k)) ≡ true
+  pub here : page_begins_above_key payload key (page_at pages k) ≡ false
+  pub next : suc k < length pages → page_begins_above_key payload key (page_at pages (suc k)) ≡ true
 
 -- the result of a search of one page: the index of the locator with this key, or the one between the
 -- lower keys and the higher ones
-abbrev pub SearchesPage : List ℕ → List ℕ → List ℕ → Result ℕ ℕ → Type 0
-SearchesPage payload page key (Ok index) =
+abbrev pub IsPageSearchResult : List ℕ → List ℕ → List ℕ → Result ℕ ℕ → Type 0
+IsPageSearchResult payload page key (Ok index) =
     (index < length page)
-    × HoldsAt (λ word. slice_cmp nat_cmp key (key_at payload word) ≡ Equal) page index
-SearchesPage payload page key (Err index) =
+    × HoldsAt (λ word. slice_cmp nat_cmp key (key_of_locator payload word) ≡ Equal) page index
+IsPageSearchResult payload page key (Err index) =
     (index ≤ length page)
-    × AllCompare Greater payload key (take index page)
-    × AllCompare Less payload key (drop index page)
+    × AllCompareToKey Greater payload key (take index page)
+    × AllCompareToKey Less payload key (drop index page)
 
 -- the result of a search of all pages: the locator with this key, or the slot between the lower keys
 -- and the higher ones
-abbrev pub FindsIn : List ℕ → List (List ℕ) → List ℕ → Result ℕ Slot → Type 0
-FindsIn payload pages key (Ok word) = IsFoundIn payload (concat pages) key word
-FindsIn payload pages key (Err slot) = IsBetween payload pages key slot
+abbrev pub IsSearchResult : List ℕ → List (List ℕ) → List ℕ → Result ℕ Slot → Type 0
+IsSearchResult payload pages key (Ok word) = IsLocatorWithKey payload (concat pages) key word
+IsSearchResult payload pages key (Err slot) = IsBetween payload pages key slot

@@ -15,8 +15,8 @@ use Rattle.adb_write.specs.declared.writer.WriteFault.TheVariants.{TooLarge, Mem
 
 -- an unfinished payload is empty, or begins with its head: 8 zeros, into which the root's word is put
 -- last
-abbrev pub HasHead : List ℕ → Type 0
-HasHead payload = (payload ≡ []) ⊎ (take 8 payload ≡ replicate 8 0)
+abbrev pub IsEmptyOrHasHead : List ℕ → Type 0
+IsEmptyOrHasHead payload = (payload ≡ []) ⊎ (take 8 payload ≡ replicate 8 0)
 
 -- ---- the items of locators
 
@@ -39,14 +39,14 @@ fingerprint_of_stored (stored_blob b) = blob_fingerprint b
 fingerprint_of_stored (stored_list kind ws) = list_fingerprint ws
 
 -- the numbers of what is stored fit: an integer in 64 bits, a length and a word in 32
-abbrev pub IsSmall : Stored → Type 0
-IsSmall (stored_int n) = n < 2 ^ 64
-IsSmall (stored_blob b) = length b < 2 ^ 32
-IsSmall (stored_list kind ws) = AllByRecursion (λ w. w < 2 ^ 32) ws × (suc (length ws) < 2 ^ 32)
+abbrev pub HasNumbersThatFit : Stored → Type 0
+HasNumbersThatFit (stored_int n) = n < 2 ^ 64
+HasNumbersThatFit (stored_blob b) = length b < 2 ^ 32
+HasNumbersThatFit (stored_list kind ws) = AllByRecursion (λ w. w < 2 ^ 32) ws × (suc (length ws) < 2 ^ 32)
 
 -- the word points to this item in the payload, after the head of 8 bytes
 pub record IsStoredAt (payload : List ℕ) (what : Stored) (word : ℕ) : Type 0 where
-  pub small : IsSmall what
+  pub small : HasNumbersThatFit what
   pub kind : kind_of word ≡ (item_of_stored what).kind
   -- it follows the head
   pub behind_head : 8 ≤ low_of word
@@ -92,7 +92,7 @@ items_of_locators (locator ∷ locators) =
 -- payload's own unless a limit was passed
 pub record IsWriterState (payload : List ℕ) (pages : List (List ℕ))
     (bytes values : ℕ) : Type 0 where
-  pub head : HasHead payload
+  pub head : IsEmptyOrHasHead payload
   -- the count of bytes is the payload's own, unless a limit was passed
   pub agree : exceeds_a_limit (bytes, values) ≡ false → bytes ≡ 8 + length (drop 8 payload)
   -- no page is empty
@@ -103,14 +103,14 @@ pub record IsWriterState (payload : List ℕ) (pages : List (List ℕ))
   pub stored : AreStored payload (concat pages)
 
 -- the word points to the written item that is equal to this one
-abbrev pub FindsWord : Item → Writing → ℕ → Type 0
-FindsWord i w word =
+abbrev pub IsWordOfEqualItem : Item → Writing → ℕ → Type 0
+IsWordOfEqualItem i w word =
     option_map word_of_item (find (is_equal_item w.body i) w.items) ≡ Some word
 
 -- how a writer ends, by its definition: with a payload, with the counts of a limit, or out of memory,
 -- and that only if nothing was written
-abbrev pub IsFinished : {A : Type 0} → (A → List ℕ) → Writing → Result A WriteFault
+abbrev pub IsFinishResult : {A : Type 0} → (A → List ℕ) → Writing → Result A WriteFault
     → Result (List ℕ) PayloadCounts → Type 0
-IsFinished view w (Ok payload) answer = answer ≡ Ok (view payload)
-IsFinished view w (Err (TooLarge bytes values)) answer = answer ≡ Err (bytes, values)
-IsFinished view w (Err Memory) answer = (is_past_limit w ≡ false) × (w.body ≡ [])
+IsFinishResult view w (Ok payload) answer = answer ≡ Ok (view payload)
+IsFinishResult view w (Err (TooLarge bytes values)) answer = answer ≡ Err (bytes, values)
+IsFinishResult view w (Err Memory) answer = (is_past_limit w ≡ false) × (w.body ≡ [])

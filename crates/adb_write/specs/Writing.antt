@@ -18,14 +18,14 @@ pub record Writing : Type 0 where
   pub values : ℕ
 
 -- the writer that has written these bytes and items, with these counts
-abbrev pub writing_by : List ℕ → List WrittenItem → ℕ → ℕ → Writing
-writing_by body items bytes values =
+abbrev pub writing_from_parts : List ℕ → List WrittenItem → ℕ → ℕ → Writing
+writing_from_parts body items bytes values =
     record { body = body; items = items; bytes = bytes; values = values }
 
 -- the writer that has written nothing: its payload has a head of 8 bytes, and the root as its only
 -- value
 abbrev pub empty_writing : Writing
-empty_writing = writing_by [] [] 8 1
+empty_writing = writing_from_parts [] [] 8 1
 
 -- the two counts of a writer: its bytes and its values
 abbrev pub writing_counts : Writing → PayloadCounts
@@ -41,7 +41,7 @@ layout_of w = record { body = w.body; items = w.items; values = w.values }
 
 -- the writer of a layout whose counts pass no limit yet
 abbrev pub writing_of : Layout → Writing
-writing_of out = writing_by out.body out.items (layout_counts out).0 (layout_counts out).1
+writing_of out = writing_from_parts out.body out.items (layout_counts out).0 (layout_counts out).1
 
 -- the effect of a call that makes `r` of a writer's layout: past a limit its value is only counted, and
 -- the word is NULL

@@ -13,7 +13,7 @@ ghost use Rattle.adb_view.specs.Gives.{Gives};
 ghost use Rattle.adb_view.specs.Readers.{run_of};
 ghost use Rattle.adb_view.specs.Visits.{or_empty};
 ghost use Rattle.adb_write.specs.Items.{width_len, list_kind, content_bytes, item_of};
-ghost use Rattle.adb_write.specs.Keys.{low_words, content_key_of, content_key_at, blob_fingerprint, blob_hash, fingerprint_of, key_at, key_with, list_fingerprint, low_nibbles};
+ghost use Rattle.adb_write.specs.Keys.{low_words, kind_and_comparison_numbers, kind_and_comparison_numbers_at, blob_fingerprint, blob_hash, fingerprint_of, key_of_locator, key_with_fingerprint, list_fingerprint, low_nibbles};
 
 use crate::locator::{fingerprint_of_locator, word_of_locator};
 use adb_view::{Adb, Arr, Val};
@@ -191,8 +191,8 @@ impl Parts<'_> {
     /// The order of the item, which has this fingerprint, and the written item of a locator: first
     /// by fingerprint, then by kind, then by content.
     pub(crate) fn compare(&self, fingerprint: u64, adb: &Adb<'_>, locator: u64) -> Ordering
-        ensures { result ≡ slice_cmp nat_cmp (key_with fingerprint self.now)
-            (key_at (payload_of adb.now) locator) }
+        ensures { result ≡ slice_cmp nat_cmp (key_with_fingerprint fingerprint self.now)
+            (key_of_locator (payload_of adb.now) locator) }
     {
         match fingerprint.cmp(&fingerprint_of_locator(locator)) {
             Ordering::Equal => self.compare_content(adb, word_of_locator(locator)),
@@ -203,8 +203,8 @@ impl Parts<'_> {
     /// The order of the item and the written item to which a word points: first by kind, then by
     /// content. Items are equal if they have the same kind and the same value.
     pub(crate) fn compare_content(&self, adb: &Adb<'_>, word: Val) -> Ordering
-        ensures { result ≡ slice_cmp nat_cmp (content_key_of self.now)
-            (content_key_at (payload_of adb.now) word) }
+        ensures { result ≡ slice_cmp nat_cmp (kind_and_comparison_numbers self.now)
+            (kind_and_comparison_numbers_at (payload_of adb.now) word) }
     {
         let by_kind = self.kind().cmp(&(word.word() >> 28));
         if by_kind != Ordering::Equal {

@@ -7,7 +7,7 @@ ghost use Rattle.adb_view.specs.Head.{root_of};
 ghost use Rattle.adb_view.specs.Visits.{visits};
 ghost use Rattle.adb_block.specs.Container.{Spells};
 ghost use Rattle.adb_write.specs.File.{adb_piece, file_of};
-ghost use Rattle.adb_write.specs.Canonical.{Layout, empty_layout, end_offset, write, canonical, exceeds_a_limit, overflow_of, written_of, payload_with_root, MOST_BYTES};
+ghost use Rattle.adb_write.specs.Canonical.{Layout, empty_layout, end_offset, write, canonical, exceeds_a_limit, overflow_of, payload_or_overflow, payload_with_root, MOST_BYTES};
 ghost use Rattle.adb_write.specs.Size.{size_of, entries_of, value_count, with_value_count_raised};
 ghost use Rattle.adb_write.specs.Writing.{Writing, empty_writing, is_past_limit, layout_of, int_call, blob_call, arr_call, obj_call, finish_result};
 ghost use Rattle.adb_write.specs.DepthFirst.{WritesValue, WritesValues, push};
@@ -51,7 +51,7 @@ pub fn values_are_written_depth_first()
 /// Past a limit it ends with the counts just after the first value that passed it.
 pub fn a_value_written_depth_first_is_canonical()
     ensures { (v : Plain) (root : ℕ) (w : Writing) → WritesValue empty_writing v root w
-        → finish_result root w ≡ written_of v }
+        → finish_result root w ≡ payload_or_overflow v }
 {}
 
 /// A word that represents a value keeps representing it, in whatever order calls are made.
@@ -109,7 +109,7 @@ pub fn a_value_overflows_exactly_past_a_limit()
 /// reader accepts.
 pub fn a_value_is_written_up_to_both_limits()
     ensures written { (v : Plain) → IsNormal v → size_of v < 2 ^ 28 → value_count v ≤ 2 ^ 22
-        → written_of v ≡ Ok (canonical v) }
+        → payload_or_overflow v ≡ Ok (canonical v) }
     ensures refused { (v : Plain) → IsNormal v → (2 ^ 28 ≤ size_of v) ⊎ (2 ^ 22 < value_count v)
         → is_some (overflow_of v) ≡ true }
 {}

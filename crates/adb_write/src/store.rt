@@ -9,8 +9,8 @@ ghost use Rattle.std.specs.Prelude.{◌≡◌, ◌≤◌, ◌-◌, [], ◌∷◌
 ghost use Rattle.std.specs.List.{concat};
 ghost use Rattle.adb_write.specs.Items.{item_of};
 ghost use Rattle.adb_write.specs.Keys.{fingerprint_of, key_of, locator_of, HaveRisingKeys};
-ghost use Rattle.adb_write.specs.WordPages.{HaveNoEmptyPage, pages_of, words_before, words_from_slot, IsSlotIn, FindsIn};
-ghost use Rattle.adb_write.specs.WriterState.{HasHead, AreStored};
+ghost use Rattle.adb_write.specs.WordPages.{HaveNoEmptyPage, pages_of, locators_before_slot, locators_from_slot, IsSlotIn, IsSearchResult};
+ghost use Rattle.adb_write.specs.WriterState.{IsEmptyOrHasHead, AreStored};
 
 use crate::item::Parts;
 use crate::locator::locator_of;
@@ -42,11 +42,11 @@ impl Store {
     /// The locator of an item that equals this one, or the slot of the pages at which its own would
     /// be inserted.
     pub(crate) fn find(&self, parts: &Parts<'_>) -> Result<u64, Slot>
-        requires head { HasHead self.now.payload.items }
+        requires head { IsEmptyOrHasHead self.now.payload.items }
         requires filled { HaveNoEmptyPage (pages_of self.now.words) }
         requires rising { HaveRisingKeys self.now.payload.items (concat (pages_of self.now.words)) }
         requires stored { AreStored self.now.payload.items (concat (pages_of self.now.words)) }
-        ensures { FindsIn self.now.payload.items (pages_of self.now.words) (key_of parts.now)
+        ensures { IsSearchResult self.now.payload.items (pages_of self.now.words) (key_of parts.now)
             result }
     {
         match Adb::new(&self.payload) {
@@ -73,9 +73,9 @@ impl Store {
             ≡ self.old.payload.items
             ++ (replicate (at - length self.old.payload.items) 0 ++ (item_of parts.now).bytes)) }
         ensures words { OnOk result (concat (pages_of self.new.words)
-            ≡ words_before (pages_of self.old.words) slot.page slot.index
+            ≡ locators_before_slot (pages_of self.old.words) slot.page slot.index
             ++ locator_of (fingerprint_of parts.now) word
-            ∷ words_from_slot (pages_of self.old.words) slot.page slot.index) }
+            ∷ locators_from_slot (pages_of self.old.words) slot.page slot.index) }
         ensures same_bytes { OnErr result (self.new.payload.items ≡ self.old.payload.items) }
         ensures same_words { OnErr result
             (concat (pages_of self.new.words) ≡ concat (pages_of self.old.words)) }

@@ -18,11 +18,11 @@
 ghost use Rattle.std.specs.Prelude.{◌≡◌, ◌≤◌, ◌<◌, ℕ, List, [], ◌∷◌, ◌++◌, length, take, drop, insert, IfOk, OnOk, OnErr};
 ghost use Rattle.std.specs.List.{concat};
 ghost use Rattle.adb_view.specs.Adb.{payload_of};
-ghost use Rattle.adb_write.specs.Keys.{key_at, key_with, HaveRisingKeys};
+ghost use Rattle.adb_write.specs.Keys.{key_of_locator, key_with_fingerprint, HaveRisingKeys};
 ghost use Rattle.std.specs.Bool.{OnTrue};
 ghost use Rattle.std.specs.Ordering.{nat_cmp, is_lt};
 ghost use Rattle.std.specs.Cmp.Lexicographic.{slice_cmp};
-ghost use Rattle.adb_write.specs.WordPages.{HaveNoEmptyPage, HALF, page_at, pages_of, words_before, words_from_slot, with_split, IsSlotIn, IsSameSlot, AllCompare, FindsIn, SearchesPage, IsPageAt, IsPageFor, begins_above};
+ghost use Rattle.adb_write.specs.WordPages.{HaveNoEmptyPage, HALF, page_at, pages_of, locators_before_slot, locators_from_slot, with_page_split, IsSlotIn, IsSameSlot, AllCompareToKey, IsSearchResult, IsPageSearchResult, IsPageAt, IsPageFor, page_begins_above_key};
 ghost use Rattle.std.specs.declared.cmp.Ordering.TheVariants.{Less, Greater};
 
 use crate::first_locators::FirstLocators;
@@ -88,7 +88,7 @@ impl WordPages {
     ) -> Result<u64, Slot>
         requires filled { HaveNoEmptyPage (pages_of self.now) }
         requires rising { HaveRisingKeys (payload_of adb.now) (concat (pages_of self.now)) }
-        ensures { FindsIn (payload_of adb.now) (pages_of self.now) (key_with fingerprint parts.now)
+        ensures { IsSearchResult (payload_of adb.now) (pages_of self.now) (key_with_fingerprint fingerprint parts.now)
             result }
     {
         let page = self.page_of(adb, parts, fingerprint);
@@ -107,7 +107,7 @@ impl WordPages {
         requires filled { HaveNoEmptyPage (pages_of self.now) }
         requires rising { HaveRisingKeys (payload_of adb.now) (concat (pages_of self.now)) }
         ensures { IsPageFor (payload_of adb.now) (pages_of self.now)
-            (key_with fingerprint parts.now) result }
+            (key_with_fingerprint fingerprint parts.now) result }
     {
         let likely = self.firsts.page_of(fingerprint);
         if self.is_page_of(likely, adb, parts, fingerprint) {
@@ -122,7 +122,7 @@ impl WordPages {
     /// one, if there is one, does.
     fn is_page_of(&self, page: usize, adb: &Adb<'_>, parts: &Parts<'_>, fingerprint: u64) -> bool
         ensures { OnTrue result (IsPageAt (payload_of adb.now) (pages_of self.now)
-            (key_with fingerprint parts.now) page) }
+            (key_with_fingerprint fingerprint parts.now) page) }
     {
         let Some(here) = self.pages.get(page) else {
             return false;
@@ -142,8 +142,8 @@ impl WordPages {
         requires inside { IsSlotIn (pages_of self.old) slot.page slot.index }
         ensures filled { HaveNoEmptyPage (pages_of self.new) }
         ensures ok { OnOk result (concat (pages_of self.new)
-            ≡ words_before (pages_of self.old) slot.page slot.index
-            ++ locator ∷ words_from_slot (pages_of self.old) slot.page slot.index) }
+            ≡ locators_before_slot (pages_of self.old) slot.page slot.index
+            ++ locator ∷ locators_from_slot (pages_of self.old) slot.page slot.index) }
         ensures err { OnErr result (concat (pages_of self.new) ≡ concat (pages_of self.old)) }
     {
         if self.pages.is_empty() {
@@ -196,7 +196,7 @@ impl WordPages {
     fn split(&mut self, page: usize) -> Result<(), AllocError>
         requires inside { page < length (pages_of self.old) }
         requires full { HALF < length (page_at (pages_of self.old) page) }
-        ensures ok { OnOk result (pages_of self.new ≡ with_split (pages_of self.old) page) }
+        ensures ok { OnOk result (pages_of self.new ≡ with_page_split (pages_of self.old) page) }
         ensures err { OnErr result (pages_of self.new ≡ pages_of self.old) }
     {
         let mut upper = Vec::with_capacity(self.alloc, HALF + ROOM)?;
@@ -225,8 +225,8 @@ fn insert_in_page(page: &mut Vec<u64>, index: usize, locator: u64) -> Result<(),
 
 /// Whether an item precedes the one that a locator names, in the order of keys.
 fn is_before(adb: &Adb<'_>, parts: &Parts<'_>, fingerprint: u64, locator: u64) -> bool
-    ensures { result ≡ is_lt (slice_cmp nat_cmp (key_with fingerprint parts.now)
-        (key_at (payload_of adb.now) locator)) }
+    ensures { result ≡ is_lt (slice_cmp nat_cmp (key_with_fingerprint fingerprint parts.now)
+        (key_of_locator (payload_of adb.now) locator)) }
 {
     match fingerprint.cmp(&fingerprint_of_locator(locator)) {
         Ordering::Equal => parts.compare_content(adb, word_of_locator(locator)) == Ordering::Less,
@@ -236,7 +236,7 @@ fn is_before(adb: &Adb<'_>, parts: &Parts<'_>, fingerprint: u64, locator: u64) -
 
 /// Whether a page begins after an item, in the order of keys.
 fn begins_after(page: &[u64], adb: &Adb<'_>, parts: &Parts<'_>, fingerprint: u64) -> bool
-    ensures { result ≡ begins_above (payload_of adb.now) (key_with fingerprint parts.now) page.now }
+    ensures { result ≡ page_begins_above_key (payload_of adb.now) (key_with_fingerprint fingerprint parts.now) page.now }
 {
     match page.first() {
         Some(locator) => is_before(adb, parts, fingerprint, *locator),
@@ -248,7 +248,7 @@ fn begins_after(page: &[u64], adb: &Adb<'_>, parts: &Parts<'_>, fingerprint: u64
 /// The search begins near its likely index, so that few bytes of a page are read.
 fn search(page: &[u64], adb: &Adb<'_>, parts: &Parts<'_>, fingerprint: u64) -> Result<usize, usize>
     requires rising { HaveRisingKeys (payload_of adb.now) page.now }
-    ensures { SearchesPage (payload_of adb.now) page.now (key_with fingerprint parts.now) result }
+    ensures { IsPageSearchResult (payload_of adb.now) page.now (key_with_fingerprint fingerprint parts.now) result }
 {
     let likely = likely_index(page, fingerprint);
     let from = lower_end(page, fingerprint, likely);
@@ -286,7 +286,7 @@ fn likely_index(page: &[u64], fingerprint: u64) -> usize
 fn lower_end(page: &[u64], fingerprint: u64, likely: usize) -> usize
     ensures inside { result ≤ likely }
     ensures lower { (payload content : List ℕ) → HaveRisingKeys payload page.now
-        → AllCompare Greater payload (fingerprint ∷ content) (take result page.now) }
+        → AllCompareToKey Greater payload (fingerprint ∷ content) (take result page.now) }
 {
     let low = likely.saturating_sub(NEARBY);
     match page.get(low) {
@@ -301,7 +301,7 @@ fn upper_end(page: &[u64], fingerprint: u64, likely: usize) -> usize
     ensures inside { result ≤ length page.now }
     ensures behind { likely ≤ result }
     ensures higher { (payload content : List ℕ) → HaveRisingKeys payload page.now
-        → AllCompare Less payload (fingerprint ∷ content) (drop result page.now) }
+        → AllCompareToKey Less payload (fingerprint ∷ content) (drop result page.now) }
 {
     let high = likely.saturating_add(NEARBY);
     match page.get(high) {

@@ -8,7 +8,7 @@ ghost use Rattle.adb_view.specs.Plain.{Plains, int, blob_or_null, arr_value, obj
 ghost use Rattle.adb_write.specs.DepthFirst.{WritesValue, WritesValues};
 ghost use Rattle.adb_write.specs.Writing.{Writing, Grows, empty_writing, is_past_limit, call, int_call, blob_call, arr_call, obj_call, finish_result};
 ghost use Rattle.adb_write.specs.Items.{list_kind, item_of, HasNumbersInRange};
-ghost use Rattle.adb_write.specs.WriterState.{IsFinished, FindsWord};
+ghost use Rattle.adb_write.specs.WriterState.{IsFinishResult, IsWordOfEqualItem};
 ghost use Rattle.adb_write.specs.File.{file_of};
 
 use crate::item::{ListKind, Parts};
@@ -98,14 +98,14 @@ pub struct Writer {
 
 impl Model for Writer {
     ghost use Rattle.std.specs.Prelude.{drop};
-    ghost use Rattle.adb_write.specs.Writing.{Writing, writing_by};
+    ghost use Rattle.adb_write.specs.Writing.{Writing, writing_from_parts};
     ghost use Rattle.std.specs.List.{concat};
     ghost use Rattle.adb_write.specs.WordPages.{pages_of};
     ghost use Rattle.adb_write.specs.WriterState.{IsWriterState, items_of_locators};
 
     ghost Value = { Writing };
 
-    ghost view = { λ w. writing_by (drop 8 w.store.payload.items)
+    ghost view = { λ w. writing_from_parts (drop 8 w.store.payload.items)
         (items_of_locators (concat (pages_of w.store.words))) w.counts.bytes w.counts.values };
 
     ghost invariant = { λ w. IsWriterState w.store.payload.items (pages_of w.store.words)
@@ -191,7 +191,7 @@ impl Writer {
     /// The payload with this root, which is a value of this writer or NULL. If a limit was passed,
     /// the error has the counts. The error is `Memory` only if nothing was written before.
     pub fn finish(self, root: Val) -> Result<Vec<u8>, WriteFault>
-        ensures { IsFinished (λ payload. payload.items) self result (finish_result root self) }
+        ensures { IsFinishResult (λ payload. payload.items) self result (finish_result root self) }
     {
         if self.counts.exceeds_a_limit() {
             return Err(WriteFault::TooLarge {
@@ -273,7 +273,7 @@ impl Writer {
     /// NULL if they pass the limit.
     fn repeat(&mut self, parts: &Parts<'_>, word: Val) -> Val
         requires fine { is_past_limit self.old ≡ false }
-        requires found { FindsWord (item_of parts.now) self.old word }
+        requires found { IsWordOfEqualItem (item_of parts.now) self.old word }
         ensures { (result, self.new) ≡ call (apart (item_of parts.now)) self.old }
     {
         self.counts.values += parts.entries();

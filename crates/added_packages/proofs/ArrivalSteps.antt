@@ -12,13 +12,13 @@ use Rattle.change_outcome.specs.change_inputs.declared.root.Refused.TheVariants.
 use Rattle.change_outcome.specs.MembersAfter.{MemberFound}
 use Rattle.dep_core.specs.Repositories.{Repository}
 use Rattle.change_outcome.specs.make_info.Reads.{Reads}
-use Rattle.change_outcome.specs.package_files.Runs.{AreObserved}
+use Rattle.change_outcome.specs.package_files.Runs.{AreReadsOfTree}
 use Rattle.change_outcome.specs.package_changes.Placed.{PlacedName}
 use Rattle.change_outcome.proofs.package_changes.Lists.{left_at}
 use Rattle.change_outcome.specs.candidate_core.Rank.{SealedPool}
 use Rattle.report_core.specs.declared.refusal.Refusal as Refusals
 use Rattle.added_packages.specs.Arrivals.{AreMembersRead, IsMemberRead}
-use Rattle.added_packages.specs.NameReads.{FindsAt, IsAnswerByRead, IsByRead, IsNameRead, name_read}
+use Rattle.added_packages.specs.NameReads.{FindsTreeFileOrFound, IsAnswerByRead, IsByRead, IsNameRead, name_read}
 use Rattle.added_packages.specs.declared.arrivals.MemberRead.{MemberRead}
 
 -- ---- reads
@@ -28,11 +28,11 @@ abbrev pub reads_by : List TreeState → (ℕ → Option (List ℕ)) → Reads
 reads_by [] at n name = at n
 reads_by (v ∷ earlier) at n name = files_of v name
 
-pub reads_are : (h : List TreeState) (at : ℕ → Option (List ℕ)) → AreObserved h (reads_by h at)
+pub reads_are : (h : List TreeState) (at : ℕ → Option (List ℕ)) → AreReadsOfTree h (reads_by h at)
 reads_are [] at = tt
 reads_are (v ∷ earlier) at = λ n name. refl
 
-finds_here : (h : List TreeState) (at : ℕ → Option (List ℕ)) (n : ℕ) (found : Option (List ℕ)) → at n ≡ found → FindsAt h (reads_by h at) n found
+finds_here : (h : List TreeState) (at : ℕ → Option (List ℕ)) (n : ℕ) (found : Option (List ℕ)) → at n ≡ found → FindsTreeFileOrFound h (reads_by h at) n found
 finds_here [] at n found is = λ name. is
 finds_here (v ∷ earlier) at n found is = λ name. refl
 

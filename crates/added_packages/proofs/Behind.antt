@@ -12,7 +12,7 @@ use Rattle.change_outcome.specs.db_core.declared.members.TheConstants.{MOST_MEMB
 use Rattle.change_outcome.proofs.package_changes.Lists.{item_at, option_in_front}
 use Rattle.package_verifier.specs.Tested.{tested_id, tested_value}
 use Rattle.package_verifier.specs.declared.package.TestedPackage.{TestedPackage}
-use Rattle.added_packages.specs.Arrivals.{ArePlaced, CanBeMembers, IsPlaced, member_read, members_read}
+use Rattle.added_packages.specs.Arrivals.{HavePlacesIfKept, CanBeMembers, HasPlaceIfKept, member_read, members_read}
 use Rattle.added_packages.specs.declared.arrivals.MemberRead.{MemberRead}
 use Rattle.added_packages.specs.declared.arrivals.MemberRead.TheVariants.{Comes, Stays}
 
@@ -62,7 +62,7 @@ module _ (before : List Plain) where
       ∙ ap (λ z. members_read before (take i reads) ++ z) (ap (members_read before) (item_at reads i d lt) ∙ ap (λ o. cons_option o (members_read before (drop (i + 1) reads))) is)))
       can.in_order)
 
-  pub next_placed : (reads : List MemberRead) (i : ℕ) (d : MemberRead) → i < length reads → ArePlaced before reads → IsPlaced before (get_or reads i d)
+  pub next_placed : (reads : List MemberRead) (i : ℕ) (d : MemberRead) → i < length reads → HavePlacesIfKept before reads → HasPlaceIfKept before (get_or reads i d)
   next_placed [] i d lt placed = absurd (omega arith)
   next_placed (r ∷ reads) zero d lt placed = placed.0
   next_placed (r ∷ reads) (suc i) d lt placed = next_placed reads i d (omega arith) placed.1
@@ -106,9 +106,9 @@ is_there [] place lt = absurd (omega arith)
 is_there (p ∷ before) zero lt = (p, refl)
 is_there (p ∷ before) (suc place) lt = is_there before place (omega arith)
 
-pub stays_added : {E : Type 0} (before : List Plain) (old new : List Member) (read : MemberRead) (place : ℕ) (result : Result (Unit {0}) E) → read ≡ Stays place → IsPlaced before read → OnOk result ((pkg : Plain) → slice_get before place ≡ Some pkg → new ≡ old ++ member_of_kept pkg ∷ []) → OnOk result (new ≡ old ++ option_to_list (member_read before read))
+pub stays_added : {E : Type 0} (before : List Plain) (old new : List Member) (read : MemberRead) (place : ℕ) (result : Result (Unit {0}) E) → read ≡ Stays place → HasPlaceIfKept before read → OnOk result ((pkg : Plain) → slice_get before place ≡ Some pkg → new ≡ old ++ member_of_kept pkg ∷ []) → OnOk result (new ≡ old ++ option_to_list (member_read before read))
 stays_added before old new read place (Ok done) is placed added =
-    let there = is_there before place (subst (IsPlaced before) is placed) in
+    let there = is_there before place (subst (HasPlaceIfKept before) is placed) in
     added there.0 there.1 ∙ ap (λ o. old ++ option_to_list o) (sym (ap (member_read before) is ∙ ap (option_map member_of_kept) there.1))
 stays_added before old new read place (Err e) is placed added = tt
 

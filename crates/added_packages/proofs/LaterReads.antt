@@ -5,11 +5,11 @@ use Rattle.adb_view.specs.Plain.{Plain}
 use Rattle.change_outcome.specs.change_inputs.Chains.{and_then}
 use Rattle.change_outcome.specs.change_inputs.Inputs.{first_index_read}
 use Rattle.change_outcome.specs.MembersAfter.{MemberFound, added_package_by_path, added_member_found, members_after, name_after, name_by_change, names_after}
-use Rattle.change_outcome.specs.PackageFiles.{AddedPackage, package_file_of, package_found, scripts_of_change, unless_script}
+use Rattle.change_outcome.specs.PackageFiles.{AddedPackage, package_file_of, added_package_or_refusal, scripts_of_change, unless_script}
 use Rattle.change_outcome.specs.db_core.Packages.{is_package_named}
 use Rattle.dep_core.specs.Repositories.{Repository}
 use Rattle.change_outcome.specs.make_info.Reads.{Reads}
-use Rattle.change_outcome.specs.package_changes.Changes.{Replacement, change_of_name, is_selected_named, names_on_both_sides}
+use Rattle.change_outcome.specs.package_changes.Changes.{Replacement, change_of_name, is_selected_named, names_before_and_selected}
 use Rattle.change_outcome.specs.candidate_core.Candidates.{Candidate}
 use Rattle.report_core.specs.Reports.{Change}
 use Rattle.report_core.specs.declared.refusal.Refusal as Refusals
@@ -17,7 +17,7 @@ use Rattle.report_core.specs.declared.refusal.Refusal as Refusals
 module _ (r : Replacement) (read other : Reads) (repositories : List Repository) (no_scripts : Bool) where
   same_file : (n : ℕ) (c : Candidate) (path : Option (List ℕ)) → ((name : List ℕ) → read n name ≡ other n name) → added_package_by_path read n c path ≡ added_package_by_path other n c path
   same_file n c None same = refl
-  same_file n c (Some path) same = ap (package_found c) (same path)
+  same_file n c (Some path) same = ap (added_package_or_refusal c) (same path)
 
   same_name : (n : ℕ) (name : List ℕ) (change : Option Change) (before : Option Plain) (selected : Option Candidate) → ((name : List ℕ) → read n name ≡ other n name) → name_by_change read repositories no_scripts n name change before selected ≡ name_by_change other repositories no_scripts n name change before selected
   same_name n name None before selected same = refl
@@ -34,4 +34,4 @@ module _ (r : Replacement) (read other : Reads) (repositories : List Repository)
 
   pub later_reads : ((n : ℕ) (name : List ℕ) → first_index_read + length repositories ≤ n → read n name ≡ other n name) → members_after r read repositories no_scripts ≡ members_after r other repositories no_scripts
   unfolding members_after
-  later_reads same = same_names (first_index_read + length repositories) (names_on_both_sides r) same
+  later_reads same = same_names (first_index_read + length repositories) (names_before_and_selected r) same

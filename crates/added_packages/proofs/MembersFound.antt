@@ -5,7 +5,7 @@ use Rattle.std.specs.Result.{IsErrAnd}
 use Rattle.adb_view.specs.Plain.{Plain}
 use Rattle.base_core.specs.Tree.{TreeState}
 use Rattle.change_outcome.specs.change_inputs.Chains.{and_then}
-use Rattle.change_outcome.specs.change_inputs.Answers.{IsFailure}
+use Rattle.change_outcome.specs.change_inputs.Answers.{IsDiskOrMemoryFailure}
 use Rattle.change_outcome.specs.change_inputs.Inputs.{first_index_read}
 use Rattle.change_outcome.specs.change_inputs.declared.root.Refused.{Refused}
 use Rattle.change_outcome.specs.change_inputs.declared.root.Refused.TheVariants.{Disk, Memory, Refusal}
@@ -14,8 +14,8 @@ use Rattle.change_outcome.specs.db_core.Packages.{is_package_named}
 use Rattle.change_outcome.specs.db_core.declared.members.TheConstants.{MOST_MEMBERS}
 use Rattle.dep_core.specs.Repositories.{Repository}
 use Rattle.change_outcome.specs.make_info.Reads.{Reads}
-use Rattle.change_outcome.specs.package_files.Runs.{Explains}
-use Rattle.change_outcome.specs.package_changes.Changes.{change_of_name, is_selected_named, names_on_both_sides}
+use Rattle.change_outcome.specs.package_files.Runs.{IsExplainedBySomeReads}
+use Rattle.change_outcome.specs.package_changes.Changes.{change_of_name, is_selected_named, names_before_and_selected}
 use Rattle.change_outcome.specs.package_changes.Placed.{PlacedName, PlacedReplacement, candidates_at, new_candidate, old_package, placed_name_of, placed_names_of, replacement_of}
 use Rattle.change_outcome.specs.candidate_core.Rank.{SealedPool}
 use Rattle.report_core.specs.declared.refusal.Refusal as Refusals
@@ -52,14 +52,14 @@ module _ (law : PlacesLead) (p : PlacedReplacement) (repositories : List Reposit
   pub members_are : (read : Reads) (names : List PlacedName) → names ≡ placed_names_of p → members_after (replacement_of p) read repositories no_scripts ≡ names_read p.before p.pool repositories no_scripts read (first_index_read + length repositories) names
   unfolding members_after placed_names_of
   members_are read names are =
-      each_name read (first_index_read + length repositories) (names_on_both_sides (replacement_of p))
+      each_name read (first_index_read + length repositories) (names_before_and_selected (replacement_of p))
       ∙ ap (names_read p.before p.pool repositories no_scripts read (first_index_read + length repositories)) (sym are)
 
   module _ {A : Type 0} (reads_of : A → List MemberRead) (h : List TreeState) (names : List PlacedName) (are : names ≡ placed_names_of p) where
     abbrev pub IsExplained : Result A Refused → Type 0
-    IsExplained r = Explains h (λ read. DenotesUnlessDisk (λ a found. AreMembersRead h p.before (reads_of a) found) r (members_after (replacement_of p) read repositories no_scripts))
+    IsExplained r = IsExplainedBySomeReads h (λ read. DenotesUnlessDisk (λ a found. AreMembersRead h p.before (reads_of a) found) r (members_after (replacement_of p) read repositories no_scripts))
 
-    pub explained_failure : (P : Refused → Type 0) (r : Result A Refused) → ((e : Refused) → P e → IsFailure e) → IsErrAnd r P → IsExplained r
+    pub explained_failure : (P : Refused → Type 0) (r : Result A Refused) → ((e : Refused) → P e → IsDiskOrMemoryFailure e) → IsErrAnd r P → IsExplained r
     explained_failure P r fails is = record { read = reads_by h (λ k. None); observed = reads_are h (λ k. None); is = go r is }
       where
         go : (r : Result A Refused) → IsErrAnd r P → DenotesUnlessDisk (λ a found. AreMembersRead h p.before (reads_of a) found) r (members_after (replacement_of p) (reads_by h (λ k. None)) repositories no_scripts)

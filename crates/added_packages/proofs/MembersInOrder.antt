@@ -6,21 +6,21 @@ use Rattle.std.specs.Cmp.Lexicographic.{bytes_decides}
 use Rattle.std.proofs.lemmas.Cmp.{nat_list_cmp_total, tied_itself}
 use Rattle.change_outcome.specs.adb_fields.Repeated.{package_name}
 use Rattle.adb_view.specs.Plain.{Plain}
-use Rattle.base_core.specs.Listed.{IsRising}
+use Rattle.base_core.specs.Listed.{AreSortedDistinctNames}
 use Rattle.base_core.specs.declared.cause.Cause.{Cause}
 use Rattle.base_core.proofs.Rising.{IsIn, Rises, order, pairs_from_rises}
 use Rattle.change_outcome.proofs.change_files.InOrder.{order_rises}
-use Rattle.change_outcome.specs.change_files.PlanLists.{names_in_order}
+use Rattle.change_outcome.specs.change_files.PlanLists.{sorted_distinct_names}
 use Rattle.change_outcome.specs.change_inputs.Chains.{and_then}
 use Rattle.change_outcome.specs.change_inputs.Inputs.{first_index_read}
 use Rattle.change_outcome.specs.MembersAfter.{MemberFound, added_package_by_path, added_member_found, members_after, found_members, name_after, name_by_change, member_of_removed_name, names_after, kept_member_found}
-use Rattle.change_outcome.specs.PackageFiles.{AddedPackage, first_script_of, package_file_of, package_found, package_in_file, scripts_of_change, unless_package_bad, unless_different, unless_script_number, unless_script}
+use Rattle.change_outcome.specs.PackageFiles.{AddedPackage, first_script_of, package_file_of, added_package_or_refusal, package_in_file, scripts_of_change, unless_package_bad, unless_different, unless_script_number, unless_script}
 use Rattle.change_outcome.specs.db_core.Members.{AreInOrder, Member, member_name}
 use Rattle.change_outcome.specs.db_core.Packages.{is_package_named}
 use Rattle.dep_core.specs.Repositories.{Repository}
 use Rattle.change_outcome.specs.file_owners.Replaces.{version_text}
 use Rattle.change_outcome.specs.make_info.Reads.{Reads}
-use Rattle.change_outcome.specs.package_changes.Changes.{Replacement, change_between, change_of_name, is_selected_named, names_on_both_sides}
+use Rattle.change_outcome.specs.package_changes.Changes.{Replacement, change_between, change_of_name, is_selected_named, names_before_and_selected}
 use Rattle.change_outcome.specs.package_changes.Placed.{PlacedReplacement, candidates_at, replacement_of}
 use Rattle.package_verifier.specs.pkg_core.Whole.{package_fault}
 use Rattle.change_outcome.specs.candidate_core.Candidates.{Candidate}
@@ -46,7 +46,7 @@ same_name c pkg p is =
     let passed = passed_tests _ (bytes_eq c.name (package_name pkg.value)) _ _ _ _ pkg p is in
     sym ((bytes_decides c.name (package_name pkg.value)).0 passed.0 ∙ ap (λ (q : AddedPackage). package_name q.value) passed.1)
 
-named_by_file : (c : Candidate) (file : Option (List ℕ)) (p : AddedPackage) → package_found c file ≡ Ok p → package_name p.value ≡ c.name
+named_by_file : (c : Candidate) (file : Option (List ℕ)) (p : AddedPackage) → added_package_or_refusal c file ≡ Ok p → package_name p.value ≡ c.name
 named_by_file c None p is = absurd (cc)
 named_by_file c (Some file) p is = go (package_fault file) is
   where
@@ -174,9 +174,9 @@ module _ (r : Replacement) (read : Reads) (repositories : List Repository) (no_s
             ];
           }
 
-  pub after_named : (found : List MemberFound) → members_after r read repositories no_scripts ≡ Ok found → AreNamed (names_on_both_sides r) found
+  pub after_named : (found : List MemberFound) → members_after r read repositories no_scripts ≡ Ok found → AreNamed (names_before_and_selected r) found
   unfolding members_after
-  after_named found is = all_named (first_index_read + length repositories) (names_on_both_sides r) found (order_rises _) is
+  after_named found is = all_named (first_index_read + length repositories) (names_before_and_selected r) found (order_rises _) is
 
 -- ---- in order
 
@@ -186,7 +186,7 @@ names_of_members (m ∷ found) = ap (λ z. member_name m.member ∷ z) (names_of
 
 pub members_rise : (r : Replacement) (read : Reads) (repositories : List Repository) (no_scripts : Bool) (found : List MemberFound) → members_after r read repositories no_scripts ≡ Ok found → AreInOrder (found_members found)
 members_rise r read repositories no_scripts found is =
-    subst IsRising (sym (names_of_members found)) (pairs_from_rises _ (after_named r read repositories no_scripts found is).rises)
+    subst AreSortedDistinctNames (sym (names_of_members found)) (pairs_from_rises _ (after_named r read repositories no_scripts found is).rises)
 
 -- ---- few
 

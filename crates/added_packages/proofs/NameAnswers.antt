@@ -7,18 +7,18 @@ use Rattle.base_core.specs.Read.{OnlyReads}
 use Rattle.base_core.specs.Tree.{TreeState, files_of}
 use Rattle.base_core.specs.declared.tree.TreeFault.{TreeFault}
 use Rattle.base_core.specs.declared.tree.TreeFault.TheVariants as Trees
-use Rattle.change_outcome.specs.change_inputs.Answers.{Agrees, IsFailure, IsInTreeAt}
+use Rattle.change_outcome.specs.change_inputs.Answers.{Agrees, IsDiskOrMemoryFailure, IsFileFoundInTree}
 use Rattle.change_outcome.specs.change_inputs.Chains.{and_then}
 use Rattle.change_outcome.specs.change_inputs.Faults.{IsRefusedOf}
 use Rattle.change_outcome.specs.change_inputs.declared.root.Refused.{Refused}
 use Rattle.change_outcome.specs.change_inputs.declared.root.Refused.TheVariants.{Disk, Memory, Refusal}
 use Rattle.change_outcome.specs.make_info.Reads.{Reads}
 use Rattle.report_core.specs.declared.refusal.Refusal as Refusals
-use Rattle.added_packages.specs.NameReads.{FindsAt, IsAnswerByRead, IsByRead}
+use Rattle.added_packages.specs.NameReads.{FindsTreeFileOrFound, IsAnswerByRead, IsByRead}
 use Rattle.added_packages.specs.Told.{IsRefusalReported}
 
 -- a read finds under a name what stands there
-pub finds_it : (h : List TreeState) (read : Reads) (n : ℕ) (name : List ℕ) (found : Option (List ℕ)) → IsInTreeAt h name found → FindsAt h read n found → read n name ≡ found
+pub finds_it : (h : List TreeState) (read : Reads) (n : ℕ) (name : List ℕ) (found : Option (List ℕ)) → IsFileFoundInTree h name found → FindsTreeFileOrFound h read n found → read n name ≡ found
 finds_it [] read n name found located finds = finds name
 finds_it (v ∷ earlier) read n name found located finds = finds name ∙ sym located
 
@@ -31,7 +31,7 @@ read_alike f h by other wanted further alike r = record { found = r.found; is = 
 
 module _ {A B : Type 0} (Denotes : A → B → Type 0) (h : List TreeState) (by : Reads → ℕ → Result B Refusals.Refusal) where
   -- a failure says nothing
-  pub failure_answers : (P : Refused → Type 0) (r : Result A Refused) → ((e : Refused) → P e → IsFailure e) → IsErrAnd r P → IsAnswerByRead Denotes h by r
+  pub failure_answers : (P : Refused → Type 0) (r : Result A Refused) → ((e : Refused) → P e → IsDiskOrMemoryFailure e) → IsErrAnd r P → IsAnswerByRead Denotes h by r
   failure_answers P (Ok a) fails is = absurd is
   failure_answers P (Err (Refusal refusal)) fails is = absurd (fails (Refusal refusal) is)
   failure_answers P (Err Disk) fails is = tt
@@ -71,9 +71,9 @@ test_refused view S h by other b test r fault is part agrees alike = answer_hand
 
 -- ---- the tree
 
-pub tree_failed : (fault : TreeFault) (refused : Refused) → IsRefusedOf fault refused → IsFailure refused
-tree_failed Trees.Disk refused is = subst IsFailure (sym is) tt
-tree_failed Trees.Memory refused is = subst IsFailure (sym is) tt
+pub tree_failed : (fault : TreeFault) (refused : Refused) → IsRefusedOf fault refused → IsDiskOrMemoryFailure refused
+tree_failed Trees.Disk refused is = subst IsDiskOrMemoryFailure (sym is) tt
+tree_failed Trees.Memory refused is = subst IsDiskOrMemoryFailure (sym is) tt
 
 -- a reading that succeeded, and then a refusal that is no fault of the tree
 pub then_refused : {A B U C E : Type 0} (view : U → C) (test : Result C Refusals.Refusal) (d : E) (h0 h1 : List TreeState) (a b : Counts) (value : A) (r : Result B Refused) (fault : Refused) → IsErrAnd r (λ e. e ≡ fault) → Agrees view (Err fault) test → OnlyReads {A = A} {E = E} d h0 h1 a b (Ok value) → OnlyReads Disk h0 h1 a b r
@@ -95,5 +95,5 @@ then_refused {B = B} view test d h0 h1 a b value (Err e) fault is agrees reads =
     go Disk same a = a
     go Memory same a = cc
 
-pub no_memory : (e : Refused) → e ≡ Memory → IsFailure e
-no_memory e is = subst IsFailure (sym is) tt
+pub no_memory : (e : Refused) → e ≡ Memory → IsDiskOrMemoryFailure e
+no_memory e is = subst IsDiskOrMemoryFailure (sym is) tt

@@ -4,11 +4,11 @@ use Rattle.std.specs.Result.{IsErrAnd}
 use Rattle.adb_view.specs.Plain.{Plain}
 use Rattle.base_core.specs.Tree.{TreeState}
 use Rattle.base_core.specs.declared.cause.Cause.{Cause}
-use Rattle.change_outcome.specs.change_inputs.Answers.{Agrees, IsInTreeAt}
+use Rattle.change_outcome.specs.change_inputs.Answers.{Agrees, IsFileFoundInTree}
 use Rattle.change_outcome.specs.change_inputs.Chains.{and_then}
 use Rattle.change_outcome.specs.change_inputs.declared.root.Refused.{Refused}
 use Rattle.change_outcome.specs.MembersAfter.{added_package_by_path}
-use Rattle.change_outcome.specs.PackageFiles.{AddedPackage, package_file_of, package_found, package_in_file, scripts_of_change, unless_package_bad, unless_different, unless_script_number, unless_script, first_script_of}
+use Rattle.change_outcome.specs.PackageFiles.{AddedPackage, package_file_of, added_package_or_refusal, package_in_file, scripts_of_change, unless_package_bad, unless_different, unless_script_number, unless_script, first_script_of}
 use Rattle.dep_core.specs.Repositories.{Repository}
 use Rattle.change_outcome.specs.make_info.Reads.{Reads}
 use Rattle.package_verifier.specs.pkg_core.Whole.{package_fault}
@@ -18,8 +18,8 @@ use Rattle.report_core.specs.declared.refusal.Refusal as Refusals
 use Rattle.report_core.specs.declared.refusal.Refusal.TheVariants.{PackageBad, PackageMissing}
 use Rattle.change_outcome.specs.package_changes.Changes.{selected_version}
 use Rattle.added_packages.specs.Arrivals.{IsPackageRead}
-use Rattle.added_packages.specs.NameReads.{FindsAt, IsAnswerByRead, IsByRead, candidate_read, added_package_read, file_read}
-use Rattle.package_verifier.specs.Tested.{IsReadOf, IsTestedOf, tested_id, tested_name, tested_value}
+use Rattle.added_packages.specs.NameReads.{FindsTreeFileOrFound, IsAnswerByRead, IsByRead, candidate_read, added_package_read, file_read}
+use Rattle.package_verifier.specs.Tested.{IsPackageReadResult, IsTestedOf, tested_id, tested_name, tested_value}
 use Rattle.package_verifier.specs.declared.read.PackageRead.{PackageRead}
 use Rattle.package_verifier.specs.declared.read.PackageRead.TheVariants.{Absent, Bad, Sound}
 use Rattle.package_verifier.specs.declared.package.TestedPackage.{TestedPackage}
@@ -27,23 +27,23 @@ use Rattle.added_packages.proofs.NameAnswers.{finds_it}
 
 -- what is under the name of a package's file was read
 abbrev pub IsFileRead : List TreeState → List ℕ → PackageRead → Type 0
-IsFileRead h path r = (found : Option (List ℕ)) × IsInTreeAt h path found × IsReadOf path found r
+IsFileRead h path r = (found : Option (List ℕ)) × IsFileFoundInTree h path found × IsPackageReadResult path found r
 
 module _ (h : List TreeState) (path : List ℕ) (c : Candidate) where
-  by_file : (found : Option (List ℕ)) → IsInTreeAt h path found → (wanted : Result AddedPackage Refusals.Refusal) → package_found c found ≡ wanted → IsByRead h (file_read c path) wanted
-  by_file found located wanted is = record { found = found; is = λ read n finds. ap (package_found c) (finds_it h read n path found located finds) ∙ is }
+  by_file : (found : Option (List ℕ)) → IsFileFoundInTree h path found → (wanted : Result AddedPackage Refusals.Refusal) → added_package_or_refusal c found ≡ wanted → IsByRead h (file_read c path) wanted
+  by_file found located wanted is = record { found = found; is = λ read n finds. ap (added_package_or_refusal c) (finds_it h read n path found located finds) ∙ is }
 
   pub absent_read : (r : PackageRead) → r ≡ Absent → IsFileRead h path r → IsByRead h (file_read c path) (Err (PackageMissing c.name (selected_version c)))
-  absent_read r is (found, located, read) = go found located (subst (IsReadOf path found) is read)
+  absent_read r is (found, located, read) = go found located (subst (IsPackageReadResult path found) is read)
     where
-      go : (found : Option (List ℕ)) → IsInTreeAt h path found → IsReadOf path found Absent → IsByRead h (file_read c path) (Err (PackageMissing c.name (selected_version c)))
+      go : (found : Option (List ℕ)) → IsFileFoundInTree h path found → IsPackageReadResult path found Absent → IsByRead h (file_read c path) (Err (PackageMissing c.name (selected_version c)))
       go None located read = by_file None located _ refl
       go (Some file) located read = absurd read
 
   pub bad_read : (r : PackageRead) (cause : Cause) → r ≡ Bad cause → IsFileRead h path r → IsByRead h (file_read c path) (Err (PackageBad c.name (selected_version c) cause))
-  bad_read r cause is (found, located, read) = go found located (subst (IsReadOf path found) is read)
+  bad_read r cause is (found, located, read) = go found located (subst (IsPackageReadResult path found) is read)
     where
-      go : (found : Option (List ℕ)) → IsInTreeAt h path found → IsReadOf path found (Bad cause) → IsByRead h (file_read c path) (Err (PackageBad c.name (selected_version c) cause))
+      go : (found : Option (List ℕ)) → IsFileFoundInTree h path found → IsPackageReadResult path found (Bad cause) → IsByRead h (file_read c path) (Err (PackageBad c.name (selected_version c) cause))
       go None located read = absurd read
       go (Some file) located read = by_file (Some file) located _ (ap (λ fault. unless_package_bad c fault (package_in_file file)) read)
 
@@ -56,9 +56,9 @@ module _ (h : List TreeState) (path : List ℕ) (c : Candidate) where
     pub read : IsPackageRead h pkg coming
 
   pub sound_read : (r : PackageRead) (pkg : TestedPackage) → r ≡ Sound pkg → IsFileRead h path r → IsSoundRead pkg
-  sound_read r pkg is (found, located, read) = go found located (subst (IsReadOf path found) is read)
+  sound_read r pkg is (found, located, read) = go found located (subst (IsPackageReadResult path found) is read)
     where
-      go : (found : Option (List ℕ)) → IsInTreeAt h path found → IsReadOf path found (Sound pkg) → IsSoundRead pkg
+      go : (found : Option (List ℕ)) → IsFileFoundInTree h path found → IsPackageReadResult path found (Sound pkg) → IsSoundRead pkg
       go None located read = absurd read
       go (Some file) located read = record {
         coming = package_in_file file;
@@ -67,7 +67,7 @@ module _ (h : List TreeState) (path : List ℕ) (c : Candidate) where
         by = by_file (Some file) located _ (ap (λ fault. unless_package_bad c fault (package_in_file file)) read.sound);
         read = record {
           file = file;
-          located = subst (λ q. IsInTreeAt h q (Some file)) (sym read.named) located;
+          located = subst (λ q. IsFileFoundInTree h q (Some file)) (sym read.named) located;
           tested = subst (λ q. IsTestedOf q file pkg) (sym read.named) read;
           is = refl;
         };

@@ -11,7 +11,7 @@ use Rattle.change_outcome.specs.db_core.declared.members.TheConstants.{MOST_MEMB
 use Rattle.dep_core.specs.Repositories.{Repository}
 use Rattle.change_outcome.specs.make_info.Reads.{Reads}
 use Rattle.change_outcome.specs.package_changes.Placed.{PlacedReplacement, replacement_of}
-use Rattle.added_packages.specs.Arrivals.{AreMembersRead, ArePlaced, CanBeMembers, IsFileOfMember, IsMemberRead, IsPackageRead, IsPlaced, member_read, members_read, package_in}
+use Rattle.added_packages.specs.Arrivals.{AreMembersRead, HavePlacesIfKept, CanBeMembers, IsFileOfMember, IsMemberRead, IsPackageRead, HasPlaceIfKept, member_read, members_read, package_in}
 use Rattle.package_verifier.specs.Tested.{tested_id, tested_value}
 use Rattle.package_verifier.specs.declared.package.TestedPackage.{TestedPackage}
 use Rattle.added_packages.specs.declared.arrivals.MemberRead.{MemberRead}
@@ -51,7 +51,7 @@ module _ (h : List TreeState) (before : List Plain) where
   within (y ∷ xs) zero x is = omega arith
   within (y ∷ xs) (suc i) x is = let less = within xs i x is in omega (arith, less)
 
-  one_placed : (r : MemberRead) (m : MemberFound) → IsMemberRead h before r m → IsPlaced before r
+  one_placed : (r : MemberRead) (m : MemberFound) → IsMemberRead h before r m → HasPlaceIfKept before r
   one_placed (Stays place) m is = go (slice_get before place) refl is
     where
       go : (o : Option Plain) → slice_get before place ≡ o → Some m ≡ option_map kept_member_found o → place < length before
@@ -59,7 +59,7 @@ module _ (h : List TreeState) (before : List Plain) where
       go (Some pkg) e is = within before place pkg e
   one_placed (Comes pkg) m is = tt
 
-  all_placed : (reads : List MemberRead) (found : List MemberFound) → AreMembersRead h before reads found → ArePlaced before reads
+  all_placed : (reads : List MemberRead) (found : List MemberFound) → AreMembersRead h before reads found → HavePlacesIfKept before reads
   all_placed [] [] are = tt
   all_placed [] (m ∷ found) are = absurd are
   all_placed (r ∷ reads) [] are = absurd are

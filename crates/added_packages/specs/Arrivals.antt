@@ -6,7 +6,7 @@ use Rattle.std.specs.Prelude.{◌≡◌, ◌<◌, ◌≤◌, ℕ, List, [], ◌�
 use Rattle.std.specs.List.{filter_map}
 use Rattle.adb_view.specs.Plain.{Plain}
 use Rattle.base_core.specs.Tree.{TreeState}
-use Rattle.change_outcome.specs.change_inputs.Answers.{IsInTreeAt}
+use Rattle.change_outcome.specs.change_inputs.Answers.{IsFileFoundInTree}
 use Rattle.change_outcome.specs.MembersAfter.{MemberFound, added_member_found, found_package_contents, kept_member_found}
 use Rattle.change_outcome.specs.PackageFiles.{AddedPackage, package_in_file}
 use Rattle.change_outcome.specs.db_core.Members.{AreInOrder, Member, member_of_added, member_of_kept}
@@ -24,7 +24,7 @@ use Rattle.added_packages.specs.declared.arrivals.MemberRead.TheVariants.{Comes,
 pub record IsPackageRead (history : List TreeState) (pkg : TestedPackage)
     (coming : AddedPackage) : Type 0 where
   pub file : List ℕ
-  pub located : IsInTreeAt history (tested_name pkg) (Some file)
+  pub located : IsFileFoundInTree history (tested_name pkg) (Some file)
   pub tested : IsTestedOf (tested_name pkg) file pkg
   pub is : coming ≡ package_in_file file
 
@@ -64,19 +64,19 @@ members_read before reads = filter_map (member_read before) reads
 -- ---- as members
 
 -- a package that was read is placed: if it is kept, its place is one of the database
-abbrev pub IsPlaced : List Plain → MemberRead → Type 0
-IsPlaced before (Stays place) = place < length before
-IsPlaced before (Comes pkg) = Unit {0}
+abbrev pub HasPlaceIfKept : List Plain → MemberRead → Type 0
+HasPlaceIfKept before (Stays place) = place < length before
+HasPlaceIfKept before (Comes pkg) = Unit {0}
 
 -- each of some packages that were read is placed
-abbrev pub ArePlaced : List Plain → List MemberRead → Type 0
-ArePlaced before [] = Unit {0}
-ArePlaced before (r ∷ reads) = IsPlaced before r × ArePlaced before reads
+abbrev pub HavePlacesIfKept : List Plain → List MemberRead → Type 0
+HavePlacesIfKept before [] = Unit {0}
+HavePlacesIfKept before (r ∷ reads) = HasPlaceIfKept before r × HavePlacesIfKept before reads
 
 -- packages that were read can be members: each kept one has a place in the database, they are in byte
 -- order of names, and are few enough
 pub record CanBeMembers (before : List Plain) (reads : List MemberRead) : Type 0 where
-  pub placed : ArePlaced before reads
+  pub placed : HavePlacesIfKept before reads
   pub in_order : AreInOrder (members_read before reads)
   pub few : length reads ≤ MOST_MEMBERS
 
@@ -90,6 +90,6 @@ package_in (Comes pkg) = Some pkg
 pub record IsFileOfMember (history : List TreeState) (found : List MemberFound) (place : ℕ)
     (pkg : TestedPackage) : Type 0 where
   pub file : List ℕ
-  pub located : IsInTreeAt history (tested_name pkg) (Some file)
+  pub located : IsFileFoundInTree history (tested_name pkg) (Some file)
   pub tested : IsTestedOf (tested_name pkg) file pkg
   pub contents : found_package_contents found place ≡ contents_in (files_in_file file)

@@ -9,7 +9,7 @@ use Rattle.change_outcome.specs.change_inputs.Chains.{and_then}
 use Rattle.change_outcome.specs.change_inputs.declared.root.Refused.{Refused}
 use Rattle.change_outcome.specs.change_inputs.declared.root.Refused.TheVariants.{Disk, Memory, Refusal}
 use Rattle.change_outcome.specs.MembersAfter.{MemberFound, added_package_by_path, name_by_change, kept_member_found}
-use Rattle.change_outcome.specs.PackageFiles.{AddedPackage, package_file_of, package_found, scripts_of_change, unless_script}
+use Rattle.change_outcome.specs.PackageFiles.{AddedPackage, package_file_of, added_package_or_refusal, scripts_of_change, unless_script}
 use Rattle.dep_core.specs.Repositories.{Repository}
 use Rattle.change_outcome.specs.make_info.Reads.{Reads}
 use Rattle.change_outcome.specs.package_changes.Placed.{PlacedName, new_candidate, old_package}
@@ -22,16 +22,16 @@ use Rattle.added_packages.specs.declared.arrivals.MemberRead.{MemberRead}
 
 -- the read with this number finds under each name the tree's file, if the tree's files are observable,
 -- and otherwise `found`
-abbrev pub FindsAt : List TreeState → Reads → ℕ → Option (List ℕ) → Type 0
-FindsAt [] read n found = (name : List ℕ) → read n name ≡ found
-FindsAt (v ∷ earlier) read n found = (name : List ℕ) → read n name ≡ files_of v name
+abbrev pub FindsTreeFileOrFound : List TreeState → Reads → ℕ → Option (List ℕ) → Type 0
+FindsTreeFileOrFound [] read n found = (name : List ℕ) → read n name ≡ found
+FindsTreeFileOrFound (v ∷ earlier) read n found = (name : List ℕ) → read n name ≡ files_of v name
 
 -- the value of a definition is `wanted`, by a read that finds some contents: the tree's, if its files
 -- are observable
 pub record IsByRead {B : Type 0} (history : List TreeState) (by : Reads → ℕ → B) (wanted : B) :
     Type 0 where
   pub found : Option (List ℕ)
-  pub is : (read : Reads) (n : ℕ) → FindsAt history read n found → by read n ≡ wanted
+  pub is : (read : Reads) (n : ℕ) → FindsTreeFileOrFound history read n found → by read n ≡ wanted
 
 -- a result denotes the value of a definition by a read, or is its refusal; an I/O error of the tree and
 -- out of memory say nothing
@@ -47,7 +47,7 @@ IsAnswerByRead Denotes history by (Err Memory) = Unit {0}
 -- the package of a candidate, by the read of its file under this name, or the refusal
 abbrev pub file_read :
     Candidate → List ℕ → Reads → ℕ → Result AddedPackage Refusals.Refusal
-file_read c path read n = package_found c (read n path)
+file_read c path read n = added_package_or_refusal c (read n path)
 
 -- the package of a candidate, by the read of its file beside the index, or the refusal
 abbrev pub candidate_read :
@@ -81,6 +81,6 @@ IsNameRead history before (Some r) None = ⊥
 IsNameRead history before (Some r) (Some m) = IsMemberRead history before r m
 
 -- a kept package as it is read, or none if there is none before (`old`)
-abbrev pub IsKeptAsRead : List Plain → Option Plain → Option MemberRead → Type 0
-IsKeptAsRead before old r =
+abbrev pub IsReadOfKeptPackage : List Plain → Option Plain → Option MemberRead → Type 0
+IsReadOfKeptPackage before old r =
     (history : List TreeState) → IsNameRead history before r (option_map kept_member_found old)

@@ -4,16 +4,16 @@
 //! of the packages in byte order of names, the first with a bad file or a script that has to run.
 
 ghost use Rattle.added_packages.specs.Answered.{DenotesUnlessDisk};
-ghost use Rattle.added_packages.specs.Arrivals.{AreMembersRead, CanBeMembers, arrivals_seen, IsPlaced, member_read, members_read, IsFileOfMember, package_in};
-ghost use Rattle.added_packages.specs.NameReads.{IsAnswerByRead, IsNameRead, IsKeptAsRead, name_read};
+ghost use Rattle.added_packages.specs.Arrivals.{AreMembersRead, CanBeMembers, arrivals_seen, HasPlaceIfKept, member_read, members_read, IsFileOfMember, package_in};
+ghost use Rattle.added_packages.specs.NameReads.{IsAnswerByRead, IsNameRead, IsReadOfKeptPackage, name_read};
 ghost use Rattle.base_core.specs.Read.{OnlyReads};
 ghost use Rattle.change_outcome.specs.change_inputs.Answers.{Agrees};
 ghost use Rattle.change_outcome.specs.MembersAfter.{members_after, member_of_removed_name, MemberFound, found_members};
-ghost use Rattle.change_outcome.specs.db_core.Seen.{packages_before, packages_of, members_of};
+ghost use Rattle.change_outcome.specs.db_core.Seen.{packages_of_old_database, packages_of, members_of};
 ghost use Rattle.change_outcome.specs.db_core.declared.members.TheConstants.{MOST_MEMBERS};
-ghost use Rattle.change_outcome.specs.package_files.Runs.{Explains};
+ghost use Rattle.change_outcome.specs.package_files.Runs.{IsExplainedBySomeReads};
 ghost use Rattle.change_outcome.specs.package_changes.Placed.{old_package, placed_names_of, replacement_of};
-ghost use Rattle.change_outcome.specs.package_changes.Seen.{change_seen, placed_name_seen, placed_names_seen, replacement_by};
+ghost use Rattle.change_outcome.specs.package_changes.Seen.{change_seen, placed_name_seen, placed_names_seen, placed_replacement_from_parts};
 ghost use Rattle.std.specs.Prelude.{◌≡◌, ◌≤◌, ◌==◌, ◌++◌, ℕ, List, None, length, IfOk, OnOk, option_copied, option_and_then, option_to_list, slice_get, ◌<◌, true, Some, ◌+◌, Bool, is_some};
 ghost use Rattle.change_outcome.specs.db_core.Members.{Member, is_after_members, member_name, is_added};
 ghost use Rattle.adb_view.specs.Plain.{Plain};
@@ -106,17 +106,17 @@ pub fn read_arrivals<T: Tree>(
     // For each selection, and names to be installed again, that these names are of.
     ensures found { (trace : List ℕ) (again : List (List ℕ))
         → placed_names_seen names.now
-        ≡ placed_names_of (replacement_by db.now pool.now trace again)
-        → Explains (T.history tree.old) (λ read. DenotesUnlessDisk (λ arrivals found.
+        ≡ placed_names_of (placed_replacement_from_parts db.now pool.now trace again)
+        → IsExplainedBySomeReads (T.history tree.old) (λ read. DenotesUnlessDisk (λ arrivals found.
         AreMembersRead (T.history tree.old) (packages_of db.now) (arrivals_seen arrivals) found)
         result
-        (members_after (replacement_of (replacement_by db.now pool.now trace again)) read
+        (members_after (replacement_of (placed_replacement_from_parts db.now pool.now trace again)) read
         repositories.now no_scripts)) }
     // The packages can be made members: they are in byte order of names, and no more than the
     // candidates.
     ensures members { (trace : List ℕ) (again : List (List ℕ))
         → placed_names_seen names.now
-        ≡ placed_names_of (replacement_by db.now pool.now trace again)
+        ≡ placed_names_of (placed_replacement_from_parts db.now pool.now trace again)
         → length pool.now.candidates ≤ MOST_MEMBERS
         → IfOk result (λ arrivals. CanBeMembers (packages_of db.now) (arrivals_seen arrivals)) }
     // The tree is only read, and `Disk` has a fault of the tree as its cause.
@@ -193,7 +193,7 @@ fn read_name<T: Tree>(
 
 /// The kept package at a place of the database, counted from 0, if there is one.
 fn staying(db: &Db<'_>, place: Option<usize>) -> Option<MemberRead>
-    ensures { IsKeptAsRead (packages_of db.now)
+    ensures { IsReadOfKeptPackage (packages_of db.now)
         (option_and_then (slice_get (packages_of db.now)) place) result }
 {
     match place {
@@ -243,13 +243,13 @@ pub fn members_of_change<'a>(
 
 /// Adds a package that was read to the members, at the end.
 fn push_read<'a>(members: &mut Members<'a>, read: &'a MemberRead) -> Result<(), AllocError>
-    requires behind { (m : Member) → member_read (packages_before members.old) read.now ≡ Some m
+    requires behind { (m : Member) → member_read (packages_of_old_database members.old) read.now ≡ Some m
         → is_after_members (member_name m) (members_of members.old) ≡ true }
-    requires placed { IsPlaced (packages_before members.old) read.now }
+    requires placed { HasPlaceIfKept (packages_of_old_database members.old) read.now }
     requires few { length (members_of members.old) < MOST_MEMBERS }
     ensures added { OnOk result (members_of members.new ≡ members_of members.old
-        ++ option_to_list (member_read (packages_before members.old) read.entry.now)) }
-    ensures before { packages_before members.new ≡ packages_before members.old }
+        ++ option_to_list (member_read (packages_of_old_database members.old) read.entry.now)) }
+    ensures before { packages_of_old_database members.new ≡ packages_of_old_database members.old }
 {
     match read {
         MemberRead::Stays(place) => members.stays(*place),

@@ -15,10 +15,10 @@ use Rattle.adb_view.specs.Plain.{Plain}
 use Rattle.installed_info.specs.candidate_core.Candidates.{Candidate, is_same_id, version_of_text}
 use Rattle.change_outcome.specs.db_core.Packages.{installed_id}
 use Rattle.installed_info.specs.file_owners.Replaces.{version_text}
-use Rattle.change_outcome.specs.package_changes.Changes.{Replacement, change_between, change_of_name, is_selected_named, selected_version, unless_same, version_change, version_text_cmp}
+use Rattle.change_outcome.specs.package_changes.Changes.{Replacement, change_between, change_of_name, is_selected_named, selected_version, change_unless_same, version_change, version_text_cmp}
 use Rattle.report_core.specs.Reports.{Change, Downgrade, Reinstall, Replace, Upgrade}
 use Rattle.base_core.specs.Lists.{IsIn}
-use Rattle.answer_laws.specs.WhichChange.{HasBothVersions, IsVeryPackage}
+use Rattle.answer_laws.specs.WhichChange.{HasBothVersions, IsSameVersionAndId}
 
 -- the change, by the test of the text, that of the id, whether the name is asked for again, and the order
 abbrev decided : List ℕ → List ℕ → List ℕ → Bool → Bool → Bool → Ordering → Option Change
@@ -54,7 +54,7 @@ tests r name pkg c both =
       change =
           ap (λ (o : Option Plain). change_between again name o (find (is_selected_named name) r.selected)) both.before
           ∙ ap (λ (o : Option Candidate). change_between again name (Some pkg) o) both.selected
-          ∙ ap (λ (b : Bool). unless_same name pkg c (not b || (text && id)) again) both.repository
+          ∙ ap (λ (b : Bool). change_unless_same name pkg c (not b || (text && id)) again) both.repository
           ∙ ap (λ (o : Ordering). decided name (version_text pkg) (selected_version c) text id again o)
           (order_is (version_text pkg) (selected_version c) both.old both.new);
       tied = λ same.
@@ -138,26 +138,26 @@ downgrades r name pkg c both =
     (λ e. is.0 (sym t.change ∙ e), λ e. t.change ∙ is.1 e)
 
 -- the two tests say that the candidate is the package
-very : (pkg : Plain) (c : Candidate) → Both (bytes_eq (version_text pkg) (selected_version c)) (is_same_id (installed_id pkg) c.id) → IsVeryPackage pkg c
+very : (pkg : Plain) (c : Candidate) → Both (bytes_eq (version_text pkg) (selected_version c)) (is_same_id (installed_id pkg) c.id) → IsSameVersionAndId pkg c
 very pkg c b = ((bytes_eq-Decides (version_text pkg) (selected_version c)).0 b.0, b.1)
 
-tested : (pkg : Plain) (c : Candidate) → IsVeryPackage pkg c → Both (bytes_eq (version_text pkg) (selected_version c)) (is_same_id (installed_id pkg) c.id)
+tested : (pkg : Plain) (c : Candidate) → IsSameVersionAndId pkg c → Both (bytes_eq (version_text pkg) (selected_version c)) (is_same_id (installed_id pkg) c.id)
 tested pkg c v = ((bytes_eq-Decides (version_text pkg) (selected_version c)).1 v.0, v.1)
 
 pub replaces : Kind (λ r name pkg c. (change_of_name r name ≡ Some (Replace name (version_text pkg) (selected_version c)))
-    ↔ ((version_cmp (version_text pkg) (selected_version c) ≡ Equal) × (IsVeryPackage pkg c → ⊥)))
+    ↔ ((version_cmp (version_text pkg) (selected_version c) ≡ Equal) × (IsSameVersionAndId pkg c → ⊥)))
 replaces r name pkg c both =
     let t = tests r name pkg c both in
     let is = is_replace name (version_text pkg) (selected_version c) (bytes_eq (version_text pkg) (selected_version c)) (is_same_id (installed_id pkg) c.id) (list_any (bytes_eq name) r.again) (version_cmp (version_text pkg) (selected_version c)) in
     (λ e. let u = is.0 (sym t.change ∙ e) in (u.0, λ v. u.1 (tested pkg c v)), λ e. t.change ∙ is.1 (e.0, λ b. e.1 (very pkg c b)))
 
-pub reinstalls : Kind (λ r name pkg c. (change_of_name r name ≡ Some (Reinstall name (selected_version c))) ↔ (IsVeryPackage pkg c × IsIn name r.again))
+pub reinstalls : Kind (λ r name pkg c. (change_of_name r name ≡ Some (Reinstall name (selected_version c))) ↔ (IsSameVersionAndId pkg c × IsIn name r.again))
 reinstalls r name pkg c both =
     let t = tests r name pkg c both in
     let is = is_reinstall name (version_text pkg) (selected_version c) (bytes_eq (version_text pkg) (selected_version c)) (is_same_id (installed_id pkg) c.id) (list_any (bytes_eq name) r.again) (version_cmp (version_text pkg) (selected_version c)) in
     (λ e. let u = is.0 (sym t.change ∙ e) in (very pkg c u.0, listed name r.again u.1), λ e. t.change ∙ is.1 (tested pkg c e.0, is_listed name r.again e.1))
 
-pub keeps : Kind (λ r name pkg c. (change_of_name r name ≡ None) ↔ (IsVeryPackage pkg c × (IsIn name r.again → ⊥)))
+pub keeps : Kind (λ r name pkg c. (change_of_name r name ≡ None) ↔ (IsSameVersionAndId pkg c × (IsIn name r.again → ⊥)))
 keeps r name pkg c both =
     let t = tests r name pkg c both in
     let is = is_kept name (version_text pkg) (selected_version c) (bytes_eq (version_text pkg) (selected_version c)) (is_same_id (installed_id pkg) c.id) (list_any (bytes_eq name) r.again) (version_cmp (version_text pkg) (selected_version c)) in

@@ -8,8 +8,8 @@ use Rattle.adb_view.specs.Values.{entries_in}
 use Rattle.adb_view.proofs.ValueEntries.{entries_arr, nth_obj}
 use Rattle.change_outcome.specs.make_info.Values.{plains_of_list}
 use Rattle.change_outcome.specs.v2_lines.InfoFields.{field_of_letter, grammar_of, info_field_among, info_fields, letter_of}
-use Rattle.change_outcome.specs.v2_lines.InfoValues.{sha1_of, values_by_grammar}
-use Rattle.change_outcome.specs.v2_lines.Lines.{RecordLine, info_line, folder_line, folder_access_line, file_line, file_access_line, file_hash_line, other_line, folder_line_of, file_line_of, info_line_by, record_line_by, record_line_of}
+use Rattle.change_outcome.specs.v2_lines.InfoValues.{sha1_of, values_under_grammar}
+use Rattle.change_outcome.specs.v2_lines.Lines.{RecordLine, info_line, folder_line, folder_access_line, file_line, file_access_line, file_hash_line, other_line, folder_line_of, file_line_of, info_record_line, record_line_of_letter, record_line_of}
 use Rattle.change_outcome.specs.v2_lines.Accesses.{access_in}
 use Rattle.change_outcome.specs.v2_lines.declared.field.InfoField.{InfoField}
 use Rattle.change_outcome.specs.v2_lines.declared.field.InfoField.TheVariants as Letters
@@ -29,7 +29,7 @@ use Rattle.make_laws.specs.NamedFields.{entries_named}
 use Rattle.change_outcome.specs.v2_core.Database.{listed_access_value, listed_file_value, listed_hash_value, value_of_records}
 use Rattle.change_outcome.specs.v2_core.Records.{ListedFile}
 use Rattle.adb_view.specs.Plain.{blob_or_null}
-use Rattle.answer_laws.specs.TextLetters.{IsOfOtherLetter, listed_letters}
+use Rattle.answer_laws.specs.TextLetters.{HasUnlistedLetter, known_line_letters}
 use Rattle.make_laws.proofs.make_core.PackageFiles.{list-plains}
 use Rattle.answer_laws.proofs.RecordFields.{in_info, of_info, package_parts}
 
@@ -42,38 +42,38 @@ kept_by : (b : Bool) (l : RecordLine) → NotDropped (Some l) → NotDropped (if
 kept_by true l never e = never e
 kept_by false l never e = absurd cc
 
-kept_of : {A : Type 0} (line : A → RecordLine) → ((a : A) → NotDropped (Some (line a))) → (o : Option A) → NotDropped (option_map line o)
-kept_of line never None e = absurd cc
-kept_of line never (Some a) e = never a e
+kept_paths_of : {A : Type 0} (line : A → RecordLine) → ((a : A) → NotDropped (Some (line a))) → (o : Option A) → NotDropped (option_map line o)
+kept_paths_of line never None e = absurd cc
+kept_paths_of line never (Some a) e = never a e
 
-of_field : (f : InfoField) (value : List ℕ) → NotDropped (record_line_by (letter_of f) value)
+of_field : (f : InfoField) (value : List ℕ) → NotDropped (record_line_of_letter (letter_of f) value)
 of_field f value e =
-    kept_of (info_line f) (λ v e. absurd cc) (values_by_grammar (grammar_of f) value) (sym (by_letter f value) ∙ e)
+    kept_paths_of (info_line f) (λ v e. absurd cc) (values_under_grammar (grammar_of f) value) (sym (by_letter f value) ∙ e)
 
-folder_kept : (value : List ℕ) → NotDropped (record_line_by 70 value)
-unfolding record_line_by
+folder_kept : (value : List ℕ) → NotDropped (record_line_of_letter 70 value)
+unfolding record_line_of_letter
 folder_kept value = kept_by (is_folder_name value) (folder_line value) (λ e. absurd cc)
 
-folder_access_kept : (value : List ℕ) → NotDropped (record_line_by 77 value)
-unfolding record_line_by
-folder_access_kept value = kept_of folder_access_line (λ a e. absurd cc) (access_in value)
+folder_access_kept : (value : List ℕ) → NotDropped (record_line_of_letter 77 value)
+unfolding record_line_of_letter
+folder_access_kept value = kept_paths_of folder_access_line (λ a e. absurd cc) (access_in value)
 
-file_kept : (value : List ℕ) → NotDropped (record_line_by 82 value)
-unfolding record_line_by
+file_kept : (value : List ℕ) → NotDropped (record_line_of_letter 82 value)
+unfolding record_line_of_letter
 file_kept value = kept_by (is_one_part value) (file_line value) (λ e. absurd cc)
 
-file_access_kept : (value : List ℕ) → NotDropped (record_line_by 97 value)
-unfolding record_line_by
-file_access_kept value = kept_of file_access_line (λ a e. absurd cc) (access_in value)
+file_access_kept : (value : List ℕ) → NotDropped (record_line_of_letter 97 value)
+unfolding record_line_of_letter
+file_access_kept value = kept_paths_of file_access_line (λ a e. absurd cc) (access_in value)
 
-file_hash_kept : (value : List ℕ) → NotDropped (record_line_by 90 value)
-unfolding record_line_by
-file_hash_kept value = kept_of file_hash_line (λ a e. absurd cc) (sha1_of value)
+file_hash_kept : (value : List ℕ) → NotDropped (record_line_of_letter 90 value)
+unfolding record_line_of_letter
+file_hash_kept value = kept_paths_of file_hash_line (λ a e. absurd cc) (sha1_of value)
 
-listed_kept : (value : List ℕ) (letter n : ℕ) → NotDropped (record_line_by n value) → letter ≡ n → NotDropped (record_line_by letter value)
-listed_kept value letter n kept same e = kept (ap (λ (m : ℕ). record_line_by m value) (sym same) ∙ e)
+listed_kept : (value : List ℕ) (letter n : ℕ) → NotDropped (record_line_of_letter n value) → letter ≡ n → NotDropped (record_line_of_letter letter value)
+listed_kept value letter n kept same e = kept (ap (λ (m : ℕ). record_line_of_letter m value) (sym same) ∙ e)
 
-is_kept : (letter : ℕ) (value : List ℕ) → IsIn letter listed_letters → NotDropped (record_line_by letter value)
+is_kept : (letter : ℕ) (value : List ℕ) → IsIn letter known_line_letters → NotDropped (record_line_of_letter letter value)
 is_kept letter value (inl same) = listed_kept value letter 67 (of_field Letters.Hashes value) same
 is_kept letter value (inr (inl same)) = listed_kept value letter 80 (of_field Letters.Name value) same
 is_kept letter value (inr (inr (inl same))) = listed_kept value letter 86 (of_field Letters.Version value) same
@@ -102,7 +102,7 @@ is_kept letter value (inr (inr (inr (inr (inr (inr (inr (inr (inr (inr (inr (inr
 -- ---- a letter that is not listed
 
 -- the letter of a field is listed
-field_listed : (f : InfoField) → IsIn (letter_of f) listed_letters
+field_listed : (f : InfoField) → IsIn (letter_of f) known_line_letters
 field_listed Letters.Hashes = inl refl
 field_listed Letters.Name = inr (inl refl)
 field_listed Letters.Version = inr (inr (inl refl))
@@ -122,27 +122,27 @@ field_listed Letters.Provides = inr (inr (inr (inr (inr (inr (inr (inr (inr (inr
 field_listed Letters.Replaces = inr (inr (inr (inr (inr (inr (inr (inr (inr (inr (inr (inr (inr (inr (inr (inr (inl refl))))))))))))))))
 field_listed Letters.InstallIf = inr (inr (inr (inr (inr (inr (inr (inr (inr (inr (inr (inr (inr (inr (inr (inr (inr (inl refl)))))))))))))))))
 
-no_field : (among : List InfoField) (letter : ℕ) → (IsIn letter listed_letters → ⊥) → info_field_among among letter ≡ None
+no_field : (among : List InfoField) (letter : ℕ) → (IsIn letter known_line_letters → ⊥) → info_field_among among letter ≡ None
 no_field [] letter unlisted = refl
 no_field (f ∷ fs) letter unlisted =
-    ap (λ (b : Bool). cond b (Some f) (info_field_among fs letter)) (ne_eqb (letter_of f) letter (λ same. unlisted (subst (λ (n : ℕ). IsIn n listed_letters) same (field_listed f))))
+    ap (λ (b : Bool). cond b (Some f) (info_field_among fs letter)) (ne_eqb (letter_of f) letter (λ same. unlisted (subst (λ (n : ℕ). IsIn n known_line_letters) same (field_listed f))))
     ∙ no_field fs letter unlisted
 
 skip : (b : Bool) (o next : Option RecordLine) → b ≡ false → (if b then o else next) ≡ next
 skip b o next e = ap (λ (c : Bool). if c then o else next) e
 
-apart : (letter n : ℕ) → (IsIn letter listed_letters → ⊥) → IsIn n listed_letters → (letter == n) ≡ false
-apart letter n unlisted listed = ne_eqb letter n (λ same. unlisted (subst (λ (m : ℕ). IsIn m listed_letters) (sym same) listed))
+apart : (letter n : ℕ) → (IsIn letter known_line_letters → ⊥) → IsIn n known_line_letters → (letter == n) ≡ false
+apart letter n unlisted listed = ne_eqb letter n (λ same. unlisted (subst (λ (m : ℕ). IsIn m known_line_letters) (sym same) listed))
 
-dropped : (letter : ℕ) (value : List ℕ) → (IsIn letter listed_letters → ⊥) → record_line_by letter value ≡ Some other_line
-unfolding record_line_by field_of_letter
+dropped : (letter : ℕ) (value : List ℕ) → (IsIn letter known_line_letters → ⊥) → record_line_of_letter letter value ≡ Some other_line
+unfolding record_line_of_letter field_of_letter
 dropped letter value unlisted =
     skip (letter == 70) (folder_line_of value) _ (apart letter 70 unlisted (inr (inr (inr (inr (inr (inr (inr (inr (inr (inr (inr (inr (inr (inr (inr (inr (inr (inr (inl refl))))))))))))))))))))
     ∙ skip (letter == 77) (option_map folder_access_line (access_in value)) _ (apart letter 77 unlisted (inr (inr (inr (inr (inr (inr (inr (inr (inr (inr (inr (inr (inr (inr (inr (inr (inr (inr (inr (inl refl)))))))))))))))))))))
     ∙ skip (letter == 82) (file_line_of value) _ (apart letter 82 unlisted (inr (inr (inr (inr (inr (inr (inr (inr (inr (inr (inr (inr (inr (inr (inr (inr (inr (inr (inr (inr (inl refl))))))))))))))))))))))
     ∙ skip (letter == 97) (option_map file_access_line (access_in value)) _ (apart letter 97 unlisted (inr (inr (inr (inr (inr (inr (inr (inr (inr (inr (inr (inr (inr (inr (inr (inr (inr (inr (inr (inr (inr (inl refl)))))))))))))))))))))))
     ∙ skip (letter == 90) (option_map file_hash_line (sha1_of value)) _ (apart letter 90 unlisted (inr (inr (inr (inr (inr (inr (inr (inr (inr (inr (inr (inr (inr (inr (inr (inr (inr (inr (inr (inr (inr (inr (inl refl))))))))))))))))))))))))
-    ∙ ap (λ (o : Option InfoField). info_line_by o value) (no_field info_fields letter unlisted)
+    ∙ ap (λ (o : Option InfoField). info_record_line o value) (no_field info_fields letter unlisted)
 
 -- ---- both ways
 
@@ -150,11 +150,11 @@ marked : (mark : ℕ) (o : Option RecordLine) (b : Bool) → (mark == 58) ≡ b 
 marked mark o true t e = (eqb-true mark 58 t, e)
 marked mark o false t e = absurd cc
 
-is_other : (line : List ℕ) → record_line_of line ≡ Some other_line → IsOfOtherLetter line
+is_other : (line : List ℕ) → record_line_of line ≡ Some other_line → HasUnlistedLetter line
 is_other [] e = absurd cc
 is_other (letter ∷ []) e = absurd cc
 is_other (letter ∷ mark ∷ value) e =
-    let (is, by) = marked mark (record_line_by letter value) (mark == 58) refl e in
+    let (is, by) = marked mark (record_line_of_letter letter value) (mark == 58) refl e in
     record {
       letter = letter;
       value = value;
@@ -162,10 +162,10 @@ is_other (letter ∷ mark ∷ value) e =
       unlisted = λ listed. is_kept letter value listed by;
     }
 
-other_is : (line : List ℕ) → IsOfOtherLetter line → record_line_of line ≡ Some other_line
+other_is : (line : List ℕ) → HasUnlistedLetter line → record_line_of line ≡ Some other_line
 other_is line o = ap record_line_of o.line_is ∙ dropped o.letter o.value o.unlisted
 
-pub dropped_exactly : (line : List ℕ) → (record_line_of line ≡ Some other_line) ↔ IsOfOtherLetter line
+pub dropped_exactly : (line : List ℕ) → (record_line_of line ≡ Some other_line) ↔ HasUnlistedLetter line
 dropped_exactly line = (is_other line, other_is line)
 
 -- ---- what no letter gives

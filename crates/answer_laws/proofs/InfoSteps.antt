@@ -15,7 +15,7 @@ use Rattle.command_core.specs.declared.command.Flags.{Flags}
 use Rattle.command_core.specs.declared.operands.Operand.{Operand}
 use Rattle.installed_info.specs.Form.{form_of}
 use Rattle.installed_info.specs.Info.{info_refusal, names_info, operand_info, operands_info, package_info}
-use Rattle.installed_info.specs.Packages.{package_asked, package_named}
+use Rattle.installed_info.specs.Packages.{package_meant_by, package_named}
 use Rattle.report_core.specs.Reports.{report_line, report_lines}
 use Rattle.report_core.specs.declared.refusal.Refusal.TheVariants.{NotInstalled}
 use Rattle.answer_laws.specs.InfoAnswers.{HasSortedNames, IsFirstAbsent}
@@ -32,9 +32,9 @@ sorted_names packages = record {
 
 refused_at : (flags : Flags) (packages : List Plain) (operands : List Operand) (place : ℕ) → info_refusal (form_of flags) packages operands ≡ Some (NotInstalled place) → IsFirstAbsent flags packages operands place
 refused_at flags packages [] place e = absurd cc
-refused_at flags packages (o ∷ operands) place e = go (package_asked (form_of flags) packages o.text) refl e (refused_at flags packages operands place)
+refused_at flags packages (o ∷ operands) place e = go (package_meant_by (form_of flags) packages o.text) refl e (refused_at flags packages operands place)
   where
-    go : (asked : Option Plain) → package_asked (form_of flags) packages o.text ≡ asked
+    go : (asked : Option Plain) → package_meant_by (form_of flags) packages o.text ≡ asked
         → (if is_some asked then info_refusal (form_of flags) packages operands else Some (NotInstalled o.place)) ≡ Some (NotInstalled place)
         → (info_refusal (form_of flags) packages operands ≡ Some (NotInstalled place) → IsFirstAbsent flags packages operands place)
         → IsFirstAbsent flags packages (o ∷ operands) place
@@ -50,11 +50,11 @@ refused_at flags packages (o ∷ operands) place e = go (package_asked (form_of 
           operands_are = ap (λ (os : List Operand). o ∷ os) h.operands_are;
           place_is = h.place_is;
           absent = h.absent;
-          earlier = λ p at. elim at [ inl same ↦ ap (λ (q : Operand). is_some (package_asked (form_of flags) packages q.text)) same ∙ ap is_some is | inr later ↦ h.earlier p later ];
+          earlier = λ p at. elim at [ inl same ↦ ap (λ (q : Operand). is_some (package_meant_by (form_of flags) packages q.text)) same ∙ ap is_some is | inr later ↦ h.earlier p later ];
         }
 
-at_first : (flags : Flags) (packages : List Plain) (front : List Operand) (o : Operand) (rest : List Operand) (place : ℕ) → o.place ≡ place → package_asked (form_of flags) packages o.text ≡ None
-    → ((p : Operand) → IsIn p front → is_some (package_asked (form_of flags) packages p.text) ≡ true) → info_refusal (form_of flags) packages (front ++ o ∷ rest) ≡ Some (NotInstalled place)
+at_first : (flags : Flags) (packages : List Plain) (front : List Operand) (o : Operand) (rest : List Operand) (place : ℕ) → o.place ≡ place → package_meant_by (form_of flags) packages o.text ≡ None
+    → ((p : Operand) → IsIn p front → is_some (package_meant_by (form_of flags) packages p.text) ≡ true) → info_refusal (form_of flags) packages (front ++ o ∷ rest) ≡ Some (NotInstalled place)
 at_first flags packages [] o rest place at absent earlier =
     ap (λ (asked : Option Plain). if is_some asked then info_refusal (form_of flags) packages rest else Some (NotInstalled o.place)) absent
     ∙ ap (λ (n : ℕ). Some (NotInstalled n)) at
@@ -100,14 +100,14 @@ installed_operands flags packages operands no_owner asked =
 
 -- ---- one operand after the other
 
-pub answer_of_operand : (flags : Flags) (packages : List Plain) (front rest : List Operand) (o : Operand) (pkg : Plain) → package_asked (form_of flags) packages o.text ≡ Some pkg
+pub answer_of_operand : (flags : Flags) (packages : List Plain) (front rest : List Operand) (o : Operand) (pkg : Plain) → package_meant_by (form_of flags) packages o.text ≡ Some pkg
     → operands_info (form_of flags) packages (front ++ o ∷ rest)
     ≡ operands_info (form_of flags) packages front ++ (package_info (form_of flags) o.text pkg ++ operands_info (form_of flags) packages rest)
 answer_of_operand flags packages front rest o pkg is =
     flat_map-append (operand_info (form_of flags) packages) front (o ∷ rest)
     ∙ ap (λ (asked : Option Plain). operands_info (form_of flags) packages front ++ (option_map_or (package_info (form_of flags) o.text) asked [] ++ operands_info (form_of flags) packages rest)) is
 
-pub no_answer : (flags : Flags) (packages : List Plain) (front rest : List Operand) (o : Operand) → package_asked (form_of flags) packages o.text ≡ None
+pub no_answer : (flags : Flags) (packages : List Plain) (front rest : List Operand) (o : Operand) → package_meant_by (form_of flags) packages o.text ≡ None
     → operands_info (form_of flags) packages (front ++ o ∷ rest)
     ≡ operands_info (form_of flags) packages front ++ operands_info (form_of flags) packages rest
 no_answer flags packages front rest o is =

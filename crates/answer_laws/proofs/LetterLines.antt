@@ -8,13 +8,13 @@ use Rattle.dep_core.specs.Reading.{dependency_of}
 use Rattle.dep_core.specs.Spelling.{SpellsDependency}
 use Rattle.change_outcome.specs.make_info.Fields.{FieldValue}
 use Rattle.change_outcome.specs.v2_lines.InfoFields.{field_of_letter, grammar_of, info_field_among, info_fields, letter_of}
-use Rattle.change_outcome.specs.v2_lines.InfoValues.{sha1_of, values_by_grammar}
-use Rattle.change_outcome.specs.v2_lines.Lines.{RecordLine, info_line, folder_line, folder_access_line, file_line, file_access_line, file_hash_line, other_line, folder_line_of, file_line_of, info_line_by, record_line_by, record_line_of}
+use Rattle.change_outcome.specs.v2_lines.InfoValues.{sha1_of, values_under_grammar}
+use Rattle.change_outcome.specs.v2_lines.Lines.{RecordLine, info_line, folder_line, folder_access_line, file_line, file_access_line, file_hash_line, other_line, folder_line_of, file_line_of, info_record_line, record_line_of_letter, record_line_of}
 use Rattle.change_outcome.specs.v2_lines.Accesses.{access_in}
 use Rattle.change_outcome.specs.v2_lines.declared.field.InfoField.{InfoField}
 use Rattle.change_outcome.specs.v2_core.Database.{values_for}
-use Rattle.change_outcome.specs.v2_core.Records.{InfoLine, info_by}
-use Rattle.answer_laws.specs.TextLetters.{SaysOfLetter, SaysOfLine}
+use Rattle.change_outcome.specs.v2_core.Records.{InfoLine, info_line_from_parts}
+use Rattle.answer_laws.specs.TextLetters.{LetterValueGivesValues, LineGivesFieldValues}
 use Rattle.std.proofs.lemmas.Bool.{eq-eqb}
 use Rattle.installed_info.specs.adb_schema.Rules.{is_folder_name, is_one_part}
 use Rattle.answer_laws.proofs.LetterValues.{by_letter, letter_is, says}
@@ -33,20 +33,20 @@ found_field (f ∷ fs) letter g e = go (letter_of f == letter) refl e (found_fie
 
 -- what is known of a line of the information
 abbrev IsInfo : ℕ → List ℕ → InfoField → List FieldValue → Type 0
-IsInfo letter value g v = (letter ≡ letter_of g) × (values_by_grammar (grammar_of g) value ≡ Some v)
+IsInfo letter value g v = (letter ≡ letter_of g) × (values_under_grammar (grammar_of g) value ≡ Some v)
 
-info_by_line : (letter : ℕ) (o : Option InfoField) (value : List ℕ) (g : InfoField) (v : List FieldValue) → field_of_letter letter ≡ o → info_line_by o value ≡ Some (info_line g v) → IsInfo letter value g v
+info_by_line : (letter : ℕ) (o : Option InfoField) (value : List ℕ) (g : InfoField) (v : List FieldValue) → field_of_letter letter ≡ o → info_record_line o value ≡ Some (info_line g v) → IsInfo letter value g v
 unfolding field_of_letter
 info_by_line letter None value g v is e = absurd cc
-info_by_line letter (Some f) value g v is e = go (values_by_grammar (grammar_of f) value) refl e
+info_by_line letter (Some f) value g v is e = go (values_under_grammar (grammar_of f) value) refl e
   where
-    go : (o : Option (List FieldValue)) → values_by_grammar (grammar_of f) value ≡ o → option_map (info_line f) o ≡ Some (info_line g v) → IsInfo letter value g v
+    go : (o : Option (List FieldValue)) → values_under_grammar (grammar_of f) value ≡ o → option_map (info_line f) o ≡ Some (info_line g v) → IsInfo letter value g v
     go None said e = absurd cc
     go (Some u) said e =
         let same : info_line f u ≡ info_line g v = cc in
         let field : f ≡ g = cc in
         let values : u ≡ v = cc in
-        (sym (found_field info_fields letter g (is ∙ ap Some field)), subst (λ (x : InfoField). values_by_grammar (grammar_of x) value ≡ Some v) field (said ∙ ap Some values))
+        (sym (found_field info_fields letter g (is ∙ ap Some field)), subst (λ (x : InfoField). values_under_grammar (grammar_of x) value ≡ Some v) field (said ∙ ap Some values))
 
 -- a meaning that is no line of the information
 abbrev IsElse : Option RecordLine → Type 0
@@ -64,11 +64,11 @@ after_else : (b : Bool) (o next : Option RecordLine) (g : InfoField) (v : List F
 after_else true o next g v other e = absurd (other g v e)
 after_else false o next g v other e = e
 
-info_found : (letter : ℕ) (value : List ℕ) (g : InfoField) (v : List FieldValue) → record_line_by letter value ≡ Some (info_line g v) → IsInfo letter value g v
-unfolding record_line_by
+info_found : (letter : ℕ) (value : List ℕ) (g : InfoField) (v : List FieldValue) → record_line_of_letter letter value ≡ Some (info_line g v) → IsInfo letter value g v
+unfolding record_line_of_letter
 info_found letter value g v e =
     info_by_line letter (field_of_letter letter) value g v refl
-    (after_else (letter == 90) (option_map file_hash_line (sha1_of value)) (info_line_by (field_of_letter letter) value) g v (else_of file_hash_line (λ a g v e. absurd cc) (sha1_of value))
+    (after_else (letter == 90) (option_map file_hash_line (sha1_of value)) (info_record_line (field_of_letter letter) value) g v (else_of file_hash_line (λ a g v e. absurd cc) (sha1_of value))
     (after_else (letter == 97) (option_map file_access_line (access_in value)) _ g v (else_of file_access_line (λ a g v e. absurd cc) (access_in value))
     (after_else (letter == 82) (file_line_of value) _ g v (else_by (is_one_part value) (file_line value) (λ g v e. absurd cc))
     (after_else (letter == 77) (option_map folder_access_line (access_in value)) _ g v (else_of folder_access_line (λ a g v e. absurd cc) (access_in value))
@@ -79,7 +79,7 @@ info_found letter value g v e =
 -- the lines of the information that a line is: one or none
 abbrev pub infos : Option RecordLine → List InfoLine
 infos None = []
-infos (Some (info_line f values)) = info_by f values ∷ []
+infos (Some (info_line f values)) = info_line_from_parts f values ∷ []
 infos (Some (folder_line name)) = []
 infos (Some (folder_access_line a)) = []
 infos (Some (file_line name)) = []
@@ -97,10 +97,10 @@ given f line = values_of f (infos (record_line_of line))
 own_letter : (f : InfoField) → (letter_of f == letter_of f) ≡ true
 own_letter f = eq-eqb (letter_of f) (letter_of f) refl
 
-pub own_values : (f : InfoField) (v : List FieldValue) → values_of f (info_by f v ∷ []) ≡ v
+pub own_values : (f : InfoField) (v : List FieldValue) → values_of f (info_line_from_parts f v ∷ []) ≡ v
 own_values f v = ap (λ (b : Bool). (if b then v else []) ++ []) (own_letter f) ∙ append-nil v
 
-pub other_values : (f g : InfoField) (v : List FieldValue) → (letter_of g == letter_of f) ≡ false → values_of f (info_by g v ∷ []) ≡ []
+pub other_values : (f g : InfoField) (v : List FieldValue) → (letter_of g == letter_of f) ≡ false → values_of f (info_line_from_parts g v ∷ []) ≡ []
 other_values f g v e = ap (λ (b : Bool). (if b then v else []) ++ []) e
 
 marked : (mark : ℕ) (o : Option RecordLine) (l : RecordLine) (b : Bool) → (mark == 58) ≡ b → (if b then o else None) ≡ Some l → (mark ≡ 58) × (o ≡ Some l)
@@ -111,14 +111,14 @@ same_head : (x y : ℕ) (xs ys : List ℕ) → x ∷ xs ≡ y ∷ ys → x ≡ y
 same_head x y xs ys e = cc
 
 module _ (spelled : (t : List ℕ) (d : Dependency) → dependency_of t ≡ Some d → SpellsDependency t d) (read : (t : List ℕ) (d : Dependency) → SpellsDependency t d → dependency_of t ≡ Some d) where
-  own_line : (f : InfoField) (value : List ℕ) (l : RecordLine) (o : Option (List FieldValue)) → values_by_grammar (grammar_of f) value ≡ o → option_map (info_line f) o ≡ Some l → SaysOfLetter f value (values_of f (infos (Some l)))
+  own_line : (f : InfoField) (value : List ℕ) (l : RecordLine) (o : Option (List FieldValue)) → values_under_grammar (grammar_of f) value ≡ o → option_map (info_line f) o ≡ Some l → LetterValueGivesValues f value (values_of f (infos (Some l)))
   own_line f value l None is e = absurd cc
   own_line f value l (Some v) is e =
       let same : info_line f v ≡ l = cc in
-      subst (λ (x : RecordLine). SaysOfLetter f value (values_of f (infos (Some x)))) same
-      (subst (SaysOfLetter f value) (sym (own_values f v)) (says spelled read f value v is))
+      subst (λ (x : RecordLine). LetterValueGivesValues f value (values_of f (infos (Some x)))) same
+      (subst (LetterValueGivesValues f value) (sym (own_values f v)) (says spelled read f value v is))
 
-  none_of_line : (f : InfoField) (letter : ℕ) (value : List ℕ) (l : RecordLine) → (letter == letter_of f) ≡ false → record_line_by letter value ≡ Some l → values_of f (infos (Some l)) ≡ []
+  none_of_line : (f : InfoField) (letter : ℕ) (value : List ℕ) (l : RecordLine) → (letter == letter_of f) ≡ false → record_line_of_letter letter value ≡ Some l → values_of f (infos (Some l)) ≡ []
   none_of_line f letter value (info_line g v) other e =
       let is = (info_found letter value g v e).0 in
       other_values f g v (ap (λ (n : ℕ). n == letter_of f) (sym is) ∙ other)
@@ -129,13 +129,13 @@ module _ (spelled : (t : List ℕ) (d : Dependency) → dependency_of t ≡ Some
   none_of_line f letter value (file_hash_line hash) other e = refl
   none_of_line f letter value other_line other e = refl
 
-  says_by : (f : InfoField) (letter : ℕ) (value : List ℕ) (l : RecordLine) (b : Bool) → (letter == letter_of f) ≡ b → record_line_by letter value ≡ Some l → SaysOfLine f (letter ∷ 58 ∷ value) (values_of f (infos (Some l)))
+  says_by : (f : InfoField) (letter : ℕ) (value : List ℕ) (l : RecordLine) (b : Bool) → (letter == letter_of f) ≡ b → record_line_of_letter letter value ≡ Some l → LineGivesFieldValues f (letter ∷ 58 ∷ value) (values_of f (infos (Some l)))
   says_by f letter value l true t e =
       let same : letter ≡ letter_of f = eqb-true letter (letter_of f) t in
       inl (
         value,
         ap (λ (n : ℕ). n ∷ 58 ∷ value) same ∙ sym (letter_is f value),
-        own_line f value l (values_by_grammar (grammar_of f) value) refl (sym (by_letter f value) ∙ ap (λ (n : ℕ). record_line_by n value) (sym same) ∙ e),
+        own_line f value l (values_under_grammar (grammar_of f) value) refl (sym (by_letter f value) ∙ ap (λ (n : ℕ). record_line_of_letter n value) (sym same) ∙ e),
       )
   says_by f letter value l false t e = inr (
     λ other is.
@@ -145,10 +145,10 @@ module _ (spelled : (t : List ℕ) (d : Dependency) → dependency_of t ≡ Some
     none_of_line f letter value l t e,
   )
 
-  pub one_line : (f : InfoField) (line : List ℕ) (l : RecordLine) → record_line_of line ≡ Some l → SaysOfLine f line (given f line)
+  pub one_line : (f : InfoField) (line : List ℕ) (l : RecordLine) → record_line_of line ≡ Some l → LineGivesFieldValues f line (given f line)
   one_line f [] l e = absurd cc
   one_line f (letter ∷ []) l e = absurd cc
   one_line f (letter ∷ mark ∷ value) l e =
-      let (is, by) = marked mark (record_line_by letter value) l (mark == 58) refl e in
-      subst (λ (o : Option RecordLine). SaysOfLine f (letter ∷ mark ∷ value) (values_of f (infos o))) (sym e)
-      (subst (λ (m : ℕ). SaysOfLine f (letter ∷ m ∷ value) (values_of f (infos (Some l)))) (sym is) (says_by f letter value l (letter == letter_of f) refl by))
+      let (is, by) = marked mark (record_line_of_letter letter value) l (mark == 58) refl e in
+      subst (λ (o : Option RecordLine). LineGivesFieldValues f (letter ∷ mark ∷ value) (values_of f (infos o))) (sym e)
+      (subst (λ (m : ℕ). LineGivesFieldValues f (letter ∷ m ∷ value) (values_of f (infos (Some l)))) (sym is) (says_by f letter value l (letter == letter_of f) refl by))

@@ -13,19 +13,19 @@ use Rattle.dep_core.specs.Spelling.{SpellsDependency}
 use Rattle.change_outcome.specs.make_info.Fields.{FieldValue, text, kind_of_field, value_of_digits, values_by_kind}
 use Rattle.change_outcome.specs.make_info.declared.field.Field.{Field}
 use Rattle.change_outcome.specs.make_info.declared.field.Field.TheVariants as Options
-use Rattle.make_laws.specs.OptionGrammar.{SaysOfField}
+use Rattle.make_laws.specs.OptionGrammar.{FieldTextGivesValues}
 use Rattle.make_laws.proofs.FieldValues.{says_from, says_to}
 use Rattle.change_outcome.specs.v2_lines.InfoFields.{field_of_letter, grammar_of, letter_of}
-use Rattle.change_outcome.specs.v2_lines.InfoValues.{commit_values, sha1_of, twenty_bytes, values_by_grammar}
-use Rattle.change_outcome.specs.v2_lines.Lines.{info_line, record_line_by}
+use Rattle.change_outcome.specs.v2_lines.InfoValues.{commit_values, sha1_of, twenty_bytes, values_under_grammar}
+use Rattle.change_outcome.specs.v2_lines.Lines.{info_line, record_line_of_letter}
 use Rattle.change_outcome.specs.v2_lines.declared.field.InfoField.{InfoField}
 use Rattle.change_outcome.specs.v2_lines.declared.field.InfoField.TheVariants as Letters
-use Rattle.answer_laws.specs.TextLetters.{SaysCommit, SaysHash, SaysOfLetter, letter_line, line_letter}
+use Rattle.answer_laws.specs.TextLetters.{SaysCommit, SaysHash, LetterValueGivesValues, letter_line, line_letter}
 
 -- ---- the meaning of a line of a letter
 
-pub by_letter : (f : InfoField) (value : List ℕ) → record_line_by (letter_of f) value ≡ option_map (info_line f) (values_by_grammar (grammar_of f) value)
-unfolding record_line_by field_of_letter
+pub by_letter : (f : InfoField) (value : List ℕ) → record_line_of_letter (letter_of f) value ≡ option_map (info_line f) (values_under_grammar (grammar_of f) value)
+unfolding record_line_of_letter field_of_letter
 by_letter Letters.Hashes value = refl
 by_letter Letters.Name value = refl
 by_letter Letters.Version value = refl
@@ -95,7 +95,7 @@ mapped f None said e = absurd cc
 mapped f (Some x) said e = (x, refl, cc)
 
 module _ (spelled : (t : List ℕ) (d : Dependency) → dependency_of t ≡ Some d → SpellsDependency t d) (read : (t : List ℕ) (d : Dependency) → SpellsDependency t d → dependency_of t ≡ Some d) where
-  as_option : (f : Field) (value : List ℕ) (said : List FieldValue) → values_by_kind (kind_of_field f) value ≡ Some said → SaysOfField f value said
+  as_option : (f : Field) (value : List ℕ) (said : List FieldValue) → values_by_kind (kind_of_field f) value ≡ Some said → FieldTextGivesValues f value said
   as_option f value said e = says_to spelled read f value said e
 
   commit : (value : List ℕ) (r : Result (List ℕ) FromHexError) (said : List FieldValue) → hex_bytes value ≡ r → commit_values r ≡ said → SaysCommit value said
@@ -109,7 +109,7 @@ module _ (spelled : (t : List ℕ) (d : Dependency) → dependency_of t ≡ Some
   some_commit : (value said : List FieldValue) → Some value ≡ Some said → value ≡ said
   some_commit value said e = cc
 
-  pub says : (f : InfoField) (value : List ℕ) (said : List FieldValue) → values_by_grammar (grammar_of f) value ≡ Some said → SaysOfLetter f value said
+  pub says : (f : InfoField) (value : List ℕ) (said : List FieldValue) → values_under_grammar (grammar_of f) value ≡ Some said → LetterValueGivesValues f value said
   says Letters.Hashes value said e =
       let (bytes, is, same) = mapped (λ (b : List ℕ). text b ∷ []) (sha1_of value) said e in
       subst (SaysHash value) same (hash_says value bytes is)

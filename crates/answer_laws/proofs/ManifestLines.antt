@@ -3,7 +3,7 @@ use Rattle.std.proofs.Common.{ℕ, ◌≡◌, ◌↔◌, ◌∙◌, List, [], �
 use Rattle.std.specs.List.{flat_map}
 use Rattle.std.proofs.lemmas.Grind.{flat_map-append}
 use Rattle.adb_view.specs.Plain.{Plain}
-use Rattle.audit_core.specs.Manifest.{manifest_after, manifest_line, manifest_of, manifest_with, operand_package, package_manifest}
+use Rattle.audit_core.specs.Manifest.{manifest_with_lines_before, manifest_line, manifest_of, manifest_with, operand_package, package_manifest}
 use Rattle.audit_core.specs.Records.{file_record, folder_records}
 use Rattle.audit_core.specs.adb_fields.Repeated.{files_in, folders_in, name_of}
 use Rattle.command_core.specs.declared.operands.Operand.{Operand}
@@ -58,7 +58,7 @@ of_operands packages (o ∷ operands) (pkg ∷ found) each =
     let first : operand_package packages o ≡ Some pkg = cc (each) in
     let others : map (package_of_operand packages) operands ≡ map Some found = cc (each) in
     ap (λ (p : Option Plain). manifest_with o p (manifest_of packages operands)) first
-    ∙ ap (manifest_after (package_manifest pkg)) (of_operands packages operands found others)
+    ∙ ap (manifest_with_lines_before (package_manifest pkg)) (of_operands packages operands found others)
     ∙ ap (λ (l : List ℕ). Ok (l ++ flat_map lines_of_package found)) (package_lines pkg)
 
 pub manifest_told : (packages : List Plain) (operands : List Operand) (text : List ℕ) → (manifest_of packages operands ≡ Ok text) ↔ HasLinesOfOperands packages operands text

@@ -9,20 +9,20 @@ use Rattle.std.proofs.lemmas.Slice.Eq.{bytes_eq-Decides}
 use Rattle.std.proofs.lemmas.Bool.{not-true, and_from, and_parts, or_cases, not_from_false}
 use Rattle.change_outcome.specs.adb_fields.Repeated.{package_name}
 use Rattle.adb_view.specs.Plain.{Plain}
-use Rattle.base_core.specs.Listed.{IsRising}
+use Rattle.base_core.specs.Listed.{AreSortedDistinctNames}
 use Rattle.base_core.specs.Lists.{IsIn}
 use Rattle.base_core.proofs.Rising as rising
 use Rattle.base_core.proofs.Booleans.{either_true}
 use Rattle.installed_info.specs.candidate_core.Candidates.{Candidate, is_met_by_entry, meets_by_own_name, meets_dependency}
 use Rattle.change_outcome.proofs.change_files.InOrder.{filter_rises, from_filter, from_order, in_filter, in_order, order_rises}
-use Rattle.change_outcome.specs.change_files.PlanLists.{names_in_order}
+use Rattle.change_outcome.specs.change_files.PlanLists.{sorted_distinct_names}
 use Rattle.change_outcome.specs.db_core.Packages.{is_package_named}
 use Rattle.dep_core.specs.Dependency.{Dependency}
 use Rattle.dep_core.specs.Meets.{meets}
 use Rattle.change_outcome.specs.package_changes.Changes.{is_selected_named}
-use Rattle.change_outcome.specs.package_changes.Report.{is_in_need, names_in_need, needs_candidate, selected_stay_lines, stay_lines, was_installed}
-use Rattle.report_core.specs.Reports.{report_line, report_lines, stays_text}
-use Rattle.answer_laws.specs.KeptNames.{AreNamedOnce, HasKeptLines, IsNeededUnder, IsProvidedBy, NeedsOther, kept_text}
+use Rattle.change_outcome.specs.package_changes.Report.{is_other_candidate_needing, names_needing_candidate, needs_candidate, still_needed_lines_of_name, still_needed_lines, was_installed}
+use Rattle.report_core.specs.Reports.{report_line, report_lines, still_needed_text}
+use Rattle.answer_laws.specs.KeptNames.{AreNamedOnce, HasKeptLines, IsNeededBySelectedName, IsProvidedBy, NeedsOther, still_needed_text_of_name}
 use Rattle.answer_laws.proofs.Members.{found_name, listed, missing_name, risen}
 use Rattle.answer_laws.proofs.Tests.{any_passes, in_passing, passes_any, passing_in, text_in, text_of}
 
@@ -73,11 +73,11 @@ name_other c needed apart = go (bytes_eq c.name needed.name) refl
     go true is = absurd (apart ((bytes_eq-Decides c.name needed.name).0 is))
     go false is = refl
 
-pub needed_under : (selected : List Candidate) (needed : Candidate) (name : List ℕ) → IsIn name (names_in_need selected needed) ↔ IsNeededUnder selected needed name
+pub needed_under : (selected : List Candidate) (needed : Candidate) (name : List ℕ) → IsIn name (names_needing_candidate selected needed) ↔ IsNeededBySelectedName selected needed name
 needed_under selected needed name = (
   λ at.
-      let t = text_of name_of (filter (is_in_need needed) selected) name (from_order name _ (risen name _ at)) in
-      let f = in_passing (is_in_need needed) selected t.element t.listed in
+      let t = text_of name_of (filter (is_other_candidate_needing needed) selected) name (from_order name _ (risen name _ at)) in
+      let f = in_passing (is_other_candidate_needing needed) selected t.element t.listed in
       let b = and_parts (not (bytes_eq t.element.name needed.name)) (needs_candidate t.element needed) f.1 in
       record {
         user = t.element;
@@ -87,16 +87,16 @@ needed_under selected needed name = (
         needs = needs_is t.element needed b.1;
       },
   λ n.
-      listed name (names_in_need selected needed) (in_order name (map name_of (filter (is_in_need needed) selected))
-      (text_in name_of (filter (is_in_need needed) selected) name n.user
-      (passing_in (is_in_need needed) selected n.user n.listed
+      listed name (names_needing_candidate selected needed) (in_order name (map name_of (filter (is_other_candidate_needing needed) selected))
+      (text_in name_of (filter (is_other_candidate_needing needed) selected) name n.user
+      (passing_in (is_other_candidate_needing needed) selected n.user n.listed
       (and_from (not (bytes_eq n.user.name needed.name)) (needs_candidate n.user needed)
       (not_from_false _ (name_other n.user needed (λ same. n.another (n.named ∙ same)))) (is_needs n.user needed n.needs)))
       n.named)),
 )
 
-pub needed_rising : (selected : List Candidate) (needed : Candidate) → IsRising (names_in_need selected needed)
-needed_rising selected needed = rising.pairs_from_rises (names_in_need selected needed) (order_rises (map name_of (filter (is_in_need needed) selected)))
+pub needed_rising : (selected : List Candidate) (needed : Candidate) → AreSortedDistinctNames (names_needing_candidate selected needed)
+needed_rising selected needed = rising.pairs_from_rises (names_needing_candidate selected needed) (order_rises (map name_of (filter (is_other_candidate_needing needed) selected)))
 
 -- ---- the lines
 
@@ -116,30 +116,30 @@ find_first p (c ∷ cs) = go (p c) (find_first p cs)
     go false e = e
 
 abbrev text_on : List Candidate → List ℕ → Option Candidate → List ℕ
-text_on selected name o = option_map_or (λ (c : Candidate). stays_text name (names_in_need selected c)) o []
+text_on selected name o = option_map_or (λ (c : Candidate). still_needed_text name (names_needing_candidate selected c)) o []
 
 -- the line of one name, before others
 one_line : (selected : List Candidate) (name rest : List ℕ) (cs : List Candidate) → length cs ≤ 1
-    → flat_map (λ (c : Candidate). report_line (stays_text name (names_in_need selected c))) cs ++ rest
+    → flat_map (λ (c : Candidate). report_line (still_needed_text name (names_needing_candidate selected c))) cs ++ rest
     ≡ cond (is_some (first_of cs)) (report_line (text_on selected name (first_of cs)) ++ rest) rest
 one_line selected name rest [] few = refl
-one_line selected name rest (c ∷ []) few = ap (λ (t : List ℕ). t ++ rest) (append-nil (report_line (stays_text name (names_in_need selected c))))
+one_line selected name rest (c ∷ []) few = ap (λ (t : List ℕ). t ++ rest) (append-nil (report_line (still_needed_text name (names_needing_candidate selected c))))
 one_line selected name rest (c ∷ d ∷ cs) few = absurd (omega (arith, few))
 
 lines_of : (selected : List Candidate) → AreNamedOnce selected → (names : List (List ℕ))
-    → flat_map (selected_stay_lines selected) names ≡ report_lines (map (kept_text selected) (filter (has_selected selected) names))
+    → flat_map (still_needed_lines_of_name selected) names ≡ report_lines (map (still_needed_text_of_name selected) (filter (has_selected selected) names))
 lines_of selected once [] = refl
 lines_of selected once (x ∷ names) =
-    one_line selected x (flat_map (selected_stay_lines selected) names) (filter (is_selected_named x) selected) (once x)
-    ∙ ap (λ (o : Option Candidate). cond (is_some o) (report_line (text_on selected x o) ++ flat_map (selected_stay_lines selected) names) (flat_map (selected_stay_lines selected) names))
+    one_line selected x (flat_map (still_needed_lines_of_name selected) names) (filter (is_selected_named x) selected) (once x)
+    ∙ ap (λ (o : Option Candidate). cond (is_some o) (report_line (text_on selected x o) ++ flat_map (still_needed_lines_of_name selected) names) (flat_map (still_needed_lines_of_name selected) names))
     (sym (find_first (is_selected_named x) selected))
-    ∙ ap (λ (r : List ℕ). cond (has_selected selected x) (report_line (kept_text selected x) ++ r) r) (lines_of selected once names)
+    ∙ ap (λ (r : List ℕ). cond (has_selected selected x) (report_line (still_needed_text_of_name selected x) ++ r) r) (lines_of selected once names)
     ∙ go (has_selected selected x)
   where
     go : (b : Bool)
-        → cond b (report_line (kept_text selected x) ++ report_lines (map (kept_text selected) (filter (has_selected selected) names)))
-        (report_lines (map (kept_text selected) (filter (has_selected selected) names)))
-        ≡ report_lines (map (kept_text selected) (cond b (x ∷ filter (has_selected selected) names) (filter (has_selected selected) names)))
+        → cond b (report_line (still_needed_text_of_name selected x) ++ report_lines (map (still_needed_text_of_name selected) (filter (has_selected selected) names)))
+        (report_lines (map (still_needed_text_of_name selected) (filter (has_selected selected) names)))
+        ≡ report_lines (map (still_needed_text_of_name selected) (cond b (x ∷ filter (has_selected selected) names) (filter (has_selected selected) names)))
     go true = refl
     go false = refl
 
@@ -170,21 +170,21 @@ in_before before name at =
     passes_any (is_package_named name) before t.element t.listed ((bytes_eq-Decides (package_name t.element) name).1 (sym t.is))
 
 pub kept_lines : (before : List Plain) (selected : List Candidate) (to_remove : List (List ℕ)) → AreNamedOnce selected
-    → HasKeptLines before selected to_remove (stay_lines before selected to_remove)
+    → HasKeptLines before selected to_remove (still_needed_lines before selected to_remove)
 kept_lines before selected to_remove once =
-    let candidates : List (List ℕ) = filter (was_installed before) (names_in_order to_remove) in
+    let candidates : List (List ℕ) = filter (was_installed before) (sorted_distinct_names to_remove) in
     let names : List (List ℕ) = filter (has_selected selected) candidates in
     record {
       names = names;
-      order = rising.pairs_from_rises names (filter_rises (has_selected selected) candidates (filter_rises (was_installed before) (names_in_order to_remove) (order_rises to_remove)));
+      order = rising.pairs_from_rises names (filter_rises (has_selected selected) candidates (filter_rises (was_installed before) (sorted_distinct_names to_remove) (order_rises to_remove)));
       each = λ name. (
         λ at.
             let s = from_filter (has_selected selected) candidates name (risen name names at) in
-            let b = from_filter (was_installed before) (names_in_order to_remove) name s.0 in
+            let b = from_filter (was_installed before) (sorted_distinct_names to_remove) name s.0 in
             (listed name to_remove (from_order name to_remove b.0), was_in before name b.1, selected_in selected name s.1),
         λ all.
             listed name names (in_filter (has_selected selected) candidates name
-            (in_filter (was_installed before) (names_in_order to_remove) name (in_order name to_remove (risen name to_remove all.0)) (in_before before name all.1))
+            (in_filter (was_installed before) (sorted_distinct_names to_remove) name (in_order name to_remove (risen name to_remove all.0)) (in_before before name all.1))
             (in_selected selected name all.2)),
       );
       text_is = lines_of selected once candidates;

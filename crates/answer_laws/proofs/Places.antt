@@ -9,7 +9,7 @@ use Rattle.base_core.specs.Name.{is_name}
 use Rattle.base_core.specs.declared.cause.Cause.{Cause}
 use Rattle.installed_info.specs.candidate_core.Candidates.{Candidate}
 use Rattle.change_outcome.specs.change_inputs.Chains.{unless_cause}
-use Rattle.change_outcome.specs.change_inputs.Database.{Database, database_by, payload_database, root_database}
+use Rattle.change_outcome.specs.change_inputs.Database.{Database, database_from_parts, payload_database, root_database}
 use Rattle.change_outcome.specs.PackageFiles.{package_file_of, path_beside_index}
 use Rattle.change_outcome.specs.root_names.PackagePath.{folder_prefix_of, has_slash, if_name, package_path}
 use Rattle.dep_core.specs.Repositories.{Repository}
@@ -81,9 +81,9 @@ container begins other file text another = refl
 pub by_container : (begins : Bool) (file : List ℕ) (text : Option (List ℕ)) (d : Database) → root_database begins (Some file) text ≡ Ok d → (d.from_text ≡ false) × (d.file ≡ Some file)
 by_container begins file text d e = go (first_fault Idb file) e
   where
-    go : (o : Option Cause) → unless_cause DatabaseBad o (database_by (entries_at IDB_PACKAGES (root_value Idb (payload_in file))) (Some file) false) ≡ Ok d → (d.from_text ≡ false) × (d.file ≡ Some file)
+    go : (o : Option Cause) → unless_cause DatabaseBad o (database_from_parts (entries_at IDB_PACKAGES (root_value Idb (payload_in file))) (Some file) false) ≡ Ok d → (d.from_text ≡ false) × (d.file ≡ Some file)
     go None e =
-        let is : database_by (entries_at IDB_PACKAGES (root_value Idb (payload_in file))) (Some file) false ≡ d = cc in
+        let is : database_from_parts (entries_at IDB_PACKAGES (root_value Idb (payload_in file))) (Some file) false ≡ d = cc in
         (sym (ap (λ (x : Database). x.from_text) is), sym (ap (λ (x : Database). x.file) is))
     go (Some cause) e = absurd cc
 
@@ -95,7 +95,7 @@ by_text begins text d e = go (payload_of_text text) e
   where
     go : (r : Result (List ℕ) V2Fault) → payload_database r ≡ Ok d → (d.from_text ≡ true) × (d.file ≡ None)
     go (Ok payload) e =
-        let is : database_by (entries_at IDB_PACKAGES (root_value Idb payload)) None true ≡ d = cc in
+        let is : database_from_parts (entries_at IDB_PACKAGES (root_value Idb payload)) None true ≡ d = cc in
         (sym (ap (λ (x : Database). x.from_text) is), sym (ap (λ (x : Database). x.file) is))
     go (Err (Bad cause)) e = absurd cc
     go (Err (TooLarge bytes values)) e = absurd cc
@@ -103,5 +103,5 @@ by_text begins text d e = go (payload_of_text text) e
 
 pub begun : (d : Database) → root_database true None None ≡ Ok d → (d.packages ≡ []) × (d.from_text ≡ false) × (d.file ≡ None)
 begun d e =
-    let is : database_by [] None false ≡ d = cc in
+    let is : database_from_parts [] None false ≡ d = cc in
     (sym (ap (λ (x : Database). x.packages) is), sym (ap (λ (x : Database). x.from_text) is), sym (ap (λ (x : Database). x.file) is))

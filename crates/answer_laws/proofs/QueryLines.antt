@@ -16,11 +16,11 @@ use Rattle.command_core.specs.declared.operands.Operand.{Operand}
 use Rattle.dep_core.specs.Repositories.{Repository}
 use Rattle.query_core.specs.Asked.{AreInOrderBy}
 use Rattle.query_core.specs.List.{candidate_line, is_list_candidate, list_report}
-use Rattle.query_core.specs.Order.{printed_version, query_cmp, selected_candidates, selected_places}
+use Rattle.query_core.specs.Order.{printed_version, query_cmp, sorted_candidates_passing, sorted_places_passing}
 use Rattle.query_core.specs.Policy.{has_name_and_version, has_own_name, is_of_repository, policy_report, repository_lines, version_policy, versions_of_name}
 use Rattle.query_core.specs.Search.{is_search_candidate, search_report}
-use Rattle.report_core.specs.QueryReports.{database_line, policy_heading, repository_line, search_line, version_heading}
-use Rattle.answer_laws.specs.QueryLines.{HasLinesOfAsked, HasNameAndVersion, HasPlacesOfVersion, IsListAsked, IsSearchAsked, IsVersionInRepository, IsVersionInstalled, line_at, repository_line_at}
+use Rattle.report_core.specs.QueryReports.{policy_database_line, policy_heading, repository_line, search_line, version_heading}
+use Rattle.answer_laws.specs.QueryLines.{HasLinesOfAsked, HasNameAndVersion, HasPlacesOfVersion, IsInListReport, IsInSearchReport, IsVersionInRepository, IsVersionInstalled, line_at, repository_line_at}
 
 -- ---- the lines of places
 
@@ -34,14 +34,14 @@ at_places line cs [] = refl
 at_places line cs (place ∷ places) = line_next line cs places (slice_get cs place) (at_places line cs places)
 
 -- the laws of `query_core` on what is selected
-module _ (those : (test : Candidate → Bool) (cs : List Candidate) (place : ℕ) → IsIn place (selected_places test cs) → option_map_or test (slice_get cs place) false ≡ true) (each : (test : Candidate → Bool) (cs : List Candidate) (place : ℕ) → option_map_or test (slice_get cs place) false ≡ true → IsIn place (selected_places test cs)) (order : (test : Candidate → Bool) (cs : List Candidate) → AreInOrderBy (query_cmp cs) (selected_places test cs)) where
+module _ (those : (test : Candidate → Bool) (cs : List Candidate) (place : ℕ) → IsIn place (sorted_places_passing test cs) → option_map_or test (slice_get cs place) false ≡ true) (each : (test : Candidate → Bool) (cs : List Candidate) (place : ℕ) → option_map_or test (slice_get cs place) false ≡ true → IsIn place (sorted_places_passing test cs)) (order : (test : Candidate → Bool) (cs : List Candidate) → AreInOrderBy (query_cmp cs) (sorted_places_passing test cs)) where
   lines_of : (test : Candidate → Bool) (IsAsked : Candidate → Type 0) (line : Candidate → List ℕ) (cs : List Candidate) (text : List ℕ) → ((c : Candidate) → (test c ≡ true) ↔ IsAsked c)
-      → text ≡ flat_map line (selected_candidates test cs) → HasLinesOfAsked IsAsked line cs text
+      → text ≡ flat_map line (sorted_candidates_passing test cs) → HasLinesOfAsked IsAsked line cs text
   lines_of test IsAsked line cs text asked is = record {
-    places = selected_places test cs;
+    places = sorted_places_passing test cs;
     each = λ place. (λ h. there place (slice_get cs place) refl (those test cs place h), λ x. back place x);
     order = order test cs;
-    text_is = is ∙ at_places line cs (selected_places test cs);
+    text_is = is ∙ at_places line cs (sorted_places_passing test cs);
   }
     where
       there : (place : ℕ) (o : Option Candidate) → slice_get cs place ≡ o → option_map_or test (slice_get cs place) false ≡ true
@@ -49,21 +49,21 @@ module _ (those : (test : Candidate → Bool) (cs : List Candidate) (place : ℕ
       there place None at e = let none : false ≡ true = sym (ap (λ (o : Option Candidate). option_map_or test o false) at) ∙ e in absurd (cc (none))
       there place (Some c) at e = (c, at, (asked c).0 (sym (ap (λ (o : Option Candidate). option_map_or test o false) at) ∙ e))
 
-      back : (place : ℕ) → ((c : Candidate) × (slice_get cs place ≡ Some c) × IsAsked c) → IsIn place (selected_places test cs)
+      back : (place : ℕ) → ((c : Candidate) × (slice_get cs place ≡ Some c) × IsAsked c) → IsIn place (sorted_places_passing test cs)
       back place (c, at, h) = each test cs place (ap (λ (o : Option Candidate). option_map_or test o false) at ∙ (asked c).1 h)
 
-  pub listed : ((patterns : List Operand) (installed_only : Bool) (c : Candidate) → (is_list_candidate patterns installed_only c ≡ true) ↔ IsListAsked patterns installed_only c)
+  pub listed : ((patterns : List Operand) (installed_only : Bool) (c : Candidate) → (is_list_candidate patterns installed_only c ≡ true) ↔ IsInListReport patterns installed_only c)
       → (cs : List Candidate) (patterns : List Operand) (installed_only : Bool)
-      → HasLinesOfAsked (IsListAsked patterns installed_only) candidate_line cs (list_report cs patterns installed_only)
+      → HasLinesOfAsked (IsInListReport patterns installed_only) candidate_line cs (list_report cs patterns installed_only)
   listed asked cs patterns installed_only =
-      lines_of (is_list_candidate patterns installed_only) (IsListAsked patterns installed_only) candidate_line cs
+      lines_of (is_list_candidate patterns installed_only) (IsInListReport patterns installed_only) candidate_line cs
       (list_report cs patterns installed_only) (asked patterns installed_only) refl
 
-  pub searched : ((patterns : List Operand) (c : Candidate) → (is_search_candidate patterns c ≡ true) ↔ IsSearchAsked patterns c)
+  pub searched : ((patterns : List Operand) (c : Candidate) → (is_search_candidate patterns c ≡ true) ↔ IsInSearchReport patterns c)
       → (cs : List Candidate) (patterns : List Operand)
-      → HasLinesOfAsked (IsSearchAsked patterns) (λ (c : Candidate). search_line c.name (printed_version c.version)) cs (search_report cs patterns)
+      → HasLinesOfAsked (IsInSearchReport patterns) (λ (c : Candidate). search_line c.name (printed_version c.version)) cs (search_report cs patterns)
   searched asked cs patterns =
-      lines_of (is_search_candidate patterns) (IsSearchAsked patterns) (λ (c : Candidate). search_line c.name (printed_version c.version)) cs
+      lines_of (is_search_candidate patterns) (IsInSearchReport patterns) (λ (c : Candidate). search_line c.name (printed_version c.version)) cs
       (search_report cs patterns) (asked patterns) refl
 
 -- ---- where a version is
@@ -245,19 +245,19 @@ rising those number place (r ∷ rs) e =
 pub places_told : (cs : List Candidate) (repositories : List Repository) (name : List ℕ) (version : Option (List ℕ)) → HasPlacesOfVersion cs repositories name version (version_policy cs repositories name version)
 places_told cs repositories name version =
     record {
-      database = if list_any (λ (c : Candidate). c.installed) (filter (has_name_and_version name version) cs) then database_line else [];
+      database = if list_any (λ (c : Candidate). c.installed) (filter (has_name_and_version name version) cs) then policy_database_line else [];
       database_is = by_test (list_any (λ (c : Candidate). c.installed) (filter (has_name_and_version name version) cs)) refl;
       places = places_of (filter (has_name_and_version name version) cs) 1 0 repositories;
       each = λ place. (there place, back place);
       order = rising (filter (has_name_and_version name version) cs) 1 0 repositories refl;
-      text_is = ap (λ (l : List ℕ). version_heading (printed_version version) ++ ((if list_any (λ (c : Candidate). c.installed) (filter (has_name_and_version name version) cs) then database_line else []) ++ l))
+      text_is = ap (λ (l : List ℕ). version_heading (printed_version version) ++ ((if list_any (λ (c : Candidate). c.installed) (filter (has_name_and_version name version) cs) then policy_database_line else []) ++ l))
           (lines_from (filter (has_name_and_version name version) cs) repositories 0 1 repositories (λ j. let same : 0 + j ≡ j = omega arith in ap (slice_get repositories) same))
-          ∙ sym (append_assoc (version_heading (printed_version version)) (if list_any (λ (c : Candidate). c.installed) (filter (has_name_and_version name version) cs) then database_line else [])
+          ∙ sym (append_assoc (version_heading (printed_version version)) (if list_any (λ (c : Candidate). c.installed) (filter (has_name_and_version name version) cs) then policy_database_line else [])
           (flat_map (repository_line_at repositories) (places_of (filter (has_name_and_version name version) cs) 1 0 repositories)));
     }
   where
     by_test : (b : Bool) → list_any (λ (c : Candidate). c.installed) (filter (has_name_and_version name version) cs) ≡ b
-        → (((if b then database_line else []) ≡ database_line) × IsVersionInstalled cs name version) ⊎ (((if b then database_line else []) ≡ []) × (IsVersionInstalled cs name version → ⊥))
+        → (((if b then policy_database_line else []) ≡ policy_database_line) × IsVersionInstalled cs name version) ⊎ (((if b then policy_database_line else []) ≡ []) × (IsVersionInstalled cs name version → ⊥))
     by_test true e = inl (refl, is_there cs name version e)
     by_test false e = inr (refl, λ x. let both : true ≡ false = sym (there_is cs name version x) ∙ e in absurd (cc (both)))
 

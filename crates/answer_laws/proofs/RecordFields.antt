@@ -16,14 +16,14 @@ use Rattle.change_outcome.specs.make_info.Information.{plain_value}
 use Rattle.change_outcome.specs.make_info.Values.{plains_of_list}
 use Rattle.make_laws.proofs.make_core.PackageFiles.{list-plains}
 use Rattle.make_laws.specs.SaidOfFields.{HasAllValues, HasValuesAsList, HasFirstValue}
-use Rattle.change_outcome.specs.v2_lines.InfoFields.{adds_to_list, field_of_letter, letter_of}
+use Rattle.change_outcome.specs.v2_lines.InfoFields.{is_list_info_field, field_of_letter, letter_of}
 use Rattle.change_outcome.specs.v2_lines.Lines.{RecordLine, info_line, folder_line, folder_access_line, file_line, file_access_line, file_hash_line, other_line, record_line_of}
 use Rattle.change_outcome.specs.v2_lines.declared.field.InfoField.{InfoField}
 use Rattle.change_outcome.specs.v2_lines.declared.field.InfoField.TheVariants as Letters
-use Rattle.change_outcome.specs.v2_core.Database.{joined_value, record_info_value, record_value, single_value, value_of_first, value_of_line, values_for}
-use Rattle.change_outcome.specs.v2_core.Reading.{with_text}
-use Rattle.change_outcome.specs.v2_core.Records.{InfoLine, ListedFolder, Record, has_line_of, info_by, is_line_of, record_of_parts, with_info, with_info_line, with_path_line, with_record_line}
-use Rattle.answer_laws.specs.TextLetters.{SayOfLines, HasValuesOfLines, is_list_letter, letter_value_in_package, record_with_lines}
+use Rattle.change_outcome.specs.v2_core.Database.{array_of_field_values, record_info_value, record_value, value_of_single_line_field, value_of_first_or_null, value_of_line, values_for}
+use Rattle.change_outcome.specs.v2_core.Reading.{record_with_text_line}
+use Rattle.change_outcome.specs.v2_core.Records.{InfoLine, ListedFolder, Record, has_line_of, info_line_from_parts, is_line_of, record_if_both_parts, with_info_values, with_info_line, with_path_line, with_record_line}
+use Rattle.answer_laws.specs.TextLetters.{LinesGiveFieldValues, HasValuesOfLines, is_list_letter, letter_value_in_package, record_with_lines}
 use Rattle.std.proofs.lemmas.Bool.{eq-eqb}
 use Rattle.adb_view.specs.Plain.{Plains}
 use Rattle.adb_view.specs.declared.tables.Which.TheVariants.{Package, PkgInfo}
@@ -32,7 +32,7 @@ use Rattle.change_outcome.specs.v2_core.Database.{array_of, listed_folder_value}
 use Rattle.std.specs.Option.{option_or}
 use Rattle.std.proofs.lemmas.Grind.{flat_map-append}
 use Rattle.std.proofs.lemmas.List.Folds.{find-append}
-use Rattle.change_outcome.specs.v2_core.Records.{record_by, empty_record}
+use Rattle.change_outcome.specs.v2_core.Records.{record_from_parts, empty_record}
 use Rattle.answer_laws.proofs.LetterLines.{given, infos, one_line, other_values, own_values, values_of}
 
 -- ---- a line that was accepted
@@ -44,11 +44,11 @@ pub record Accepted (r next : Record) (line : List ℕ) : Type 0 where
   pub info : with_info_line meaning r.info ≡ Some next.info
   pub folders : with_path_line meaning r.folders ≡ Some next.folders
 
-parts_of_record : (info : Option (List InfoLine)) (folders : Option (List ListedFolder)) (next : Record) → record_of_parts info folders ≡ Some next → (info ≡ Some next.info) × (folders ≡ Some next.folders)
+parts_of_record : (info : Option (List InfoLine)) (folders : Option (List ListedFolder)) (next : Record) → record_if_both_parts info folders ≡ Some next → (info ≡ Some next.info) × (folders ≡ Some next.folders)
 parts_of_record None folders next e = absurd cc
 parts_of_record (Some info) None next e = absurd cc
 parts_of_record (Some info) (Some folders) next e =
-    let same : record_by true info folders ≡ next = cc in
+    let same : record_from_parts true info folders ≡ next = cc in
     (ap (λ (r : Record). Some r.info) same, ap (λ (r : Record). Some r.folders) same)
 
 accepted_by : (r next : Record) (line : List ℕ) (o : Option RecordLine) → record_line_of line ≡ o → option_and_then (with_record_line r) o ≡ Some next → Accepted r next line
@@ -57,17 +57,17 @@ accepted_by r next line (Some l) is e =
     let t = parts_of_record (with_info_line l r.info) (with_path_line l r.folders) next e in
     record { meaning = l; means = is; info = t.0; folders = t.1 }
 
-pub accepted : (r next : Record) (line : List ℕ) → with_text r line ≡ Some next → Accepted r next line
+pub accepted : (r next : Record) (line : List ℕ) → record_with_text_line r line ≡ Some next → Accepted r next line
 accepted r next line e = accepted_by r next line (record_line_of line) refl e
 
 -- ---- the information after more lines
 
 info_more : (l : RecordLine) (info more : List InfoLine) → with_info_line l info ≡ Some more → more ≡ info ++ infos (Some l)
-info_more (info_line g v) info more e = go (not (adds_to_list g) && has_line_of g info) e
+info_more (info_line g v) info more e = go (not (is_list_info_field g) && has_line_of g info) e
   where
-    go : (b : Bool) → (if b then None else Some (info ++ info_by g v ∷ [])) ≡ Some more → more ≡ info ++ infos (Some (info_line g v))
+    go : (b : Bool) → (if b then None else Some (info ++ info_line_from_parts g v ∷ [])) ≡ Some more → more ≡ info ++ infos (Some (info_line g v))
     go true e = absurd cc
-    go false e = let same : info ++ info_by g v ∷ [] ≡ more = cc in sym same
+    go false e = let same : info ++ info_line_from_parts g v ∷ [] ≡ more = cc in sym same
 info_more (folder_line name) info more e = let same : info ≡ more = cc in sym same ∙ sym (append-nil info)
 info_more (folder_access_line a) info more e = let same : info ≡ more = cc in sym same ∙ sym (append-nil info)
 info_more (file_line name) info more e = let same : info ≡ more = cc in sym same ∙ sym (append-nil info)
@@ -85,9 +85,9 @@ values_after : (f : InfoField) (lines : List (List ℕ)) (r s : Record) → reco
 values_after f [] r s e =
     let same : r ≡ s = cc in
     ap (λ (x : Record). values_of f x.info) (sym same) ∙ sym (append-nil (values_of f r.info))
-values_after f (line ∷ lines) r s e = go (with_text r line) refl e (λ next. values_after f lines next s)
+values_after f (line ∷ lines) r s e = go (record_with_text_line r line) refl e (λ next. values_after f lines next s)
   where
-    go : (o : Option Record) → with_text r line ≡ o → option_and_then (λ next. record_with_lines next lines) o ≡ Some s
+    go : (o : Option Record) → record_with_text_line r line ≡ o → option_and_then (λ next. record_with_lines next lines) o ≡ Some s
         → ((next : Record) → record_with_lines next lines ≡ Some s → values_of f s.info ≡ values_of f next.info ++ flat_map (given f) lines)
         → values_of f s.info ≡ values_of f r.info ++ flat_map (given f) (line ∷ lines)
     go None is e more = absurd cc
@@ -97,12 +97,12 @@ values_after f (line ∷ lines) r s e = go (with_text r line) refl e (λ next. v
         ∙ append_assoc (values_of f r.info) (given f line) (flat_map (given f) lines)
 
 module _ (spelled : (t : List ℕ) (d : Dependency) → dependency_of t ≡ Some d → SpellsDependency t d) (read : (t : List ℕ) (d : Dependency) → SpellsDependency t d → dependency_of t ≡ Some d) where
-  say_lines : (f : InfoField) (lines : List (List ℕ)) (r s : Record) → record_with_lines r lines ≡ Some s → SayOfLines f lines (flat_map (given f) lines)
+  say_lines : (f : InfoField) (lines : List (List ℕ)) (r s : Record) → record_with_lines r lines ≡ Some s → LinesGiveFieldValues f lines (flat_map (given f) lines)
   say_lines f [] r s e = refl
-  say_lines f (line ∷ lines) r s e = go (with_text r line) refl e (λ next. say_lines f lines next s)
+  say_lines f (line ∷ lines) r s e = go (record_with_text_line r line) refl e (λ next. say_lines f lines next s)
     where
-      go : (o : Option Record) → with_text r line ≡ o → option_and_then (λ next. record_with_lines next lines) o ≡ Some s
-          → ((next : Record) → record_with_lines next lines ≡ Some s → SayOfLines f lines (flat_map (given f) lines)) → SayOfLines f (line ∷ lines) (flat_map (given f) (line ∷ lines))
+      go : (o : Option Record) → record_with_text_line r line ≡ o → option_and_then (λ next. record_with_lines next lines) o ≡ Some s
+          → ((next : Record) → record_with_lines next lines ≡ Some s → LinesGiveFieldValues f lines (flat_map (given f) lines)) → LinesGiveFieldValues f (line ∷ lines) (flat_map (given f) (line ∷ lines))
       go None is e more = absurd cc
       go (Some next) is e more =
           let a = accepted r next line is in
@@ -146,30 +146,30 @@ same_letter g f e =
     cc
 
 Tells : InfoField → List InfoLine → Type 0
-Tells f info = HasFirstValue (values_of f info) (single_value f info)
+Tells f info = HasFirstValue (values_of f info) (value_of_single_line_field f info)
 
-first_tells : (values : List FieldValue) → HasFirstValue values (value_of_first values)
+first_tells : (values : List FieldValue) → HasFirstValue values (value_of_first_or_null values)
 first_tells [] = refl
 first_tells (v ∷ vs) = refl
 
-with_own : (f : InfoField) (v : List FieldValue) (info more : List InfoLine) (has : Bool) → adds_to_list f ≡ false → has_line_of f info ≡ has
-    → (if not (adds_to_list f) && has then None else Some (info ++ info_by f v ∷ [])) ≡ Some more → Tells f more
+with_own : (f : InfoField) (v : List FieldValue) (info more : List InfoLine) (has : Bool) → is_list_info_field f ≡ false → has_line_of f info ≡ has
+    → (if not (is_list_info_field f) && has then None else Some (info ++ info_line_from_parts f v ∷ [])) ≡ Some more → Tells f more
 unfolding Tells
 with_own f v info more true once is e =
-    let none : None ≡ Some more = sym (ap (λ (b : Bool). if not b && true then None else Some (info ++ info_by f v ∷ [])) once) ∙ e in
+    let none : None ≡ Some more = sym (ap (λ (b : Bool). if not b && true then None else Some (info ++ info_line_from_parts f v ∷ [])) once) ∙ e in
     absurd cc
 with_own f v info more false once is e =
-    let one : Some (info ++ info_by f v ∷ []) ≡ Some more = sym (ap (λ (b : Bool). if not b && false then None else Some (info ++ info_by f v ∷ [])) once) ∙ e in
-    let same : info ++ info_by f v ∷ [] ≡ more = cc in
+    let one : Some (info ++ info_line_from_parts f v ∷ []) ≡ Some more = sym (ap (λ (b : Bool). if not b && false then None else Some (info ++ info_line_from_parts f v ∷ [])) once) ∙ e in
+    let same : info ++ info_line_from_parts f v ∷ [] ≡ more = cc in
     let before = no_values f info is in
-    let values : values_of f (info ++ info_by f v ∷ []) ≡ v =
-    flat_map-append (values_for f) info (info_by f v ∷ []) ∙ ap (λ (x : List FieldValue). x ++ values_of f (info_by f v ∷ [])) before.0 ∙ own_values f v in
-    let found : find (is_line_of f) (info ++ info_by f v ∷ []) ≡ Some (info_by f v) =
-    find-append (is_line_of f) info (info_by f v ∷ [])
-    ∙ ap (λ (o : Option InfoLine). option_or o (find (is_line_of f) (info_by f v ∷ []))) before.1
-    ∙ ap (λ (b : Bool). cond b (Some (info_by f v)) None) (own_line f) in
-    subst (λ (i : List InfoLine). HasFirstValue (values_of f i) (single_value f i)) same
-    (subst (λ (x : List FieldValue). HasFirstValue x (single_value f (info ++ info_by f v ∷ []))) (sym values)
+    let values : values_of f (info ++ info_line_from_parts f v ∷ []) ≡ v =
+    flat_map-append (values_for f) info (info_line_from_parts f v ∷ []) ∙ ap (λ (x : List FieldValue). x ++ values_of f (info_line_from_parts f v ∷ [])) before.0 ∙ own_values f v in
+    let found : find (is_line_of f) (info ++ info_line_from_parts f v ∷ []) ≡ Some (info_line_from_parts f v) =
+    find-append (is_line_of f) info (info_line_from_parts f v ∷ [])
+    ∙ ap (λ (o : Option InfoLine). option_or o (find (is_line_of f) (info_line_from_parts f v ∷ []))) before.1
+    ∙ ap (λ (b : Bool). cond b (Some (info_line_from_parts f v)) None) (own_line f) in
+    subst (λ (i : List InfoLine). HasFirstValue (values_of f i) (value_of_single_line_field f i)) same
+    (subst (λ (x : List FieldValue). HasFirstValue x (value_of_single_line_field f (info ++ info_line_from_parts f v ∷ []))) (sym values)
     (subst (λ (o : Option InfoLine). HasFirstValue v (value_of_line o)) (sym found) (first_tells v)))
   where
     own_line : (f : InfoField) → (letter_of f == letter_of f) ≡ true
@@ -179,27 +179,27 @@ or_nothing : (o : Option InfoLine) → option_or o None ≡ o
 or_nothing None = refl
 or_nothing (Some l) = refl
 
-with_other : (f g : InfoField) (v : List FieldValue) (info more : List InfoLine) → (letter_of g == letter_of f) ≡ false → more ≡ info ++ info_by g v ∷ [] → Tells f info → Tells f more
+with_other : (f g : InfoField) (v : List FieldValue) (info more : List InfoLine) → (letter_of g == letter_of f) ≡ false → more ≡ info ++ info_line_from_parts g v ∷ [] → Tells f info → Tells f more
 unfolding Tells
 with_other f g v info more other is tells =
-    let values : values_of f (info ++ info_by g v ∷ []) ≡ values_of f info =
-    flat_map-append (values_for f) info (info_by g v ∷ []) ∙ ap (λ (x : List FieldValue). values_of f info ++ x) (other_values f g v other) ∙ append-nil (values_of f info) in
-    let found : find (is_line_of f) (info ++ info_by g v ∷ []) ≡ find (is_line_of f) info =
-    find-append (is_line_of f) info (info_by g v ∷ [])
-    ∙ ap (λ (b : Bool). option_or (find (is_line_of f) info) (cond b (Some (info_by g v)) None)) other
+    let values : values_of f (info ++ info_line_from_parts g v ∷ []) ≡ values_of f info =
+    flat_map-append (values_for f) info (info_line_from_parts g v ∷ []) ∙ ap (λ (x : List FieldValue). values_of f info ++ x) (other_values f g v other) ∙ append-nil (values_of f info) in
+    let found : find (is_line_of f) (info ++ info_line_from_parts g v ∷ []) ≡ find (is_line_of f) info =
+    find-append (is_line_of f) info (info_line_from_parts g v ∷ [])
+    ∙ ap (λ (b : Bool). option_or (find (is_line_of f) info) (cond b (Some (info_line_from_parts g v)) None)) other
     ∙ or_nothing (find (is_line_of f) info) in
-    subst (λ (i : List InfoLine). HasFirstValue (values_of f i) (single_value f i)) (sym is)
-    (subst (λ (x : List FieldValue). HasFirstValue x (single_value f (info ++ info_by g v ∷ []))) (sym values)
+    subst (λ (i : List InfoLine). HasFirstValue (values_of f i) (value_of_single_line_field f i)) (sym is)
+    (subst (λ (x : List FieldValue). HasFirstValue x (value_of_single_line_field f (info ++ info_line_from_parts g v ∷ []))) (sym values)
     (subst (λ (o : Option InfoLine). HasFirstValue (values_of f info) (value_of_line o)) (sym found) tells))
 
-with_line : (f : InfoField) (l : RecordLine) (info more : List InfoLine) → adds_to_list f ≡ false → with_info_line l info ≡ Some more → Tells f info → Tells f more
+with_line : (f : InfoField) (l : RecordLine) (info more : List InfoLine) → is_list_info_field f ≡ false → with_info_line l info ≡ Some more → Tells f info → Tells f more
 unfolding Tells
 with_line f (info_line g v) info more once e tells = go (letter_of g == letter_of f) refl
   where
     go : (b : Bool) → (letter_of g == letter_of f) ≡ b → Tells f more
     go true t =
         let same : g ≡ f = same_letter g f (eqb-true (letter_of g) (letter_of f) t) in
-        with_own f v info more (has_line_of f info) once refl (subst (λ (x : InfoField). with_info x v info ≡ Some more) same e)
+        with_own f v info more (has_line_of f info) once refl (subst (λ (x : InfoField). with_info_values x v info ≡ Some more) same e)
     go false t = with_other f g v info more t (info_more (info_line g v) info more e) tells
 with_line f (folder_line name) info more once e tells = let same : info ≡ more = cc in subst (Tells f) same tells
 with_line f (folder_access_line a) info more once e tells = let same : info ≡ more = cc in subst (Tells f) same tells
@@ -208,11 +208,11 @@ with_line f (file_access_line a) info more once e tells = let same : info ≡ mo
 with_line f (file_hash_line hash) info more once e tells = let same : info ≡ more = cc in subst (Tells f) same tells
 with_line f other_line info more once e tells = let same : info ≡ more = cc in subst (Tells f) same tells
 
-tells_after : (f : InfoField) (lines : List (List ℕ)) (r s : Record) → adds_to_list f ≡ false → record_with_lines r lines ≡ Some s → Tells f r.info → Tells f s.info
+tells_after : (f : InfoField) (lines : List (List ℕ)) (r s : Record) → is_list_info_field f ≡ false → record_with_lines r lines ≡ Some s → Tells f r.info → Tells f s.info
 tells_after f [] r s once e tells = let same : r ≡ s = cc in subst (λ (x : Record). Tells f x.info) same tells
-tells_after f (line ∷ lines) r s once e tells = go (with_text r line) refl e (λ next. tells_after f lines next s once)
+tells_after f (line ∷ lines) r s once e tells = go (record_with_text_line r line) refl e (λ next. tells_after f lines next s once)
   where
-    go : (o : Option Record) → with_text r line ≡ o → option_and_then (λ next. record_with_lines next lines) o ≡ Some s → ((next : Record) → record_with_lines next lines ≡ Some s → Tells f next.info → Tells f s.info) → Tells f s.info
+    go : (o : Option Record) → record_with_text_line r line ≡ o → option_and_then (λ next. record_with_lines next lines) o ≡ Some s → ((next : Record) → record_with_lines next lines ≡ Some s → Tells f next.info → Tells f s.info) → Tells f s.info
     go None is e more = absurd cc
     go (Some next) is e more =
         let a = accepted r next line is in
@@ -223,18 +223,18 @@ tells_after f (line ∷ lines) r s once e tells = go (with_text r line) refl e (
 abbrev info_parts : List InfoLine → Plains
 info_parts info =
     plains_of_list
-    (single_value Letters.Name info ∷ single_value Letters.Version info ∷ single_value Letters.Hashes info
-    ∷ single_value Letters.Description info ∷ single_value Letters.Arch info ∷ single_value Letters.License info
-    ∷ single_value Letters.Origin info ∷ single_value Letters.Maintainer info ∷ single_value Letters.Url info
-    ∷ single_value Letters.RepoCommit info ∷ single_value Letters.BuildTime info ∷ single_value Letters.InstalledSize info
-    ∷ null ∷ single_value Letters.ProviderPriority info ∷ joined_value Letters.Depends info ∷ joined_value Letters.Provides info
-    ∷ joined_value Letters.Replaces info ∷ joined_value Letters.InstallIf info ∷ [])
+    (value_of_single_line_field Letters.Name info ∷ value_of_single_line_field Letters.Version info ∷ value_of_single_line_field Letters.Hashes info
+    ∷ value_of_single_line_field Letters.Description info ∷ value_of_single_line_field Letters.Arch info ∷ value_of_single_line_field Letters.License info
+    ∷ value_of_single_line_field Letters.Origin info ∷ value_of_single_line_field Letters.Maintainer info ∷ value_of_single_line_field Letters.Url info
+    ∷ value_of_single_line_field Letters.RepoCommit info ∷ value_of_single_line_field Letters.BuildTime info ∷ value_of_single_line_field Letters.InstalledSize info
+    ∷ null ∷ value_of_single_line_field Letters.ProviderPriority info ∷ array_of_field_values Letters.Depends info ∷ array_of_field_values Letters.Provides info
+    ∷ array_of_field_values Letters.Replaces info ∷ array_of_field_values Letters.InstallIf info ∷ [])
 
 abbrev pub package_parts : Record → Plains
 package_parts r =
     plains_of_list
     (record_info_value r.info ∷ array_of (map listed_folder_value r.folders) ∷ null ∷ null
-    ∷ single_value Letters.ReplacesPriority r.info ∷ [])
+    ∷ value_of_single_line_field Letters.ReplacesPriority r.info ∷ [])
 
 pub info_is : (r : Record) → field_named Package (codes "info") (record_value r) ≡ record_info_value r.info
 info_is r = nth_obj (package_parts r) 0
@@ -246,17 +246,17 @@ in_info info i = nth_obj (info_parts info) i
 pub of_info : (r : Record) (name : List ℕ) (v : Plain) → field_named PkgInfo name (record_info_value r.info) ≡ v → field_named PkgInfo name (field_named Package (codes "info") (record_value r)) ≡ v
 of_info r name v e = ap (field_named PkgInfo name) (info_is r) ∙ e
 
-tells_single : (f : InfoField) (info : List InfoLine) (v : Plain) → v ≡ single_value f info → Tells f info → HasFirstValue (values_of f info) v
+tells_single : (f : InfoField) (info : List InfoLine) (v : Plain) → v ≡ value_of_single_line_field f info → Tells f info → HasFirstValue (values_of f info) v
 unfolding Tells
 tells_single f info v e tells = subst (HasFirstValue (values_of f info)) (sym e) tells
 
-tells_joined : (f : InfoField) (info : List InfoLine) (v : Plain) → v ≡ joined_value f info → HasAllValues (values_of f info) v
+tells_joined : (f : InfoField) (info : List InfoLine) (v : Plain) → v ≡ array_of_field_values f info → HasAllValues (values_of f info) v
 tells_joined f info v e =
     ap (λ (u : Plain). list_of (entries_in u)) e
     ∙ ap list_of (entries_arr (plains_of_list (map plain_value (values_of f info))))
     ∙ list-plains (map plain_value (values_of f info))
 
-package_tells : (f : InfoField) (r : Record) → (adds_to_list f ≡ false → Tells f r.info) → HasValuesAsList (is_list_letter f) (values_of f r.info) (letter_value_in_package f (record_value r))
+package_tells : (f : InfoField) (r : Record) → (is_list_info_field f ≡ false → Tells f r.info) → HasValuesAsList (is_list_letter f) (values_of f r.info) (letter_value_in_package f (record_value r))
 package_tells Letters.Hashes r tells = tells_single Letters.Hashes r.info _ (of_info r (codes "hashes") _ (in_info r.info 2)) (tells refl)
 package_tells Letters.Name r tells = tells_single Letters.Name r.info _ (of_info r (codes "name") _ (in_info r.info 0)) (tells refl)
 package_tells Letters.Version r tells = tells_single Letters.Version r.info _ (of_info r (codes "version") _ (in_info r.info 1)) (tells refl)

@@ -14,18 +14,18 @@ use Rattle.base_core.specs.ByteOrder.{bytes_cmp}
 use Rattle.base_core.specs.Files.{Files}
 use Rattle.base_core.specs.Sorted.{sorted_by, with_element}
 use Rattle.installed_info.specs.candidate_core.Candidates.{Candidate}
-use Rattle.change_outcome.specs.change_files.Fate.{aside_ending}
+use Rattle.change_outcome.specs.change_files.Fate.{apk_new_ending}
 use Rattle.change_outcome.specs.change_files.FileChange.{FileChange}
-use Rattle.change_outcome.specs.change_files.PlanLists.{aside_of, kept_of}
+use Rattle.change_outcome.specs.change_files.PlanLists.{paths_with_apk_new_file, kept_paths_of}
 use Rattle.change_outcome.specs.ChangeOutcome.{ChangeWishes, change_report, member_size, member_sum_line, touched_paths}
-use Rattle.change_outcome.specs.ConfigurationLines.{PathLine, aside_line, configuration_lines, kept_line, path_line, path_line_cmp}
+use Rattle.change_outcome.specs.ConfigurationLines.{PathLine, apk_new_line, configuration_lines, kept_config_line, path_line, path_line_cmp}
 use Rattle.change_outcome.specs.Triggers.{trigger_lines}
 use Rattle.change_outcome.specs.db_core.Members.{Member}
 use Rattle.change_outcome.specs.package_changes.Changes.{Replacement, changes_of}
-use Rattle.change_outcome.specs.package_changes.Report.{candidate_size, selected_sum_line, simulated_report, stay_lines}
+use Rattle.change_outcome.specs.package_changes.Report.{candidate_size, selected_sum_line, simulated_report, still_needed_lines}
 use Rattle.report_core.specs.Reports.{change_lines, report_line, report_lines, sum_text}
 use Rattle.answer_laws.specs.KeptNames.{AreNamedOnce}
-use Rattle.answer_laws.specs.ReportSections.{ChangedFile, HasConfigurationLines, HasSections, HasSimulatedSections, HasSum, IsSumOf, changed_path, changed_file_text, size_when_installed, kept, placed_beside, member_info}
+use Rattle.answer_laws.specs.ReportSections.{ChangedFile, HasConfigurationLines, HasSections, HasSimulatedSections, IsSumLine, IsSumOf, changed_path, changed_file_text, size_when_installed, kept, placed_beside, member_info}
 use Rattle.answer_laws.proofs.DueLines.{trigger_lines_are}
 use Rattle.answer_laws.proofs.Needing.{kept_lines}
 use Rattle.answer_laws.proofs.Numbered.{numbered}
@@ -39,7 +39,7 @@ summed size (x ∷ xs) = (sum_by size xs, summed size xs, sum_by-cons size x xs)
 ended : (sum count : ℕ) → report_line (sum_text sum count) ≡ codes "OK: " ++ decimal sum ++ codes " bytes in " ++ decimal count ++ codes " packages\n"
 ended sum count = append_assoc (codes "OK: " ++ decimal sum ++ codes " bytes in " ++ decimal count) (codes " packages") (codes "\n")
 
-has_sum : {X : Type 0} (size : X → ℕ) (xs : List X) → HasSum (map size xs) (report_line (sum_text (sum_by size xs) (length xs)))
+has_sum : {X : Type 0} (size : X → ℕ) (xs : List X) → IsSumLine (map size xs) (report_line (sum_text (sum_by size xs) (length xs)))
 has_sum size xs = record {
   sum = sum_by size xs;
   sum_is = summed size xs;
@@ -47,10 +47,10 @@ has_sum size xs = record {
       ∙ ap (λ (n : ℕ). codes "OK: " ++ decimal (sum_by size xs) ++ codes " bytes in " ++ decimal n ++ codes " packages\n") (sym (length-map xs size));
 }
 
-pub simulated_sum : (selected : List Candidate) → HasSum (map (λ (c : Candidate). size_when_installed c.info) selected) (selected_sum_line selected)
+pub simulated_sum : (selected : List Candidate) → IsSumLine (map (λ (c : Candidate). size_when_installed c.info) selected) (selected_sum_line selected)
 simulated_sum selected = has_sum candidate_size selected
 
-pub made_sum : (members : List Member) → HasSum (map (λ (m : Member). size_when_installed (member_info m)) members) (member_sum_line members)
+pub made_sum : (members : List Member) → IsSumLine (map (λ (m : Member). size_when_installed (member_info m)) members) (member_sum_line members)
 made_sum members = has_sum member_size members
 
 -- ---- configuration
@@ -76,8 +76,8 @@ abbrev changed_cmp : ChangedFile → ChangedFile → Ordering
 changed_cmp x y = bytes_cmp (changed_path x) (changed_path y)
 
 abbrev line_of : ChangedFile → PathLine
-line_of (placed_beside path) = path_line aside_line path
-line_of (kept path) = path_line kept_line path
+line_of (placed_beside path) = path_line apk_new_line path
+line_of (kept path) = path_line kept_config_line path
 
 path_is : (x : ChangedFile) → changed_path x ≡ (line_of x).path
 path_is (placed_beside path) = refl
@@ -89,16 +89,16 @@ same_order x y = ap (λ (p : List ℕ). bytes_cmp p (changed_path y)) (path_is x
 abbrev all_changed : List (List ℕ) → List (List ℕ) → List ChangedFile
 all_changed aside kept_paths = map placed_beside aside ++ map kept kept_paths
 
-kept_lines_are : (paths : List (List ℕ)) → map line_of (map kept paths) ≡ map (path_line kept_line) paths
+kept_lines_are : (paths : List (List ℕ)) → map line_of (map kept paths) ≡ map (path_line kept_config_line) paths
 kept_lines_are [] = refl
-kept_lines_are (path ∷ paths) = ap (λ (l : List PathLine). path_line kept_line path ∷ l) (kept_lines_are paths)
+kept_lines_are (path ∷ paths) = ap (λ (l : List PathLine). path_line kept_config_line path ∷ l) (kept_lines_are paths)
 
-lines_are : (aside kept_paths : List (List ℕ)) → map line_of (all_changed aside kept_paths) ≡ map (path_line aside_line) aside ++ map (path_line kept_line) kept_paths
+lines_are : (aside kept_paths : List (List ℕ)) → map line_of (all_changed aside kept_paths) ≡ map (path_line apk_new_line) aside ++ map (path_line kept_config_line) kept_paths
 lines_are [] kept_paths = kept_lines_are kept_paths
-lines_are (path ∷ aside) kept_paths = ap (λ (l : List PathLine). path_line aside_line path ∷ l) (lines_are aside kept_paths)
+lines_are (path ∷ aside) kept_paths = ap (λ (l : List PathLine). path_line apk_new_line path ∷ l) (lines_are aside kept_paths)
 
 text_of_file : (x : ChangedFile) → (line_of x).line ≡ report_line (changed_file_text x)
-text_of_file (placed_beside path) = ap (λ (t : List ℕ). report_line (t ++ path ++ codes " was changed")) (append_assoc path aside_ending (codes " installed; "))
+text_of_file (placed_beside path) = ap (λ (t : List ℕ). report_line (t ++ path ++ codes " was changed")) (append_assoc path apk_new_ending (codes " installed; "))
 text_of_file (kept path) = refl
 
 text_of_files : (xs : List ChangedFile) → flat_map (λ (l : PathLine). l.line) (map line_of xs) ≡ report_lines (map changed_file_text xs)
@@ -128,7 +128,7 @@ unfolding simulated_report
 simulated_sections r to_remove once = record {
   changes = change_lines (changes_of r);
   numbered = numbered (changes_of r);
-  stays = stay_lines r.before r.selected to_remove;
+  stays = still_needed_lines r.before r.selected to_remove;
   kept_lines = kept_lines r.before r.selected to_remove once;
   last = selected_sum_line r.selected;
   sum = simulated_sum r.selected;
@@ -139,10 +139,10 @@ pub made_sections : (r : Replacement) (wishes : ChangeWishes) (change : FileChan
 made_sections r wishes change files once = record {
   changes = change_lines (changes_of r);
   numbered = numbered (changes_of r);
-  stays = stay_lines r.before r.selected wishes.to_remove;
+  stays = still_needed_lines r.before r.selected wishes.to_remove;
   kept_lines = kept_lines r.before r.selected wishes.to_remove once;
-  configuration = configuration_lines (aside_of change files) (kept_of change files);
-  configured = configured (aside_of change files) (kept_of change files);
+  configuration = configuration_lines (paths_with_apk_new_file change files) (kept_paths_of change files);
+  configured = configured (paths_with_apk_new_file change files) (kept_paths_of change files);
   triggers = trigger_lines (touched_paths change files) change.members;
   due = trigger_lines_are (touched_paths change files) change.members;
   last = member_sum_line change.members;

@@ -7,14 +7,14 @@ use Rattle.std.specs.declared.cmp.Ordering.TheVariants.{Less, Equal, Greater}
 use Rattle.change_outcome.specs.adb_fields.Repeated.{package_name}
 use Rattle.adb_view.specs.Plain.{Plain}
 use Rattle.base_core.proofs.Rising.{Rises, order, pairs_from_rises}
-use Rattle.base_core.specs.Listed.{IsRising}
+use Rattle.base_core.specs.Listed.{AreSortedDistinctNames}
 use Rattle.base_core.proofs.Rising as rising
 use Rattle.base_core.specs.Lists.{IsIn}
 use Rattle.installed_info.specs.candidate_core.Candidates.{Candidate}
 use Rattle.change_outcome.proofs.change_files.InOrder.{in_order, order_rises, in_left, in_right}
 use Rattle.change_outcome.specs.db_core.Packages.{is_package_named}
 use Rattle.installed_info.specs.file_owners.Replaces.{version_text}
-use Rattle.change_outcome.specs.package_changes.Changes.{Replacement, change_between, change_of_name, changes_of, is_same_selected, is_selected_named, names_on_both_sides, selected_version, unless_same, version_change, version_text_cmp}
+use Rattle.change_outcome.specs.package_changes.Changes.{Replacement, change_between, change_of_name, changes_of, is_candidate_this_package, is_selected_named, names_before_and_selected, selected_version, change_unless_same, version_change, version_text_cmp}
 use Rattle.report_core.specs.Reports.{Change, Install, Purge, Reinstall}
 use Rattle.answer_laws.specs.WhichChange.{HasInstallChange, HasPurgeChange, IsSelected, WasInstalled, changed_name}
 use Rattle.answer_laws.proofs.Members.{found_name, given_in, given_of, listed, missing_name}
@@ -26,7 +26,7 @@ named_version name old new Less = refl
 named_version name old new Equal = refl
 named_version name old new Greater = refl
 
-named_same : (name : List ℕ) (pkg : Plain) (c : Candidate) (same again : Bool) (change : Change) → unless_same name pkg c same again ≡ Some change → changed_name change ≡ name
+named_same : (name : List ℕ) (pkg : Plain) (c : Candidate) (same again : Bool) (change : Change) → change_unless_same name pkg c same again ≡ Some change → changed_name change ≡ name
 named_same name pkg c false again change e =
     let is : version_change name (version_text pkg) (selected_version c) (version_text_cmp (version_text pkg) (selected_version c)) ≡ change = cc in
     sym (ap changed_name is) ∙ named_version name (version_text pkg) (selected_version c) (version_text_cmp (version_text pkg) (selected_version c))
@@ -37,7 +37,7 @@ named_between : (again : Bool) (name : List ℕ) (old : Option Plain) (new : Opt
 named_between again name None None change e = absurd cc
 named_between again name None (Some c) change e = let is : Install name (selected_version c) ≡ change = cc in sym (ap changed_name is)
 named_between again name (Some pkg) None change e = let is : Purge name (version_text pkg) ≡ change = cc in sym (ap changed_name is)
-named_between again name (Some pkg) (Some c) change e = named_same name pkg c (is_same_selected pkg c) again change e
+named_between again name (Some pkg) (Some c) change e = named_same name pkg c (is_candidate_this_package pkg c) again change e
 
 named : (r : Replacement) (name : List ℕ) (change : Change) → change_of_name r name ≡ Some change → changed_name change ≡ name
 unfolding change_of_name
@@ -45,7 +45,7 @@ named r name change e = named_between (list_any (bytes_eq name) r.again) name (f
 
 -- ---- a name that changes is on a side
 
-on_a_side : (r : Replacement) (name : List ℕ) (change : Change) → change_of_name r name ≡ Some change → rising.IsIn name (names_on_both_sides r)
+on_a_side : (r : Replacement) (name : List ℕ) (change : Change) → change_of_name r name ≡ Some change → rising.IsIn name (names_before_and_selected r)
 unfolding change_of_name
 on_a_side r name change e = in_order name _ (go (find (is_package_named name) r.before) (find (is_selected_named name) r.selected) refl refl e)
   where
@@ -62,9 +62,9 @@ pub each_change : (r : Replacement) (change : Change) → IsIn change (changes_o
 unfolding changes_of
 each_change r change = (
   λ at.
-      let g = given_of (change_of_name r) (names_on_both_sides r) change at in
+      let g = given_of (change_of_name r) (names_before_and_selected r) change at in
       ap (change_of_name r) (named r g.from change g.given) ∙ g.given,
-  λ e. given_in (change_of_name r) (names_on_both_sides r) (changed_name change) change (listed (changed_name change) (names_on_both_sides r) (on_a_side r (changed_name change) change e)) e,
+  λ e. given_in (change_of_name r) (names_before_and_selected r) (changed_name change) change (listed (changed_name change) (names_before_and_selected r) (on_a_side r (changed_name change) change e)) e,
 )
 
 -- the names of what some names give are among these
@@ -91,11 +91,11 @@ given_rise h named (x ∷ names) rises = go (h x) refl (given_rise h named names
       later,
     )
 
-pub changes_rise : (r : Replacement) → IsRising (map changed_name (changes_of r))
+pub changes_rise : (r : Replacement) → AreSortedDistinctNames (map changed_name (changes_of r))
 unfolding changes_of
 changes_rise r =
-    pairs_from_rises (map changed_name (filter_map (change_of_name r) (names_on_both_sides r)))
-    (given_rise (change_of_name r) (named r) (names_on_both_sides r) (order_rises _))
+    pairs_from_rises (map changed_name (filter_map (change_of_name r) (names_before_and_selected r)))
+    (given_rise (change_of_name r) (named r) (names_before_and_selected r) (order_rises _))
 
 -- ---- a name on one side, or on none
 
@@ -106,7 +106,7 @@ abbrev Selected : Replacement → List ℕ → Type 0
 Selected r name = IsIn name (map (λ (c : Candidate). c.name) r.selected)
 
 never_same : (name : List ℕ) (pkg : Plain) (c : Candidate) (same again : Bool) (version : List ℕ)
-    → (unless_same name pkg c same again ≡ Some (Purge name version) → ⊥) × (unless_same name pkg c same again ≡ Some (Install name version) → ⊥)
+    → (change_unless_same name pkg c same again ≡ Some (Purge name version) → ⊥) × (change_unless_same name pkg c same again ≡ Some (Install name version) → ⊥)
 never_same name pkg c true true version = (λ e. absurd cc, λ e. absurd cc)
 never_same name pkg c true false version = (λ e. absurd cc, λ e. absurd cc)
 never_same name pkg c false again version = go (version_text_cmp (version_text pkg) (selected_version c))
@@ -156,8 +156,8 @@ sides r name = go (list_any (bytes_eq name) r.again) (find (is_package_named nam
       absent = λ a b. absurd (a (was pkg is));
     }
     go again (Some pkg) (Some c) is are = record {
-      purge = (λ e. absurd ((never_same name pkg c (is_same_selected pkg c) again e.0).0 e.1), λ e. absurd (e.1 (chosen c are)));
-      install = (λ e. absurd ((never_same name pkg c (is_same_selected pkg c) again e.0).1 e.1), λ e. absurd (e.1 (was pkg is)));
+      purge = (λ e. absurd ((never_same name pkg c (is_candidate_this_package pkg c) again e.0).0 e.1), λ e. absurd (e.1 (chosen c are)));
+      install = (λ e. absurd ((never_same name pkg c (is_candidate_this_package pkg c) again e.0).1 e.1), λ e. absurd (e.1 (was pkg is)));
       absent = λ a b. absurd (a (was pkg is));
     }
 

@@ -6,27 +6,27 @@ use Rattle.std.proofs.lemmas.Bool.{eqb-true, and_from, and_parts}
 use Rattle.std.proofs.lemmas.Slice.Eq.{bytes_eq-Decides}
 use Rattle.adb_view.specs.Plain.{Plain}
 use Rattle.base_core.proofs.Rising as rising
-use Rattle.base_core.specs.Listed.{IsRising}
+use Rattle.base_core.specs.Listed.{AreSortedDistinctNames}
 use Rattle.base_core.specs.Lists.{IsIn}
 use Rattle.base_core.specs.Name.{parts_of}
 use Rattle.change_outcome.proofs.change_files.InOrder.{from_order, in_order, order_rises}
 use Rattle.change_outcome.specs.PackageFiles.{has_script_of}
-use Rattle.change_outcome.specs.Triggers.{are_parts_matched, folders_of_paths, is_due, is_folder_matched, is_watched, patterns_of}
+use Rattle.change_outcome.specs.Triggers.{are_parts_matched, folders_of_paths, is_trigger_due, is_folder_matched, watches_folder, patterns_of}
 use Rattle.dep_core.specs.LeadingSlash.{without_slash}
 use Rattle.change_outcome.specs.package_files.Folders.{folder_of}
 use Rattle.report_core.specs.Numbers.{TRIGGER_SCRIPT}
-use Rattle.change_outcome.specs.star_patterns.Fills.{IsFilledTo}
+use Rattle.change_outcome.specs.star_patterns.Fills.{MatchesByFillingStars}
 use Rattle.change_outcome.specs.star_patterns.Patterns.{is_matched}
-use Rattle.answer_laws.specs.DueTriggers.{HasFileIn, IsFilledByParts, IsTriggered}
+use Rattle.answer_laws.specs.DueTriggers.{HasFileIn, MatchesFolderByParts, IsTriggered}
 use Rattle.answer_laws.proofs.Members.{listed, risen}
 use Rattle.answer_laws.proofs.Tests.{any_passes, passes_any, text_in, text_of}
 
 -- what the crate of patterns says of one part
 abbrev pub Filled : Type 0
-Filled = (pattern text : List ℕ) → (is_matched pattern text ≡ true) ↔ IsFilledTo pattern text
+Filled = (pattern text : List ℕ) → (is_matched pattern text ≡ true) ↔ MatchesByFillingStars pattern text
 
 abbrev EachFilled : List (List ℕ) → List (List ℕ) → Type 0
-EachFilled patterns parts = (i : ℕ) (p part : List ℕ) → slice_get patterns i ≡ Some p → slice_get parts i ≡ Some part → IsFilledTo p part
+EachFilled patterns parts = (i : ℕ) (p part : List ℕ) → slice_get patterns i ≡ Some p → slice_get parts i ≡ Some part → MatchesByFillingStars p part
 
 parts_filled : Filled → (patterns parts : List (List ℕ)) → are_parts_matched patterns parts ≡ true → (length patterns ≡ length parts) × EachFilled patterns parts
 parts_filled law [] [] e = (refl, λ i p part is are. absurd cc)
@@ -37,11 +37,11 @@ parts_filled law (p ∷ patterns) (part ∷ parts) e =
     let more = parts_filled law patterns parts t.1 in
     (ap suc more.0, at more.1 ((law p part).0 t.0))
   where
-    at : EachFilled patterns parts → IsFilledTo p part → EachFilled (p ∷ patterns) (part ∷ parts)
+    at : EachFilled patterns parts → MatchesByFillingStars p part → EachFilled (p ∷ patterns) (part ∷ parts)
     at more first zero q other is are =
         let one : p ≡ q = cc in
         let two : part ≡ other = cc in
-        subst (λ (x : List ℕ). IsFilledTo x other) one (subst (λ (x : List ℕ). IsFilledTo p x) two first)
+        subst (λ (x : List ℕ). MatchesByFillingStars x other) one (subst (λ (x : List ℕ). MatchesByFillingStars p x) two first)
     at more first (suc i) q other is are = more i q other is are
 
 filled_parts : Filled → (patterns parts : List (List ℕ)) → length patterns ≡ length parts → EachFilled patterns parts → are_parts_matched patterns parts ≡ true
@@ -67,7 +67,7 @@ not_root (b ∷ folder) pattern some =
     let test : (length (b ∷ folder) == 0) ≡ false = above_zero (length (b ∷ folder)) (omega arith) in
     ap (λ (t : Bool). if t then bytes_eq pattern (codes "/") else are_parts_matched (parts_of (without_slash pattern)) (parts_of (b ∷ folder))) test
 
-pub matched_below : Filled → (folder pattern : List ℕ) → (folder ≡ [] → ⊥) → (is_folder_matched folder pattern ≡ true) ↔ IsFilledByParts pattern folder
+pub matched_below : Filled → (folder pattern : List ℕ) → (folder ≡ [] → ⊥) → (is_folder_matched folder pattern ≡ true) ↔ MatchesFolderByParts pattern folder
 matched_below law folder pattern some = (
   λ e. let t = parts_filled law (parts_of (without_slash pattern)) (parts_of folder) (sym (not_root folder pattern some) ∙ e) in record { count = t.0; each = t.1 },
   λ f. not_root folder pattern some ∙ filled_parts law (parts_of (without_slash pattern)) (parts_of folder) f.count f.each,
@@ -77,13 +77,13 @@ pub matched_root : (pattern : List ℕ) → (is_folder_matched [] pattern ≡ tr
 unfolding is_folder_matched
 matched_root pattern = ((bytes_eq-Decides pattern (codes "/")).0, (bytes_eq-Decides pattern (codes "/")).1)
 
-pub due_is : (pkg : Plain) (folder : List ℕ) → (is_due pkg folder ≡ true) ↔ IsTriggered pkg folder
+pub due_is : (pkg : Plain) (folder : List ℕ) → (is_trigger_due pkg folder ≡ true) ↔ IsTriggered pkg folder
 due_is pkg folder = (
   λ e.
-      let t = and_parts (has_script_of pkg TRIGGER_SCRIPT) (is_watched pkg folder) e in
+      let t = and_parts (has_script_of pkg TRIGGER_SCRIPT) (watches_folder pkg folder) e in
       let h = any_passes (is_folder_matched folder) (patterns_of pkg) t.1 in
       record { script = t.0; pattern = h.element; watched = h.listed; matched = h.passes },
-  λ t. and_from (has_script_of pkg TRIGGER_SCRIPT) (is_watched pkg folder) t.script (passes_any (is_folder_matched folder) (patterns_of pkg) t.pattern t.watched t.matched),
+  λ t. and_from (has_script_of pkg TRIGGER_SCRIPT) (watches_folder pkg folder) t.script (passes_any (is_folder_matched folder) (patterns_of pkg) t.pattern t.watched t.matched),
 )
 
 pub folders_are : (paths : List (List ℕ)) (folder : List ℕ) → IsIn folder (folders_of_paths paths) ↔ HasFileIn paths folder
@@ -92,5 +92,5 @@ folders_are paths folder = (
   λ f. listed folder (folders_of_paths paths) (in_order folder (map folder_of paths) (text_in folder_of paths folder f.path f.listed f.within)),
 )
 
-pub folders_rise : (paths : List (List ℕ)) → IsRising (folders_of_paths paths)
+pub folders_rise : (paths : List (List ℕ)) → AreSortedDistinctNames (folders_of_paths paths)
 folders_rise paths = rising.pairs_from_rises (folders_of_paths paths) (order_rises (map folder_of paths))

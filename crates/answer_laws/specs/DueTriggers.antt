@@ -3,7 +3,7 @@
 use Rattle.std.specs.Prelude.{◌≡◌, ◌↔◌, ℕ, true, List, ◌∷◌, ◌++◌, Some, length, map, slice_get}
 use Rattle.std.specs.List.{flat_map}
 use Rattle.adb_view.specs.Plain.{Plain}
-use Rattle.base_core.specs.Listed.{IsRising}
+use Rattle.base_core.specs.Listed.{AreSortedDistinctNames}
 use Rattle.base_core.specs.Lists.{IsIn}
 use Rattle.base_core.specs.Name.{parts_of}
 use Rattle.change_outcome.specs.PackageFiles.{has_script_of}
@@ -13,14 +13,14 @@ use Rattle.dep_core.specs.LeadingSlash.{without_slash}
 use Rattle.change_outcome.specs.package_files.Folders.{folder_of}
 use Rattle.report_core.specs.Numbers.{TRIGGER_SCRIPT}
 use Rattle.report_core.specs.Reports.{report_lines, trigger_text}
-use Rattle.change_outcome.specs.star_patterns.Fills.{IsFilledTo}
+use Rattle.change_outcome.specs.star_patterns.Fills.{MatchesByFillingStars}
 
 -- A pattern, without one leading `/`, has as many parts as a folder, and the stars of each part can be
 -- replaced by bytes so that it reads as the folder's part at the same place.
-pub record IsFilledByParts (pattern folder : List ℕ) : Type 0 where
+pub record MatchesFolderByParts (pattern folder : List ℕ) : Type 0 where
   pub count : length (parts_of (without_slash pattern)) ≡ length (parts_of folder)
   pub each : (i : ℕ) (p part : List ℕ) → slice_get (parts_of (without_slash pattern)) i ≡ Some p
-      → slice_get (parts_of folder) i ≡ Some part → IsFilledTo p part
+      → slice_get (parts_of folder) i ≡ Some part → MatchesByFillingStars p part
 
 -- a package has a trigger script and watches the folder by one of its patterns
 pub record IsTriggered (pkg : Plain) (folder : List ℕ) : Type 0 where
@@ -47,7 +47,7 @@ pub record IsDueFor (paths : List (List ℕ)) (m : Member) (folder : List ℕ) :
 pub record HasTriggerLines (paths : List (List ℕ)) (members : List Member) (text : List ℕ)
     : Type 0 where
   pub folders : Member → List (List ℕ)
-  pub order : (m : Member) → IsRising (folders m)
+  pub order : (m : Member) → AreSortedDistinctNames (folders m)
   pub each : (m : Member) (folder : List ℕ) → IsIn folder (folders m) ↔ IsDueFor paths m folder
   pub text_is : text
       ≡ report_lines (flat_map (λ m. map (trigger_text (member_name m)) (folders m)) members)

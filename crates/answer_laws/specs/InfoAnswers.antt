@@ -15,9 +15,9 @@ use Rattle.installed_info.specs.candidate_core.Candidates.{dependencies_in}
 use Rattle.dep_core.specs.DependencyText.{dep_text}
 use Rattle.installed_info.specs.file_owners.Replaces.{version_text}
 use Rattle.installed_info.specs.Form.{form_of}
-use Rattle.installed_info.specs.Packages.{package_asked}
+use Rattle.installed_info.specs.Packages.{package_meant_by}
 use Rattle.make_laws.specs.NamedFields.{field_named}
-use Rattle.report_core.specs.Reports.{name_version, report_lines}
+use Rattle.report_core.specs.Reports.{name_dash_version, report_lines}
 
 -- a text with a line for each package, its name, in byte order
 pub record HasSortedNames (packages : List Plain) (text : List ℕ) : Type 0 where
@@ -35,9 +35,9 @@ pub record IsFirstAbsent (flags : Flags) (packages : List Plain) (operands : Lis
   pub rest : List Operand
   pub operands_are : operands ≡ front ++ operand ∷ rest
   pub place_is : operand.place ≡ place
-  pub absent : package_asked (form_of flags) packages operand.text ≡ None
+  pub absent : package_meant_by (form_of flags) packages operand.text ≡ None
   pub earlier : (o : Operand) → IsIn o front
-      → is_some (package_asked (form_of flags) packages o.text) ≡ true
+      → is_some (package_meant_by (form_of flags) packages o.text) ≡ true
 
 -- a section: a heading, a line for each fact, and an empty line
 abbrev pub section_lines : List ℕ → List (List ℕ) → List ℕ
@@ -45,7 +45,7 @@ section_lines heading facts = report_lines (heading ∷ (facts ++ ([] ∷ [])))
 
 -- the heading of a section: a package with its version, and a text
 abbrev pub info_heading : Plain → List ℕ → List ℕ
-info_heading pkg text = name_version (package_name pkg) (version_text pkg) ++ text
+info_heading pkg text = name_dash_version (package_name pkg) (version_text pkg) ++ text
 
 -- the field of this name in a package's information
 abbrev pub info_field : List ℕ → Plain → Plain

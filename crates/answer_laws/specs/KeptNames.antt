@@ -5,14 +5,14 @@ use Rattle.std.specs.List.{filter, find}
 use Rattle.std.specs.Option.{option_map_or}
 use Rattle.change_outcome.specs.adb_fields.Repeated.{package_name}
 use Rattle.adb_view.specs.Plain.{Plain}
-use Rattle.base_core.specs.Listed.{IsRising}
+use Rattle.base_core.specs.Listed.{AreSortedDistinctNames}
 use Rattle.base_core.specs.Lists.{IsIn}
 use Rattle.installed_info.specs.candidate_core.Candidates.{Candidate}
 use Rattle.dep_core.specs.Dependency.{Dependency}
 use Rattle.dep_core.specs.Meets.{meets}
 use Rattle.change_outcome.specs.package_changes.Changes.{is_selected_named}
-use Rattle.change_outcome.specs.package_changes.Report.{names_in_need}
-use Rattle.report_core.specs.Reports.{report_lines, stays_text}
+use Rattle.change_outcome.specs.package_changes.Report.{names_needing_candidate}
+use Rattle.report_core.specs.Reports.{report_lines, still_needed_text}
 
 -- ---- who needs a candidate
 
@@ -32,7 +32,7 @@ pub record NeedsOther (c other : Candidate) : Type 0 where
   pub met : (meets dependency other.name other.version ≡ true) ⊎ IsProvidedBy dependency other
 
 -- a selected candidate of this name, which is not that of the needed one, needs it
-pub record IsNeededUnder (selected : List Candidate) (needed : Candidate) (name : List ℕ) : Type 0 where
+pub record IsNeededBySelectedName (selected : List Candidate) (needed : Candidate) (name : List ℕ) : Type 0 where
   pub user : Candidate
   pub listed : IsIn user selected
   pub named : name ≡ user.name
@@ -47,9 +47,9 @@ AreNamedOnce selected = (name : List ℕ) → length (filter (is_selected_named 
 
 -- the text on the selected candidate of a name that was to be removed, with the names of those that
 -- need it
-abbrev pub kept_text : List Candidate → List ℕ → List ℕ
-kept_text selected name =
-    option_map_or (λ (c : Candidate). stays_text name (names_in_need selected c))
+abbrev pub still_needed_text_of_name : List Candidate → List ℕ → List ℕ
+still_needed_text_of_name selected name =
+    option_map_or (λ (c : Candidate). still_needed_text name (names_needing_candidate selected c))
     (find (is_selected_named name) selected) []
 
 -- a text with one line for each name that was to be removed, was installed and is selected, and no
@@ -57,8 +57,8 @@ kept_text selected name =
 pub record HasKeptLines (before : List Plain) (selected : List Candidate) (to_remove : List (List ℕ))
     (text : List ℕ) : Type 0 where
   pub names : List (List ℕ)
-  pub order : IsRising names
+  pub order : AreSortedDistinctNames names
   pub each : (name : List ℕ) → IsIn name names
       ↔ (IsIn name to_remove × IsIn name (map package_name before)
       × IsIn name (map (λ (c : Candidate). c.name) selected))
-  pub text_is : text ≡ report_lines (map (kept_text selected) names)
+  pub text_is : text ≡ report_lines (map (still_needed_text_of_name selected) names)

@@ -8,24 +8,24 @@ use Rattle.installed_info.specs.candidate_core.Candidates.{Candidate}
 use Rattle.installed_info.specs.candidate_core.Options.{IsIn}
 use Rattle.command_core.specs.declared.operands.Operand.{Operand}
 use Rattle.dep_core.specs.Repositories.{Repository}
-use Rattle.query_core.specs.Asked.{AreInOrderBy, IsNameAsked, IsNameOf, IsPartAsked}
+use Rattle.query_core.specs.Asked.{AreInOrderBy, MatchesNamePattern, IsOwnOrProvidedName, MatchesPartOfName}
 use Rattle.query_core.specs.Order.{printed_version, query_cmp}
-use Rattle.report_core.specs.QueryReports.{database_line, repository_line, version_heading}
+use Rattle.report_core.specs.QueryReports.{policy_database_line, repository_line, version_heading}
 
 -- ---- `list` and `search`
 
 -- `list` is asked for a candidate: no pattern is given, or one of them matches its name; and it is
 -- installed, if only installed packages are asked for
-abbrev pub IsListAsked : List Operand → Bool → Candidate → Type 0
-IsListAsked patterns installed_only c =
-    ((patterns ≡ []) ⊎ IsNameAsked patterns c.name) × (installed_only ≡ true → c.installed ≡ true)
+abbrev pub IsInListReport : List Operand → Bool → Candidate → Type 0
+IsInListReport patterns installed_only c =
+    ((patterns ≡ []) ⊎ MatchesNamePattern patterns c.name) × (installed_only ≡ true → c.installed ≡ true)
 
 -- `search` is asked for a candidate: it is of a repository, and a pattern matches a part of one of its
 -- names
-abbrev pub IsSearchAsked : List Operand → Candidate → Type 0
-IsSearchAsked patterns c =
+abbrev pub IsInSearchReport : List Operand → Candidate → Type 0
+IsInSearchReport patterns c =
     (is_some c.repository ≡ true)
-    × ((name : List ℕ) × (IsNameOf c name × IsPartAsked patterns name))
+    × ((name : List ℕ) × (IsOwnOrProvidedName c name × MatchesPartOfName patterns name))
 
 -- the line of the candidate at a place; nothing if there is none
 abbrev pub line_at : (Candidate → List ℕ) → List Candidate → ℕ → List ℕ
@@ -73,7 +73,7 @@ repository_line_at repositories place =
 pub record HasPlacesOfVersion (candidates : List Candidate) (repositories : List Repository)
     (name : List ℕ) (version : Option (List ℕ)) (text : List ℕ) : Type 0 where
   pub database : List ℕ
-  pub database_is : ((database ≡ database_line) × IsVersionInstalled candidates name version)
+  pub database_is : ((database ≡ policy_database_line) × IsVersionInstalled candidates name version)
       ⊎ ((database ≡ []) × (IsVersionInstalled candidates name version → ⊥))
   pub places : List ℕ
   pub each : (place : ℕ) → IsIn place places

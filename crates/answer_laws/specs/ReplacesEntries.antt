@@ -8,7 +8,7 @@ use Rattle.adb_view.specs.Plain.{Plain}
 use Rattle.adb_view.specs.Values.{entry_in}
 use Rattle.base_core.specs.Lists.{IsIn}
 use Rattle.dep_core.specs.Dependency.{Dependency}
-use Rattle.dep_core.specs.Meets.{is_wanted}
+use Rattle.dep_core.specs.Meets.{constraint_accepts}
 use Rattle.installed_info.specs.file_owners.Replaces.{version_text}
 use Rattle.version_core.specs.Order.{is_version}
 
@@ -22,4 +22,4 @@ pub record IsNamedInReplaces (pkg other : Plain) : Type 0 where
   pub positive : dependency.conflict ≡ false
   pub name : dependency.name ≡ package_name other
   pub version : is_version (version_text other) ≡ true
-  pub wanted : is_wanted dependency.version dependency.bits (Some (version_text other)) ≡ true
+  pub wanted : constraint_accepts dependency.version dependency.bits (Some (version_text other)) ≡ true

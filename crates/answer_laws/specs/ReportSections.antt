@@ -10,7 +10,7 @@ use Rattle.base_core.specs.ByteOrder.{bytes_cmp}
 use Rattle.base_core.specs.Files.{Files}
 use Rattle.installed_info.specs.candidate_core.Candidates.{Candidate}
 use Rattle.change_outcome.specs.change_files.FileChange.{FileChange}
-use Rattle.change_outcome.specs.change_files.PlanLists.{aside_of, kept_of}
+use Rattle.change_outcome.specs.change_files.PlanLists.{paths_with_apk_new_file, kept_paths_of}
 use Rattle.change_outcome.specs.ChangeOutcome.{ChangeWishes, touched_paths}
 use Rattle.change_outcome.specs.db_core.Members.{Member}
 use Rattle.make_laws.specs.NamedFields.{field_named}
@@ -36,7 +36,7 @@ IsSumOf [] sum = sum ≡ 0
 IsSumOf (n ∷ numbers) sum = (rest : ℕ) × IsSumOf numbers rest × (sum ≡ n + rest)
 
 -- a text is a line with the sum of some sizes, and how many they are
-pub record HasSum (sizes : List ℕ) (text : List ℕ) : Type 0 where
+pub record IsSumLine (sizes : List ℕ) (text : List ℕ) : Type 0 where
   pub sum : ℕ
   pub sum_is : IsSumOf sizes sum
   pub text_is : text
@@ -79,7 +79,7 @@ pub record HasSimulatedSections (r : Replacement) (to_remove : List (List ℕ)) 
     pub stays : List ℕ
     pub kept_lines : HasKeptLines r.before r.selected to_remove stays
     pub last : List ℕ
-    pub sum : HasSum (map (λ (c : Candidate). size_when_installed c.info) r.selected) last
+    pub sum : IsSumLine (map (λ (c : Candidate). size_when_installed c.info) r.selected) last
     pub text_is : text ≡ changes ++ stays ++ last
 
 -- a text has the sections of the report of a change that is made, in their order
@@ -90,9 +90,9 @@ pub record HasSections (r : Replacement) (wishes : ChangeWishes) (change : FileC
   pub stays : List ℕ
   pub kept_lines : HasKeptLines r.before r.selected wishes.to_remove stays
   pub configuration : List ℕ
-  pub configured : HasConfigurationLines (aside_of change files) (kept_of change files) configuration
+  pub configured : HasConfigurationLines (paths_with_apk_new_file change files) (kept_paths_of change files) configuration
   pub triggers : List ℕ
   pub due : HasTriggerLines (touched_paths change files) change.members triggers
   pub last : List ℕ
-  pub sum : HasSum (map (λ (m : Member). size_when_installed (member_info m)) change.members) last
+  pub sum : IsSumLine (map (λ (m : Member). size_when_installed (member_info m)) change.members) last
   pub text_is : text ≡ changes ++ stays ++ configuration ++ triggers ++ last

@@ -1,31 +1,31 @@
 -- Which folders and files the lines of a text database list. The rules are in `docs/formats.md`, "Text
 -- database of version 2", the rows F, M, R, a and Z. Serves the laws of `src/listed.rt`.
 use Rattle.std.specs.Prelude.{ℕ, List, [], ◌∷◌, Option, Some, None}
-use Rattle.change_outcome.specs.v2_core.Records.{ListedFile, ListedFolder, file_by, folder_by}
+use Rattle.change_outcome.specs.v2_core.Records.{ListedFile, ListedFolder, listed_file_from_parts, listed_folder_from_parts}
 use Rattle.change_outcome.specs.v2_lines.Accesses.{Access}
 use Rattle.change_outcome.specs.v2_lines.Lines.{RecordLine, file_access_line, file_hash_line, file_line, folder_access_line, folder_line, info_line, other_line}
 
 -- the lines up to the next that begins a folder
-abbrev pub up_to_folder : List RecordLine → List RecordLine
-up_to_folder [] = []
-up_to_folder (info_line f values ∷ lines) = info_line f values ∷ up_to_folder lines
-up_to_folder (folder_line name ∷ lines) = []
-up_to_folder (folder_access_line a ∷ lines) = folder_access_line a ∷ up_to_folder lines
-up_to_folder (file_line name ∷ lines) = file_line name ∷ up_to_folder lines
-up_to_folder (file_access_line a ∷ lines) = file_access_line a ∷ up_to_folder lines
-up_to_folder (file_hash_line hash ∷ lines) = file_hash_line hash ∷ up_to_folder lines
-up_to_folder (other_line ∷ lines) = other_line ∷ up_to_folder lines
+abbrev pub lines_up_to_folder : List RecordLine → List RecordLine
+lines_up_to_folder [] = []
+lines_up_to_folder (info_line f values ∷ lines) = info_line f values ∷ lines_up_to_folder lines
+lines_up_to_folder (folder_line name ∷ lines) = []
+lines_up_to_folder (folder_access_line a ∷ lines) = folder_access_line a ∷ lines_up_to_folder lines
+lines_up_to_folder (file_line name ∷ lines) = file_line name ∷ lines_up_to_folder lines
+lines_up_to_folder (file_access_line a ∷ lines) = file_access_line a ∷ lines_up_to_folder lines
+lines_up_to_folder (file_hash_line hash ∷ lines) = file_hash_line hash ∷ lines_up_to_folder lines
+lines_up_to_folder (other_line ∷ lines) = other_line ∷ lines_up_to_folder lines
 
 -- the lines up to the next that begins a file
-abbrev pub up_to_file : List RecordLine → List RecordLine
-up_to_file [] = []
-up_to_file (info_line f values ∷ lines) = info_line f values ∷ up_to_file lines
-up_to_file (folder_line name ∷ lines) = folder_line name ∷ up_to_file lines
-up_to_file (folder_access_line a ∷ lines) = folder_access_line a ∷ up_to_file lines
-up_to_file (file_line name ∷ lines) = []
-up_to_file (file_access_line a ∷ lines) = file_access_line a ∷ up_to_file lines
-up_to_file (file_hash_line hash ∷ lines) = file_hash_line hash ∷ up_to_file lines
-up_to_file (other_line ∷ lines) = other_line ∷ up_to_file lines
+abbrev pub lines_up_to_file : List RecordLine → List RecordLine
+lines_up_to_file [] = []
+lines_up_to_file (info_line f values ∷ lines) = info_line f values ∷ lines_up_to_file lines
+lines_up_to_file (folder_line name ∷ lines) = folder_line name ∷ lines_up_to_file lines
+lines_up_to_file (folder_access_line a ∷ lines) = folder_access_line a ∷ lines_up_to_file lines
+lines_up_to_file (file_line name ∷ lines) = []
+lines_up_to_file (file_access_line a ∷ lines) = file_access_line a ∷ lines_up_to_file lines
+lines_up_to_file (file_hash_line hash ∷ lines) = file_hash_line hash ∷ lines_up_to_file lines
+lines_up_to_file (other_line ∷ lines) = other_line ∷ lines_up_to_file lines
 
 -- the access of a folder that the first of these lines gives; none if no line does
 abbrev pub folder_access_in : List RecordLine → Option Access
@@ -68,7 +68,7 @@ files_listed (info_line f values ∷ lines) = files_listed lines
 files_listed (folder_line name ∷ lines) = files_listed lines
 files_listed (folder_access_line a ∷ lines) = files_listed lines
 files_listed (file_line name ∷ lines) =
-    file_by name (file_access_in (up_to_file lines)) (file_hash_in (up_to_file lines))
+    listed_file_from_parts name (file_access_in (lines_up_to_file lines)) (file_hash_in (lines_up_to_file lines))
     ∷ files_listed lines
 files_listed (file_access_line a ∷ lines) = files_listed lines
 files_listed (file_hash_line hash ∷ lines) = files_listed lines
@@ -80,7 +80,7 @@ abbrev pub folders_listed : List RecordLine → List ListedFolder
 folders_listed [] = []
 folders_listed (info_line f values ∷ lines) = folders_listed lines
 folders_listed (folder_line name ∷ lines) =
-    folder_by name (folder_access_in (up_to_folder lines)) (files_listed (up_to_folder lines))
+    listed_folder_from_parts name (folder_access_in (lines_up_to_folder lines)) (files_listed (lines_up_to_folder lines))
     ∷ folders_listed lines
 folders_listed (folder_access_line a ∷ lines) = folders_listed lines
 folders_listed (file_line name ∷ lines) = folders_listed lines

@@ -11,9 +11,9 @@ use Rattle.base_core.specs.Lists.{IsIn}
 use Rattle.change_outcome.specs.make_info.Fields.{FieldValue, text}
 use Rattle.change_outcome.specs.make_info.declared.field.Field.TheVariants as Options
 use Rattle.make_laws.specs.NamedFields.{field_named}
-use Rattle.make_laws.specs.OptionGrammar.{SaysNumber, SaysOfField}
+use Rattle.make_laws.specs.OptionGrammar.{SaysNumber, FieldTextGivesValues}
 use Rattle.make_laws.specs.SaidOfFields.{HasValuesAsList}
-use Rattle.change_outcome.specs.v2_core.Reading.{with_text}
+use Rattle.change_outcome.specs.v2_core.Reading.{record_with_text_line}
 use Rattle.change_outcome.specs.v2_core.Records.{Record}
 use Rattle.change_outcome.specs.v2_lines.declared.field.InfoField.{InfoField}
 use Rattle.change_outcome.specs.v2_lines.declared.field.InfoField.TheVariants as Letters
@@ -42,8 +42,8 @@ line_letter Letters.Replaces = codes "r"
 line_letter Letters.InstallIf = codes "i"
 
 -- the letters that are listed: those of the package's fields, and those of folders and files
-abbrev pub listed_letters : List ℕ
-listed_letters = codes "CPVATULomItkqcDpriFMRaZ"
+abbrev pub known_line_letters : List ℕ
+known_line_letters = codes "CPVATULomItkqcDpriFMRaZ"
 
 -- the name of the field that the lines of a letter give
 abbrev pub letter_field_name : InfoField → List ℕ
@@ -93,30 +93,30 @@ SaysHash value said =
 -- a value says what it would say as a commit of `mkpkg`; one that may not be given there is dropped
 abbrev pub SaysCommit : List ℕ → List FieldValue → Type 0
 SaysCommit value said =
-    SaysOfField Options.RepoCommit value said
-    ⊎ (((given : List FieldValue) → SaysOfField Options.RepoCommit value given → ⊥) × (said ≡ []))
+    FieldTextGivesValues Options.RepoCommit value said
+    ⊎ (((given : List FieldValue) → FieldTextGivesValues Options.RepoCommit value given → ⊥) × (said ≡ []))
 
 -- the value of a line of a letter is allowed, and says this: what it would say as an option `-I` of
 -- `mkpkg` for the field, if there is such an option
-abbrev pub SaysOfLetter : InfoField → List ℕ → List FieldValue → Type 0
-SaysOfLetter Letters.Hashes value said = SaysHash value said
-SaysOfLetter Letters.Name value said = SaysOfField Options.Name value said
-SaysOfLetter Letters.Version value said = SaysOfField Options.Version value said
-SaysOfLetter Letters.Arch value said = SaysOfField Options.Arch value said
-SaysOfLetter Letters.Description value said = SaysOfField Options.Description value said
-SaysOfLetter Letters.Url value said = SaysOfField Options.Url value said
-SaysOfLetter Letters.License value said = SaysOfField Options.License value said
-SaysOfLetter Letters.Origin value said = SaysOfField Options.Origin value said
-SaysOfLetter Letters.Maintainer value said = SaysOfField Options.Maintainer value said
-SaysOfLetter Letters.InstalledSize value said = SaysNumber value said
-SaysOfLetter Letters.BuildTime value said = SaysOfField Options.BuildTime value said
-SaysOfLetter Letters.ProviderPriority value said = SaysOfField Options.ProviderPriority value said
-SaysOfLetter Letters.ReplacesPriority value said = SaysOfField Options.ReplacesPriority value said
-SaysOfLetter Letters.RepoCommit value said = SaysCommit value said
-SaysOfLetter Letters.Depends value said = SaysOfField Options.Depends value said
-SaysOfLetter Letters.Provides value said = SaysOfField Options.Provides value said
-SaysOfLetter Letters.Replaces value said = SaysOfField Options.Replaces value said
-SaysOfLetter Letters.InstallIf value said = SaysOfField Options.InstallIf value said
+abbrev pub LetterValueGivesValues : InfoField → List ℕ → List FieldValue → Type 0
+LetterValueGivesValues Letters.Hashes value said = SaysHash value said
+LetterValueGivesValues Letters.Name value said = FieldTextGivesValues Options.Name value said
+LetterValueGivesValues Letters.Version value said = FieldTextGivesValues Options.Version value said
+LetterValueGivesValues Letters.Arch value said = FieldTextGivesValues Options.Arch value said
+LetterValueGivesValues Letters.Description value said = FieldTextGivesValues Options.Description value said
+LetterValueGivesValues Letters.Url value said = FieldTextGivesValues Options.Url value said
+LetterValueGivesValues Letters.License value said = FieldTextGivesValues Options.License value said
+LetterValueGivesValues Letters.Origin value said = FieldTextGivesValues Options.Origin value said
+LetterValueGivesValues Letters.Maintainer value said = FieldTextGivesValues Options.Maintainer value said
+LetterValueGivesValues Letters.InstalledSize value said = SaysNumber value said
+LetterValueGivesValues Letters.BuildTime value said = FieldTextGivesValues Options.BuildTime value said
+LetterValueGivesValues Letters.ProviderPriority value said = FieldTextGivesValues Options.ProviderPriority value said
+LetterValueGivesValues Letters.ReplacesPriority value said = FieldTextGivesValues Options.ReplacesPriority value said
+LetterValueGivesValues Letters.RepoCommit value said = SaysCommit value said
+LetterValueGivesValues Letters.Depends value said = FieldTextGivesValues Options.Depends value said
+LetterValueGivesValues Letters.Provides value said = FieldTextGivesValues Options.Provides value said
+LetterValueGivesValues Letters.Replaces value said = FieldTextGivesValues Options.Replaces value said
+LetterValueGivesValues Letters.InstallIf value said = FieldTextGivesValues Options.InstallIf value said
 
 -- ---- lines
 
@@ -125,34 +125,34 @@ abbrev pub letter_line : List ℕ → List ℕ → List ℕ
 letter_line letter value = letter ++ codes ":" ++ value
 
 -- a line gives these values to a field; a line of another letter gives none
-abbrev pub SaysOfLine : InfoField → List ℕ → List FieldValue → Type 0
-SaysOfLine f line said =
-    ((value : List ℕ) × (line ≡ letter_line (line_letter f) value) × SaysOfLetter f value said)
+abbrev pub LineGivesFieldValues : InfoField → List ℕ → List FieldValue → Type 0
+LineGivesFieldValues f line said =
+    ((value : List ℕ) × (line ≡ letter_line (line_letter f) value) × LetterValueGivesValues f value said)
     ⊎ (((value : List ℕ) → line ≡ letter_line (line_letter f) value → ⊥) × (said ≡ []))
 
 -- lines give these values to a field, one line after another
-abbrev pub SayOfLines : InfoField → List (List ℕ) → List FieldValue → Type 0
-SayOfLines f [] said = said ≡ []
-SayOfLines f (line ∷ lines) said =
+abbrev pub LinesGiveFieldValues : InfoField → List (List ℕ) → List FieldValue → Type 0
+LinesGiveFieldValues f [] said = said ≡ []
+LinesGiveFieldValues f (line ∷ lines) said =
     (here : List FieldValue) × (further : List FieldValue)
-    × SaysOfLine f line here × SayOfLines f lines further × (said ≡ here ++ further)
+    × LineGivesFieldValues f line here × LinesGiveFieldValues f lines further × (said ≡ here ++ further)
 
 -- a record with some lines more, one after another, if all are allowed
 abbrev pub record_with_lines : Record → List (List ℕ) → Option Record
 record_with_lines r [] = Some r
 record_with_lines r (line ∷ lines) =
-    option_and_then (λ next. record_with_lines next lines) (with_text r line)
+    option_and_then (λ next. record_with_lines next lines) (record_with_text_line r line)
 
 -- the field of a package has what the lines of its letter give: all values for a list, otherwise the
 -- first
 pub record HasValuesOfLines (f : InfoField) (lines : List (List ℕ)) (pkg : Plain) : Type 0 where
   pub said : List FieldValue
-  pub say : SayOfLines f lines said
+  pub say : LinesGiveFieldValues f lines said
   pub tells : HasValuesAsList (is_list_letter f) said (letter_value_in_package f pkg)
 
 -- a line has a letter that is not listed, before a colon
-pub record IsOfOtherLetter (line : List ℕ) : Type 0 where
+pub record HasUnlistedLetter (line : List ℕ) : Type 0 where
   pub letter : ℕ
   pub value : List ℕ
   pub line_is : line ≡ letter ∷ codes ":" ++ value
-  pub unlisted : IsIn letter listed_letters → ⊥
+  pub unlisted : IsIn letter known_line_letters → ⊥

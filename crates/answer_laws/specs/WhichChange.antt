@@ -22,15 +22,15 @@ pub record HasBothVersions (r : Replacement) (name : List ℕ) (pkg : Plain) (c 
   pub new : is_version (selected_version c) ≡ true
 
 -- a name with a package before and a selected candidate of no repository, which is that package
-pub record IsSelectedItself (r : Replacement) (name : List ℕ) (c : Candidate) : Type 0 where
+pub record IsInstalledPackageSelected (r : Replacement) (name : List ℕ) (c : Candidate) : Type 0 where
   pub installed : Plain
   pub before : find (is_package_named name) r.before ≡ Some installed
   pub selected : find (is_selected_named name) r.selected ≡ Some c
   pub repository : c.repository ≡ None
 
 -- a candidate with the text of a package's version and with its id
-abbrev pub IsVeryPackage : Plain → Candidate → Type 0
-IsVeryPackage pkg c =
+abbrev pub IsSameVersionAndId : Plain → Candidate → Type 0
+IsSameVersionAndId pkg c =
     (version_text pkg ≡ selected_version c) × (is_same_id (installed_id pkg) c.id ≡ true)
 
 -- the name of the package that a change is of

@@ -6,8 +6,8 @@ ghost use Rattle.std.specs.Prelude.{◌≡◌, ◌↔◌, ℕ, List, Some, None,
 ghost use Rattle.std.specs.List.{find};
 ghost use Rattle.std.specs.declared.cmp.Ordering.TheVariants.{Less, Equal, Greater};
 ghost use Rattle.adb_view.specs.Plain.{Plain};
-ghost use Rattle.answer_laws.specs.WhichChange.{HasBothVersions, HasInstallChange, HasNumberedLines, HasPurgeChange, IsSelected, IsSelectedItself, IsVeryPackage, WasInstalled, changed_name};
-ghost use Rattle.base_core.specs.Listed.{IsRising};
+ghost use Rattle.answer_laws.specs.WhichChange.{HasBothVersions, HasInstallChange, HasNumberedLines, HasPurgeChange, IsSelected, IsInstalledPackageSelected, IsSameVersionAndId, WasInstalled, changed_name};
+ghost use Rattle.base_core.specs.Listed.{AreSortedDistinctNames};
 ghost use Rattle.base_core.specs.Lists.{IsIn};
 ghost use Rattle.installed_info.specs.candidate_core.Candidates.{Candidate};
 ghost use Rattle.change_outcome.specs.db_core.Packages.{is_package_named};
@@ -36,26 +36,26 @@ pub fn the_order_of_versions_decides_the_change()
         → (change_of_name r name
         ≡ Some (Replace name (version_text pkg) (selected_version c)))
         ↔ ((version_cmp (version_text pkg) (selected_version c) ≡ Equal)
-        × (IsVeryPackage pkg c → ⊥)) }
+        × (IsSameVersionAndId pkg c → ⊥)) }
     ensures reinstall { (r : Replacement) (name : List ℕ) (pkg : Plain) (c : Candidate)
         → HasBothVersions r name pkg c
         → (change_of_name r name ≡ Some (Reinstall name (selected_version c)))
-        ↔ (IsVeryPackage pkg c × IsIn name r.again) }
+        ↔ (IsSameVersionAndId pkg c × IsIn name r.again) }
     ensures kept { (r : Replacement) (name : List ℕ) (pkg : Plain) (c : Candidate)
         → HasBothVersions r name pkg c
         → (change_of_name r name ≡ None)
-        ↔ (IsVeryPackage pkg c × (IsIn name r.again → ⊥)) }
+        ↔ (IsSameVersionAndId pkg c × (IsIn name r.again → ⊥)) }
 {}
 
 /// A package that no index has is selected as it is installed: it is installed again exactly if its
 /// name is asked for again, and otherwise kept.
 pub fn a_package_of_no_index_is_kept()
     ensures reinstall { (r : Replacement) (name : List ℕ) (c : Candidate)
-        → IsSelectedItself r name c
+        → IsInstalledPackageSelected r name c
         → (change_of_name r name ≡ Some (Reinstall name (selected_version c)))
         ↔ IsIn name r.again }
     ensures kept { (r : Replacement) (name : List ℕ) (c : Candidate)
-        → IsSelectedItself r name c
+        → IsInstalledPackageSelected r name c
         → (change_of_name r name ≡ None) ↔ (IsIn name r.again → ⊥) }
 {}
 
@@ -66,7 +66,7 @@ pub fn each_changed_name_has_one_change_in_order()
         → IsIn change (changes_of r)
         ↔ (change_of_name r (changed_name change) ≡ Some change) }
     ensures order { (r : Replacement)
-        → IsRising (map changed_name (changes_of r)) }
+        → AreSortedDistinctNames (map changed_name (changes_of r)) }
 {}
 
 /// A package is removed exactly if it was installed and no candidate of its name is selected, and

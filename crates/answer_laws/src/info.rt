@@ -15,7 +15,7 @@ ghost use Rattle.dep_core.specs.LeadingSlash.{without_slash};
 ghost use Rattle.installed_info.specs.file_owners.Replaces.{version_text};
 ghost use Rattle.installed_info.specs.Form.{form_of};
 ghost use Rattle.installed_info.specs.Info.{info_refusal, names_info, operands_info, package_info};
-ghost use Rattle.installed_info.specs.Packages.{package_asked, package_named};
+ghost use Rattle.installed_info.specs.Packages.{package_meant_by, package_named};
 ghost use Rattle.report_core.specs.Reports.{owner_text, report_line, report_lines};
 ghost use Rattle.report_core.specs.declared.refusal.Refusal.TheVariants.{NotInstalled};
 
@@ -76,13 +76,13 @@ pub fn info_answers_each_operand_in_the_order_given()
     ensures none { (flags : Flags) (packages : List Plain)
         → operands_info (form_of flags) packages [] ≡ [] }
     ensures found { (flags : Flags) (packages : List Plain) (front rest : List Operand)
-        (o : Operand) (pkg : Plain) → package_asked (form_of flags) packages o.text ≡ Some pkg
+        (o : Operand) (pkg : Plain) → package_meant_by (form_of flags) packages o.text ≡ Some pkg
         → operands_info (form_of flags) packages (front ++ o ∷ rest)
         ≡ operands_info (form_of flags) packages front
         ++ (package_info (form_of flags) o.text pkg
         ++ operands_info (form_of flags) packages rest) }
     ensures absent { (flags : Flags) (packages : List Plain) (front rest : List Operand)
-        (o : Operand) → package_asked (form_of flags) packages o.text ≡ None
+        (o : Operand) → package_meant_by (form_of flags) packages o.text ≡ None
         → operands_info (form_of flags) packages (front ++ o ∷ rest)
         ≡ operands_info (form_of flags) packages front
         ++ operands_info (form_of flags) packages rest }

@@ -3,19 +3,19 @@
 
 ghost use Rattle.std.specs.Prelude.{◌↔◌, ℕ, List};
 ghost use Rattle.adb_view.specs.Plain.{Plain};
-ghost use Rattle.answer_laws.specs.KeptNames.{AreNamedOnce, HasKeptLines, IsNeededUnder};
-ghost use Rattle.base_core.specs.Listed.{IsRising};
+ghost use Rattle.answer_laws.specs.KeptNames.{AreNamedOnce, HasKeptLines, IsNeededBySelectedName};
+ghost use Rattle.base_core.specs.Listed.{AreSortedDistinctNames};
 ghost use Rattle.base_core.specs.Lists.{IsIn};
 ghost use Rattle.installed_info.specs.candidate_core.Candidates.{Candidate};
-ghost use Rattle.change_outcome.specs.package_changes.Report.{names_in_need, stay_lines};
+ghost use Rattle.change_outcome.specs.package_changes.Report.{names_needing_candidate, still_needed_lines};
 
 /// The names after "required by" are exactly those of the other selected packages that need the
 /// kept one, by its name or by what it provides, each once, in byte order.
 pub fn a_kept_package_is_required_by_those_that_need_it()
     ensures each { (selected : List Candidate) (needed : Candidate) (name : List ℕ)
-        → IsIn name (names_in_need selected needed) ↔ IsNeededUnder selected needed name }
+        → IsIn name (names_needing_candidate selected needed) ↔ IsNeededBySelectedName selected needed name }
     ensures order { (selected : List Candidate) (needed : Candidate)
-        → IsRising (names_in_need selected needed) }
+        → AreSortedDistinctNames (names_needing_candidate selected needed) }
 {}
 
 /// A name has a line "stays" exactly if it was to be removed, was installed and is still selected;
@@ -23,5 +23,5 @@ pub fn a_kept_package_is_required_by_those_that_need_it()
 pub fn a_name_stays_if_it_is_still_selected()
     ensures { (before : List Plain) (selected : List Candidate) (to_remove : List (List ℕ))
         → AreNamedOnce selected
-        → HasKeptLines before selected to_remove (stay_lines before selected to_remove) }
+        → HasKeptLines before selected to_remove (still_needed_lines before selected to_remove) }
 {}

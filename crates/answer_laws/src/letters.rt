@@ -4,7 +4,7 @@
 ghost use Rattle.std.specs.Prelude.{◌≡◌, ◌↔◌, ℕ, List, Some, codes, map};
 ghost use Rattle.adb_view.specs.Plain.{null};
 ghost use Rattle.adb_view.specs.declared.tables.Which.TheVariants.{File, Idb, Package, PkgInfo};
-ghost use Rattle.answer_laws.specs.TextLetters.{IsOfOtherLetter, HasValuesOfLines, record_with_lines};
+ghost use Rattle.answer_laws.specs.TextLetters.{HasUnlistedLetter, HasValuesOfLines, record_with_lines};
 ghost use Rattle.make_laws.specs.NamedFields.{entries_named, field_named};
 ghost use Rattle.change_outcome.specs.v2_core.Database.{listed_file_value, record_value, value_of_records};
 ghost use Rattle.change_outcome.specs.v2_core.Records.{ListedFile, Record, empty_record};
@@ -26,7 +26,7 @@ pub fn each_letter_gives_its_field()
 
 /// A line is dropped exactly if its letter is not listed.
 pub fn a_line_is_dropped_if_its_letter_is_not_listed()
-    ensures { (line : List ℕ) → (record_line_of line ≡ Some other_line) ↔ IsOfOtherLetter line }
+    ensures { (line : List ℕ) → (record_line_of line ≡ Some other_line) ↔ HasUnlistedLetter line }
 {}
 
 /// A package of a text has no field that no letter gives, and a file neither size nor time nor

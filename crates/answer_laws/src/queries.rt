@@ -3,7 +3,7 @@
 
 ghost use Rattle.std.specs.Prelude.{ℕ, ◌≡◌, ◌++◌, Bool, List, Option};
 ghost use Rattle.std.specs.List.{flat_map};
-ghost use Rattle.answer_laws.specs.QueryLines.{HasLinesOfAsked, HasPlacesOfVersion, IsListAsked, IsSearchAsked};
+ghost use Rattle.answer_laws.specs.QueryLines.{HasLinesOfAsked, HasPlacesOfVersion, IsInListReport, IsInSearchReport};
 ghost use Rattle.command_core.specs.declared.operands.Operand.{Operand};
 ghost use Rattle.dep_core.specs.Repositories.{Repository};
 ghost use Rattle.installed_info.specs.candidate_core.Candidates.{Candidate};
@@ -21,7 +21,7 @@ use query_core::{
 /// `list` prints a line for each candidate that is asked for, and no other, in the order of queries.
 pub fn list_prints_a_line_for_each_candidate_that_is_asked_for()
     ensures { (candidates : List Candidate) (patterns : List Operand) (installed_only : Bool)
-        → HasLinesOfAsked (IsListAsked patterns installed_only) candidate_line candidates
+        → HasLinesOfAsked (IsInListReport patterns installed_only) candidate_line candidates
         (list_report candidates patterns installed_only) }
 {
     a_query_selects_what_passes_its_test();
@@ -32,7 +32,7 @@ pub fn list_prints_a_line_for_each_candidate_that_is_asked_for()
 /// order of queries.
 pub fn search_prints_a_line_for_each_candidate_that_is_asked_for()
     ensures { (candidates : List Candidate) (patterns : List Operand)
-        → HasLinesOfAsked (IsSearchAsked patterns)
+        → HasLinesOfAsked (IsInSearchReport patterns)
         (λ (c : Candidate). search_line c.name (printed_version c.version)) candidates
         (search_report candidates patterns) }
 {

@@ -3,7 +3,7 @@
 
 ghost use Rattle.std.specs.Prelude.{List, map, ℕ};
 ghost use Rattle.answer_laws.specs.KeptNames.{AreNamedOnce};
-ghost use Rattle.answer_laws.specs.ReportSections.{HasConfigurationLines, HasSections, HasSimulatedSections, HasSum, size_when_installed, member_info};
+ghost use Rattle.answer_laws.specs.ReportSections.{HasConfigurationLines, HasSections, HasSimulatedSections, IsSumLine, size_when_installed, member_info};
 ghost use Rattle.base_core.specs.Files.{Files};
 ghost use Rattle.installed_info.specs.candidate_core.Candidates.{Candidate};
 ghost use Rattle.change_outcome.specs.change_files.FileChange.{FileChange};
@@ -17,10 +17,10 @@ ghost use Rattle.change_outcome.specs.package_changes.Report.{selected_sum_line,
 /// and how many they are.
 pub fn the_sum_counts_what_is_installed()
     ensures simulated { (selected : List Candidate)
-        → HasSum (map (λ (c : Candidate). size_when_installed c.info) selected)
+        → IsSumLine (map (λ (c : Candidate). size_when_installed c.info) selected)
         (selected_sum_line selected) }
     ensures made { (members : List Member)
-        → HasSum (map (λ (m : Member). size_when_installed (member_info m)) members)
+        → IsSumLine (map (λ (m : Member). size_when_installed (member_info m)) members)
         (member_sum_line members) }
 {}
 

@@ -3,14 +3,14 @@
 
 ghost use Rattle.std.specs.Prelude.{◌≡◌, ◌⊎◌, ◌↔◌, ℕ, List, [], true, false, Ok, Err, codes};
 ghost use Rattle.adb_view.specs.Plain.{Plain};
-ghost use Rattle.answer_laws.specs.DueTriggers.{HasFileIn, HasTriggerLines, IsDueFor, IsFilledByParts, IsFirstDue, IsTriggered};
+ghost use Rattle.answer_laws.specs.DueTriggers.{HasFileIn, HasTriggerLines, IsDueFor, MatchesFolderByParts, IsFirstDue, IsTriggered};
 ghost use Rattle.base_core.specs.Files.{Files};
-ghost use Rattle.base_core.specs.Listed.{IsRising};
+ghost use Rattle.base_core.specs.Listed.{AreSortedDistinctNames};
 ghost use Rattle.base_core.specs.Lists.{IsIn};
 ghost use Rattle.change_outcome.specs.change_files.FileChange.{FileChange};
 ghost use Rattle.change_outcome.specs.change_files.FilesAfter.{is_removed, is_written};
 ghost use Rattle.change_outcome.specs.ChangeOutcome.{touched_paths};
-ghost use Rattle.change_outcome.specs.Triggers.{folders_of_paths, is_due, is_folder_matched, trigger_lines, unless_trigger};
+ghost use Rattle.change_outcome.specs.Triggers.{folders_of_paths, is_trigger_due, is_folder_matched, trigger_lines, unless_trigger_due};
 ghost use Rattle.change_outcome.specs.db_core.Members.{Member};
 ghost use Rattle.report_core.specs.declared.refusal.Refusal.TheVariants.{TriggerNeeded};
 
@@ -22,7 +22,7 @@ use change_outcome::{
 /// pattern can be filled to the folder's part. The root is matched by `/` alone.
 pub fn a_pattern_matches_a_folder_part_by_part()
     ensures below { (folder pattern : List ℕ) → (folder ≡ [] → ⊥)
-        → (is_folder_matched folder pattern ≡ true) ↔ IsFilledByParts pattern folder }
+        → (is_folder_matched folder pattern ≡ true) ↔ MatchesFolderByParts pattern folder }
     ensures root { (pattern : List ℕ)
         → (is_folder_matched [] pattern ≡ true) ↔ (pattern ≡ codes "/") }
 {
@@ -34,10 +34,10 @@ pub fn a_pattern_matches_a_folder_part_by_part()
 /// them, each once, in byte order.
 pub fn a_trigger_is_due_for_a_changed_folder()
     ensures due { (pkg : Plain) (folder : List ℕ)
-        → (is_due pkg folder ≡ true) ↔ IsTriggered pkg folder }
+        → (is_trigger_due pkg folder ≡ true) ↔ IsTriggered pkg folder }
     ensures folders { (paths : List (List ℕ)) (folder : List ℕ)
         → IsIn folder (folders_of_paths paths) ↔ HasFileIn paths folder }
-    ensures order { (paths : List (List ℕ)) → IsRising (folders_of_paths paths) }
+    ensures order { (paths : List (List ℕ)) → AreSortedDistinctNames (folders_of_paths paths) }
 {}
 
 /// A report has a line for each package and each folder for which its trigger is due, and no other:
@@ -51,10 +51,10 @@ pub fn each_due_trigger_has_a_line()
 /// names the first package whose trigger is due.
 pub fn a_due_trigger_refuses_the_change()
     ensures accepted { (paths : List (List ℕ)) (members : List Member)
-        → (unless_trigger false paths members ≡ Ok true)
+        → (unless_trigger_due false paths members ≡ Ok true)
         ↔ ((m : Member) → IsIn m members → (folder : List ℕ) → IsDueFor paths m folder → ⊥) }
     ensures named { (paths : List (List ℕ)) (members : List Member) (name : List ℕ)
-        → unless_trigger false paths members ≡ Err (TriggerNeeded name)
+        → unless_trigger_due false paths members ≡ Err (TriggerNeeded name)
         → IsFirstDue paths members name }
 {}
 

@@ -32,6 +32,10 @@ const TOO_MANY_WORDS: u8 = 5;
 const UNFINISHED: &[u8] =
     b"apk: the change is committed: once the cause is gone, the next command finishes it\n";
 
+/// The warning that `mkpkg -F` has omitted a mode or an empty folder.
+const OMITTED: &[u8] =
+    b"apk: the folder has an executable file or an empty folder; the package keeps neither\n";
+
 /// Runs the command line over the folder that the program is in, and exits with the answer's
 /// status. The root is locked as the command needs it.
 fn main(rt: HostRuntime) -> ExitCode {
@@ -69,7 +73,12 @@ fn main(rt: HostRuntime) -> ExitCode {
             let _ = explain_contents(rt.alloc(), &words, refusal, &mut tree, &mut err);
         }
         Answer::Ok => {
+            // The next call lists only the folder of `mkpkg -F`, and earlier lists do not count.
+            tree.take_omitted();
             let _ = warn(rt.alloc(), &words, &mut tree, &mut err);
+            if tree.take_omitted() {
+                let _ = rt.stderr().write_all(OMITTED);
+            }
         }
         _ => {}
     }

@@ -22,8 +22,8 @@ use Rattle.journal_core.proofs.Lasting.{some_none}
 use Rattle.outcome.specs.Effect.{Effect, does_recover}
 use Rattle.outcome.specs.Outcome.{Outcome}
 use Rattle.outcome.specs.Work.{recovery_fault, work_files}
-use Rattle.apk_front.specs.Moments.{MomentsLeadTo, AreReadDuringRun, AreOldOrLeadToOutcome, CanRecover, HasNothingToRecover, IsDurableState, IsRecoveringOrNext, IsReadDuringWork, IsRecovering, MustLast, MustLastWithoutRecovery, NamesAreDurableWithoutIntentExcept, ignored_but}
-use Rattle.apk_front.specs.Runs.{AreReadDuringWork, IsRun, IsWholeRun, IsWithoutCommit}
+use Rattle.apk_front.specs.Moments.{MomentsLeadTo, AreReadDuringRun, AreOldOrLeadToOutcome, CanRecover, HasNothingToRecover, IsDurableState, IsRecoveringOrNext, IsStateDuringRun, IsRecovering, MustOutcomeBeDurable, MustOutcomeBeDurableWithoutRecovery, NamesAreDurableWithoutIntentExcept, ignored_except_output}
+use Rattle.apk_front.specs.Runs.{AreReadDuringWork, IsRun, IsWholeRun, IsVerdictWithoutCommit}
 use Rattle.apk_front.proofs.Runs.{History, Judged, Leaves, err_ok, on_ok, settled_before, since_weaker}
 
 -- ---- laws
@@ -107,7 +107,7 @@ safe_after laws A B makes ignored v u old mid now into is_unchanged first (inr (
 settled_same : (ignored : Ignored) (v u : TreeState) → EachCrashLeaves ignored (files_of v) u → state_of ignored (files_of u) ≡ state_of ignored (files_of v) → EachCrashLeaves ignored (files_of u) u
 settled_same ignored v u settled reads = λ image is. settled image is ∙ sym reads
 
-settles_after : AreLaws → (effect : Effect) (ignored : Ignored) (v u : TreeState) (o : Outcome) → StateIsUnchanged ignored v u → (IsSome (intent_of (files_of v)) → EachCrashLeaves ignored (files_of v) u) → MustLast effect ignored v o → MustLastWithoutRecovery ignored u o
+settles_after : AreLaws → (effect : Effect) (ignored : Ignored) (v u : TreeState) (o : Outcome) → StateIsUnchanged ignored v u → (IsSome (intent_of (files_of v)) → EachCrashLeaves ignored (files_of v) u) → MustOutcomeBeDurable effect ignored v o → MustOutcomeBeDurableWithoutRecovery ignored u o
 settles_after laws effect ignored v u o is_unchanged found (inl (inl commits)) = inl commits
 settles_after laws effect ignored v u o is_unchanged found (inl (inr before)) = inr (settled_same ignored v u (laws.lasts ignored (files_of v) v u before is_unchanged.quiet) is_unchanged.reads)
 settles_after laws effect ignored v u o is_unchanged found (inr (recovers, some)) = inr (settled_same ignored v u (found some) is_unchanged.reads)
@@ -117,7 +117,7 @@ settles_after laws effect ignored v u o is_unchanged found (inr (recovers, some)
 abbrev pub StaysWithout : History → History → Judged → Type 0
 StaysWithout old now judged = IsErrOf judged NoMemory → now ≡ old
 
-unwritten : (A B : Outcome → Type 0) (effect : Effect) (output : Option (List ℕ)) (judged : Judged) (u : TreeState) (mid now : History) → ((o : Outcome) → B o → A o) → IsRun A effect output judged u mid now → StaysWithout mid now judged → IsWithoutCommit B judged → now ≡ mid
+unwritten : (A B : Outcome → Type 0) (effect : Effect) (output : Option (List ℕ)) (judged : Judged) (u : TreeState) (mid now : History) → ((o : Outcome) → B o → A o) → IsRun A effect output judged u mid now → StaysWithout mid now judged → IsVerdictWithoutCommit B judged → now ≡ mid
 unwritten A B effect output judged u mid now from run memory (inl none) = memory none
 unwritten A B effect output judged u mid now from run memory (inr (o, one, commits)) = run.idle o (from o one) commits
 
@@ -181,9 +181,9 @@ reads_after A B effect output v u old mid now recovers work into first (inr (o, 
       o,
       into o one,
       commits,
-      since_both (IsRecovering v) (IsReadDuringWork effect output o.files (files_of u)) (IsRecoveringOrNext effect (IsReadDuringWork effect output o.files (work_files effect (files_of v))) v) old mid now
+      since_both (IsRecovering v) (IsStateDuringRun effect output o.files (files_of u)) (IsRecoveringOrNext effect (IsStateDuringRun effect output o.files (work_files effect (files_of v))) v) old mid now
           (λ w r. inl (recovers, r))
-          (λ w is. inr (subst (λ (f : Files). IsReadDuringWork effect output o.files f w) work is)) first at_work,
+          (λ w is. inr (subst (λ (f : Files). IsStateDuringRun effect output o.files f w) work is)) first at_work,
     )
 
 -- ---- the names
@@ -240,7 +240,7 @@ whole_failed laws IsOne effect output judged e v rest now recovers failed recove
   moments = λ ignored is_durable hides. inl (recovery.calm ignored is_durable);
   is_durable = λ ignored is_durable hides. newest_durable laws ignored v rest now is_durable (recovery.calm ignored is_durable);
   settled = λ ignored o is_durable hides one lasts. err_ok (HoldsNow now (EachCrashLeaves ignored o.files)) judged e failed;
-  durable_state = λ ignored o is_durable hides one commits. err_ok (HoldsNow now (IsDurableState (ignored_but output ignored) o.files)) judged e failed;
+  durable_state = λ ignored o is_durable hides one commits. err_ok (HoldsNow now (IsDurableState (ignored_except_output output ignored) o.files)) judged e failed;
   left = λ without ignored is_durable. recovery.calm ignored is_durable;
   idle = λ without nothing. nothing_done effect v (now ≡ v ∷ rest) recovers recovery.idle nothing;
   bad = bad;
@@ -253,7 +253,7 @@ whole_failed laws IsOne effect output judged e v rest now recovers failed recove
 abbrev pub LeavesAll : Effect → TreeState → Outcome → Type 0
 LeavesAll effect v o = Leaves (files_of v) o × (CanRecover effect v → ⊥)
 
-settled_left : (effect : Effect) (ignored : Ignored) (v : TreeState) (o : Outcome) → LeavesAll effect v o → MustLast effect ignored v o → EachCrashLeaves ignored (files_of v) v
+settled_left : (effect : Effect) (ignored : Ignored) (v : TreeState) (o : Outcome) → LeavesAll effect v o → MustOutcomeBeDurable effect ignored v o → EachCrashLeaves ignored (files_of v) v
 settled_left effect ignored v o (leaves, never) (inl settles) = settled_before ignored v o leaves.1 settles
 settled_left effect ignored v o (leaves, never) (inr can) = absurd (never can)
 

@@ -12,11 +12,11 @@ use Rattle.base_core.specs.Tree.{TreeState, files_of}
 use Rattle.base_core.specs.declared.cause.Cause.{Cause}
 use Rattle.command_core.specs.Command.{CommandLine}
 use Rattle.journal_core.specs.Kept.{JournalOnlyShrinks}
-use Rattle.journal_core.specs.Recovery.{EachCrashLeaves, StateDependsOn, intent_at, intent_name, intent_of, intent_unless, read_intent, recovered_files}
+use Rattle.journal_core.specs.Recovery.{EachCrashLeaves, StateDependsOn, intent_in_file, intent_name, intent_of, intent_unless_fault, read_intent, recovered_files}
 use Rattle.journal_core.specs.Staged.{AreReplayPathsFree, IsEmptyStage, IsIntentFault, unstaged_files}
 use Rattle.journal_core.specs.declared.fault.RecoverFault.{RecoverFault}
 use Rattle.journal_core.specs.declared.fault.RecoverFault.TheVariants.{IntentBad as BadIntent}
-use Rattle.outcome.specs.Commands.{IsPossibleOutcomeOf, IsPossibleOutcomeOn, IsOutcomeOf, IsOutcomeOn, IsOutcomeUnlessBadIntent}
+use Rattle.outcome.specs.Commands.{IsPossibleOutcomeWithoutDemo, IsPossibleOutcomeAfterRecovery, IsOutcomeWithoutDemo, IsOutcomeAfterRecovery, IsOutcomeUnlessBadIntent}
 use Rattle.outcome.specs.Effect.{Effect, Computes, OnlyReadsFiles, AsksRoot, Makes, Changes, does_recover, effect_of}
 use Rattle.outcome.specs.Outcome.{Outcome, just_refusal}
 use Rattle.outcome.specs.Work.{fault_of_intent, recovery_fault}
@@ -24,7 +24,7 @@ use Rattle.outcome.proofs.Recovering.{work_is}
 use Rattle.report_core.specs.declared.refusal.Refusal.TheVariants.{IntentBad}
 use Rattle.apk_front.specs.Moments.{ArePathsToWriteFree, AreOutcomePathsFree}
 use Rattle.apk_front.specs.Runs.{HasNothingStaged, IfNothingStaged, IsRun, IsWholeRun}
-use Rattle.apk_front.specs.Verdicts.{ReportsOne, as_outcome}
+use Rattle.apk_front.specs.Verdicts.{ReportsOneOfOutcomes, as_outcome}
 use Rattle.apk_front.specs.declared.answer.Verdict.{Verdict}
 use Rattle.apk_front.proofs.Carried.{Ones, RoomFor, Wholes}
 use Rattle.apk_front.proofs.AfterRecovery.{AreLaws, BytesAs, IsCalm, IsRecovery, NamesAreDurableWithoutIntent, LeavesAll, RecoversAs, StaysWithout, whole_after, whole_failed, whole_idle}
@@ -87,11 +87,11 @@ LeavesUnstaged v w = (files_of w ≡ unstaged_files (files_of v)) × (w.names in
 into : (command : CommandLine) (v u : TreeState) (o : Outcome) → does_recover (effect_of command.applet) ≡ true → IsGood v → LeavesUnstaged v u → Ones command u o → Wholes command v o
 into command v u o recovering good left one =
     subst (λ (fault : Option Cause). IsOutcomeUnlessBadIntent fault command (files_of v) o) (sym (good_is (effect_of command.applet) (files_of v) recovering good))
-    (subst (λ (f : Files). IsOutcomeOn command f o) (left.0 ∙ sym (work_is (effect_of command.applet) (files_of v) recovering)) one)
+    (subst (λ (f : Files). IsOutcomeAfterRecovery command f o) (left.0 ∙ sym (work_is (effect_of command.applet) (files_of v) recovering)) one)
 
 from : (command : CommandLine) (v u : TreeState) (o : Outcome) → does_recover (effect_of command.applet) ≡ true → IsGood v → LeavesUnstaged v u → Wholes command v o → Ones command u o
 from command v u o recovering good left one =
-    subst (λ (f : Files). IsOutcomeOn command f o) (sym (left.0 ∙ sym (work_is (effect_of command.applet) (files_of v) recovering)))
+    subst (λ (f : Files). IsOutcomeAfterRecovery command f o) (sym (left.0 ∙ sym (work_is (effect_of command.applet) (files_of v) recovering)))
     (subst (λ (fault : Option Cause). IsOutcomeUnlessBadIntent fault command (files_of v) o) (good_is (effect_of command.applet) (files_of v) recovering good) one)
 
 -- nothing waits then
@@ -99,7 +99,7 @@ pub nothing_waits : (v u : TreeState) → LeavesUnstaged v u → HasNothingStage
 nothing_waits v u left = (left.1, λ q staged. ap (λ (f : Files). f q) left.0 ∙ ap (λ b. if b then None else recovered_files (files_of v) q) staged)
 
 pub after_found : (command : CommandLine) (old mid : History) (judged : Judged) → does_recover (effect_of command.applet) ≡ true → IfObservable old IsGood → IfObservable old (λ v. HoldsNow mid (LeavesUnstaged v))
-    → IfOk judged (λ verdict. IfNothingStaged mid (λ u. ReportsOne (Ones command u) verdict)) → IfOk judged (λ verdict. IfObservable old (λ v. ReportsOne (Wholes command v) verdict))
+    → IfOk judged (λ verdict. IfNothingStaged mid (λ u. ReportsOneOfOutcomes (Ones command u) verdict)) → IfOk judged (λ verdict. IfObservable old (λ v. ReportsOneOfOutcomes (Wholes command v) verdict))
 after_found command old mid (Err e) recovering good left found = tt
 after_found command [] mid (Ok verdict) recovering good left found = tt
 after_found command (v ∷ rest) [] (Ok verdict) recovering good left found = absurd left
@@ -107,7 +107,7 @@ after_found command (v ∷ rest) (u ∷ more) (Ok verdict) recovering good left 
     let (o, one, reports) = found (nothing_waits v u left) in
     (o, into command v u o recovering good left one, reports)
 
-pub behind_read : (command : CommandLine) (judged : Judged) → IfOk judged (ReportsOne (IsPossibleOutcomeOn command)) → IfOk judged (ReportsOne (IsPossibleOutcomeOf command))
+pub behind_read : (command : CommandLine) (judged : Judged) → IfOk judged (ReportsOneOfOutcomes (IsPossibleOutcomeAfterRecovery command)) → IfOk judged (ReportsOneOfOutcomes (IsPossibleOutcomeWithoutDemo command))
 behind_read command (Err e) found = tt
 behind_read command (Ok verdict) (o, one, reports) = (o, inl one, reports)
 
@@ -150,19 +150,19 @@ IsRefused fault verdict = (cause : Cause) × (fault ≡ BadIntent cause) × ((fi
 abbrev pub SaysBad : RecoverFault → History → History → Type 0
 SaysBad fault old mid = (cause : Cause) → fault ≡ BadIntent cause → (mid ≡ old) × IfObservable old (λ v. IsIntentFault (files_of v) cause)
 
-bad_one : (command : CommandLine) (files : Files) (cause : Cause) → does_recover (effect_of command.applet) ≡ true → IsIntentFault files cause → IsOutcomeOf (Ok command) files (just_refusal files (IntentBad cause))
+bad_one : (command : CommandLine) (files : Files) (cause : Cause) → does_recover (effect_of command.applet) ≡ true → IsIntentFault files cause → IsOutcomeWithoutDemo (Ok command) files (just_refusal files (IntentBad cause))
 bad_one command files cause recovering bad =
     subst (λ (fault : Option Cause). IsOutcomeUnlessBadIntent fault command files (just_refusal files (IntentBad cause))) (sym (bad_is (effect_of command.applet) files cause recovering bad)) refl
 
 pub refused_found : (command : CommandLine) (fault : RecoverFault) (old mid : History) (judged : Judged) → does_recover (effect_of command.applet) ≡ true → SaysBad fault old mid → IfOk judged (IsRefused fault)
-    → IfOk judged (λ verdict. IfObservable old (λ v. ReportsOne (Wholes command v) verdict))
+    → IfOk judged (λ verdict. IfObservable old (λ v. ReportsOneOfOutcomes (Wholes command v) verdict))
 refused_found command fault old mid (Err e) recovering bad refused = tt
 refused_found command fault [] mid (Ok verdict) recovering bad refused = tt
 refused_found command fault (v ∷ rest) mid (Ok verdict) recovering bad (cause, is, same) =
     (just_refusal (files_of v) (IntentBad cause), bad_one command (files_of v) cause recovering (bad cause is).1, same (files_of v))
 
 pub refused_read : (command : CommandLine) (fault : RecoverFault) (judged : Judged) → does_recover (effect_of command.applet) ≡ true → ((cause : Cause) → fault ≡ BadIntent cause → (file : List ℕ) × (first_fault IntentTable file ≡ Some cause)) → IfOk judged (IsRefused fault)
-    → IfOk judged (ReportsOne (IsPossibleOutcomeOf command))
+    → IfOk judged (ReportsOneOfOutcomes (IsPossibleOutcomeWithoutDemo command))
 refused_read command fault (Err e) recovering found refused = tt
 refused_read command fault (Ok verdict) recovering found (cause, is, same) =
     let (file, bad) = found cause is in
@@ -171,7 +171,7 @@ refused_read command fault (Ok verdict) recovering found (cause, is, same) =
 -- a bad intent is not read
 bad_unread : (files : Files) (cause : Cause) → IsIntentFault files cause → intent_of files ≡ None
 unfolding read_intent
-bad_unread files cause (file, at, is) = ap intent_at at ∙ ap (λ (fault : Option Cause). intent_unless fault (root_value IntentTable (payload_in file))) is
+bad_unread files cause (file, at, is) = ap intent_in_file at ∙ ap (λ (fault : Option Cause). intent_unless_fault fault (root_value IntentTable (payload_in file))) is
 
 bad_leaves : (command : CommandLine) (v : TreeState) (cause : Cause) (o : Outcome) → does_recover (effect_of command.applet) ≡ true → IsIntentFault (files_of v) cause → Wholes command v o → LeavesAll (effect_of command.applet) v o
 bad_leaves command v cause o recovering bad one =

@@ -16,14 +16,14 @@ use Rattle.base_core.specs.declared.tree.TreeFault.TheVariants.{Disk, Memory as 
 use Rattle.journal_core.specs.Quiet.{StateIsUnchanged}
 use Rattle.journal_core.specs.Recovery.{EachCrashLeaves, StateDependsOn, intent_name}
 use Rattle.make_core.specs.make_info.Output.{output_name}
-use Rattle.make_core.specs.package_files.Sources.{AreNamesBelowFirst, values_with}
+use Rattle.make_core.specs.package_files.Sources.{AreNamesBelowFirst, values_of_letter}
 use Rattle.command_core.specs.declared.values.TheConstants.{FILES}
 use Rattle.make_core.specs.make_index.Files.{FindOnlyFiles}
 use Rattle.make_core.specs.make_info.Reads.{Reads}
 use Rattle.outcome.specs.Make.{mkndx, mkpkg}
-use Rattle.outcome.specs.Commands.{IsPossibleOutcomeOf, IsPossibleOutcomeOn, IsOutcomeOf, IsOutcomeOn, reads_in, computing_outcome, effect_outcome, reading_outcome}
+use Rattle.outcome.specs.Commands.{IsPossibleOutcomeWithoutDemo, IsPossibleOutcomeAfterRecovery, IsOutcomeWithoutDemo, IsOutcomeAfterRecovery, reads_in, computing_outcome, effect_outcome, reading_outcome}
 use Rattle.outcome.specs.Given.{Given, IsChosenFor, IsClashBy, IsGiven, IsListingFor, MayBeGiven, MayBeListedFor, MayClash, nothing_given}
-use Rattle.outcome.specs.Effect.{Effect, Computes, OnlyReadsFiles, AsksRoot, Makes, Changes, does_only_read, does_recover, ignores_files, effect_by, effect_of, output, output_by, output_if, reads_only, depends_only_on_arguments}
+use Rattle.outcome.specs.Effect.{Effect, Computes, OnlyReadsFiles, AsksRoot, Makes, Changes, does_only_read, does_recover, ignores_files, effect_of_arguments, effect_of, output, output_of_arguments, output_for_effect, reads_only, depends_only_on_arguments}
 use Rattle.outcome.specs.Words.{IsPossibleOutcome, IsOutcome}
 use Rattle.outcome.specs.Work.{recovery_fault}
 use Rattle.outcome.specs.Outcome.{Outcome, just_refusal, just_report, outcome_of, report_unless}
@@ -39,12 +39,12 @@ use Rattle.command_core.specs.declared.command.Applet.{Applet}
 use Rattle.command_core.specs.declared.command.Applet.TheVariants.{Adbdump, Adbgen, Help, Mkndx, Mkpkg, ProgramVersion, Verify, Version}
 use Rattle.command_core.specs.declared.operands.Operand.{Operand}
 use Rattle.outcome.proofs.Looking.{look_leaves}
-use Rattle.apk_front.specs.Answers.{answer_by}
-use Rattle.apk_front.specs.Effects.{access_of}
-use Rattle.apk_front.specs.Moments.{AnswersOutcome, AreReadDuringRun, AreOldOrLeadToOutcome, CommitsNothing, HasNothingToRecover, ArePathsToWriteFree, IgnoresScratchOf, IsDurableState, IsRefusedOrOutOfMemory, LeavesDurableState, LeavesDurableOnceAnswered, AreRunPathsFree, AreOutcomePathsFree, LeavesDurable, MustLast, NamesAreDurableWithoutIntentExcept, ignored_but}
-use Rattle.apk_front.specs.Runs.{IfNothingStaged, IsRun, IsWholeRun, IsWithoutCommit}
+use Rattle.apk_front.specs.Answers.{answer_for_refusal}
+use Rattle.apk_front.specs.Effects.{root_access_if_read_only}
+use Rattle.apk_front.specs.Moments.{AnswersOutcome, AreReadDuringRun, AreOldOrLeadToOutcome, CommitsNothing, HasNothingToRecover, ArePathsToWriteFree, IgnoresScratchOf, IsDurableState, IsRefusedOrOutOfMemory, LeavesDurableState, LeavesDurableOnceAnswered, AreRunPathsFree, AreOutcomePathsFree, LeavesDurable, MustOutcomeBeDurable, NamesAreDurableWithoutIntentExcept, ignored_except_output}
+use Rattle.apk_front.specs.Runs.{IfNothingStaged, IsRun, IsWholeRun, IsVerdictWithoutCommit}
 use Rattle.apk_front.specs.Containers.{IsIndexOutcome, IsPackageOutcome}
-use Rattle.apk_front.specs.Verdicts.{IsPrinted, IsShown, Reports, ReportsOne, as_outcome, looked_outcome}
+use Rattle.apk_front.specs.Verdicts.{IsPrinted, IsVerdictPrinted, Reports, ReportsOneOfOutcomes, as_outcome, read_only_outcome}
 use Rattle.apk_front.specs.declared.answer.Answer.{Answer}
 use Rattle.apk_front.specs.declared.answer.Answer.TheVariants.{Ok as Done, Refused, TreeFault as TreeFailed, OutFault, Memory}
 use Rattle.apk_front.specs.declared.answer.Verdict.{Verdict}
@@ -57,29 +57,29 @@ use Rattle.apk_front.proofs.Runs.{History, Judged, Leaves, ok_always, run_among}
 -- ---- an applet that only reads
 
 abbrev pub Ones : CommandLine → TreeState → Outcome → Type 0
-Ones command v = IsOutcomeOn command (files_of v)
+Ones command v = IsOutcomeAfterRecovery command (files_of v)
 
 -- the outcomes of a command that may first recover
 abbrev pub Wholes : CommandLine → TreeState → Outcome → Type 0
-Wholes command v = IsOutcomeOf (Ok command) (files_of v)
+Wholes command v = IsOutcomeWithoutDemo (Ok command) (files_of v)
 
-pub look_found : (command : CommandLine) (old : History) (judged : Judged) → does_only_read (effect_of command.applet) ≡ true → IfOk judged (λ verdict. IfObservable old (λ v. as_outcome (files_of v) verdict ≡ looked_outcome command (reads_in (files_of v)) (files_of v)))
-    → IfOk judged (λ verdict. IfObservable old (λ v. ReportsOne (Wholes command v) verdict))
+pub look_found : (command : CommandLine) (old : History) (judged : Judged) → does_only_read (effect_of command.applet) ≡ true → IfOk judged (λ verdict. IfObservable old (λ v. as_outcome (files_of v) verdict ≡ read_only_outcome command (reads_in (files_of v)) (files_of v)))
+    → IfOk judged (λ verdict. IfObservable old (λ v. ReportsOneOfOutcomes (Wholes command v) verdict))
 look_found command old (Err e) reads found = tt
 look_found command [] (Ok verdict) reads found = tt
 look_found command (v ∷ rest) (Ok verdict) reads found =
     (as_outcome (files_of v) verdict, of_over command (files_of v) (as_outcome (files_of v) verdict) (reads_without (effect_of command.applet) reads) (nothing_given, none_given command (reads_in (files_of v)) (files_of v) reads, found), refl)
 
-pub look_read : (command : CommandLine) (judged : Judged) → does_only_read (effect_of command.applet) ≡ true → IfOk judged (λ verdict. (read : Reads) × (as_outcome no_names verdict ≡ looked_outcome command read no_names)) → IfOk judged (ReportsOne (IsPossibleOutcomeOf command))
+pub look_read : (command : CommandLine) (judged : Judged) → does_only_read (effect_of command.applet) ≡ true → IfOk judged (λ verdict. (read : Reads) × (as_outcome no_names verdict ≡ read_only_outcome command read no_names)) → IfOk judged (ReportsOneOfOutcomes (IsPossibleOutcomeWithoutDemo command))
 look_read command (Err e) reads found = tt
 look_read command (Ok verdict) reads (read, is) = (as_outcome no_names verdict, inl (nothing_given, read, no_names, none_by_some command read no_names reads, inl is), refl)
 
 pub look_run : (command : CommandLine) (old now : History) (judged : Judged) → does_only_read (effect_of command.applet) ≡ true → now ≡ old
-    → IfObservable old (λ v. IsWholeRun (Wholes command v) (effect_of command.applet) (output_if (effect_of command.applet) command) judged v old now)
+    → IfObservable old (λ v. IsWholeRun (Wholes command v) (effect_of command.applet) (output_for_effect (effect_of command.applet) command) judged v old now)
 look_run command [] now judged reads same = tt
 look_run command (v ∷ rest) now judged reads same =
     let none = reads_without (effect_of command.applet) reads in
-    whole_idle (Wholes command v) (effect_of command.applet) (output_if (effect_of command.applet) command) judged v rest now same
+    whole_idle (Wholes command v) (effect_of command.applet) (output_for_effect (effect_of command.applet) command) judged v rest now same
     (λ o one.
     let is = over_of command (files_of v) o none one in
     ok_always (LeavesAll (effect_of command.applet) v o) judged
@@ -114,43 +114,43 @@ makes_package command same = sym (ap effect_of same)
 makes_index : (command : CommandLine) → Mkndx ≡ command.applet → effect_of command.applet ≡ Makes
 makes_index command same = sym (ap effect_of same)
 
-package_one : (command : CommandLine) (files : Files) (o : Outcome) → Mkpkg ≡ command.applet → IsPackageOutcome command files o → IsOutcomeOn command files o
+package_one : (command : CommandLine) (files : Files) (o : Outcome) → Mkpkg ≡ command.applet → IsPackageOutcome command files o → IsOutcomeAfterRecovery command files o
 package_one command files o same (names, are, is) =
     (listed names, given_of_names command files names (makes_package command same) (subst (λ (a : Applet). IsListingFor a command files names) same are), is ∙ ap (λ (a : Applet). effect_outcome (effect_of a) a command (listed names) (reads_in files) files) same)
 
-one_package : (command : CommandLine) (files : Files) (o : Outcome) → Mkpkg ≡ command.applet → IsOutcomeOn command files o → IsPackageOutcome command files o
+one_package : (command : CommandLine) (files : Files) (o : Outcome) → Mkpkg ≡ command.applet → IsOutcomeAfterRecovery command files o → IsPackageOutcome command files o
 one_package command files o same (given, are, is) =
     (given.names, subst (λ (a : Applet). IsListingFor a command files given.names) (sym same) are.names, is ∙ ap (λ (a : Applet). effect_outcome (effect_of a) a command given (reads_in files) files) (sym same))
 
-index_one : (command : CommandLine) (files : Files) (o : Outcome) → Mkndx ≡ command.applet → IsIndexOutcome command files o → IsOutcomeOn command files o
+index_one : (command : CommandLine) (files : Files) (o : Outcome) → Mkndx ≡ command.applet → IsIndexOutcome command files o → IsOutcomeAfterRecovery command files o
 index_one command files o same is =
     (listed [], given_of_names command files [] (makes_index command same) (subst (λ (a : Applet). IsListingFor a command files []) same refl), is ∙ ap (λ (a : Applet). effect_outcome (effect_of a) a command (listed []) (reads_in files) files) same)
 
-one_index : (command : CommandLine) (files : Files) (o : Outcome) → Mkndx ≡ command.applet → IsOutcomeOn command files o → IsIndexOutcome command files o
+one_index : (command : CommandLine) (files : Files) (o : Outcome) → Mkndx ≡ command.applet → IsOutcomeAfterRecovery command files o → IsIndexOutcome command files o
 one_index command files o same (given, are, is) = is ∙ ap (λ (a : Applet). effect_outcome (effect_of a) a command given (reads_in files) files) (sym same)
 
-reports_among : (A B : TreeState → Outcome → Type 0) (old : History) (judged : Judged) → ((v : TreeState) (o : Outcome) → A v o → B v o) → IfOk judged (λ verdict. IfObservable old (λ v. ReportsOne (A v) verdict))
-    → IfOk judged (λ verdict. IfNothingStaged old (λ v. ReportsOne (B v) verdict))
+reports_among : (A B : TreeState → Outcome → Type 0) (old : History) (judged : Judged) → ((v : TreeState) (o : Outcome) → A v o → B v o) → IfOk judged (λ verdict. IfObservable old (λ v. ReportsOneOfOutcomes (A v) verdict))
+    → IfOk judged (λ verdict. IfNothingStaged old (λ v. ReportsOneOfOutcomes (B v) verdict))
 reports_among A B old (Err e) f found = tt
 reports_among A B [] (Ok verdict) f found = tt
 reports_among A B (v ∷ rest) (Ok verdict) f (o, one, reports) = λ nothing. (o, f v o one, reports)
 
-pub package_found_one : (command : CommandLine) (old : History) (judged : Judged) → Mkpkg ≡ command.applet → IfOk judged (λ verdict. IfObservable old (λ v. ReportsOne (IsPackageOutcome command (files_of v)) verdict))
-    → IfOk judged (λ verdict. IfNothingStaged old (λ v. ReportsOne (Ones command v) verdict))
+pub package_found_one : (command : CommandLine) (old : History) (judged : Judged) → Mkpkg ≡ command.applet → IfOk judged (λ verdict. IfObservable old (λ v. ReportsOneOfOutcomes (IsPackageOutcome command (files_of v)) verdict))
+    → IfOk judged (λ verdict. IfNothingStaged old (λ v. ReportsOneOfOutcomes (Ones command v) verdict))
 package_found_one command old judged same found = reports_among (λ v. IsPackageOutcome command (files_of v)) (Ones command) old judged (λ v o one. package_one command (files_of v) o same one) found
 
-pub index_found_one : (command : CommandLine) (old : History) (judged : Judged) → Mkndx ≡ command.applet → IfOk judged (λ verdict. IfObservable old (λ v. ReportsOne (IsIndexOutcome command (files_of v)) verdict))
-    → IfOk judged (λ verdict. IfNothingStaged old (λ v. ReportsOne (Ones command v) verdict))
+pub index_found_one : (command : CommandLine) (old : History) (judged : Judged) → Mkndx ≡ command.applet → IfOk judged (λ verdict. IfObservable old (λ v. ReportsOneOfOutcomes (IsIndexOutcome command (files_of v)) verdict))
+    → IfOk judged (λ verdict. IfNothingStaged old (λ v. ReportsOneOfOutcomes (Ones command v) verdict))
 index_found_one command old judged same found = reports_among (λ v. IsIndexOutcome command (files_of v)) (Ones command) old judged (λ v o one. index_one command (files_of v) o same one) found
 
-pub package_read_one : (command : CommandLine) (judged : Judged) → Mkpkg ≡ command.applet → IfOk judged (λ verdict. (names : List (List ℕ)) × AreNamesBelowFirst (values_with FILES command.values) names × (read : Reads) × Reports verdict (mkpkg read no_names command names))
-    → IfOk judged (ReportsOne (IsPossibleOutcomeOn command))
+pub package_read_one : (command : CommandLine) (judged : Judged) → Mkpkg ≡ command.applet → IfOk judged (λ verdict. (names : List (List ℕ)) × AreNamesBelowFirst (values_of_letter FILES command.values) names × (read : Reads) × Reports verdict (mkpkg read no_names command names))
+    → IfOk judged (ReportsOneOfOutcomes (IsPossibleOutcomeAfterRecovery command))
 package_read_one command (Err e) same found = tt
 package_read_one command (Ok verdict) same (names, named, read, reports) =
     (mkpkg read no_names command names, (listed names, read, no_names, given_by_some command read no_names names (makes_package command same) (subst (λ (a : Applet). MayBeListedFor a command names) same named), inl (ap (λ (a : Applet). effect_outcome (effect_of a) a command (listed names) read no_names) same)), reports)
 
 pub index_read_one : (command : CommandLine) (judged : Judged) → Mkndx ≡ command.applet → IfOk judged (λ verdict. (read : Reads) × FindOnlyFiles read 0 command.operands × Reports verdict (mkndx read no_names command))
-    → IfOk judged (ReportsOne (IsPossibleOutcomeOn command))
+    → IfOk judged (ReportsOneOfOutcomes (IsPossibleOutcomeAfterRecovery command))
 index_read_one command (Err e) same found = tt
 index_read_one command (Ok verdict) same (read, files, reports) =
     (mkndx read no_names command, (listed [], read, no_names, given_by_some command read no_names [] (makes_index command same) (subst (λ (a : Applet). MayBeListedFor a command []) same refl), inl (ap (λ (a : Applet). effect_outcome (effect_of a) a command (listed []) read no_names) same)), reports)
@@ -161,15 +161,15 @@ runs_among A B out judged [] now into from run = tt
 runs_among A B out judged (v ∷ rest) now into from run = λ nothing. run_among (A v) (B v) Makes out judged v (v ∷ rest) now (into v) (from v) run
 
 pub package_run : (command : CommandLine) (judged : Judged) (old now : History) → Mkpkg ≡ command.applet → IfObservable old (λ v. IsRun (IsPackageOutcome command (files_of v)) Makes (output_name command) judged v old now)
-    → IfNothingStaged old (λ v. IsRun (Ones command v) (effect_of command.applet) (output_if (effect_of command.applet) command) judged v old now)
+    → IfNothingStaged old (λ v. IsRun (Ones command v) (effect_of command.applet) (output_for_effect (effect_of command.applet) command) judged v old now)
 package_run command judged old now same run =
-    subst (λ (a : Applet). IfNothingStaged old (λ v. IsRun (Ones command v) (effect_of a) (output_if (effect_of a) command) judged v old now)) same
+    subst (λ (a : Applet). IfNothingStaged old (λ v. IsRun (Ones command v) (effect_of a) (output_for_effect (effect_of a) command) judged v old now)) same
     (runs_among (λ v. IsPackageOutcome command (files_of v)) (Ones command) (output_name command) judged old now (λ v o one. package_one command (files_of v) o same one) (λ v o one. one_package command (files_of v) o same one) run)
 
 pub index_run : (command : CommandLine) (judged : Judged) (old now : History) → Mkndx ≡ command.applet → IfObservable old (λ v. IsRun (IsIndexOutcome command (files_of v)) Makes (output_name command) judged v old now)
-    → IfNothingStaged old (λ v. IsRun (Ones command v) (effect_of command.applet) (output_if (effect_of command.applet) command) judged v old now)
+    → IfNothingStaged old (λ v. IsRun (Ones command v) (effect_of command.applet) (output_for_effect (effect_of command.applet) command) judged v old now)
 index_run command judged old now same run =
-    subst (λ (a : Applet). IfNothingStaged old (λ v. IsRun (Ones command v) (effect_of a) (output_if (effect_of a) command) judged v old now)) same
+    subst (λ (a : Applet). IfNothingStaged old (λ v. IsRun (Ones command v) (effect_of a) (output_for_effect (effect_of a) command) judged v old now)) same
     (runs_among (λ v. IsIndexOutcome command (files_of v)) (Ones command) (output_name command) judged old now (λ v o one. index_one command (files_of v) o same one) (λ v o one. one_index command (files_of v) o same one) run)
 
 -- where memory ran out nothing was written
@@ -186,15 +186,15 @@ rooms_among A B out [] P f proper = tt
 rooms_among A B out (v ∷ rest) P f proper = λ nothing room. proper (λ o one commits. room o (f v o one) commits)
 
 pub package_proper : (command : CommandLine) (old : History) (P : Type 0) → Mkpkg ≡ command.applet → IfObservable old (λ v. RoomFor (IsPackageOutcome command (files_of v)) Makes (output_name command) (files_of v) → P)
-    → IfNothingStaged old (λ v. RoomFor (Ones command v) (effect_of command.applet) (output_if (effect_of command.applet) command) (files_of v) → P)
+    → IfNothingStaged old (λ v. RoomFor (Ones command v) (effect_of command.applet) (output_for_effect (effect_of command.applet) command) (files_of v) → P)
 package_proper command old P same proper =
-    subst (λ (a : Applet). IfNothingStaged old (λ v. RoomFor (Ones command v) (effect_of a) (output_if (effect_of a) command) (files_of v) → P)) same
+    subst (λ (a : Applet). IfNothingStaged old (λ v. RoomFor (Ones command v) (effect_of a) (output_for_effect (effect_of a) command) (files_of v) → P)) same
     (rooms_among (λ v. IsPackageOutcome command (files_of v)) (Ones command) (output_name command) old P (λ v o one. package_one command (files_of v) o same one) proper)
 
 pub index_proper : (command : CommandLine) (old : History) (P : Type 0) → Mkndx ≡ command.applet → IfObservable old (λ v. RoomFor (IsIndexOutcome command (files_of v)) Makes (output_name command) (files_of v) → P)
-    → IfNothingStaged old (λ v. RoomFor (Ones command v) (effect_of command.applet) (output_if (effect_of command.applet) command) (files_of v) → P)
+    → IfNothingStaged old (λ v. RoomFor (Ones command v) (effect_of command.applet) (output_for_effect (effect_of command.applet) command) (files_of v) → P)
 index_proper command old P same proper =
-    subst (λ (a : Applet). IfNothingStaged old (λ v. RoomFor (Ones command v) (effect_of a) (output_if (effect_of a) command) (files_of v) → P)) same
+    subst (λ (a : Applet). IfNothingStaged old (λ v. RoomFor (Ones command v) (effect_of a) (output_for_effect (effect_of a) command) (files_of v) → P)) same
     (rooms_among (λ v. IsIndexOutcome command (files_of v)) (Ones command) (output_name command) old P (λ v o one. index_one command (files_of v) o same one) proper)
 
 -- ---- the words
@@ -203,20 +203,20 @@ index_proper command old P same proper =
 abbrev pub OfCommand : CommandLine → TreeState → Outcome → Type 0
 OfCommand command v = IsOutcome (Ok command) (files_of v)
 
-pub by_command : (words : List (List ℕ)) (command : CommandLine) (old : History) (judged : Judged) → command_of words ≡ Ok command → IfOk judged (λ verdict. IfObservable old (λ v. ReportsOne (OfCommand command v) verdict))
-    → IfOk judged (λ verdict. IfObservable old (λ v. ReportsOne (IsOutcome (command_of words) (files_of v)) verdict))
-by_command words command old judged is found = subst (λ (r : Result CommandLine ℕ). IfOk judged (λ verdict. IfObservable old (λ v. ReportsOne (IsOutcome r (files_of v)) verdict))) (sym is) found
+pub by_command : (words : List (List ℕ)) (command : CommandLine) (old : History) (judged : Judged) → command_of words ≡ Ok command → IfOk judged (λ verdict. IfObservable old (λ v. ReportsOneOfOutcomes (OfCommand command v) verdict))
+    → IfOk judged (λ verdict. IfObservable old (λ v. ReportsOneOfOutcomes (IsOutcome (command_of words) (files_of v)) verdict))
+by_command words command old judged is found = subst (λ (r : Result CommandLine ℕ). IfOk judged (λ verdict. IfObservable old (λ v. ReportsOneOfOutcomes (IsOutcome r (files_of v)) verdict))) (sym is) found
 
 pub run_by_command : (words : List (List ℕ)) (command : CommandLine) (judged : Judged) (old now : History) → command_of words ≡ Ok command
-    → IfObservable old (λ v. IsWholeRun (OfCommand command v) (effect_of command.applet) (output_if (effect_of command.applet) command) judged v old now) → Runs words judged old now
-run_by_command words command judged old now is run = subst (λ (r : Result CommandLine ℕ). IfObservable old (λ v. IsWholeRun (IsOutcome r (files_of v)) (effect_by r) (output_by r) judged v old now)) (sym is) run
+    → IfObservable old (λ v. IsWholeRun (OfCommand command v) (effect_of command.applet) (output_for_effect (effect_of command.applet) command) judged v old now) → Runs words judged old now
+run_by_command words command judged old now is run = subst (λ (r : Result CommandLine ℕ). IfObservable old (λ v. IsWholeRun (IsOutcome r (files_of v)) (effect_of_arguments r) (output_of_arguments r) judged v old now)) (sym is) run
 
 pub proper_by_command : (words : List (List ℕ)) (command : CommandLine) (old : History) (P : Type 0) → command_of words ≡ Ok command
-    → IfObservable old (λ v. AreOutcomePathsFree (effect_of command.applet) (output_if (effect_of command.applet) command) (OfCommand command v) (files_of v) → P) → IfObservable old (λ v. AreRunPathsFree words (files_of v) → P)
-proper_by_command words command old P is proper = subst (λ (r : Result CommandLine ℕ). IfObservable old (λ v. AreOutcomePathsFree (effect_by r) (output_by r) (IsOutcome r (files_of v)) (files_of v) → P)) (sym is) proper
+    → IfObservable old (λ v. AreOutcomePathsFree (effect_of command.applet) (output_for_effect (effect_of command.applet) command) (OfCommand command v) (files_of v) → P) → IfObservable old (λ v. AreRunPathsFree words (files_of v) → P)
+proper_by_command words command old P is proper = subst (λ (r : Result CommandLine ℕ). IfObservable old (λ v. AreOutcomePathsFree (effect_of_arguments r) (output_of_arguments r) (IsOutcome r (files_of v)) (files_of v) → P)) (sym is) proper
 
-pub found_by_command : (words : List (List ℕ)) (command : CommandLine) (judged : Judged) → command_of words ≡ Ok command → IfOk judged (ReportsOne (IsPossibleOutcome (Ok command))) → IfOk judged (ReportsOne (IsPossibleOutcome (command_of words)))
-found_by_command words command judged is found = subst (λ (r : Result CommandLine ℕ). IfOk judged (ReportsOne (IsPossibleOutcome r))) (sym is) found
+pub found_by_command : (words : List (List ℕ)) (command : CommandLine) (judged : Judged) → command_of words ≡ Ok command → IfOk judged (ReportsOneOfOutcomes (IsPossibleOutcome (Ok command))) → IfOk judged (ReportsOneOfOutcomes (IsPossibleOutcome (command_of words)))
+found_by_command words command judged is found = subst (λ (r : Result CommandLine ℕ). IfOk judged (ReportsOneOfOutcomes (IsPossibleOutcome r))) (sym is) found
 
 pub words_by_command : (words : List (List ℕ)) (command : CommandLine) (judged : Judged) → command_of words ≡ Ok command
     → (IsTrue (ignores_files (effect_of command.applet)) → MatchResult judged (λ verdict. (files : Files) → IsOutcome (Ok command) files (as_outcome files verdict)) (λ fault. fault ≡ NoMemory))
@@ -227,7 +227,7 @@ words_by_command words command judged is found =
 pub same_by_command : (words : List (List ℕ)) (command : CommandLine) (P : Type 0) → command_of words ≡ Ok command → (IsTrue (does_only_read (effect_of command.applet)) → P) → IsTrue (reads_only (command_of words)) → P
 same_by_command words command P is same = subst (λ (r : Result CommandLine ℕ). IsTrue (reads_only r) → P) (sym is) same
 
-usage_recovers_not : (read : Result CommandLine ℕ) (q : ℕ) → read ≡ Err q → does_recover (effect_by read) ≡ true → ⊥
+usage_recovers_not : (read : Result CommandLine ℕ) (q : ℕ) → read ≡ Err q → does_recover (effect_of_arguments read) ≡ true → ⊥
 usage_recovers_not (Err place) q is recovers = cc
 usage_recovers_not (Ok command) q is recovers = cc
 
@@ -235,18 +235,18 @@ pub usage_run : (words : List (List ℕ)) (q : ℕ) (fault : WordsFault) (judged
 usage_run words q fault judged [] is of = tt
 usage_run words q fault judged (v ∷ rest) is of =
     let read : command_of words ≡ Err q = subst (λ (f : WordsFault). IsWordsFault f (command_of words)) is of in
-    whole_idle (IsOutcome (command_of words) (files_of v)) (effect_by (command_of words)) (output words) judged v rest (v ∷ rest) refl
+    whole_idle (IsOutcome (command_of words) (files_of v)) (effect_of_arguments (command_of words)) (output words) judged v rest (v ∷ rest) refl
     (λ o one. let is_refused : o ≡ just_refusal (files_of v) (Usage q) = subst (λ (r : Result CommandLine ℕ). IsOutcome r (files_of v) o) read one in
-    ok_always (LeavesAll (effect_by (command_of words)) v o) judged (subst (Leaves (files_of v)) (sym is_refused) (refl, refl), λ can. usage_recovers_not (command_of words) q read can.0))
+    ok_always (LeavesAll (effect_of_arguments (command_of words)) v o) judged (subst (Leaves (files_of v)) (sym is_refused) (refl, refl), λ can. usage_recovers_not (command_of words) q read can.0))
 
 pub failed_run : (words : List (List ℕ)) (e : TreeFault) (old : History) → Runs words (Err e) old old
 failed_run words e [] = tt
-failed_run words e (v ∷ rest) = whole_idle (IsOutcome (command_of words) (files_of v)) (effect_by (command_of words)) (output words) (Err e) v rest (v ∷ rest) refl (λ o one. tt)
+failed_run words e (v ∷ rest) = whole_idle (IsOutcome (command_of words) (files_of v)) (effect_of_arguments (command_of words)) (output words) (Err e) v rest (v ∷ rest) refl (λ o one. tt)
 
 -- ---- the answer
 
 pub reads_by : (words : List (List ℕ)) (judged : Judged) (old now : History) → Runs words judged old now
-    → IfObservable old (λ v. AreReadDuringRun (IsOutcome (command_of words) (files_of v)) (effect_by (command_of words)) (output words) v old now)
+    → IfObservable old (λ v. AreReadDuringRun (IsOutcome (command_of words) (files_of v)) (effect_of_arguments (command_of words)) (output words) v old now)
 reads_by words judged [] now run = tt
 reads_by words judged (v ∷ rest) now run = run.reads
 
@@ -267,11 +267,11 @@ durable_by words judged (v ∷ rest) now run = run.is_durable
 
 -- ---- the outcome is carried out
 
-pub no_refusal : (refusal : Option Refusal) → Done ≡ answer_by refusal → refusal ≡ None
+pub no_refusal : (refusal : Option Refusal) → Done ≡ answer_for_refusal refusal → refusal ≡ None
 no_refusal None same = refl
 no_refusal (Some r) same = cc
 
-the_refusal : (refusal : Option Refusal) (r : Refusal) → Refused r ≡ answer_by refusal → refusal ≡ Some r
+the_refusal : (refusal : Option Refusal) (r : Refusal) → Refused r ≡ answer_for_refusal refusal → refusal ≡ Some r
 the_refusal None r same = cc
 the_refusal (Some x) r same = cc
 
@@ -285,22 +285,22 @@ lasting_shown IsOne effect ignored v now verdict o OutFault out err one reports 
 lasting_shown IsOne effect ignored v now verdict o TreeFailed out err one reports lasts printed = tt
 lasting_shown IsOne effect ignored v now verdict o Memory out err one reports lasts printed = tt
 
-lasting_judged : (IsOne : Outcome → Type 0) (effect : Effect) (ignored : List ℕ → Bool) (v : TreeState) (now : History) (judged : Judged) (answer : Answer) (out err : SinkChange) → IfOk judged (ReportsOne IsOne) → IsShown judged answer out err
-    → ((o : Outcome) → IsOne o → MustLast effect ignored v o → OnOk judged (HoldsNow now (EachCrashLeaves ignored o.files))) → LeavesDurableOnceAnswered IsOne effect ignored v now answer
+lasting_judged : (IsOne : Outcome → Type 0) (effect : Effect) (ignored : List ℕ → Bool) (v : TreeState) (now : History) (judged : Judged) (answer : Answer) (out err : SinkChange) → IfOk judged (ReportsOneOfOutcomes IsOne) → IsVerdictPrinted judged answer out err
+    → ((o : Outcome) → IsOne o → MustOutcomeBeDurable effect ignored v o → OnOk judged (HoldsNow now (EachCrashLeaves ignored o.files))) → LeavesDurableOnceAnswered IsOne effect ignored v now answer
 lasting_judged IsOne effect ignored v now (Ok verdict) answer out err (o, one, reports) is_shown settled = lasting_shown IsOne effect ignored v now verdict o answer out err one reports (settled o one) (is_shown o.files)
 lasting_judged IsOne effect ignored v now (Err Disk) answer out err found is_shown settled = subst (LeavesDurableOnceAnswered IsOne effect ignored v now) (sym is_shown.0) tt
 lasting_judged IsOne effect ignored v now (Err NoMemory) answer out err found is_shown settled = subst (LeavesDurableOnceAnswered IsOne effect ignored v now) (sym is_shown.0) tt
 
-pub settled_by : (words : List (List ℕ)) (judged : Judged) (answer : Answer) (out err : SinkChange) (old now : History) → IsShown judged answer out err → IfOk judged (λ verdict. IfObservable old (λ v. ReportsOne (IsOutcome (command_of words) (files_of v)) verdict)) → Runs words judged old now
-    → IfObservable old (λ v. (ignored : List ℕ → Bool) → IsDurable (StateDependsOn ignored) v → IgnoresScratchOf (output words) ignored → LeavesDurableOnceAnswered (IsOutcome (command_of words) (files_of v)) (effect_by (command_of words)) ignored v now answer)
+pub settled_by : (words : List (List ℕ)) (judged : Judged) (answer : Answer) (out err : SinkChange) (old now : History) → IsVerdictPrinted judged answer out err → IfOk judged (λ verdict. IfObservable old (λ v. ReportsOneOfOutcomes (IsOutcome (command_of words) (files_of v)) verdict)) → Runs words judged old now
+    → IfObservable old (λ v. (ignored : List ℕ → Bool) → IsDurable (StateDependsOn ignored) v → IgnoresScratchOf (output words) ignored → LeavesDurableOnceAnswered (IsOutcome (command_of words) (files_of v)) (effect_of_arguments (command_of words)) ignored v now answer)
 settled_by words judged answer out err [] now is_shown found run = tt
 settled_by words judged answer out err (v ∷ rest) now is_shown found run = λ ignored is_durable hides.
-    lasting_judged (IsOutcome (command_of words) (files_of v)) (effect_by (command_of words)) ignored v now judged answer out err (found_at v rest judged (λ verdict w. ReportsOne (IsOutcome (command_of words) (files_of w)) verdict) found) is_shown
+    lasting_judged (IsOutcome (command_of words) (files_of v)) (effect_of_arguments (command_of words)) ignored v now judged answer out err (found_at v rest judged (λ verdict w. ReportsOneOfOutcomes (IsOutcome (command_of words) (files_of w)) verdict) found) is_shown
     (λ o one lasts. run.settled ignored o is_durable hides one lasts)
 
 -- ---- nothing is committed
 
-refused_answer : (refusal : Option Refusal) (r : Refusal) → Refused r ≡ answer_by refusal → IsSome refusal
+refused_answer : (refusal : Option Refusal) (r : Refusal) → Refused r ≡ answer_for_refusal refusal → IsSome refusal
 refused_answer None r same = cc
 refused_answer (Some x) r same = refl
 
@@ -308,7 +308,7 @@ refused_answer (Some x) r same = refl
 abbrev pub RefusesAll : Type 0
 RefusesAll = (words : List (List ℕ)) (files : Files) (o : Outcome) → IsOutcome (command_of words) files o → IsSome o.refusal → o.commits ≡ false
 
-undone_without : RefusesAll → (words : List (List ℕ)) (v : TreeState) (judged : Judged) (answer : Answer) (out err : SinkChange) → IsShown judged answer out err → IfOk judged (ReportsOne (IsOutcome (command_of words) (files_of v))) → IsRefusedOrOutOfMemory answer → IsWithoutCommit (IsOutcome (command_of words) (files_of v)) judged
+undone_without : RefusesAll → (words : List (List ℕ)) (v : TreeState) (judged : Judged) (answer : Answer) (out err : SinkChange) → IsVerdictPrinted judged answer out err → IfOk judged (ReportsOneOfOutcomes (IsOutcome (command_of words) (files_of v))) → IsRefusedOrOutOfMemory answer → IsVerdictWithoutCommit (IsOutcome (command_of words) (files_of v)) judged
 undone_without law words v (Ok verdict) Done out err is_shown found undone = absurd undone
 undone_without law words v (Ok verdict) (Refused r) out err is_shown (o, one, reports) undone =
     inr (o, one, law words (files_of v) o one (subst (λ (x : Option Refusal). IsSome x) (ap (λ (x : Outcome). x.refusal) reports) (refused_answer verdict.refusal r (is_shown no_names).same)))
@@ -318,65 +318,65 @@ undone_without law words v (Ok verdict) Memory out err is_shown found undone = a
 undone_without law words v (Err Disk) answer out err is_shown found undone = absurd (subst IsRefusedOrOutOfMemory is_shown.0 undone)
 undone_without law words v (Err NoMemory) answer out err is_shown found undone = inl refl
 
-without : RefusesAll → (words : List (List ℕ)) (v : TreeState) (judged : Judged) (answer : Answer) (out err : SinkChange) → IsShown judged answer out err → IfOk judged (ReportsOne (IsOutcome (command_of words) (files_of v))) → CommitsNothing (IsOutcome (command_of words) (files_of v)) answer → IsWithoutCommit (IsOutcome (command_of words) (files_of v)) judged
+without : RefusesAll → (words : List (List ℕ)) (v : TreeState) (judged : Judged) (answer : Answer) (out err : SinkChange) → IsVerdictPrinted judged answer out err → IfOk judged (ReportsOneOfOutcomes (IsOutcome (command_of words) (files_of v))) → CommitsNothing (IsOutcome (command_of words) (files_of v)) answer → IsVerdictWithoutCommit (IsOutcome (command_of words) (files_of v)) judged
 without law words v judged answer out err is_shown found (inl undone) = undone_without law words v judged answer out err is_shown found undone
 without law words v judged answer out err is_shown found (inr one) = inr one
 
 abbrev pub FindsOne : List (List ℕ) → Judged → History → Type 0
-FindsOne words judged old = IfOk judged (λ verdict. IfObservable old (λ v. ReportsOne (IsOutcome (command_of words) (files_of v)) verdict))
+FindsOne words judged old = IfOk judged (λ verdict. IfObservable old (λ v. ReportsOneOfOutcomes (IsOutcome (command_of words) (files_of v)) verdict))
 
-found_first : (words : List (List ℕ)) (judged : Judged) (v : TreeState) (rest : History) → FindsOne words judged (v ∷ rest) → IfOk judged (ReportsOne (IsOutcome (command_of words) (files_of v)))
-found_first words judged v rest found = found_at v rest judged (λ verdict w. ReportsOne (IsOutcome (command_of words) (files_of w)) verdict) found
+found_first : (words : List (List ℕ)) (judged : Judged) (v : TreeState) (rest : History) → FindsOne words judged (v ∷ rest) → IfOk judged (ReportsOneOfOutcomes (IsOutcome (command_of words) (files_of v)))
+found_first words judged v rest found = found_at v rest judged (λ verdict w. ReportsOneOfOutcomes (IsOutcome (command_of words) (files_of w)) verdict) found
 
-pub idle_by : RefusesAll → (words : List (List ℕ)) (judged : Judged) (answer : Answer) (out err : SinkChange) (old now : History) → IsShown judged answer out err → FindsOne words judged old → Runs words judged old now
-    → IfObservable old (λ v. CommitsNothing (IsOutcome (command_of words) (files_of v)) answer → HasNothingToRecover (effect_by (command_of words)) v → now ≡ old)
+pub idle_by : RefusesAll → (words : List (List ℕ)) (judged : Judged) (answer : Answer) (out err : SinkChange) (old now : History) → IsVerdictPrinted judged answer out err → FindsOne words judged old → Runs words judged old now
+    → IfObservable old (λ v. CommitsNothing (IsOutcome (command_of words) (files_of v)) answer → HasNothingToRecover (effect_of_arguments (command_of words)) v → now ≡ old)
 idle_by law words judged answer out err [] now is_shown found run = tt
 idle_by law words judged answer out err (v ∷ rest) now is_shown found run = λ nothing. run.idle (without law words v judged answer out err is_shown (found_first words judged v rest found) nothing)
 
-pub left_by : RefusesAll → (words : List (List ℕ)) (judged : Judged) (answer : Answer) (out err : SinkChange) (old now : History) → IsShown judged answer out err → FindsOne words judged old → Runs words judged old now
+pub left_by : RefusesAll → (words : List (List ℕ)) (judged : Judged) (answer : Answer) (out err : SinkChange) (old now : History) → IsVerdictPrinted judged answer out err → FindsOne words judged old → Runs words judged old now
     → IfObservable old (λ v. CommitsNothing (IsOutcome (command_of words) (files_of v)) answer → (ignored : List ℕ → Bool) → IsDurable (StateDependsOn ignored) v → Since (StateIsUnchanged ignored v) old now)
 left_by law words judged answer out err [] now is_shown found run = tt
 left_by law words judged answer out err (v ∷ rest) now is_shown found run = λ nothing. run.left (without law words v judged answer out err is_shown (found_first words judged v rest found) nothing)
 
 pub bad_by : (words : List (List ℕ)) (judged : Judged) (old now : History) → Runs words judged old now
-    → IfObservable old (λ v. IsSome (recovery_fault (effect_by (command_of words)) (files_of v)) → now ≡ old)
+    → IfObservable old (λ v. IsSome (recovery_fault (effect_of_arguments (command_of words)) (files_of v)) → now ≡ old)
 bad_by words judged [] now run = tt
 bad_by words judged (v ∷ rest) now run = run.bad
 
 -- ---- the output counts again
 
-rest_of : (IsOne : Outcome → Type 0) (output : Option (List ℕ)) (ignored : List ℕ → Bool) (now : History) (judged : Judged) (answer : Answer) (out err : SinkChange) → IfOk judged (ReportsOne IsOne) → IsShown judged answer out err → AnswersOutcome answer
-    → ((o : Outcome) → IsOne o → o.commits ≡ true → OnOk judged (HoldsNow now (IsDurableState (ignored_but output ignored) o.files))) → LeavesDurableState IsOne output ignored now
+rest_of : (IsOne : Outcome → Type 0) (output : Option (List ℕ)) (ignored : List ℕ → Bool) (now : History) (judged : Judged) (answer : Answer) (out err : SinkChange) → IfOk judged (ReportsOneOfOutcomes IsOne) → IsVerdictPrinted judged answer out err → AnswersOutcome answer
+    → ((o : Outcome) → IsOne o → o.commits ≡ true → OnOk judged (HoldsNow now (IsDurableState (ignored_except_output output ignored) o.files))) → LeavesDurableState IsOne output ignored now
 rest_of IsOne output ignored now (Ok verdict) answer out err (o, one, reports) is_shown answers rests = (o, one, λ commits. rests o one commits)
 rest_of IsOne output ignored now (Err Disk) answer out err found is_shown answers rests = absurd (subst AnswersOutcome is_shown.0 answers)
 rest_of IsOne output ignored now (Err NoMemory) answer out err found is_shown answers rests = absurd (subst AnswersOutcome is_shown.0 answers)
 
-pub rest_by : (words : List (List ℕ)) (judged : Judged) (answer : Answer) (out err : SinkChange) (old now : History) → IsShown judged answer out err → FindsOne words judged old → Runs words judged old now
+pub rest_by : (words : List (List ℕ)) (judged : Judged) (answer : Answer) (out err : SinkChange) (old now : History) → IsVerdictPrinted judged answer out err → FindsOne words judged old → Runs words judged old now
     → IfObservable old (λ v. (ignored : List ℕ → Bool) → IsDurable (StateDependsOn ignored) v → IgnoresScratchOf (output words) ignored → AnswersOutcome answer → LeavesDurableState (IsOutcome (command_of words) (files_of v)) (output words) ignored now)
 rest_by words judged answer out err [] now is_shown found run = tt
 rest_by words judged answer out err (v ∷ rest) now is_shown found run = λ ignored is_durable hides answers.
     rest_of (IsOutcome (command_of words) (files_of v)) (output words) ignored now judged answer out err (found_first words judged v rest found) is_shown answers (λ o one commits. run.durable_state ignored o is_durable hides one commits)
 
-pub usage_reported : (words : List (List ℕ)) (old : History) (verdict : Verdict) → ((v : TreeState) → IsOutcome (command_of words) (files_of v) (as_outcome (files_of v) verdict)) → IfObservable old (λ v. ReportsOne (IsOutcome (command_of words) (files_of v)) verdict)
+pub usage_reported : (words : List (List ℕ)) (old : History) (verdict : Verdict) → ((v : TreeState) → IsOutcome (command_of words) (files_of v) (as_outcome (files_of v) verdict)) → IfObservable old (λ v. ReportsOneOfOutcomes (IsOutcome (command_of words) (files_of v)) verdict)
 usage_reported words [] verdict is = tt
 usage_reported words (v ∷ rest) verdict is = (as_outcome (files_of v) verdict, is v, refl)
 
 -- whether an applet only reads, by what it does below its root
-by_access : (command : CommandLine) (applet : Applet) (access this : RootAccess) → applet ≡ command.applet → access ≡ access_of (does_only_read (effect_of applet)) → access ≡ this → this ≡ access_of (does_only_read (effect_of command.applet))
-by_access command applet access this same of is = sym is ∙ (of ∙ ap (λ (a : Applet). access_of (does_only_read (effect_of a))) same)
+by_access : (command : CommandLine) (applet : Applet) (access this : RootAccess) → applet ≡ command.applet → access ≡ root_access_if_read_only (does_only_read (effect_of applet)) → access ≡ this → this ≡ root_access_if_read_only (does_only_read (effect_of command.applet))
+by_access command applet access this same of is = sym is ∙ (of ∙ ap (λ (a : Applet). root_access_if_read_only (does_only_read (effect_of a))) same)
 
-read_is : (b : Bool) → Read ≡ access_of b → b ≡ true
+read_is : (b : Bool) → Read ≡ root_access_if_read_only b → b ≡ true
 read_is true is = refl
 read_is false is = absurd (cc (is))
 
-write_is : (b : Bool) → Write ≡ access_of b → b ≡ false
+write_is : (b : Bool) → Write ≡ root_access_if_read_only b → b ≡ false
 write_is true is = absurd (cc (is))
 write_is false is = refl
 
-pub reads_by_access : (command : CommandLine) (applet : Applet) (access : RootAccess) → applet ≡ command.applet → access ≡ access_of (does_only_read (effect_of applet)) → access ≡ Read → does_only_read (effect_of command.applet) ≡ true
+pub reads_by_access : (command : CommandLine) (applet : Applet) (access : RootAccess) → applet ≡ command.applet → access ≡ root_access_if_read_only (does_only_read (effect_of applet)) → access ≡ Read → does_only_read (effect_of command.applet) ≡ true
 reads_by_access command applet access same of is = read_is (does_only_read (effect_of command.applet)) (by_access command applet access Read same of is)
 
-pub writes_by_access : (command : CommandLine) (applet : Applet) (access : RootAccess) → applet ≡ command.applet → access ≡ access_of (does_only_read (effect_of applet)) → access ≡ Write → does_only_read (effect_of command.applet) ≡ false
+pub writes_by_access : (command : CommandLine) (applet : Applet) (access : RootAccess) → applet ≡ command.applet → access ≡ root_access_if_read_only (does_only_read (effect_of applet)) → access ≡ Write → does_only_read (effect_of command.applet) ≡ false
 writes_by_access command applet access same of is = write_is (does_only_read (effect_of command.applet)) (by_access command applet access Write same of is)
 
 -- what does not only read recovers, and does not rest on the words alone
@@ -398,16 +398,16 @@ not_on_words Changes writes rests = cc (rests)
 
 -- what is judged is the outcome, whatever is read and whatever the files are
 abbrev pub Ran : CommandLine → Verdict → Type 0
-Ran command verdict = (read : Reads) (files : Files) → as_outcome files verdict ≡ looked_outcome command read files
+Ran command verdict = (read : Reads) (files : Files) → as_outcome files verdict ≡ read_only_outcome command read files
 
-pub ran_found : (old : History) (command : CommandLine) (verdict : Verdict) → Ran command verdict → IfObservable old (λ v. as_outcome (files_of v) verdict ≡ looked_outcome command (reads_in (files_of v)) (files_of v))
+pub ran_found : (old : History) (command : CommandLine) (verdict : Verdict) → Ran command verdict → IfObservable old (λ v. as_outcome (files_of v) verdict ≡ read_only_outcome command (reads_in (files_of v)) (files_of v))
 ran_found [] command verdict ran = tt
 ran_found (v ∷ old) command verdict ran = ran (reads_in (files_of v)) (files_of v)
 
-pub ran_read : (command : CommandLine) (verdict : Verdict) → Ran command verdict → (read : Reads) × (as_outcome no_names verdict ≡ looked_outcome command read no_names)
+pub ran_read : (command : CommandLine) (verdict : Verdict) → Ran command verdict → (read : Reads) × (as_outcome no_names verdict ≡ read_only_outcome command read no_names)
 ran_read command verdict ran = (λ k name. None, ran (λ k name. None) no_names)
 
-pub ran_by_words : (command : CommandLine) (verdict : Verdict) → Ran command verdict → (files : Files) → as_outcome files verdict ≡ looked_outcome command (reads_in files) files
+pub ran_by_words : (command : CommandLine) (verdict : Verdict) → Ran command verdict → (files : Files) → as_outcome files verdict ≡ read_only_outcome command (reads_in files) files
 ran_by_words command verdict ran files = ran (reads_in files) files
 
 -- by the applet as it is read of the command

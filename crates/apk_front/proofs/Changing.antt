@@ -21,24 +21,24 @@ use Rattle.engine_core.specs.ChangeRun.{CarriesOut, DoesCommit, IsChangeRun, IsC
 use Rattle.engine_core.specs.Changed.{IsClashFor, IsClashForAmong, change_of_command, found_packages, selected_for}
 use Rattle.engine_core.specs.Choice.{IsChoiceFrom}
 use Rattle.engine_core.specs.Runs.{IsRunCounted}
-use Rattle.engine_core.specs.Selecting.{pool_for}
+use Rattle.engine_core.specs.Selecting.{pool_of_command}
 use Rattle.journal_core.specs.Kept.{HasOldOrNewBytes}
 use Rattle.journal_core.specs.Recovery.{EachCrashLeaves, StateDependsOn, intent_name}
 use Rattle.journal_core.specs.Staged.{IsOldUntilCommit}
 use Rattle.make_core.specs.make_info.Reads.{Reads}
 use Rattle.tell_core.specs.path_clashes.Clash.{NamePair}
 use Rattle.report_core.specs.declared.refusal.Refusal.{Refusal}
-use Rattle.engine_core.specs.journal_commit.StageRun.{IsReadDuringChange, IsStageRunComplete, NamesAreDurableWithoutIntent}
+use Rattle.engine_core.specs.journal_commit.StageRun.{IsStateDuringChange, IsStageRunComplete, NamesAreDurableWithoutIntent}
 use Rattle.outcome.proofs.Applets.{change_is}
 use Rattle.outcome.specs.Changing.{change_outcome}
-use Rattle.outcome.specs.Commands.{IsPossibleOutcomeOn, IsOutcomeOn, effect_outcome, reads_in}
-use Rattle.outcome.specs.Effect.{Effect, Changes, effect_of, output_if}
+use Rattle.outcome.specs.Commands.{IsPossibleOutcomeAfterRecovery, IsOutcomeAfterRecovery, effect_outcome, reads_in}
+use Rattle.outcome.specs.Effect.{Effect, Changes, effect_of, output_for_effect}
 use Rattle.outcome.specs.Given.{Given, IsChosenFor, IsClashBy, IsGiven, IsListingFor, MayBeGiven, MayBeListedFor, MayClash}
 use Rattle.outcome.specs.Outcome.{Outcome, just_refusal, just_report}
-use Rattle.apk_front.specs.Moments.{IsDurableState, IsReadDuringWork, NamesAreDurableWithoutIntentExcept}
+use Rattle.apk_front.specs.Moments.{IsDurableState, IsStateDuringRun, NamesAreDurableWithoutIntentExcept}
 use Rattle.apk_front.specs.Runs.{HasNothingStaged, IfNothingStaged, IsRun}
 use Rattle.apk_front.specs.Told.{IsVerdictOnChange}
-use Rattle.apk_front.specs.Verdicts.{Reports, ReportsOne, as_outcome}
+use Rattle.apk_front.specs.Verdicts.{Reports, ReportsOneOfOutcomes, as_outcome}
 use Rattle.apk_front.specs.declared.answer.Verdict.{Verdict}
 use Rattle.apk_front.proofs.AfterRecovery.{StaysWithout}
 use Rattle.apk_front.proofs.Carried.{Ones, RoomFor}
@@ -48,17 +48,17 @@ abbrev pub Answered : Type 0
 Answered = Result (List ℕ) Refused
 
 abbrev pub HaveOne : Type 0
-HaveOne = (command : CommandLine) (files : Files) (a b : Outcome) → IsOutcomeOn command files a → IsOutcomeOn command files b → a ≡ b
+HaveOne = (command : CommandLine) (files : Files) (a b : Outcome) → IsOutcomeAfterRecovery command files a → IsOutcomeAfterRecovery command files b → a ≡ b
 
 abbrev pub HaveIdle : Type 0
-HaveIdle = (command : CommandLine) (files : Files) (o : Outcome) → IsOutcomeOn command files o → o.commits ≡ false → o.files ≡ files
+HaveIdle = (command : CommandLine) (files : Files) (o : Outcome) → IsOutcomeAfterRecovery command files o → o.commits ≡ false → o.files ≡ files
 
 -- ---- what is given
 
 abbrev given_by : Option (List ℕ) → Option NamePair → Given
 given_by chosen clash = record { names = []; chosen = chosen; clash = clash }
 
-parts_given : (applet : Applet) (command : CommandLine) (read : Reads) (files : Files) (chosen : Option (List ℕ)) (clash : Option NamePair) → effect_of applet ≡ Changes → IsChoiceFrom (pool_for command read) chosen → IsClashFor command read files chosen clash
+parts_given : (applet : Applet) (command : CommandLine) (read : Reads) (files : Files) (chosen : Option (List ℕ)) (clash : Option NamePair) → effect_of applet ≡ Changes → IsChoiceFrom (pool_of_command command read) chosen → IsClashFor command read files chosen clash
     → IsListingFor applet command files [] × IsChosenFor (effect_of applet) command read chosen × IsClashBy (effect_of applet) command read files chosen clash
 parts_given Add command read files chosen clash changes choice first = (refl, choice, first)
 parts_given Del command read files chosen clash changes choice first = (refl, choice, first)
@@ -66,13 +66,13 @@ parts_given Upgrade command read files chosen clash changes choice first = (refl
 parts_given Fix command read files chosen clash changes choice first = (refl, choice, first)
 parts_given other command read files chosen clash changes choice first = cc
 
-are_given : (command : CommandLine) (read : Reads) (files : Files) (chosen : Option (List ℕ)) (clash : Option NamePair) → effect_of command.applet ≡ Changes → IsChoiceFrom (pool_for command read) chosen → IsClashFor command read files chosen clash
+are_given : (command : CommandLine) (read : Reads) (files : Files) (chosen : Option (List ℕ)) (clash : Option NamePair) → effect_of command.applet ≡ Changes → IsChoiceFrom (pool_of_command command read) chosen → IsClashFor command read files chosen clash
     → IsGiven command read files (given_by chosen clash)
 are_given command read files chosen clash changes choice first =
     let (list, chosen_so, clash_so) = parts_given command.applet command read files chosen clash changes choice first in
     record { names = list; chosen = chosen_so; clash = clash_so }
 
-parts_by_some : (applet : Applet) (command : CommandLine) (read : Reads) (files present_files : Files) (chosen : Option (List ℕ)) (clash : Option NamePair) → effect_of applet ≡ Changes → IsChoiceFrom (pool_for command read) chosen
+parts_by_some : (applet : Applet) (command : CommandLine) (read : Reads) (files present_files : Files) (chosen : Option (List ℕ)) (clash : Option NamePair) → effect_of applet ≡ Changes → IsChoiceFrom (pool_of_command command read) chosen
     → IsClashForAmong command read files present_files chosen clash → MayBeListedFor applet command [] × IsChosenFor (effect_of applet) command read chosen × MayClash (effect_of applet) command read files chosen clash
 parts_by_some Add command read files present_files chosen clash changes choice first = (refl, choice, (present_files, first))
 parts_by_some Del command read files present_files chosen clash changes choice first = (refl, choice, (present_files, first))
@@ -80,7 +80,7 @@ parts_by_some Upgrade command read files present_files chosen clash changes choi
 parts_by_some Fix command read files present_files chosen clash changes choice first = (refl, choice, (present_files, first))
 parts_by_some other command read files present_files chosen clash changes choice first = absurd (cc)
 
-may_be_given : (command : CommandLine) (read : Reads) (files present_files : Files) (chosen : Option (List ℕ)) (clash : Option NamePair) → effect_of command.applet ≡ Changes → IsChoiceFrom (pool_for command read) chosen
+may_be_given : (command : CommandLine) (read : Reads) (files present_files : Files) (chosen : Option (List ℕ)) (clash : Option NamePair) → effect_of command.applet ≡ Changes → IsChoiceFrom (pool_of_command command read) chosen
     → IsClashForAmong command read files present_files chosen clash → MayBeGiven command read files (given_by chosen clash)
 may_be_given command read files present_files chosen clash changes choice first =
     let (list, chosen_so, clash_so) = parts_by_some command.applet command read files present_files chosen clash changes choice first in
@@ -143,7 +143,7 @@ module _ (command : CommandLine) (changes : effect_of command.applet ≡ Changes
   abbrev wanted : Wanted
   wanted = change_of_command command run.read run.files run.chosen run.clash
 
-  found_so : (verdict : Verdict) → IsVerdictOnChange answer (Ok verdict) → AgreesUnlessDisk report_as_is answer (report_of_result wanted) ⊎ IsChangedSinceTested (found_packages command run.read (selected_for command run.read run.chosen)) wanted old answer → ReportsOne (IsPossibleOutcomeOn command) verdict
+  found_so : (verdict : Verdict) → IsVerdictOnChange answer (Ok verdict) → AgreesUnlessDisk report_as_is answer (report_of_result wanted) ⊎ IsChangedSinceTested (found_packages command run.read (selected_for command run.read run.chosen)) wanted old answer → ReportsOneOfOutcomes (IsPossibleOutcomeAfterRecovery command) verdict
   found_so verdict told (inl agrees) = (
     change_outcome run.files wanted,
     (found, run.read, run.files, may_be_given command run.read run.files run.present_files run.chosen run.clash changes run.choice run.is_clash, inl (applet_is command.applet command run.read run.files run.chosen run.clash changes)),
@@ -167,7 +167,7 @@ module _ (command : CommandLine) (changes : effect_of command.applet ≡ Changes
     told_refusal answer spoiled.refusal verdict run.files spoiled.is told,
   )
 
-  pub change_read : (judged : Judged) → IsVerdictOnChange answer judged → IfOk judged (ReportsOne (IsPossibleOutcomeOn command))
+  pub change_read : (judged : Judged) → IsVerdictOnChange answer judged → IfOk judged (ReportsOneOfOutcomes (IsPossibleOutcomeAfterRecovery command))
   change_read (Err e) told = tt
   change_read (Ok verdict) told = found_so verdict told run.comes.told
 
@@ -182,7 +182,7 @@ pub record IsRunAt (command : CommandLine) (v : TreeState) (old now : History) (
 
 abbrev RunFacts : CommandLine → History → History → Counts → Counts → Answered → Option (List ℕ) → Option NamePair → Reads → Files → Files → Type 0
 RunFacts command old now a b answer chosen clash read files present_files =
-    IsChoiceFrom (pool_for command read) chosen × IsClashForAmong command read files present_files chosen clash
+    IsChoiceFrom (pool_of_command command read) chosen × IsClashForAmong command read files present_files chosen clash
     × CarriesOut (found_packages command read (selected_for command read chosen)) (change_of_command command read files chosen clash) old now a b answer
 
 run_at : (command : CommandLine) → effect_of command.applet ≡ Changes → (v : TreeState) (rest now : History) (a b : Counts) (answer : Answered) → IsChangeRun command (v ∷ rest) now a b answer → IsRunAt command v (v ∷ rest) now a b answer
@@ -233,7 +233,7 @@ module _ (command : CommandLine) (changes : effect_of command.applet ≡ Changes
   told_so : AgreesUnlessDisk report_as_is answer (report_of_result asked)
   told_so = elim run.comes.told [ inl agrees ↦ agrees | inr spoiled ↦ absurd (spoiled.unseen nothing.0 nothing.1) ]
 
-  reports : (verdict : Verdict) → judged ≡ Ok verdict → ReportsOne (Ones command v) verdict
+  reports : (verdict : Verdict) → judged ≡ Ok verdict → ReportsOneOfOutcomes (Ones command v) verdict
   reports verdict is = (outcome, is_one, reports_wanted answer verdict (files_of v) asked told_so (subst (λ (j : Judged). IsVerdictOnChange answer j) is told))
 
   -- ---- nothing was written
@@ -276,7 +276,7 @@ module _ (command : CommandLine) (changes : effect_of command.applet ≡ Changes
         by_added [] is each = subst (λ (h : History). HoldsNow h (IsDurable (StateDependsOn ignored))) (sym is) is_durable
         by_added (m ∷ added) is each = subst (λ (h : History). HoldsNow h (IsDurable (StateDependsOn ignored))) (sym is) each.0.is_durable
 
-    at_work : (w : TreeState) → IsReadDuringChange commit.done.files (files_of v) w → IsReadDuringWork Changes None outcome.files (files_of v) w
+    at_work : (w : TreeState) → IsStateDuringChange commit.done.files (files_of v) w → IsStateDuringRun Changes None outcome.files (files_of v) w
     at_work w (inl waiting) = inl waiting
     at_work w (inr (inl by_intent)) = inr (inl (record { changes = refl; intent = by_intent.intent; leads = by_intent.leads ∙ sym files_are; bytes = subst (λ (f : Files). HasOldOrNewBytes (files_of v) f w) (sym files_are) by_intent.bytes }))
     at_work w (inr (inr is)) = inr (inr (is ∙ sym files_are))
@@ -292,7 +292,7 @@ module _ (command : CommandLine) (changes : effect_of command.applet ≡ Changes
       settled = λ ignored o is_durable hides one lasts. on_ok judged (λ done. subst (λ (f : Files). HoldsNow now (EachCrashLeaves ignored f)) (files_of_one o one) (done.settled ignored is_durable)) done_so;
       durable_state = λ ignored o is_durable hides one commits.
           on_ok judged (λ done. subst (λ (f : Files). HoldsNow now (IsDurableState ignored f)) (files_of_one o one) (rests ignored now commit.done.files (left_durable ignored is_durable) (done.settled ignored is_durable))) done_so;
-      reads = inr (outcome, is_one, commits_are, since_weaker (IsReadDuringChange commit.done.files (files_of v)) (IsReadDuringWork Changes None outcome.files (files_of v)) (v ∷ rest) now at_work commit.run.reads);
+      reads = inr (outcome, is_one, commits_are, since_weaker (IsStateDuringChange commit.done.files (files_of v)) (IsStateDuringRun Changes None outcome.files (files_of v)) (v ∷ rest) now at_work commit.run.reads);
       last = λ last. since_weaker NamesAreDurableWithoutIntent (NamesAreDurableWithoutIntentExcept None) (v ∷ rest) now (λ w lasts none map among q off no_intent unstaged. lasts none map among q no_intent unstaged) (commit.run.last last);
       leaves = λ o one. on_ok judged (λ done. reads_now now o one done.reads) done_so;
       idle = λ o one idle. absurd (false≢true (sym idle ∙ (sym (ap (λ (x : Outcome). x.commits) (the_one o one)) ∙ commits_are)));
@@ -333,17 +333,17 @@ module _ (command : CommandLine) (changes : effect_of command.applet ≡ Changes
   abbrev effect : Effect
   effect = effect_of command.applet
 
-  pub change_found : (old now : History) (a b : Counts) (answer : Answered) (judged : Judged) → IsVerdictOnChange answer judged → IsChangeRun command old now a b answer → IfOk judged (λ verdict. IfNothingStaged old (λ v. ReportsOne (Ones command v) verdict))
+  pub change_found : (old now : History) (a b : Counts) (answer : Answered) (judged : Judged) → IsVerdictOnChange answer judged → IsChangeRun command old now a b answer → IfOk judged (λ verdict. IfNothingStaged old (λ v. ReportsOneOfOutcomes (Ones command v) verdict))
   change_found old now a b answer (Err e) told run = tt
   change_found [] now a b answer (Ok verdict) told run = tt
   change_found (v ∷ rest) now a b answer (Ok verdict) told run = λ nothing.
       reports command changes unique leaves v rest now a b answer (Ok verdict) told (run_at command changes v rest now a b answer run) nothing verdict refl
 
   pub change_run : (old now : History) (a b : Counts) (answer : Answered) (judged : Judged) → IsVerdictOnChange answer judged → IsChangeRun command old now a b answer
-      → IfNothingStaged old (λ v. IsRun (Ones command v) (effect_of command.applet) (output_if (effect_of command.applet) command) judged v old now)
+      → IfNothingStaged old (λ v. IsRun (Ones command v) (effect_of command.applet) (output_for_effect (effect_of command.applet) command) judged v old now)
   change_run [] now a b answer judged told run = tt
   change_run (v ∷ rest) now a b answer judged told run = λ nothing.
-      subst (λ (e : Effect). IsRun (Ones command v) e (output_if e command) judged v (v ∷ rest) now) (sym changes)
+      subst (λ (e : Effect). IsRun (Ones command v) e (output_for_effect e command) judged v (v ∷ rest) now) (sym changes)
       (change_run_at command changes unique leaves v rest now a b answer judged told (run_at command changes v rest now a b answer run) nothing)
 
   pub change_undone : (old now : History) (a b : Counts) (answer : Answered) (judged : Judged) → IsVerdictOnChange answer judged → IsChangeRun command old now a b answer → IfNothingStaged old (λ v. StaysWithout old now judged)
@@ -351,10 +351,10 @@ module _ (command : CommandLine) (changes : effect_of command.applet ≡ Changes
   change_undone (v ∷ rest) now a b answer judged told run = λ nothing. change_undone_at command changes unique leaves v rest now a b answer judged told (run_at command changes v rest now a b answer run) nothing
 
   pub change_proper : (old now : History) (a b : Counts) (answer : Answered) (judged : Judged) → IsVerdictOnChange answer judged → IsChangeRun command old now a b answer
-      → IfNothingStaged old (λ v. RoomFor (Ones command v) (effect_of command.applet) (output_if (effect_of command.applet) command) (files_of v) → b.misuses ≡ a.misuses)
+      → IfNothingStaged old (λ v. RoomFor (Ones command v) (effect_of command.applet) (output_for_effect (effect_of command.applet) command) (files_of v) → b.misuses ≡ a.misuses)
   change_proper [] now a b answer judged told run = tt
   change_proper (v ∷ rest) now a b answer judged told run = λ nothing.
-      subst (λ (e : Effect). RoomFor (Ones command v) e (output_if e command) (files_of v) → b.misuses ≡ a.misuses) (sym changes)
+      subst (λ (e : Effect). RoomFor (Ones command v) e (output_for_effect e command) (files_of v) → b.misuses ≡ a.misuses) (sym changes)
       (change_proper_at command changes unique leaves v rest now a b answer judged told (run_at command changes v rest now a b answer run) nothing)
 
 -- ---- the counts

@@ -11,11 +11,11 @@ use Rattle.make_core.specs.make_info.Information.{information}
 use Rattle.make_core.specs.make_index.Index.{made_index}
 use Rattle.make_core.specs.make_index.Kept.{AgreesUnlessStopped}
 use Rattle.make_core.specs.make_info.Reads.{Reads}
-use Rattle.make_core.specs.make_package.Answers.{IsMadeBySome, IsMadeIn, OnRefusal}
+use Rattle.make_core.specs.make_package.Answers.{IsMadeBySome, IsMadeIn, UnlessDiskOrMemory}
 use Rattle.make_core.specs.make_package.Making.{made_package}
 use Rattle.make_core.specs.make_info.Output.{output_name}
 use Rattle.make_core.specs.make_index.Files.{FindOnlyFiles, reads_of}
-use Rattle.make_core.specs.package_files.Sources.{AreNamesBelowFirst, values_with}
+use Rattle.make_core.specs.package_files.Sources.{AreNamesBelowFirst, values_of_letter}
 use Rattle.make_core.specs.make_info.declared.fault.MakeFault.{MakeFault}
 use Rattle.command_core.specs.declared.values.TheConstants.{FILES}
 use Rattle.outcome.specs.Commands.{reads_in}
@@ -28,8 +28,8 @@ use Rattle.report_core.specs.declared.refusal.Refusal.TheVariants.{Reserved, Res
 use Rattle.command_core.specs.Command.{CommandLine}
 use Rattle.apk_front.specs.Moments.{CanAddOutputNamesIfAny}
 use Rattle.apk_front.specs.Runs.{IsRun}
-use Rattle.apk_front.specs.Containers.{IsIndexMade, IsIndexFound, IsIndexOutcome, IsPackageMade, IsPackageOutcome, OnMade, is_disk_or_memory, ended_by_disk_or_memory, made_in}
-use Rattle.apk_front.specs.Verdicts.{Reports, ReportsOne, as_outcome}
+use Rattle.apk_front.specs.Containers.{IsIndexMade, IsIndexFound, IsIndexOutcome, IsPackageMade, IsPackageOutcome, OnMade, is_disk_or_memory, ended_by_disk_or_memory, made_file_bytes}
+use Rattle.apk_front.specs.Verdicts.{Reports, ReportsOneOfOutcomes, as_outcome}
 use Rattle.apk_front.specs.declared.answer.Verdict.{Verdict}
 use Rattle.apk_front.proofs.Packages.{HaveListing, made_allowed, package_here}
 use Rattle.apk_front.proofs.Runs.{History, Judged, Leaves, left_at, run_among, run_idle}
@@ -40,7 +40,7 @@ Container = Result (Vec ℕ Global) MakeFault
 
 -- ---- what a call that makes says
 
-refusal_means : (why : MakeFault) (Means : Result (List ℕ) MakeFault → Type 0) → OnRefusal why Means → is_disk_or_memory why ≡ false → Means (Err why)
+refusal_means : (why : MakeFault) (Means : Result (List ℕ) MakeFault → Type 0) → UnlessDiskOrMemory why Means → is_disk_or_memory why ≡ false → Means (Err why)
 refusal_means (Faults.FileMissing place) Means h cut = h
 refusal_means (Faults.FileBad place cause) Means h cut = h
 refusal_means (Faults.InfoBad place) Means h cut = h
@@ -48,7 +48,7 @@ refusal_means (Faults.TooLarge bytes values) Means h cut = h
 refusal_means Faults.Disk Means h cut = cc
 refusal_means Faults.Memory Means h cut = cc
 
-pub means : (container : Container) (Means : Result (List ℕ) MakeFault → Type 0) → IfOk container (λ file. Means (Ok file.items)) → IfErr container (λ why. OnRefusal why Means) → OnMade container Means
+pub means : (container : Container) (Means : Result (List ℕ) MakeFault → Type 0) → IfOk container (λ file. Means (Ok file.items)) → IfErr container (λ why. UnlessDiskOrMemory why Means) → OnMade container Means
 means (Ok file) Means ok err = ok
 means (Err why) Means ok err = refusal_means why Means err
 
@@ -56,7 +56,7 @@ pub weaker : (container : Container) (Means Also : Result (List ℕ) MakeFault �
 weaker (Ok file) Means Also f m = f (Ok file.items) m
 weaker (Err why) Means Also f m = λ cut. f (Err why) (m cut)
 
-refusal_at : (why : MakeFault) (v : TreeState) (rest : History) (Means : TreeState → Result (List ℕ) MakeFault → Type 0) → OnRefusal why (λ made. IfObservable (v ∷ rest) (λ w. Means w made)) → OnRefusal why (Means v)
+refusal_at : (why : MakeFault) (v : TreeState) (rest : History) (Means : TreeState → Result (List ℕ) MakeFault → Type 0) → UnlessDiskOrMemory why (λ made. IfObservable (v ∷ rest) (λ w. Means w made)) → UnlessDiskOrMemory why (Means v)
 refusal_at (Faults.FileMissing place) v rest Means h = h
 refusal_at (Faults.FileBad place cause) v rest Means h = h
 refusal_at (Faults.InfoBad place) v rest Means h = h
@@ -65,7 +65,7 @@ refusal_at Faults.Disk v rest Means h = tt
 refusal_at Faults.Memory v rest Means h = tt
 
 pub means_at : (container : Container) (old : History) (Means : TreeState → Result (List ℕ) MakeFault → Type 0) → IfOk container (λ file. IfObservable old (λ v. Means v (Ok file.items)))
-    → IfErr container (λ why. OnRefusal why (λ made. IfObservable old (λ v. Means v made))) → IfObservable old (λ v. OnMade container (Means v))
+    → IfErr container (λ why. UnlessDiskOrMemory why (λ made. IfObservable old (λ v. Means v made))) → IfObservable old (λ v. OnMade container (Means v))
 means_at container [] Means ok err = tt
 means_at (Ok file) (v ∷ rest) Means ok err = ok
 means_at (Err why) (v ∷ rest) Means ok err = refusal_means why (Means v) (refusal_at why v rest Means err)
@@ -75,13 +75,13 @@ map_observable [] P Q f p = tt
 map_observable (v ∷ rest) P Q f p = f v p
 
 pub package_made : HaveListing → (command : CommandLine) (container : Container) (old : History) → IfOk container (λ file. IfObservable old (λ v. IsMadeIn command v (Ok file.items)))
-    → IfErr container (λ why. OnRefusal why (λ made. IfObservable old (λ v. IsMadeIn command v made))) → IfObservable old (λ v. OnMade container (IsPackageMade command (files_of v)))
+    → IfErr container (λ why. UnlessDiskOrMemory why (λ made. IfObservable old (λ v. IsMadeIn command v made))) → IfObservable old (λ v. OnMade container (IsPackageMade command (files_of v)))
 package_made law command container old ok err =
     map_observable old (λ v. OnMade container (IsMadeIn command v)) (λ v. OnMade container (IsPackageMade command (files_of v)))
     (λ v m. weaker container (IsMadeIn command v) (IsPackageMade command (files_of v)) (λ made. package_here law command v made) m)
     (means_at container old (IsMadeIn command) ok err)
 
-pub package_found : (command : CommandLine) (container : Container) → IfOk container (λ file. IsMadeBySome command (Ok file.items)) → IfErr container (λ why. OnRefusal why (IsMadeBySome command)) → OnMade container (IsMadeBySome command)
+pub package_found : (command : CommandLine) (container : Container) → IfOk container (λ file. IsMadeBySome command (Ok file.items)) → IfErr container (λ why. UnlessDiskOrMemory why (IsMadeBySome command)) → OnMade container (IsMadeBySome command)
 package_found command container ok err =
     weaker container (IsMadeBySome command) (IsMadeBySome command) (λ made m. m) (means container (IsMadeBySome command) ok err)
 
@@ -127,8 +127,8 @@ pub refused_some : (verdict : Verdict) (refusal : Refusal) → ((files : Files) 
 refused_some verdict refusal found = subst (λ (o : Option Refusal). IsSome o) (sym (ap (λ (x : Outcome). x.refusal) (found no_names))) refl
 
 pub refused_made : (output : Option (List ℕ)) (container : Container) (why : MakeFault) (judged : Judged) → container ≡ Err why → IfOk judged (λ verdict. (files : Files) (report : List ℕ) → Reports verdict (make_outcome files output report (Err why)))
-    → (report : List ℕ) → IfOk judged (λ verdict. (files : Files) → Reports verdict (make_outcome files output report (made_in container)))
-refused_made output container why (Ok verdict) is found report = λ files. subst (λ (c : Container). Reports verdict (make_outcome files output report (made_in c))) (sym is) (found files report)
+    → (report : List ℕ) → IfOk judged (λ verdict. (files : Files) → Reports verdict (make_outcome files output report (made_file_bytes container)))
+refused_made output container why (Ok verdict) is found report = λ files. subst (λ (c : Container). Reports verdict (make_outcome files output report (made_file_bytes c))) (sym is) (found files report)
 refused_made output container why (Err e) is found report = tt
 
 unless_leaves : (output : Option (List ℕ)) (files : Files) (o : Outcome) → Leaves files o → Leaves files (unless_reserved files output o)
@@ -150,49 +150,49 @@ fault_leaves output report files Faults.Memory = (refl, refl)
 
 -- what is made is refused
 pub refused_run : (output : Option (List ℕ)) (report : List ℕ) (container : Container) (why : MakeFault) (judged : Judged) (old now : History) → container ≡ Err why → now ≡ old
-    → IfObservable old (λ v. IsRun (λ o. o ≡ make_outcome (files_of v) output report (made_in container)) Makes output judged v old now)
+    → IfObservable old (λ v. IsRun (λ o. o ≡ make_outcome (files_of v) output report (made_file_bytes container)) Makes output judged v old now)
 refused_run output report container why judged old now is same =
-    left_at (λ v o. o ≡ make_outcome (files_of v) output report (made_in container)) Makes output judged old now same
-    (λ v o one. subst (Leaves (files_of v)) (sym (one ∙ ap (λ (c : Container). make_outcome (files_of v) output report (made_in c)) is)) (fault_leaves output report (files_of v) why))
+    left_at (λ v o. o ≡ make_outcome (files_of v) output report (made_file_bytes container)) Makes output judged old now same
+    (λ v o one. subst (Leaves (files_of v)) (sym (one ∙ ap (λ (c : Container). make_outcome (files_of v) output report (made_file_bytes c)) is)) (fault_leaves output report (files_of v) why))
 
 -- what is made is written
 pub written_made : (output : Option (List ℕ)) (report : List ℕ) (container : Container) (file : Vec ℕ Global) (bytes : List ℕ) (judged : Judged) (old now : History) → container ≡ Ok file → bytes ≡ file.items
     → IfObservable old (λ v. IsRun (λ o. o ≡ make_outcome (files_of v) output report (Ok bytes)) Makes output judged v old now)
-    → IfObservable old (λ v. IsRun (λ o. o ≡ make_outcome (files_of v) output report (made_in container)) Makes output judged v old now)
+    → IfObservable old (λ v. IsRun (λ o. o ≡ make_outcome (files_of v) output report (made_file_bytes container)) Makes output judged v old now)
 written_made output report container file bytes judged old now is same run =
-    subst (λ (r : Result (List ℕ) MakeFault). IfObservable old (λ v. IsRun (λ o. o ≡ make_outcome (files_of v) output report r) Makes output judged v old now)) (ap Ok same ∙ sym (ap made_in is)) run
+    subst (λ (r : Result (List ℕ) MakeFault). IfObservable old (λ v. IsRun (λ o. o ≡ make_outcome (files_of v) output report r) Makes output judged v old now)) (ap Ok same ∙ sym (ap made_file_bytes is)) run
 
 -- outcomes that what is made determines
 pub record AreOutcomes (Means : TreeState → Result (List ℕ) MakeFault → Type 0) (IsOne : Outcomes) (output : Option (List ℕ)) (report : List ℕ) : Type 0 where
   pub one : (v : TreeState) (answer : Result (List ℕ) MakeFault) → Means v answer → IsOne v (make_outcome (files_of v) output report answer)
   pub only : (v : TreeState) (answer : Result (List ℕ) MakeFault) → Means v answer → (o : Outcome) → IsOne v o → o ≡ make_outcome (files_of v) output report answer
 
-meant : (container : Container) (Means : Result (List ℕ) MakeFault → Type 0) → ended_by_disk_or_memory container ≡ false → OnMade container Means → Means (made_in container)
+meant : (container : Container) (Means : Result (List ℕ) MakeFault → Type 0) → ended_by_disk_or_memory container ≡ false → OnMade container Means → Means (made_file_bytes container)
 meant (Ok file) Means cut m = m
 meant (Err why) Means cut m = m cut
 
 module _ (Means : TreeState → Result (List ℕ) MakeFault → Type 0) (IsOne : Outcomes) (output : Option (List ℕ)) (report : List ℕ) (are : AreOutcomes Means IsOne output report) (container : Container) where
   pub reports_one : (judged : Judged) (old : History) → IfObservable old (λ v. OnMade container (Means v)) → IfOk judged (λ verdict. ended_by_disk_or_memory container ≡ false)
-      → IfOk judged (λ verdict. (files : Files) → Reports verdict (make_outcome files output report (made_in container))) → IfOk judged (λ verdict. IfObservable old (λ v. ReportsOne (IsOne v) verdict))
+      → IfOk judged (λ verdict. (files : Files) → Reports verdict (make_outcome files output report (made_file_bytes container))) → IfOk judged (λ verdict. IfObservable old (λ v. ReportsOneOfOutcomes (IsOne v) verdict))
   reports_one (Err e) old found whole reports = tt
   reports_one (Ok verdict) [] found whole reports = tt
   reports_one (Ok verdict) (v ∷ rest) found whole reports =
-      (make_outcome (files_of v) output report (made_in container), are.one v (made_in container) (meant container (Means v) whole found), reports (files_of v))
+      (make_outcome (files_of v) output report (made_file_bytes container), are.one v (made_file_bytes container) (meant container (Means v) whole found), reports (files_of v))
 
   runs_by : (judged : Judged) (v : TreeState) (rest now : History) (b : Bool) → ended_by_disk_or_memory container ≡ b → OnMade container (Means v) → IfOk judged (λ verdict. ended_by_disk_or_memory container ≡ false) → (ended_by_disk_or_memory container ≡ true → now ≡ v ∷ rest)
-      → IsRun (λ o. o ≡ make_outcome (files_of v) output report (made_in container)) Makes output judged v (v ∷ rest) now → IsRun (IsOne v) Makes output judged v (v ∷ rest) now
+      → IsRun (λ o. o ≡ make_outcome (files_of v) output report (made_file_bytes container)) Makes output judged v (v ∷ rest) now → IsRun (IsOne v) Makes output judged v (v ∷ rest) now
   runs_by judged v rest now false is found whole cut run =
-      run_among (λ o. o ≡ make_outcome (files_of v) output report (made_in container)) (IsOne v) Makes output judged v (v ∷ rest) now
-      (λ o same. subst (IsOne v) (sym same) (are.one v (made_in container) (meant container (Means v) is found))) (are.only v (made_in container) (meant container (Means v) is found)) run
+      run_among (λ o. o ≡ make_outcome (files_of v) output report (made_file_bytes container)) (IsOne v) Makes output judged v (v ∷ rest) now
+      (λ o same. subst (IsOne v) (sym same) (are.one v (made_file_bytes container) (meant container (Means v) is found))) (are.only v (made_file_bytes container) (meant container (Means v) is found)) run
   runs_by (Ok verdict) v rest now true is found whole cut run = absurd (false≢true (sym whole ∙ is))
   runs_by (Err e) v rest now true is found whole cut run = run_idle (IsOne v) Makes output (Err e) v rest now (cut is) (λ o one. tt)
 
   pub runs : (judged : Judged) (old mid now : History) → mid ≡ old → IfObservable old (λ v. OnMade container (Means v)) → IfOk judged (λ verdict. ended_by_disk_or_memory container ≡ false) → (ended_by_disk_or_memory container ≡ true → now ≡ mid)
-      → IfObservable mid (λ v. IsRun (λ o. o ≡ make_outcome (files_of v) output report (made_in container)) Makes output judged v mid now) → IfObservable old (λ v. IsRun (IsOne v) Makes output judged v old now)
+      → IfObservable mid (λ v. IsRun (λ o. o ≡ make_outcome (files_of v) output report (made_file_bytes container)) Makes output judged v mid now) → IfObservable old (λ v. IsRun (IsOne v) Makes output judged v old now)
   runs judged [] mid now same found whole cut run = tt
   runs judged (v ∷ rest) mid now same found whole cut run =
       runs_by judged v rest now (ended_by_disk_or_memory container) refl found whole (λ is. cut is ∙ same)
-      (subst (λ (h : History). IfObservable h (λ v. IsRun (λ o. o ≡ make_outcome (files_of v) output report (made_in container)) Makes output judged v h now)) same run)
+      (subst (λ (h : History). IfObservable h (λ v. IsRun (λ o. o ≡ make_outcome (files_of v) output report (made_file_bytes container)) Makes output judged v h now)) same run)
 
   room_by : (c : Container) (v : TreeState) → OnMade c (Means v) → ((o : Outcome) → IsOne v o → o.commits ≡ true → CanAddOutputNamesIfAny output (files_of v))
       → IfOk c (λ file. (make_outcome (files_of v) output report (Ok file.items)).commits ≡ true → CanAddOutputNamesIfAny output (files_of v))
@@ -219,18 +219,18 @@ package_outcomes one command report none = record {
   only = λ v answer m o (names, listed, is).
       is
       ∙ ap (λ r. make_outcome (files_of v) (output_name command) r (made_package command names (reads_in (files_of v)))) (sym none)
-      ∙ ap (λ ns. make_outcome (files_of v) (output_name command) report (made_package command ns (reads_in (files_of v)))) (listing_one one (values_with FILES command.values) (files_of v) names m.names listed m.listing)
+      ∙ ap (λ ns. make_outcome (files_of v) (output_name command) report (made_package command ns (reads_in (files_of v)))) (listing_one one (values_of_letter FILES command.values) (files_of v) names m.names listed m.listing)
       ∙ ap (make_outcome (files_of v) (output_name command) report) m.is;
 }
 
 pub package_read : (command : CommandLine) (report : List ℕ) (container : Container) (judged : Judged) → report ≡ [] → OnMade container (IsMadeBySome command) → IfOk judged (λ verdict. ended_by_disk_or_memory container ≡ false)
-    → IfOk judged (λ verdict. (files : Files) → Reports verdict (make_outcome files (output_name command) report (made_in container)))
-    → IfOk judged (λ verdict. (names : List (List ℕ)) × AreNamesBelowFirst (values_with FILES command.values) names × (read : Reads) × Reports verdict (mkpkg read no_names command names))
+    → IfOk judged (λ verdict. (files : Files) → Reports verdict (make_outcome files (output_name command) report (made_file_bytes container)))
+    → IfOk judged (λ verdict. (names : List (List ℕ)) × AreNamesBelowFirst (values_of_letter FILES command.values) names × (read : Reads) × Reports verdict (mkpkg read no_names command names))
 package_read command report container (Err e) none found whole reports = tt
 package_read command report container (Ok verdict) none found whole reports =
     let m = meant container (IsMadeBySome command) whole found in
-    let same : make_outcome no_names (output_name command) report (made_in container) ≡ mkpkg m.read no_names command m.names =
-    ap (λ r. make_outcome no_names (output_name command) r (made_in container)) none ∙ ap (make_outcome no_names (output_name command) []) (sym m.is) in
+    let same : make_outcome no_names (output_name command) report (made_file_bytes container) ≡ mkpkg m.read no_names command m.names =
+    ap (λ r. make_outcome no_names (output_name command) r (made_file_bytes container)) none ∙ ap (make_outcome no_names (output_name command) []) (sym m.is) in
     (m.names, m.named, m.read, subst (Reports verdict) same (reports no_names))
 
 -- ---- of an index
@@ -243,11 +243,11 @@ index_outcomes command report is = record {
 }
 
 pub index_read : (command : CommandLine) (report : List ℕ) (container : Container) (judged : Judged) → report ≡ index_line (length command.operands) → OnMade container (IsIndexFound command) → IfOk judged (λ verdict. ended_by_disk_or_memory container ≡ false)
-    → IfOk judged (λ verdict. (files : Files) → Reports verdict (make_outcome files (output_name command) report (made_in container)))
+    → IfOk judged (λ verdict. (files : Files) → Reports verdict (make_outcome files (output_name command) report (made_file_bytes container)))
     → IfOk judged (λ verdict. (read : Reads) × FindOnlyFiles read 0 command.operands × Reports verdict (mkndx read no_names command))
 index_read command report container (Err e) is found whole reports = tt
 index_read command report container (Ok verdict) is found whole reports =
     let m = meant container (IsIndexFound command) whole found in
-    let same : make_outcome no_names (output_name command) report (made_in container) ≡ mkndx m.read no_names command =
-    ap (λ r. make_outcome no_names (output_name command) r (made_in container)) is ∙ ap (make_outcome no_names (output_name command) (index_line (length command.operands))) (sym m.is) in
+    let same : make_outcome no_names (output_name command) report (made_file_bytes container) ≡ mkndx m.read no_names command =
+    ap (λ r. make_outcome no_names (output_name command) r (made_file_bytes container)) is ∙ ap (make_outcome no_names (output_name command) (index_line (length command.operands))) (sym m.is) in
     (m.read, m.files, subst (Reports verdict) same (reports no_names))

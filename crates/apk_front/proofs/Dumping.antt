@@ -7,8 +7,8 @@ use Rattle.base_core.specs.Calls.{IfObservable}
 use Rattle.base_core.specs.Files.{Files, no_names}
 use Rattle.base_core.specs.Tree.{TreeState, files_of}
 use Rattle.adb_block.specs.Header.{header_of}
-use Rattle.adb_block.specs.Reading.{Reading, done, fault, more, reading_of}
-use Rattle.adb_block.specs.ReaderPosition.{ReaderPosition, start_of}
+use Rattle.adb_block.specs.Reading.{Reading, done, fault, more, block_stream_from}
+use Rattle.adb_block.specs.ReaderPosition.{ReaderPosition, first_block_position}
 use Rattle.adb_dump.specs.Dump.{dump_text}
 use Rattle.adb_view.specs.ShapedPayload.{adb_of, shaped_value, table_of}
 use Rattle.adb_dump.specs.adb_schema.Soundness.{root_value, schema_word}
@@ -24,43 +24,43 @@ use Rattle.make_core.proofs.make_index.IndexReads.{operand_name}
 use Rattle.command_core.specs.Named.{operand_file}
 use Rattle.make_core.specs.make_info.Reads.{Reads}
 use Rattle.outcome.specs.Commands.{reads_in}
-use Rattle.outcome.specs.Dump.{adbdump, dump_outcome, text_outcome, dump_of, dump_with_root, dump_of_blocks, dump_with_schema, form_fault, framing_fault, or_text}
+use Rattle.outcome.specs.Dump.{adbdump, dump_outcome, text_outcome, dump_of, dump_with_root, dump_of_blocks, dump_with_schema, head_or_shape_fault, framing_fault, or_text}
 use Rattle.outcome.specs.Outcome.{just_refusal, just_report}
-use Rattle.pkg_core.specs.Whole.{root_of_schema}
+use Rattle.pkg_core.specs.Whole.{table_of_schema}
 use Rattle.report_core.specs.declared.refusal.Refusal.TheVariants.{FileMissing, FileBad}
 use Rattle.command_core.specs.declared.operands.Operand.{Operand}
-use Rattle.apk_front.specs.Containers.{IsDumpFault, IsShapedFirst, first_form_fault}
+use Rattle.apk_front.specs.Containers.{IsDumpFault, IsAfterShapedFirstBlock, first_block_head_or_shape_fault}
 use Rattle.apk_front.specs.Verdicts.{as_outcome}
 use Rattle.apk_front.specs.declared.answer.Verdict.{Verdict}
 
 -- ---- blocks
 
-pub text_of_shaped : (which : Which) (r later : Reading) (shaped : Shaped) (text : List ℕ) → IsShapedFirst which (payload_of (adb_of shaped)) r later → None ≡ framing_fault later → table_of shaped ≡ which → text ≡ dump_text (table_of shaped) (shaped_value shaped) → dump_of_blocks which r ≡ Ok text
+pub text_of_shaped : (which : Which) (r later : Reading) (shaped : Shaped) (text : List ℕ) → IsAfterShapedFirstBlock which (payload_of (adb_of shaped)) r later → None ≡ framing_fault later → table_of shaped ≡ which → text ≡ dump_text (table_of shaped) (shaped_value shaped) → dump_of_blocks which r ≡ Ok text
 text_of_shaped which done later shaped text first framed table is = absurd first
 text_of_shaped which (fault c) later shaped text first framed table is = absurd first
 text_of_shaped which (more b at r) later shaped text first framed table is =
     let value : dump_text (table_of shaped) (shaped_value shaped) ≡ dump_text which (root_value which b.payload) =
     ap (λ w. dump_text w (root_value w (payload_of (adb_of shaped)))) table ∙ ap (λ p. dump_text which (root_value which p)) first.0 in
-    let tested : option_or (form_fault which b.payload) (framing_fault r) ≡ None =
+    let tested : option_or (head_or_shape_fault which b.payload) (framing_fault r) ≡ None =
     ap (λ f. option_or f (framing_fault r)) first.1 ∙ (ap framing_fault first.2 ∙ sym framed) in
     ap (λ f. or_text f (dump_text which (root_value which b.payload))) tested ∙ ap Ok (sym (is ∙ value))
 
-pub first_block_bad : (which : Which) (r : Reading) (c : Cause) → first_form_fault which r ≡ Some c → dump_of_blocks which r ≡ Err c
+pub first_block_bad : (which : Which) (r : Reading) (c : Cause) → first_block_head_or_shape_fault which r ≡ Some c → dump_of_blocks which r ≡ Err c
 first_block_bad which done c h = absurd (none-some c h)
 first_block_bad which (fault d) c h = ap (λ f. or_text f (dump_text which (root_value which []))) h
 first_block_bad which (more b at r) c h = ap (λ f. or_text (option_or f (framing_fault r)) (dump_text which (root_value which b.payload))) h
 
-pub later_block_bad : (which : Which) (r later : Reading) (payload : List ℕ) (c : Cause) → IsShapedFirst which payload r later → Some c ≡ framing_fault later → dump_of_blocks which r ≡ Err c
+pub later_block_bad : (which : Which) (r later : Reading) (payload : List ℕ) (c : Cause) → IsAfterShapedFirstBlock which payload r later → Some c ≡ framing_fault later → dump_of_blocks which r ≡ Err c
 later_block_bad which done later payload c first framed = absurd first
 later_block_bad which (fault d) later payload c first framed = absurd first
 later_block_bad which (more b at r) later payload c first framed =
-    let tested : option_or (form_fault which b.payload) (framing_fault r) ≡ Some c =
+    let tested : option_or (head_or_shape_fault which b.payload) (framing_fault r) ≡ Some c =
     ap (λ f. option_or f (framing_fault r)) first.1 ∙ (ap framing_fault first.2 ∙ sym framed) in
     ap (λ f. or_text f (dump_text which (root_value which b.payload))) tested
 
 -- ---- the schema
 
-pub root_known : (schema : ℕ) (which : Which) → root_of_schema schema ≡ Some which → is_some (schema_word which) ≡ true
+pub root_known : (schema : ℕ) (which : Which) → table_of_schema schema ≡ Some which → is_some (schema_word which) ≡ true
 root_known schema which h =
     elim (schema == PACKAGE_WORD) as (λ b. (if b then Some Package else if schema == INDEX_WORD then Some Index else if schema == IDB_WORD then Some Idb else if schema == INTENT_WORD then Some Intent else None) ≡ Some which → is_some (schema_word which) ≡ true) [
       | true ↦ λ (e : Some Package ≡ Some which). known Package e refl
@@ -79,10 +79,10 @@ root_known schema which h =
     known : (w : Which) → Some w ≡ Some which → is_some (schema_word w) ≡ true → is_some (schema_word which) ≡ true
     known w e k = subst (λ x. is_some (schema_word x) ≡ true) (same_Some w which e) k
 
-pub dump_is : (file : List ℕ) (schema : ℕ) (s : ReaderPosition) (which : Which) (answer : Result (List ℕ) Cause) → header_of file ≡ Ok schema → s ≡ start_of schema file → root_of_schema schema ≡ Some which → dump_of_blocks which (reading_of s) ≡ answer → dump_of file ≡ answer
+pub dump_is : (file : List ℕ) (schema : ℕ) (s : ReaderPosition) (which : Which) (answer : Result (List ℕ) Cause) → header_of file ≡ Ok schema → s ≡ first_block_position schema file → table_of_schema schema ≡ Some which → dump_of_blocks which (block_stream_from s) ≡ answer → dump_of file ≡ answer
 unfolding dump_of
 dump_is file schema s which answer h at root is =
-    ap (dump_with_schema file) h ∙ (ap (dump_with_root schema (reading_of (start_of schema file))) root ∙ (ap (λ t. dump_of_blocks which (reading_of t)) (sym at) ∙ is))
+    ap (dump_with_schema file) h ∙ (ap (dump_with_root schema (block_stream_from (first_block_position schema file))) root ∙ (ap (λ t. dump_of_blocks which (block_stream_from t)) (sym at) ∙ is))
 
 -- ---- the operand
 

@@ -3,7 +3,7 @@ use Rattle.std.proofs.Common.{◌≡◌, ◌⊎◌, inl, inr, ℕ, List, [], ◌
 use Rattle.base_core.specs.Calls.{IfObservable}
 use Rattle.base_core.specs.Faults.{Counts, HasCause, IsNoFault}
 use Rattle.base_core.specs.Files.{Files, no_names}
-use Rattle.base_core.specs.Sink.{SinkChange, SinkFailed, Gets, GetsSome}
+use Rattle.base_core.specs.Sink.{SinkChange, SinkFailed, Gets, GetsPrefix}
 use Rattle.base_core.specs.Tree.{TreeState, files_of}
 use Rattle.base_core.specs.declared.tree.TreeFault.{TreeFault}
 use Rattle.base_core.specs.declared.tree.TreeFault.TheVariants.{Disk, Memory as NoMemory}
@@ -21,14 +21,14 @@ use Rattle.make_core.specs.make_info.Reads.{Reads}
 use Rattle.outcome.specs.Outcome.{Outcome, just_refusal}
 use Rattle.outcome.specs.Words.{IsPossibleOutcome, IsOutcome}
 use Rattle.outcome.specs.Version.{version}
-use Rattle.outcome.specs.Commands.{IsOutcomeOf, IsOutcomeOn, IsOutcomeUnlessBadIntent, effect_outcome, reads_in}
+use Rattle.outcome.specs.Commands.{IsOutcomeWithoutDemo, IsOutcomeAfterRecovery, IsOutcomeUnlessBadIntent, effect_outcome, reads_in}
 use Rattle.outcome.specs.Given.{IsChosenFor, IsClashBy, IsGiven, IsListingFor, MayBeGiven, MayBeListedFor, MayClash, nothing_given}
-use Rattle.outcome.specs.Effect.{Effect, Computes, OnlyReadsFiles, AsksRoot, Makes, Changes, does_only_read, does_recover, ignores_files, effect_by, effect_of, output, depends_only_on_arguments}
+use Rattle.outcome.specs.Effect.{Effect, Computes, OnlyReadsFiles, AsksRoot, Makes, Changes, does_only_read, does_recover, ignores_files, effect_of_arguments, effect_of, output, depends_only_on_arguments}
 use Rattle.outcome.specs.Work.{recovery_fault, work_files}
 use Rattle.base_core.specs.declared.cause.Cause.{Cause}
-use Rattle.apk_front.specs.Answers.{IsAnswerOf, LeavesFiles, LeavesAnyFiles, HasCauses, IsFaultless, AnswersOutcomeUnlessMemory, IsAnsweredInFull, DidNotFail, FailedWithBytes, answer_by}
+use Rattle.apk_front.specs.Answers.{IsAnswerOf, LeavesFiles, LeavesAnyFiles, HasCauses, IsFaultless, AnswersOutcomeUnlessMemory, IsAnsweredInFull, DidNotFail, FailedWithBytes, answer_for_refusal}
 use Rattle.apk_front.specs.Runs.{IsWholeRun}
-use Rattle.apk_front.specs.Verdicts.{as_outcome, IsPrinted, IsShown, Reports, ReportsOne, looked_outcome}
+use Rattle.apk_front.specs.Verdicts.{as_outcome, IsPrinted, IsVerdictPrinted, Reports, ReportsOneOfOutcomes, read_only_outcome}
 use Rattle.apk_front.proofs.Printing.{either_failed}
 use Rattle.apk_front.specs.declared.answer.Answer.{Answer}
 use Rattle.apk_front.specs.declared.answer.Answer.TheVariants.{Ok as Good, Refused, TreeFault as TreeFailed, OutFault, Memory}
@@ -104,17 +104,17 @@ work_without AsksRoot files none = cc
 work_without Makes files none = cc
 work_without Changes files none = cc
 
-pub of_over : (command : CommandLine) (files : Files) (o : Outcome) → does_recover (effect_of command.applet) ≡ false → IsOutcomeOn command files o → IsOutcomeOf (Ok command) files o
+pub of_over : (command : CommandLine) (files : Files) (o : Outcome) → does_recover (effect_of command.applet) ≡ false → IsOutcomeAfterRecovery command files o → IsOutcomeWithoutDemo (Ok command) files o
 of_over command files o none over =
     subst (λ (fault : Option Cause). IsOutcomeUnlessBadIntent fault command files o) (sym (fault_without (effect_of command.applet) files none))
-    (subst (λ (f : Files). IsOutcomeOn command f o) (sym (work_without (effect_of command.applet) files none)) over)
+    (subst (λ (f : Files). IsOutcomeAfterRecovery command f o) (sym (work_without (effect_of command.applet) files none)) over)
 
-pub over_of : (command : CommandLine) (files : Files) (o : Outcome) → does_recover (effect_of command.applet) ≡ false → IsOutcomeOf (Ok command) files o → IsOutcomeOn command files o
+pub over_of : (command : CommandLine) (files : Files) (o : Outcome) → does_recover (effect_of command.applet) ≡ false → IsOutcomeWithoutDemo (Ok command) files o → IsOutcomeAfterRecovery command files o
 over_of command files o none of =
-    subst (λ (f : Files). IsOutcomeOn command f o) (work_without (effect_of command.applet) files none)
+    subst (λ (f : Files). IsOutcomeAfterRecovery command f o) (work_without (effect_of command.applet) files none)
     (subst (λ (fault : Option Cause). IsOutcomeUnlessBadIntent fault command files o) (fault_without (effect_of command.applet) files none) of)
 
-pub ran_over : (command : CommandLine) (files : Files) (o : Outcome) → does_only_read (effect_of command.applet) ≡ true → o ≡ looked_outcome command (reads_in files) files → IsOutcomeOf (Ok command) files o
+pub ran_over : (command : CommandLine) (files : Files) (o : Outcome) → does_only_read (effect_of command.applet) ≡ true → o ≡ read_only_outcome command (reads_in files) files → IsOutcomeWithoutDemo (Ok command) files o
 ran_over command files o reads ran = of_over command files o (reads_without (effect_of command.applet) reads) (nothing_given, none_given command (reads_in files) files reads, ran)
 
 pub usage_verdict : (words : List (List ℕ)) (p q : ℕ) (fault : WordsFault) (verdict : Verdict) → p ≡ q → fault ≡ WrongWord q → IsWordsFault fault (command_of words)
@@ -146,7 +146,7 @@ printed_answer words files Leaves tree_failed o answer out err is leaves printed
 
 stated_alike : (a b : Outcome) (answer : Answer) (out err : SinkChange) → a.refusal ≡ b.refusal → a.out ≡ b.out → a.err ≡ b.err → IsAnsweredInFull a answer out err → IsAnsweredInFull b answer out err
 stated_alike a b answer out err refusal report line p = record {
-  same = p.same ∙ ap answer_by refusal;
+  same = p.same ∙ ap answer_for_refusal refusal;
   out_gets = subst (λ (t : List ℕ). Gets out t) report p.out_gets;
   err_gets = subst (λ (t : List ℕ). Gets err t) line p.err_gets;
   out_kept = p.out_kept;
@@ -163,8 +163,8 @@ printed_alike a b Good out err refusal report line p = stated_alike a b Good out
 printed_alike a b (Refused r) out err refusal report line p = stated_alike a b (Refused r) out err refusal report line p
 printed_alike a b OutFault out err refusal report line p = record {
   which = which_alike a b out err report line p.which;
-  out_gets = subst (λ (t : List ℕ). GetsSome out t) report p.out_gets;
-  err_gets = subst (λ (t : List ℕ). GetsSome err t) line p.err_gets;
+  out_gets = subst (λ (t : List ℕ). GetsPrefix out t) report p.out_gets;
+  err_gets = subst (λ (t : List ℕ). GetsPrefix err t) line p.err_gets;
 }
 printed_alike a b TreeFailed out err refusal report line p = absurd p
 printed_alike a b Memory out err refusal report line p = absurd p
@@ -174,13 +174,13 @@ reported_printed verdict o answer out err reports printed =
     printed_alike (as_outcome o.files verdict) o answer out err (ap (λ (x : Outcome). x.refusal) reports) (ap (λ (x : Outcome). x.out) reports) (ap (λ (x : Outcome). x.err) reports) printed
 
 -- what stands for one outcome
-reported_answer : (IsOne Leaves : Outcome → Type 0) (tree_failed : Type 0) (verdict : Verdict) (answer : Answer) (out err : SinkChange) → ReportsOne IsOne verdict → ((o : Outcome) → IsOne o → Leaves o)
+reported_answer : (IsOne Leaves : Outcome → Type 0) (tree_failed : Type 0) (verdict : Verdict) (answer : Answer) (out err : SinkChange) → ReportsOneOfOutcomes IsOne verdict → ((o : Outcome) → IsOne o → Leaves o)
     → ((files : Files) → IsPrinted (as_outcome files verdict) answer out err) → IsAnswerOf IsOne Leaves tree_failed answer out err
 reported_answer IsOne Leaves tree_failed verdict answer out err (o, is, reports) leaves is_shown =
     printed_one IsOne Leaves tree_failed o answer out err is (leaves o is) (reported_printed verdict o answer out err reports (is_shown o.files))
 
 judged_answer : (IsOne Leaves : Outcome → Type 0) (tree_failed : Type 0) (judged : Judged) (answer : Answer) (out err : SinkChange)
-    → IfOk judged (ReportsOne IsOne) → ((o : Outcome) → IsOne o → OnOk judged (Leaves o)) → (IsErrOf judged Disk → tree_failed) → IsShown judged answer out err
+    → IfOk judged (ReportsOneOfOutcomes IsOne) → ((o : Outcome) → IsOne o → OnOk judged (Leaves o)) → (IsErrOf judged Disk → tree_failed) → IsVerdictPrinted judged answer out err
     → IsAnswerOf IsOne Leaves tree_failed answer out err
 judged_answer IsOne Leaves tree_failed (Ok verdict) answer out err found leaves disk is_shown = reported_answer IsOne Leaves tree_failed verdict answer out err found leaves is_shown
 judged_answer IsOne Leaves tree_failed (Err Disk) answer out err found leaves disk is_shown =
@@ -194,14 +194,14 @@ found_at v rest (Err e) P found = found
 
 -- the runs of a command line
 abbrev pub Runs : List (List ℕ) → Judged → List TreeState → List TreeState → Type 0
-Runs words judged old now = IfObservable old (λ v. IsWholeRun (IsOutcome (command_of words) (files_of v)) (effect_by (command_of words)) (output words) judged v old now)
+Runs words judged old now = IfObservable old (λ v. IsWholeRun (IsOutcome (command_of words) (files_of v)) (effect_of_arguments (command_of words)) (output words) judged v old now)
 
 pub answered : (words : List (List ℕ)) (old now : List TreeState) (tree_failed : Type 0) (judged : Judged) (answer : Answer) (out err : SinkChange)
-    → IfOk judged (λ verdict. IfObservable old (λ v. ReportsOne (IsOutcome (command_of words) (files_of v)) verdict)) → Runs words judged old now → (IsErrOf judged Disk → tree_failed) → IsShown judged answer out err
+    → IfOk judged (λ verdict. IfObservable old (λ v. ReportsOneOfOutcomes (IsOutcome (command_of words) (files_of v)) verdict)) → Runs words judged old now → (IsErrOf judged Disk → tree_failed) → IsVerdictPrinted judged answer out err
     → IfObservable old (λ v. IsAnswerOf (IsOutcome (command_of words) (files_of v)) (LeavesFiles now) tree_failed answer out err)
 answered words [] now tree_failed judged answer out err found run disk is_shown = tt
 answered words (v ∷ rest) now tree_failed judged answer out err found run disk is_shown =
-    judged_answer (IsOutcome (command_of words) (files_of v)) (LeavesFiles now) tree_failed judged answer out err (found_at v rest judged (λ verdict w. ReportsOne (IsOutcome (command_of words) (files_of w)) verdict) found)
+    judged_answer (IsOutcome (command_of words) (files_of v)) (LeavesFiles now) tree_failed judged answer out err (found_at v rest judged (λ verdict w. ReportsOneOfOutcomes (IsOutcome (command_of words) (files_of w)) verdict) found)
     (λ o is. run.leaves o is) disk is_shown
 
 -- ---- no count rose
@@ -227,7 +227,7 @@ completed words (v ∷ rest) now before after answer out err answered = λ fault
 -- ---- for every tree
 
 pub answered_by_words : (words : List (List ℕ)) (judged : Judged) (answer : Answer) (out err : SinkChange)
-    → (IsTrue (depends_only_on_arguments (command_of words)) → MatchResult judged (λ verdict. (files : Files) → IsOutcome (command_of words) files (as_outcome files verdict)) (λ fault. fault ≡ NoMemory)) → IsShown judged answer out err
+    → (IsTrue (depends_only_on_arguments (command_of words)) → MatchResult judged (λ verdict. (files : Files) → IsOutcome (command_of words) files (as_outcome files verdict)) (λ fault. fault ≡ NoMemory)) → IsVerdictPrinted judged answer out err
     → IsTrue (depends_only_on_arguments (command_of words)) → IsAnswerOf (IsOutcome (command_of words) no_names) LeavesAnyFiles ⊥ answer out err
 answered_by_words words (Ok verdict) answer out err by_words is_shown rests =
     printed_answer words no_names LeavesAnyFiles ⊥ (as_outcome no_names verdict) answer out err (by_words rests no_names) tt (is_shown no_names)
@@ -238,13 +238,13 @@ answered_by_words words (Err NoMemory) answer out err by_words is_shown rests =
 -- ---- by what was found
 
 pub usage_found : (words : List (List ℕ)) (p q : ℕ) (fault : WordsFault) (verdict : Verdict) → p ≡ q → fault ≡ WrongWord q → IsWordsFault fault (command_of words)
-    → ((files : Files) → as_outcome files verdict ≡ just_refusal files (Usage p)) → ReportsOne (IsPossibleOutcome (command_of words)) verdict
+    → ((files : Files) → as_outcome files verdict ≡ just_refusal files (Usage p)) → ReportsOneOfOutcomes (IsPossibleOutcome (command_of words)) verdict
 usage_found words p q fault verdict same is of is_shown =
     let read : command_of words ≡ Err q = subst (λ (f : WordsFault). IsWordsFault f (command_of words)) is of in
     (as_outcome no_names verdict, subst (λ (r : Result CommandLine ℕ). IsPossibleOutcome r (as_outcome no_names verdict)) (sym read) (is_shown no_names ∙ ap (λ (n : ℕ). just_refusal no_names (Usage n)) same), refl)
 
 pub ran_version : (command : CommandLine) (applet : Applet) (flags : Flags) (operands : List Operand) (verdict : Verdict) → applet ≡ command.applet → applet ≡ Version → flags ≡ command.flags → operands ≡ command.operands
-    → ((files : Files) → as_outcome files verdict ≡ version files flags operands) → (read : ℕ → List ℕ → Option (List ℕ)) × (as_outcome no_names verdict ≡ looked_outcome command read no_names)
+    → ((files : Files) → as_outcome files verdict ≡ version files flags operands) → (read : ℕ → List ℕ → Option (List ℕ)) × (as_outcome no_names verdict ≡ read_only_outcome command read no_names)
 ran_version command applet flags operands verdict same is flags_same operands_same printed =
     let nothing : ℕ → List ℕ → Option (List ℕ) = λ k name. None in (
       nothing,
@@ -253,7 +253,7 @@ ran_version command applet flags operands verdict same is flags_same operands_sa
     )
 
 pub answered_by_reads : (words : List (List ℕ)) (tree_failed : Type 0) (judged : Judged) (answer : Answer) (out err : SinkChange)
-    → IfOk judged (ReportsOne (IsPossibleOutcome (command_of words))) → (IsErrOf judged Disk → tree_failed) → IsShown judged answer out err
+    → IfOk judged (ReportsOneOfOutcomes (IsPossibleOutcome (command_of words))) → (IsErrOf judged Disk → tree_failed) → IsVerdictPrinted judged answer out err
     → IsAnswerOf (IsPossibleOutcome (command_of words)) LeavesAnyFiles tree_failed answer out err
 answered_by_reads words tree_failed judged answer out err found disk is_shown =
     judged_answer (IsPossibleOutcome (command_of words)) LeavesAnyFiles tree_failed judged answer out err found (λ o is. any_ok judged) disk is_shown
@@ -277,7 +277,7 @@ printed_causes before after o TreeFailed out err kept printed = absurd printed
 printed_causes before after o Memory out err kept printed = absurd printed
 
 pub caused : (before after : Counts) (judged : Judged) (answer : Answer) (out err : SinkChange) → OnOk judged (IsNoFault before after) → (IsErrOf judged Disk → HasCause before after)
-    → (IsErrOf judged NoMemory → IsNoFault before after) → IsShown judged answer out err → HasCauses answer before after out err
+    → (IsErrOf judged NoMemory → IsNoFault before after) → IsVerdictPrinted judged answer out err → HasCauses answer before after out err
 caused before after (Ok verdict) answer out err kept disk memory is_shown = printed_causes before after (as_outcome no_names verdict) answer out err kept (is_shown no_names)
 caused before after (Err Disk) answer out err kept disk memory is_shown = subst (λ (a : Answer). HasCauses a before after out err) (sym is_shown.0) (disk refl, is_shown.1)
 caused before after (Err NoMemory) answer out err kept disk memory is_shown = subst (λ (a : Answer). HasCauses a before after out err) (sym is_shown.0) (memory refl, is_shown.1)

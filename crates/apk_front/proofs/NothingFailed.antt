@@ -9,7 +9,7 @@ use Rattle.base_core.specs.declared.tree.TreeFault.TheVariants.{Disk as NoTree, 
 use Rattle.base_core.proofs.Counting.{cause_later, cause_sooner, goes_on_twice}
 use Rattle.make_core.specs.make_info.declared.fault.MakeFault.TheVariants.{Disk}
 use Rattle.apk_front.specs.Containers.{ended_by_disk_or_memory}
-use Rattle.apk_front.specs.RunContracts.{IsVerdictCounted}
+use Rattle.apk_front.specs.RunContracts.{IsVerdictExplainedByCounts}
 use Rattle.apk_front.proofs.Containers.{Container}
 use Rattle.apk_front.proofs.Runs.{Judged}
 
@@ -37,7 +37,7 @@ memory_both join container judged old new a b c tree lost after none = join a b 
 pub counted_both : Join → (container : Container) (judged : Judged) (old new : List TreeState) (a b c : Counts) → OnlyReads Disk old new a b container
     → IfOk judged (λ verdict. ended_by_disk_or_memory container ≡ false) → (IsErrOf judged NoMemory → container ≢ Err Disk)
     → CountsOnlyRise b c → (IsErrOf judged NoTree → IsErrOf container Disk ⊎ HasCause b c) → OnOk judged (IsNoFault b c) → (IsErrOf judged NoMemory → IsNoFault b c)
-    → IsVerdictCounted a c judged
+    → IsVerdictExplainedByCounts a c judged
 counted_both join container judged old new a b c tree whole lost on disk kept memory = record {
   goes_on = goes_on_twice a b c tree.goes_on on;
   disk = λ is. elim (disk is) [ inl reading ↦ cause_sooner a b c (tree.disk reading) on | inr writing ↦ cause_later a b c tree.goes_on writing ];

@@ -11,13 +11,13 @@ use Rattle.base_core.specs.Faults.{Counts}
 use Rattle.base_core.specs.Files.{Files, no_names}
 use Rattle.base_core.specs.Read.{OnlyReads}
 use Rattle.base_core.specs.Tree.{TreeState, files_of}
-use Rattle.command_core.specs.Applets.{needed_option, operand_rule, version_operands as version_rule}
-use Rattle.command_core.specs.Sound.{may_have, value_rules, IsCommand, are_operands, are_values}
+use Rattle.command_core.specs.Applets.{required_option_letter, operand_rule, version_operand_rule as version_rule}
+use Rattle.command_core.specs.Sound.{may_have_flags, value_rules, IsValidCommand, are_allowed_operands, are_allowed_values}
 use Rattle.command_core.specs.Command.{CommandLine}
-use Rattle.command_core.specs.Files.{without_dot}
+use Rattle.command_core.specs.Files.{without_dot_slash}
 use Rattle.command_core.specs.Named.{are_files, operand_file}
-use Rattle.command_core.specs.Operands.{at_least, exactly, is_of_kind}
-use Rattle.command_core.specs.Values.{lacks_value}
+use Rattle.command_core.specs.Operands.{at_least, exactly, is_operand_of_kind}
+use Rattle.command_core.specs.Values.{is_required_value_missing}
 use Rattle.command_core.specs.declared.command.Applet.{Applet}
 use Rattle.command_core.specs.declared.command.Applet.TheVariants.{Adbdump, Adbgen, Demo, Verify, Version}
 use Rattle.command_core.specs.declared.command.Flags.{Flags}
@@ -36,15 +36,15 @@ use Rattle.apk_front.specs.declared.answer.Verdict.{Verdict}
 
 -- ---- the operands of a command
 
-operands_of : (c : CommandLine) → IsCommand c → are_operands (operand_rule c.applet c.flags) c.operands ≡ true
+operands_of : (c : CommandLine) → IsValidCommand c → are_allowed_operands (operand_rule c.applet c.flags) c.operands ≡ true
 operands_of c h =
-    let flagged = may_have c.applet c.flags && are_operands (operand_rule c.applet c.flags) c.operands in
-    let valued = and_parts (flagged && are_values (value_rules c.applet) c.values) (not (lacks_value (needed_option c.applet) c.values)) h in
-    let taken = and_parts flagged (are_values (value_rules c.applet) c.values) valued.0 in
-    (and_parts (may_have c.applet c.flags) (are_operands (operand_rule c.applet c.flags) c.operands) taken.0).1
+    let flagged = may_have_flags c.applet c.flags && are_allowed_operands (operand_rule c.applet c.flags) c.operands in
+    let valued = and_parts (flagged && are_allowed_values (value_rules c.applet) c.values) (not (is_required_value_missing (required_option_letter c.applet) c.values)) h in
+    let taken = and_parts flagged (are_allowed_values (value_rules c.applet) c.values) valued.0 in
+    (and_parts (may_have_flags c.applet c.flags) (are_allowed_operands (operand_rule c.applet c.flags) c.operands) taken.0).1
 
-of_applet : (c : CommandLine) (applet : Applet) → IsCommand c → applet ≡ c.applet → are_operands (operand_rule applet c.flags) c.operands ≡ true
-of_applet c applet h same = subst (λ (a : Applet). are_operands (operand_rule a c.flags) c.operands ≡ true) (sym same) (operands_of c h)
+of_applet : (c : CommandLine) (applet : Applet) → IsValidCommand c → applet ≡ c.applet → are_allowed_operands (operand_rule applet c.flags) c.operands ≡ true
+of_applet c applet h same = subst (λ (a : Applet). are_allowed_operands (operand_rule a c.flags) c.operands ≡ true) (sym same) (operands_of c h)
 
 -- just so many
 just_many : (n : ℕ) (os : List Operand) (each : Bool) → (nat_le n (length os) && nat_le (length os) n) && each ≡ true → (length os ≡ n) × (each ≡ true)
@@ -56,35 +56,35 @@ just_many n os each taken =
     (omega arith, parts.1)
 
 -- one file, where a container is dumped
-pub dump_operands : (c : CommandLine) (applet : Applet) (operands : List Operand) → IsCommand c → applet ≡ c.applet → applet ≡ Adbdump → operands ≡ c.operands → (length operands ≡ 1) × (are_files operands ≡ true)
+pub dump_operands : (c : CommandLine) (applet : Applet) (operands : List Operand) → IsValidCommand c → applet ≡ c.applet → applet ≡ Adbdump → operands ≡ c.operands → (length operands ≡ 1) × (are_files operands ≡ true)
 dump_operands c applet operands h same is of =
     let parts = just_many 1 c.operands (are_files c.operands) (of_applet c Adbdump h (sym is ∙ same)) in
     (ap length of ∙ parts.0, ap are_files of ∙ parts.1)
 
 -- and where one is generated
-pub gen_operands : (c : CommandLine) (applet : Applet) (operands : List Operand) → IsCommand c → applet ≡ c.applet → applet ≡ Adbgen → operands ≡ c.operands → (length operands ≡ 1) × (are_files operands ≡ true)
+pub gen_operands : (c : CommandLine) (applet : Applet) (operands : List Operand) → IsValidCommand c → applet ≡ c.applet → applet ≡ Adbgen → operands ≡ c.operands → (length operands ≡ 1) × (are_files operands ≡ true)
 gen_operands c applet operands h same is of =
     let parts = just_many 1 c.operands (are_files c.operands) (of_applet c Adbgen h (sym is ∙ same)) in
     (ap length of ∙ parts.0, ap are_files of ∙ parts.1)
 
 -- files, where containers are tested
-pub verify_operands : (c : CommandLine) (applet : Applet) (operands : List Operand) → IsCommand c → applet ≡ c.applet → applet ≡ Verify → operands ≡ c.operands → are_files operands ≡ true
+pub verify_operands : (c : CommandLine) (applet : Applet) (operands : List Operand) → IsValidCommand c → applet ≡ c.applet → applet ≡ Verify → operands ≡ c.operands → are_files operands ≡ true
 verify_operands c applet operands h same is of =
     let taken : (nat_le 1 (length c.operands) && true) && are_files c.operands ≡ true = of_applet c Verify h (sym is ∙ same) in
     ap are_files of ∙ (and_parts (nat_le 1 (length c.operands) && true) (are_files c.operands) taken).1
 
 -- two texts, where versions are compared
-pub version_operands : (c : CommandLine) (applet : Applet) (flags : Flags) (operands : List Operand) → IsCommand c → applet ≡ c.applet → applet ≡ Version → flags ≡ c.flags → operands ≡ c.operands → flags.test ≡ true → length operands ≡ 2
-version_operands c applet flags operands h same is f of tests =
+pub version_operand_rule : (c : CommandLine) (applet : Applet) (flags : Flags) (operands : List Operand) → IsValidCommand c → applet ≡ c.applet → applet ≡ Version → flags ≡ c.flags → operands ≡ c.operands → flags.test ≡ true → length operands ≡ 2
+version_operand_rule c applet flags operands h same is f of tests =
     let tested : c.flags.test ≡ true = ap (λ (g : Flags). g.test) (sym f) ∙ tests in
-    let taken : are_operands (version_rule c.flags) c.operands ≡ true = of_applet c Version h (sym is ∙ same) in
-    let two : are_operands (Some (exactly 2 Any)) c.operands ≡ true =
-    subst (λ b. are_operands (if b then Some (exactly 2 Any) else if c.flags.check then Some (at_least 1 Any) else None) c.operands ≡ true) tested taken in
-    ap length of ∙ (just_many 2 c.operands (list_all (λ (o : Operand). is_of_kind Any o.text) c.operands) two).0
+    let taken : are_allowed_operands (version_rule c.flags) c.operands ≡ true = of_applet c Version h (sym is ∙ same) in
+    let two : are_allowed_operands (Some (exactly 2 Any)) c.operands ≡ true =
+    subst (λ b. are_allowed_operands (if b then Some (exactly 2 Any) else if c.flags.check then Some (at_least 1 Any) else None) c.operands ≡ true) tested taken in
+    ap length of ∙ (just_many 2 c.operands (list_all (λ (o : Operand). is_operand_of_kind Any o.text) c.operands) two).0
 
 -- one number, where packages are shown in memory
-pub demo_operands : (c : CommandLine) (applet : Applet) (operands : List Operand) → IsCommand c → applet ≡ c.applet → applet ≡ Demo → operands ≡ c.operands → are_operands (Some (exactly 1 Number)) operands ≡ true
-demo_operands c applet operands h same is of = ap (are_operands (Some (exactly 1 Number))) of ∙ of_applet c Demo h (sym is ∙ same)
+pub demo_operands : (c : CommandLine) (applet : Applet) (operands : List Operand) → IsValidCommand c → applet ≡ c.applet → applet ≡ Demo → operands ≡ c.operands → are_allowed_operands (Some (exactly 1 Number)) operands ≡ true
+demo_operands c applet operands h same is of = ap (are_allowed_operands (Some (exactly 1 Number))) of ∙ of_applet c Demo h (sym is ∙ same)
 
 -- ---- an operand and its file
 
@@ -96,12 +96,12 @@ left_at (y ∷ xs) (suc i) x e =
     let next : suc (i + 1) ≡ suc i + 1 = omega arith in left_at xs i x e ∙ ap (λ n. x ∷ drop n (y ∷ xs)) next
 
 -- the operand that lends a name
-pub file_at : (os : List Operand) (i : ℕ) (name : List ℕ) → option_map operand_file (slice_get os i) ≡ Some name → (o : Operand) × (slice_get os i ≡ Some o) × (name ≡ without_dot o.text)
+pub file_at : (os : List Operand) (i : ℕ) (name : List ℕ) → option_map operand_file (slice_get os i) ≡ Some name → (o : Operand) × (slice_get os i ≡ Some o) × (name ≡ without_dot_slash o.text)
 file_at os i name is = of (slice_get os i) refl is
   where
-    of : (found : Option Operand) → slice_get os i ≡ found → option_map operand_file found ≡ Some name → (o : Operand) × (slice_get os i ≡ Some o) × (name ≡ without_dot o.text)
+    of : (found : Option Operand) → slice_get os i ≡ found → option_map operand_file found ≡ Some name → (o : Operand) × (slice_get os i ≡ Some o) × (name ≡ without_dot_slash o.text)
     of None at h = cc
-    of (Some o) at h = (o, at, sym (same_Some (without_dot o.text) name h))
+    of (Some o) at h = (o, at, sym (same_Some (without_dot_slash o.text) name h))
 
 -- ---- the lines of verify
 
@@ -109,11 +109,11 @@ pub sound_more : (os : List Operand) (i : ℕ) (report file : List ℕ) → opti
     → report ++ sound_lines (drop i os) ≡ sound_lines os → report ++ file ++ codes ": OK\n" ++ sound_lines (drop (i + 1) os) ≡ sound_lines os
 sound_more os i report file is h =
     let (o, at, same) = file_at os i file is in
-    let before : report ++ (without_dot o.text ++ codes ": OK\n" ++ sound_lines (drop (i + 1) os)) ≡ sound_lines os = ap (λ (l : List Operand). report ++ sound_lines l) (sym (left_at os i o at)) ∙ h in
+    let before : report ++ (without_dot_slash o.text ++ codes ": OK\n" ++ sound_lines (drop (i + 1) os)) ≡ sound_lines os = ap (λ (l : List Operand). report ++ sound_lines l) (sym (left_at os i o at)) ∙ h in
     ap (λ (f : List ℕ). report ++ f ++ codes ": OK\n" ++ sound_lines (drop (i + 1) os)) same
-    ∙ append_assoc (report ++ without_dot o.text) (codes ": OK\n") (sound_lines (drop (i + 1) os))
-    ∙ append_assoc report (without_dot o.text) (codes ": OK\n" ++ sound_lines (drop (i + 1) os))
-    ∙ ap (λ (l : List ℕ). report ++ l) (sym (append_assoc (without_dot o.text) (codes ": OK\n") (sound_lines (drop (i + 1) os))))
+    ∙ append_assoc (report ++ without_dot_slash o.text) (codes ": OK\n") (sound_lines (drop (i + 1) os))
+    ∙ append_assoc report (without_dot_slash o.text) (codes ": OK\n" ++ sound_lines (drop (i + 1) os))
+    ∙ ap (λ (l : List ℕ). report ++ l) (sym (append_assoc (without_dot_slash o.text) (codes ": OK\n") (sound_lines (drop (i + 1) os))))
     ∙ before
 
 -- ---- the refusal of verify
@@ -151,7 +151,7 @@ pub read_none : (os : List Operand) → IsReadTo os 0
 read_none os = record { read = λ k name. None; rest = λ later agree. refl }
 
 -- the operands that are left, where one was read
-read_one : (os : List Operand) (i : ℕ) (o : Operand) (r : Option Refusal) (f : Option (List ℕ)) (later : Reads) → slice_get os i ≡ Some o → r ≡ file_refusal o.place f → later i (without_dot o.text) ≡ f
+read_one : (os : List Operand) (i : ℕ) (o : Operand) (r : Option Refusal) (f : Option (List ℕ)) (later : Reads) → slice_get os i ≡ Some o → r ≡ file_refusal o.place f → later i (without_dot_slash o.text) ≡ f
     → verify_refusal later i (drop i os) ≡ option_or r (verify_refusal later (i + 1) (drop (i + 1) os))
 read_one os i o r f later at is here =
     ap (verify_refusal later i) (left_at os i o at)
@@ -163,7 +163,7 @@ read_more os i o r at so (f, is) none = record {
   read = read_with so.read i f;
   rest = λ later agree.
       so.rest later (λ k name lt. agree k name (omega (lt, arith)) ∙ read_with_before so.read i k f name lt)
-      ∙ read_one os i o r f later at is (agree i (without_dot o.text) (omega arith) ∙ read_with_at so.read i f (without_dot o.text))
+      ∙ read_one os i o r f later at is (agree i (without_dot_slash o.text) (omega arith) ∙ read_with_at so.read i f (without_dot_slash o.text))
       ∙ or_next r (verify_refusal later (i + 1) (drop (i + 1) os)) none;
 }
 
@@ -171,7 +171,7 @@ pub read_here : (os : List Operand) (i : ℕ) (o : Operand) (r : Option Refusal)
     → (read : Reads) × (r ≡ verify_refusal read 0 os)
 read_here os i o r at so (f, is) some =
     let now = read_with so.read i f in
-    (now, sym (so.rest now (λ k name lt. read_with_before so.read i k f name lt) ∙ read_one os i o r f now at is (read_with_at so.read i f (without_dot o.text)) ∙ or_here r (verify_refusal now (i + 1) (drop (i + 1) os)) some))
+    (now, sym (so.rest now (λ k name lt. read_with_before so.read i k f name lt) ∙ read_one os i o r f now at is (read_with_at so.read i f (without_dot_slash o.text)) ∙ or_here r (verify_refusal now (i + 1) (drop (i + 1) os)) some))
 
 pub read_all_of : (os : List Operand) (i : ℕ) → drop i os ≡ [] → IsReadTo os i → (read : Reads) × (None ≡ verify_refusal read 0 os)
 read_all_of os i ended so = (so.read, sym (so.rest so.read (λ k name lt. refl) ∙ ap (verify_refusal so.read i) ended))
@@ -189,7 +189,7 @@ pub fine_none : (old : List TreeState) (os : List Operand) → IfObservable old 
 fine_none [] os = tt
 fine_none (v ∷ old) os = refl
 
-test_one : (v : TreeState) (os : List Operand) (i : ℕ) (o : Operand) (name : List ℕ) (r : Option Refusal) → slice_get os i ≡ Some o → name ≡ without_dot o.text → IsTestOf o name r v
+test_one : (v : TreeState) (os : List Operand) (i : ℕ) (o : Operand) (name : List ℕ) (r : Option Refusal) → slice_get os i ≡ Some o → name ≡ without_dot_slash o.text → IsTestOf o name r v
     → verify_refusal (reads_in (files_of v)) i (drop i os) ≡ option_or r (verify_refusal (reads_in (files_of v)) (i + 1) (drop (i + 1) os))
 test_one v os i o name r at named is = read_one os i o r (files_of v name) (reads_in (files_of v)) at is (ap (files_of v) (sym named))
 

@@ -17,17 +17,17 @@ use Rattle.command_core.specs.declared.command.Applet.TheVariants.{Audit, Info, 
 use Rattle.tell_core.specs.ReportForCommand.{report_for_command}
 use Rattle.tell_core.specs.installed_info.declared.telling.ReportAndRefusal.{ReportAndRefusal}
 use Rattle.make_core.specs.make_info.Reads.{Reads}
-use Rattle.make_core.specs.package_files.Runs.{Explains}
+use Rattle.make_core.specs.package_files.Runs.{IsExplainedBySomeReads}
 use Rattle.report_core.specs.declared.refusal.Refusal.{Refusal}
 use Rattle.outcome.proofs.Applets.{report_is, told_commits, told_files}
-use Rattle.outcome.specs.Commands.{IsPossibleOutcomeOn, reads_in}
-use Rattle.outcome.specs.Effect.{AsksRoot, Effect, effect_of, output_if}
+use Rattle.outcome.specs.Commands.{IsPossibleOutcomeAfterRecovery, reads_in}
+use Rattle.outcome.specs.Effect.{AsksRoot, Effect, effect_of, output_for_effect}
 use Rattle.outcome.specs.Given.{IsChosenFor, IsClashBy, IsGiven, IsListingFor, MayBeGiven, MayBeListedFor, MayClash, nothing_given}
 use Rattle.outcome.specs.Outcome.{Outcome}
 use Rattle.outcome.specs.OutcomeOfReport.{outcome_of_report}
 use Rattle.apk_front.specs.Runs.{IfNothingStaged, IsRun}
 use Rattle.apk_front.specs.Told.{IsVerdictOnReport}
-use Rattle.apk_front.specs.Verdicts.{Reports, ReportsOne}
+use Rattle.apk_front.specs.Verdicts.{Reports, ReportsOneOfOutcomes}
 use Rattle.apk_front.specs.declared.answer.Verdict.{Verdict}
 use Rattle.apk_front.proofs.Carried.{Ones, RoomFor}
 use Rattle.apk_front.proofs.Runs.{History, Judged, Leaves, ok_always, run_idle}
@@ -39,7 +39,7 @@ abbrev pub Wanted : Type 0
 Wanted = Result ReportAndRefusal Refusal
 
 abbrev pub IsToldBy : CommandLine → History → Answered → Type 0
-IsToldBy command old answer = Explains old (λ read. AgreesUnlessDisk (λ done. done) answer (report_for_command command read))
+IsToldBy command old answer = IsExplainedBySomeReads old (λ read. AgreesUnlessDisk (λ done. done) answer (report_for_command command read))
 
 -- ---- nothing is given
 
@@ -75,11 +75,11 @@ reports_wanted (Err (IsRefused refusal)) verdict files wanted agrees told =
 reports_wanted (Err Disk) verdict files wanted agrees told = absurd (cc (told))
 reports_wanted (Err Memory) verdict files wanted agrees told = absurd (cc (told))
 
-same_reads : (v : TreeState) (rest : History) (P : Reads → Type 0) (e : Explains (v ∷ rest) P) → e.read ≡ reads_in (files_of v)
+same_reads : (v : TreeState) (rest : History) (P : Reads → Type 0) (e : IsExplainedBySomeReads (v ∷ rest) P) → e.read ≡ reads_in (files_of v)
 same_reads v rest P e i n name = e.observed n name i
 
 module _ (command : CommandLine) (tells : effect_of command.applet ≡ AsksRoot) where
-  pub report_found : (old : History) (answer : Answered) (judged : Judged) → IsVerdictOnReport answer judged → IsToldBy command old answer → IfOk judged (λ verdict. IfNothingStaged old (λ v. ReportsOne (Ones command v) verdict))
+  pub report_found : (old : History) (answer : Answered) (judged : Judged) → IsVerdictOnReport answer judged → IsToldBy command old answer → IfOk judged (λ verdict. IfNothingStaged old (λ v. ReportsOneOfOutcomes (Ones command v) verdict))
   report_found old answer (Err e) told by = tt
   report_found [] answer (Ok verdict) told by = tt
   report_found (v ∷ rest) answer (Ok verdict) told by = λ nothing. (
@@ -89,7 +89,7 @@ module _ (command : CommandLine) (tells : effect_of command.applet ≡ AsksRoot)
         (subst (λ (read : Reads). AgreesUnlessDisk (λ done. done) answer (report_for_command command read)) (same_reads v rest (λ read. AgreesUnlessDisk (λ done. done) answer (report_for_command command read)) by) by.is) told,
   )
 
-  pub report_read : (old : History) (answer : Answered) (judged : Judged) → IsVerdictOnReport answer judged → IsToldBy command old answer → IfOk judged (ReportsOne (IsPossibleOutcomeOn command))
+  pub report_read : (old : History) (answer : Answered) (judged : Judged) → IsVerdictOnReport answer judged → IsToldBy command old answer → IfOk judged (ReportsOneOfOutcomes (IsPossibleOutcomeAfterRecovery command))
   report_read old answer (Err e) told by = tt
   report_read old answer (Ok verdict) told by = (
     outcome_of_report no_names (report_for_command command by.read),
@@ -105,13 +105,13 @@ module _ (command : CommandLine) (tells : effect_of command.applet ≡ AsksRoot)
       subst (Leaves files) (report_is command.applet command given (reads_in files) files tells ∙ sym is)
       (told_files files (report_for_command command (reads_in files)), told_commits files (report_for_command command (reads_in files)))
 
-  pub report_run : (old now : History) (judged : Judged) → now ≡ old → IfNothingStaged old (λ v. IsRun (Ones command v) (effect_of command.applet) (output_if (effect_of command.applet) command) judged v old now)
+  pub report_run : (old now : History) (judged : Judged) → now ≡ old → IfNothingStaged old (λ v. IsRun (Ones command v) (effect_of command.applet) (output_for_effect (effect_of command.applet) command) judged v old now)
   report_run [] now judged same = tt
   report_run (v ∷ rest) now judged same = λ nothing.
-      run_idle (Ones command v) (effect_of command.applet) (output_if (effect_of command.applet) command) judged v rest now same
+      run_idle (Ones command v) (effect_of command.applet) (output_for_effect (effect_of command.applet) command) judged v rest now same
       (λ o one. ok_always (Leaves (files_of v) o) judged (leaves v o one))
 
-  pub report_proper : (old : History) (P : Type 0) → IfObservable old (λ v. P) → IfNothingStaged old (λ v. RoomFor (Ones command v) (effect_of command.applet) (output_if (effect_of command.applet) command) (files_of v) → P)
+  pub report_proper : (old : History) (P : Type 0) → IfObservable old (λ v. P) → IfNothingStaged old (λ v. RoomFor (Ones command v) (effect_of command.applet) (output_for_effect (effect_of command.applet) command) (files_of v) → P)
   report_proper [] P p = tt
   report_proper (v ∷ rest) P p = λ nothing room. p
 

@@ -4,15 +4,15 @@ use Rattle.std.specs.Prelude.{is_ok}
 use Rattle.base_core.specs.Listed.{IsListOf, IsNamesOf}
 use Rattle.base_core.specs.Tree.{TreeState, files_of}
 use Rattle.command_core.specs.Command.{CommandLine}
-use Rattle.command_core.specs.Files.{without_dot}
+use Rattle.command_core.specs.Files.{without_dot_slash}
 use Rattle.command_core.specs.declared.values.OptionValue.{OptionValue}
 use Rattle.command_core.specs.declared.values.TheConstants.{FILES, SCRIPT}
 use Rattle.make_core.specs.make_info.Information.{FieldWithValue, information}
 use Rattle.make_core.specs.make_info.Reads.{Reads}
 use Rattle.make_core.specs.make_info.declared.fault.MakeFault.{MakeFault}
-use Rattle.make_core.specs.make_package.Answers.{AreBelow, IsMadeIn}
+use Rattle.make_core.specs.make_package.Answers.{AreNamesBelowFirstOption, IsMadeIn}
 use Rattle.make_core.specs.make_package.Making.{made_package, or_info_bad, package_of_parts}
-use Rattle.make_core.specs.package_files.Sources.{and_then, folders_below, values_with, scripts_from}
+use Rattle.make_core.specs.package_files.Sources.{and_then, folders_below, values_of_letter, scripts_from}
 use Rattle.outcome.specs.Commands.{reads_in}
 use Rattle.outcome.specs.Make.{AreNamesBelowOption, files_below}
 use Rattle.apk_front.specs.Containers.{IsPackageMade}
@@ -23,17 +23,17 @@ HaveListing = (folder : List ℕ) (v : TreeState) (names : List (List ℕ)) → 
 
 -- ---- what is made of them
 
-no_folder : (command : CommandLine) (read : Reads) (names others : List (List ℕ)) → values_with FILES command.values ≡ [] → made_package command names read ≡ made_package command others read
+no_folder : (command : CommandLine) (read : Reads) (names others : List (List ℕ)) → values_of_letter FILES command.values ≡ [] → made_package command names read ≡ made_package command others read
 unfolding made_package
 no_folder command read names others none =
     let by : List OptionValue → List (List ℕ) → Result (List ℕ) MakeFault = λ values ns.
-    and_then (scripts_from read 0 (values_with SCRIPT command.values)) (λ scripts. and_then (or_info_bad (information command)) (λ about. and_then (folders_below read (length scripts) values ns) (package_of_parts command scripts about))) in
+    and_then (scripts_from read 0 (values_of_letter SCRIPT command.values)) (λ scripts. and_then (or_info_bad (information command)) (λ about. and_then (folders_below read (length scripts) values ns) (package_of_parts command scripts about))) in
     ap (λ values. by values names) none ∙ sym (ap (λ values. by values others) none)
 
 pub package_here : HaveListing → (command : CommandLine) (v : TreeState) (made : Result (List ℕ) MakeFault) → IsMadeIn command v made → IsPackageMade command (files_of v) made
-package_here law command v made m = by_values (values_with FILES command.values) refl m.below
+package_here law command v made m = by_values (values_of_letter FILES command.values) refl m.below
   where
-    by_values : (values : List OptionValue) → values_with FILES command.values ≡ values → AreBelow values v m.names → IsPackageMade command (files_of v) made
+    by_values : (values : List OptionValue) → values_of_letter FILES command.values ≡ values → AreNamesBelowFirstOption values v m.names → IsPackageMade command (files_of v) made
     by_values [] is listed = record {
       names = [];
       listing = subst (λ (vs : List OptionValue). AreNamesBelowOption vs (files_of v) []) (sym is) refl;
@@ -41,7 +41,7 @@ package_here law command v made m = by_values (values_with FILES command.values)
     }
     by_values (dir ∷ dirs) is listed = record {
       names = m.names;
-      listing = subst (λ (vs : List OptionValue). AreNamesBelowOption vs (files_of v) m.names) (sym is) (law (without_dot dir.text) v m.names listed);
+      listing = subst (λ (vs : List OptionValue). AreNamesBelowOption vs (files_of v) m.names) (sym is) (law (without_dot_slash dir.text) v m.names listed);
       is = m.is;
     }
 
@@ -58,6 +58,6 @@ info_ok (Err place) about h = cc
 pub made_allowed : (command : CommandLine) (names : List (List ℕ)) (read : Reads) (file : List ℕ) → made_package command names read ≡ Ok file → is_ok (information command) ≡ true
 unfolding made_package
 made_allowed command names read file h =
-    let (scripts, one, more) = after_ok (scripts_from read 0 (values_with SCRIPT command.values)) (λ scripts. and_then (or_info_bad (information command)) (λ about. and_then (folders_below read (length scripts) (values_with FILES command.values) names) (package_of_parts command scripts about))) file h in
-    let (about, two, last) = after_ok (or_info_bad (information command)) (λ about. and_then (folders_below read (length scripts) (values_with FILES command.values) names) (package_of_parts command scripts about)) file more in
+    let (scripts, one, more) = after_ok (scripts_from read 0 (values_of_letter SCRIPT command.values)) (λ scripts. and_then (or_info_bad (information command)) (λ about. and_then (folders_below read (length scripts) (values_of_letter FILES command.values) names) (package_of_parts command scripts about))) file h in
+    let (about, two, last) = after_ok (or_info_bad (information command)) (λ about. and_then (folders_below read (length scripts) (values_of_letter FILES command.values) names) (package_of_parts command scripts about)) file more in
     info_ok (information command) about two

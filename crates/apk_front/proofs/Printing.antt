@@ -1,23 +1,23 @@
 -- A report, and the line of a refusal behind it.
 use Rattle.std.proofs.Common.{◌≡◌, ◌≢◌, ◌⊎◌, inl, inr, ℕ, List, [], Option, Some, None, Ok, Err, refl, sym, subst, ◌∙◌, append-nil}
 use Rattle.base_core.specs.Files.{Files}
-use Rattle.base_core.specs.Sink.{Adds, AddsSome, SinkChange, Gets, GetsSome, SinkFailed}
+use Rattle.base_core.specs.Sink.{Adds, AddsPrefix, SinkChange, Gets, GetsPrefix, SinkFailed}
 use Rattle.base_core.specs.Write.{Writes}
 use Rattle.base_core.proofs.Added.{Adds-none}
 use Rattle.report_core.specs.Texts.{refusal_line}
 use Rattle.report_core.specs.declared.refusal.Refusal.{Refusal}
 use Rattle.outcome.specs.Outcome.{outcome_of, line_of}
-use Rattle.apk_front.specs.Answers.{DidNotFail, IsOutFault}
+use Rattle.apk_front.specs.Answers.{DidNotFail, IsSingleSinkFault}
 use Rattle.apk_front.specs.Verdicts.{IsPrinted, IsRefusalPrinted}
 use Rattle.apk_front.specs.declared.answer.Answer.{Answer}
 use Rattle.apk_front.specs.declared.answer.Answer.TheVariants.{OutFault}
 
 -- all of it
-pub all_some : (old new : Option (List ℕ)) (bytes : List ℕ) → Adds old new bytes → AddsSome old new bytes
+pub all_some : (old new : Option (List ℕ)) (bytes : List ℕ) → Adds old new bytes → AddsPrefix old new bytes
 all_some old new bytes h = record { front = bytes; rest = []; whole = sym (append-nil bytes); added = h }
 
 -- nothing of it
-pub none_some : (old : Option (List ℕ)) (bytes : List ℕ) → AddsSome old old bytes
+pub none_some : (old : Option (List ℕ)) (bytes : List ℕ) → AddsPrefix old old bytes
 none_some old bytes = record { front = []; rest = bytes; whole = refl; added = Adds-none old }
 
 line_some : (refusal : Refusal) → refusal_line refusal ≢ []
@@ -44,15 +44,15 @@ printed_whole {T} {E} refusal report bytes files answer out err x is w printed =
     printed_after refusal report files answer out err (subst (Gets out) is w.ok) w.cause.kept printed
 
 -- the report was not written
-pub not_printed : (refusal : Option Refusal) (report : List ℕ) (files : Files) (out err : SinkChange) → report ≢ [] → GetsSome out report → SinkFailed out → err.bytes_after ≡ err.bytes_before → DidNotFail err → IsPrinted (outcome_of refusal report files) OutFault out err
+pub not_printed : (refusal : Option Refusal) (report : List ℕ) (files : Files) (out err : SinkChange) → report ≢ [] → GetsPrefix out report → SinkFailed out → err.bytes_after ≡ err.bytes_before → DidNotFail err → IsPrinted (outcome_of refusal report files) OutFault out err
 not_printed refusal report files out err some gets failed same kept = record {
   which = inl (record { some = some; failed = failed }, subst (λ (t : Option (List ℕ)). Adds err.bytes_before t []) (sym same) (Adds-none err.bytes_before), kept);
   out_gets = gets;
-  err_gets = subst (λ (t : Option (List ℕ)). AddsSome err.bytes_before t (line_of refusal)) (sym same) (none_some err.bytes_before (line_of refusal));
+  err_gets = subst (λ (t : Option (List ℕ)). AddsPrefix err.bytes_before t (line_of refusal)) (sym same) (none_some err.bytes_before (line_of refusal));
 }
 
 pub printed_front : {T E : Type 0} (refusal : Option Refusal) (report bytes : List ℕ) (files : Files) (out err : SinkChange) (e : E) → bytes ≡ report → Writes {T = T} bytes out (Err e) → bytes ≢ []
-    → err.bytes_after ≡ err.bytes_before → DidNotFail err → IsOutFault (outcome_of refusal report files) out err
+    → err.bytes_after ≡ err.bytes_before → DidNotFail err → IsSingleSinkFault (outcome_of refusal report files) out err
 printed_front {T} refusal report bytes files out err e is w some same kept =
     let got : Writes {T = T} report out (Err e) = subst (λ (b : List ℕ). Writes {T = T} b out (Err e)) is w in
     not_printed refusal report files out err (λ none. some (is ∙ none)) got.err got.cause.cause same kept

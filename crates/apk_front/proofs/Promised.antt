@@ -8,7 +8,7 @@ use Rattle.command_core.specs.Command.{CommandLine}
 use Rattle.command_core.specs.declared.command.Applet.{Applet}
 use Rattle.command_core.specs.declared.command.Applet.TheVariants.{Demo, Mkndx, Mkpkg}
 use Rattle.journal_core.specs.Staged.{unstaged_files}
-use Rattle.outcome.specs.Effect.{Effect, Changes, Makes, AsksRoot, does_only_read, effect_by, effect_of}
+use Rattle.outcome.specs.Effect.{Effect, Changes, Makes, AsksRoot, does_only_read, effect_of_arguments, effect_of}
 use Rattle.engine_core.specs.journal_commit.Asked.{TargetsAreAccepted, HasAcceptedTargets}
 use Rattle.words_core.specs.Grammar.{command_of}
 use Rattle.apk_front.specs.Moments.{TargetsAreAcceptedThroughout}
@@ -62,5 +62,5 @@ changes_not_read effect reads changes = let by : does_only_read Changes ≡ true
 -- ---- by the command that is read
 
 pub asked_by_command : (accepts : Option (List ℕ) → List ℕ → Type 0) (words : List (List ℕ)) (command : CommandLine) (old now : History) → command_of words ≡ Ok command
-    → (effect_of command.applet ≡ Changes → TargetsAreAcceptedThroughout accepts old now) → effect_by (command_of words) ≡ Changes → TargetsAreAcceptedThroughout accepts old now
-asked_by_command accepts words command old now is asked changes = asked (ap effect_by (sym is) ∙ changes)
+    → (effect_of command.applet ≡ Changes → TargetsAreAcceptedThroughout accepts old now) → effect_of_arguments (command_of words) ≡ Changes → TargetsAreAcceptedThroughout accepts old now
+asked_by_command accepts words command old now is asked changes = asked (ap effect_of_arguments (sym is) ∙ changes)

@@ -6,14 +6,14 @@ use Rattle.std.proofs.lemmas.List.Elements.{All-nil, All-weaker}
 use Rattle.std.proofs.lemmas.Bool.{false≢true}
 use Rattle.std.proofs.lemmas.Slice.Eq.{bytes_eq-Decides}
 use Rattle.base_core.specs.Calls.{HoldsNow, IfObservable}
-use Rattle.base_core.specs.Crash.{IsCrashImageBy, Since}
+use Rattle.base_core.specs.Crash.{IsCrashImageUnderMap, Since}
 use Rattle.base_core.specs.Files.{Files, NameMap, drop_name}
 use Rattle.base_core.proofs.Undone.{left_only, read_may_be_left}
-use Rattle.base_core.specs.Tree.{File, TreeState, bytes_at, files_by, files_of}
+use Rattle.base_core.specs.Tree.{File, TreeState, bytes_of_file_number, files_under_map, files_of}
 use Rattle.base_core.specs.Undone.{IsDurable, IsCrashMap}
 use Rattle.base_core.specs.declared.tree.TreeFault.{TreeFault}
 use Rattle.adb_dump.specs.adb_schema.Reserved.{is_reserved}
-use Rattle.journal_core.specs.Kept.{IsSyncedAt, KeepsMapsExcept, ShownNamesAreDurable}
+use Rattle.journal_core.specs.Kept.{IsSyncedAt, KeepsCrashMapsExcept, ShownNamesAreDurable}
 use Rattle.journal_core.specs.Quiet.{StateIsUnchanged}
 use Rattle.journal_core.specs.Recovery.{EachCrashLeaves, StateDependsOn, intent_name, is_staged, state_of}
 use Rattle.journal_core.specs.Replacing.{CanAddOutputNames, IgnoresScratch, IsMomentOfReplacing, replaced_files, scratch_of}
@@ -22,7 +22,7 @@ use Rattle.outcome.specs.Effect.{Effect, Makes}
 use Rattle.outcome.specs.Make.{make_outcome}
 use Rattle.outcome.specs.Outcome.{Outcome, commit_report, just_refusal, just_report}
 use Rattle.report_core.specs.declared.refusal.Refusal.TheVariants.{Reserved}
-use Rattle.apk_front.specs.Moments.{AreOldOrLeadToOutcome, CanAddOutputNamesIfAny, IgnoresScratchOf, IsDurableState, IsReadDuringWork, MustLastWithoutRecovery, NamesAreDurableWithoutIntentExcept, ignored_but, is_draft_name, output_names}
+use Rattle.apk_front.specs.Moments.{AreOldOrLeadToOutcome, CanAddOutputNamesIfAny, IgnoresScratchOf, IsDurableState, IsStateDuringRun, MustOutcomeBeDurableWithoutRecovery, NamesAreDurableWithoutIntentExcept, ignored_except_output, is_draft_name, output_names}
 use Rattle.apk_front.specs.Runs.{AreReadDuringWork, IsRun}
 use Rattle.apk_front.specs.Verdicts.{Reports, as_outcome}
 use Rattle.apk_front.specs.declared.answer.Verdict.{Verdict}
@@ -58,7 +58,7 @@ abbrev pub IsEventWithoutCommit : (Outcome → Type 0) → Judged → TreeState 
 IsEventWithoutCommit IsOne judged v = (o : Outcome) → IsOne o → OnOk judged (Leaves (files_of v) o)
 
 -- what commits nothing is settled where it was so before
-pub settled_before : (ignored : List ℕ → Bool) (v : TreeState) (o : Outcome) → o.commits ≡ false → MustLastWithoutRecovery ignored v o → EachCrashLeaves ignored (files_of v) v
+pub settled_before : (ignored : List ℕ → Bool) (v : TreeState) (o : Outcome) → o.commits ≡ false → MustOutcomeBeDurableWithoutRecovery ignored v o → EachCrashLeaves ignored (files_of v) v
 settled_before ignored v o none (inl commits) = absurd (false≢true (sym none ∙ commits))
 settled_before ignored v o none (inr before) = before
 
@@ -125,7 +125,7 @@ free_reports output report file name verdict is free same_outcome files =
 
 -- what a crash leaves by one map has the state of the files of that map
 abbrev pub ImageHasState : Type 0
-ImageHasState = (ignored : List ℕ → Bool) (v : TreeState) → IsDurable (StateDependsOn ignored) v → (map : NameMap) → IsCrashMap v map → (image : Files) → IsCrashImageBy v map image → state_of ignored image ≡ state_of ignored (files_by v map)
+ImageHasState = (ignored : List ℕ → Bool) (v : TreeState) → IsDurable (StateDependsOn ignored) v → (map : NameMap) → IsCrashMap v map → (image : Files) → IsCrashImageUnderMap v map image → state_of ignored image ≡ state_of ignored (files_under_map v map)
 
 only_map : (w : TreeState) (map : NameMap) → w.older ≡ [] → IsCrashMap w map → map ≡ w.names
 only_map w map one left = left_only w one map left
@@ -133,36 +133,36 @@ only_map w map one left = left_only w one map left
 scratch_gone : (name file : List ℕ) (files : Files) (q : List ℕ) → bytes_eq q name ≡ false → bytes_eq q (scratch_of name) ≡ true → replaced_files name file files q ≡ None
 scratch_gone name file files q other scratch = ap (λ b. if b then Some file else drop_name files (scratch_of name) q) other ∙ ap (λ b. if b then None else files q) scratch
 
-none_read : (files : ℕ → File) (o : Option ℕ) (n : ℕ) → o ≡ Some n → bytes_at files o ≡ None → ⊥
+none_read : (files : ℕ → File) (o : Option ℕ) (n : ℕ) → o ≡ Some n → bytes_of_file_number files o ≡ None → ⊥
 none_read files None n is none = cc
 none_read files (Some k) n is none = cc
 
 module _ (ignored : List ℕ → Bool) (name file : List ℕ) (files : Files) (w : TreeState) (is_durable : IsDurable (StateDependsOn ignored) w) (synced : IsSyncedAt name w) (reads : files_of w ≡ replaced_files name file files) where
-  rests_too : (q : List ℕ) (F : Files) → bytes_eq q name ≡ false → bytes_eq q (scratch_of name) ≡ false → StateDependsOn (ignored_but (Some name) ignored) F q → StateDependsOn ignored F q
+  rests_too : (q : List ℕ) (F : Files) → bytes_eq q name ≡ false → bytes_eq q (scratch_of name) ≡ false → StateDependsOn (ignored_except_output (Some name) ignored) F q → StateDependsOn ignored F q
   rests_too q F other another (inl intent) = inl intent
   rests_too q F other another (inr (inl shown)) =
       inr (inl (sym (ap (λ b. is_staged q || (if b || bytes_eq q (scratch_of name) then false else ignored q)) other ∙ ap (λ b. is_staged q || (if b then false else ignored q)) another) ∙ shown))
   rests_too q F other another (inr (inr place)) = inr (inr place)
 
-  synced_map : (map : NameMap) → IsCrashMap w map → (q : List ℕ) (n : ℕ) (a b : Bool) → bytes_eq q name ≡ a → bytes_eq q (scratch_of name) ≡ b → StateDependsOn (ignored_but (Some name) ignored) (files_by w map) q → map q ≡ Some n → (w.files n).synced ≡ true
+  synced_map : (map : NameMap) → IsCrashMap w map → (q : List ℕ) (n : ℕ) (a b : Bool) → bytes_eq q name ≡ a → bytes_eq q (scratch_of name) ≡ b → StateDependsOn (ignored_except_output (Some name) ignored) (files_under_map w map) q → map q ≡ Some n → (w.files n).synced ≡ true
   synced_map map among q n true b is_name is_scratch rests at = synced.file n (ap w.names (sym ((bytes_eq-Decides q name).0 is_name)) ∙ sym (ap (λ (m : NameMap). m q) (only_map w map synced.one_map among)) ∙ at)
   synced_map map among q n false true is_name is_scratch rests at =
       absurd (none_read w.files (w.names q) n (sym (ap (λ (m : NameMap). m q) (only_map w map synced.one_map among)) ∙ at) (ap (λ (f : Files). f q) reads ∙ scratch_gone name file files q is_name is_scratch))
-  synced_map map among q n false false is_name is_scratch rests at = is_durable.each map among q n (rests_too q (files_by w map) is_name is_scratch rests) at
+  synced_map map among q n false false is_name is_scratch rests at = is_durable.each map among q n (rests_too q (files_under_map w map) is_name is_scratch rests) at
 
-  counts_again : IsDurable (StateDependsOn (ignored_but (Some name) ignored)) w
+  counts_again : IsDurable (StateDependsOn (ignored_except_output (Some name) ignored)) w
   counts_again = record { each = λ map among q n rests at. synced_map map among q n (bytes_eq q name) (bytes_eq q (scratch_of name)) refl refl rests at }
 
-  rest_at : ImageHasState → IsDurableState (ignored_but (Some name) ignored) (replaced_files name file files) w
+  rest_at : ImageHasState → IsDurableState (ignored_except_output (Some name) ignored) (replaced_files name file files) w
   rest_at law = record {
     is_durable = counts_again;
     settled = λ image (map, among, by).
-        law (ignored_but (Some name) ignored) w counts_again map among image by
-        ∙ ap (λ (m : NameMap). state_of (ignored_but (Some name) ignored) (files_by w m)) (only_map w map synced.one_map among) ∙ ap (state_of (ignored_but (Some name) ignored)) reads;
+        law (ignored_except_output (Some name) ignored) w counts_again map among image by
+        ∙ ap (λ (m : NameMap). state_of (ignored_except_output (Some name) ignored) (files_under_map w m)) (only_map w map synced.one_map among) ∙ ap (state_of (ignored_except_output (Some name) ignored)) reads;
   }
 
 rest_now : ImageHasState → (ignored : List ℕ → Bool) (name file : List ℕ) (files : Files) (judged : Judged) (now : History) → HoldsNow now (IsDurable (StateDependsOn ignored)) → OnOk judged (HoldsNow now (IsSyncedAt name)) → OnOk judged (HoldsNow now (λ w. files_of w ≡ replaced_files name file files))
-    → OnOk judged (HoldsNow now (IsDurableState (ignored_but (Some name) ignored) (replaced_files name file files)))
+    → OnOk judged (HoldsNow now (IsDurableState (ignored_except_output (Some name) ignored) (replaced_files name file files)))
 rest_now law ignored name file files (Err e) now is_durable synced reads = tt
 rest_now law ignored name file files (Ok verdict) [] is_durable synced reads = absurd is_durable
 rest_now law ignored name file files (Ok verdict) (w ∷ now) is_durable synced reads = rest_at ignored name file files w is_durable synced reads law
@@ -174,11 +174,11 @@ since_weaker P Q old now f since = record { added = since.added; is = since.is; 
 off_scratch : (name q : List ℕ) → is_draft_name Makes (Some name) q ≡ false → q ≢ scratch_of name
 off_scratch name q off is = false≢true (sym off ∙ (bytes_eq-Decides q (scratch_of name)).1 is)
 
-drafting : (name file : List ℕ) (files : Files) (w : TreeState) → ReadsOldOrReplaced name file files w → IsReadDuringWork Makes (Some name) (replaced_files name file files) files w
+drafting : (name file : List ℕ) (files : Files) (w : TreeState) → ReadsOldOrReplaced name file files w → IsStateDuringRun Makes (Some name) (replaced_files name file files) files w
 drafting name file files w (inl others) = inl (λ q off. others q (off_scratch name q off))
 drafting name file files w (inr is) = inr (inr is)
 
-names_kept : (output : Option (List ℕ)) (u w : TreeState) → ShownNamesAreDurable u → KeepsMapsExcept (output_names output) u w → NamesAreDurableWithoutIntentExcept output w
+names_kept : (output : Option (List ℕ)) (u w : TreeState) → ShownNamesAreDurable u → KeepsCrashMapsExcept (output_names output) u w → NamesAreDurableWithoutIntentExcept output w
 names_kept output u w last keeps none map among q off no_intent unstaged =
     let (was, is_was, same) = keeps map among in
     let (own, is_own, own_same) = keeps w.names (read_may_be_left w) in
@@ -192,7 +192,7 @@ pub record IsReplaced (name file : List ℕ) (judged : Judged) (v : TreeState) (
   pub reads : Since (ReadsOldOrReplaced name file (files_of v)) old now
   pub leaves : OnOk judged (HoldsNow now (λ w. files_of w ≡ replaced_files name file (files_of v)))
   pub synced : OnOk judged (HoldsNow now (IsSyncedAt name))
-  pub others : Since (KeepsMapsExcept (name ∷ scratch_of name ∷ []) v) old now
+  pub others : Since (KeepsCrashMapsExcept (name ∷ scratch_of name ∷ []) v) old now
 
 free_run : ImageHasState → (output : Option (List ℕ)) (report file name : List ℕ) (judged : Judged) (v : TreeState) (old now : History) → output ≡ Some name → is_reserved name ≡ false
     → IsReplaced name file judged v old now → IsRun (IsMade output report file v) Makes output judged v old now
@@ -206,13 +206,13 @@ free_run law output report file name judged v old now is free done =
       is_durable = λ ignored is_durable hides. done.is_durable ignored is_durable (hidden ignored hides);
       settled = λ ignored o is_durable hides one lasts. subst (λ (f : Files). OnOk judged (HoldsNow now (EachCrashLeaves ignored f))) (left o one) (done.settled ignored is_durable (hidden ignored hides));
       durable_state = λ ignored o is_durable hides one commits.
-          subst (λ (f : Files). OnOk judged (HoldsNow now (IsDurableState (ignored_but output ignored) f))) (left o one)
-          (subst (λ (out : Option (List ℕ)). OnOk judged (HoldsNow now (IsDurableState (ignored_but out ignored) (replaced_files name file (files_of v))))) (sym is)
+          subst (λ (f : Files). OnOk judged (HoldsNow now (IsDurableState (ignored_except_output output ignored) f))) (left o one)
+          (subst (λ (out : Option (List ℕ)). OnOk judged (HoldsNow now (IsDurableState (ignored_except_output out ignored) (replaced_files name file (files_of v))))) (sym is)
           (rest_now law ignored name file (files_of v) judged now (done.is_durable ignored is_durable (hidden ignored hides)) done.synced done.leaves));
       reads = subst (λ (out : Option (List ℕ)). AreReadDuringWork (IsMade output report file v) Makes out v old now) (sym is)
-          (inr (commit_report (replaced_files name file (files_of v)) report, sym same, refl, since_weaker (ReadsOldOrReplaced name file (files_of v)) (IsReadDuringWork Makes (Some name) (replaced_files name file (files_of v)) (files_of v)) old now (drafting name file (files_of v)) done.reads));
+          (inr (commit_report (replaced_files name file (files_of v)) report, sym same, refl, since_weaker (ReadsOldOrReplaced name file (files_of v)) (IsStateDuringRun Makes (Some name) (replaced_files name file (files_of v)) (files_of v)) old now (drafting name file (files_of v)) done.reads));
       last = subst (λ (out : Option (List ℕ)). ShownNamesAreDurable v → Since (NamesAreDurableWithoutIntentExcept out) old now) (sym is)
-          (λ last. since_weaker (KeepsMapsExcept (name ∷ scratch_of name ∷ []) v) (NamesAreDurableWithoutIntentExcept (Some name)) old now (λ w. names_kept (Some name) v w last) done.others);
+          (λ last. since_weaker (KeepsCrashMapsExcept (name ∷ scratch_of name ∷ []) v) (NamesAreDurableWithoutIntentExcept (Some name)) old now (λ w. names_kept (Some name) v w last) done.others);
       leaves = λ o one. subst (λ (f : Files). OnOk judged (HoldsNow now (λ w. files_of w ≡ f))) (left o one) done.leaves;
       idle = λ o one no. absurd (false≢true (sym no ∙ ap (λ (x : Outcome). x.commits) (one ∙ same)));
     }
@@ -227,7 +227,7 @@ abbrev StaysDurable : List ℕ → History → History → Type 0
 StaysDurable name old now = IfObservable old (λ v. (ignored : List ℕ → Bool) → IsDurable (StateDependsOn ignored) v → IgnoresScratch ignored name → HoldsNow now (IsDurable (StateDependsOn ignored)))
 
 abbrev StaysElsewhere : List ℕ → History → History → Type 0
-StaysElsewhere name old now = IfObservable old (λ v. Since (KeepsMapsExcept (name ∷ scratch_of name ∷ []) v) old now)
+StaysElsewhere name old now = IfObservable old (λ v. Since (KeepsCrashMapsExcept (name ∷ scratch_of name ∷ []) v) old now)
 
 pub written_run : ImageHasState → (output : Option (List ℕ)) (report file name : List ℕ) (verdict : Verdict) (old now : History) → output ≡ Some name → is_reserved name ≡ false
     → ChangesHistory name file old now → StaysDurable name old now → IsReadOnTheWay name file old now

@@ -3,9 +3,9 @@ use Rattle.std.proofs.Common.{◌≡◌, inl, inr, ⊎_elim, ℕ, Bool, true, fa
 use Rattle.std.specs.Prelude.{if◌then◌else◌}
 use Rattle.std.proofs.lemmas.Bool.{false≢true}
 use Rattle.base_core.specs.Files.{Files}
-use Rattle.base_core.specs.Tree.{TreeState, bytes_at, files_of}
+use Rattle.base_core.specs.Tree.{TreeState, bytes_of_file_number, files_of}
 use Rattle.journal_core.specs.Kept.{IsJournalName}
-use Rattle.journal_core.specs.Recovery.{intent_at, intent_name, is_staged, recovered_files, recovered_files_by}
+use Rattle.journal_core.specs.Recovery.{intent_in_file, intent_name, is_staged, recovered_files, files_after_intent}
 use Rattle.journal_core.specs.Staged.{unstaged_files}
 use Rattle.outcome.specs.Effect.{Effect, Computes, OnlyReadsFiles, AsksRoot, Makes, Changes, does_recover}
 use Rattle.outcome.specs.Work.{work_files}
@@ -19,7 +19,7 @@ stays : (files : Files) → NoneWaits files → unstaged_files files ≡ files
 stays files none i q = by (is_staged q) refl i
   where
     same : recovered_files files ≡ files
-    same = ap (λ (o : Option (List ℕ)). recovered_files_by (intent_at o) files) (none intent_name (inl refl))
+    same = ap (λ (o : Option (List ℕ)). files_after_intent (intent_in_file o) files) (none intent_name (inl refl))
 
     by : (b : Bool) → is_staged q ≡ b → unstaged_files files q ≡ files q
     by true is = ap (λ (b : Bool). if b then None else recovered_files files q) is ∙ sym (none q (inr is))
@@ -27,7 +27,7 @@ stays files none i q = by (is_staged q) refl i
 
 no_staged_intent : (effect : Effect) (v : TreeState) → does_recover effect ≡ true → HasNothingToRecover effect v → NoneWaits (files_of v)
 no_staged_intent effect v recovers (inl not_so) q waits = absurd (false≢true (sym not_so ∙ recovers))
-no_staged_intent effect v recovers (inr (absent, empty)) q waits = ap (bytes_at v.files) (⊎_elim (λ is. ap v.names is ∙ absent) (λ staged. empty q staged) waits)
+no_staged_intent effect v recovers (inr (absent, empty)) q waits = ap (bytes_of_file_number v.files) (⊎_elim (λ is. ap v.names is ∙ absent) (λ staged. empty q staged) waits)
 
 pub same_files : (effect : Effect) (v w : TreeState) → HasNothingToRecover effect v → (does_recover effect ≡ true) × IsRecovering v w → files_of w ≡ files_of v
 same_files effect v w nothing (recovers, moment) =

@@ -12,12 +12,12 @@ use Rattle.command_core.specs.Command.{CommandLine}
 use Rattle.journal_core.specs.Staged.{AreReplayPathsFree}
 use Rattle.journal_core.specs.declared.fault.RecoverFault.{RecoverFault}
 use Rattle.journal_core.specs.declared.fault.RecoverFault.TheVariants as Faults
-use Rattle.outcome.specs.Commands.{IsPossibleOutcomeOf, IsPossibleOutcomeOn}
+use Rattle.outcome.specs.Commands.{IsPossibleOutcomeWithoutDemo, IsPossibleOutcomeAfterRecovery}
 use Rattle.outcome.specs.Effect.{Effect, does_recover}
 use Rattle.outcome.specs.Outcome.{Outcome}
 use Rattle.apk_front.specs.Moments.{AreOutcomePathsFree}
-use Rattle.apk_front.specs.RunContracts.{IsVerdictCounted}
-use Rattle.apk_front.specs.Verdicts.{ReportsOne}
+use Rattle.apk_front.specs.RunContracts.{IsVerdictExplainedByCounts}
+use Rattle.apk_front.specs.Verdicts.{ReportsOneOfOutcomes}
 use Rattle.apk_front.specs.declared.answer.Verdict.{Verdict}
 use Rattle.apk_front.proofs.Behind.{IsRefused}
 use Rattle.apk_front.proofs.Carried.{look_memory}
@@ -26,15 +26,15 @@ use Rattle.apk_front.proofs.Runs.{History, Judged, on_ok}
 -- ---- no call was made
 
 -- a verdict without a call
-pub counted_verdict : (verdict : Verdict) (a : Counts) → IsVerdictCounted a a (Ok verdict)
+pub counted_verdict : (verdict : Verdict) (a : Counts) → IsVerdictExplainedByCounts a a (Ok verdict)
 counted_verdict verdict a = record { goes_on = goes_on_same a; disk = λ is. absurd (cc); kept = no_fault_same a; memory = λ is. no_fault_same a }
 
 -- out of memory before the first call
-pub counted_memory : (a : Counts) → IsVerdictCounted a a (Err NoMemory)
+pub counted_memory : (a : Counts) → IsVerdictExplainedByCounts a a (Err NoMemory)
 counted_memory a = record { goes_on = goes_on_same a; disk = λ is. absurd (cc); kept = tt; memory = λ is. no_fault_same a }
 
 -- whatever was judged without a call, but no I/O error
-pub counted_idle : (judged : Judged) (a : Counts) → (judged ≡ Err Disk → ⊥) → IsVerdictCounted a a judged
+pub counted_idle : (judged : Judged) (a : Counts) → (judged ≡ Err Disk → ⊥) → IsVerdictExplainedByCounts a a judged
 counted_idle judged a never = record { goes_on = goes_on_same a; disk = λ is. absurd (never is); kept = kept judged; memory = λ is. no_fault_same a }
   where
     kept : (judged : Judged) → OnOk judged (IsNoFault a a)
@@ -48,10 +48,10 @@ proper_idle Room (v ∷ rest) n = λ room. refl
 
 -- ---- calls that only read, and calls before the run
 
-pub counted_reads : (judged : Judged) (old new : History) (a b : Counts) → OnlyReads Disk old new a b judged → IsVerdictCounted a b judged
+pub counted_reads : (judged : Judged) (old new : History) (a b : Counts) → OnlyReads Disk old new a b judged → IsVerdictExplainedByCounts a b judged
 counted_reads judged old new a b reads = record { goes_on = reads.goes_on; disk = reads.disk; kept = reads.kept; memory = look_memory judged old new a b reads }
 
-pub counted_after : (judged : Judged) (a b c : Counts) → CountsOnlyRise a b → IsNoFault a b → IsVerdictCounted b c judged → IsVerdictCounted a c judged
+pub counted_after : (judged : Judged) (a b c : Counts) → CountsOnlyRise a b → IsNoFault a b → IsVerdictExplainedByCounts b c judged → IsVerdictExplainedByCounts a c judged
 counted_after judged a b c on none counted = record {
   goes_on = goes_on_twice a b c on counted.goes_on;
   disk = λ is. cause_later a b c on (counted.disk is);
@@ -65,7 +65,7 @@ pub counted_unrecovered : (fault : RecoverFault) (judged : Judged) (a b : Counts
     → (fault ≡ Faults.Disk → HasCause a b) → (fault ≡ Faults.Memory → IsNoFault a b)
     → ((cause : Cause) → fault ≡ Faults.IntentBad cause → IsNoFault a b)
     → IfOk judged (IsRefused fault) → (IsErrOf judged Disk → fault ≡ Faults.Disk) → (IsErrOf judged NoMemory → fault ≡ Faults.Memory)
-    → IsVerdictCounted a b judged
+    → IsVerdictExplainedByCounts a b judged
 counted_unrecovered fault judged a b on disk memory bad refused by_disk by_memory = record {
   goes_on = on;
   disk = λ is. disk (by_disk is);
@@ -84,7 +84,7 @@ unrecovered_proper effect output IsOne (v ∷ rest) P recovering proper = λ fre
 
 -- ---- the run after it
 
-pub after_reads : (command : CommandLine) (judged : Judged) → IfOk judged (λ verdict. ReportsOne (IsPossibleOutcomeOn command) verdict)
-    → IfOk judged (λ verdict. ReportsOne (IsPossibleOutcomeOf command) verdict)
+pub after_reads : (command : CommandLine) (judged : Judged) → IfOk judged (λ verdict. ReportsOneOfOutcomes (IsPossibleOutcomeAfterRecovery command) verdict)
+    → IfOk judged (λ verdict. ReportsOneOfOutcomes (IsPossibleOutcomeWithoutDemo command) verdict)
 after_reads command (Ok verdict) (outcome, one, reports) = (outcome, inl one, reports)
 after_reads command (Err e) found = tt

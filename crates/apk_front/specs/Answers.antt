@@ -5,26 +5,26 @@ use Rattle.std.specs.Prelude.{◌≡◌, ◌≢◌, ◌⊎◌, ◌<◌, ℕ, ◌
 use Rattle.base_core.specs.Calls.{HoldsNow}
 use Rattle.base_core.specs.Faults.{Counts, HasCause, IsNoFault, Rose}
 use Rattle.base_core.specs.Files.{Files}
-use Rattle.base_core.specs.Sink.{SinkChange, Gets, GetsSome, SinkFailed}
+use Rattle.base_core.specs.Sink.{SinkChange, Gets, GetsPrefix, SinkFailed}
 use Rattle.base_core.specs.Tree.{TreeState, files_of}
 use Rattle.outcome.specs.Outcome.{Outcome}
 use Rattle.outcome.specs.Words.{IsOutcome}
-use Rattle.report_core.specs.Texts.{tree_line, memory_line}
+use Rattle.report_core.specs.Texts.{tree_failure_line, out_of_memory_line}
 use Rattle.report_core.specs.declared.refusal.Refusal.{Refusal}
-use Rattle.words_core.specs.Grammar.{command_of, line_start}
+use Rattle.words_core.specs.Grammar.{command_of, start_of_command_line}
 use Rattle.apk_front.specs.declared.answer.Answer.{Answer}
 use Rattle.apk_front.specs.declared.answer.Answer.TheVariants.{Ok, Refused, TreeFault, OutFault, Memory}
 
 -- ---- the answer of an outcome
 
 -- the answer of a command that reached its end: it is refused if there is a refusal, and done otherwise
-abbrev pub answer_by : Option Refusal → Answer
-answer_by None = Ok
-answer_by (Some refusal) = Refused refusal
+abbrev pub answer_for_refusal : Option Refusal → Answer
+answer_for_refusal None = Ok
+answer_for_refusal (Some refusal) = Refused refusal
 
 -- the answer of an outcome; its bytes and files do not matter
 abbrev pub answer_of : Outcome → Answer
-answer_of outcome = answer_by outcome.refusal
+answer_of outcome = answer_for_refusal outcome.refusal
 
 -- ---- what is printed
 
@@ -33,8 +33,8 @@ abbrev pub DidNotFail : SinkChange → Type 0
 DidNotFail sink = IsNoFault sink.before sink.after
 
 -- a sink gets a whole line, or a prefix of the line if the sink failed
-abbrev pub GetsLine : SinkChange → List ℕ → Type 0
-GetsLine sink line = (Gets sink line × DidNotFail sink) ⊎ (GetsSome sink line × SinkFailed sink)
+abbrev pub GetsLineOrPrefix : SinkChange → List ℕ → Type 0
+GetsLineOrPrefix sink line = (Gets sink line × DidNotFail sink) ⊎ (GetsPrefix sink line × SinkFailed sink)
 
 -- a sink failed that had at least one byte to get
 pub record FailedWithBytes (sink : SinkChange) (bytes : List ℕ) : Type 0 where
@@ -50,19 +50,19 @@ pub record IsAnsweredInFull (outcome : Outcome) (answer : Answer) (out err : Sin
   pub err_kept : DidNotFail err
 
 -- just one sink failed while an outcome was printed
-pub record IsOutFault (outcome : Outcome) (out err : SinkChange) : Type 0 where
+pub record IsSingleSinkFault (outcome : Outcome) (out err : SinkChange) : Type 0 where
   -- out failed, and then nothing is printed on err; or err failed, after the whole report on out
   pub which :
       (FailedWithBytes out outcome.out × Gets err [] × DidNotFail err)
       ⊎ (FailedWithBytes err outcome.err × Gets out outcome.out × DidNotFail out)
-  pub out_gets : GetsSome out outcome.out
-  pub err_gets : GetsSome err outcome.err
+  pub out_gets : GetsPrefix out outcome.out
+  pub err_gets : GetsPrefix err outcome.err
 
 -- no outcome was printed: only this line on err; out got nothing, and did not fail
 pub record PrintsOnlyErrorLine (line : List ℕ) (out err : SinkChange) : Type 0 where
   pub out_gets : Gets out []
   pub out_kept : DidNotFail out
-  pub err_gets : GetsLine err line
+  pub err_gets : GetsLineOrPrefix err line
 
 -- ---- the answer
 
@@ -78,10 +78,10 @@ IsAnswerOf IsOne Leaves tree_failed (Refused refusal) out err =
     × IsAnsweredInFull outcome (Refused refusal) out err
     × Leaves outcome
 IsAnswerOf IsOne Leaves tree_failed OutFault out err =
-    (outcome : Outcome) × IsOne outcome × IsOutFault outcome out err × Leaves outcome
+    (outcome : Outcome) × IsOne outcome × IsSingleSinkFault outcome out err × Leaves outcome
 IsAnswerOf IsOne Leaves tree_failed TreeFault out err = tree_failed
-    × PrintsOnlyErrorLine tree_line out err
-IsAnswerOf IsOne Leaves tree_failed Memory out err = PrintsOnlyErrorLine memory_line out err
+    × PrintsOnlyErrorLine tree_failure_line out err
+IsAnswerOf IsOne Leaves tree_failed Memory out err = PrintsOnlyErrorLine out_of_memory_line out err
 
 -- the files as read after a run are its outcome's
 abbrev pub LeavesFiles : List TreeState → Outcome → Type 0
@@ -101,11 +101,11 @@ abbrev pub HasCauses : Answer → Counts → Counts → SinkChange → SinkChang
 HasCauses Ok before after out err = IsNoFault before after × DidNotFail out × DidNotFail err
 HasCauses (Refused refusal) before after out err =
     IsNoFault before after × DidNotFail out × DidNotFail err
-HasCauses TreeFault before after out err = HasCause before after × PrintsOnlyErrorLine tree_line out err
+HasCauses TreeFault before after out err = HasCause before after × PrintsOnlyErrorLine tree_failure_line out err
 HasCauses OutFault before after out err =
     IsNoFault before after
     × ((SinkFailed out × DidNotFail err) ⊎ (SinkFailed err × DidNotFail out))
-HasCauses Memory before after out err = IsNoFault before after × PrintsOnlyErrorLine memory_line out err
+HasCauses Memory before after out err = IsNoFault before after × PrintsOnlyErrorLine out_of_memory_line out err
 
 -- a run in which no count of faults rose: neither the tree's, nor a sink's
 pub record IsFaultless (before after : Counts) (out err : SinkChange) : Type 0 where
@@ -152,4 +152,4 @@ IsOutcomeUnlessMemory words files Leaves Memory before after out err = Unit {0}
 -- whether the arguments name an applet after the options that precede it, or are a command without one,
 -- which asks for help or for the version
 abbrev pub name_a_command : List (List ℕ) → Bool
-name_a_command words = is_ok (line_start words) || is_ok (command_of words)
+name_a_command words = is_ok (start_of_command_line words) || is_ok (command_of words)

@@ -17,9 +17,9 @@ use Rattle.make_core.specs.make_info.Reads.{Reads}
 use Rattle.make_core.specs.make_info.declared.fault.MakeFault.{MakeFault}
 use Rattle.make_core.specs.make_info.declared.fault.MakeFault.TheVariants.{Disk, Memory}
 use Rattle.make_core.specs.make_package.Making.{made_package}
-use Rattle.make_core.specs.package_files.Sources.{values_with}
+use Rattle.make_core.specs.package_files.Sources.{values_of_letter}
 use Rattle.outcome.specs.Commands.{reads_in}
-use Rattle.outcome.specs.Dump.{form_fault}
+use Rattle.outcome.specs.Dump.{head_or_shape_fault}
 use Rattle.outcome.specs.Make.{AreNamesBelowOption, mkndx, mkpkg}
 use Rattle.outcome.specs.Outcome.{Outcome}
 
@@ -32,24 +32,24 @@ IsDumpFault (ReadFaults.Bad cause) text = text ≡ Err cause
 IsDumpFault ReadFaults.Memory text = Unit {0}
 
 -- why the first block is refused for its framing, its head or its shape, if it is
-abbrev pub first_form_fault : Which → Reading → Option Cause
-first_form_fault which done = None
-first_form_fault which (fault c) = Some c
-first_form_fault which (more b at r) = form_fault which b.payload
+abbrev pub first_block_head_or_shape_fault : Which → Reading → Option Cause
+first_block_head_or_shape_fault which done = None
+first_block_head_or_shape_fault which (fault c) = Some c
+first_block_head_or_shape_fault which (more b at r) = head_or_shape_fault which b.payload
 
 -- a first block with this payload passed its tests, and the reader that was before it is after it
-abbrev pub IsShapedFirst : Which → List ℕ → Reading → Reading → Type 0
-IsShapedFirst which payload done later = ⊥
-IsShapedFirst which payload (fault c) later = ⊥
-IsShapedFirst which payload (more b at r) later =
-    (payload ≡ b.payload) × (form_fault which b.payload ≡ None) × (r ≡ later)
+abbrev pub IsAfterShapedFirstBlock : Which → List ℕ → Reading → Reading → Type 0
+IsAfterShapedFirstBlock which payload done later = ⊥
+IsAfterShapedFirstBlock which payload (fault c) later = ⊥
+IsAfterShapedFirstBlock which payload (more b at r) later =
+    (payload ≡ b.payload) × (head_or_shape_fault which b.payload ≡ None) × (r ≡ later)
 
 -- ---- a container that is made
 
 -- what was made, or why it was not, without where its bytes are in memory
-abbrev pub made_in : Result (Vec ℕ Global) MakeFault → Result (List ℕ) MakeFault
-made_in (Ok file) = Ok file.items
-made_in (Err why) = Err why
+abbrev pub made_file_bytes : Result (Vec ℕ Global) MakeFault → Result (List ℕ) MakeFault
+made_file_bytes (Ok file) = Ok file.items
+made_file_bytes (Err why) = Err why
 
 -- whether an I/O error of the tree or running out of memory stopped the making, which then refuses
 -- nothing
@@ -76,7 +76,7 @@ OnMade (Err why) Means = is_disk_or_memory why ≡ false → Means (Err why)
 pub record IsPackageMade (command : CommandLine) (files : Files)
     (made : Result (List ℕ) MakeFault) : Type 0 where
   pub names : List (List ℕ)
-  pub listing : AreNamesBelowOption (values_with FILES command.values) files names
+  pub listing : AreNamesBelowOption (values_of_letter FILES command.values) files names
   pub is : made_package command names (reads_in files) ≡ made
 
 -- what `mkndx` makes of a command and these files, or why it makes none
@@ -87,7 +87,7 @@ IsIndexMade command files made = made_index command (reads_in files) ≡ made
 abbrev pub IsPackageOutcome : CommandLine → Files → Outcome → Type 0
 IsPackageOutcome command files outcome =
     (names : List (List ℕ))
-    × AreNamesBelowOption (values_with FILES command.values) files names
+    × AreNamesBelowOption (values_of_letter FILES command.values) files names
     × (outcome ≡ mkpkg (reads_in files) files command names)
 
 -- the outcome of `mkndx` over these files

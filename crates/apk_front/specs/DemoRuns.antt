@@ -9,8 +9,8 @@ use Rattle.apk_front.specs.Verdicts.{Reports}
 use Rattle.apk_front.specs.declared.answer.Verdict.{Verdict}
 
 -- a verdict reports one of these outcomes, and the tree has its files
-abbrev pub IsRunTo : (Outcome → Type 0) → Verdict → MemoryTree → Type 0
-IsRunTo IsOne verdict tree =
+abbrev pub IsRunToOutcome : (Outcome → Type 0) → Verdict → MemoryTree → Type 0
+IsRunToOutcome IsOne verdict tree =
     (outcome : Outcome)
     × IsOne outcome
     × Reports verdict outcome

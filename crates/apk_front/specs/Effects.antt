@@ -5,6 +5,6 @@ use Rattle.apk_front.specs.declared.judge.RootAccess.{RootAccess}
 use Rattle.apk_front.specs.declared.judge.RootAccess.TheVariants.{Read, Write}
 
 -- what a run may do below its root, by whether its command only reads
-abbrev pub access_of : Bool → RootAccess
-access_of true = Read
-access_of false = Write
+abbrev pub root_access_if_read_only : Bool → RootAccess
+root_access_if_read_only true = Read
+root_access_if_read_only false = Write

@@ -14,7 +14,7 @@ use Rattle.journal_core.specs.Quiet.{StateIsUnchanged}
 use Rattle.journal_core.specs.Recovery.{EachCrashLeaves, StateDependsOn, intent_name, intent_of, is_staged}
 use Rattle.journal_core.specs.Replacing.{CanAddOutputNames, IgnoresScratch, IsMomentOfReplacing, scratch_of}
 use Rattle.journal_core.specs.Staged.{AreReplayPathsFree, AreStagingPathsFree, IsEmptyStage, IsOldUntilCommit, unstaged_files}
-use Rattle.outcome.specs.Effect.{Effect, Computes, OnlyReadsFiles, AsksRoot, Makes, Changes, does_recover, effect_by, output}
+use Rattle.outcome.specs.Effect.{Effect, Computes, OnlyReadsFiles, AsksRoot, Makes, Changes, does_recover, effect_of_arguments, output}
 use Rattle.outcome.specs.Outcome.{Outcome}
 use Rattle.outcome.specs.Words.{IsOutcome}
 use Rattle.outcome.specs.Work.{work_files}
@@ -36,9 +36,9 @@ IgnoresScratchOf None ignored = Unit {0}
 IgnoresScratchOf (Some name) ignored = IgnoresScratch ignored name
 
 -- the ignored names without an output and its scratch name
-abbrev pub ignored_but : Option (List ℕ) → (List ℕ → Bool) → List ℕ → Bool
-ignored_but None ignored q = ignored q
-ignored_but (Some name) ignored q =
+abbrev pub ignored_except_output : Option (List ℕ) → (List ℕ → Bool) → List ℕ → Bool
+ignored_except_output None ignored q = ignored q
+ignored_except_output (Some name) ignored q =
     if bytes_eq q name || bytes_eq q (scratch_of name) then false else ignored q
 
 -- ---- free paths
@@ -67,7 +67,7 @@ AreOutcomePathsFree effect output IsOne files =
 -- the paths that a run of this command line writes are free
 abbrev pub AreRunPathsFree : List (List ℕ) → Files → Type 0
 AreRunPathsFree words files =
-    AreOutcomePathsFree (effect_by (command_of words)) (output words) (IsOutcome (command_of words)
+    AreOutcomePathsFree (effect_of_arguments (command_of words)) (output words) (IsOutcome (command_of words)
     files)
     files
 
@@ -84,8 +84,8 @@ is_draft_name OnlyReadsFiles output q = false
 is_draft_name AsksRoot output q = false
 
 -- the files as read are these, apart from the draft names
-abbrev pub IsReadExceptDrafts : Effect → Option (List ℕ) → Files → TreeState → Type 0
-IsReadExceptDrafts effect output files w =
+abbrev pub HasFilesExceptDrafts : Effect → Option (List ℕ) → Files → TreeState → Type 0
+HasFilesExceptDrafts effect output files w =
     (q : List ℕ) → is_draft_name effect output q ≡ false → files_of w q ≡ files q
 
 -- a change has committed its journal entry (intent), and recovery yields the new files; each name
@@ -98,9 +98,9 @@ pub record IsCommittedChange (effect : Effect) (new old : Files) (w : TreeState)
 
 -- the files as read are the old ones, apart from the draft names; or on the way to the new ones by a
 -- committed change; or the new ones
-abbrev pub IsReadDuringWork : Effect → Option (List ℕ) → Files → Files → TreeState → Type 0
-IsReadDuringWork effect output new old w =
-    IsReadExceptDrafts effect output old w ⊎ (IsCommittedChange effect new old w ⊎ (files_of w ≡ new))
+abbrev pub IsStateDuringRun : Effect → Option (List ℕ) → Files → Files → TreeState → Type 0
+IsStateDuringRun effect output new old w =
+    HasFilesExceptDrafts effect output old w ⊎ (IsCommittedChange effect new old w ⊎ (files_of w ≡ new))
 
 -- ---- recovery
 
@@ -138,7 +138,7 @@ AreReadDuringRun IsOne effect output v old now =
     × IsOne outcome
     × (outcome.commits ≡ true)
     × Since (IsRecoveringOrNext effect
-    (IsReadDuringWork effect output outcome.files (work_files effect (files_of v))) v) old now)
+    (IsStateDuringRun effect output outcome.files (work_files effect (files_of v))) v) old now)
 
 -- if no intent is read, a crash undoes no change of a name, except for those of the output and of
 -- staged files
@@ -168,14 +168,14 @@ AreOldOrLeadToOutcome IsOne makes ignored v old now =
     × MomentsLeadTo makes ignored outcome.files v old now)
 
 -- an outcome's files last after the run if it commits, or if each crash left the old ones before
-abbrev pub MustLastWithoutRecovery : (List ℕ → Bool) → TreeState → Outcome → Type 0
-MustLastWithoutRecovery ignored v outcome =
+abbrev pub MustOutcomeBeDurableWithoutRecovery : (List ℕ → Bool) → TreeState → Outcome → Type 0
+MustOutcomeBeDurableWithoutRecovery ignored v outcome =
     (outcome.commits ≡ true) ⊎ EachCrashLeaves ignored (files_of v) v
 
--- an outcome's files last after the run, by *MustLastWithoutRecovery* or if an intent can be
+-- an outcome's files last after the run, by *MustOutcomeBeDurableWithoutRecovery* or if an intent can be
 -- recovered
-abbrev pub MustLast : Effect → (List ℕ → Bool) → TreeState → Outcome → Type 0
-MustLast effect ignored v outcome = MustLastWithoutRecovery ignored v outcome
+abbrev pub MustOutcomeBeDurable : Effect → (List ℕ → Bool) → TreeState → Outcome → Type 0
+MustOutcomeBeDurable effect ignored v outcome = MustOutcomeBeDurableWithoutRecovery ignored v outcome
     ⊎ CanRecover effect v
 
 -- the tree is durable, and each crash leaves these files
@@ -216,7 +216,7 @@ CommitsNothing IsOne answer = IsRefusedOrOutOfMemory answer ⊎ HasOutcomeWithou
 abbrev pub LeavesDurable :
     Effect → (List ℕ → Bool) → TreeState → List TreeState → Outcome → Type 0
 LeavesDurable effect ignored v now outcome =
-    MustLast effect ignored v outcome → HoldsNow now (EachCrashLeaves ignored outcome.files)
+    MustOutcomeBeDurable effect ignored v outcome → HoldsNow now (EachCrashLeaves ignored outcome.files)
 
 -- Once the outcome is answered, even a refusal, or a sink's fault instead, its files are durable, if
 -- something makes them so.
@@ -243,7 +243,7 @@ abbrev pub LeavesDurableState :
 LeavesDurableState IsOne output ignored now =
     (outcome : Outcome)
     × IsOne outcome
-    × (outcome.commits ≡ true → HoldsNow now (IsDurableState (ignored_but output ignored)
+    × (outcome.commits ≡ true → HoldsNow now (IsDurableState (ignored_except_output output ignored)
     outcome.files))
 
 -- ---- what is promised

@@ -9,16 +9,16 @@ use Rattle.base_core.specs.Tree.{TreeState, files_of}
 use Rattle.base_core.specs.declared.tree.TreeFault.{TreeFault}
 use Rattle.base_core.specs.declared.tree.TreeFault.TheVariants.{Disk, Memory}
 use Rattle.command_core.specs.Command.{CommandLine}
-use Rattle.outcome.specs.Commands.{IsOutcomeOn, IsPossibleOutcomeOn}
-use Rattle.outcome.specs.Effect.{Effect, Changes, effect_of, output_if}
+use Rattle.outcome.specs.Commands.{IsOutcomeAfterRecovery, IsPossibleOutcomeAfterRecovery}
+use Rattle.outcome.specs.Effect.{Effect, Changes, effect_of, output_for_effect}
 use Rattle.outcome.specs.Outcome.{Outcome}
 use Rattle.apk_front.specs.Moments.{AreOutcomePathsFree, ArePathsToWriteFree, TargetsAreAcceptedThroughout}
 use Rattle.apk_front.specs.Runs.{IfNothingStaged, IsRun, IsWholeRun}
-use Rattle.apk_front.specs.Verdicts.{ReportsOne}
+use Rattle.apk_front.specs.Verdicts.{ReportsOneOfOutcomes}
 use Rattle.apk_front.specs.declared.answer.Verdict.{Verdict}
 
 -- how the tree's counts explain a verdict, or why there is none
-pub record IsVerdictCounted (before now : Counts) (judged : Result Verdict TreeFault) : Type 0 where
+pub record IsVerdictExplainedByCounts (before now : Counts) (judged : Result Verdict TreeFault) : Type 0 where
   -- no count falls
   pub goes_on : CountsOnlyRise before now
   -- an I/O error has its cause
@@ -32,19 +32,19 @@ pub record IsRecoveredRun (command : CommandLine) (old now : List TreeState)
     (counts_before counts_now : Counts) (judged : Result Verdict TreeFault) : Type 0 where
   -- on a tree that shows its files the verdict is that of the outcome over these files
   pub found : IfOk judged (λ verdict. IfNothingStaged old (λ v.
-      ReportsOne (IsOutcomeOn command (files_of v)) verdict))
+      ReportsOneOfOutcomes (IsOutcomeAfterRecovery command (files_of v)) verdict))
   -- on every tree it is that of an outcome for some listing and some contents at each read
-  pub by_reads : IfOk judged (λ verdict. ReportsOne (IsPossibleOutcomeOn command) verdict)
+  pub by_reads : IfOk judged (λ verdict. ReportsOneOfOutcomes (IsPossibleOutcomeAfterRecovery command) verdict)
   -- the effect of the run on the tree: crashes, files and calls
-  pub tree : IfNothingStaged old (λ v. IsRun (IsOutcomeOn command (files_of v))
-      (effect_of command.applet) (output_if (effect_of command.applet) command) judged v old now)
+  pub tree : IfNothingStaged old (λ v. IsRun (IsOutcomeAfterRecovery command (files_of v))
+      (effect_of command.applet) (output_for_effect (effect_of command.applet) command) judged v old now)
   -- if memory ran out nothing was written
   pub undone : IfNothingStaged old (λ v. IsErrOf judged Memory → now ≡ old)
-  pub counts : IsVerdictCounted counts_before counts_now judged
+  pub counts : IsVerdictExplainedByCounts counts_before counts_now judged
   -- no call is a misuse if the paths are free that an outcome that commits writes
   pub proper : IfNothingStaged old (λ v.
-      ((outcome : Outcome) → IsOutcomeOn command (files_of v) outcome → outcome.commits ≡ true
-      → ArePathsToWriteFree (effect_of command.applet) (output_if (effect_of command.applet) command)
+      ((outcome : Outcome) → IsOutcomeAfterRecovery command (files_of v) outcome → outcome.commits ≡ true
+      → ArePathsToWriteFree (effect_of command.applet) (output_for_effect (effect_of command.applet) command)
       (files_of v))
       → counts_now.misuses ≡ counts_before.misuses)
 
@@ -55,14 +55,14 @@ pub record IsJudgedRun (accepts : Option (List ℕ) → List ℕ → Type 0)
     (output : Option (List ℕ)) (old now : List TreeState) (counts_before counts_now : Counts)
     (judged : Result Verdict TreeFault) : Type 0 where
   -- on a tree that shows its files the verdict is that of the outcome over the files at the start
-  pub found : IfOk judged (λ verdict. IfObservable old (λ v. ReportsOne (IsOne (files_of v)) verdict))
+  pub found : IfOk judged (λ verdict. IfObservable old (λ v. ReportsOneOfOutcomes (IsOne (files_of v)) verdict))
   -- on every tree it is that of an outcome for some listing and some contents at each read
-  pub by_reads : IfOk judged (λ verdict. ReportsOne IsPossible verdict)
+  pub by_reads : IfOk judged (λ verdict. ReportsOneOfOutcomes IsPossible verdict)
   -- the effect of the run on the tree: crashes, files and calls
   pub tree : IfObservable old (λ v. IsWholeRun (IsOne (files_of v)) effect output judged v old now)
   -- a change has asked the tree for each name that it promises
   pub promised : effect ≡ Changes → TargetsAreAcceptedThroughout accepts old now
-  pub counts : IsVerdictCounted counts_before counts_now judged
+  pub counts : IsVerdictExplainedByCounts counts_before counts_now judged
   -- no call is a misuse if the paths of the run are free
   pub proper : IfObservable old (λ v. AreOutcomePathsFree effect output (IsOne (files_of v)) (files_of v)
       → counts_now.misuses ≡ counts_before.misuses)

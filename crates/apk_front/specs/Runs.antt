@@ -15,7 +15,7 @@ use Rattle.journal_core.specs.Staged.{IsEmptyStage}
 use Rattle.outcome.specs.Effect.{Effect}
 use Rattle.outcome.specs.Outcome.{Outcome}
 use Rattle.outcome.specs.Work.{recovery_fault}
-use Rattle.apk_front.specs.Moments.{AreReadDuringRun, AreOldOrLeadToOutcome, HasOutcomeWithoutCommit, HasNothingToRecover, IgnoresScratchOf, IsDurableState, IsReadDuringWork, MustLast, MustLastWithoutRecovery, NamesAreDurableWithoutIntentExcept, ignored_but}
+use Rattle.apk_front.specs.Moments.{AreReadDuringRun, AreOldOrLeadToOutcome, HasOutcomeWithoutCommit, HasNothingToRecover, IgnoresScratchOf, IsDurableState, IsStateDuringRun, MustOutcomeBeDurable, MustOutcomeBeDurableWithoutRecovery, NamesAreDurableWithoutIntentExcept, ignored_except_output}
 use Rattle.apk_front.specs.declared.answer.Verdict.{Verdict}
 
 -- ---- after recovery
@@ -41,7 +41,7 @@ AreReadDuringWork IsOne effect output v old now =
     ⊎ ((outcome : Outcome)
     × IsOne outcome
     × (outcome.commits ≡ true)
-    × Since (IsReadDuringWork effect output outcome.files (files_of v)) old now)
+    × Since (IsStateDuringRun effect output outcome.files (files_of v)) old now)
 
 -- The effect of a run on a tree in state v, after recovery, if its outcome is one of these.
 pub record IsRun (IsOne : Outcome → Type 0) (effect : Effect) (output : Option (List ℕ))
@@ -58,13 +58,13 @@ pub record IsRun (IsOne : Outcome → Type 0) (effect : Effect) (output : Option
   -- if an outcome was judged, and something makes its files durable, each crash leaves their state
   pub settled : (ignored : List ℕ → Bool) (outcome : Outcome)
       → IsDurable (StateDependsOn ignored) v → IgnoresScratchOf output ignored
-      → IsOne outcome → MustLastWithoutRecovery ignored v outcome
+      → IsOne outcome → MustOutcomeBeDurableWithoutRecovery ignored v outcome
       → OnOk judged (HoldsNow now (EachCrashLeaves ignored outcome.files))
   -- if an outcome that commits was judged, its output and the scratch name are no longer ignored
   pub durable_state : (ignored : List ℕ → Bool) (outcome : Outcome)
       → IsDurable (StateDependsOn ignored) v → IgnoresScratchOf output ignored
       → IsOne outcome → outcome.commits ≡ true
-      → OnOk judged (HoldsNow now (IsDurableState (ignored_but output ignored) outcome.files))
+      → OnOk judged (HoldsNow now (IsDurableState (ignored_except_output output ignored) outcome.files))
   -- the files as read are the old ones, or the run works on them
   pub reads : AreReadDuringWork IsOne effect output v old now
   -- if no crash undoes a change of a name at the start, none does as long as no intent is read, except
@@ -77,8 +77,8 @@ pub record IsRun (IsOne : Outcome → Type 0) (effect : Effect) (output : Option
   pub idle : (outcome : Outcome) → IsOne outcome → outcome.commits ≡ false → now ≡ old
 
 -- memory ran out, or an outcome commits nothing
-abbrev pub IsWithoutCommit : (Outcome → Type 0) → Result Verdict TreeFault → Type 0
-IsWithoutCommit IsOne judged = IsErrOf judged Memory ⊎ HasOutcomeWithoutCommit IsOne
+abbrev pub IsVerdictWithoutCommit : (Outcome → Type 0) → Result Verdict TreeFault → Type 0
+IsVerdictWithoutCommit IsOne judged = IsErrOf judged Memory ⊎ HasOutcomeWithoutCommit IsOne
 
 -- The effect of a run that first recovers, if its command does. Fields without a comment say what those
 -- of *IsRun* say, with the recovery before it.
@@ -92,16 +92,16 @@ pub record IsWholeRun (IsOne : Outcome → Type 0) (effect : Effect) (output : O
       → HoldsNow now (IsDurable (StateDependsOn ignored))
   pub settled : (ignored : List ℕ → Bool) (outcome : Outcome)
       → IsDurable (StateDependsOn ignored) v → IgnoresScratchOf output ignored
-      → IsOne outcome → MustLast effect ignored v outcome
+      → IsOne outcome → MustOutcomeBeDurable effect ignored v outcome
       → OnOk judged (HoldsNow now (EachCrashLeaves ignored outcome.files))
   pub durable_state : (ignored : List ℕ → Bool) (outcome : Outcome)
       → IsDurable (StateDependsOn ignored) v → IgnoresScratchOf output ignored
       → IsOne outcome → outcome.commits ≡ true
-      → OnOk judged (HoldsNow now (IsDurableState (ignored_but output ignored) outcome.files))
+      → OnOk judged (HoldsNow now (IsDurableState (ignored_except_output output ignored) outcome.files))
   -- a run that commits nothing leaves the state, and writes nothing if there is nothing to recover
-  pub left : IsWithoutCommit IsOne judged → (ignored : List ℕ → Bool)
+  pub left : IsVerdictWithoutCommit IsOne judged → (ignored : List ℕ → Bool)
       → IsDurable (StateDependsOn ignored) v → Since (StateIsUnchanged ignored v) old now
-  pub idle : IsWithoutCommit IsOne judged → HasNothingToRecover effect v → now ≡ old
+  pub idle : IsVerdictWithoutCommit IsOne judged → HasNothingToRecover effect v → now ≡ old
   -- nothing is written either if the intent is bad
   pub bad : IsSome (recovery_fault effect (files_of v)) → now ≡ old
   pub reads : AreReadDuringRun IsOne effect output v old now

@@ -2,7 +2,7 @@
 -- `apk` is made; the rule is in `docs/commands.md`, "Answers and statuses".
 use Rattle.std.specs.Prelude.{◌≡◌, ◌⊎◌, [], Option, Some, None, Result, Ok, Err}
 use Rattle.base_core.specs.Files.{Files}
-use Rattle.base_core.specs.Sink.{SinkChange, Gets, GetsSome, SinkFailed}
+use Rattle.base_core.specs.Sink.{SinkChange, Gets, GetsPrefix, SinkFailed}
 use Rattle.base_core.specs.declared.tree.TreeFault.{TreeFault}
 use Rattle.base_core.specs.declared.tree.TreeFault.TheVariants.{Disk, Memory as NoMemory}
 use Rattle.command_core.specs.Command.{CommandLine}
@@ -11,9 +11,9 @@ use Rattle.outcome.specs.Commands.{effect_outcome}
 use Rattle.outcome.specs.Effect.{effect_of}
 use Rattle.outcome.specs.Given.{nothing_given}
 use Rattle.outcome.specs.Outcome.{Outcome, outcome_of}
-use Rattle.report_core.specs.Texts.{refusal_line, tree_line, memory_line}
+use Rattle.report_core.specs.Texts.{refusal_line, tree_failure_line, out_of_memory_line}
 use Rattle.report_core.specs.declared.refusal.Refusal.{Refusal}
-use Rattle.apk_front.specs.Answers.{DidNotFail, IsAnsweredInFull, IsOutFault, PrintsOnlyErrorLine}
+use Rattle.apk_front.specs.Answers.{DidNotFail, IsAnsweredInFull, IsSingleSinkFault, PrintsOnlyErrorLine}
 use Rattle.apk_front.specs.declared.answer.Answer.{Answer}
 use Rattle.apk_front.specs.declared.answer.Answer.TheVariants.{Ok as Good, Refused, TreeFault as TreeFailed, OutFault, Memory}
 use Rattle.apk_front.specs.declared.answer.Verdict.{Verdict}
@@ -23,8 +23,8 @@ abbrev pub as_outcome : Files → Verdict → Outcome
 as_outcome files verdict = outcome_of verdict.refusal verdict.report files
 
 -- the outcome of a command that only reads: it needs no listing of a folder, and no selection
-abbrev pub looked_outcome : CommandLine → Reads → Files → Outcome
-looked_outcome command read files =
+abbrev pub read_only_outcome : CommandLine → Reads → Files → Outcome
+read_only_outcome command read files =
     effect_outcome (effect_of command.applet) command.applet command nothing_given read files
 
 -- the verdict's refusal and report are those of an outcome
@@ -33,14 +33,14 @@ Reports verdict outcome =
     record (as_outcome outcome.files verdict) { commits = outcome.commits } ≡ outcome
 
 -- the verdict's refusal and report are those of one of these outcomes
-abbrev pub ReportsOne : (Outcome → Type 0) → Verdict → Type 0
-ReportsOne IsOne verdict = (outcome : Outcome) × IsOne outcome × Reports verdict outcome
+abbrev pub ReportsOneOfOutcomes : (Outcome → Type 0) → Verdict → Type 0
+ReportsOneOfOutcomes IsOne verdict = (outcome : Outcome) × IsOne outcome × Reports verdict outcome
 
 -- the answer and the bytes of an outcome: its own, or a sink's fault instead
 abbrev pub IsPrinted : Outcome → Answer → SinkChange → SinkChange → Type 0
 IsPrinted outcome Good out err = IsAnsweredInFull outcome Good out err
 IsPrinted outcome (Refused refusal) out err = IsAnsweredInFull outcome (Refused refusal) out err
-IsPrinted outcome OutFault out err = IsOutFault outcome out err
+IsPrinted outcome OutFault out err = IsSingleSinkFault outcome out err
 IsPrinted outcome TreeFailed out err = ⊥
 IsPrinted outcome Memory out err = ⊥
 
@@ -50,11 +50,11 @@ abbrev pub IsRefusalPrinted : Option Refusal → Answer → SinkChange → Type 
 IsRefusalPrinted None answer err = (answer ≡ Good) × Gets err [] × DidNotFail err
 IsRefusalPrinted (Some refusal) answer err =
     ((answer ≡ Refused refusal) × Gets err (refusal_line refusal) × DidNotFail err)
-    ⊎ ((answer ≡ OutFault) × GetsSome err (refusal_line refusal) × SinkFailed err)
+    ⊎ ((answer ≡ OutFault) × GetsPrefix err (refusal_line refusal) × SinkFailed err)
 
 -- the answer to a verdict, and the bytes of the two sinks
-abbrev pub IsShown : Result Verdict TreeFault → Answer → SinkChange → SinkChange → Type 0
-IsShown (Ok verdict) answer out err =
+abbrev pub IsVerdictPrinted : Result Verdict TreeFault → Answer → SinkChange → SinkChange → Type 0
+IsVerdictPrinted (Ok verdict) answer out err =
     (files : Files) → IsPrinted (as_outcome files verdict) answer out err
-IsShown (Err Disk) answer out err = (answer ≡ TreeFailed) × PrintsOnlyErrorLine tree_line out err
-IsShown (Err NoMemory) answer out err = (answer ≡ Memory) × PrintsOnlyErrorLine memory_line out err
+IsVerdictPrinted (Err Disk) answer out err = (answer ≡ TreeFailed) × PrintsOnlyErrorLine tree_failure_line out err
+IsVerdictPrinted (Err NoMemory) answer out err = (answer ≡ Memory) × PrintsOnlyErrorLine out_of_memory_line out err

@@ -1,9 +1,9 @@
 //! The answer of a run: what it was judged to answer is printed on the two sinks. The rules are in
 //! `docs/commands.md`, "Answers and statuses", and the texts in "Error lines".
 ghost use Rattle.std.specs.Prelude.{◌≡◌, ◌≢◌, [], OnErr, Err};
-ghost use Rattle.apk_front.specs.Answers.{GetsLine};
+ghost use Rattle.apk_front.specs.Answers.{GetsLineOrPrefix};
 ghost use Rattle.apk_front.specs.Status.{status_of};
-ghost use Rattle.apk_front.specs.Verdicts.{IsPrinted, IsRefusalPrinted, IsShown, as_outcome};
+ghost use Rattle.apk_front.specs.Verdicts.{IsPrinted, IsRefusalPrinted, IsVerdictPrinted, as_outcome};
 ghost use Rattle.base_core.specs.Files.{Files};
 ghost use Rattle.base_core.specs.Sink.{sink_change, IsProperUse};
 ghost use Rattle.base_core.specs.Write.{Writes};
@@ -87,7 +87,7 @@ pub(crate) fn show<O: Sink, E: Sink>(
     out: &mut O,
     err: &mut E,
 ) -> Answer
-    ensures shown { IsShown judged result
+    ensures shown { IsVerdictPrinted judged result
         (sink_change O.bytes O.counts out.old out.new)
         (sink_change E.bytes E.counts err.old err.new) }
     // Of each sink: no count falls, and no call is a misuse.
@@ -103,7 +103,7 @@ pub(crate) fn show<O: Sink, E: Sink>(
 // Prints the line of an I/O error of the file tree, or of running out of memory. Nothing is written
 // to `_out`; the clauses name it.
 fn print_fault<O: Sink, E: Sink>(fault: TreeFault, _out: &mut O, err: &mut E) -> Answer
-    ensures shown { IsShown (Err fault) result
+    ensures shown { IsVerdictPrinted (Err fault) result
         (sink_change O.bytes O.counts _out.old _out.new)
         (sink_change E.bytes E.counts err.old err.new) }
     ensures out_counts { IsProperUse (sink_change O.bytes O.counts _out.old _out.new) }
@@ -166,7 +166,7 @@ fn print_refusal<E: Sink>(refusal: Option<Refusal>, err: &mut E) -> Answer
 // Prints a fault's line. A fault of the sink does not change the answer: the status reports the
 // first fault.
 fn print_line<E: Sink>(line: &[u8], err: &mut E)
-    ensures line { GetsLine (sink_change E.bytes E.counts err.old err.new) line.now }
+    ensures line { GetsLineOrPrefix (sink_change E.bytes E.counts err.old err.new) line.now }
     ensures counts { IsProperUse (sink_change E.bytes E.counts err.old err.new) }
 {
     let _ = write_all(err, line);

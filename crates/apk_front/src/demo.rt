@@ -3,18 +3,18 @@
 //!
 //! Each command line is run by the function that runs it on every other tree, too.
 ghost use Rattle.std.specs.Prelude.{◌≡◌, IfOk, IsTrue, MatchResult, OnOk, Some};
-ghost use Rattle.apk_front.specs.DemoRuns.{IsRunTo};
+ghost use Rattle.apk_front.specs.DemoRuns.{IsRunToOutcome};
 ghost use Rattle.apk_front.specs.Verdicts.{Reports, as_outcome};
 ghost use Rattle.base_core.specs.Files.{Files, no_names, put_name};
 ghost use Rattle.base_core.specs.Tree.{files_of};
 ghost use Rattle.command_core.specs.Operands.{exactly};
-ghost use Rattle.command_core.specs.Sound.{are_operands};
+ghost use Rattle.command_core.specs.Sound.{are_allowed_operands};
 ghost use Rattle.command_core.specs.declared.operands.OperandKind.TheVariants.{Number};
 ghost use Rattle.outcome.specs.demo_lines.Count.{demo_count};
 ghost use Rattle.outcome.specs.demo_lines.Lines.{mkpkg_words};
 ghost use Rattle.outcome.specs.demo_lines.Report.{demo_line};
-ghost use Rattle.outcome.specs.Commands.{IsOutcomeOf};
-ghost use Rattle.outcome.specs.Demo.{AreInstalled, ArePackaged, IsDemoOutcome, IsRunAfter, with_demo_file};
+ghost use Rattle.outcome.specs.Commands.{IsOutcomeWithoutDemo};
+ghost use Rattle.outcome.specs.Demo.{IsOutcomeAfterInstalling, IsOutcomeAfterPackaging, IsDemoOutcome, IsOutcomeOfNextRun, with_demo_file};
 ghost use Rattle.outcome.specs.Outcome.{Outcome, report_unless};
 ghost use Rattle.tree_memory.specs.Memory.{tree_state};
 ghost use Rattle.words_core.specs.Grammar.{command_of};
@@ -38,7 +38,7 @@ const REPOSITORIES: &[u8] = b"etc/apk/repositories";
 /// Makes, indexes and installs the number of packages that the operand says, and reports the last
 /// line. It fails only by running out of memory.
 pub(crate) fn demo(alloc: Global, operands: &Operands) -> Result<Verdict, TreeFault>
-    requires { IsTrue (are_operands (Some (exactly 1 Number)) operands.now) }
+    requires { IsTrue (are_allowed_operands (Some (exactly 1 Number)) operands.now) }
     ensures { MatchResult result
         (λ verdict. (files : Files)
         → IsDemoOutcome (demo_count operands.now) files (as_outcome files verdict))
@@ -78,7 +78,7 @@ fn unless_refused(alloc: Global, refusal: Option<Refusal>, report: Text) -> Verd
 // last run that was not skipped.
 fn install(alloc: Global, n: u16, tree: &mut MemoryTree) -> Result<Verdict, TreeFault>
     requires { files_of (tree_state tree.old) ≡ no_names }
-    ensures { IfOk result (λ verdict. IsRunTo (AreInstalled n) verdict tree.new) }
+    ensures { IfOk result (λ verdict. IsRunToOutcome (IsOutcomeAfterInstalling n) verdict tree.new) }
 {
     let packaged = package_all(alloc, n, tree)?;
     let words = mkndx_words(alloc, n)?;
@@ -91,7 +91,7 @@ fn install(alloc: Global, n: u16, tree: &mut MemoryTree) -> Result<Verdict, Tree
 // Returns the last verdict.
 fn package_all(alloc: Global, n: u16, tree: &mut MemoryTree) -> Result<Verdict, TreeFault>
     requires { files_of (tree_state tree.old) ≡ no_names }
-    ensures { IfOk result (λ verdict. IsRunTo (ArePackaged n) verdict tree.new) }
+    ensures { IfOk result (λ verdict. IsRunToOutcome (IsOutcomeAfterPackaging n) verdict tree.new) }
 {
     put(alloc, REPOSITORIES, demo_repositories(), tree)?;
     let mut last = Verdict::empty(alloc);
@@ -110,7 +110,7 @@ fn package_behind(
 ) -> Result<Verdict, TreeFault>
     ensures { IfOk result (λ verdict. (before : Outcome) → Reports last before
         → files_of (tree_state tree.old) ≡ before.files
-        → IsRunTo (IsRunAfter (mkpkg_words i) (with_demo_file i before.files) before)
+        → IsRunToOutcome (IsOutcomeOfNextRun (mkpkg_words i) (with_demo_file i before.files) before)
         verdict tree.new) }
 {
     if last.refusal.is_some() {
@@ -121,7 +121,7 @@ fn package_behind(
 
 // Puts the one file of package i into the tree, and runs `mkpkg` on it.
 fn package(alloc: Global, i: u16, tree: &mut MemoryTree) -> Result<Verdict, TreeFault>
-    ensures { IfOk result (λ verdict. IsRunTo (IsOutcomeOf (command_of (mkpkg_words i))
+    ensures { IfOk result (λ verdict. IsRunToOutcome (IsOutcomeWithoutDemo (command_of (mkpkg_words i))
         (with_demo_file i (files_of (tree_state tree.old)))) verdict tree.new) }
 {
     let name = demo_file(alloc, i)?;
@@ -140,7 +140,7 @@ fn run_after(
 ) -> Result<Verdict, TreeFault>
     ensures { IfOk result (λ verdict. (before : Outcome) → Reports last before
         → files_of (tree_state tree.old) ≡ before.files
-        → IsRunTo (IsRunAfter words.now before.files before) verdict tree.new) }
+        → IsRunToOutcome (IsOutcomeOfNextRun words.now before.files before) verdict tree.new) }
 {
     if last.refusal.is_some() {
         return Ok(last);
@@ -150,8 +150,8 @@ fn run_after(
 
 // Runs a command line in the tree of `demo`.
 fn run_words(alloc: Global, words: &Words, tree: &mut MemoryTree) -> Result<Verdict, TreeFault>
-    ensures { IfOk result (λ verdict. IsRunTo
-        (IsOutcomeOf (command_of words.now) (files_of (tree_state tree.old)))
+    ensures { IfOk result (λ verdict. IsRunToOutcome
+        (IsOutcomeWithoutDemo (command_of words.now) (files_of (tree_state tree.old)))
         verdict tree.new) }
 {
     match read_words(alloc, words) {

@@ -2,11 +2,11 @@
 //! tests and their order), and in `docs/formats.md`, "Dump text".
 ghost use Rattle.std.specs.Prelude.{◌≡◌, None, Ok, IsTrue, IfOk, IfErr, is_some, length};
 ghost use Rattle.std.specs.Result.{result_err};
-ghost use Rattle.adb_block.specs.Reading.{reading_of};
+ghost use Rattle.adb_block.specs.Reading.{block_stream_from};
 ghost use Rattle.adb_view.specs.ShapedPayload.{adb_of, table_of};
 ghost use Rattle.adb_dump.specs.adb_schema.Soundness.{schema_word};
 ghost use Rattle.adb_view.specs.Adb.{payload_of};
-ghost use Rattle.apk_front.specs.Containers.{IsDumpFault, IsShapedFirst, first_form_fault};
+ghost use Rattle.apk_front.specs.Containers.{IsDumpFault, IsAfterShapedFirstBlock, first_block_head_or_shape_fault};
 ghost use Rattle.apk_front.specs.Verdicts.{as_outcome};
 ghost use Rattle.base_core.specs.Calls.{IfObservable};
 ghost use Rattle.base_core.specs.Files.{Files, no_names};
@@ -15,7 +15,7 @@ ghost use Rattle.base_core.specs.Tree.{files_of};
 ghost use Rattle.command_core.specs.Named.{are_files};
 ghost use Rattle.make_core.specs.make_info.Reads.{Reads};
 ghost use Rattle.outcome.specs.Commands.{reads_in};
-ghost use Rattle.outcome.specs.Dump.{adbdump, dump_of, dump_of_blocks, dump_outcome, form_fault, framing_fault};
+ghost use Rattle.outcome.specs.Dump.{adbdump, dump_of, dump_of_blocks, dump_outcome, head_or_shape_fault, framing_fault};
 
 use crate::answer::Verdict;
 use adb_block::Blocks;
@@ -23,7 +23,7 @@ use adb_dump::{ReadFault, Shaped, Which, dump, shape};
 use adb_view::Adb;
 use base_core::{Cause, Text, Tree, TreeFault, read_all};
 use command_core::Operands;
-use pkg_core::root_of_schema;
+use pkg_core::table_of_schema;
 use report_core::Refusal;
 use std::alloc::{AllocError, Global};
 
@@ -76,7 +76,7 @@ fn text_of(alloc: Global, bytes: &[u8]) -> Result<Text, ReadFault>
 {
     let mut blocks = Blocks::new(bytes)?;
     let found = blocks.schema();
-    match root_of_schema(found) {
+    match table_of_schema(found) {
         Some(which) => text_of_blocks(alloc, &mut blocks, which),
         None => Err(ReadFault::Bad(Cause::WrongSchema { found })),
     }
@@ -89,9 +89,9 @@ fn text_of_blocks(alloc: Global, blocks: &mut Blocks<'_>, which: Which) -> Resul
     requires first { blocks.old.last ≡ None }
     // The table is one that may be at a root.
     requires root { IsTrue (is_some (schema_word which)) }
-    ensures ok { IfOk result (λ text. dump_of_blocks which (reading_of blocks.old) ≡ Ok text) }
+    ensures ok { IfOk result (λ text. dump_of_blocks which (block_stream_from blocks.old) ≡ Ok text) }
     ensures bad { IfErr result (λ fault.
-        IsDumpFault fault (dump_of_blocks which (reading_of blocks.old))) }
+        IsDumpFault fault (dump_of_blocks which (block_stream_from blocks.old))) }
 {
     let shaped = shape_first(blocks, which)?;
     check_framing(blocks)?;
@@ -103,11 +103,11 @@ fn text_of_blocks(alloc: Global, blocks: &mut Blocks<'_>, which: Which) -> Resul
 fn shape_first<'a>(blocks: &mut Blocks<'a>, which: Which) -> Result<Shaped<'a>, Cause>
     requires { blocks.old.last ≡ None }
     ensures bad { IfErr result (λ cause.
-        first_form_fault which (reading_of blocks.old) ≡ Some cause) }
+        first_block_head_or_shape_fault which (block_stream_from blocks.old) ≡ Some cause) }
     ensures table { IfOk result (λ shaped. table_of shaped ≡ which) }
     // The reader is then after that block.
-    ensures behind { IfOk result (λ shaped. IsShapedFirst which (payload_of (adb_of shaped))
-        (reading_of blocks.old) (reading_of blocks.new)) }
+    ensures behind { IfOk result (λ shaped. IsAfterShapedFirstBlock which (payload_of (adb_of shaped))
+        (block_stream_from blocks.old) (block_stream_from blocks.new)) }
 {
     match blocks.next()? {
         Some(block) => shape_payload(block.payload, which),
@@ -117,7 +117,7 @@ fn shape_first<'a>(blocks: &mut Blocks<'a>, which: Which) -> Result<Shaped<'a>, 
 
 // Tests the head of a payload and its shape.
 fn shape_payload<'a>(payload: &'a [u8], which: Which) -> Result<Shaped<'a>, Cause>
-    ensures exact { result_err result ≡ form_fault which payload.entry.now }
+    ensures exact { result_err result ≡ head_or_shape_fault which payload.entry.now }
     ensures table { IfOk result (λ shaped. table_of shaped ≡ which) }
     // The shaped payload is this payload, not a copy.
     ensures lent { IfOk result (λ shaped. payload_of (adb_of shaped) ≡ payload.entry.now) }
@@ -128,7 +128,7 @@ fn shape_payload<'a>(payload: &'a [u8], which: Which) -> Result<Shaped<'a>, Caus
 
 // Tests the framing of the blocks after the first.
 fn check_framing(blocks: &mut Blocks<'_>) -> Result<(), Cause>
-    ensures { result_err result ≡ framing_fault (reading_of blocks.old) }
+    ensures { result_err result ≡ framing_fault (block_stream_from blocks.old) }
 {
     while blocks.next()?.is_some() {}
     Ok(())

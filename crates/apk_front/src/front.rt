@@ -13,7 +13,7 @@ ghost use Rattle.base_core.specs.Sink.{sink_change, IsProperUse};
 ghost use Rattle.base_core.specs.Tree.{files_of};
 ghost use Rattle.journal_core.specs.Quiet.{StateIsUnchanged};
 ghost use Rattle.journal_core.specs.Recovery.{StateDependsOn, intent_name};
-ghost use Rattle.outcome.specs.Effect.{Changes, effect_by, output, reads_only, depends_only_on_arguments};
+ghost use Rattle.outcome.specs.Effect.{Changes, effect_of_arguments, output, reads_only, depends_only_on_arguments};
 ghost use Rattle.outcome.specs.Words.{IsPossibleOutcome, IsOutcome};
 ghost use Rattle.outcome.specs.Work.{recovery_fault};
 ghost use Rattle.words_core.specs.Grammar.{command_of};
@@ -122,19 +122,19 @@ pub fn apk<T: Tree, O: Sink, E: Sink>(
     // Before it commits, a change has asked the tree about each name that it writes or removes. So
     // at each moment, if recovery would now change a name that it would not have changed at the
     // start, the tree has accepted that name.
-    ensures promised { effect_by (command_of words.now) ≡ Changes
+    ensures promised { effect_of_arguments (command_of words.now) ≡ Changes
         → TargetsAreAcceptedThroughout T.accepts (T.history tree.old) (T.history tree.new) }
 
     // If there is nothing to recover, nothing is written by a run that is refused, that runs out of
     // memory, or whose outcome commits nothing, whatever is answered instead.
     ensures idle { IfObservable (T.history tree.old) (λ v.
         CommitsNothing (IsOutcome (command_of words.now) (files_of v)) result
-        → HasNothingToRecover (effect_by (command_of words.now)) v
+        → HasNothingToRecover (effect_of_arguments (command_of words.now)) v
         → T.history tree.new ≡ T.history tree.old) }
 
     // If the intent is bad nothing is written, whatever is answered.
     ensures bad_intent { IfObservable (T.history tree.old) (λ v.
-        IsSome (recovery_fault (effect_by (command_of words.now)) (files_of v))
+        IsSome (recovery_fault (effect_of_arguments (command_of words.now)) (files_of v))
         → T.history tree.new ≡ T.history tree.old) }
 
     // First, if the command recovers: at each moment recovery of the files as read yields what it
@@ -147,7 +147,7 @@ pub fn apk<T: Tree, O: Sink, E: Sink>(
     // the same bytes.
     ensures reads { IfObservable (T.history tree.old) (λ v.
         AreReadDuringRun (IsOutcome (command_of words.now) (files_of v))
-        (effect_by (command_of words.now)) (output words.now) v (T.history tree.old)
+        (effect_of_arguments (command_of words.now)) (output words.now) v (T.history tree.old)
         (T.history tree.new)) }
 
     // If there was an intent, then from the moment at which none is read a crash undoes no change
@@ -186,7 +186,7 @@ pub fn apk<T: Tree, O: Sink, E: Sink>(
     ensures settled { IfObservable (T.history tree.old) (λ v. (ignored : List ℕ → Bool)
         → IsDurable (StateDependsOn ignored) v → IgnoresScratchOf (output words.now) ignored
         → LeavesDurableOnceAnswered (IsOutcome (command_of words.now) (files_of v))
-        (effect_by (command_of words.now)) ignored v (T.history tree.new) result) }
+        (effect_of_arguments (command_of words.now)) ignored v (T.history tree.new) result) }
 
     // Once an outcome that commits is answered, or a sink's fault instead, OUTPUT and
     // OUTPUT.apk-tmp are no longer ignored: the tree is durable, and each crash leaves the

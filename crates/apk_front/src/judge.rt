@@ -6,17 +6,17 @@
 ghost use Rattle.std.specs.Prelude.{◌≡◌, [], None, Ok, IfOk, IsErrOf, IsTrue, MatchResult};
 ghost use Rattle.apk_front.specs.Answers.{name_a_command};
 ghost use Rattle.apk_front.specs.RunContracts.{IsJudgedRun};
-ghost use Rattle.apk_front.specs.Verdicts.{as_outcome, looked_outcome};
+ghost use Rattle.apk_front.specs.Verdicts.{as_outcome, read_only_outcome};
 ghost use Rattle.base_core.specs.Calls.{IfObservable};
 ghost use Rattle.base_core.specs.Files.{Files, no_names};
 ghost use Rattle.base_core.specs.Read.{OnlyReads};
 ghost use Rattle.base_core.specs.Tree.{files_of};
 ghost use Rattle.make_core.specs.make_info.Reads.{Reads};
-ghost use Rattle.outcome.specs.Commands.{IsPossibleOutcomeOf, IsOutcomeOf, reads_in};
-ghost use Rattle.outcome.specs.Effect.{does_only_read, ignores_files, effect_by, effect_of, output, output_if, reads_only, depends_only_on_arguments};
+ghost use Rattle.outcome.specs.Commands.{IsPossibleOutcomeWithoutDemo, IsOutcomeWithoutDemo, reads_in};
+ghost use Rattle.outcome.specs.Effect.{does_only_read, ignores_files, effect_of_arguments, effect_of, output, output_for_effect, reads_only, depends_only_on_arguments};
 ghost use Rattle.outcome.specs.Words.{IsPossibleOutcome, IsOutcome};
 ghost use Rattle.words_core.specs.Grammar.{command_of};
-ghost use Rattle.apk_front.specs.Effects.{access_of};
+ghost use Rattle.apk_front.specs.Effects.{root_access_if_read_only};
 
 use crate::answer::Verdict;
 use crate::demo::demo;
@@ -40,7 +40,7 @@ pub(crate) fn judge<T: Tree>(
 ) -> Result<Verdict, TreeFault>
     // The verdict is that of the outcome, with its effect on the tree and the tree's counts.
     ensures run { IsJudgedRun T.accepts (IsOutcome (command_of words.now))
-        (IsPossibleOutcome (command_of words.now)) (effect_by (command_of words.now))
+        (IsPossibleOutcome (command_of words.now)) (effect_of_arguments (command_of words.now))
         (output words.now)
         (T.history tree.old) (T.history tree.new) (T.counts tree.old) (T.counts tree.new) result }
     // An outcome that rests on the words alone is judged on every tree, unless memory ran out.
@@ -74,7 +74,7 @@ fn run_command<T: Tree>(
 ) -> Result<Verdict, TreeFault>
     ensures run { IsJudgedRun T.accepts (IsOutcome (Ok command.now))
         (IsPossibleOutcome (Ok command.now)) (effect_of command.now.applet)
-        (output_if (effect_of command.now.applet) command.now)
+        (output_for_effect (effect_of command.now.applet) command.now)
         (T.history tree.old) (T.history tree.new) (T.counts tree.old) (T.counts tree.new) result }
     ensures by_words { IsTrue (ignores_files (effect_of command.now.applet))
         → MatchResult result
@@ -98,15 +98,15 @@ pub(crate) fn run<T: Tree>(
     command: &Command,
     tree: &mut T,
 ) -> Result<Verdict, TreeFault>
-    ensures run { IsJudgedRun T.accepts (IsOutcomeOf (Ok command.now))
-        (IsPossibleOutcomeOf command.now) (effect_of command.now.applet)
-        (output_if (effect_of command.now.applet) command.now)
+    ensures run { IsJudgedRun T.accepts (IsOutcomeWithoutDemo (Ok command.now))
+        (IsPossibleOutcomeWithoutDemo command.now) (effect_of command.now.applet)
+        (output_for_effect (effect_of command.now.applet) command.now)
         (T.history tree.old) (T.history tree.new) (T.counts tree.old) (T.counts tree.new) result }
     ensures by_words { IsTrue (ignores_files (effect_of command.now.applet))
         → MatchResult result
         (λ verdict. (files : Files)
         → as_outcome files verdict
-        ≡ looked_outcome command.now (reads_in files) files)
+        ≡ read_only_outcome command.now (reads_in files) files)
         (λ fault. fault ≡ TreeFault.Memory) }
     ensures untouched { IsTrue (ignores_files (effect_of command.now.applet))
         → tree.new ≡ tree.old }
@@ -121,19 +121,19 @@ pub(crate) fn run<T: Tree>(
 
 // Runs an applet that only reads. The clauses are those of `run`; `tree` says that nothing is
 // written.
-#[tactic(auto, using(crate::proofs::Operands::dump_operands, crate::proofs::Operands::gen_operands, crate::proofs::Operands::verify_operands, crate::proofs::Operands::version_operands))]
+#[tactic(auto, using(crate::proofs::Operands::dump_operands, crate::proofs::Operands::gen_operands, crate::proofs::Operands::verify_operands, crate::proofs::Operands::version_operand_rule))]
 fn look<T: Tree>(alloc: Global, command: &Command, tree: &mut T) -> Result<Verdict, TreeFault>
     requires { IsTrue (does_only_read (effect_of command.now.applet)) }
     ensures found { IfOk result (λ verdict. IfObservable (T.history tree.old) (λ v.
         as_outcome (files_of v) verdict
-        ≡ looked_outcome command.now (reads_in (files_of v)) (files_of v))) }
+        ≡ read_only_outcome command.now (reads_in (files_of v)) (files_of v))) }
     ensures by_reads { IfOk result (λ verdict. (read : Reads)
-        × (as_outcome no_names verdict ≡ looked_outcome command.now read no_names)) }
+        × (as_outcome no_names verdict ≡ read_only_outcome command.now read no_names)) }
     ensures by_words { IsTrue (ignores_files (effect_of command.now.applet))
         → MatchResult result
         (λ verdict. (files : Files)
         → as_outcome files verdict
-        ≡ looked_outcome command.now (reads_in files) files)
+        ≡ read_only_outcome command.now (reads_in files) files)
         (λ fault. fault ≡ TreeFault.Memory) }
     ensures untouched { IsTrue (ignores_files (effect_of command.now.applet))
         → tree.new ≡ tree.old }
@@ -175,7 +175,7 @@ pub enum RootAccess {
 /// What the run of a command line does below its root. Arguments that are no command do nothing, so
 /// such a run only reads.
 pub fn access_for(alloc: Global, words: &Words) -> Result<RootAccess, AllocError>
-    ensures { IfOk result (λ access. access ≡ access_of (reads_only (command_of words.now))) }
+    ensures { IfOk result (λ access. access ≡ root_access_if_read_only (reads_only (command_of words.now))) }
 {
     match read_words(alloc, words) {
         Ok(command) => Ok(applet_access(command.applet())),
@@ -187,7 +187,7 @@ pub fn access_for(alloc: Global, words: &Words) -> Result<RootAccess, AllocError
 /// What an applet does below its root: one that first recovers the root writes, whatever it does
 /// then.
 pub(crate) fn applet_access(applet: Applet) -> RootAccess
-    ensures { result ≡ access_of (does_only_read (effect_of applet)) }
+    ensures { result ≡ root_access_if_read_only (does_only_read (effect_of applet)) }
 {
     match applet {
         Applet::Verify

@@ -1,14 +1,14 @@
 //! Laws: the clauses of `apk` hold of each outcome that a command line has, and not only of the one
 //! that they name. They serve `run_lists`; the rules are in `docs/crash-safety.md`, "Recovery".
 ghost use Rattle.std.specs.Prelude.{◌≡◌, ℕ, Bool, true, List, None, is_some};
-ghost use Rattle.apk_front.specs.Moments.{AreOldOrLeadToOutcome, HasNothingToRecover, IsCarriedOut, IsRecovering, LeavesDurableOnceAnswered, MustLast};
+ghost use Rattle.apk_front.specs.Moments.{AreOldOrLeadToOutcome, HasNothingToRecover, IsCarriedOut, IsRecovering, LeavesDurableOnceAnswered, MustOutcomeBeDurable};
 ghost use Rattle.apk_front.specs.declared.answer.Answer.{Answer};
 ghost use Rattle.base_core.specs.Calls.{HoldsNow};
 ghost use Rattle.base_core.specs.Crash.{Since};
 ghost use Rattle.base_core.specs.Tree.{TreeState, files_of};
 ghost use Rattle.journal_core.specs.Recovery.{EachCrashLeaves};
 ghost use Rattle.journal_core.specs.Replacing.{IsMomentOfReplacing};
-ghost use Rattle.outcome.specs.Effect.{Effect, does_recover, effect_by, output};
+ghost use Rattle.outcome.specs.Effect.{Effect, does_recover, effect_of_arguments, output};
 ghost use Rattle.outcome.specs.Outcome.{Outcome};
 ghost use Rattle.outcome.specs.Words.{IsOutcome};
 ghost use Rattle.outcome.specs.Work.{work_files};
@@ -38,11 +38,11 @@ pub fn a_crash_leaves_the_old_files_or_those_of_the_outcome()
 pub fn what_is_carried_out_is_durable()
     ensures { (words : List (List ℕ)) (ignored : List ℕ → Bool) (v : TreeState) (outcome : Outcome)
         (now : List TreeState) (answer : Answer)
-        → LeavesDurableOnceAnswered (IsOutcome (command_of words) (files_of v)) (effect_by
+        → LeavesDurableOnceAnswered (IsOutcome (command_of words) (files_of v)) (effect_of_arguments
         (command_of words))
         ignored v now answer → IsCarriedOut answer
         → IsOutcome (command_of words) (files_of v) outcome → outcome.refusal ≡ None
-        → MustLast (effect_by (command_of words)) ignored v outcome
+        → MustOutcomeBeDurable (effect_of_arguments (command_of words)) ignored v outcome
         → HoldsNow now (EachCrashLeaves ignored outcome.files) }
 {
     an_outcome_is_unique();

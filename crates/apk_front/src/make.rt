@@ -3,23 +3,23 @@
 //! `docs/crash-safety.md`, "A whole file replaced". The container is made by `make_core`.
 ghost use Rattle.std.specs.Prelude.{◌≡◌, ◌≢◌, ◌⊎◌, ℕ, false, true, List, Ok, Err, IsSome, IfOk, IsErrOf, OnOk};
 ghost use Rattle.make_core.specs.make_package.Answers.{IsMadeBySome};
-ghost use Rattle.apk_front.specs.Containers.{IsIndexMade, IsIndexFound, IsIndexOutcome, IsPackageMade, IsPackageOutcome, OnMade, is_disk_or_memory, ended_by_disk_or_memory, made_in};
+ghost use Rattle.apk_front.specs.Containers.{IsIndexMade, IsIndexFound, IsIndexOutcome, IsPackageMade, IsPackageOutcome, OnMade, is_disk_or_memory, ended_by_disk_or_memory, made_file_bytes};
 ghost use Rattle.apk_front.specs.Moments.{CanAddOutputNamesIfAny};
-ghost use Rattle.apk_front.specs.RunContracts.{IsVerdictCounted};
+ghost use Rattle.apk_front.specs.RunContracts.{IsVerdictExplainedByCounts};
 ghost use Rattle.apk_front.specs.Runs.{IsRun};
-ghost use Rattle.apk_front.specs.Verdicts.{Reports, ReportsOne};
+ghost use Rattle.apk_front.specs.Verdicts.{Reports, ReportsOneOfOutcomes};
 ghost use Rattle.base_core.specs.Calls.{IfObservable};
 ghost use Rattle.base_core.specs.Faults.{CountsOnlyRise, HasCause, IsNoFault};
 ghost use Rattle.base_core.specs.Files.{Files, no_names};
 ghost use Rattle.base_core.specs.Read.{OnlyReads};
 ghost use Rattle.base_core.specs.Tree.{files_of};
-ghost use Rattle.command_core.specs.Sound.{IsCommand};
+ghost use Rattle.command_core.specs.Sound.{IsValidCommand};
 ghost use Rattle.command_core.specs.declared.command.Applet.TheVariants.{Mkndx, Mkpkg};
 ghost use Rattle.command_core.specs.declared.values.TheConstants.{FILES};
 ghost use Rattle.make_core.specs.make_index.Files.{FindOnlyFiles};
 ghost use Rattle.make_core.specs.make_info.Output.{output_name};
 ghost use Rattle.make_core.specs.make_info.Reads.{Reads};
-ghost use Rattle.make_core.specs.package_files.Sources.{AreNamesBelowFirst, values_with};
+ghost use Rattle.make_core.specs.package_files.Sources.{AreNamesBelowFirst, values_of_letter};
 ghost use Rattle.outcome.specs.Effect.{Makes};
 ghost use Rattle.outcome.specs.Make.{index_line, make_outcome, mkndx, mkpkg, unless_reserved};
 ghost use Rattle.outcome.specs.Outcome.{Outcome, just_refusal};
@@ -48,12 +48,12 @@ pub(crate) fn mkpkg<T: Tree>(
     command: &Command,
     tree: &mut T,
 ) -> Result<Verdict, TreeFault>
-    requires command { IsCommand command.now }
+    requires command { IsValidCommand command.now }
     requires applet { command.now.applet ≡ Mkpkg }
     ensures found { IfOk result (λ verdict. IfObservable (T.history tree.old) (λ v.
-        ReportsOne (IsPackageOutcome command.now (files_of v)) verdict)) }
+        ReportsOneOfOutcomes (IsPackageOutcome command.now (files_of v)) verdict)) }
     ensures by_reads { IfOk result (λ verdict. (names : List (List ℕ))
-        × AreNamesBelowFirst (values_with FILES command.now.values) names
+        × AreNamesBelowFirst (values_of_letter FILES command.now.values) names
         × (read : Reads) × Reports verdict (mkpkg read no_names command.now names)) }
     ensures run { IfObservable (T.history tree.old) (λ v. IsRun
         (IsPackageOutcome command.now (files_of v)) Makes (output_name command.now)
@@ -61,7 +61,7 @@ pub(crate) fn mkpkg<T: Tree>(
     ensures refused { IfOk result (λ verdict. IsSome verdict.refusal
         → T.history tree.new ≡ T.history tree.old) }
     ensures undone { IsErrOf result TreeFault.Memory → T.history tree.new ≡ T.history tree.old }
-    ensures counts { IsVerdictCounted (T.counts tree.old) (T.counts tree.new) result }
+    ensures counts { IsVerdictExplainedByCounts (T.counts tree.old) (T.counts tree.new) result }
     ensures proper { IfObservable (T.history tree.old) (λ v.
         ((outcome : Outcome) → IsPackageOutcome command.now (files_of v) outcome
         → outcome.commits ≡ true → CanAddOutputNamesIfAny (output_name command.now) (files_of v))
@@ -83,10 +83,10 @@ pub(crate) fn mkndx<T: Tree>(
     command: &Command,
     tree: &mut T,
 ) -> Result<Verdict, TreeFault>
-    requires command { IsCommand command.now }
+    requires command { IsValidCommand command.now }
     requires applet { command.now.applet ≡ Mkndx }
     ensures found { IfOk result (λ verdict. IfObservable (T.history tree.old) (λ v.
-        ReportsOne (IsIndexOutcome command.now (files_of v)) verdict)) }
+        ReportsOneOfOutcomes (IsIndexOutcome command.now (files_of v)) verdict)) }
     // On every tree, for some contents at each read; the files are not used, so none are given.
     ensures by_reads { IfOk result (λ verdict. (read : Reads)
         × FindOnlyFiles read 0 command.now.operands
@@ -97,7 +97,7 @@ pub(crate) fn mkndx<T: Tree>(
     ensures refused { IfOk result (λ verdict. IsSome verdict.refusal
         → T.history tree.new ≡ T.history tree.old) }
     ensures undone { IsErrOf result TreeFault.Memory → T.history tree.new ≡ T.history tree.old }
-    ensures counts { IsVerdictCounted (T.counts tree.old) (T.counts tree.new) result }
+    ensures counts { IsVerdictExplainedByCounts (T.counts tree.old) (T.counts tree.new) result }
     ensures proper { IfObservable (T.history tree.old) (λ v.
         ((outcome : Outcome) → IsIndexOutcome command.now (files_of v) outcome
         → outcome.commits ≡ true → CanAddOutputNamesIfAny (output_name command.now) (files_of v))
@@ -162,13 +162,13 @@ fn finish<T: Tree>(
     report: Text,
     tree: &mut T,
 ) -> Result<Verdict, TreeFault>
-    requires command { IsCommand command.now }
+    requires command { IsValidCommand command.now }
     requires output { IfOk container (λ file. IsSome (output_name command.now)) }
     ensures reported { IfOk result (λ verdict. (files : Files) → Reports verdict
-        (make_outcome files (output_name command.now) report (made_in container))) }
+        (make_outcome files (output_name command.now) report (made_file_bytes container))) }
     ensures run { IfObservable (T.history tree.old) (λ v. IsRun
         (λ outcome. outcome
-        ≡ make_outcome (files_of v) (output_name command.now) report (made_in container))
+        ≡ make_outcome (files_of v) (output_name command.now) report (made_file_bytes container))
         Makes (output_name command.now) result v (T.history tree.old) (T.history tree.new)) }
     ensures done { IfOk result (λ verdict. ended_by_disk_or_memory container ≡ false) }
     ensures cut { ended_by_disk_or_memory container ≡ true → T.history tree.new
@@ -204,7 +204,7 @@ fn write<T: Tree>(
     report: Text,
     tree: &mut T,
 ) -> Result<Verdict, TreeFault>
-    requires command { IsCommand command.now }
+    requires command { IsValidCommand command.now }
     requires output { IsSome (output_name command.now) }
     ensures reported { IfOk result (λ verdict. (files : Files) → Reports verdict
         (make_outcome files (output_name command.now) report (Ok file.now))) }
@@ -215,7 +215,7 @@ fn write<T: Tree>(
     ensures refused { IfOk result (λ verdict. IsSome verdict.refusal
         → T.history tree.new ≡ T.history tree.old) }
     ensures undone { IsErrOf result TreeFault.Memory → T.history tree.new ≡ T.history tree.old }
-    ensures counts { IsVerdictCounted (T.counts tree.old) (T.counts tree.new) result }
+    ensures counts { IsVerdictExplainedByCounts (T.counts tree.old) (T.counts tree.new) result }
     ensures proper { IfObservable (T.history tree.old) (λ v.
         ((make_outcome (files_of v) (output_name command.now) report (Ok file.now)).commits ≡ true
         → CanAddOutputNamesIfAny (output_name command.now) (files_of v))

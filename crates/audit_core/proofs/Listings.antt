@@ -7,7 +7,7 @@ use Rattle.std.proofs.lemmas.List.Sorted.{All-permutation}
 use Rattle.adb_view.specs.Plain.{Plain}
 use Rattle.path_clashes.specs.adb_fields.Repeated.{files_in, folders_in, name_of}
 use Rattle.base_core.specs.Name.{IsName}
-use Rattle.db_core.specs.Members.{Listing, Member, listings_by, listings_from, listings_in_folder, listings_in_folders, member_listings, member_of_kept, members_of_kept}
+use Rattle.db_core.specs.Members.{Listing, Member, listings_of_member, listings_of_members_from, listings_in_folder, listings_in_folders, member_listings, member_of_kept, members_of_kept}
 use Rattle.base_core.specs.Sorted.{sorted_by}
 use Rattle.base_core.proofs.Sorting.{sorted_same}
 use Rattle.audit_core.specs.Records.{PathAndEntry, database_records, file_record, folder_records, package_records, record_cmp, records_by_path}
@@ -27,11 +27,11 @@ in_folders m place i (folder ∷ folders) =
     ∙ (ap (λ rs. rs ++ map listing_record (listings_in_folders m place (i + 1) folders)) (in_folder m place i 1 (name_of folder) (files_in folder))
     ∙ ap (λ rs. folder_records folder ++ rs) (in_folders m place (i + 1) folders))
 
-of_packages : (place : ℕ) (packages : List Plain) → map listing_record (listings_from place (map member_of_kept packages)) ≡ flat_map package_records packages
+of_packages : (place : ℕ) (packages : List Plain) → map listing_record (listings_of_members_from place (map member_of_kept packages)) ≡ flat_map package_records packages
 of_packages place [] = refl
 of_packages place (pkg ∷ packages) =
-    map-append listing_record (listings_by place (member_of_kept pkg)) (listings_from (place + 1) (map member_of_kept packages))
-    ∙ (ap (λ rs. rs ++ map listing_record (listings_from (place + 1) (map member_of_kept packages))) (in_folders (member_of_kept pkg) place 1 (folders_in pkg))
+    map-append listing_record (listings_of_member place (member_of_kept pkg)) (listings_of_members_from (place + 1) (map member_of_kept packages))
+    ∙ (ap (λ rs. rs ++ map listing_record (listings_of_members_from (place + 1) (map member_of_kept packages))) (in_folders (member_of_kept pkg) place 1 (folders_in pkg))
     ∙ ap (λ rs. package_records pkg ++ rs) (of_packages (place + 1) packages))
 
 pub records_are_listings : (packages : List Plain) → map listing_record (member_listings (members_of_kept packages)) ≡ database_records packages

@@ -12,7 +12,7 @@ use Rattle.report_core.specs.AuditReports.{manifest_text, named_digest}
 use Rattle.report_core.specs.Reports.{report_line}
 use Rattle.report_core.specs.declared.refusal.Refusal.{Refusal}
 use Rattle.report_core.specs.declared.refusal.Refusal.TheVariants.{NotInstalled}
-use Rattle.audit_core.specs.Manifest.{manifest_of, manifest_with, operand_package, package_manifest, manifest_after}
+use Rattle.audit_core.specs.Manifest.{manifest_of, manifest_with, operand_package, package_manifest, manifest_with_lines_before}
 
 -- ---- a line
 
@@ -35,20 +35,20 @@ line_added r0 r1 r2 r3 digest path wanted_digest wanted_path (Ok x) one two thre
 abbrev pub all_of : List Plain → List Operand → Result (List ℕ) Refusal
 all_of packages operands = manifest_of packages operands
 
-no_lines : (r : Result (List ℕ) Refusal) → r ≡ manifest_after [] r
+no_lines : (r : Result (List ℕ) Refusal) → r ≡ manifest_with_lines_before [] r
 no_lines (Ok xs) = refl
 no_lines (Err e) = refl
 
-more_lines : (a b : List ℕ) (r : Result (List ℕ) Refusal) → manifest_after a (manifest_after b r) ≡ manifest_after (a ++ b) r
+more_lines : (a b : List ℕ) (r : Result (List ℕ) Refusal) → manifest_with_lines_before a (manifest_with_lines_before b r) ≡ manifest_with_lines_before (a ++ b) r
 more_lines a b (Ok xs) = ap Ok (sym (append_assoc a b xs))
 more_lines a b (Err e) = refl
 
 -- what is reported so far, and what is left
 abbrev pub IsManifestTo : List Plain → List Operand → ℕ → List ℕ → Type 0
-IsManifestTo packages operands i report = manifest_of packages operands ≡ manifest_after report (manifest_of packages (drop i operands))
+IsManifestTo packages operands i report = manifest_of packages operands ≡ manifest_with_lines_before report (manifest_of packages (drop i operands))
 
 pub nothing_yet : (packages : List Plain) (operands : List Operand) (report : List ℕ) → report ≡ [] → IsManifestTo packages operands 0 report
-nothing_yet packages operands report is = no_lines (manifest_of packages operands) ∙ ap (λ r. manifest_after r (manifest_of packages operands)) (sym is)
+nothing_yet packages operands report is = no_lines (manifest_of packages operands) ∙ ap (λ r. manifest_with_lines_before r (manifest_of packages operands)) (sym is)
 
 first_found : {X : Type 0} (p : X → Bool) (xs ys : List X) (n : ℕ) → ((k : ℕ) → slice_get xs (n + k) ≡ slice_get ys k) → option_and_then (slice_get xs) (position_from p n ys) ≡ find p ys
 first_found p xs [] n same = refl
@@ -75,19 +75,19 @@ reported_package packages operands i o report more place at within is added so_f
     go : (found : Option Plain) → slice_get packages place ≡ found → (x : Plain) × (slice_get packages place ≡ Some x) → IsManifestTo packages operands (i + 1) more
     go found e (pkg, here) =
         so_far
-        ∙ (ap (λ os. manifest_after report (manifest_of packages os)) (left_at operands i o at)
-        ∙ (ap (λ p. manifest_after report (manifest_with o p (manifest_of packages (drop (i + 1) operands)))) (sym is ∙ here)
+        ∙ (ap (λ os. manifest_with_lines_before report (manifest_of packages os)) (left_at operands i o at)
+        ∙ (ap (λ p. manifest_with_lines_before report (manifest_with o p (manifest_of packages (drop (i + 1) operands)))) (sym is ∙ here)
         ∙ (more_lines report (package_manifest pkg) (manifest_of packages (drop (i + 1) operands))
-        ∙ ap (λ r. manifest_after r (manifest_of packages (drop (i + 1) operands))) (sym (added ∙ ap (λ p. report ++ option_map_or package_manifest p []) here)))))
+        ∙ ap (λ r. manifest_with_lines_before r (manifest_of packages (drop (i + 1) operands))) (sym (added ∙ ap (λ p. report ++ option_map_or package_manifest p []) here)))))
 
 -- an operand whose package is not installed
 pub refused_at : (packages : List Plain) (operands : List Operand) (i : ℕ) (o : Operand) (report : List ℕ) → slice_get operands i ≡ Some o → operand_package packages o ≡ None → IsManifestTo packages operands i report
     → Err (NotInstalled o.place) ≡ manifest_of packages operands
 refused_at packages operands i o report at is so_far =
     sym (so_far
-    ∙ (ap (λ os. manifest_after report (manifest_of packages os)) (left_at operands i o at)
-    ∙ ap (λ p. manifest_after report (manifest_with o p (manifest_of packages (drop (i + 1) operands)))) is))
+    ∙ (ap (λ os. manifest_with_lines_before report (manifest_of packages os)) (left_at operands i o at)
+    ∙ ap (λ p. manifest_with_lines_before report (manifest_with o p (manifest_of packages (drop (i + 1) operands)))) is))
 
 pub all_reported : (packages : List Plain) (operands : List Operand) (i : ℕ) (report : List ℕ) → length operands ≤ i → IsManifestTo packages operands i report → Ok report ≡ manifest_of packages operands
 all_reported packages operands i report l so_far =
-    sym (so_far ∙ (ap (λ os. manifest_after report (manifest_of packages os)) (drop_of_length-le operands l) ∙ ap Ok (append-nil report)))
+    sym (so_far ∙ (ap (λ os. manifest_with_lines_before report (manifest_of packages os)) (drop_of_length-le operands l) ∙ ap Ok (append-nil report)))

@@ -7,14 +7,14 @@ use Rattle.std.proofs.lemmas.Bool.{not-true}
 use Rattle.std.proofs.Math.Bool.{or-true}
 use Rattle.base_core.proofs.Booleans.{both_second, both_first}
 use Rattle.path_clashes.specs.adb_fields.FirstPair.{IsIn}
-use Rattle.path_clashes.specs.adb_fields.Once.{AllDistinct, AreApart, AreDistinctNames, IsInOneOf}
+use Rattle.path_clashes.specs.adb_fields.Once.{EachHasDistinctNames, ShareNoName, AreDistinctNames, IsInOneOf}
 use Rattle.path_clashes.specs.adb_fields.Paths.{path_of}
 use Rattle.path_clashes.specs.adb_fields.Repeated.{entries_at, files_in, folders_in, list_of, name_of, paths_in, paths_under}
 use Rattle.path_clashes.proofs.adb_fields.Members.{from-flat_map, from-map, in-map}
 use Rattle.path_clashes.proofs.adb_fields.Distinct.{distinct_front}
 use Rattle.db_core.specs.adb_schema.Rules.{is_file_name, is_one_part}
 use Rattle.db_core.specs.adb_schema.SoundContainers.{IsSoundValue}
-use Rattle.db_core.specs.adb_schema.SoundValues.{IsFileOf, IsFolder, IsPackage}
+use Rattle.db_core.specs.adb_schema.SoundValues.{IsSoundFileOf, IsSoundFolder, IsSoundPackage}
 use Rattle.adb_view.specs.FieldIndexes.{DIR_FILES, IDB_PACKAGES, PACKAGE_PATHS}
 use Rattle.adb_view.specs.Plain.{Plain, Plains, more, none}
 use Rattle.adb_view.specs.Shaped.{Each}
@@ -88,9 +88,9 @@ each_in P v (more w vs) h (inr here) = each_in P v vs h.1 here
 abbrev AreParts : Plain → Type 0
 AreParts folder = (file : Plain) → IsIn file (files_in folder) → list_any is_slash (name_of file) ≡ false
 
-parts_of_folder : (folder : Plain) → IsFolder Idb folder → AreParts folder
+parts_of_folder : (folder : Plain) → IsSoundFolder Idb folder → AreParts folder
 parts_of_folder folder is file here =
-    no_slash (name_of folder) (name_of file) (each_in (IsFileOf Idb (name_of folder)) file (entries_in (entry_in folder DIR_FILES)) is.files here).name
+    no_slash (name_of folder) (name_of file) (each_in (IsSoundFileOf Idb (name_of folder)) file (entries_in (entry_in folder DIR_FILES)) is.files here).name
 
 map_twice : (f : List ℕ → List ℕ) (files : List Plain) → map f (map name_of files) ≡ map (λ file. f (name_of file)) files
 map_twice f [] = refl
@@ -106,7 +106,7 @@ folder_once folder parts d =
 
 -- ---- the folders of a package
 
-folders_once : (folders : List Plain) → ((folder : Plain) → IsIn folder folders → AreParts folder) → AreDistinctNames (map name_of folders) → AllDistinct (map (λ folder. map name_of (files_in folder)) folders)
+folders_once : (folders : List Plain) → ((folder : Plain) → IsIn folder folders → AreParts folder) → AreDistinctNames (map name_of folders) → EachHasDistinctNames (map (λ folder. map name_of (files_in folder)) folders)
     → AreDistinctNames (flat_map paths_under folders)
 folders_once [] parts names files = tt
 folders_once (folder ∷ folders) parts names files =
@@ -121,7 +121,7 @@ folders_once (folder ∷ folders) parts names files =
 
 -- ---- the packages of a database
 
-distinct_after : (xs ys : List (List (List ℕ))) → AllDistinct (xs ++ ys) → AllDistinct ys
+distinct_after : (xs ys : List (List (List ℕ))) → EachHasDistinctNames (xs ++ ys) → EachHasDistinctNames ys
 distinct_after [] ys h = h
 distinct_after (x ∷ xs) ys h = distinct_after xs ys h.1
 
@@ -130,22 +130,22 @@ in_one_of q pkg [] here lists = absurd here
 in_one_of q pkg (p ∷ packages) (inl is) lists = inl (subst (λ (v : Plain). IsIn q (paths_in v)) is lists)
 in_one_of q pkg (p ∷ packages) (inr here) lists = inr (in_one_of q pkg packages here lists)
 
-packages_once : (packages : List Plain) → ((pkg : Plain) → IsIn pkg packages → IsPackage Idb pkg) → AllDistinct (map (λ pkg. map name_of (folders_in pkg)) packages)
-    → AllDistinct (flat_map (λ pkg. map (λ folder. map name_of (files_in folder)) (folders_in pkg)) packages) → AreApart (map paths_in packages)
+packages_once : (packages : List Plain) → ((pkg : Plain) → IsIn pkg packages → IsSoundPackage Idb pkg) → EachHasDistinctNames (map (λ pkg. map name_of (folders_in pkg)) packages)
+    → EachHasDistinctNames (flat_map (λ pkg. map (λ folder. map name_of (files_in folder)) (folders_in pkg)) packages) → ShareNoName (map paths_in packages)
     → AreDistinctNames (flat_map paths_in packages)
 packages_once [] rules folders files apart = tt
 packages_once (pkg ∷ packages) rules folders files apart =
     let files_of : Plain → List (List (List ℕ)) = λ pkg. map (λ folder. map name_of (files_in folder)) (folders_in pkg) in
     distinct_both (paths_in pkg) (flat_map paths_in packages)
     (folders_once (folders_in pkg)
-    (λ folder h. parts_of_folder folder (each_in (IsFolder Idb) folder (entries_in (entry_in pkg PACKAGE_PATHS)) (rules pkg (inl refl)).folders h))
+    (λ folder h. parts_of_folder folder (each_in (IsSoundFolder Idb) folder (entries_in (entry_in pkg PACKAGE_PATHS)) (rules pkg (inl refl)).folders h))
     folders.0 (distinct_front (files_of pkg) (flat_map files_of packages) files))
     (packages_once packages (λ p h. rules p (inr h)) folders.1 (distinct_after (files_of pkg) (flat_map files_of packages) files) apart.1)
     (λ q h k. (let found = from-flat_map paths_in q packages k in apart.0 q h (in_one_of q found.0 packages found.1 found.2)))
 
 pub database_once : (database : Plain) → IsSoundValue Idb database → AreDistinctNames (flat_map paths_in (entries_at IDB_PACKAGES database))
 database_once database sound =
-    packages_once (entries_at IDB_PACKAGES database) (λ pkg h. each_in (IsPackage Idb) pkg (entries_in (entry_in database IDB_PACKAGES)) sound.rules h)
+    packages_once (entries_at IDB_PACKAGES database) (λ pkg h. each_in (IsSoundPackage Idb) pkg (entries_in (entry_in database IDB_PACKAGES)) sound.rules h)
     sound.once.0.folders sound.once.0.files sound.once.1.paths_once
 
 -- ---- the paths of records

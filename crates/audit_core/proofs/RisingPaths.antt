@@ -13,11 +13,11 @@ use Rattle.adb_view.specs.FieldIndexes.{IDB_PACKAGES}
 use Rattle.adb_view.specs.Plain.{Plain}
 use Rattle.adb_view.specs.declared.tables.Which.TheVariants.{Idb}
 use Rattle.base_core.specs.Files.{Files}
-use Rattle.base_core.specs.Listed.{IsRising}
+use Rattle.base_core.specs.Listed.{AreSortedDistinctNames}
 use Rattle.base_core.specs.Sorted.{sorted_by, with_element}
 use Rattle.base_core.proofs.Rising as Names
 use Rattle.base_core.proofs.Rising.{order, pairs_from_rises}
-use Rattle.audit_core.specs.Audit.{FileDifference, difference_at, difference_from}
+use Rattle.audit_core.specs.Audit.{FileDifference, path_difference_if_any, difference_from_entry}
 use Rattle.audit_core.specs.Differences.{file_differences}
 use Rattle.audit_core.specs.Records.{PathAndEntry, database_records, record_cmp, records_by_path}
 use Rattle.audit_core.specs.declared.comparing.Difference.{Difference}
@@ -81,7 +81,7 @@ rises_sorted (r ∷ rs) d =
 
 module _ (how : PathAndEntry → Option Difference) where
   abbrev found_of : List PathAndEntry → List FileDifference
-  found_of rs = flat_map (λ r. difference_at r.path (how r)) rs
+  found_of rs = flat_map (λ r. path_difference_if_any r.path (how r)) rs
 
   abbrev paths_found : List PathAndEntry → List (List ℕ)
   paths_found rs = map (λ d. d.path) (found_of rs)
@@ -90,7 +90,7 @@ module _ (how : PathAndEntry → Option Difference) where
   found_is_in q [] here = here
   found_is_in q (r ∷ rs) here = go (how r) (found_is_in q rs) here
     where
-      go : (o : Option Difference) → (Names.IsIn q (paths_found rs) → Names.IsIn q (paths rs)) → Names.IsIn q (map (λ d. d.path) (difference_at r.path o ++ found_of rs)) → Names.IsIn q (paths (r ∷ rs))
+      go : (o : Option Difference) → (Names.IsIn q (paths_found rs) → Names.IsIn q (paths rs)) → Names.IsIn q (map (λ d. d.path) (path_difference_if_any r.path o ++ found_of rs)) → Names.IsIn q (paths (r ∷ rs))
       go None rest here = inr (rest here)
       go (Some difference) rest (inl is) = inl is
       go (Some difference) rest (inr more) = inr (rest more)
@@ -99,14 +99,14 @@ module _ (how : PathAndEntry → Option Difference) where
   rises_found [] rises = tt
   rises_found (r ∷ rs) rises = go (how r) (rises_found rs rises.1)
     where
-      go : (o : Option Difference) → Names.Rises (paths_found rs) → Names.Rises (map (λ d. d.path) (difference_at r.path o ++ found_of rs))
+      go : (o : Option Difference) → Names.Rises (paths_found rs) → Names.Rises (map (λ d. d.path) (path_difference_if_any r.path o ++ found_of rs))
       go None rest = rest
       go (Some difference) rest = (λ q here. rises.0 q (found_is_in q rs here), rest)
 
-pub differences_rise : (files : Files) (database : Plain) → IsSoundValue Idb database → IsRising (map (λ d. d.path) (file_differences files (entries_at IDB_PACKAGES database)))
+pub differences_rise : (files : Files) (database : Plain) → IsSoundValue Idb database → AreSortedDistinctNames (map (λ d. d.path) (file_differences files (entries_at IDB_PACKAGES database)))
 unfolding file_differences records_by_path
 differences_rise files database sound =
     let packages = entries_at IDB_PACKAGES database in
     pairs_from_rises (map (λ d. d.path) (file_differences files packages))
-    (rises_found (λ r. difference_from r.entry (files r.path)) (records_by_path packages)
+    (rises_found (λ r. difference_from_entry r.entry (files r.path)) (records_by_path packages)
     (rises_sorted (database_records packages) (subst AreDistinctNames (sym (record_paths packages)) (database_once database sound))))

@@ -8,7 +8,7 @@ use Rattle.audit_core.specs.declared.comparing.Difference.{Difference}
 use Rattle.audit_core.specs.declared.comparing.Difference.TheVariants.{Changed, Missing}
 use Rattle.file_guard.specs.AsListed.{is_as_listed}
 use Rattle.package_files.specs.make_info.Reads.{Reads}
-use Rattle.report_core.specs.AuditReports.{changed_text, missing_text}
+use Rattle.report_core.specs.AuditReports.{modified_file_text, missing_file_text}
 use Rattle.report_core.specs.Reports.{report_line}
 
 -- a file that differs from its record, by its path, and how it differs
@@ -18,27 +18,27 @@ pub record FileDifference : Type 0 where
 
 -- how a file differs from its entry, by what is found under its path: no file, or other bytes than
 -- the entry lists; None if it does not differ
-abbrev pub difference_from : Plain → Option (List ℕ) → Option Difference
-difference_from entry None = Some Missing
-difference_from entry (Some bytes) = if is_as_listed entry bytes then None else Some Changed
+abbrev pub difference_from_entry : Plain → Option (List ℕ) → Option Difference
+difference_from_entry entry None = Some Missing
+difference_from_entry entry (Some bytes) = if is_as_listed entry bytes then None else Some Changed
 
 -- a path with a difference, if there is one
-abbrev pub difference_at : List ℕ → Option Difference → List FileDifference
-difference_at path None = []
-difference_at path (Some difference) = record { path = path; difference = difference } ∷ []
+abbrev pub path_difference_if_any : List ℕ → Option Difference → List FileDifference
+path_difference_if_any path None = []
+path_difference_if_any path (Some difference) = record { path = path; difference = difference } ∷ []
 
 -- the files that differ from some records, in the order of these; the read of the first file has
 -- this number
 abbrev pub differences_from : Reads → ℕ → List PathAndEntry → List FileDifference
 differences_from read n [] = []
 differences_from read n (r ∷ rs) =
-    difference_at r.path (difference_from r.entry (read n r.path))
+    path_difference_if_any r.path (difference_from_entry r.entry (read n r.path))
     ++ differences_from read (suc n) rs
 
 -- what is reported of a path with a difference
 abbrev pub difference_text : Difference → List ℕ → List ℕ
-difference_text Missing path = missing_text path
-difference_text Changed path = changed_text path
+difference_text Missing path = missing_file_text path
+difference_text Changed path = modified_file_text path
 
 -- the line of a file that differs
 abbrev pub difference_line : FileDifference → List ℕ

@@ -4,7 +4,7 @@ use Rattle.std.specs.Prelude.{◌≡◌, ℕ, true, false, List, Option, None, I
 use Rattle.std.specs.List.{flat_map}
 use Rattle.path_clashes.specs.adb_fields.FirstPair.{IsIn}
 use Rattle.adb_view.specs.Plain.{Plain}
-use Rattle.audit_core.specs.Audit.{FileDifference, difference_at, difference_from}
+use Rattle.audit_core.specs.Audit.{FileDifference, path_difference_if_any, difference_from_entry}
 use Rattle.audit_core.specs.Records.{PathAndEntry, package_records, records_by_path}
 use Rattle.audit_core.specs.declared.comparing.Difference.{Difference}
 use Rattle.audit_core.specs.declared.comparing.Difference.TheVariants.{Changed, Missing}
@@ -14,28 +14,28 @@ use Rattle.file_guard.specs.AsListed.{is_as_listed}
 -- the files that differ from the records of some packages, in byte order of their paths
 unfoldable pub file_differences : Files → List Plain → List FileDifference
 file_differences files packages =
-    flat_map (λ r. difference_at r.path (difference_from r.entry (files r.path)))
+    flat_map (λ r. path_difference_if_any r.path (difference_from_entry r.entry (files r.path)))
     (records_by_path packages)
 
 -- one of the packages lists the file of a record
-pub record IsInstalledRecord (packages : List Plain) (r : PathAndEntry) : Type 0 where
+pub record IsRecordOfPackages (packages : List Plain) (r : PathAndEntry) : Type 0 where
   pub pkg : Plain
   pub installed : IsIn pkg packages
   pub listed : IsIn r (package_records pkg)
 
 -- what is found under a path differs so from the entry
-abbrev pub IsDifferent : Difference → Plain → Option (List ℕ) → Type 0
-IsDifferent Missing entry found = found ≡ None
-IsDifferent Changed entry found = IsSomeAnd found (λ bytes. is_as_listed entry bytes ≡ false)
+abbrev pub DiffersFromEntry : Difference → Plain → Option (List ℕ) → Type 0
+DiffersFromEntry Missing entry found = found ≡ None
+DiffersFromEntry Changed entry found = IsSomeAnd found (λ bytes. is_as_listed entry bytes ≡ false)
 
 -- one of the packages lists a file under this path, and the file differs so from its entry
 pub record IsDifferenceIn (packages : List Plain) (files : Files) (d : FileDifference) : Type 0 where
   pub entry : Plain
-  pub recorded : IsInstalledRecord packages (record { path = d.path; entry = entry })
-  pub differs : IsDifferent d.difference entry (files d.path)
+  pub recorded : IsRecordOfPackages packages (record { path = d.path; entry = entry })
+  pub differs : DiffersFromEntry d.difference entry (files d.path)
 
 -- each file that a package lists is there, with bytes as its entry lists them
 abbrev pub AreAsRecorded : List Plain → Files → Type 0
 AreAsRecorded packages files =
-    (r : PathAndEntry) → IsInstalledRecord packages r
+    (r : PathAndEntry) → IsRecordOfPackages packages r
     → IsSomeAnd (files r.path) (λ bytes. is_as_listed r.entry bytes ≡ true)

@@ -26,14 +26,14 @@ abbrev pub operand_package : List Plain → Operand → Option Plain
 operand_package packages o = find (is_package_named o.text) packages
 
 -- a manifest of further packages, after these lines; a refusal is kept as it is
-abbrev pub manifest_after : List ℕ → Result (List ℕ) Refusal → Result (List ℕ) Refusal
-manifest_after lines further = and_then further (λ more. Ok (lines ++ more))
+abbrev pub manifest_with_lines_before : List ℕ → Result (List ℕ) Refusal → Result (List ℕ) Refusal
+manifest_with_lines_before lines further = and_then further (λ more. Ok (lines ++ more))
 
 -- the manifest with the package of an operand first, unless that is not installed
 abbrev pub manifest_with :
     Operand → Option Plain → Result (List ℕ) Refusal → Result (List ℕ) Refusal
 manifest_with o None further = Err (NotInstalled o.place)
-manifest_with o (Some pkg) further = manifest_after (package_manifest pkg) further
+manifest_with o (Some pkg) further = manifest_with_lines_before (package_manifest pkg) further
 
 -- the lines of the packages that operands name, in the order given; or the refusal of the first
 -- operand that names no installed package

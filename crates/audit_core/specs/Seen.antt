@@ -18,6 +18,6 @@ record_seen r = record {
 }
 
 -- how a file differs, by how it compares with its entry; None if it does not differ
-abbrev pub difference_by : Option Comparison → Option Difference
-difference_by None = Some Missing
-difference_by (Some comparison) = if comparison.as_new then None else Some Changed
+abbrev pub difference_for_comparison : Option Comparison → Option Difference
+difference_for_comparison None = Some Missing
+difference_for_comparison (Some comparison) = if comparison.as_new then None else Some Changed

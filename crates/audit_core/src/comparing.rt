@@ -1,14 +1,14 @@
 //! `audit`: each file that the packages of a database list is compared with its record. The rules
 //! are in `docs/commands.md`, "`audit`".
 
-ghost use Rattle.audit_core.specs.Audit.{audit_report, difference_at, difference_from, difference_line, difference_text, differences_from};
-ghost use Rattle.audit_core.specs.Seen.{difference_by, record_seen};
+ghost use Rattle.audit_core.specs.Audit.{audit_report, path_difference_if_any, difference_from_entry, difference_line, difference_text, differences_from};
+ghost use Rattle.audit_core.specs.Seen.{difference_for_comparison, record_seen};
 ghost use Rattle.base_core.specs.Calls.{IfObservable};
 ghost use Rattle.base_core.specs.Name.{IsName};
 ghost use Rattle.base_core.specs.Read.{OnlyReads};
 ghost use Rattle.base_core.specs.Tree.{files_of};
 ghost use Rattle.db_core.specs.Seen.{packages_of};
-ghost use Rattle.package_files.specs.Runs.{Explains};
+ghost use Rattle.package_files.specs.Runs.{IsExplainedBySomeReads};
 ghost use Rattle.report_core.specs.Reports.{report_line};
 ghost use Rattle.std.specs.List.{flat_map};
 ghost use Rattle.std.specs.Prelude.{◌≡◌, ◌++◌, ℕ, List, Option, All, IfOk, OnOk, map};
@@ -38,9 +38,9 @@ pub enum Difference {
 ///
 /// `Disk` if the tree failed, and `Memory`.
 pub fn audit<T: Tree>(alloc: Global, db: &Db<'_>, tree: &mut T) -> Result<Text, TreeFault>
-    // It is the report of some contents at each read, from any number on; if the tree shows its
-    // files, of these.
-    ensures report { (first : ℕ) → Explains (T.history tree.old) (λ read.
+    // For each number `first` there are reads, numbered from it, that give this report. If the
+    // tree's files are observable, the reads find these files.
+    ensures report { (first : ℕ) → IsExplainedBySomeReads (T.history tree.old) (λ read.
         IfOk result (λ report. report ≡ audit_report read first (packages_of db.now))) }
     // The tree is only read; a fault of it has its cause.
     ensures tree { OnlyReads TreeFault.Disk (T.history tree.old) (T.history tree.new)
@@ -60,7 +60,7 @@ fn audit_records<T: Tree>(
     tree: &mut T,
 ) -> Result<Vec<u8>, TreeFault>
     requires { All (λ r. IsName r.path) (map record_seen records.now) }
-    ensures report { (first : ℕ) → Explains (T.history tree.old) (λ read.
+    ensures report { (first : ℕ) → IsExplainedBySomeReads (T.history tree.old) (λ read.
         IfOk result (λ report. report.items ≡ flat_map difference_line
         (differences_from read first (map record_seen records.now)))) }
     ensures tree { OnlyReads TreeFault.Disk (T.history tree.old) (T.history tree.new)
@@ -89,8 +89,8 @@ fn audit_record<T: Tree>(
         × IfObservable (T.history tree.old)
         (λ v. found ≡ files_of v (record_seen record.now).path)
         × OnOk result (report.new.items ≡ report.old.items ++ flat_map difference_line
-        (difference_at (record_seen record.now).path
-        (difference_from (record_seen record.now).entry found))) }
+        (path_difference_if_any (record_seen record.now).path
+        (difference_from_entry (record_seen record.now).entry found))) }
     ensures tree { OnlyReads TreeFault.Disk (T.history tree.old) (T.history tree.new)
         (T.counts tree.old) (T.counts tree.new) result }
 {
@@ -98,7 +98,7 @@ fn audit_record<T: Tree>(
     let name = Name::of(alloc, &path)?;
     let listed = listed_file(&record.file);
     let found = compare_file_in(tree, &name, Some(listed), None, piece)?;
-    if let Some(difference) = difference_by(found) {
+    if let Some(difference) = difference_for_comparison(found) {
         push_difference(report, difference, &path)?;
     }
     Ok(())
@@ -106,8 +106,8 @@ fn audit_record<T: Tree>(
 
 // How a file differs from its record, by how it compares with the entry; None if it does not
 // differ.
-fn difference_by(found: Option<Comparison>) -> Option<Difference>
-    ensures { result ≡ difference_by found }
+fn difference_for_comparison(found: Option<Comparison>) -> Option<Difference>
+    ensures { result ≡ difference_for_comparison found }
 {
     match found {
         None => Some(Difference::Missing),

@@ -9,7 +9,7 @@ ghost use Rattle.adb_view.specs.declared.tables.Which.TheVariants.{Idb};
 ghost use Rattle.audit_core.specs.Audit.{FileDifference, audit_report, difference_line};
 ghost use Rattle.audit_core.specs.Differences.{AreAsRecorded, IsDifferenceIn, file_differences};
 ghost use Rattle.base_core.specs.Files.{Files};
-ghost use Rattle.base_core.specs.Listed.{IsRising};
+ghost use Rattle.base_core.specs.Listed.{AreSortedDistinctNames};
 ghost use Rattle.package_files.specs.make_info.Reads.{Reads};
 ghost use Rattle.std.specs.List.{flat_map};
 ghost use Rattle.std.specs.Prelude.{◌≡◌, ◌≤◌, ◌↔◌, [], ℕ, List, map};
@@ -37,7 +37,7 @@ pub fn an_audit_reports_just_the_files_that_differ()
         → IsIn d (file_differences files packages) ↔ IsDifferenceIn packages files d }
     // Of a sound database each path is reported once, in byte order.
     ensures rising { (files : Files) (database : Plain) → IsSoundValue Idb database
-        → IsRising (map (λ d. d.path)
+        → AreSortedDistinctNames (map (λ d. d.path)
         (file_differences files (entries_at IDB_PACKAGES database))) }
 {}
 

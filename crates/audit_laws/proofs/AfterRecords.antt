@@ -13,13 +13,13 @@ use Rattle.audit_core.specs.adb_fields.Repeated.{entries_at, files_in, folders_i
 use Rattle.audit_core.proofs.adb_fields.Members.{from-flat_map, from-map, in-flat_map, in-map}
 use Rattle.root_laws.specs.adb_schema.Reserved.{is_reserved}
 use Rattle.root_laws.specs.adb_schema.SoundContainers.{IsSoundValue}
-use Rattle.root_laws.specs.adb_schema.SoundValues.{IsFileOf, IsFolder, IsPackage}
+use Rattle.root_laws.specs.adb_schema.SoundValues.{IsSoundFileOf, IsSoundFolder, IsSoundPackage}
 use Rattle.adb_view.specs.FieldIndexes.{DIR_FILES, IDB_PACKAGES, PACKAGE_PATHS}
 use Rattle.adb_view.specs.Plain.{Plain, Plains, more, none}
 use Rattle.adb_view.specs.Shaped.{Each}
 use Rattle.adb_view.specs.Values.{entries_in, entry_in, int_in, text_in}
 use Rattle.adb_view.specs.declared.tables.Which.TheVariants.{Idb}
-use Rattle.audit_core.specs.Differences.{IsDifferent, IsInstalledRecord}
+use Rattle.audit_core.specs.Differences.{DiffersFromEntry, IsRecordOfPackages}
 use Rattle.audit_core.specs.Records.{PathAndEntry, database_records, file_record, folder_records, package_records}
 use Rattle.audit_core.specs.declared.comparing.Difference.{Difference}
 use Rattle.audit_core.specs.declared.comparing.Difference.TheVariants.{Changed, Missing}
@@ -28,19 +28,19 @@ use Rattle.audit_core.proofs.PathsOnce.{database_once, record_paths}
 use Rattle.root_laws.specs.change_files.FileChange.{FileChange, owner_listing}
 use Rattle.root_laws.proofs.change_files.Lists.{IsOneOf, passing_kept}
 use Rattle.root_laws.proofs.change_files.OwnedFiles.{owner_is}
-use Rattle.audit_core.specs.db_core.Members.{Listing, Member, claims_of, member_listings, members_of_kept}
+use Rattle.audit_core.specs.db_core.Members.{Listing, Member, listings_of_path, member_listings, members_of_kept}
 use Rattle.audit_core.specs.db_core.OwnedListings.{owned_listings, owned_paths}
-use Rattle.root_laws.specs.db_write.NewDatabase.{packages_after}
+use Rattle.root_laws.specs.db_write.NewDatabase.{packages_in_new_database}
 use Rattle.audit_core.specs.file_guard.AsListed.{file_hash, file_size, file_target, is_as_listed, is_as_listed_by}
-use Rattle.root_laws.specs.file_owners.Owners.{owned_of, owner_of_path}
+use Rattle.root_laws.specs.file_owners.Owners.{owned_flags_of, owner_of_path}
 use Rattle.root_laws.proofs.file_owners.OneOwner.{owner_is as member_place}
-use Rattle.root_laws.specs.path_claims.Claims.{is_member}
+use Rattle.root_laws.specs.path_claims.Claims.{is_owning_member}
 
 -- what the laws of `db_write` say
 pub record WrittenLaws : Type 0 where
-  pub paths : (members : List Member) (flags : List Bool) → flat_map paths_in (list_of (packages_after members flags)) ≡ owned_paths members flags
+  pub paths : (members : List Member) (flags : List Bool) → flat_map paths_in (list_of (packages_in_new_database members flags)) ≡ owned_paths members flags
   pub entries : (members : List Member) (flags : List Bool)
-      → map (λ l. l.entry) (member_listings (members_of_kept (list_of (packages_after members flags)))) ≡ map (λ l. without_zeros l.entry) (owned_listings (member_listings members) flags)
+      → map (λ l. l.entry) (member_listings (members_of_kept (list_of (packages_in_new_database members flags)))) ≡ map (λ l. without_zeros l.entry) (owned_listings (member_listings members) flags)
 
 -- ---- entries in which an integer 0 is Null
 
@@ -50,7 +50,7 @@ zeros_as_listed entry bytes =
     ∙ (ap (λ hash. is_as_listed_by (file_size entry) hash (file_target (without_zeros entry)) bytes) (ap text_in (entry_zeros entry 4) ∙ text_zeros (entry_in entry 4))
     ∙ ap (λ target. is_as_listed_by (file_size entry) (file_hash entry) target bytes) (ap text_in (entry_zeros entry 5) ∙ text_zeros (entry_in entry 5)))
 
-pub zeros_alike : (entry : Plain) (found : Option (List ℕ)) (d : Difference) → IsDifferent d (without_zeros entry) found ↔ IsDifferent d entry found
+pub zeros_alike : (entry : Plain) (found : Option (List ℕ)) (d : Difference) → DiffersFromEntry d (without_zeros entry) found ↔ DiffersFromEntry d entry found
 zeros_alike entry found Missing = (λ is. is, λ is. is)
 zeros_alike entry None Changed = (λ is. is, λ is. is)
 zeros_alike entry (Some bytes) Changed = (λ is. sym (zeros_as_listed entry bytes) ∙ is, λ is. zeros_as_listed entry bytes ∙ is)
@@ -146,24 +146,24 @@ free_path database sound r here =
     let pkg = from-flat_map package_records r (entries_at IDB_PACKAGES database) here in
     let folder = from-flat_map folder_records r (folders_in pkg.0) pkg.2 in
     let file = from-map (file_record (name_of folder.0)) r (files_in folder.0) folder.2 in
-    let is_package = each_in (IsPackage Idb) pkg.0 (entries_in (entry_in database IDB_PACKAGES)) sound.rules pkg.1 in
-    let is_folder = each_in (IsFolder Idb) folder.0 (entries_in (entry_in pkg.0 PACKAGE_PATHS)) is_package.folders folder.1 in
-    let is_file = each_in (IsFileOf Idb (name_of folder.0)) file.0 (entries_in (entry_in folder.0 DIR_FILES)) is_folder.files file.1 in
+    let is_package = each_in (IsSoundPackage Idb) pkg.0 (entries_in (entry_in database IDB_PACKAGES)) sound.rules pkg.1 in
+    let is_folder = each_in (IsSoundFolder Idb) folder.0 (entries_in (entry_in pkg.0 PACKAGE_PATHS)) is_package.folders folder.1 in
+    let is_file = each_in (IsSoundFileOf Idb (name_of folder.0)) file.0 (entries_in (entry_in folder.0 DIR_FILES)) is_folder.files file.1 in
     ap (λ (q : PathAndEntry). is_reserved q.path) file.2 ∙ not-true (is_reserved (file_record (name_of folder.0) file.0).path) is_file.listed
 
 -- ---- the database after a change
 
 module _ (laws : WrittenLaws) (change : FileChange) (database : Plain) (sound : IsSoundValue Idb database)
-    (are : entries_at IDB_PACKAGES database ≡ list_of (packages_after change.members (owned_of change.members))) where
+    (are : entries_at IDB_PACKAGES database ≡ list_of (packages_in_new_database change.members (owned_flags_of change.members))) where
   abbrev flags : List Bool
-  flags = owned_of change.members
+  flags = owned_flags_of change.members
 
   abbrev owned : List Listing
   owned = owned_listings (member_listings change.members) flags
 
-  records_are : database_records (list_of (packages_after change.members flags)) ≡ map kept_record owned
+  records_are : database_records (list_of (packages_in_new_database change.members flags)) ≡ map kept_record owned
   records_are =
-      let packages = list_of (packages_after change.members flags) in
+      let packages = list_of (packages_in_new_database change.members flags) in
       same_records (database_records packages) owned (record_paths packages ∙ laws.paths change.members flags)
       (ap (map (λ (r : PathAndEntry). r.entry)) (sym (records_are_listings packages))
       ∙ (map_twice (λ (r : PathAndEntry). r.entry) listing_record (member_listings (members_of_kept packages)) ∙ laws.entries change.members flags))
@@ -172,16 +172,16 @@ module _ (laws : WrittenLaws) (change : FileChange) (database : Plain) (sound : 
   once = subst AreDistinctNames (ap (flat_map paths_in) are ∙ laws.paths change.members flags) (database_once database sound)
 
   owned_is : (l : Listing) → IsIn l owned → IsIn l (member_listings change.members) × (owner_of_path change.members l.path ≡ Some l.place)
-  unfolding owned_of
+  unfolding owned_flags_of
   owned_is l here =
-      let found = flagged_in (λ l. is_member l.place (owner_of_path change.members l.path)) l (member_listings change.members) here in
+      let found = flagged_in (λ l. is_owning_member l.place (owner_of_path change.members l.path)) l (member_listings change.members) here in
       (found.0, member_place l.place (owner_of_path change.members l.path) found.1)
 
   is_owned : (l : Listing) → IsIn l (member_listings change.members) → owner_of_path change.members l.path ≡ Some l.place → IsIn l owned
-  unfolding owned_of
+  unfolding owned_flags_of
   is_owned l here place =
-      in_flagged (λ l. is_member l.place (owner_of_path change.members l.path)) l (member_listings change.members) here
-      (ap (is_member l.place) place ∙ eq-eqb l.place l.place refl)
+      in_flagged (λ l. is_owning_member l.place (owner_of_path change.members l.path)) l (member_listings change.members) here
+      (ap (is_owning_member l.place) place ∙ eq-eqb l.place l.place refl)
 
   owner_owned : (path : List ℕ) (l : Listing) → owner_listing change path ≡ Some l → IsIn l owned × (l.path ≡ path)
   owner_owned path l e =
@@ -189,7 +189,7 @@ module _ (laws : WrittenLaws) (change : FileChange) (database : Plain) (sound : 
       (is_owned l (as_in l (member_listings change.members) owner.listed) (ap (owner_of_path change.members) owner.of_path ∙ owner.place), owner.of_path)
 
   some_owner : (l : Listing) → IsIn l owned → (k : Listing) × (owner_listing change l.path ≡ Some k)
-  unfolding owner_listing claims_of
+  unfolding owner_listing listings_of_path
   some_owner l here =
       let is = owned_is l here in
       let claims = filter (λ k. bytes_eq k.path l.path) (member_listings change.members) in
@@ -205,21 +205,21 @@ module _ (laws : WrittenLaws) (change : FileChange) (database : Plain) (sound : 
 
   -- ---- a record, and the listing of its path's owner
 
-  pub record_of_owner : (path : List ℕ) (entry : Plain) → IsInstalledRecord (list_of (packages_after change.members flags)) (record { path = path; entry = entry })
+  pub record_of_owner : (path : List ℕ) (entry : Plain) → IsRecordOfPackages (list_of (packages_in_new_database change.members flags)) (record { path = path; entry = entry })
       → (l : Listing) × (owner_listing change path ≡ Some l) × (entry ≡ without_zeros l.entry)
   record_of_owner path entry is =
       let r : PathAndEntry = record { path = path; entry = entry } in
-      let here = subst (IsIn r) records_are (in-flat_map package_records r is.pkg (list_of (packages_after change.members flags)) is.installed is.listed) in
+      let here = subst (IsIn r) records_are (in-flat_map package_records r is.pkg (list_of (packages_in_new_database change.members flags)) is.installed is.listed) in
       let found = from-map kept_record r owned here in
       let same : path ≡ found.0.path = ap (λ (q : PathAndEntry). q.path) found.2 in
       (found.0, ap (owner_listing change) same ∙ owned_listing found.0 found.1, ap (λ (q : PathAndEntry). q.entry) found.2)
 
-  pub owner_record : (path : List ℕ) (l : Listing) → owner_listing change path ≡ Some l → IsInstalledRecord (list_of (packages_after change.members flags)) (record { path = path; entry = without_zeros l.entry })
+  pub owner_record : (path : List ℕ) (l : Listing) → owner_listing change path ≡ Some l → IsRecordOfPackages (list_of (packages_in_new_database change.members flags)) (record { path = path; entry = without_zeros l.entry })
   owner_record path l e =
       let of = owner_owned path l e in
       let here = subst (IsIn (kept_record l)) (sym records_are) (in-map kept_record l owned of.0) in
-      let found = from-flat_map package_records (kept_record l) (list_of (packages_after change.members flags)) here in
-      subst (λ (q : List ℕ). IsInstalledRecord (list_of (packages_after change.members flags)) (record { path = q; entry = without_zeros l.entry })) of.1
+      let found = from-flat_map package_records (kept_record l) (list_of (packages_in_new_database change.members flags)) here in
+      subst (λ (q : List ℕ). IsRecordOfPackages (list_of (packages_in_new_database change.members flags)) (record { path = q; entry = without_zeros l.entry })) of.1
       (record { pkg = found.0; installed = found.1; listed = found.2 })
 
   pub owner_free : (path : List ℕ) (l : Listing) → owner_listing change path ≡ Some l → is_reserved path ≡ false

@@ -10,13 +10,13 @@ use Rattle.root_laws.specs.change_inputs.Chains.{and_then}
 use Rattle.root_laws.specs.change_inputs.Inputs.{first_index_read}
 use Rattle.root_laws.proofs.change_outcome.Made.{and_then_ok}
 use Rattle.root_laws.specs.change_outcome.MembersAfter.{MemberFound, added_package_by_path, added_member_found, found_package_contents, members_after, found_members, name_after, name_by_change, name_by_selected, member_of_added_name, member_of_removed_name, names_after, kept_member_found}
-use Rattle.root_laws.specs.change_outcome.PackageFiles.{AddedPackage, first_script_of, package_file_of, package_found, package_in_file, scripts_of_change, unless_different, unless_script_number, unless_package_bad, unless_script}
+use Rattle.root_laws.specs.change_outcome.PackageFiles.{AddedPackage, first_script_of, package_file_of, added_package_or_refusal, package_in_file, scripts_of_change, unless_different, unless_script_number, unless_package_bad, unless_script}
 use Rattle.audit_core.specs.db_core.Members.{Member, is_added}
 use Rattle.audit_core.specs.db_core.Packages.{is_package_named}
 use Rattle.dep_core.specs.Repositories.{Repository}
 use Rattle.root_laws.specs.file_owners.Replaces.{version_text}
 use Rattle.root_laws.specs.make_info.Reads.{Reads}
-use Rattle.root_laws.specs.package_changes.Changes.{Replacement, change_of_name, is_selected_named, names_on_both_sides, selected_version}
+use Rattle.root_laws.specs.package_changes.Changes.{Replacement, change_of_name, is_selected_named, names_before_and_selected, selected_version}
 use Rattle.root_laws.specs.pkg_core.Whole.{package_fault}
 use Rattle.root_laws.proofs.pkg_core.Digests.{HasFirstValue}
 use Rattle.report_core.specs.Reports.{Change}
@@ -48,7 +48,7 @@ module _ (told : HasFirstValue) (read : Reads) where
       by_tests x y z true false v e = absurd (cc (e))
       by_tests x y z false b v e = absurd (cc (e))
 
-  file_ok : (c : Candidate) (file : List ℕ) (pkg : AddedPackage) → package_found c (Some file) ≡ Ok pkg → AreListedContents pkg.value pkg.contents
+  file_ok : (c : Candidate) (file : List ℕ) (pkg : AddedPackage) → added_package_or_refusal c (Some file) ≡ Ok pkg → AreListedContents pkg.value pkg.contents
   file_ok c file pkg e = by_fault (package_fault file) refl e
     where
       by_fault : (fault : Option Cause) → package_fault file ≡ fault → unless_package_bad c fault (package_in_file file) ≡ Ok pkg → AreListedContents pkg.value pkg.contents
@@ -60,7 +60,7 @@ module _ (told : HasFirstValue) (read : Reads) where
   path_ok n c None pkg e = absurd (cc (e))
   path_ok n c (Some path) pkg e = by_read (read n path) e
     where
-      by_read : (o : Option (List ℕ)) → package_found c o ≡ Ok pkg → AreListedContents pkg.value pkg.contents
+      by_read : (o : Option (List ℕ)) → added_package_or_refusal c o ≡ Ok pkg → AreListedContents pkg.value pkg.contents
       by_read None e = absurd (cc (e))
       by_read (Some file) e = file_ok c file pkg e
 
@@ -123,7 +123,7 @@ module _ (told : HasFirstValue) (read : Reads) where
 
     found_listed : (fs : List MemberFound) → members_after r read repositories no_scripts ≡ Ok fs → AllListed fs
     unfolding members_after
-    found_listed fs e = names_ok (first_index_read + length repositories) (names_on_both_sides r) fs e
+    found_listed fs e = names_ok (first_index_read + length repositories) (names_before_and_selected r) fs e
 
     at_place : (fs : List MemberFound) (place : ℕ) (m : Member) → AllListed fs → slice_get (found_members fs) place ≡ Some m → is_added m ≡ true → AreListedContents m.pkg (found_package_contents fs place)
     at_place [] place m are e comes = absurd (cc (e))

@@ -13,7 +13,7 @@ use Rattle.adb_view.specs.Plain.{Plain}
 use Rattle.adb_view.specs.declared.tables.Which.{Which}
 use Rattle.adb_view.specs.declared.tables.Which.TheVariants.{Idb}
 use Rattle.audit_core.specs.Audit.{FileDifference}
-use Rattle.audit_core.specs.Differences.{IsDifferenceIn, IsDifferent, file_differences}
+use Rattle.audit_core.specs.Differences.{IsDifferenceIn, DiffersFromEntry, file_differences}
 use Rattle.base_core.specs.Files.{Files}
 use Rattle.base_core.specs.declared.cause.Cause.{Cause}
 use Rattle.root_laws.specs.change_files.FileChange.{FileChange, added_owner_listing, if_member_added, owner_listing}
@@ -23,7 +23,7 @@ use Rattle.root_laws.proofs.change_files.Lists.{IsOneOf, contains_from_one}
 use Rattle.root_laws.proofs.change_files.OwnedFiles.{coming_is}
 use Rattle.root_laws.proofs.change_files.RecordNames.{database_after}
 use Rattle.root_laws.specs.change_inputs.Chains.{and_then, unless_cause}
-use Rattle.root_laws.specs.change_inputs.Database.{Database, container_database, database_by, root_database}
+use Rattle.root_laws.specs.change_inputs.Database.{Database, container_database, database_from_parts, root_database}
 use Rattle.root_laws.specs.change_outcome.ChangeOutcome.{ChangeDone, ChangeWishes, change_or_refusal, file_change, new_records}
 use Rattle.root_laws.specs.change_outcome.Made.{IsChangeMade}
 use Rattle.root_laws.specs.change_outcome.MembersAfter.{MemberFound, found_package_contents, found_members}
@@ -44,7 +44,7 @@ use Rattle.report_core.specs.declared.refusal.Refusal.{Refusal}
 use Rattle.report_core.specs.declared.refusal.Refusal.TheVariants.{DatabaseBad}
 use Rattle.root_laws.specs.RootLeft.{IsRootLeft}
 use Rattle.root_names.specs.RootNames.{database_name, text_database_name}
-use Rattle.audit_laws.specs.AfterChange.{ExplainsDifference, IsEmptyUnlike, IsLeftDifferent, change_left, contents_left, packages_left}
+use Rattle.audit_laws.specs.AfterChange.{ExplainsDifference, IsEmptyWithOtherDigest, IsLeftDifferent, change_left, contents_left, packages_left}
 use Rattle.audit_laws.proofs.AfterFiles.{by_left, left_by, stays_so}
 use Rattle.audit_laws.proofs.AfterRecords.{WrittenLaws, owner_free, owner_record, record_of_owner, zeros_alike}
 use Rattle.audit_laws.proofs.FoundContents.{contents_listed}
@@ -63,16 +63,16 @@ pub record Laws : Type 0 where
 abbrev kept : Database → Result Database Refusal
 kept d = Ok d
 
-container_ok : (file : List ℕ) (packages : List Plain) (bytes : List ℕ) → container_database file ≡ Ok (database_by packages (Some bytes) false)
+container_ok : (file : List ℕ) (packages : List Plain) (bytes : List ℕ) → container_database file ≡ Ok (database_from_parts packages (Some bytes) false)
     → (first_fault Idb file ≡ None) × (entries_at IDB_PACKAGES (root_value Idb (payload_in file)) ≡ packages)
 container_ok file packages bytes e = by_fault (first_fault Idb file) refl e
   where
     there : Database
-    there = database_by (entries_at IDB_PACKAGES (root_value Idb (payload_in file))) (Some file) false
+    there = database_from_parts (entries_at IDB_PACKAGES (root_value Idb (payload_in file))) (Some file) false
 
-    by_fault : (fault : Option Cause) → first_fault Idb file ≡ fault → unless_cause DatabaseBad fault there ≡ Ok (database_by packages (Some bytes) false)
+    by_fault : (fault : Option Cause) → first_fault Idb file ≡ fault → unless_cause DatabaseBad fault there ≡ Ok (database_from_parts packages (Some bytes) false)
         → (first_fault Idb file ≡ None) × (entries_at IDB_PACKAGES (root_value Idb (payload_in file)) ≡ packages)
-    by_fault None t e = (let same : there ≡ database_by packages (Some bytes) false = (let both : kept there ≡ kept (database_by packages (Some bytes) false) = e in cc) in (t, ap (λ (d : Database). d.packages) same))
+    by_fault None t e = (let same : there ≡ database_from_parts packages (Some bytes) false = (let both : kept there ≡ kept (database_from_parts packages (Some bytes) false) = e in cc) in (t, ap (λ (d : Database). d.packages) same))
     by_fault (Some cause) t e = absurd (cc (e))
 
 not_record : (records : RootFilesAfter) (name : List ℕ) → ((records : RootFilesAfter) (name : List ℕ) → is_record_name records name ≡ true → is_reserved name ≡ true) → is_reserved name ≡ false → is_record_name records name ≡ false
@@ -139,15 +139,15 @@ module _ (laws : Laws) (command : CommandLine) (read : Reads) (files : Files) (c
 
   -- ---- what differs was left so
 
-  left_so : (path : List ℕ) (l : Listing) (d : FileDifference) → d.path ≡ path → owner_listing change path ≡ Some l → IsDifferent d.difference l.entry (done.files path)
+  left_so : (path : List ℕ) (l : Listing) (d : FileDifference) → d.path ≡ path → owner_listing change path ≡ Some l → DiffersFromEntry d.difference l.entry (done.files path)
       → ExplainsDifference (contents_left left) change files d l (is_added l.member)
   left_so path l d at owner differs =
-      let here = subst (λ (fs : Files). IsDifferent d.difference l.entry (fs path)) files_are differs in
+      let here = subst (λ (fs : Files). DiffersFromEntry d.difference l.entry (fs path)) files_are differs in
       by_coming (is_added l.member) refl here
     where
-      by_coming : (b : Bool) → is_added l.member ≡ b → IsDifferent d.difference l.entry (changed_files change bytes_of records files path) → ExplainsDifference (contents_left left) change files d l b
+      by_coming : (b : Bool) → is_added l.member ≡ b → DiffersFromEntry d.difference l.entry (changed_files change bytes_of records files path) → ExplainsDifference (contents_left left) change files d l b
       by_coming false t here =
-          subst (λ (q : List ℕ). IsDifferent d.difference l.entry (files q)) (sym at) ((stays_so change bytes_of records files path (plain path l owner) l d.difference owner t).0 here)
+          subst (λ (q : List ℕ). DiffersFromEntry d.difference l.entry (files q)) (sym at) ((stays_so change bytes_of records files path (plain path l owner) l d.difference owner t).0 here)
       by_coming true t here =
           subst (λ (q : List ℕ). ExplainsDifference (contents_left left) change files (record { path = q; difference = d.difference }) l true) (sym at)
           (left_by change bytes_of records files path (plain path l owner) l (comes_if change path l owner t) d.difference here)
@@ -160,20 +160,20 @@ module _ (laws : Laws) (command : CommandLine) (read : Reads) (files : Files) (c
       record {
         listing = l;
         owner = found.1;
-        left = left_so d.path l d refl found.1 ((zeros_alike l.entry (done.files d.path) d.difference).0 (subst (λ (p : Plain). IsDifferent d.difference p (done.files d.path)) found.2 is.differs));
+        left = left_so d.path l d refl found.1 ((zeros_alike l.entry (done.files d.path) d.difference).0 (subst (λ (p : Plain). DiffersFromEntry d.difference p (done.files d.path)) found.2 is.differs));
       }
 
   -- ---- what was left so differs
 
   differs_so : (l : Listing) (d : FileDifference) → owner_listing change d.path ≡ Some l → (b : Bool) → is_added l.member ≡ b → ExplainsDifference (contents_left left) change files d l b
-      → IsDifferent d.difference l.entry (changed_files change bytes_of records files d.path)
+      → DiffersFromEntry d.difference l.entry (changed_files change bytes_of records files d.path)
   differs_so l d owner false t why = (stays_so change bytes_of records files d.path (plain d.path l owner) l d.difference owner t).1 why
   differs_so l d owner true t why = by_left change bytes_of records files d.path (plain d.path l owner) l (comes_if change d.path l owner t) d.difference why
 
   pub left_is : (d : FileDifference) → IsLeftDifferent (contents_left left) change files d → IsIn d (file_differences done.files (packages_left left))
   left_is d is =
       let l = is.listing in
-      let here = subst (λ (fs : Files). IsDifferent d.difference l.entry (fs d.path)) (sym files_are) (differs_so l d is.owner (is_added l.member) refl is.left) in
+      let here = subst (λ (fs : Files). DiffersFromEntry d.difference l.entry (fs d.path)) (sym files_are) (differs_so l d is.owner (is_added l.member) refl is.left) in
       (laws.differences done.files (packages_left left) d).1
       (record {
         entry = without_zeros l.entry;
@@ -188,13 +188,13 @@ some_place l [] here = absurd here
 some_place l (k ∷ ls) (inl is) = (0, ap Some (sym is))
 some_place l (k ∷ ls) (inr later) = let found = some_place l ls later in (suc found.0, found.1)
 
-empty_by : (entry : Plain) (bytes : List ℕ) → ((is_with_contents entry ≡ false → has_target entry ≡ false → is_as_listed entry [] ≡ true) → is_as_listed entry bytes ≡ true) → is_as_listed entry bytes ≡ false → IsEmptyUnlike entry
+empty_by : (entry : Plain) (bytes : List ℕ) → ((is_with_contents entry ≡ false → has_target entry ≡ false → is_as_listed entry [] ≡ true) → is_as_listed entry bytes ≡ true) → is_as_listed entry bytes ≡ false → IsEmptyWithOtherDigest entry
 empty_by entry bytes brought unlike = by_tests (is_with_contents entry) refl (has_target entry) refl (is_as_listed entry []) refl
   where
-    never : (is_with_contents entry ≡ false → has_target entry ≡ false → is_as_listed entry [] ≡ true) → IsEmptyUnlike entry
+    never : (is_with_contents entry ≡ false → has_target entry ≡ false → is_as_listed entry [] ≡ true) → IsEmptyWithOtherDigest entry
     never h = absurd (true≢false (sym (brought h) ∙ unlike))
 
-    by_tests : (a : Bool) → is_with_contents entry ≡ a → (b : Bool) → has_target entry ≡ b → (c : Bool) → is_as_listed entry [] ≡ c → IsEmptyUnlike entry
+    by_tests : (a : Bool) → is_with_contents entry ≡ a → (b : Bool) → has_target entry ≡ b → (c : Bool) → is_as_listed entry [] ≡ c → IsEmptyWithOtherDigest entry
     by_tests true with b target c same = never (λ h g. absurd (true≢false (sym with ∙ h)))
     by_tests false with true target c same = never (λ h g. absurd (true≢false (sym target ∙ g)))
     by_tests false with false target true same = never (λ h g. same)
@@ -206,7 +206,7 @@ pub empty_alone :
     → AreContentsOf (expected_contents l.member.pkg) (contents l.place) → (is_with_contents l.entry ≡ false → has_target l.entry ≡ false → is_as_listed l.entry [] ≡ true)
     → is_as_listed l.entry (listing_bytes contents l) ≡ true)
     → (command : CommandLine) (read : Reads) (chosen : Option (List ℕ)) (done : ChangeDone) (left : IsRootLeft command read chosen done) (path : List ℕ) (l : Listing)
-    → added_owner_listing (change_left left) path ≡ Some l → is_as_listed l.entry (listing_bytes (contents_left left) l) ≡ false → IsEmptyUnlike l.entry
+    → added_owner_listing (change_left left) path ≡ Some l → is_as_listed l.entry (listing_bytes (contents_left left) l) ≡ false → IsEmptyWithOtherDigest l.entry
 empty_alone told placed brought command read chosen done left path l comes unlike =
     let members = found_members left.found in
     let owner = coming_is (change_left left) path l comes in

@@ -4,12 +4,12 @@ use Rattle.std.specs.Prelude.{◌≡◌, ◌⊎◌, ℕ, Bool, true, false, List
 use Rattle.root_laws.specs.adb_schema.Texts.{is_with_contents}
 use Rattle.adb_view.specs.Plain.{Plain}
 use Rattle.audit_core.specs.Audit.{FileDifference}
-use Rattle.audit_core.specs.Differences.{IsDifferent}
+use Rattle.audit_core.specs.Differences.{DiffersFromEntry}
 use Rattle.audit_core.specs.declared.comparing.Difference.TheVariants.{Changed}
 use Rattle.base_core.specs.Files.{Files}
 use Rattle.root_laws.specs.change_files.FileChange.{FileChange, owner_listing}
 use Rattle.root_laws.specs.change_files.FilesAfter.{listing_bytes}
-use Rattle.root_laws.specs.change_files.Touched.{IsUsersFile}
+use Rattle.root_laws.specs.change_files.Touched.{IsModifiedConfigFile}
 use Rattle.root_laws.specs.change_outcome.ChangeOutcome.{ChangeDone, file_change}
 use Rattle.root_laws.specs.change_outcome.MembersAfter.{found_package_contents, found_members}
 use Rattle.command_core.specs.Command.{CommandLine}
@@ -23,24 +23,24 @@ use Rattle.root_laws.specs.RootLeft.{IsRootLeft, database_of_members}
 -- ---- a file that is left different
 
 -- an entry of an empty file with the digest of other bytes, which no test of a package compares
-pub record IsEmptyUnlike (entry : Plain) : Type 0 where
+pub record IsEmptyWithOtherDigest (entry : Plain) : Type 0 where
   pub no_contents : is_with_contents entry ≡ false
   pub no_link : has_target entry ≡ false
   pub unlike : is_as_listed entry [] ≡ false
 
 -- the file under a path is configuration that the user changed
-abbrev pub IsKeptForUser : FileChange → Files → List ℕ → Type 0
-IsKeptForUser change files path = (bytes : List ℕ) × IsUsersFile change files path bytes
+abbrev pub HasModifiedConfigFile : FileChange → Files → List ℕ → Type 0
+HasModifiedConfigFile change files path = (bytes : List ℕ) × IsModifiedConfigFile change files path bytes
 
 -- Why a listed file differs after a change. The file of a kept package differs as it did before. The
 -- file of an added package has other bytes: those that the user gave it, or those that the package has
 -- for it, which are not as its own entry lists them.
 abbrev pub ExplainsDifference :
     (ℕ → List Contents) → FileChange → Files → FileDifference → Listing → Bool → Type 0
-ExplainsDifference contents change files d l false = IsDifferent d.difference l.entry (files d.path)
+ExplainsDifference contents change files d l false = DiffersFromEntry d.difference l.entry (files d.path)
 ExplainsDifference contents change files d l true =
     (d.difference ≡ Changed)
-    × (IsKeptForUser change files d.path ⊎ (is_as_listed l.entry (listing_bytes contents l) ≡ false))
+    × (HasModifiedConfigFile change files d.path ⊎ (is_as_listed l.entry (listing_bytes contents l) ≡ false))
 
 -- a file that differs after a change, of the package that owns its path
 pub record IsLeftDifferent (contents : ℕ → List Contents) (change : FileChange) (files : Files)

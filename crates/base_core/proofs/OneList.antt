@@ -8,13 +8,13 @@ use Rattle.std.proofs.lemmas.Bool.Decides.{Decides-eqb}
 use Rattle.std.proofs.lemmas.Slice.Eq.{bytes_eq-Decides}
 use Rattle.std.proofs.lemmas.Map.Views.{Contains-from_any}
 use Rattle.base_core.specs.Files.{NameMap, AreNamedFiles, IsFile, HasNamesAmong, IsFolderOf}
-use Rattle.base_core.specs.Tree.{TreeState, IsMapOf, IsWellFormed, bytes_at, files_by, files_of}
-use Rattle.base_core.specs.Listed.{AreNamesBelow, IsListOf, IsNameBelow, IsNamesOf, IsRising}
+use Rattle.base_core.specs.Tree.{TreeState, IsCurrentOrOlderMap, IsWellFormed, bytes_of_file_number, files_under_map, files_of}
+use Rattle.base_core.specs.Listed.{AreNamesBelow, IsListOf, IsNameBelow, IsNamesOf, AreSortedDistinctNames}
 use Rattle.base_core.proofs.Rising.{in_at, keep, keep_rises, kept_passes, passing_kept, same_list, contains_from_in, in_from_contains, pairs_from_rises, rises_from_pairs}
 
 -- just the names that P holds of, in byte order
 record IsListed (P : List ℕ → Type 0) (names : List (List ℕ)) : Type 0 where
-  pub rising : IsRising names
+  pub rising : AreSortedDistinctNames names
   pub each : (q : List ℕ) → Contains names q ↔ P q
 
 listed : (P : List ℕ → Type 0) (test : List ℕ → Bool) → ((q : List ℕ) → Decides (test q) (P q))
@@ -100,7 +100,7 @@ list_one v folder a b one two = only_list (λ q. IsSome (v.names q) × IsFolderO
 
 -- ---- a name leads to a file just where its bytes are read
 
-has_bytes : (v : TreeState) (n : Option ℕ) → IsSome n ↔ IsSome (bytes_at v.files n)
+has_bytes : (v : TreeState) (n : Option ℕ) → IsSome n ↔ IsSome (bytes_of_file_number v.files n)
 has_bytes v None = (λ h. h, λ h. h)
 has_bytes v (Some n) = (λ h. refl, λ h. refl)
 
@@ -112,11 +112,11 @@ names_are_of_files v names of_map = record {
 
 -- ---- the files of a whole state
 
-some_bytes : (v : TreeState) (n : Option ℕ) (bytes : List ℕ) → IsWellFormed v → bytes_at v.files n ≡ Some bytes → IsFile bytes
+some_bytes : (v : TreeState) (n : Option ℕ) (bytes : List ℕ) → IsWellFormed v → bytes_of_file_number v.files n ≡ Some bytes → IsFile bytes
 some_bytes v None bytes whole is = absurd (cc)
 some_bytes v (Some n) bytes whole is = let same : (v.files n).bytes ≡ bytes = cc in subst IsFile same (whole.bytes n)
 
-pub files_named : (v : TreeState) → IsWellFormed v → (map : NameMap) → IsMapOf v map → AreNamedFiles (files_by v map)
+pub files_named : (v : TreeState) → IsWellFormed v → (map : NameMap) → IsCurrentOrOlderMap v map → AreNamedFiles (files_under_map v map)
 files_named v whole map among = record {
   named = λ q some. whole.named map among q ((has_bytes v (map q)).1 some);
   each = λ q bytes is. some_bytes v (map q) bytes whole is;

@@ -2,7 +2,7 @@
 -- `docs/crash-safety.md`, "What a crash leaves" and "Moments".
 use Rattle.std.specs.Prelude.{◌≡◌, ℕ, true, List, ◌++◌, Option, Some, None, All}
 use Rattle.base_core.specs.Files.{Files, NameMap}
-use Rattle.base_core.specs.Tree.{TreeState, File, IsMapOf, files_by}
+use Rattle.base_core.specs.Tree.{TreeState, File, IsCurrentOrOlderMap, files_under_map}
 
 -- what a crash may leave of the file with a number: a synced file's bytes, and any bytes of another
 -- file; nothing if there is no number
@@ -12,18 +12,18 @@ CrashMayLeave files (Some n) None = ⊥
 CrashMayLeave files (Some n) (Some bytes) = (files n).synced ≡ true → bytes ≡ (files n).bytes
 
 -- files that a crash may leave if it leaves this map of names
-abbrev pub IsCrashImageBy : TreeState → NameMap → Files → Type 0
-IsCrashImageBy v map image = (q : List ℕ) → CrashMayLeave v.files (map q) (image q)
+abbrev pub IsCrashImageUnderMap : TreeState → NameMap → Files → Type 0
+IsCrashImageUnderMap v map image = (q : List ℕ) → CrashMayLeave v.files (map q) (image q)
 
 -- files that a crash may leave if it undoes only the last changes of names: those by one of the maps
 abbrev pub IsCrashImageInOrder : TreeState → Files → Type 0
-IsCrashImageInOrder v image = (map : NameMap) × IsMapOf v map × IsCrashImageBy v map image
+IsCrashImageInOrder v image = (map : NameMap) × IsCurrentOrOlderMap v map × IsCrashImageUnderMap v map image
 
 -- a tree is durable if a crash undoes only the last changes of names: each file that must be durable
 -- is synced, in each map of names. The parameter `depends_on` says which files these are, given the
 -- files of that map: only a crate that can read the journal knows it
 pub record IsDurableInOrder (depends_on : Files → List ℕ → Type 0) (v : TreeState) : Type 0 where
-  pub each : (map : NameMap) → IsMapOf v map → (q : List ℕ) (n : ℕ) → depends_on (files_by v map) q
+  pub each : (map : NameMap) → IsCurrentOrOlderMap v map → (q : List ℕ) (n : ℕ) → depends_on (files_under_map v map) q
       → map q ≡ Some n → (v.files n).synced ≡ true
 
 -- ---- moments, as the states that a history got since it was an older one, the newest first

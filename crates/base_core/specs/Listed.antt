@@ -9,18 +9,18 @@ use Rattle.base_core.specs.Name.{IsName}
 use Rattle.base_core.specs.Tree.{TreeState}
 
 -- the names are in byte order, each once
-abbrev pub IsRising : List (List ℕ) → Type 0
-IsRising names = AllPairs (λ a b. slice_cmp nat_cmp a b ≡ Less) names
+abbrev pub AreSortedDistinctNames : List (List ℕ) → Type 0
+AreSortedDistinctNames names = AllPairs (λ a b. slice_cmp nat_cmp a b ≡ Less) names
 
 -- exactly the names that are present in a map, in byte order
 pub record IsNamesOf {X : Type 0} (map : List ℕ → Option X) (names : List (List ℕ)) : Type 0 where
-  pub rising : IsRising names
+  pub rising : AreSortedDistinctNames names
   -- the list has exactly the present names
   pub each : (q : List ℕ) → Contains names q ↔ IsSome (map q)
 
 -- the listing of a folder: exactly the present names below it, at any depth, in byte order
 pub record IsListOf (folder : List ℕ) (v : TreeState) (names : List (List ℕ)) : Type 0 where
-  pub rising : IsRising names
+  pub rising : AreSortedDistinctNames names
   -- the list has exactly the present names below the folder
   pub each : (q : List ℕ) → Contains names q ↔ (IsSome (v.names q) × IsFolderOf folder q)
 
@@ -31,5 +31,5 @@ pub record IsNameBelow (folder name : List ℕ) : Type 0 where
 
 -- names below the folder in byte order, each once; which ones a tree has is left open
 pub record AreNamesBelow (folder : List ℕ) (names : List (List ℕ)) : Type 0 where
-  pub rising : IsRising names
+  pub rising : AreSortedDistinctNames names
   pub each : All (IsNameBelow folder) names

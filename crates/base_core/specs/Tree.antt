@@ -25,17 +25,17 @@ pub record TreeState : Type 0 where
   pub older : List NameMap
 
 -- the bytes of the file of a number, if there is a number
-abbrev pub bytes_at : (ℕ → File) → Option ℕ → Option (List ℕ)
-bytes_at files None = None
-bytes_at files (Some n) = Some (files n).bytes
+abbrev pub bytes_of_file_number : (ℕ → File) → Option ℕ → Option (List ℕ)
+bytes_of_file_number files None = None
+bytes_of_file_number files (Some n) = Some (files n).bytes
 
 -- the files by one of the maps of names
-abbrev pub files_by : TreeState → NameMap → Files
-files_by v map q = bytes_at v.files (map q)
+abbrev pub files_under_map : TreeState → NameMap → Files
+files_under_map v map q = bytes_of_file_number v.files (map q)
 
 -- the files as read: those by the newest map of names
 abbrev pub files_of : TreeState → Files
-files_of v = files_by v v.names
+files_of v = files_under_map v v.names
 
 -- ---- how the calls change a state
 
@@ -44,9 +44,9 @@ abbrev pub set_file : (ℕ → File) → ℕ → File → ℕ → File
 set_file files n file k = if k == n then file else files k
 
 -- the state with the file of this number changed; unchanged if there is no number
-abbrev pub change_at : (File → File) → TreeState → Option ℕ → TreeState
-change_at change v None = v
-change_at change v (Some n) = record v { files = set_file v.files n (change (v.files n)) }
+abbrev pub with_file_changed : (File → File) → TreeState → Option ℕ → TreeState
+with_file_changed change v None = v
+with_file_changed change v (Some n) = record v { files = set_file v.files n (change (v.files n)) }
 
 -- the state with these names; the map before is one more that a crash may restore
 abbrev pub with_names : TreeState → NameMap → TreeState
@@ -64,35 +64,35 @@ after_create name v = record {
 -- after `append`: the piece is added at the file's end, and the file is unsynced
 abbrev pub after_append : List ℕ → List ℕ → TreeState → TreeState
 after_append name piece v =
-    change_at (λ f. record { bytes = f.bytes ++ piece; synced = false }) v (v.names name)
+    with_file_changed (λ f. record { bytes = f.bytes ++ piece; synced = false }) v (v.names name)
 
 -- after an `append` that failed: the file has its bytes, and may have become unsynced
 abbrev pub after_failed_append : List ℕ → TreeState → TreeState
 after_failed_append name v =
-    change_at (λ f. record { bytes = f.bytes; synced = false }) v (v.names name)
+    with_file_changed (λ f. record { bytes = f.bytes; synced = false }) v (v.names name)
 
 -- after `sync`: the file under the name is synced
 abbrev pub after_sync : List ℕ → TreeState → TreeState
-after_sync name v = change_at (λ f. record { bytes = f.bytes; synced = true }) v (v.names name)
+after_sync name v = with_file_changed (λ f. record { bytes = f.bytes; synced = true }) v (v.names name)
 
 -- the state in which the file of this number is under `to`, and none under `from`; unchanged if there
 -- is no number
-abbrev pub move_at : List ℕ → List ℕ → TreeState → Option ℕ → TreeState
-move_at from to v None = v
-move_at from to v (Some n) = with_names v (move_name v.names from to n)
+abbrev pub with_file_moved : List ℕ → List ℕ → TreeState → Option ℕ → TreeState
+with_file_moved from to v None = v
+with_file_moved from to v (Some n) = with_names v (move_name v.names from to n)
 
 -- after `rename`: the file of the first name is under the second, in place of the file there
 abbrev pub after_rename : List ℕ → List ℕ → TreeState → TreeState
-after_rename from to v = move_at from to v (v.names from)
+after_rename from to v = with_file_moved from to v (v.names from)
 
 -- the state in which nothing is under the name; unchanged if there is no number
-abbrev pub remove_at : List ℕ → TreeState → Option ℕ → TreeState
-remove_at name v None = v
-remove_at name v (Some n) = with_names v (drop_name v.names name)
+abbrev pub with_name_removed : List ℕ → TreeState → Option ℕ → TreeState
+with_name_removed name v None = v
+with_name_removed name v (Some n) = with_names v (drop_name v.names name)
 
 -- after `remove`: nothing is under the name; the file itself is as it was
 abbrev pub after_remove : List ℕ → TreeState → TreeState
-after_remove name v = remove_at name v (v.names name)
+after_remove name v = with_name_removed name v (v.names name)
 
 -- after `sync_names`: no crash undoes a change of names that was made before
 abbrev pub after_sync_names : TreeState → TreeState
@@ -134,20 +134,20 @@ pub record CanRename (from to : List ℕ) (v : TreeState) : Type 0 where
 -- ---- the maps of names
 
 -- one of the maps that a crash may leave: the one as read, or one since the names were last synced
-abbrev pub IsMapOf : TreeState → NameMap → Type 0
-IsMapOf v map = IsIn map (v.names ∷ v.older)
+abbrev pub IsCurrentOrOlderMap : TreeState → NameMap → Type 0
+IsCurrentOrOlderMap v map = IsIn map (v.names ∷ v.older)
 
 -- what holds of every observable state. In each map of names finitely many names are present, each is a
 -- name, none is a folder of another, and each leads to a file that was made. Each file has fewer than 2
 -- ^ 64 bytes
 pub record IsWellFormed (v : TreeState) : Type 0 where
   -- finitely many names are present
-  pub finite : (map : NameMap) → IsMapOf v map → (names : List (List ℕ)) × HasNamesAmong names map
+  pub finite : (map : NameMap) → IsCurrentOrOlderMap v map → (names : List (List ℕ)) × HasNamesAmong names map
   -- each is a name
-  pub named : (map : NameMap) → IsMapOf v map → AreNames map
+  pub named : (map : NameMap) → IsCurrentOrOlderMap v map → AreNames map
   -- none is a folder of another
-  pub folders : (map : NameMap) → IsMapOf v map → HasNoFileAsFolder map
+  pub folders : (map : NameMap) → IsCurrentOrOlderMap v map → HasNoFileAsFolder map
   -- each leads to a file that was made
-  pub made : (map : NameMap) → IsMapOf v map → (q : List ℕ) (n : ℕ) → map q ≡ Some n → n < v.made
+  pub made : (map : NameMap) → IsCurrentOrOlderMap v map → (q : List ℕ) (n : ℕ) → map q ≡ Some n → n < v.made
   -- each file has fewer than 2 ^ 64 bytes
   pub bytes : (n : ℕ) → IsFile (v.files n).bytes

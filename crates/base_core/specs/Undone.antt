@@ -2,20 +2,20 @@
 -- each as a whole. The rules are in `docs/crash-safety.md`, "What a crash leaves".
 use Rattle.std.specs.Prelude.{◌≡◌, ◌⊎◌, ℕ, Bool, true, false, if◌then◌else◌, ◌==◌, List, [], ◌∷◌, Option, Some, None}
 use Rattle.base_core.specs.Files.{Files, NameMap}
-use Rattle.base_core.specs.Tree.{TreeState, files_by, files_of}
-use Rattle.base_core.specs.Crash.{IsCrashImageBy}
+use Rattle.base_core.specs.Tree.{TreeState, files_under_map, files_of}
+use Rattle.base_core.specs.Crash.{IsCrashImageUnderMap}
 
 -- two names lead alike: both to the same number, or both to none
-abbrev pub leads_alike : Option ℕ → Option ℕ → Bool
-leads_alike None None = true
-leads_alike None (Some n) = false
-leads_alike (Some m) None = false
-leads_alike (Some m) (Some n) = m == n
+abbrev pub lead_to_same_file : Option ℕ → Option ℕ → Bool
+lead_to_same_file None None = true
+lead_to_same_file None (Some n) = false
+lead_to_same_file (Some m) None = false
+lead_to_same_file (Some m) (Some n) = m == n
 
 -- a map of names with the change from one map to the next newer one: each name at which these differ
 -- leads where it does in the newer one
-abbrev pub with_change : NameMap → NameMap → NameMap → NameMap
-with_change old new map q = if leads_alike (old q) (new q) then map q else new q
+abbrev pub with_change_replayed : NameMap → NameMap → NameMap → NameMap
+with_change_replayed old new map q = if lead_to_same_file (old q) (new q) then map q else new q
 
 -- The maps of names that a crash may leave, by the newest map and the older ones. Of the oldest map
 -- alone it is that map. Of a newer one it is a map that a crash may leave of the older ones, with the
@@ -23,7 +23,7 @@ with_change old new map q = if leads_alike (old q) (new q) then map q else new q
 abbrev pub MayBeLeftByCrash : NameMap → List NameMap → NameMap → Type 0
 MayBeLeftByCrash new [] map = map ≡ new
 MayBeLeftByCrash new (old ∷ older) map =
-    ((kept : NameMap) × MayBeLeftByCrash old older kept × (map ≡ with_change old new kept))
+    ((kept : NameMap) × MayBeLeftByCrash old older kept × (map ≡ with_change_replayed old new kept))
     ⊎ MayBeLeftByCrash old older map
 
 -- a map of names that a crash may leave: any of the changes since the names were last synced are undone
@@ -32,13 +32,13 @@ IsCrashMap v map = MayBeLeftByCrash v.names v.older map
 
 -- files that a crash may leave, by a map of names that it may leave
 abbrev pub IsCrashImage : TreeState → Files → Type 0
-IsCrashImage v image = (map : NameMap) × IsCrashMap v map × IsCrashImageBy v map image
+IsCrashImage v image = (map : NameMap) × IsCrashMap v map × IsCrashImageUnderMap v map image
 
 -- a tree is durable: each file that must be durable is synced, in each map of names that a crash may
 -- leave. The parameter `depends_on` says which files these are, given the files of that map: only a
 -- crate that can read the journal knows it
 pub record IsDurable (depends_on : Files → List ℕ → Type 0) (v : TreeState) : Type 0 where
-  pub each : (map : NameMap) → IsCrashMap v map → (q : List ℕ) (n : ℕ) → depends_on (files_by v map) q
+  pub each : (map : NameMap) → IsCrashMap v map → (q : List ℕ) (n : ℕ) → depends_on (files_under_map v map) q
       → map q ≡ Some n → (v.files n).synced ≡ true
 
 -- `w` is a tree after a crash of `v`, with one map of names, and with each file synced

@@ -2,7 +2,7 @@
 -- bytes, as `write_all` does (its row in the README of this crate).
 use Rattle.std.specs.Prelude.{ℕ, List, Result, OnOk, OnErr}
 use Rattle.base_core.specs.Faults.{FailsWithCause}
-use Rattle.base_core.specs.Sink.{SinkChange, Gets, GetsSome}
+use Rattle.base_core.specs.Sink.{SinkChange, Gets, GetsPrefix}
 
 -- a call has written all these bytes to a sink, or a prefix of them if the sink failed
 pub record Writes {T E : Type 0} (bytes : List ℕ) (sink : SinkChange)
@@ -10,6 +10,6 @@ pub record Writes {T E : Type 0} (bytes : List ℕ) (sink : SinkChange)
   -- all bytes were written
   pub ok : OnOk result (Gets sink bytes)
   -- a prefix of the bytes was written
-  pub err : OnErr result (GetsSome sink bytes)
+  pub err : OnErr result (GetsPrefix sink bytes)
   -- the sink failed only if its count of faults rose
   pub cause : FailsWithCause sink.before sink.after result

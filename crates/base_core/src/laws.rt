@@ -3,22 +3,22 @@
 //! `docs/crash-safety.md` says the laws in words: those of a crash in "What a crash leaves", those
 //! of a listing in "A tree at one moment".
 ghost use Rattle.std.specs.Prelude.{◌≡◌, ◌≤◌, ◌++◌, ℕ, List, [], Option, Result, Bool};
-ghost use Rattle.base_core.specs.Crash.{IsCrashImageInOrder, IsCrashImageBy, IsDurableInOrder};
+ghost use Rattle.base_core.specs.Crash.{IsCrashImageInOrder, IsCrashImageUnderMap, IsDurableInOrder};
 ghost use Rattle.base_core.specs.Faults.{Counts, CountsOnlyRise, HasCause, IsNoFault};
 ghost use Rattle.base_core.specs.Files.{Files, NameMap, AreNamedFiles, HasNamesAmong};
 ghost use Rattle.base_core.specs.Listed.{AreNamesBelow, IsListOf, IsNamesOf};
 ghost use Rattle.base_core.specs.Read.{OnlyReads};
 ghost use Rattle.base_core.specs.Restart.{HasNamedNewFile, IsAfterCrashInOrder};
-ghost use Rattle.base_core.specs.Tree.{TreeState, IsMapOf, IsWellFormed, files_of, files_by, with_names};
-ghost use Rattle.base_core.specs.Undone.{IsAfterCrash, IsDurable, IsCrashImage, IsCrashMap, with_change};
+ghost use Rattle.base_core.specs.Tree.{TreeState, IsCurrentOrOlderMap, IsWellFormed, files_of, files_under_map, with_names};
+ghost use Rattle.base_core.specs.Undone.{IsAfterCrash, IsDurable, IsCrashImage, IsCrashMap, with_change_replayed};
 
 // ---- crashes
 
 /// The files by each map of names, and so the files as read, are among what a crash may leave.
 pub fn a_crash_may_leave_the_files_as_read()
     ensures read { (v : TreeState) → IsCrashImageInOrder v (files_of v) }
-    ensures by_map { (v : TreeState) (map : NameMap) → IsMapOf v map
-        → IsCrashImageInOrder v (files_by v map) }
+    ensures by_map { (v : TreeState) (map : NameMap) → IsCurrentOrOlderMap v map
+        → IsCrashImageInOrder v (files_under_map v map) }
 {}
 
 /// If crashes undo only the last changes of names, a second one leaves the same files as the first.
@@ -46,8 +46,8 @@ pub fn a_crash_in_order_leaves_a_durable_tree<D: Durability>()
 /// durable then, the bytes of each file that must be durable.
 pub fn a_crash_in_order_keeps_the_files_of_a_durable_tree<D: Durability>()
     ensures { (ignored : List ℕ → Bool) (v : TreeState) → IsDurableInOrder (D.depends_on ignored) v
-        → (map : NameMap) → IsMapOf v map → (image : Files) → IsCrashImageBy v map image
-        → (q : List ℕ) → D.depends_on ignored (files_by v map) q → image q ≡ files_by v map q }
+        → (map : NameMap) → IsCurrentOrOlderMap v map → (image : Files) → IsCrashImageUnderMap v map image
+        → (q : List ℕ) → D.depends_on ignored (files_under_map v map) q → image q ≡ files_under_map v map q }
 {}
 
 /// A tree stays durable, if a crash undoes only the last changes, if fewer files must be.
@@ -64,17 +64,17 @@ pub fn a_tree_stays_durable_in_order_if_fewer_files_must_be<D: Durability>()
 pub fn a_crash_may_undo_any_changes()
     ensures read { (v : TreeState) → IsCrashImage v (files_of v) }
     ensures by_map { (v : TreeState) (map : NameMap) → IsCrashMap v map
-        → IsCrashImage v (files_by v map) }
+        → IsCrashImage v (files_under_map v map) }
     ensures undone { (v : TreeState) (names map : NameMap) → IsCrashMap v map
         → IsCrashMap (with_names v names) map }
     ensures kept { (v : TreeState) (names map : NameMap) → IsCrashMap v map
-        → IsCrashMap (with_names v names) (with_change v.names names map) }
+        → IsCrashMap (with_names v names) (with_change_replayed v.names names map) }
 {}
 
 /// A crash that undoes only the last changes, in any number, is a case: each map since the last
 /// sync of the names may be left. So what holds of each crash here holds of each crash there.
 pub fn a_crash_may_undo_the_last_changes()
-    ensures map { (v : TreeState) (map : NameMap) → IsMapOf v map → IsCrashMap v map }
+    ensures map { (v : TreeState) (map : NameMap) → IsCurrentOrOlderMap v map → IsCrashMap v map }
     ensures image { (v : TreeState) (image : Files) → IsCrashImageInOrder v image
         → IsCrashImage v image }
     ensures crash { (v w : TreeState) → IsAfterCrashInOrder v w → IsAfterCrash v w }
@@ -84,7 +84,7 @@ pub fn a_crash_may_undo_the_last_changes()
 /// sync of the names. If there is one map, it is the only one that a crash may leave.
 pub fn a_crash_leaves_each_name_where_it_led()
     ensures leads { (v : TreeState) (map : NameMap) → IsCrashMap v map → (q : List ℕ)
-        → (one : NameMap) × IsMapOf v one × (map q ≡ one q) }
+        → (one : NameMap) × IsCurrentOrOlderMap v one × (map q ≡ one q) }
     ensures one_map { (v : TreeState) → v.older ≡ [] → (map : NameMap) → IsCrashMap v map
         → map ≡ v.names }
 {}
@@ -111,8 +111,8 @@ pub fn a_crash_leaves_a_durable_tree<D: Durability>()
 /// durable.
 pub fn a_crash_keeps_the_files_of_a_durable_tree<D: Durability>()
     ensures { (ignored : List ℕ → Bool) (v : TreeState) → IsDurable (D.depends_on ignored) v
-        → (map : NameMap) → IsCrashMap v map → (image : Files) → IsCrashImageBy v map image
-        → (q : List ℕ) → D.depends_on ignored (files_by v map) q → image q ≡ files_by v map q }
+        → (map : NameMap) → IsCrashMap v map → (image : Files) → IsCrashImageUnderMap v map image
+        → (q : List ℕ) → D.depends_on ignored (files_under_map v map) q → image q ≡ files_under_map v map q }
 {}
 
 /// A tree stays durable if fewer files must be.
@@ -159,8 +159,8 @@ pub fn the_files_as_read_have_the_names_as_read()
 /// The files of a whole state, by each of its maps, are finitely many, and each is under a name and
 /// has fewer than 2^64 bytes.
 pub fn the_files_of_a_well_formed_state_are_named_files()
-    ensures named { (v : TreeState) → IsWellFormed v → (map : NameMap) → IsMapOf v map
-        → AreNamedFiles (files_by v map) }
+    ensures named { (v : TreeState) → IsWellFormed v → (map : NameMap) → IsCurrentOrOlderMap v map
+        → AreNamedFiles (files_under_map v map) }
     ensures read { (v : TreeState) → IsWellFormed v → AreNamedFiles (files_of v) }
     ensures finite { (v : TreeState) → IsWellFormed v → (names : List (List ℕ))
         × HasNamesAmong names (files_of v) }

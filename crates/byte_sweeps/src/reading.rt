@@ -11,7 +11,7 @@ use adb_schema::{ReadFault, Shaped, Which, shape};
 use adb_view::Adb;
 use base_core::{Cause, Name, Text, TreeFault};
 use package_verifier::{PackageTest, test_package};
-use pkg_core::{PackageFault, root_of_schema, verify};
+use pkg_core::{PackageFault, table_of_schema, verify};
 use report_core::{Refusal, write_error};
 use std::alloc::{AllocError, Global};
 use tree_memory::{MemorySink, MemoryTree};
@@ -87,7 +87,7 @@ fn fault_in_pieces(alloc: Global, file: &[u8]) -> Result<Option<Cause>, AllocErr
 fn text_of(alloc: Global, file: &[u8]) -> Result<Text, ReadFault> {
     let mut blocks = Blocks::new(file)?;
     let found = blocks.schema();
-    match root_of_schema(found) {
+    match table_of_schema(found) {
         Some(which) => text_of_blocks(alloc, &mut blocks, which),
         None => Err(ReadFault::Bad(Cause::WrongSchema { found })),
     }

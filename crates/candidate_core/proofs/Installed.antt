@@ -8,9 +8,9 @@ use Rattle.std.specs.Str.{bytes_eq}
 use Rattle.std.proofs.lemmas.Bool.{cases_Bool}
 use Rattle.base_core.proofs.Booleans.{both_second, both_first}
 use Rattle.candidate_core.specs.Candidates.{Candidate, as_installed, as_installed_where_same, is_same_package, offers_name, with_installed}
-use Rattle.candidate_core.specs.CandidateList.{is_installed_package_at, marked_at}
-use Rattle.candidate_core.specs.Options.{places_from}
-use Rattle.candidate_core.specs.Packages.{installed_at}
+use Rattle.candidate_core.specs.CandidateList.{is_installed_package_at, marked_installed_if_same_at}
+use Rattle.candidate_core.specs.Options.{places_passing_from}
+use Rattle.candidate_core.specs.Packages.{marked_installed_at}
 
 pub length-as_installed_where_same : (installed : Candidate) (cs : List Candidate) → length (as_installed_where_same installed cs) ≡ length cs
 length-as_installed_where_same installed [] = refl
@@ -26,7 +26,7 @@ offers_still : (name : List ℕ) (installed c : Candidate) → offers_name name 
 offers_still name installed c = elim (cases_Bool (is_same_package installed c)) [ inl e ↦ rw e refl | inr e ↦ rw e refl ]
 
 -- a candidate offers what it offered
-pub places_still : (name : List ℕ) (installed : Candidate) (n : ℕ) (cs : List Candidate) → places_from n (offers_name name) (as_installed_where_same installed cs) ≡ places_from n (offers_name name) cs
+pub places_still : (name : List ℕ) (installed : Candidate) (n : ℕ) (cs : List Candidate) → places_passing_from n (offers_name name) (as_installed_where_same installed cs) ≡ places_passing_from n (offers_name name) cs
 places_still name installed n [] = refl
 places_still name installed n (c ∷ cs) =
     let rest = places_still name installed (suc n) cs in
@@ -39,13 +39,13 @@ places_still name installed n (c ∷ cs) =
 
 abbrev pub marked_among : Candidate → List ℕ → List Candidate → List Candidate
 marked_among installed [] cs = cs
-marked_among installed (k ∷ ks) cs = marked_among installed ks (marked_at installed k cs)
+marked_among installed (k ∷ ks) cs = marked_among installed ks (marked_installed_if_same_at installed k cs)
 
-pub marked_more : (installed : Candidate) (ks : List ℕ) (k : ℕ) (cs : List Candidate) → marked_among installed (ks ++ k ∷ []) cs ≡ marked_at installed k (marked_among installed ks cs)
+pub marked_more : (installed : Candidate) (ks : List ℕ) (k : ℕ) (cs : List Candidate) → marked_among installed (ks ++ k ∷ []) cs ≡ marked_installed_if_same_at installed k (marked_among installed ks cs)
 marked_more installed [] k cs = refl
-marked_more installed (j ∷ ks) k cs = marked_more installed ks k (marked_at installed j cs)
+marked_more installed (j ∷ ks) k cs = marked_more installed ks k (marked_installed_if_same_at installed j cs)
 
-at_front : (installed c : Candidate) (front cs : List Candidate) → marked_at installed (length front) (front ++ c ∷ cs) ≡ front ++ (if is_same_package installed c then as_installed c else c) ∷ cs
+at_front : (installed c : Candidate) (front cs : List Candidate) → marked_installed_if_same_at installed (length front) (front ++ c ∷ cs) ≡ front ++ (if is_same_package installed c then as_installed c else c) ∷ cs
 at_front installed c [] cs = refl
 at_front installed c (d ∷ front) cs = ap (λ (z : List Candidate). d ∷ z) (at_front installed c front cs)
 
@@ -61,30 +61,30 @@ not_same installed c h = elim (cases_Bool (is_same_package installed c)) [
   | inr e ↦ e
 ]
 
-marked_after : (installed : Candidate) (front cs : List Candidate) → marked_among installed (places_from (length front) (offers_name installed.name) cs) (front ++ cs) ≡ front ++ as_installed_where_same installed cs
+marked_after : (installed : Candidate) (front cs : List Candidate) → marked_among installed (places_passing_from (length front) (offers_name installed.name) cs) (front ++ cs) ≡ front ++ as_installed_where_same installed cs
 marked_after installed front [] = refl
 marked_after installed front (c ∷ cs) =
     let test = offers_name installed.name in
     let new : Candidate = if is_same_package installed c then as_installed c else c in
     let len : length (front ++ new ∷ []) ≡ suc (length front) = simp length-append (omega arith) in
-    let rest : marked_among installed (places_from (suc (length front)) test cs) (front ++ new ∷ cs) ≡ front ++ new ∷ as_installed_where_same installed cs =
-    subst (λ (n : ℕ). marked_among installed (places_from n test cs) (front ++ new ∷ cs) ≡ front ++ new ∷ as_installed_where_same installed cs) len
-    (subst (λ (z : List Candidate). marked_among installed (places_from (length (front ++ new ∷ [])) test cs) z ≡ front ++ new ∷ as_installed_where_same installed cs) (append_assoc front (new ∷ []) cs)
+    let rest : marked_among installed (places_passing_from (suc (length front)) test cs) (front ++ new ∷ cs) ≡ front ++ new ∷ as_installed_where_same installed cs =
+    subst (λ (n : ℕ). marked_among installed (places_passing_from n test cs) (front ++ new ∷ cs) ≡ front ++ new ∷ as_installed_where_same installed cs) len
+    (subst (λ (z : List Candidate). marked_among installed (places_passing_from (length (front ++ new ∷ [])) test cs) z ≡ front ++ new ∷ as_installed_where_same installed cs) (append_assoc front (new ∷ []) cs)
     (marked_after installed (front ++ new ∷ []) cs ∙ append_assoc front (new ∷ []) (as_installed_where_same installed cs))) in
     elim (cases_Bool (test c)) [
-      | inl e ↦ rw e (ap (marked_among installed (places_from (suc (length front)) test cs)) (at_front installed c front cs) ∙ rest)
+      | inl e ↦ rw e (ap (marked_among installed (places_passing_from (suc (length front)) test cs)) (at_front installed c front cs) ∙ rest)
       | inr e ↦
           let same : c ≡ new = sym (rw (not_same installed c e) refl) in
-          rw e (ap (λ (k : Candidate). marked_among installed (places_from (suc (length front)) test cs) (front ++ k ∷ cs)) same ∙ rest)
+          rw e (ap (λ (k : Candidate). marked_among installed (places_passing_from (suc (length front)) test cs) (front ++ k ∷ cs)) same ∙ rest)
     ]
 
-pub marked_all : (installed : Candidate) (cs : List Candidate) → marked_among installed (places_from 0 (offers_name installed.name) cs) cs ≡ as_installed_where_same installed cs
+pub marked_all : (installed : Candidate) (cs : List Candidate) → marked_among installed (places_passing_from 0 (offers_name installed.name) cs) cs ≡ as_installed_where_same installed cs
 marked_all installed cs = marked_after installed [] cs
 
 same_still : (installed c : Candidate) → is_same_package installed (if is_same_package installed c then as_installed c else c) ≡ is_same_package installed c
 same_still installed c = elim (cases_Bool (is_same_package installed c)) [ inl e ↦ rw e e | inr e ↦ rw e e ]
 
-same_at_still : (installed : Candidate) (j : ℕ) (cs : List Candidate) (k : ℕ) → is_installed_package_at installed (marked_at installed j cs) k ≡ is_installed_package_at installed cs k
+same_at_still : (installed : Candidate) (j : ℕ) (cs : List Candidate) (k : ℕ) → is_installed_package_at installed (marked_installed_if_same_at installed j cs) k ≡ is_installed_package_at installed cs k
 same_at_still installed j [] k = refl
 same_at_still installed zero (c ∷ cs) zero = same_still installed c
 same_at_still installed zero (c ∷ cs) (suc k) = refl
@@ -93,9 +93,9 @@ same_at_still installed (suc j) (c ∷ cs) (suc k) = same_at_still installed j c
 
 pub same_among_still : (installed : Candidate) (ks : List ℕ) (cs : List Candidate) (k : ℕ) → is_installed_package_at installed (marked_among installed ks cs) k ≡ is_installed_package_at installed cs k
 same_among_still installed [] cs k = refl
-same_among_still installed (j ∷ ks) cs k = same_among_still installed ks (marked_at installed j cs) k ∙ same_at_still installed j cs k
+same_among_still installed (j ∷ ks) cs k = same_among_still installed ks (marked_installed_if_same_at installed j cs) k ∙ same_at_still installed j cs k
 
-any_places : (weak strong : Candidate → Bool) (all : ℕ → Option Candidate) (n : ℕ) (cs : List Candidate) → ((c : Candidate) → strong c ≡ true → weak c ≡ true) → ((k : ℕ) → all (n + k) ≡ slice_get cs k) → list_any (λ k. option_map_or strong (all k) false) (places_from n weak cs) ≡ list_any strong cs
+any_places : (weak strong : Candidate → Bool) (all : ℕ → Option Candidate) (n : ℕ) (cs : List Candidate) → ((c : Candidate) → strong c ≡ true → weak c ≡ true) → ((k : ℕ) → all (n + k) ≡ slice_get cs k) → list_any (λ k. option_map_or strong (all k) false) (places_passing_from n weak cs) ≡ list_any strong cs
 any_places weak strong all n [] to there = refl
 any_places weak strong all n (c ∷ cs) to there =
     let z : n + 0 ≡ n = omega arith in
@@ -110,34 +110,34 @@ any_places weak strong all n (c ∷ cs) to there =
       ]
     ]
 
-pub any_same : (installed : Candidate) (cs : List Candidate) → list_any (is_installed_package_at installed cs) (places_from 0 (offers_name installed.name) cs) ≡ list_any (is_same_package installed) cs
+pub any_same : (installed : Candidate) (cs : List Candidate) → list_any (is_installed_package_at installed cs) (places_passing_from 0 (offers_name installed.name) cs) ≡ list_any (is_same_package installed) cs
 any_same installed cs =
     any_places (offers_name installed.name) (is_same_package installed) (λ k. slice_get cs k) 0 cs (same_is_named installed) (λ k. ap (slice_get cs) (omega arith))
 
-pub marked_at-other : (installed c : Candidate) (k : ℕ) (cs : List Candidate) → slice_get cs k ≡ Some c → is_same_package installed c ≡ false → marked_at installed k cs ≡ cs
-marked_at-other installed c zero [] h e = refl
-marked_at-other installed c (suc k) [] h e = refl
-marked_at-other installed c zero (d ∷ cs) h e =
+pub marked_installed_if_same_at-other : (installed c : Candidate) (k : ℕ) (cs : List Candidate) → slice_get cs k ≡ Some c → is_same_package installed c ≡ false → marked_installed_if_same_at installed k cs ≡ cs
+marked_installed_if_same_at-other installed c zero [] h e = refl
+marked_installed_if_same_at-other installed c (suc k) [] h e = refl
+marked_installed_if_same_at-other installed c zero (d ∷ cs) h e =
     let s : c ≡ d = cc in
     rw (subst (λ (z : Candidate). is_same_package installed z ≡ false) s e) refl
-marked_at-other installed c (suc k) (d ∷ cs) h e = ap (λ (z : List Candidate). d ∷ z) (marked_at-other installed c k cs h e)
+marked_installed_if_same_at-other installed c (suc k) (d ∷ cs) h e = ap (λ (z : List Candidate). d ∷ z) (marked_installed_if_same_at-other installed c k cs h e)
 
-pub marked_at-installed : (installed c : Candidate) (k : ℕ) (cs : List Candidate) → slice_get cs k ≡ Some c → is_same_package installed c ≡ true → marked_at installed k cs ≡ installed_at k cs
-marked_at-installed installed c zero [] h e = refl
-marked_at-installed installed c (suc k) [] h e = refl
-marked_at-installed installed c zero (d ∷ cs) h e =
+pub marked_installed_if_same_at-installed : (installed c : Candidate) (k : ℕ) (cs : List Candidate) → slice_get cs k ≡ Some c → is_same_package installed c ≡ true → marked_installed_if_same_at installed k cs ≡ marked_installed_at k cs
+marked_installed_if_same_at-installed installed c zero [] h e = refl
+marked_installed_if_same_at-installed installed c (suc k) [] h e = refl
+marked_installed_if_same_at-installed installed c zero (d ∷ cs) h e =
     let s : c ≡ d = cc in
     rw (subst (λ (z : Candidate). is_same_package installed z ≡ true) s e) refl
-marked_at-installed installed c (suc k) (d ∷ cs) h e = ap (λ (z : List Candidate). d ∷ z) (marked_at-installed installed c k cs h e)
+marked_installed_if_same_at-installed installed c (suc k) (d ∷ cs) h e = ap (λ (z : List Candidate). d ∷ z) (marked_installed_if_same_at-installed installed c k cs h e)
 
-length-marked_at : (installed : Candidate) (k : ℕ) (cs : List Candidate) → length (marked_at installed k cs) ≡ length cs
-length-marked_at installed k [] = refl
-length-marked_at installed zero (c ∷ cs) = refl
-length-marked_at installed (suc k) (c ∷ cs) = ap suc (length-marked_at installed k cs)
+length-marked_installed_if_same_at : (installed : Candidate) (k : ℕ) (cs : List Candidate) → length (marked_installed_if_same_at installed k cs) ≡ length cs
+length-marked_installed_if_same_at installed k [] = refl
+length-marked_installed_if_same_at installed zero (c ∷ cs) = refl
+length-marked_installed_if_same_at installed (suc k) (c ∷ cs) = ap suc (length-marked_installed_if_same_at installed k cs)
 
 pub length-marked_among : (installed : Candidate) (ks : List ℕ) (cs : List Candidate) → length (marked_among installed ks cs) ≡ length cs
 length-marked_among installed [] cs = refl
-length-marked_among installed (k ∷ ks) cs = length-marked_among installed ks (marked_at installed k cs) ∙ length-marked_at installed k cs
+length-marked_among installed (k ∷ ks) cs = length-marked_among installed ks (marked_installed_if_same_at installed k cs) ∙ length-marked_installed_if_same_at installed k cs
 
 pub none_same : (installed : Candidate) (cs : List Candidate) → list_any (is_same_package installed) cs ≡ false → as_installed_where_same installed cs ≡ cs
 none_same installed [] h = refl

@@ -10,7 +10,7 @@ use Rattle.adb_view.specs.Plain.{Plain, Plains, none, more}
 use Rattle.adb_schema.specs.SoundValues.{IsSoundDependency}
 use Rattle.adb_view.specs.Values.{count_of, entry_in, int_in, nth, text_in}
 use Rattle.dep_core.specs.Dependency.{Dependency, is_dep_name}
-use Rattle.dep_core.specs.Value.{is_matching, is_version_or_empty}
+use Rattle.dep_core.specs.Value.{is_match_number, is_version_or_empty}
 use Rattle.dep_core.specs.ValueReading.{dependency_of_value}
 use Rattle.candidate_core.specs.Candidates.{dependency_in, dependencies_of}
 use Rattle.candidate_core.proofs.DependencyLists.{dependencies_step, dependencies_to}
@@ -69,7 +69,7 @@ chosen false d h = absurd (cc)
 pub sound_if_some : (v : Plain) → is_some (dependency_in v) ≡ true → IsSoundDependency v
 unfolding dependency_of_value
 sound_if_some v h =
-    let all = chosen (is_dep_name (text_in (entry_in v 0)) && (is_version_or_empty (text_in (entry_in v 1)) && is_matching (int_in (entry_in v 2)))) _ h in
+    let all = chosen (is_dep_name (text_in (entry_in v 0)) && (is_version_or_empty (text_in (entry_in v 1)) && is_match_number (int_in (entry_in v 2)))) _ h in
     let rest = both_second (is_dep_name (text_in (entry_in v 0))) _ all in
     record {
       name = both_first (is_dep_name (text_in (entry_in v 0))) _ all;

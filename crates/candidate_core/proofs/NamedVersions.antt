@@ -9,9 +9,9 @@ use Rattle.std.specs.Ordering.{is_eq, nat_cmp, ordering_then}
 use Rattle.std.specs.declared.cmp.Ordering.{Ordering}
 use Rattle.std.specs.declared.cmp.Ordering.TheVariants.{Less, Equal, Greater}
 use Rattle.dep_core.specs.Dependency.{Dependency}
-use Rattle.dep_core.specs.Meets.{is_wanted}
+use Rattle.dep_core.specs.Meets.{constraint_accepts}
 use Rattle.candidate_core.specs.Candidates.{Candidate}
-use Rattle.candidate_core.specs.Matches.{AreMatchesOf, place_cmp}
+use Rattle.candidate_core.specs.Matches.{AreRememberedMatchesOf, place_cmp}
 use Rattle.candidate_core.specs.PackageMatches.{AreMatchesAmong, AreMatchesByVersion, wanted_version_cmp}
 use Rattle.candidate_core.specs.Packages.{candidates_of_packages}
 use Rattle.candidate_core.specs.VersionTexts.{source_text}
@@ -33,28 +33,28 @@ same_wanted a b h = go (place_cmp (a.0, a.1) (b.0, b.1)) refl
 
 -- what is right for a dependency is right for each that names the same version with the same
 -- operator
-same_wants : (text : ℕ → ℕ → List ℕ) (d e : Dependency) (known : KnownMatches) → d.version ≡ e.version → d.bits ≡ e.bits → AreMatchesOf text d known → AreMatchesOf text e known
+same_wants : (text : ℕ → ℕ → List ℕ) (d e : Dependency) (known : KnownMatches) → d.version ≡ e.version → d.bits ≡ e.bits → AreRememberedMatchesOf text d known → AreRememberedMatchesOf text e known
 same_wants text d e known version bits right source word answer at =
     right source word answer at
-    ∙ (ap (λ (v : Option (List ℕ)). is_wanted v d.bits (Some (text source word))) version
-    ∙ ap (λ (n : ℕ). is_wanted e.version n (Some (text source word))) bits)
+    ∙ (ap (λ (v : Option (List ℕ)). constraint_accepts v d.bits (Some (text source word))) version
+    ∙ ap (λ (n : ℕ). constraint_accepts e.version n (Some (text source word))) bits)
 
 module _ (text : ℕ → ℕ → List ℕ) (old new : BTreeMap (ℕ × ℕ × ℕ) KnownMatches) (k : ℕ × ℕ × ℕ) (right : AreMatchesByVersion text old) where
   -- one version more is kept
   pub matches_inserted : (v : KnownMatches) (d : Dependency)
       → ((q : ℕ × ℕ × ℕ) → get wanted_version_cmp new q ≡ cond (is_eq (wanted_version_cmp k q)) (Some v) (get wanted_version_cmp old q))
-      → d.version ≡ Some (text k.0 k.1) → d.bits ≡ k.2 → AreMatchesOf text d v
+      → d.version ≡ Some (text k.0 k.1) → d.bits ≡ k.2 → AreRememberedMatchesOf text d v
       → AreMatchesByVersion text new
   matches_inserted v d updates version bits is source word b known e at named same = go (is_eq (wanted_version_cmp k (source, word, b))) refl
     where
-      go : (t : Bool) → is_eq (wanted_version_cmp k (source, word, b)) ≡ t → AreMatchesOf text e known
+      go : (t : Bool) → is_eq (wanted_version_cmp k (source, word, b)) ≡ t → AreRememberedMatchesOf text e known
       go true h =
           let key = same_wanted k (source, word, b) h in
           let both : ◌≡◌ {A = Option KnownMatches} (Some v) (Some known) = sym (updates (source, word, b) ∙ ap (λ (t : Bool). cond t (Some v) (get wanted_version_cmp old (source, word, b))) h) ∙ at in
           let value : v ≡ known = cc in
           let version_is : d.version ≡ e.version = version ∙ (ap (λ (s : ℕ). Some (text s k.1)) key.0 ∙ (ap (λ (w : ℕ). Some (text source w)) key.1 ∙ sym named)) in
           let bits_are : d.bits ≡ e.bits = bits ∙ (key.2 ∙ sym same) in
-          subst (λ (m : KnownMatches). AreMatchesOf text e m) value (same_wants text d e v version_is bits_are is)
+          subst (λ (m : KnownMatches). AreRememberedMatchesOf text e m) value (same_wants text d e v version_is bits_are is)
       go false h = right source word b known e (sym (updates (source, word, b) ∙ ap (λ (t : Bool). cond t (Some v) (get wanted_version_cmp old (source, word, b))) h) ∙ at) named same
 
   -- what is known of a version is taken out
@@ -62,7 +62,7 @@ module _ (text : ℕ → ℕ → List ℕ) (old new : BTreeMap (ℕ × ℕ × �
       → AreMatchesByVersion text new
   matches_removed updates source word b known e at named same = go (is_eq (wanted_version_cmp k (source, word, b))) refl
     where
-      go : (t : Bool) → is_eq (wanted_version_cmp k (source, word, b)) ≡ t → AreMatchesOf text e known
+      go : (t : Bool) → is_eq (wanted_version_cmp k (source, word, b)) ≡ t → AreRememberedMatchesOf text e known
       go true h =
           let bad : ◌≡◌ {A = Option KnownMatches} None (Some known) = sym (updates (source, word, b) ∙ ap (λ (t : Bool). cond t None (get wanted_version_cmp old (source, word, b))) h) ∙ at in
           absurd (cc)

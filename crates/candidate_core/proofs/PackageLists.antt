@@ -3,8 +3,8 @@ use Rattle.std.proofs.Common.{◌≡◌, All, ℕ, zero, suc, ◌<◌, Bool, tru
 use Rattle.std.specs.Prelude.{Option, Some, None, slice_get}
 use Rattle.std.proofs.Math.ListN.{set}
 use Rattle.candidate_core.specs.Candidates.{Candidate, as_installed}
-use Rattle.candidate_core.specs.PackageWords.{IsPackageAmong}
-use Rattle.candidate_core.specs.Packages.{candidate_among, candidate_in_source, installed_at}
+use Rattle.candidate_core.specs.PackageWords.{IsPackageWordAmong}
+use Rattle.candidate_core.specs.Packages.{candidate_among, candidate_in_source, marked_installed_at}
 use Rattle.candidate_core.specs.declared.packages.PackageWord.{PackageWord}
 use Rattle.candidate_core.specs.declared.packages.Source.{Source}
 
@@ -14,7 +14,7 @@ still_there (y ∷ xs) x zero h = refl
 still_there (y ∷ xs) x (suc i) h = still_there xs x i (omega (arith, h))
 
 -- a further source changes no candidate
-pub with_source : (ss : List Source) (s : Source) (ws : List PackageWord) → All (IsPackageAmong ss) ws → map (candidate_among (ss ++ s ∷ [])) ws ≡ map (candidate_among ss) ws
+pub with_source : (ss : List Source) (s : Source) (ws : List PackageWord) → All (IsPackageWordAmong ss) ws → map (candidate_among (ss ++ s ∷ [])) ws ≡ map (candidate_among ss) ws
 with_source ss s [] all = refl
 with_source ss s (w ∷ ws) all =
     let here : candidate_among (ss ++ s ∷ []) w ≡ candidate_among ss w = ap (λ (o : Option Source). candidate_in_source o w.word w.installed) (still_there ss s w.source ((all 0 w (omega arith)).within)) in
@@ -28,7 +28,7 @@ marked_there (Some s) word installed = refl
 abbrev pub set_mark : PackageWord → PackageWord
 set_mark w = record { word = w.word; source = w.source; installed = true }
 
-pub marked_word : (ss : List Source) (ws : List PackageWord) (k : ℕ) (w : PackageWord) → k < length ws → w ≡ get_or ws k w → map (candidate_among ss) (set ws k (set_mark w)) ≡ installed_at k (map (candidate_among ss) ws)
+pub marked_word : (ss : List Source) (ws : List PackageWord) (k : ℕ) (w : PackageWord) → k < length ws → w ≡ get_or ws k w → map (candidate_among ss) (set ws k (set_mark w)) ≡ marked_installed_at k (map (candidate_among ss) ws)
 marked_word ss [] k w h e = absurd (omega (arith, h))
 marked_word ss (y ∷ ws) zero w h e =
     ap (λ (c : Candidate). c ∷ map (candidate_among ss) ws)

@@ -7,16 +7,16 @@ use Rattle.std.proofs.lemmas.Bool.{cases_Bool}
 use Rattle.adb_view.specs.Plain.{Plain, Plains, none, more}
 use Rattle.adb_view.specs.Values.{count_of, entry_in, int_in, nth, text_in}
 use Rattle.dep_core.specs.Dependency.{Dependency, is_dep_name}
-use Rattle.dep_core.specs.Reading.{any_version}
-use Rattle.dep_core.specs.Value.{is_matching, is_version_or_empty}
-use Rattle.dep_core.specs.ValueReading.{dependency_of_value, on_version}
+use Rattle.dep_core.specs.Reading.{dependency_on_any_version}
+use Rattle.dep_core.specs.Value.{is_match_number, is_version_or_empty}
+use Rattle.dep_core.specs.ValueReading.{dependency_of_value, with_wanted_version}
 use Rattle.candidate_core.specs.Candidates.{dependencies_of, dependency_in}
 use Rattle.candidate_core.proofs.DependencyLists.{dependencies_step, dependencies_to}
 use Rattle.candidate_core.proofs.LoopTests.{found_snoc}
 
 -- ---- texts
 
-constraint_text : (conflict : Bool) (name text : List ℕ) (bits : Option ℕ) → IfSome (on_version (any_version conflict name) text bits).version (λ v. v ≡ text)
+constraint_text : (conflict : Bool) (name text : List ℕ) (bits : Option ℕ) → IfSome (with_wanted_version (dependency_on_any_version conflict name) text bits).version (λ v. v ≡ text)
 constraint_text conflict name [] bits = tt
 constraint_text conflict name (b ∷ rest) None = tt
 constraint_text conflict name (b ∷ rest) (Some bits) = refl
@@ -28,7 +28,7 @@ chosen_version false d e text h known = absurd (cc)
 entry_text : (value : Plain) (d : Dependency) → Some d ≡ dependency_in value → IfSome d.version (λ v. v ≡ text_in (entry_in value 1))
 unfolding dependency_of_value
 entry_text value d h =
-    chosen_version (is_dep_name (text_in (entry_in value 0)) && (is_version_or_empty (text_in (entry_in value 1)) && is_matching (int_in (entry_in value 2)))) d _ (text_in (entry_in value 1)) h
+    chosen_version (is_dep_name (text_in (entry_in value 0)) && (is_version_or_empty (text_in (entry_in value 1)) && is_match_number (int_in (entry_in value 2)))) d _ (text_in (entry_in value 1)) h
     (constraint_text _ (text_in (entry_in value 0)) (text_in (entry_in value 1)) _)
 
 pub provided_text : (value : Plain) (d : Dependency) (text : List ℕ) → Some d ≡ dependency_in value → text ≡ text_in (entry_in value 1) → IfSome d.version (λ v. v ≡ text)

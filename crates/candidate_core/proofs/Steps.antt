@@ -9,7 +9,7 @@ use Rattle.candidate_core.specs.Options.{IsIn}
 use Rattle.candidate_core.specs.Values.{IsPoolFault}
 use Rattle.candidate_core.specs.declared.candidate_list.PoolFault.{PoolFault}
 use Rattle.candidate_core.specs.declared.candidate_list.PoolFault.TheVariants.{TooMany, Memory}
-use Rattle.candidate_core.specs.PositiveInstallIfs.{has_positive_install_if, places_marked}
+use Rattle.candidate_core.specs.PositiveInstallIfs.{has_positive_install_if, places_marked_with_install_if}
 use Rattle.candidate_core.proofs.Anyone.{all_map}
 
 take_next : {X : Type 0} (xs : List X) (i : ℕ) (x : X) → slice_get xs i ≡ Some x → take (suc i) xs ≡ take i xs ++ x ∷ []
@@ -38,7 +38,7 @@ pub any_snoc : {X : Type 0} (p : X → Bool) (xs : List X) (x : X) → list_any 
 any_snoc p [] x = elim (cases_Bool (p x)) [ inl e ↦ rw e refl | inr e ↦ rw e refl ]
 any_snoc p (y ∷ xs) x = elim (cases_Bool (p y)) [ inl e ↦ rw e refl | inr e ↦ rw e (any_snoc p xs x) ]
 
-marked_next : (n i : ℕ) (ms : List Bool) (cs : List Candidate) (m : Bool) (c : Candidate) → slice_get ms i ≡ Some m → slice_get cs i ≡ Some c → places_marked n (take (suc i) ms) (take (suc i) cs) ≡ places_marked n (take i ms) (take i cs) ++ (if m && has_positive_install_if c then (n + i) ∷ [] else [])
+marked_next : (n i : ℕ) (ms : List Bool) (cs : List Candidate) (m : Bool) (c : Candidate) → slice_get ms i ≡ Some m → slice_get cs i ≡ Some c → places_marked_with_install_if n (take (suc i) ms) (take (suc i) cs) ≡ places_marked_with_install_if n (take i ms) (take i cs) ++ (if m && has_positive_install_if c then (n + i) ∷ [] else [])
 marked_next n zero [] cs m c h g = absurd (cc)
 marked_next n (suc i) [] cs m c h g = absurd (cc)
 marked_next n zero (l ∷ ms) [] m c h g = absurd (cc)
@@ -52,20 +52,20 @@ marked_next n zero (l ∷ ms) (d ∷ cs) m c h g =
     (ap (λ (k : ℕ). if l && has_positive_install_if d then k ∷ [] else []) z))
 marked_next n (suc i) (l ∷ ms) (d ∷ cs) m c h g =
     let z : suc n + i ≡ n + suc i = omega arith in
-    let rest : places_marked (suc n) (take (suc i) ms) (take (suc i) cs) ≡ places_marked (suc n) (take i ms) (take i cs) ++ (if m && has_positive_install_if c then (n + suc i) ∷ [] else []) =
-    subst (λ (k : ℕ). places_marked (suc n) (take (suc i) ms) (take (suc i) cs) ≡ places_marked (suc n) (take i ms) (take i cs) ++ (if m && has_positive_install_if c then k ∷ [] else [])) z (marked_next (suc n) i ms cs m c h g) in
+    let rest : places_marked_with_install_if (suc n) (take (suc i) ms) (take (suc i) cs) ≡ places_marked_with_install_if (suc n) (take i ms) (take i cs) ++ (if m && has_positive_install_if c then (n + suc i) ∷ [] else []) =
+    subst (λ (k : ℕ). places_marked_with_install_if (suc n) (take (suc i) ms) (take (suc i) cs) ≡ places_marked_with_install_if (suc n) (take i ms) (take i cs) ++ (if m && has_positive_install_if c then k ∷ [] else [])) z (marked_next (suc n) i ms cs m c h g) in
     elim (cases_Bool (l && has_positive_install_if d)) [
       | inl e ↦ rw e (ap (λ (z : List ℕ). n ∷ z) rest)
       | inr e ↦ rw e rest
     ]
 
-pub marked_step : (i : ℕ) (ms : List Bool) (cs : List Candidate) (m : Bool) (c : Candidate) (before after : List ℕ) → slice_get ms i ≡ Some m → slice_get cs i ≡ Some c → before ≡ places_marked 0 (take i ms) (take i cs) → after ≡ before ++ (if m && has_positive_install_if c then i ∷ [] else []) → after ≡ places_marked 0 (take (i + 1) ms) (take (i + 1) cs)
+pub marked_step : (i : ℕ) (ms : List Bool) (cs : List Candidate) (m : Bool) (c : Candidate) (before after : List ℕ) → slice_get ms i ≡ Some m → slice_get cs i ≡ Some c → before ≡ places_marked_with_install_if 0 (take i ms) (take i cs) → after ≡ before ++ (if m && has_positive_install_if c then i ∷ [] else []) → after ≡ places_marked_with_install_if 0 (take (i + 1) ms) (take (i + 1) cs)
 marked_step i ms cs m c before after h g was is =
     let z : i + 1 ≡ suc i = omega arith in
     let o : 0 + i ≡ i = omega arith in
-    let next : places_marked 0 (take (suc i) ms) (take (suc i) cs) ≡ places_marked 0 (take i ms) (take i cs) ++ (if m && has_positive_install_if c then i ∷ [] else []) =
-    subst (λ (k : ℕ). places_marked 0 (take (suc i) ms) (take (suc i) cs) ≡ places_marked 0 (take i ms) (take i cs) ++ (if m && has_positive_install_if c then k ∷ [] else [])) o (marked_next 0 i ms cs m c h g) in
-    is ∙ (ap (λ (x : List ℕ). x ++ (if m && has_positive_install_if c then i ∷ [] else [])) was ∙ (sym next ∙ ap (λ (k : ℕ). places_marked 0 (take k ms) (take k cs)) (sym z)))
+    let next : places_marked_with_install_if 0 (take (suc i) ms) (take (suc i) cs) ≡ places_marked_with_install_if 0 (take i ms) (take i cs) ++ (if m && has_positive_install_if c then i ∷ [] else []) =
+    subst (λ (k : ℕ). places_marked_with_install_if 0 (take (suc i) ms) (take (suc i) cs) ≡ places_marked_with_install_if 0 (take i ms) (take i cs) ++ (if m && has_positive_install_if c then k ∷ [] else [])) o (marked_next 0 i ms cs m c h g) in
+    is ∙ (ap (λ (x : List ℕ). x ++ (if m && has_positive_install_if c then i ∷ [] else [])) was ∙ (sym next ∙ ap (λ (k : ℕ). places_marked_with_install_if 0 (take k ms) (take k cs)) (sym z)))
 
 -- some, all of which pass a test, whatever they represent
 pub some_and_all : {X Y : Type 0} (p : Y → Bool) (f : X → Y) (xs : List X) (ys : List Y) → map f xs ≡ ys → (not (length xs == 0) && list_all (λ x. p (f x)) xs) ≡ (not (length ys == 0) && list_all p ys)

@@ -9,7 +9,7 @@ use Rattle.base_core.proofs.Numbers.{same_number}
 use Rattle.dep_core.specs.Dependency.{Dependency}
 use Rattle.candidate_core.specs.Candidates.{Candidate, offers_name}
 use Rattle.candidate_core.specs.Options.{IsIn, places_offering}
-use Rattle.candidate_core.specs.Table.{LeadsToOffers, Offered, ids_of, with_last, with_last_where}
+use Rattle.candidate_core.specs.Table.{HasPlacesOfEachName, Offered, places_of_name, with_place_unless_last, with_place_if_added}
 use Rattle.candidate_core.proofs.OfferLists.{places_snoc, places_below}
 use Rattle.candidate_core.proofs.Steps.{any_snoc}
 
@@ -20,27 +20,27 @@ last_snoc o (y ∷ xs) x = last_snoc (Some y) xs x
 abbrev is_at_end : ℕ → Option ℕ → Bool
 is_at_end id o = option_map_or (λ last. last == id) o false
 
-last_again : (ids : List ℕ) (id : ℕ) → is_at_end id (last_or None (with_last ids id)) ≡ true
+last_again : (ids : List ℕ) (id : ℕ) → is_at_end id (last_or None (with_place_unless_last ids id)) ≡ true
 last_again ids id = elim (cases_Bool (is_at_end id (last_or None ids))) [
   | inl e ↦ rw e e
   | inr e ↦ rw e (ap (is_at_end id) (last_snoc None ids id) ∙ same_number id)
 ]
 
 -- a candidate that is added twice is there once
-twice : (ids : List ℕ) (id : ℕ) → with_last (with_last ids id) id ≡ with_last ids id
+twice : (ids : List ℕ) (id : ℕ) → with_place_unless_last (with_place_unless_last ids id) id ≡ with_place_unless_last ids id
 twice ids id = rw (last_again ids id) refl
 
-pub add_both : (a b : Bool) (ids : List ℕ) (id : ℕ) → with_last_where b (with_last_where a ids id) id ≡ with_last_where (a || b) ids id
+pub add_both : (a b : Bool) (ids : List ℕ) (id : ℕ) → with_place_if_added b (with_place_if_added a ids id) id ≡ with_place_if_added (a || b) ids id
 add_both true true ids id = twice ids id
 add_both true false ids id = refl
 add_both false true ids id = refl
 add_both false false ids id = refl
 
 -- one more entry of provides
-pub add_more : (p : Dependency → Bool) (done all : List Dependency) (d : Dependency) (start before after : List ℕ) (id : ℕ) → all ≡ done ++ d ∷ [] → before ≡ with_last_where (list_any p done) start id → after ≡ with_last_where (p d) before id → after ≡ with_last_where (list_any p all) start id
+pub add_more : (p : Dependency → Bool) (done all : List Dependency) (d : Dependency) (start before after : List ℕ) (id : ℕ) → all ≡ done ++ d ∷ [] → before ≡ with_place_if_added (list_any p done) start id → after ≡ with_place_if_added (p d) before id → after ≡ with_place_if_added (list_any p all) start id
 add_more p done all d start before after id e was is =
-    is ∙ (ap (λ (z : List ℕ). with_last_where (p d) z id) was ∙ (add_both (list_any p done) (p d) start id
-    ∙ ap (λ (b : Bool). with_last_where b start id) (sym (any_snoc p done d) ∙ ap (list_any p) (sym e))))
+    is ∙ (ap (λ (z : List ℕ). with_place_if_added (p d) z id) was ∙ (add_both (list_any p done) (p d) start id
+    ∙ ap (λ (b : Bool). with_place_if_added b start id) (sym (any_snoc p done d) ∙ ap (list_any p) (sym e))))
 
 last_member : (o : Option ℕ) (ids : List ℕ) (n k : ℕ) → ((j : ℕ) → o ≡ Some j → j < n) → ((j : ℕ) → IsIn j ids → j < n) → last_or o ids ≡ Some k → k < n
 last_member o [] n k first below h = first k h
@@ -54,18 +54,18 @@ not_last n (Some k) below = elim (eqb_tells k n) [
 ]
 
 -- a candidate above all others follows them
-above_last : (ids : List ℕ) (n : ℕ) → ((j : ℕ) → IsIn j ids → j < n) → with_last ids n ≡ ids ++ n ∷ []
+above_last : (ids : List ℕ) (n : ℕ) → ((j : ℕ) → IsIn j ids → j < n) → with_place_unless_last ids n ≡ ids ++ n ∷ []
 above_last ids n below = rw (not_last n (last_or None ids) (λ k e. last_member None ids n k (λ j bad. absurd (cc)) below e)) refl
 
-pub leads_on : (table more : Offered) (cs : List Candidate) (d : Candidate) → LeadsToOffers table cs → ((name : List ℕ) → ids_of more name ≡ with_last_where (offers_name name d) (ids_of table name) (length cs)) → LeadsToOffers more (cs ++ d ∷ [])
+pub leads_on : (table more : Offered) (cs : List Candidate) (d : Candidate) → HasPlacesOfEachName table cs → ((name : List ℕ) → places_of_name more name ≡ with_place_if_added (offers_name name d) (places_of_name table name) (length cs)) → HasPlacesOfEachName more (cs ++ d ∷ [])
 leads_on table more cs d leads added name =
     let places = places_offering name cs in
-    let step : with_last_where (offers_name name d) places (length cs) ≡ places ++ (if offers_name name d then length cs ∷ [] else []) =
+    let step : with_place_if_added (offers_name name d) places (length cs) ≡ places ++ (if offers_name name d then length cs ∷ [] else []) =
     elim (cases_Bool (offers_name name d)) [
       | inl e ↦ rw e (above_last places (length cs) (λ j h. let b = places_below 0 (offers_name name) cs j h in omega (arith, b)))
       | inr e ↦ rw e (sym (append_nil places))
     ] in
-    added name ∙ (ap (λ (z : List ℕ). with_last_where (offers_name name d) z (length cs)) (leads name) ∙ (step ∙ sym (places_snoc (offers_name name) cs d)))
+    added name ∙ (ap (λ (z : List ℕ). with_place_if_added (offers_name name d) z (length cs)) (leads name) ∙ (step ∙ sym (places_snoc (offers_name name) cs d)))
   where
     append_nil : (xs : List ℕ) → xs ++ [] ≡ xs
     append_nil [] = refl

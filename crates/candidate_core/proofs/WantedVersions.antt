@@ -17,8 +17,8 @@ use Rattle.adb_view.specs.declared.tables.Kind.TheVariants.{Text}
 use Rattle.dep_core.specs.Dependency.{Dependency}
 use Rattle.dep_core.specs.Meets.{meets}
 use Rattle.candidate_core.specs.Candidates.{Need, dependencies_of, dependency_in, entry, named}
-use Rattle.candidate_core.specs.Matches.{AreMatchesFor, AreMatchesOf, IsTextOf, is_wanted_by, place_cmp}
-use Rattle.candidate_core.specs.VersionTexts.{IsReadBy}
+use Rattle.candidate_core.specs.Matches.{AreMatchesFor, AreRememberedMatchesOf, GivesTextsOfSource, dependency_accepts, place_cmp}
+use Rattle.candidate_core.specs.VersionTexts.{HasVersionTextFrom}
 use Rattle.candidate_core.specs.declared.matches.KnownMatches.{KnownMatches}
 use Rattle.candidate_core.specs.declared.packages.Source.{Source}
 use Rattle.candidate_core.specs.declared.versions.RankedVersion.{RankedVersion}
@@ -31,14 +31,14 @@ if_ok_map P Q f (Err e) h = tt
 
 -- ---- one version
 
-pub wanted_by_name : (d : Dependency) (version : Option (List ℕ)) → meets d d.name version ≡ is_wanted_by d version
-wanted_by_name d version = ap (λ b. b && is_wanted_by d version) ((bytes_decides d.name d.name).1 refl)
+pub wanted_by_name : (d : Dependency) (version : Option (List ℕ)) → meets d d.name version ≡ dependency_accepts d version
+wanted_by_name d version = ap (λ b. b && dependency_accepts d version) ((bytes_decides d.name d.name).1 refl)
 
 pub some_text : (o : Option (List ℕ)) (t : List ℕ) → is_some o ≡ true → IfSome o (λ v. v ≡ t) → Some t ≡ o
 some_text None t e h = absurd (true≢false (sym e))
 some_text (Some v) t e h = ap Some (sym h)
 
-pub read_text : (text : ℕ → ℕ → List ℕ) (r : RankedVersion) → is_some r.version ≡ true → IsReadBy text r → Some (text r.source r.word) ≡ r.version
+pub read_text : (text : ℕ → ℕ → List ℕ) (r : RankedVersion) → is_some r.version ≡ true → HasVersionTextFrom text r → Some (text r.source r.word) ≡ r.version
 read_text text r some read = some_text r.version (text r.source r.word) some read
 
 pub text_moved : (o : Option (List ℕ)) (t u : List ℕ) → u ≡ t → IfSome o (λ v. v ≡ t) → IfSome o (λ v. v ≡ u)
@@ -46,7 +46,7 @@ text_moved None t u e h = tt
 text_moved (Some v) t u e h = h ∙ sym e
 
 -- what is read from a source is read by the function that gives its texts
-pub read_by : (text : ℕ → ℕ → List ℕ) (r : RankedVersion) (source : Source) (place : ℕ) → IsTextOf source place text → r.source ≡ place → IfSome r.version (λ v. v ≡ text_in (value_at (payload_of source.adb) Text r.word)) → IsReadBy text r
+pub read_by : (text : ℕ → ℕ → List ℕ) (r : RankedVersion) (source : Source) (place : ℕ) → GivesTextsOfSource source place text → r.source ≡ place → IfSome r.version (λ v. v ≡ text_in (value_at (payload_of source.adb) Text r.word)) → HasVersionTextFrom text r
 read_by text r source place of is read =
     text_moved r.version (text_in (value_at (payload_of source.adb) Text r.word)) (text r.source r.word) (ap (λ (k : ℕ). text k r.word) is ∙ of r.word) read
 
@@ -63,22 +63,22 @@ same_place a b h = go (nat_cmp a.0 b.0) refl
 
 -- one answer more is kept
 pub answer_inserted : (d : Dependency) (text : ℕ → ℕ → List ℕ) (old new : BTreeMap (ℕ × ℕ) Bool) (k : ℕ × ℕ) (v : Bool)
-    → ((source word : ℕ) (x : Bool) → get place_cmp old (source, word) ≡ Some x → x ≡ is_wanted_by d (Some (text source word)))
+    → ((source word : ℕ) (x : Bool) → get place_cmp old (source, word) ≡ Some x → x ≡ dependency_accepts d (Some (text source word)))
     → ((q : ℕ × ℕ) → get place_cmp new q ≡ cond (is_eq (place_cmp k q)) (Some v) (get place_cmp old q))
-    → v ≡ is_wanted_by d (Some (text k.0 k.1))
-    → (source word : ℕ) (x : Bool) → get place_cmp new (source, word) ≡ Some x → x ≡ is_wanted_by d (Some (text source word))
+    → v ≡ dependency_accepts d (Some (text k.0 k.1))
+    → (source word : ℕ) (x : Bool) → get place_cmp new (source, word) ≡ Some x → x ≡ dependency_accepts d (Some (text source word))
 answer_inserted d text old new k v known updates has source word x at = go (is_eq (place_cmp k (source, word))) refl
   where
-    go : (same : Bool) → is_eq (place_cmp k (source, word)) ≡ same → x ≡ is_wanted_by d (Some (text source word))
+    go : (same : Bool) → is_eq (place_cmp k (source, word)) ≡ same → x ≡ dependency_accepts d (Some (text source word))
     go true e =
         let key = same_place k (source, word) e in
         let both : ◌≡◌ {A = Option Bool} (Some v) (Some x) = sym (updates (source, word) ∙ ap (λ (b : Bool). cond b (Some v) (get place_cmp old (source, word))) e) ∙ at in
         let value : v ≡ x = cc in
-        sym value ∙ (has ∙ (ap (λ (s : ℕ). is_wanted_by d (Some (text s k.1))) key.0 ∙ ap (λ (w : ℕ). is_wanted_by d (Some (text source w))) key.1))
+        sym value ∙ (has ∙ (ap (λ (s : ℕ). dependency_accepts d (Some (text s k.1))) key.0 ∙ ap (λ (w : ℕ). dependency_accepts d (Some (text source w))) key.1))
     go false e = known source word x (sym (updates (source, word) ∙ ap (λ (b : Bool). cond b (Some v) (get place_cmp old (source, word))) e) ∙ at)
 
 -- if nothing is known, all that is known is right
-pub known_of_nothing : (text : ℕ → ℕ → List ℕ) (need : Need) (known : KnownMatches) → ((t : ℕ → ℕ → List ℕ) (d : Dependency) → AreMatchesOf t d known) → AreMatchesFor text need known
+pub known_of_nothing : (text : ℕ → ℕ → List ℕ) (need : Need) (known : KnownMatches) → ((t : ℕ → ℕ → List ℕ) (d : Dependency) → AreRememberedMatchesOf t d known) → AreMatchesFor text need known
 known_of_nothing text (entry d) known h = h text d
 known_of_nothing text (named name) known h = tt
 

@@ -1,6 +1,6 @@
 -- The list of candidates under construction, and how candidates are marked as installed one by one. The
 -- rules are in `docs/selection.md`, "What there is to choose from". The contracts of `Pool` cite
--- *IsCandidateList* and *candidates_in*. *is_installed_package_at* and *marked_at* serve their proofs: they are
+-- *IsCandidateList* and *candidates_in*. *is_installed_package_at* and *marked_installed_if_same_at* serve their proofs: they are
 -- *with_installed* for one place.
 use Rattle.std.specs.Prelude.{◌≤◌, ℕ, zero, suc, Bool, false, if◌then◌else◌, List, [], ◌∷◌, length, Option, Some, None, slice_get}
 use Rattle.std.specs.Option.{option_map_or}
@@ -8,12 +8,12 @@ use Rattle.candidate_core.specs.declared.candidate_list.CandidateList.{Candidate
 use Rattle.candidate_core.specs.declared.candidate_list.TheConstants.{MOST_CANDIDATES}
 use Rattle.candidate_core.specs.Candidates.{Candidate, as_installed, is_same_package}
 use Rattle.candidate_core.specs.Packages.{candidates_of_packages}
-use Rattle.candidate_core.specs.Table.{LeadsToOffers}
+use Rattle.candidate_core.specs.Table.{HasPlacesOfEachName}
 
 -- the list is one of candidates: the table has for each name the candidates that offer it, and the
 -- candidates are not too many
 pub record IsCandidateList (list : CandidateList) : Type 0 where
-  pub leads : LeadsToOffers list.table (candidates_of_packages list.packages)
+  pub leads : HasPlacesOfEachName list.table (candidates_of_packages list.packages)
   pub fits : length (candidates_of_packages list.packages) ≤ MOST_CANDIDATES
 
 -- the candidates of a pool; none after an error, which drops the list
@@ -26,8 +26,8 @@ abbrev pub is_installed_package_at : Candidate → List Candidate → ℕ → Bo
 is_installed_package_at installed cs place = option_map_or (is_same_package installed) (slice_get cs place) false
 
 -- the list, with the candidate at a place marked as installed if it is the installed package
-abbrev pub marked_at : Candidate → ℕ → List Candidate → List Candidate
-marked_at installed place [] = []
-marked_at installed zero (c ∷ cs) =
+abbrev pub marked_installed_if_same_at : Candidate → ℕ → List Candidate → List Candidate
+marked_installed_if_same_at installed place [] = []
+marked_installed_if_same_at installed zero (c ∷ cs) =
     (if is_same_package installed c then as_installed c else c) ∷ cs
-marked_at installed (suc place) (c ∷ cs) = c ∷ marked_at installed place cs
+marked_installed_if_same_at installed (suc place) (c ∷ cs) = c ∷ marked_installed_if_same_at installed place cs

@@ -154,11 +154,11 @@ meets_need (named name) c = bytes_eq name c.name
 
 -- the version under which a candidate meets a need: its own, else that of the first entry of its
 -- provides that meets the need
-abbrev pub version_under : Need → Candidate → Option (List ℕ)
-version_under (entry d) c =
+abbrev pub version_meeting_need : Need → Candidate → Option (List ℕ)
+version_meeting_need (entry d) c =
     if meets_by_own_name d c then c.version
     else option_and_then (λ (p : Dependency). p.version) (find (is_met_by_entry d) c.provides)
-version_under (named name) c = c.version
+version_meeting_need (named name) c = c.version
 
 -- whether a candidate offers a name: it has the name, or an entry of provides with the name that is no
 -- conflict

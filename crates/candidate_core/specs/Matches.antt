@@ -5,7 +5,7 @@ use Rattle.std.specs.BTreeMap.{get}
 use Rattle.std.specs.Ordering.{nat_cmp, ordering_then}
 use Rattle.std.specs.declared.cmp.Ordering.{Ordering}
 use Rattle.dep_core.specs.Dependency.{Dependency}
-use Rattle.dep_core.specs.Meets.{is_wanted}
+use Rattle.dep_core.specs.Meets.{constraint_accepts}
 use Rattle.adb_view.specs.Adb.{payload_of}
 use Rattle.adb_view.specs.Values.{text_in, value_at}
 use Rattle.adb_view.specs.declared.tables.Kind.TheVariants.{Text}
@@ -14,35 +14,35 @@ use Rattle.candidate_core.specs.declared.matches.KnownMatches.{KnownMatches}
 use Rattle.candidate_core.specs.declared.packages.Source.{Source}
 
 -- whether a dependency accepts a version, if there is one
-abbrev pub is_wanted_by : Dependency → Option (List ℕ) → Bool
-is_wanted_by d version = is_wanted d.version d.bits version
+abbrev pub dependency_accepts : Dependency → Option (List ℕ) → Bool
+dependency_accepts d version = constraint_accepts d.version d.bits version
 
 -- the order of the places of texts: by their sources, and in one source by their words
 abbrev pub place_cmp : ℕ × ℕ → ℕ × ℕ → Ordering
 place_cmp one other = ordering_then (nat_cmp one.0 other.0) (nat_cmp one.1 other.1)
 
 -- this result is remembered for the version that `word` refers to in the source with the index `source`
-abbrev pub IsMatchOf : KnownMatches → ℕ → ℕ → Bool → Type 0
-IsMatchOf known source word answer = get place_cmp known.answers (source, word) ≡ Some answer
+abbrev pub IsRememberedMatch : KnownMatches → ℕ → ℕ → Bool → Type 0
+IsRememberedMatch known source word answer = get place_cmp known.answers (source, word) ≡ Some answer
 
 -- each remembered result is whether the dependency accepts the text at its place
-abbrev pub AreMatchesOf : (ℕ → ℕ → List ℕ) → Dependency → KnownMatches → Type 0
-AreMatchesOf text d known = (source word : ℕ) (answer : Bool)
-    → IsMatchOf known source word answer → answer ≡ is_wanted_by d (Some (text source word))
+abbrev pub AreRememberedMatchesOf : (ℕ → ℕ → List ℕ) → Dependency → KnownMatches → Type 0
+AreRememberedMatchesOf text d known = (source word : ℕ) (answer : Bool)
+    → IsRememberedMatch known source word answer → answer ≡ dependency_accepts d (Some (text source word))
 
 -- The remembered results are right for a need. For a dependency, each is whether it accepts the version.
 -- A bare name accepts each version, so nothing is claimed for it.
 abbrev pub AreMatchesFor : (ℕ → ℕ → List ℕ) → Need → KnownMatches → Type 0
-AreMatchesFor text (entry d) known = AreMatchesOf text d known
+AreMatchesFor text (entry d) known = AreRememberedMatchesOf text d known
 AreMatchesFor text (named name) known = Unit {0}
 
 -- the function gives the texts of a source at this index
-abbrev pub IsTextOf : Source → ℕ → (ℕ → ℕ → List ℕ) → Type 0
-IsTextOf source place text = (word : ℕ)
+abbrev pub GivesTextsOfSource : Source → ℕ → (ℕ → ℕ → List ℕ) → Type 0
+GivesTextsOfSource source place text = (word : ℕ)
     → text place word ≡ text_in (value_at (payload_of source.adb) Text word)
 
 -- the results for a need are right by some function of places, which at this index gives the texts of the
 -- source
 abbrev pub AreMatchesIn : Source → ℕ → Need → KnownMatches → Type 0
 AreMatchesIn source place need known = (text : ℕ → ℕ → List ℕ)
-    × IsTextOf source place text × AreMatchesFor text need known
+    × GivesTextsOfSource source place text × AreMatchesFor text need known

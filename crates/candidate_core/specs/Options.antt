@@ -8,8 +8,8 @@ use Rattle.candidate_core.specs.Rank.{SealedPool, is_better}
 pub use Rattle.adb_schema.specs.adb_fields.FirstPair.{IsIn}
 
 -- each member of the first list is one of the second
-abbrev pub AreMembers : {X : Type 0} → List X → List X → Type 0
-AreMembers {X} xs ys = (c : X) → IsIn c xs → IsIn c ys
+abbrev pub AreAllMembersOf : {X : Type 0} → List X → List X → Type 0
+AreAllMembersOf {X} xs ys = (c : X) → IsIn c xs → IsIn c ys
 
 -- no number occurs twice
 abbrev pub AreDistinct : List ℕ → Type 0
@@ -18,19 +18,19 @@ AreDistinct (c ∷ cs) = (IsIn c cs → ⊥) × AreDistinct cs
 
 -- the places of the candidates that pass a test, in rising order; the first candidate of the list
 -- has the place `n`
-abbrev pub places_from : ℕ → (Candidate → Bool) → List Candidate → List ℕ
-places_from n test [] = []
-places_from n test (c ∷ cs) =
-    if test c then n ∷ places_from (suc n) test cs else places_from (suc n) test cs
+abbrev pub places_passing_from : ℕ → (Candidate → Bool) → List Candidate → List ℕ
+places_passing_from n test [] = []
+places_passing_from n test (c ∷ cs) =
+    if test c then n ∷ places_passing_from (suc n) test cs else places_passing_from (suc n) test cs
 
 -- the offers of a name: the places, counted from 0, of the candidates that are named so or provide
 -- it
 abbrev pub places_offering : List ℕ → List Candidate → List ℕ
-places_offering name candidates = places_from 0 (offers_name name) candidates
+places_offering name candidates = places_passing_from 0 (offers_name name) candidates
 
 -- whether the candidate may be selected and meets the need
-abbrev pub may_meet : SealedPool → Need → Candidate → Bool
-may_meet pool need c = is_eligible pool.world c && meets_need need c
+abbrev pub is_eligible_for_need : SealedPool → Need → Candidate → Bool
+is_eligible_for_need pool need c = is_eligible pool.world c && meets_need need c
 
 -- places in rank order, with one more, which precedes the first that it is better than
 abbrev pub insert_by_rank : (ℕ → ℕ → Bool) → ℕ → List ℕ → List ℕ
@@ -46,15 +46,15 @@ rank_order_of better (c ∷ cs) = insert_by_rank better c (rank_order_of better 
 -- the options of a need: the candidates that may be selected and meet it, best first
 unfoldable pub options_for : SealedPool → Need → List ℕ
 options_for pool need =
-    rank_order_of (is_better pool need) (places_from 0 (may_meet pool need) pool.candidates)
+    rank_order_of (is_better pool need) (places_passing_from 0 (is_eligible_for_need pool need) pool.candidates)
 
 -- each place of the list is better than those after it
-abbrev pub IsBestFirst : (ℕ → ℕ → Bool) → List ℕ → Type 0
-IsBestFirst better [] = Unit {0}
-IsBestFirst better (c ∷ cs) =
-    ((d : ℕ) → IsIn d cs → better c d ≡ true) × IsBestFirst better cs
+abbrev pub IsSortedBestFirst : (ℕ → ℕ → Bool) → List ℕ → Type 0
+IsSortedBestFirst better [] = Unit {0}
+IsSortedBestFirst better (c ∷ cs) =
+    ((d : ℕ) → IsIn d cs → better c d ≡ true) × IsSortedBestFirst better cs
 
 -- each place of the list is below those after it
-abbrev pub AreRising : List ℕ → Type 0
-AreRising [] = Unit {0}
-AreRising (c ∷ cs) = ((d : ℕ) → IsIn d cs → c < d) × AreRising cs
+abbrev pub AreStrictlyIncreasing : List ℕ → Type 0
+AreStrictlyIncreasing [] = Unit {0}
+AreStrictlyIncreasing (c ∷ cs) = ((d : ℕ) → IsIn d cs → c < d) × AreStrictlyIncreasing cs

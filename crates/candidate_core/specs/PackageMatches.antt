@@ -7,7 +7,7 @@ use Rattle.std.specs.declared.cmp.Ordering.{Ordering}
 use Rattle.dep_core.specs.Dependency.{Dependency}
 use Rattle.dep_core.specs.Meets.{dependency}
 use Rattle.candidate_core.specs.Candidates.{Candidate}
-use Rattle.candidate_core.specs.Matches.{AreMatchesOf}
+use Rattle.candidate_core.specs.Matches.{AreRememberedMatchesOf}
 use Rattle.candidate_core.specs.Packages.{candidates_of_packages}
 use Rattle.candidate_core.specs.VersionTexts.{source_text}
 use Rattle.candidate_core.specs.declared.matches.KnownMatches.{KnownMatches}
@@ -15,8 +15,8 @@ use Rattle.candidate_core.specs.declared.package_matches.PackageDep.{PackageDep}
 use Rattle.candidate_core.specs.declared.package_matches.PackageMatches.{PackageMatches}
 
 -- the candidate at the place of the package has the dependency at its index
-abbrev pub IsDepOf : List Candidate → PackageDep → Type 0
-IsDepOf candidates held = (c : Candidate) → slice_get candidates held.package ≡ Some c
+abbrev pub IsDepOfPackageAt : List Candidate → PackageDep → Type 0
+IsDepOfPackageAt candidates held = (c : Candidate) → slice_get candidates held.package ≡ Some c
     → slice_get c.depends held.index ≡ Some (dependency held.dep.now)
 
 -- the order of versions that are wanted: by their sources, their words there, and the match bits of
@@ -32,7 +32,7 @@ abbrev pub AreMatchesByVersion :
 AreMatchesByVersion text by_version =
     (source word bits : ℕ) (known : KnownMatches) (d : Dependency)
     → get wanted_version_cmp by_version (source, word, bits) ≡ Some known
-    → d.version ≡ Some (text source word) → d.bits ≡ bits → AreMatchesOf text d known
+    → d.version ≡ Some (text source word) → d.bits ≡ bits → AreRememberedMatchesOf text d known
 
 -- the packages are these candidates, and the results for their dependencies are right
 abbrev pub AreMatchesAmong : List Candidate → PackageMatches → Type 0

@@ -17,16 +17,16 @@ info_in_source source word = value_at (payload_of source.adb) (Obj PkgInfo) word
 
 -- the word is that of a package of the source: it can be read as a package's information, whose texts
 -- obey their rules if those of the source do
-pub record IsPackageOf (source : Source) (word : ℕ) : Type 0 where
+pub record IsPackageWordOf (source : Source) (word : ℕ) : Type 0 where
   pub sound : is_sound (payload_of source.adb) (Obj PkgInfo) word ≡ true
   pub texts : source.has_sound_texts ≡ true → HasSoundTexts (info_in_source source word)
 
 -- there is a source at the index, and the word is that of a package of it
-pub record IsPackageAt (sources : List Source) (place word : ℕ) : Type 0 where
+pub record IsPackageWordAt (sources : List Source) (place word : ℕ) : Type 0 where
   pub within : place < length sources
   pub of_source : (source : Source) → slice_get sources place ≡ Some source
-      → IsPackageOf source word
+      → IsPackageWordOf source word
 
 -- the stored word of a package is that of a package of the source at its index
-abbrev pub IsPackageAmong : List Source → PackageWord → Type 0
-IsPackageAmong sources kept = IsPackageAt sources kept.source kept.word
+abbrev pub IsPackageWordAmong : List Source → PackageWord → Type 0
+IsPackageWordAmong sources kept = IsPackageWordAt sources kept.source kept.word

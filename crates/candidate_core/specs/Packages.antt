@@ -33,7 +33,7 @@ abbrev pub candidates_of_packages : Packages → List Candidate
 candidates_of_packages packages = map (candidate_among packages.sources.items) packages.words.items
 
 -- the list, with the candidate at a place marked as installed
-abbrev pub installed_at : ℕ → List Candidate → List Candidate
-installed_at place [] = []
-installed_at zero (c ∷ cs) = as_installed c ∷ cs
-installed_at (suc place) (c ∷ cs) = c ∷ installed_at place cs
+abbrev pub marked_installed_at : ℕ → List Candidate → List Candidate
+marked_installed_at place [] = []
+marked_installed_at zero (c ∷ cs) = as_installed c ∷ cs
+marked_installed_at (suc place) (c ∷ cs) = c ∷ marked_installed_at place cs

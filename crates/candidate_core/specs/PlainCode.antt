@@ -8,18 +8,18 @@ use Rattle.adb_view.specs.Plain.{Plain, Plains, null, int, blob, arr, obj, none,
 
 -- built values, with the value `v` put before the entries of an array; any other value in the array's
 -- place is dropped, which never happens for the steps of a value
-abbrev pub with_first : Plain → Plain → List Plain → List Plain
-with_first v null rest = rest
-with_first v (int n) rest = rest
-with_first v (blob b) rest = rest
-with_first v (arr vs) rest = arr (more v vs) ∷ rest
-with_first v (obj vs) rest = rest
+abbrev pub with_element_before_entries : Plain → Plain → List Plain → List Plain
+with_element_before_entries v null rest = rest
+with_element_before_entries v (int n) rest = rest
+with_element_before_entries v (blob b) rest = rest
+with_element_before_entries v (arr vs) rest = arr (more v vs) ∷ rest
+with_element_before_entries v (obj vs) rest = rest
 
 -- built values, with the first put before the entries of the second
-abbrev pub first_with_second : List Plain → List Plain
-first_with_second [] = []
-first_with_second (v ∷ []) = []
-first_with_second (v ∷ (w ∷ rest)) = with_first v w rest
+abbrev pub first_put_into_second : List Plain → List Plain
+first_put_into_second [] = []
+first_put_into_second (v ∷ []) = []
+first_put_into_second (v ∷ (w ∷ rest)) = with_element_before_entries v w rest
 
 -- an array as an object with its entries; Null for any other value
 abbrev pub as_object : Plain → Plain
@@ -41,18 +41,18 @@ BuildStep = ℕ × (ℕ × List ℕ)
 
 -- the values after a step of a kind: 0 adds Null, 1 an integer, 2 bytes, 3 an array without entries; 4
 -- puts the first value before the entries of the second, and 5 makes the first an object
-abbrev pub built_with : ℕ → ℕ → List ℕ → List Plain → List Plain
-built_with zero n b vs = null ∷ vs
-built_with (suc zero) n b vs = int n ∷ vs
-built_with (suc (suc zero)) n b vs = blob b ∷ vs
-built_with (suc (suc (suc zero))) n b vs = arr none ∷ vs
-built_with (suc (suc (suc (suc zero)))) n b vs = first_with_second vs
-built_with (suc (suc (suc (suc (suc k))))) n b vs = first_as_object vs
+abbrev pub values_after_step : ℕ → ℕ → List ℕ → List Plain → List Plain
+values_after_step zero n b vs = null ∷ vs
+values_after_step (suc zero) n b vs = int n ∷ vs
+values_after_step (suc (suc zero)) n b vs = blob b ∷ vs
+values_after_step (suc (suc (suc zero))) n b vs = arr none ∷ vs
+values_after_step (suc (suc (suc (suc zero)))) n b vs = first_put_into_second vs
+values_after_step (suc (suc (suc (suc (suc k))))) n b vs = first_as_object vs
 
 -- the values after these steps, of which the last is done first
 abbrev pub built : List BuildStep → List Plain
 built [] = []
-built (i ∷ steps) = built_with i.0 i.1.0 i.1.1 (built steps)
+built (i ∷ steps) = values_after_step i.0 i.1.0 i.1.1 (built steps)
 
 abbrev mutual
   -- the steps that build a value, in front of others
@@ -84,17 +84,17 @@ mutual
       built (steps_of_all vs steps) ≡ arr vs ∷ built steps
   all_built_again none steps = refl
   all_built_again (more v vs) steps =
-      ap first_with_second
+      ap first_put_into_second
       (built_again v (steps_of_all vs steps)
       ∙ ap (λ (z : List Plain). v ∷ z) (all_built_again vs steps))
 
 -- the first of some values; Null if there is none
-abbrev pub first_of : List Plain → Plain
-first_of [] = null
-first_of (v ∷ vs) = v
+abbrev pub first_or_null : List Plain → Plain
+first_or_null [] = null
+first_or_null (v ∷ vs) = v
 
 -- plain values are encoded by the steps that build them
 abbrev pub plain_code : Coded Plain
 plain_code =
     code_by (List BuildStep) (coded_list (coded× coded_ℕ (coded× coded_ℕ (coded_list coded_ℕ))))
-    (λ v. steps_of v []) (λ steps. first_of (built steps)) (λ v. ap first_of (built_again v []))
+    (λ v. steps_of v []) (λ steps. first_or_null (built steps)) (λ v. ap first_or_null (built_again v []))

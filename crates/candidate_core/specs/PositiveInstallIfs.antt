@@ -14,9 +14,9 @@ has_positive_install_if c =
 
 -- the places of the candidates that have a mark and an install-if without conflict; the first candidate
 -- of the list has the place `n`
-abbrev pub places_marked : ℕ → List Bool → List Candidate → List ℕ
-places_marked n [] cs = []
-places_marked n (m ∷ ms) [] = []
-places_marked n (m ∷ ms) (c ∷ cs) =
-    if m && has_positive_install_if c then n ∷ places_marked (suc n) ms cs
-    else places_marked (suc n) ms cs
+abbrev pub places_marked_with_install_if : ℕ → List Bool → List Candidate → List ℕ
+places_marked_with_install_if n [] cs = []
+places_marked_with_install_if n (m ∷ ms) [] = []
+places_marked_with_install_if n (m ∷ ms) (c ∷ cs) =
+    if m && has_positive_install_if c then n ∷ places_marked_with_install_if (suc n) ms cs
+    else places_marked_with_install_if (suc n) ms cs

@@ -8,7 +8,7 @@ use Rattle.std.specs.Ordering.{nat_cmp, bool_cmp, on, flip_args, then_cmp, is_lt
 use Rattle.std.specs.declared.cmp.Ordering.{Ordering}
 use Rattle.version_core.specs.Order.{version_cmp}
 use Rattle.dep_core.specs.Dependency.{Dependency}
-use Rattle.candidate_core.specs.Candidates.{Candidate, Need, need_name, version_under, is_eligible, meets_need}
+use Rattle.candidate_core.specs.Candidates.{Candidate, Need, need_name, version_meeting_need, is_eligible, meets_need}
 pub use Rattle.base_core.specs.ByteOrder.{bytes_cmp}
 
 -- the names that a command upgrades: none (`add`, `del`, `fix`), all (`upgrade` without names), or
@@ -26,8 +26,8 @@ pub record SealedPool : Type 0 where
   pub upgraded : UpgradedNames
 
 -- a sealed pool from its parts
-abbrev pub sealed_pool_by : List Candidate → List Dependency → UpgradedNames → SealedPool
-sealed_pool_by candidates world upgraded =
+abbrev pub sealed_pool_from_parts : List Candidate → List Dependency → UpgradedNames → SealedPool
+sealed_pool_from_parts candidates world upgraded =
     record { candidates = candidates; world = world; upgraded = upgraded }
 
 -- whether the command upgrades this name
@@ -85,7 +85,7 @@ tag_name_kept_cmp upgraded need =
 -- byte-lesser name, the greater version of its own
 abbrev pub version_and_priority_cmp : Need → Candidate → Candidate → Ordering
 version_and_priority_cmp need =
-    then_cmp (on (version_under need) greater_version)
+    then_cmp (on (version_meeting_need need) greater_version)
     (then_cmp (on (λ (c : Candidate). c.priority) (flip_args nat_cmp))
     (then_cmp (on (λ (c : Candidate). c.name) bytes_cmp)
     (on (λ (c : Candidate). c.version) greater_version)))
@@ -113,20 +113,20 @@ abbrev pub candidate_at : SealedPool → ℕ → Option Candidate
 candidate_at pool place = slice_get pool.candidates place
 
 -- whether there is a candidate at the place, and the candidate passes the test
-abbrev pub is_at : SealedPool → (Candidate → Bool) → ℕ → Bool
-is_at pool test place = option_map_or test (candidate_at pool place) false
+abbrev pub candidate_at_passes : SealedPool → (Candidate → Bool) → ℕ → Bool
+candidate_at_passes pool test place = option_map_or test (candidate_at pool place) false
 
 -- whether the candidate at a place may be selected
 abbrev pub is_eligible_at : SealedPool → ℕ → Bool
-is_eligible_at pool place = is_at pool (is_eligible pool.world) place
+is_eligible_at pool place = candidate_at_passes pool (is_eligible pool.world) place
 
 -- whether world pins the name of the candidate at a place to its tag
 abbrev pub is_pinned_at : SealedPool → ℕ → Bool
-is_pinned_at pool place = is_at pool (is_pinned pool.world) place
+is_pinned_at pool place = candidate_at_passes pool (is_pinned pool.world) place
 
 -- whether the candidate at a place meets a need
 abbrev pub meets_at : SealedPool → ℕ → Need → Bool
-meets_at pool place need = is_at pool (meets_need need) place
+meets_at pool place need = candidate_at_passes pool (meets_need need) place
 
 -- the order of two places for a need, by all eleven keys: the earlier place is the last one
 unfoldable pub rank_cmp : SealedPool → Need → ℕ → ℕ → Ordering

@@ -27,9 +27,9 @@ need_of (Entry dep) = entry (dependency dep)
 need_of (Named name) = named name.now
 
 -- the need that a value represents which borrows its dependency
-abbrev pub need_by : NeedRef → Need
-need_by (Borrowed.Entry dep) = entry (dependency dep.now)
-need_by (Borrowed.Named name) = named name.now
+abbrev pub need_of_ref : NeedRef → Need
+need_of_ref (Borrowed.Entry dep) = entry (dependency dep.now)
+need_of_ref (Borrowed.Named name) = named name.now
 
 -- the names that a command upgrades
 abbrev pub names_upgraded_by : Upgrade → UpgradedNames

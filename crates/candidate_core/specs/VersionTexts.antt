@@ -17,5 +17,5 @@ abbrev pub source_text : List Source → ℕ → ℕ → List ℕ
 source_text sources place word = text_in_source (slice_get sources place) word
 
 -- the version, if there is one, is the text at its place
-abbrev pub IsReadBy : (ℕ → ℕ → List ℕ) → RankedVersion → Type 0
-IsReadBy text ranked = IfSome ranked.version (λ version. version ≡ text ranked.source ranked.word)
+abbrev pub HasVersionTextFrom : (ℕ → ℕ → List ℕ) → RankedVersion → Type 0
+HasVersionTextFrom text ranked = IfSome ranked.version (λ version. version ≡ text ranked.source ranked.word)

@@ -8,9 +8,9 @@ ghost use Rattle.std.specs.List.{list_all, list_any};
 ghost use Rattle.dep_core.specs.Dependency.{Dependency};
 ghost use Rattle.dep_core.specs.Meets.{dependency};
 ghost use Rattle.candidate_core.specs.Candidates.{candidate_of, entry_occupies, is_met_by_entry, is_same_id, is_same_package, is_same_version, meets_by_own_name, meets_dependency, meets_need, occupies_name};
-ghost use Rattle.candidate_core.specs.PackageWords.{IsPackageOf, info_in_source};
+ghost use Rattle.candidate_core.specs.PackageWords.{IsPackageWordOf, info_in_source};
 ghost use Rattle.candidate_core.specs.Rank.{is_untagged};
-ghost use Rattle.candidate_core.specs.Values.{candidate_value, need_by};
+ghost use Rattle.candidate_core.specs.Values.{candidate_value, need_of_ref};
 ghost use Rattle.candidate_core.specs.PositiveInstallIfs.{has_positive_install_if};
 
 use crate::dependencies::Deps;
@@ -93,7 +93,7 @@ impl<'a> Details<'a> {
     /// The details of the package with this word in a source; `installed` says whether the package
     /// is installed.
     pub fn of(source: &Source<'a>, word: Val, installed: bool) -> Details<'a>
-        requires { IsPackageOf source.now word }
+        requires { IsPackageWordOf source.now word }
         ensures { result ≡ candidate_of (info_in_source source.now word) source.now.repo
             (option_copied source.now.tag) installed }
     {
@@ -240,7 +240,7 @@ impl<'a> Details<'a> {
     /// Whether the candidate meets a need: a dependency, or the name of a package whose install-if
     /// applies, which only a package of that name meets.
     pub fn meets_need(&self, need: &NeedRef<'_>) -> bool
-        ensures { result ≡ meets_need (need_by need.now) self.now }
+        ensures { result ≡ meets_need (need_of_ref need.now) self.now }
     {
         match need {
             NeedRef::Named(name) => *name == self.name(),

@@ -12,8 +12,8 @@ ghost use Rattle.adb_view.specs.Entries.{array_entries};
 ghost use Rattle.adb_view.specs.Values.{count_of, entries_in, entry_in};
 ghost use Rattle.candidate_core.specs.Candidates.{as_installed_where_same, candidate_of, is_same_package, with_installed};
 ghost use Rattle.candidate_core.specs.Options.{places_offering};
-ghost use Rattle.candidate_core.specs.CandidateList.{IsCandidateList, is_installed_package_at, marked_at};
-ghost use Rattle.candidate_core.specs.PackageWords.{IsPackageOf};
+ghost use Rattle.candidate_core.specs.CandidateList.{IsCandidateList, is_installed_package_at, marked_installed_if_same_at};
+ghost use Rattle.candidate_core.specs.PackageWords.{IsPackageWordOf};
 ghost use Rattle.candidate_core.specs.Packages.{candidate_in_source, candidates_of_packages, candidates_of_source};
 ghost use Rattle.candidate_core.specs.SoundTexts.{HasSoundTexts};
 ghost use Rattle.candidate_core.specs.Values.{IsPoolFault};
@@ -84,7 +84,7 @@ impl<'a> CandidateList<'a> {
     ) -> Result<(), PoolFault>
         requires list { IsCandidateList self.old }
         requires source { slice_get self.old.packages.sources.items source_place ≡ Some source.now }
-        requires word { IsPackageOf source.now word }
+        requires word { IsPackageWordOf source.now word }
         ensures list { OnOk result (IsCandidateList self.new) }
         ensures sources { OnOk result (self.new.packages.sources ≡ self.old.packages.sources) }
         ensures pushed { OnOk result (candidates_of_packages self.new.packages
@@ -206,7 +206,7 @@ fn mark_one<'a>(packages: &mut Packages<'a>, id: CandId, installed: &Details<'a>
     ensures same { result
         ≡ is_installed_package_at installed.now (candidates_of_packages packages.old) id }
     ensures marked { candidates_of_packages packages.new
-        ≡ marked_at installed.now id (candidates_of_packages packages.old) }
+        ≡ marked_installed_if_same_at installed.now id (candidates_of_packages packages.old) }
 {
     let place = id.place as usize;
     if !packages.get(place).is_same_package(installed) {

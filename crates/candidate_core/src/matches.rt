@@ -5,8 +5,8 @@
 ghost use Rattle.std.specs.Prelude.{◌≡◌, ℕ, List, IfOk, IfSome, is_some, true};
 ghost use Rattle.dep_core.specs.Dependency.{Dependency};
 ghost use Rattle.dep_core.specs.Meets.{dependency, meets};
-ghost use Rattle.candidate_core.specs.Matches.{AreMatchesOf, IsMatchOf, is_wanted_by};
-ghost use Rattle.candidate_core.specs.VersionTexts.{IsReadBy};
+ghost use Rattle.candidate_core.specs.Matches.{AreRememberedMatchesOf, IsRememberedMatch, dependency_accepts};
+ghost use Rattle.candidate_core.specs.VersionTexts.{HasVersionTextFrom};
 
 use crate::versions::RankedVersion;
 use dep_core::Dep;
@@ -29,7 +29,7 @@ pub struct KnownMatches {
 impl KnownMatches {
     /// Nothing is known.
     pub fn new(alloc: Global) -> KnownMatches
-        ensures { (text : ℕ → ℕ → List ℕ) (d : Dependency) → AreMatchesOf text d result }
+        ensures { (text : ℕ → ℕ → List ℕ) (d : Dependency) → AreRememberedMatchesOf text d result }
     {
         KnownMatches {
             answers: BTreeMap::new(alloc),
@@ -42,15 +42,15 @@ impl KnownMatches {
     /// # Errors
     ///
     /// Out of memory.
-    pub(crate) fn is_wanted(
+    pub(crate) fn constraint_accepts(
         &mut self,
         dep: &Dep<'_>,
         found: &RankedVersion<'_>,
     ) -> Result<bool, AllocError>
-        ensures { IfOk result (λ answer. (text : ℕ → ℕ → List ℕ) → IsReadBy text found.now
-            → AreMatchesOf text (dependency dep.now) self.old
-            → (answer ≡ is_wanted_by (dependency dep.now) found.now.version)
-            × AreMatchesOf text (dependency dep.now) self.new) }
+        ensures { IfOk result (λ answer. (text : ℕ → ℕ → List ℕ) → HasVersionTextFrom text found.now
+            → AreRememberedMatchesOf text (dependency dep.now) self.old
+            → (answer ≡ dependency_accepts (dependency dep.now) found.now.version)
+            × AreRememberedMatchesOf text (dependency dep.now) self.new) }
     {
         if !is_long(&found.version) {
             return Ok(is_version_wanted(dep, found));
@@ -64,9 +64,9 @@ impl KnownMatches {
     /// Whether a dependency accepts a version; a long one is compared only if no result is
     /// remembered.
     pub(crate) fn is_wanted_as_known(&self, dep: &Dep<'_>, found: &RankedVersion<'_>) -> bool
-        ensures { (text : ℕ → ℕ → List ℕ) → IsReadBy text found.now
-            → AreMatchesOf text (dependency dep.now) self.now
-            → result ≡ is_wanted_by (dependency dep.now) found.now.version }
+        ensures { (text : ℕ → ℕ → List ℕ) → HasVersionTextFrom text found.now
+            → AreRememberedMatchesOf text (dependency dep.now) self.now
+            → result ≡ dependency_accepts (dependency dep.now) found.now.version }
     {
         if !is_long(&found.version) {
             return is_version_wanted(dep, found);
@@ -79,7 +79,7 @@ impl KnownMatches {
 
     // Whether a version is wanted, if that is known.
     fn known_answer(&self, found: &RankedVersion<'_>) -> Option<bool>
-        ensures { IfSome result (IsMatchOf self.now found.now.source found.now.word) }
+        ensures { IfSome result (IsRememberedMatch self.now found.now.source found.now.word) }
     {
         self.answers.get(&(found.source, found.word)).copied()
     }
@@ -87,10 +87,10 @@ impl KnownMatches {
     // Whether a version is wanted, of which that is not known; it is then.
     fn answer(&mut self, dep: &Dep<'_>, found: &RankedVersion<'_>) -> Result<bool, AllocError>
         requires { is_some found.now.version ≡ true }
-        ensures { IfOk result (λ answer. (text : ℕ → ℕ → List ℕ) → IsReadBy text found.now
-            → AreMatchesOf text (dependency dep.now) self.old
-            → (answer ≡ is_wanted_by (dependency dep.now) found.now.version)
-            × AreMatchesOf text (dependency dep.now) self.new) }
+        ensures { IfOk result (λ answer. (text : ℕ → ℕ → List ℕ) → HasVersionTextFrom text found.now
+            → AreRememberedMatchesOf text (dependency dep.now) self.old
+            → (answer ≡ dependency_accepts (dependency dep.now) found.now.version)
+            × AreRememberedMatchesOf text (dependency dep.now) self.new) }
     {
         let answer = is_version_wanted(dep, found);
         self.answers.insert((found.source, found.word), answer)?;

@@ -3,7 +3,7 @@
 //! (the order of needs; key 4 for the names that a command upgrades).
 ghost use Rattle.std.specs.Prelude.{◌≡◌, ◌<◌, ◌==◌, length, slice_get, Some};
 ghost use Rattle.candidate_core.specs.Candidates.{need_name};
-ghost use Rattle.candidate_core.specs.Values.{need_by};
+ghost use Rattle.candidate_core.specs.Values.{need_of_ref};
 
 use crate::candidate::CandId;
 use crate::matches::is_long;
@@ -33,7 +33,7 @@ pub enum NeedRef<'a> {
 impl<'a> NeedRef<'a> {
     /// The name of the need.
     pub fn name(&self) -> &'a [u8]
-        ensures { result.now ≡ need_name (need_by self.now) }
+        ensures { result.now ≡ need_name (need_of_ref self.now) }
     {
         match self {
             NeedRef::Entry(dep) => dep.name,

@@ -7,8 +7,8 @@ ghost use Rattle.std.specs.Prelude.{◌≡◌, ◌<◌, ℕ, List, IfOk, OnOk, S
 ghost use Rattle.dep_core.specs.Dependency.{Dependency};
 ghost use Rattle.dep_core.specs.Meets.{dependency};
 ghost use Rattle.candidate_core.specs.Candidates.{Candidate, meets_dependency};
-ghost use Rattle.candidate_core.specs.Matches.{AreMatchesOf};
-ghost use Rattle.candidate_core.specs.PackageMatches.{AreMatchesAmong, AreMatchesByVersion, IsDepOf};
+ghost use Rattle.candidate_core.specs.Matches.{AreRememberedMatchesOf};
+ghost use Rattle.candidate_core.specs.PackageMatches.{AreMatchesAmong, AreMatchesByVersion, IsDepOfPackageAt};
 ghost use Rattle.candidate_core.specs.Packages.{candidates_of_packages};
 ghost use Rattle.candidate_core.specs.VersionTexts.{source_text};
 
@@ -65,7 +65,7 @@ impl<'p> PackageMatches<'p> {
     /// Out of memory.
     pub fn meets(&mut self, place: usize, held: &PackageDep<'_>) -> Result<bool, AllocError>
         requires within { place < length (candidates_of_packages self.old.packages.now) }
-        requires held { IsDepOf (candidates_of_packages self.old.packages.now) held.now }
+        requires held { IsDepOfPackageAt (candidates_of_packages self.old.packages.now) held.now }
         requires matches { AreMatchesAmong (candidates_of_packages self.old.packages.now)
             self.old }
         ensures meets { IfOk result (λ meets. (c : Candidate)
@@ -120,7 +120,7 @@ fn take_known(
 ) -> KnownMatches
     ensures taken { (text : ℕ → ℕ → List ℕ) (d : Dependency)
         → AreMatchesByVersion text by_version.old → d.version ≡ Some (text key.0 key.1)
-        → d.bits ≡ key.2 → AreMatchesOf text d result }
+        → d.bits ≡ key.2 → AreRememberedMatchesOf text d result }
     ensures others { (text : ℕ → ℕ → List ℕ)
         → AreMatchesByVersion text by_version.old → AreMatchesByVersion text by_version.new }
 {

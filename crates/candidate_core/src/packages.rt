@@ -4,14 +4,15 @@
 //! `docs/formats.md`, "Schemas", table 3. Storing 12 bytes for each is this crate's own choice, as
 //! its README says.
 ghost use Rattle.std.specs.Prelude.{All};
-ghost use Rattle.candidate_core.specs.PackageWords.{IsPackageAmong};
+ghost use Rattle.candidate_core.specs.PackageWords.{IsPackageWordAmong};
 
 use crate::candidate::Details;
 use crate::matches::KnownMatches;
 use crate::need::NeedRef;
 use crate::package_matches::PackageDep;
 use crate::versions::{
-    RankedVersion, VersionPlace, depends_version_place, meets_need, own_version, version_under,
+    RankedVersion, VersionPlace, depends_version_place, meets_need, own_version,
+    version_meeting_need,
 };
 use adb_view::{Adb, Val};
 use std::alloc::{AllocError, Global};
@@ -48,19 +49,19 @@ pub struct Packages<'a> {
     /// The packages, in the order in which they were added.
     words: Vec<PackageWord>,
     // Each word is that of a package of the source at its index.
-    ghost sound: { All (IsPackageAmong sources.items) words.items },
+    ghost sound: { All (IsPackageWordAmong sources.items) words.items },
 }
 
 impl<'a> Packages<'a> {
-    ghost use Rattle.candidate_core.specs.Candidates.{Candidate, meets_need, version_under};
+    ghost use Rattle.candidate_core.specs.Candidates.{Candidate, meets_need, version_meeting_need};
     ghost use Rattle.candidate_core.specs.Matches.{AreMatchesFor};
-    ghost use Rattle.candidate_core.specs.Values.{need_by};
-    ghost use Rattle.candidate_core.specs.VersionTexts.{IsReadBy, source_text};
+    ghost use Rattle.candidate_core.specs.Values.{need_of_ref};
+    ghost use Rattle.candidate_core.specs.VersionTexts.{HasVersionTextFrom, source_text};
     ghost use Rattle.dep_core.specs.Meets.{dependency};
-    ghost use Rattle.candidate_core.specs.PackageMatches.{IsDepOf};
+    ghost use Rattle.candidate_core.specs.PackageMatches.{IsDepOfPackageAt};
     ghost use Rattle.std.specs.Prelude.{◌≡◌, ◌<◌, ◌∷◌, [], ◌++◌, length, Some, slice_get, IfOk, IfSome, OnOk, OnErr};
-    ghost use Rattle.candidate_core.specs.PackageWords.{IsPackageAt};
-    ghost use Rattle.candidate_core.specs.Packages.{candidate_in_source, candidates_of_packages, installed_at};
+    ghost use Rattle.candidate_core.specs.PackageWords.{IsPackageWordAt};
+    ghost use Rattle.candidate_core.specs.Packages.{candidate_in_source, candidates_of_packages, marked_installed_at};
 
     /// A list without packages.
     pub fn new(alloc: Global) -> Packages<'a>
@@ -95,7 +96,7 @@ impl<'a> Packages<'a> {
         ensures version { (c : Candidate)
             → slice_get (candidates_of_packages self.now) place ≡ Some c
             → result.version ≡ c.version }
-        ensures text { IsReadBy (source_text self.now.sources.items) result }
+        ensures text { HasVersionTextFrom (source_text self.now.sources.items) result }
     {
         let package = self.words[place];
         let source = self.sources[package.source as usize];
@@ -105,23 +106,23 @@ impl<'a> Packages<'a> {
     /// The version under which the package at an index, counted from 0, meets a need: its own, else
     /// that of the first entry of its provides that meets it. Remembered results for long versions
     /// are used.
-    pub fn version_under(
+    pub fn version_meeting_need(
         &self,
         place: usize,
         need: &NeedRef<'_>,
         known: &KnownMatches,
     ) -> RankedVersion<'a>
         requires within { place < length (candidates_of_packages self.now) }
-        requires known { AreMatchesFor (source_text self.now.sources.items) (need_by need.now)
+        requires known { AreMatchesFor (source_text self.now.sources.items) (need_of_ref need.now)
             known.now }
         ensures version { (c : Candidate)
             → slice_get (candidates_of_packages self.now) place ≡ Some c
-            → result.version ≡ version_under (need_by need.now) c }
-        ensures text { IsReadBy (source_text self.now.sources.items) result }
+            → result.version ≡ version_meeting_need (need_of_ref need.now) c }
+        ensures text { HasVersionTextFrom (source_text self.now.sources.items) result }
     {
         let package = self.words[place];
         let source = self.sources[package.source as usize];
-        version_under(&source, package, need, known)
+        version_meeting_need(&source, package, need, known)
     }
 
     /// Whether the package at an index, counted from 0, meets a need. Results for long versions are
@@ -137,13 +138,13 @@ impl<'a> Packages<'a> {
         known: &mut KnownMatches,
     ) -> Result<bool, AllocError>
         requires within { place < length (candidates_of_packages self.now) }
-        requires known { AreMatchesFor (source_text self.now.sources.items) (need_by need.now)
+        requires known { AreMatchesFor (source_text self.now.sources.items) (need_of_ref need.now)
             known.old }
         ensures meets { IfOk result (λ meets. (c : Candidate)
             → slice_get (candidates_of_packages self.now) place ≡ Some c
-            → meets ≡ meets_need (need_by need.now) c) }
+            → meets ≡ meets_need (need_of_ref need.now) c) }
         ensures known { IfOk result (λ _.
-            AreMatchesFor (source_text self.now.sources.items) (need_by need.now) known.new) }
+            AreMatchesFor (source_text self.now.sources.items) (need_of_ref need.now) known.new) }
     {
         let package = self.words[place];
         let source = self.sources[package.source as usize];
@@ -153,7 +154,7 @@ impl<'a> Packages<'a> {
     /// The place of the text of the version in a package's dependency, if there is one; None if it
     /// is not known.
     pub(crate) fn version_place(&self, held: &PackageDep<'_>) -> Option<VersionPlace>
-        requires { IsDepOf (candidates_of_packages self.now) held.now }
+        requires { IsDepOfPackageAt (candidates_of_packages self.now) held.now }
         ensures { IfSome result (λ place. IfSome (dependency held.now.dep.now).version
             (λ version. version
             ≡ source_text self.now.sources.items place.source place.word)) }
@@ -184,7 +185,7 @@ impl<'a> Packages<'a> {
     /// Appends the package with a word in the source at an index. `installed` says whether it
     /// counts as installed.
     pub fn push(&mut self, source: u32, word: Val, installed: bool) -> Result<(), AllocError>
-        requires { IsPackageAt self.old.sources.items source word }
+        requires { IsPackageWordAt self.old.sources.items source word }
         ensures sources { self.new.sources ≡ self.old.sources }
         ensures pushed { OnOk result (candidates_of_packages self.new
             ≡ candidates_of_packages self.old ++ candidate_in_source
@@ -204,7 +205,7 @@ impl<'a> Packages<'a> {
     pub(crate) fn mark_installed(&mut self, place: usize)
         requires { place < length (candidates_of_packages self.old) }
         ensures { candidates_of_packages self.new
-            ≡ installed_at place (candidates_of_packages self.old) }
+            ≡ marked_installed_at place (candidates_of_packages self.old) }
     {
         self.words[place].installed = true;
     }

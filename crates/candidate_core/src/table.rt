@@ -10,7 +10,7 @@ ghost use Rattle.indexmap.specs.IndexMap.{insert_entry};
 ghost use Rattle.dep_core.specs.Dependency.{Dependency};
 ghost use Rattle.dep_core.specs.Meets.{dependency};
 ghost use Rattle.candidate_core.specs.Candidates.{offers_name};
-ghost use Rattle.candidate_core.specs.Table.{first_under, ids_of, is_last_id, with_last, with_last_where};
+ghost use Rattle.candidate_core.specs.Table.{first_entry_under_name, places_of_name, is_last_place, with_place_unless_last, with_place_if_added};
 
 use crate::candidate::{CandId, Details};
 use crate::dependencies::Deps;
@@ -32,17 +32,17 @@ pub struct Table<'a> {
 }
 
 impl<'a> Model for Table<'a> {
-    ghost use Rattle.candidate_core.specs.Table.{Offered, offered_by};
+    ghost use Rattle.candidate_core.specs.Table.{Offered, offered_from_maps};
 
     ghost Value = { Offered };
 
-    ghost view = { λ t. offered_by t.singles.entries t.lists.entries };
+    ghost view = { λ t. offered_from_maps t.singles.entries t.lists.entries };
 }
 
 impl<'a> Table<'a> {
     /// A table without names.
     pub fn new(alloc: Global) -> Table<'a>
-        ensures { (name : List ℕ) → ids_of result name ≡ [] }
+        ensures { (name : List ℕ) → places_of_name result name ≡ [] }
     {
         Table {
             alloc,
@@ -53,7 +53,7 @@ impl<'a> Table<'a> {
 
     /// The places of the candidates that offer a name, in rising order.
     pub fn get(&self, name: &[u8]) -> &[CandId]
-        ensures { result.now ≡ ids_of self.now name.now }
+        ensures { result.now ≡ places_of_name self.now name.now }
     {
         // A name with a list has its first candidate in `singles` too; the list counts.
         match self.lists.get(name) {
@@ -64,7 +64,7 @@ impl<'a> Table<'a> {
 
     // The candidate of a name that one candidate at most offers.
     fn single(&self, name: &[u8]) -> &[CandId]
-        ensures { result.now ≡ unwrap_or (first_under self.now.singles name.now) [] }
+        ensures { result.now ≡ unwrap_or (first_entry_under_name self.now.singles name.now) [] }
     {
         match self.singles.get(name) {
             Some(id) => slice::from_ref(id),
@@ -74,8 +74,8 @@ impl<'a> Table<'a> {
 
     /// Adds a candidate to each name that it offers.
     pub(crate) fn add_all(&mut self, details: &Details<'a>, id: CandId) -> Result<(), AllocError>
-        ensures { OnOk result ((name : List ℕ) → ids_of self.new name
-            ≡ with_last_where (offers_name name details.now) (ids_of self.old name) id) }
+        ensures { OnOk result ((name : List ℕ) → places_of_name self.new name
+            ≡ with_place_if_added (offers_name name details.now) (places_of_name self.old name) id) }
     {
         self.add(details.name(), id)?;
         self.add_provided(&details.provides(), id)?;
@@ -84,10 +84,10 @@ impl<'a> Table<'a> {
 
     // Adds a candidate to the name of each entry of its provides.
     fn add_provided(&mut self, provides: &Deps<'a>, id: CandId) -> Result<(), AllocError>
-        ensures { OnOk result ((name : List ℕ) → ids_of self.new name
-            ≡ with_last_where (list_any
+        ensures { OnOk result ((name : List ℕ) → places_of_name self.new name
+            ≡ with_place_if_added (list_any
             (λ (p : Dependency). not p.conflict && bytes_eq name p.name)
-            provides.now) (ids_of self.old name) id) }
+            provides.now) (places_of_name self.old name) id) }
     {
         for i in 0..provides.len() {
             self.add_entry(&provides.get(i), id)?;
@@ -97,9 +97,9 @@ impl<'a> Table<'a> {
 
     // Adds a candidate to the name of an entry of its provides, unless the entry is a conflict.
     fn add_entry(&mut self, entry: &Dep<'a>, id: CandId) -> Result<(), AllocError>
-        ensures { OnOk result ((name : List ℕ) → ids_of self.new name
-            ≡ with_last_where (not (dependency entry.now).conflict
-            && bytes_eq name (dependency entry.now).name) (ids_of self.old name) id) }
+        ensures { OnOk result ((name : List ℕ) → places_of_name self.new name
+            ≡ with_place_if_added (not (dependency entry.now).conflict
+            && bytes_eq name (dependency entry.now).name) (places_of_name self.old name) id) }
     {
         if entry.conflict {
             return Ok(());
@@ -111,8 +111,8 @@ impl<'a> Table<'a> {
     // Adds a candidate to those of a name, unless it is already the last of them: a candidate may
     // provide a name twice, or its own.
     fn add(&mut self, name: &'a [u8], id: CandId) -> Result<(), AllocError>
-        ensures { OnOk result ((other : List ℕ) → ids_of self.new other
-            ≡ with_last_where (bytes_eq other name.entry.now) (ids_of self.old other) id) }
+        ensures { OnOk result ((other : List ℕ) → places_of_name self.new other
+            ≡ with_place_if_added (bytes_eq other name.entry.now) (places_of_name self.old other) id) }
     {
         match self.lists.get_mut(name) {
             Some(ids) => push_once(ids, id),
@@ -122,9 +122,9 @@ impl<'a> Table<'a> {
 
     // Adds a candidate to those of a name that has no list: it has one candidate at most.
     fn add_to_single(&mut self, name: &'a [u8], id: CandId) -> Result<(), AllocError>
-        requires { first_under self.old.lists name.now ≡ None }
-        ensures { OnOk result ((other : List ℕ) → ids_of self.new other
-            ≡ with_last_where (bytes_eq other name.entry.now) (ids_of self.old other) id) }
+        requires { first_entry_under_name self.old.lists name.now ≡ None }
+        ensures { OnOk result ((other : List ℕ) → places_of_name self.new other
+            ≡ with_place_if_added (bytes_eq other name.entry.now) (places_of_name self.old other) id) }
     {
         match self.singles.get(name).copied() {
             Some(first) => self.add_second(name, first, id),
@@ -134,10 +134,10 @@ impl<'a> Table<'a> {
 
     // Adds a second candidate to the only one of a name, unless they are the same.
     fn add_second(&mut self, name: &'a [u8], first: CandId, id: CandId) -> Result<(), AllocError>
-        requires list { first_under self.old.lists name.now ≡ None }
-        requires single { first_under self.old.singles name.now ≡ Some (first ∷ []) }
-        ensures { OnOk result ((other : List ℕ) → ids_of self.new other
-            ≡ with_last_where (bytes_eq other name.entry.now) (ids_of self.old other) id) }
+        requires list { first_entry_under_name self.old.lists name.now ≡ None }
+        requires single { first_entry_under_name self.old.singles name.now ≡ Some (first ∷ []) }
+        ensures { OnOk result ((other : List ℕ) → places_of_name self.new other
+            ≡ with_place_if_added (bytes_eq other name.entry.now) (places_of_name self.old other) id) }
     {
         if first == id {
             return Ok(());
@@ -189,9 +189,9 @@ fn pair(alloc: Global, first: CandId, second: CandId) -> Result<Vec<CandId>, All
 
 // Appends a candidate, unless it is already the last one.
 fn push_once(ids: &mut Vec<CandId>, id: CandId) -> Result<(), AllocError>
-    ensures { OnOk result (ids.new.items ≡ with_last ids.old.items id) }
+    ensures { OnOk result (ids.new.items ≡ with_place_unless_last ids.old.items id) }
 {
-    if is_last_id(ids, id) {
+    if is_last_place(ids, id) {
         return Ok(());
     }
     ids.push(id)?;
@@ -199,8 +199,8 @@ fn push_once(ids: &mut Vec<CandId>, id: CandId) -> Result<(), AllocError>
 }
 
 // Whether the last of some places is this one.
-fn is_last_id(ids: &[CandId], id: CandId) -> bool
-    ensures { result ≡ is_last_id id ids.now }
+fn is_last_place(ids: &[CandId], id: CandId) -> bool
+    ensures { result ≡ is_last_place id ids.now }
 {
     match ids.last() {
         Some(last) => *last == id,

@@ -12,10 +12,10 @@ ghost use Rattle.adb_view.specs.declared.tables.Which.TheVariants as Tables;
 ghost use Rattle.adb_view.specs.Adb.{payload_of};
 ghost use Rattle.dep_core.specs.Dependency.{Dependency};
 ghost use Rattle.dep_core.specs.Meets.{dependency};
-ghost use Rattle.candidate_core.specs.Candidates.{candidate_of, dependencies_in, dependency_in, entry, is_met_by_entry, meets_by_own_name, meets_dependency, meets_need, version_of_text, version_under};
-ghost use Rattle.candidate_core.specs.Matches.{AreMatchesFor, AreMatchesIn, AreMatchesOf, IsTextOf};
-ghost use Rattle.candidate_core.specs.PackageWords.{IsPackageOf, info_in_source};
-ghost use Rattle.candidate_core.specs.Values.{need_by};
+ghost use Rattle.candidate_core.specs.Candidates.{candidate_of, dependencies_in, dependency_in, entry, is_met_by_entry, meets_by_own_name, meets_dependency, meets_need, version_of_text, version_meeting_need};
+ghost use Rattle.candidate_core.specs.Matches.{AreMatchesFor, AreMatchesIn, AreRememberedMatchesOf, GivesTextsOfSource};
+ghost use Rattle.candidate_core.specs.PackageWords.{IsPackageWordOf, info_in_source};
+ghost use Rattle.candidate_core.specs.Values.{need_of_ref};
 
 use crate::candidate::Details;
 use crate::dependencies::{read_if_sound, read_sound};
@@ -63,7 +63,7 @@ pub enum VersionKind {
 /// The version of the package with a word in a source. In the clause, 1 is the index of the version
 /// among the fields of a package's information (`PACKAGE_VERSION`).
 pub(crate) fn own_version<'a>(source: &Source<'a>, kept: PackageWord) -> RankedVersion<'a>
-    requires { IsPackageOf source.now kept.word }
+    requires { IsPackageWordOf source.now kept.word }
     ensures version { result.version ≡ version_of_text
         (text_in (entry_in (info_in_source source.now kept.word) 1)) }
     ensures source { result.source ≡ kept.source }
@@ -81,15 +81,15 @@ pub(crate) fn own_version<'a>(source: &Source<'a>, kept: PackageWord) -> RankedV
 
 /// The version under which the package with a word in a source meets a need: its own, else that of
 /// the first entry of provides that meets the need. Remembered results for long versions are used.
-pub(crate) fn version_under<'a>(
+pub(crate) fn version_meeting_need<'a>(
     source: &Source<'a>,
     kept: PackageWord,
     need: &NeedRef<'_>,
     known: &KnownMatches,
 ) -> RankedVersion<'a>
-    requires package { IsPackageOf source.now kept.word }
-    requires known { AreMatchesIn source.now kept.source (need_by need.now) known.now }
-    ensures version { result.version ≡ version_under (need_by need.now)
+    requires package { IsPackageWordOf source.now kept.word }
+    requires known { AreMatchesIn source.now kept.source (need_of_ref need.now) known.now }
+    ensures version { result.version ≡ version_meeting_need (need_of_ref need.now)
         (candidate_of (info_in_source source.now kept.word) source.now.repo
         (option_copied source.now.tag) kept.installed) }
     ensures source { result.source ≡ kept.source }
@@ -109,9 +109,9 @@ fn version_meeting<'a>(
     dep: &Dep<'_>,
     known: &KnownMatches,
 ) -> RankedVersion<'a>
-    requires package { IsPackageOf source.now kept.word }
+    requires package { IsPackageWordOf source.now kept.word }
     requires known { AreMatchesIn source.now kept.source (entry (dependency dep.now)) known.now }
-    ensures version { result.version ≡ version_under (entry (dependency dep.now))
+    ensures version { result.version ≡ version_meeting_need (entry (dependency dep.now))
         (candidate_of (info_in_source source.now kept.word) source.now.repo
         (option_copied source.now.tag) kept.installed) }
     ensures source { result.source ≡ kept.source }
@@ -131,7 +131,7 @@ fn meets_by_own_name_as_known(
     dep: &Dep<'_>,
     known: &KnownMatches,
 ) -> bool
-    requires package { IsPackageOf source.now kept.word }
+    requires package { IsPackageWordOf source.now kept.word }
     requires known { AreMatchesIn source.now kept.source (entry (dependency dep.now)) known.now }
     ensures { result ≡ meets_by_own_name (dependency dep.now)
         (candidate_of (info_in_source source.now kept.word) source.now.repo
@@ -152,7 +152,7 @@ fn provided_version<'a>(
     dep: &Dep<'_>,
     known: &KnownMatches,
 ) -> RankedVersion<'a>
-    requires package { IsPackageOf source.now kept.word }
+    requires package { IsPackageWordOf source.now kept.word }
     requires known { AreMatchesIn source.now kept.source (entry (dependency dep.now)) known.now }
     ensures version { result.version ≡ option_and_then (λ (p : Dependency). p.version)
         (find (is_met_by_entry (dependency dep.now))
@@ -243,8 +243,8 @@ pub(crate) fn depends_version_place(
     kept: PackageWord,
     index: usize,
 ) -> Option<VersionPlace>
-    requires { IsPackageOf source.now kept.word }
-    ensures { (text : ℕ → ℕ → List ℕ) (d : Dependency) → IsTextOf source.now kept.source text
+    requires { IsPackageWordOf source.now kept.word }
+    ensures { (text : ℕ → ℕ → List ℕ) (d : Dependency) → GivesTextsOfSource source.now kept.source text
         → slice_get (dependencies_in (entry_in (info_in_source source.now kept.word) 14)) index
         ≡ Some d → IfSome result (λ place. IfSome d.version (λ version. version
         ≡ text place.source place.word)) }
@@ -298,13 +298,13 @@ pub(crate) fn meets_need(
     need: &NeedRef<'_>,
     known: &mut KnownMatches,
 ) -> Result<bool, AllocError>
-    requires { IsPackageOf source.now kept.word }
-    ensures { IfOk result (λ meets. (text : ℕ → ℕ → List ℕ) → IsTextOf source.now kept.source text
-        → AreMatchesFor text (need_by need.now) known.old
-        → (meets ≡ meets_need (need_by need.now)
+    requires { IsPackageWordOf source.now kept.word }
+    ensures { IfOk result (λ meets. (text : ℕ → ℕ → List ℕ) → GivesTextsOfSource source.now kept.source text
+        → AreMatchesFor text (need_of_ref need.now) known.old
+        → (meets ≡ meets_need (need_of_ref need.now)
         (candidate_of (info_in_source source.now kept.word) source.now.repo
         (option_copied source.now.tag) kept.installed))
-        × AreMatchesFor text (need_by need.now) known.new) }
+        × AreMatchesFor text (need_of_ref need.now) known.new) }
 {
     match need {
         NeedRef::Named(name) => {
@@ -322,13 +322,13 @@ fn meets(
     dep: &Dep<'_>,
     known: &mut KnownMatches,
 ) -> Result<bool, AllocError>
-    requires { IsPackageOf source.now kept.word }
-    ensures { IfOk result (λ meets. (text : ℕ → ℕ → List ℕ) → IsTextOf source.now kept.source text
-        → AreMatchesOf text (dependency dep.now) known.old
+    requires { IsPackageWordOf source.now kept.word }
+    ensures { IfOk result (λ meets. (text : ℕ → ℕ → List ℕ) → GivesTextsOfSource source.now kept.source text
+        → AreRememberedMatchesOf text (dependency dep.now) known.old
         → (meets ≡ meets_dependency (dependency dep.now)
         (candidate_of (info_in_source source.now kept.word) source.now.repo
         (option_copied source.now.tag) kept.installed))
-        × AreMatchesOf text (dependency dep.now) known.new) }
+        × AreRememberedMatchesOf text (dependency dep.now) known.new) }
 {
     let by_own = own_version_meets(source, kept, dep, known)?;
     if by_own {
@@ -344,19 +344,19 @@ fn own_version_meets(
     dep: &Dep<'_>,
     known: &mut KnownMatches,
 ) -> Result<bool, AllocError>
-    requires { IsPackageOf source.now kept.word }
-    ensures { IfOk result (λ meets. (text : ℕ → ℕ → List ℕ) → IsTextOf source.now kept.source text
-        → AreMatchesOf text (dependency dep.now) known.old
+    requires { IsPackageWordOf source.now kept.word }
+    ensures { IfOk result (λ meets. (text : ℕ → ℕ → List ℕ) → GivesTextsOfSource source.now kept.source text
+        → AreRememberedMatchesOf text (dependency dep.now) known.old
         → (meets ≡ meets_by_own_name (dependency dep.now)
         (candidate_of (info_in_source source.now kept.word) source.now.repo
         (option_copied source.now.tag) kept.installed))
-        × AreMatchesOf text (dependency dep.now) known.new) }
+        × AreRememberedMatchesOf text (dependency dep.now) known.new) }
 {
     let details = Details::of(source, Val::of(kept.word), kept.installed);
     if !is_named_as(dep, details.name()) {
         return Ok(false);
     }
-    known.is_wanted(dep, &own_version(source, kept))
+    known.constraint_accepts(dep, &own_version(source, kept))
 }
 
 // Whether one of its provides meets it.
@@ -366,12 +366,12 @@ fn any_entry_meets(
     dep: &Dep<'_>,
     known: &mut KnownMatches,
 ) -> Result<bool, AllocError>
-    requires { IsPackageOf source.now kept.word }
-    ensures { IfOk result (λ meets. (text : ℕ → ℕ → List ℕ) → IsTextOf source.now kept.source text
-        → AreMatchesOf text (dependency dep.now) known.old
+    requires { IsPackageWordOf source.now kept.word }
+    ensures { IfOk result (λ meets. (text : ℕ → ℕ → List ℕ) → GivesTextsOfSource source.now kept.source text
+        → AreRememberedMatchesOf text (dependency dep.now) known.old
         → (meets ≡ list_any (is_met_by_entry (dependency dep.now))
         (dependencies_in (entry_in (info_in_source source.now kept.word) 15)))
-        × AreMatchesOf text (dependency dep.now) known.new) }
+        × AreRememberedMatchesOf text (dependency dep.now) known.new) }
 {
     let word = Val::of(kept.word);
     let entries = objects_field(source.adb, Which::PkgInfo, word, PROVIDES, Which::Dep);
@@ -396,11 +396,11 @@ fn entry_meets<'a>(
     requires sound { is_sound (payload_of source.now.adb) (Kinds.Obj Tables.Dep) entry ≡ true }
     requires texts { source.now.has_sound_texts ≡ true → IsSoundDependency
         (value_at (payload_of source.now.adb) (Kinds.Obj Tables.Dep) entry) }
-    ensures { IfOk result (λ meets. (text : ℕ → ℕ → List ℕ) → IsTextOf source.now place text
-        → AreMatchesOf text (dependency dep.now) known.old
+    ensures { IfOk result (λ meets. (text : ℕ → ℕ → List ℕ) → GivesTextsOfSource source.now place text
+        → AreRememberedMatchesOf text (dependency dep.now) known.old
         → (meets ≡ list_any (is_met_by_entry (dependency dep.now)) (option_to_list (dependency_in
         (value_at (payload_of source.now.adb) (Kinds.Obj Tables.Dep) entry))))
-        × AreMatchesOf text (dependency dep.now) known.new) }
+        × AreRememberedMatchesOf text (dependency dep.now) known.new) }
 {
     match read_entry(source, entry) {
         Some(found) => found_entry_meets(source, place, entry, found, dep, known),
@@ -420,10 +420,10 @@ fn found_entry_meets<'a>(
     requires sound { is_sound (payload_of source.now.adb) (Kinds.Obj Tables.Dep) entry ≡ true }
     requires found { Some (dependency found)
         ≡ dependency_in (value_at (payload_of source.now.adb) (Kinds.Obj Tables.Dep) entry) }
-    ensures { IfOk result (λ meets. (text : ℕ → ℕ → List ℕ) → IsTextOf source.now place text
-        → AreMatchesOf text (dependency dep.now) known.old
+    ensures { IfOk result (λ meets. (text : ℕ → ℕ → List ℕ) → GivesTextsOfSource source.now place text
+        → AreRememberedMatchesOf text (dependency dep.now) known.old
         → (meets ≡ is_met_by_entry (dependency dep.now) (dependency found.entry))
-        × AreMatchesOf text (dependency dep.now) known.new) }
+        × AreRememberedMatchesOf text (dependency dep.now) known.new) }
 {
     if found.conflict {
         return Ok(false);
@@ -431,7 +431,7 @@ fn found_entry_meets<'a>(
     if !is_named_as(dep, found.name) {
         return Ok(false);
     }
-    known.is_wanted(dep, &version_of_entry(source, place, entry, &found))
+    known.constraint_accepts(dep, &version_of_entry(source, place, entry, &found))
 }
 
 // Whether a dependency is one on this name.

@@ -10,7 +10,7 @@ use Rattle.base_core.proofs.AtName.{is_name}
 use Rattle.file_owners.specs.db_core.Members.{Listing}
 use Rattle.path_clashes.specs.Clash.{is_name_after}
 use Rattle.change_files.specs.FileChange.{FileChange, is_claimed, old_entry, was_listed}
-use Rattle.change_files.specs.FilesAfter.{RootFilesAfter, bytes_after, changed_files, database_name, is_kept, is_removed, is_written, aside_claim_at, may_be_kept, path_beside, text_database_name, world_bytes_after, world_name, written_as}
+use Rattle.change_files.specs.FilesAfter.{RootFilesAfter, bytes_after, changed_files, database_name, is_modified_file_kept, is_removed, is_written, apk_new_listing_at, is_modified_config_to_keep, path_of_apk_new_name, text_database_name, world_bytes_after, world_name, listing_written_under_name}
 use Rattle.change_files.specs.NamesAfter.{added_paths, is_released, counts_as_written, name_change}
 use Rattle.change_files.specs.Touched.{is_record_name}
 use Rattle.change_files.proofs.Lists.{any_name}
@@ -25,23 +25,23 @@ counted change files name written = or_right (is_some (files name) && not (is_re
 counts_path : (change : FileChange) (files : Files) (name : List ℕ) → IsIn name (database_name ∷ world_name ∷ added_paths change.members) → counts_as_written change files name ≡ true
 unfolding counts_as_written
 counts_path change files name among =
-    or_left (list_any (bytes_eq name) (database_name ∷ world_name ∷ added_paths change.members)) (is_some (option_and_then (aside_claim_at change files) (path_beside name)))
+    or_left (list_any (bytes_eq name) (database_name ∷ world_name ∷ added_paths change.members)) (is_some (option_and_then (apk_new_listing_at change files) (path_of_apk_new_name name)))
     (any_name name (database_name ∷ world_name ∷ added_paths change.members) among)
 
-counts_beside : (change : FileChange) (files : Files) (name : List ℕ) → is_some (option_and_then (aside_claim_at change files) (path_beside name)) ≡ true → counts_as_written change files name ≡ true
+counts_beside : (change : FileChange) (files : Files) (name : List ℕ) → is_some (option_and_then (apk_new_listing_at change files) (path_of_apk_new_name name)) ≡ true → counts_as_written change files name ≡ true
 unfolding counts_as_written
 counts_beside change files name beside =
-    or_right (list_any (bytes_eq name) (database_name ∷ world_name ∷ added_paths change.members)) (is_some (option_and_then (aside_claim_at change files) (path_beside name))) beside
+    or_right (list_any (bytes_eq name) (database_name ∷ world_name ∷ added_paths change.members)) (is_some (option_and_then (apk_new_listing_at change files) (path_of_apk_new_name name))) beside
 
-counts_written : (change : FileChange) (files : Files) (name : List ℕ) (l : Listing) → written_as change files name ≡ Some l → counts_as_written change files name ≡ true
+counts_written : (change : FileChange) (files : Files) (name : List ℕ) (l : Listing) → listing_written_under_name change files name ≡ Some l → counts_as_written change files name ≡ true
 counts_written change files name l e =
     let written = written_is change files name l e in
     elim written.under [
       | inl own ↦ counts_path change files name
           (inr (inr (subst (λ (q : List ℕ). IsIn q (added_paths change.members)) (sym own.0) (in_coming_paths change l.path l written.comes))))
       | inr beside ↦ counts_beside change files name
-          (ap (λ (q : List ℕ). is_some (option_and_then (aside_claim_at change files) (path_beside q))) beside.0
-          ∙ (ap (λ (o : Option (List ℕ)). is_some (option_and_then (aside_claim_at change files) o)) (is_beside l.path)
+          (ap (λ (q : List ℕ). is_some (option_and_then (apk_new_listing_at change files) (path_of_apk_new_name q))) beside.0
+          ∙ (ap (λ (o : Option (List ℕ)). is_some (option_and_then (apk_new_listing_at change files) o)) (is_beside l.path)
           ∙ ap is_some beside.1))
     ]
 
@@ -57,9 +57,9 @@ gone_by true false false false w e = refl
 
 -- a name that is let go, and not written, is removed
 let_go_removed : (change : FileChange) (files : Files) (name : List ℕ) → is_released change files name ≡ true → is_written change files name ≡ false → is_removed change files name ≡ true
-unfolding is_released is_kept is_removed
+unfolding is_released is_modified_file_kept is_removed
 let_go_removed change files name goes unwritten =
-    gone_by (was_listed change name) (is_claimed change name) (is_written change files name) (may_be_kept change name (files name) (old_entry change name)) unwritten goes
+    gone_by (was_listed change name) (is_claimed change name) (is_written change files name) (is_modified_config_to_keep change name (files name) (old_entry change name)) unwritten goes
 
 still_there : (change : FileChange) (bytes_of : Listing → List ℕ) (files : Files) (name : List ℕ) → is_written change files name ≡ false → is_some (bytes_after bytes_of None (is_removed change files name) (files name)) ≡ true
     → is_name_after (name_change change files) files name ≡ true
@@ -73,11 +73,11 @@ still_there change bytes_of files name unwritten there =
         (not_from_false (is_released change files name)
         (false_from_ne_true (is_released change files name) (λ goes. true≢false (sym (let_go_removed change files name goes unwritten) ∙ e))))
 
-by_written : (change : FileChange) (bytes_of : Listing → List ℕ) (files : Files) (name : List ℕ) → is_some (bytes_after bytes_of (written_as change files name) (is_removed change files name) (files name)) ≡ true
+by_written : (change : FileChange) (bytes_of : Listing → List ℕ) (files : Files) (name : List ℕ) → is_some (bytes_after bytes_of (listing_written_under_name change files name) (is_removed change files name) (files name)) ≡ true
     → is_name_after (name_change change files) files name ≡ true
-by_written change bytes_of files name there = by_listing (written_as change files name) refl there
+by_written change bytes_of files name there = by_listing (listing_written_under_name change files name) refl there
   where
-    by_listing : (o : Option Listing) → written_as change files name ≡ o → is_some (bytes_after bytes_of o (is_removed change files name) (files name)) ≡ true → is_name_after (name_change change files) files name ≡ true
+    by_listing : (o : Option Listing) → listing_written_under_name change files name ≡ o → is_some (bytes_after bytes_of o (is_removed change files name) (files name)) ≡ true → is_name_after (name_change change files) files name ≡ true
     by_listing None e there = still_there change bytes_of files name (ap is_some e) there
     by_listing (Some l) e there = counted change files name (counts_written change files name l e)
 
@@ -88,7 +88,7 @@ text_gone : (change : FileChange) (bytes_of : Listing → List ℕ) (records : R
     → (records.takes_text_over && bytes_eq name text_database_name) ≡ true → changed_files change bytes_of records files name ≡ None
 unfolding changed_files
 text_gone change bytes_of records files name database world text =
-    let after : Option (List ℕ) = bytes_after bytes_of (written_as change files name) (is_removed change files name) (files name) in
+    let after : Option (List ℕ) = bytes_after bytes_of (listing_written_under_name change files name) (is_removed change files name) (files name) in
     ap (λ (b : Bool). if b then Some records.database else (if bytes_eq name world_name then world_bytes_after records.world (files name) else (if records.takes_text_over && bytes_eq name text_database_name then None else after))) database
     ∙ (ap (λ (b : Bool). if b then world_bytes_after records.world (files name) else (if records.takes_text_over && bytes_eq name text_database_name then None else after)) world
     ∙ ap (λ (b : Bool). if b then None else after) text)
@@ -124,13 +124,13 @@ let_go_by true false false true e = absurd (true≢false (sym e))
 let_go_by true false false false e = refl
 
 removed_let_go : (change : FileChange) (files : Files) (name : List ℕ) → is_removed change files name ≡ true → is_released change files name ≡ true
-unfolding is_released is_kept is_removed
+unfolding is_released is_modified_file_kept is_removed
 removed_let_go change files name removed =
-    let_go_by (was_listed change name) (is_claimed change name) (is_written change files name) (may_be_kept change name (files name) (old_entry change name)) removed
+    let_go_by (was_listed change name) (is_claimed change name) (is_written change files name) (is_modified_config_to_keep change name (files name) (old_entry change name)) removed
 
 pub name_stands : (change : FileChange) (bytes_of : Listing → List ℕ) (records : RootFilesAfter) (files : Files) (name : List ℕ) → is_some (files name) ≡ true → is_released change files name ≡ false → is_record_name records name ≡ false
     → is_some (changed_files change bytes_of records files name) ≡ true
-name_stands change bytes_of records files name there stays other = ap is_some (changed_so change bytes_of records files name other) ∙ by_listing (written_as change files name)
+name_stands change bytes_of records files name there stays other = ap is_some (changed_so change bytes_of records files name other) ∙ by_listing (listing_written_under_name change files name)
   where
     unremoved : is_removed change files name ≡ false
     unremoved = false_from_ne_true (is_removed change files name) (λ removed. true≢false (sym (removed_let_go change files name removed) ∙ stays))

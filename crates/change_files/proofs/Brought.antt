@@ -10,10 +10,10 @@ use Rattle.adb_view.specs.Values.{entry_in, int_in}
 use Rattle.path_clashes.specs.adb_fields.Repeated.{files_in, folders_in, name_of}
 use Rattle.file_guard.specs.adb_schema.Rules.{is_digest_length}
 use Rattle.file_guard.specs.adb_schema.Texts.{is_with_contents}
-use Rattle.file_guard.specs.pkg_core.Contents.{Contents, Expected, bytes_or_none, expected_contents, expected_files, expected_folders, is_of_file}
+use Rattle.file_guard.specs.pkg_core.Contents.{Contents, Expected, bytes_or_none, expected_contents, expected_files, expected_folders, is_contents_of_file}
 use Rattle.file_guard.specs.pkg_core.GoodContents.{AreContentsOf, HaveDigests, IsContentsOf}
-use Rattle.file_owners.specs.db_core.Members.{Listing, Member, listings_by, listings_from, listings_in_folder, listings_in_folders, member_listings}
-use Rattle.file_guard.specs.AsListed.{file_hash, file_size, file_target, has_target, is_as_listed, link_bytes, link_to}
+use Rattle.file_owners.specs.db_core.Members.{Listing, Member, listings_of_member, listings_of_members_from, listings_in_folder, listings_in_folders, member_listings}
+use Rattle.file_guard.specs.AsListed.{file_hash, file_size, file_target, has_target, is_as_listed, link_bytes, link_bytes_to}
 use Rattle.file_guard.proofs.Told.{told_hash, told_link}
 use Rattle.change_files.specs.FilesAfter.{listing_bytes}
 use Rattle.change_files.proofs.Lists.{IsOneOf, one_from_contains}
@@ -148,10 +148,10 @@ in_folders m place i (f ∷ folders) l here =
           })
     ]
 
-expected_in : (place : ℕ) (members : List Member) (l : Listing) → IsOneOf l (listings_from place members) → find (is_at l.folder l.file) (expected_contents l.member.pkg) ≡ expected_or_none l.folder l.file l.entry
+expected_in : (place : ℕ) (members : List Member) (l : Listing) → IsOneOf l (listings_of_members_from place members) → find (is_at l.folder l.file) (expected_contents l.member.pkg) ≡ expected_or_none l.folder l.file l.entry
 expected_in place [] l here = absurd here
 expected_in place (m ∷ members) l here =
-    elim (one_of_joined l (listings_by place m) (listings_from (place + 1) members) here) [
+    elim (one_of_joined l (listings_of_member place m) (listings_of_members_from (place + 1) members) here) [
       | inl first ↦ (let there = in_folders m place 1 (folders_in m.pkg) l first in
           subst (λ (m : Member). find (is_at l.folder l.file) (expected_contents m.pkg) ≡ expected_or_none l.folder l.file l.entry) (sym there.of_member) there.expected)
       | inr second ↦ expected_in (place + 1) members l second
@@ -163,36 +163,36 @@ expected_file members l here = expected_in 0 members l here
 
 -- ---- its contents
 
-same_test : (folder file : ℕ) (e : Expected) (c : Contents) → IsContentsOf e c → is_of_file folder file c ≡ is_at folder file e
+same_test : (folder file : ℕ) (e : Expected) (c : Contents) → IsContentsOf e c → is_contents_of_file folder file c ≡ is_at folder file e
 same_test folder file e c is =
     ap (λ (d : ℕ). (d == folder) && (c.file == file)) is.folder ∙ ap (λ (f : ℕ). (e.folder == folder) && (f == file)) is.file
 
 found_contents : (folder file : ℕ) (es : List Expected) (cs : List Contents) → AreContentsOf es cs → (e : Expected) → find (is_at folder file) es ≡ Some e
-    → (c : Contents) × (find (is_of_file folder file) cs ≡ Some c) × IsContentsOf e c
+    → (c : Contents) × (find (is_contents_of_file folder file) cs ≡ Some c) × IsContentsOf e c
 found_contents folder file [] cs are e found = absurd (cc)
 found_contents folder file (x ∷ es) [] are e found = absurd are
 found_contents folder file (x ∷ es) (c ∷ cs) are e found = by_test (is_at folder file x) (same_test folder file x c are.0) found (found_contents folder file es cs are.1 e)
   where
-    by_test : (b : Bool) → is_of_file folder file c ≡ b → cond b (Some x) (find (is_at folder file) es) ≡ Some e
-        → (find (is_at folder file) es ≡ Some e → (c : Contents) × (find (is_of_file folder file) cs ≡ Some c) × IsContentsOf e c)
-        → (d : Contents) × (cond (is_of_file folder file c) (Some c) (find (is_of_file folder file) cs) ≡ Some d) × IsContentsOf e d
+    by_test : (b : Bool) → is_contents_of_file folder file c ≡ b → cond b (Some x) (find (is_at folder file) es) ≡ Some e
+        → (find (is_at folder file) es ≡ Some e → (c : Contents) × (find (is_contents_of_file folder file) cs ≡ Some c) × IsContentsOf e c)
+        → (d : Contents) × (cond (is_contents_of_file folder file c) (Some c) (find (is_contents_of_file folder file) cs) ≡ Some d) × IsContentsOf e d
     by_test true t found f =
         let same : x ≡ e = (cc) in
-        (c, ap (λ (b : Bool). cond b (Some c) (find (is_of_file folder file) cs)) t, subst (λ (y : Expected). IsContentsOf y c) same are.0)
+        (c, ap (λ (b : Bool). cond b (Some c) (find (is_contents_of_file folder file) cs)) t, subst (λ (y : Expected). IsContentsOf y c) same are.0)
     by_test false t found f =
         let (d, at, is) = f found in
-        (d, ap (λ (b : Bool). cond b (Some c) (find (is_of_file folder file) cs)) t ∙ at, is)
+        (d, ap (λ (b : Bool). cond b (Some c) (find (is_contents_of_file folder file) cs)) t ∙ at, is)
 
-no_contents : (folder file : ℕ) (es : List Expected) (cs : List Contents) → AreContentsOf es cs → find (is_at folder file) es ≡ None → find (is_of_file folder file) cs ≡ None
+no_contents : (folder file : ℕ) (es : List Expected) (cs : List Contents) → AreContentsOf es cs → find (is_at folder file) es ≡ None → find (is_contents_of_file folder file) cs ≡ None
 no_contents folder file [] [] are none = refl
 no_contents folder file [] (c ∷ cs) are none = absurd are
 no_contents folder file (x ∷ es) [] are none = absurd are
 no_contents folder file (x ∷ es) (c ∷ cs) are none = by_test (is_at folder file x) (same_test folder file x c are.0) none (no_contents folder file es cs are.1)
   where
-    by_test : (b : Bool) → is_of_file folder file c ≡ b → cond b (Some x) (find (is_at folder file) es) ≡ None → (find (is_at folder file) es ≡ None → find (is_of_file folder file) cs ≡ None)
-        → cond (is_of_file folder file c) (Some c) (find (is_of_file folder file) cs) ≡ None
+    by_test : (b : Bool) → is_contents_of_file folder file c ≡ b → cond b (Some x) (find (is_at folder file) es) ≡ None → (find (is_at folder file) es ≡ None → find (is_contents_of_file folder file) cs ≡ None)
+        → cond (is_contents_of_file folder file c) (Some c) (find (is_contents_of_file folder file) cs) ≡ None
     by_test true t none f = absurd (cc)
-    by_test false t none f = ap (λ (b : Bool). cond b (Some c) (find (is_of_file folder file) cs)) t ∙ f none
+    by_test false t none f = ap (λ (b : Bool). cond b (Some c) (find (is_contents_of_file folder file) cs)) t ∙ f none
 
 digest_found : (p : Expected → Bool) (es : List Expected) (e : Expected) → find p es ≡ Some e → HaveDigests es → is_digest_length (length e.hash) ≡ true
 digest_found p [] e found have = absurd (cc)
@@ -211,15 +211,15 @@ as_link : (contents : ℕ → List Contents) (l : Listing) → has_target l.entr
 unfolding listing_bytes
 as_link contents l target =
     let bytes : listing_bytes contents l ≡ link_bytes l.entry =
-    ap (λ (b : Bool). if b then link_bytes l.entry else bytes_or_none (find (is_of_file l.folder l.file) (contents l.place))) target in
+    ap (λ (b : Bool). if b then link_bytes l.entry else bytes_or_none (find (is_contents_of_file l.folder l.file) (contents l.place))) target in
     ap (is_as_listed l.entry) bytes
     ∙ (told_link (file_size l.entry) (file_hash l.entry) (file_target l.entry) (link_bytes l.entry) (not-true (length (file_target l.entry) == 0) target)
-    ∙ (bytes_eq-Decides (link_bytes l.entry) (link_to (file_target l.entry))).1 refl)
+    ∙ (bytes_eq-Decides (link_bytes l.entry) (link_bytes_to (file_target l.entry))).1 refl)
 
-bytes_found : (contents : ℕ → List Contents) (l : Listing) (found : Option Contents) → has_target l.entry ≡ false → find (is_of_file l.folder l.file) (contents l.place) ≡ found → listing_bytes contents l ≡ bytes_or_none found
+bytes_found : (contents : ℕ → List Contents) (l : Listing) (found : Option Contents) → has_target l.entry ≡ false → find (is_contents_of_file l.folder l.file) (contents l.place) ≡ found → listing_bytes contents l ≡ bytes_or_none found
 unfolding listing_bytes
 bytes_found contents l found target is =
-    ap (λ (b : Bool). if b then link_bytes l.entry else bytes_or_none (find (is_of_file l.folder l.file) (contents l.place))) target ∙ ap bytes_or_none is
+    ap (λ (b : Bool). if b then link_bytes l.entry else bytes_or_none (find (is_contents_of_file l.folder l.file) (contents l.place))) target ∙ ap bytes_or_none is
 
 as_contents : (contents : ℕ → List Contents) (l : Listing) → find (is_at l.folder l.file) (expected_contents l.member.pkg) ≡ Some (expected_of l.folder l.file l.entry)
     → HaveDigests (expected_contents l.member.pkg) → AreContentsOf (expected_contents l.member.pkg) (contents l.place) → has_target l.entry ≡ false → is_as_listed l.entry (listing_bytes contents l) ≡ true

@@ -4,15 +4,15 @@ use Rattle.std.specs.Prelude.{option_map}
 use Rattle.std.specs.List.{cons_option, filter, filter_map, list_any}
 use Rattle.std.specs.Str.{bytes_eq}
 use Rattle.base_core.specs.Files.{Files}
-use Rattle.base_core.specs.Listed.{IsRising}
+use Rattle.base_core.specs.Listed.{AreSortedDistinctNames}
 use Rattle.base_core.proofs.Rising.{IsIn, contains_from_in, in_from_contains, pairs_from_rises}
 use Rattle.file_owners.specs.db_core.Members.{Listing}
-use Rattle.change_files.specs.Fate.{aside_name}
+use Rattle.change_files.specs.Fate.{apk_new_name}
 use Rattle.change_files.specs.FileChange.{FileChange}
-use Rattle.change_files.specs.FilesAfter.{is_kept, is_removed, is_written, aside_claim_at, written_as}
+use Rattle.change_files.specs.FilesAfter.{is_modified_file_kept, is_removed, is_written, apk_new_listing_at, listing_written_under_name}
 use Rattle.change_files.specs.NamesAfter.{added_paths}
-use Rattle.change_files.specs.PlanLists.{FileWrite, aside_of, file_writes_of, kept_of, names_in_order, old_paths, removals_of, write_to}
-use Rattle.change_files.specs.Touched.{IsWriteOf}
+use Rattle.change_files.specs.PlanLists.{FileWrite, paths_with_apk_new_file, file_writes_of, kept_paths_of, sorted_distinct_names, old_paths, removals_of, write_to}
+use Rattle.change_files.specs.Touched.{IsPlannedWrite}
 use Rattle.change_files.proofs.InOrder.{filter_rises, from_filter, in_filter, in_left, in_map, in_order, in_right, order_rises}
 use Rattle.change_files.proofs.Lists.{IsOneOf, any_is, contains_from_one, one_from_contains}
 use Rattle.change_files.proofs.OwnedFiles.{aside_found, in_coming_paths, in_old_paths, written_is}
@@ -53,17 +53,17 @@ written_one found (x ∷ names) q w here e = by_write (write_by found x) refl he
     by_write (Some v) is (inr more) f = inr (f more)
 
 abbrev written_names : FileChange → List (List ℕ)
-written_names change = names_in_order (added_paths change.members ++ map aside_name (added_paths change.members))
+written_names change = sorted_distinct_names (added_paths change.members ++ map apk_new_name (added_paths change.members))
 
-among_written : (change : FileChange) (files : Files) (name : List ℕ) (l : Listing) → written_as change files name ≡ Some l → IsIn name (written_names change)
+among_written : (change : FileChange) (files : Files) (name : List ℕ) (l : Listing) → listing_written_under_name change files name ≡ Some l → IsIn name (written_names change)
 among_written change files name l e =
     let written = written_is change files name l e in
     let path = in_coming_paths change l.path l written.comes in
-    in_order name (added_paths change.members ++ map aside_name (added_paths change.members))
+    in_order name (added_paths change.members ++ map apk_new_name (added_paths change.members))
     (elim written.under [
-      | inl own ↦ in_left name (added_paths change.members) (map aside_name (added_paths change.members)) (subst (λ (q : List ℕ). IsIn q (added_paths change.members)) (sym own.0) path)
-      | inr beside ↦ in_right name (added_paths change.members) (map aside_name (added_paths change.members))
-          (subst (λ (q : List ℕ). IsIn q (map aside_name (added_paths change.members))) (sym beside.0) (in_map aside_name l.path (added_paths change.members) path))
+      | inl own ↦ in_left name (added_paths change.members) (map apk_new_name (added_paths change.members)) (subst (λ (q : List ℕ). IsIn q (added_paths change.members)) (sym own.0) path)
+      | inr beside ↦ in_right name (added_paths change.members) (map apk_new_name (added_paths change.members))
+          (subst (λ (q : List ℕ). IsIn q (map apk_new_name (added_paths change.members))) (sym beside.0) (in_map apk_new_name l.path (added_paths change.members) path))
     ])
 
 pub some_listing : (o : Option Listing) → is_some o ≡ true → (l : Listing) × (o ≡ Some l)
@@ -72,81 +72,81 @@ some_listing (Some l) e = (l, refl)
 
 pub writes_names : (change : FileChange) (files : Files) → map (λ w. w.name) (file_writes_of change files) ≡ filter (is_written change files) (written_names change)
 unfolding file_writes_of
-writes_names change files = names_written (written_as change files) (written_names change)
+writes_names change files = names_written (listing_written_under_name change files) (written_names change)
 
-pub writes_rise : (change : FileChange) (files : Files) → IsRising (map (λ w. w.name) (file_writes_of change files))
+pub writes_rise : (change : FileChange) (files : Files) → AreSortedDistinctNames (map (λ w. w.name) (file_writes_of change files))
 writes_rise change files =
-    subst IsRising (sym (writes_names change files))
-    (pairs_from_rises _ (filter_rises (is_written change files) (written_names change) (order_rises (added_paths change.members ++ map aside_name (added_paths change.members)))))
+    subst AreSortedDistinctNames (sym (writes_names change files))
+    (pairs_from_rises _ (filter_rises (is_written change files) (written_names change) (order_rises (added_paths change.members ++ map apk_new_name (added_paths change.members)))))
 
 pub writes_hold : (change : FileChange) (files : Files) (name : List ℕ) → Contains (map (λ w. w.name) (file_writes_of change files)) name ↔ (is_written change files name ≡ true)
 writes_hold change files name = (
   λ here. (from_filter (is_written change files) (written_names change) name
       (in_from_contains _ name (subst (λ (names : List (List ℕ)). Contains names name) (writes_names change files) here))).1,
-  λ written. (let found = some_listing (written_as change files name) written in
+  λ written. (let found = some_listing (listing_written_under_name change files name) written in
       subst (λ (names : List (List ℕ)). Contains names name) (sym (writes_names change files))
       (contains_from_in _ name (in_filter (is_written change files) (written_names change) name (among_written change files name found.0 found.1) written))),
 )
 
-write_is : (change : FileChange) (files : Files) (q : List ℕ) (w : FileWrite) (o : Option Listing) → written_as change files q ≡ o → option_map (write_to q) o ≡ Some w → IsWriteOf change files w
+write_is : (change : FileChange) (files : Files) (q : List ℕ) (w : FileWrite) (o : Option Listing) → listing_written_under_name change files q ≡ o → option_map (write_to q) o ≡ Some w → IsPlannedWrite change files w
 write_is change files q w None is e = absurd (cc)
 write_is change files q w (Some l) is e =
     let same : w ≡ write_to q l = (cc) in
-    subst (IsWriteOf change files) (sym same) (record { listing = l; written = is; shown = refl })
+    subst (IsPlannedWrite change files) (sym same) (record { listing = l; written = is; shown = refl })
 
-pub writes_are : (change : FileChange) (files : Files) (w : FileWrite) → Contains (file_writes_of change files) w ↔ IsWriteOf change files w
+pub writes_are : (change : FileChange) (files : Files) (w : FileWrite) → Contains (file_writes_of change files) w ↔ IsPlannedWrite change files w
 unfolding file_writes_of
 writes_are change files w = (
-  λ here. (let found = one_written (written_as change files) (written_names change) w (one_from_contains _ w here) in
-      write_is change files found.0 w (written_as change files found.0) refl found.1),
-  λ is. contains_from_one _ w (written_one (written_as change files) (written_names change) w.name w (among_written change files w.name is.listing is.written)
+  λ here. (let found = one_written (listing_written_under_name change files) (written_names change) w (one_from_contains _ w here) in
+      write_is change files found.0 w (listing_written_under_name change files found.0) refl found.1),
+  λ is. contains_from_one _ w (written_one (listing_written_under_name change files) (written_names change) w.name w (among_written change files w.name is.listing is.written)
       (ap (option_map (write_to w.name)) is.written ∙ ap (λ (v : FileWrite). Some v) (sym is.shown))),
 )
 
 -- ---- what is removed, kept and laid aside
 
-holds_just : (p : List ℕ → Bool) (names : List (List ℕ)) → ((q : List ℕ) → p q ≡ true → IsIn q names) → (q : List ℕ) → Contains (filter p (names_in_order names)) q ↔ (p q ≡ true)
+holds_just : (p : List ℕ → Bool) (names : List (List ℕ)) → ((q : List ℕ) → p q ≡ true → IsIn q names) → (q : List ℕ) → Contains (filter p (sorted_distinct_names names)) q ↔ (p q ≡ true)
 holds_just p names all q = (
-  λ here. (from_filter p (names_in_order names) q (in_from_contains _ q here)).1,
-  λ passes. contains_from_in _ q (in_filter p (names_in_order names) q (in_order q names (all q passes)) passes),
+  λ here. (from_filter p (sorted_distinct_names names) q (in_from_contains _ q here)).1,
+  λ passes. contains_from_in _ q (in_filter p (sorted_distinct_names names) q (in_order q names (all q passes)) passes),
 )
 
-rises_just : (p : List ℕ → Bool) (names : List (List ℕ)) → IsRising (filter p (names_in_order names))
-rises_just p names = pairs_from_rises _ (filter_rises p (names_in_order names) (order_rises names))
+rises_just : (p : List ℕ → Bool) (names : List (List ℕ)) → AreSortedDistinctNames (filter p (sorted_distinct_names names))
+rises_just p names = pairs_from_rises _ (filter_rises p (sorted_distinct_names names) (order_rises names))
 
 pub removals_hold : (change : FileChange) (files : Files) (path : List ℕ) → Contains (removals_of change files) path ↔ (is_removed change files path ≡ true)
 unfolding removals_of
 removals_hold change files path =
     holds_just (is_removed change files) (old_paths change) (λ q removed. in_old_paths change q ((removed_is change files q removed).0).listed) path
 
-pub removals_rise : (change : FileChange) (files : Files) → IsRising (removals_of change files)
+pub removals_rise : (change : FileChange) (files : Files) → AreSortedDistinctNames (removals_of change files)
 unfolding removals_of
 removals_rise change files = rises_just (is_removed change files) (old_paths change)
 
-pub kept_hold : (change : FileChange) (files : Files) (path : List ℕ) → Contains (kept_of change files) path ↔ (is_kept change files path ≡ true)
-unfolding kept_of
-kept_hold change files path = holds_just (is_kept change files) (old_paths change) (λ q kept. in_old_paths change q ((kept_is change files q kept).0).listed) path
+pub kept_hold : (change : FileChange) (files : Files) (path : List ℕ) → Contains (kept_paths_of change files) path ↔ (is_modified_file_kept change files path ≡ true)
+unfolding kept_paths_of
+kept_hold change files path = holds_just (is_modified_file_kept change files) (old_paths change) (λ q kept. in_old_paths change q ((kept_is change files q kept).0).listed) path
 
-pub kept_rise : (change : FileChange) (files : Files) → IsRising (kept_of change files)
-unfolding kept_of
-kept_rise change files = rises_just (is_kept change files) (old_paths change)
+pub kept_rise : (change : FileChange) (files : Files) → AreSortedDistinctNames (kept_paths_of change files)
+unfolding kept_paths_of
+kept_rise change files = rises_just (is_modified_file_kept change files) (old_paths change)
 
-pub aside_hold : (change : FileChange) (files : Files) (path : List ℕ) → Contains (aside_of change files) path ↔ (is_some (aside_claim_at change files path) ≡ true)
-unfolding aside_of
+pub aside_hold : (change : FileChange) (files : Files) (path : List ℕ) → Contains (paths_with_apk_new_file change files) path ↔ (is_some (apk_new_listing_at change files path) ≡ true)
+unfolding paths_with_apk_new_file
 aside_hold change files path =
-    holds_just (λ path. is_some (aside_claim_at change files path)) (added_paths change.members)
-    (λ q laid. (let found = some_listing (aside_claim_at change files q) laid in in_coming_paths change q found.0 ((aside_found change files q found.0 found.1).0))) path
+    holds_just (λ path. is_some (apk_new_listing_at change files path)) (added_paths change.members)
+    (λ q laid. (let found = some_listing (apk_new_listing_at change files q) laid in in_coming_paths change q found.0 ((aside_found change files q found.0 found.1).0))) path
 
-pub aside_rise : (change : FileChange) (files : Files) → IsRising (aside_of change files)
-unfolding aside_of
-aside_rise change files = rises_just (λ path. is_some (aside_claim_at change files path)) (added_paths change.members)
+pub aside_rise : (change : FileChange) (files : Files) → AreSortedDistinctNames (paths_with_apk_new_file change files)
+unfolding paths_with_apk_new_file
+aside_rise change files = rises_just (λ path. is_some (apk_new_listing_at change files path)) (added_paths change.members)
 
 -- ---- no name is in two of the lists
 
 pub written_or_removed : (change : FileChange) (files : Files) (name : List ℕ) → is_written change files name ≡ true → is_removed change files name ≡ true → ⊥
 written_or_removed change files name written removed = true≢false (sym written ∙ ((removed_is change files name removed).0).unwritten)
 
-pub removed_or_kept : (change : FileChange) (files : Files) (name : List ℕ) → is_removed change files name ≡ true → is_kept change files name ≡ true → ⊥
+pub removed_or_kept : (change : FileChange) (files : Files) (name : List ℕ) → is_removed change files name ≡ true → is_modified_file_kept change files name ≡ true → ⊥
 removed_or_kept change files name removed kept = true≢false (sym ((kept_is change files name kept).1) ∙ (removed_is change files name removed).1)
 
 -- ---- as tests on names

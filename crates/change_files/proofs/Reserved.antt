@@ -10,11 +10,11 @@ use Rattle.base_core.specs.Files.{Files}
 use Rattle.base_core.proofs.Rising.{IsIn}
 use Rattle.file_owners.specs.db_core.Members.{Listing}
 use Rattle.base_core.specs.ByteOrder.{precedes, smaller_text, smallest_text}
-use Rattle.change_files.specs.Fate.{aside_name}
+use Rattle.change_files.specs.Fate.{apk_new_name}
 use Rattle.change_files.specs.FileChange.{FileChange}
-use Rattle.change_files.specs.FilesAfter.{RootFilesAfter, database_name, text_database_name, world_name, written_as}
+use Rattle.change_files.specs.FilesAfter.{RootFilesAfter, database_name, text_database_name, world_name, listing_written_under_name}
 use Rattle.change_files.specs.NamesAfter.{added_paths}
-use Rattle.change_files.specs.PlanLists.{first_reserved}
+use Rattle.change_files.specs.PlanLists.{first_reserved_path}
 use Rattle.change_files.specs.Touched.{is_record_name}
 use Rattle.change_files.proofs.InOrder.{in_filter}
 use Rattle.change_files.proofs.OwnedFiles.{in_coming_paths, written_is}
@@ -33,8 +33,8 @@ none_smallest (x ∷ xs) e q here = some_smaller x (smallest_text xs) e
     some_smaller x None e = (cc)
     some_smaller x (Some a) e = some_if (precedes a x) a x e
 
-pub unreserved_path : (change : FileChange) (path : List ℕ) → first_reserved change.members ≡ None → IsIn path (added_paths change.members) → is_reserved path ≡ false
-unfolding first_reserved
+pub unreserved_path : (change : FileChange) (path : List ℕ) → first_reserved_path change.members ≡ None → IsIn path (added_paths change.members) → is_reserved path ≡ false
+unfolding first_reserved_path
 unreserved_path change path none here =
     false_from_ne_true (is_reserved path) (λ reserved.
     none_smallest (filter is_reserved (added_paths change.members)) none path (in_filter is_reserved (added_paths change.members) path here reserved))
@@ -69,30 +69,30 @@ abbrev is_plain : List ℕ → Bool
 is_plain top = without_dot top && without_dot (top ++ codes "/")
 
 -- below a name without a dot stands a name with an ending only if its path does
-below_before_dot : (top p : List ℕ) → is_plain top ≡ true → is_at_or_below top (aside_name p) ≡ true → is_at_or_below top p ≡ true
+below_before_dot : (top p : List ℕ) → is_plain top ≡ true → is_at_or_below top (apk_new_name p) ≡ true → is_at_or_below top p ≡ true
 below_before_dot top p plain h =
     let (whole, front) = and_parts (without_dot top) (without_dot (top ++ codes "/")) plain in
-    elim (or_cases (bytes_eq (aside_name p) top) (starts_with nat_eq (aside_name p) (top ++ codes "/")) h) [
-      | inl is ↦ absurd (true≢false (sym whole ∙ (ap without_dot (sym ((bytes_eq-Decides (aside_name p) top).0 is)) ∙ no_dot_after p (codes "apk-new"))))
+    elim (or_cases (bytes_eq (apk_new_name p) top) (starts_with nat_eq (apk_new_name p) (top ++ codes "/")) h) [
+      | inl is ↦ absurd (true≢false (sym whole ∙ (ap without_dot (sym ((bytes_eq-Decides (apk_new_name p) top).0 is)) ∙ no_dot_after p (codes "apk-new"))))
       | inr starts ↦ or_right (bytes_eq p top) (starts_with nat_eq p (top ++ codes "/")) (starts_before_dot (top ++ codes "/") p (codes "apk-new") front starts)
     ]
 
-below_any_before_dot : (tops : List (List ℕ)) (p : List ℕ) → list_all is_plain tops ≡ true → is_below_any tops (aside_name p) ≡ true → is_below_any tops p ≡ true
+below_any_before_dot : (tops : List (List ℕ)) (p : List ℕ) → list_all is_plain tops ≡ true → is_below_any tops (apk_new_name p) ≡ true → is_below_any tops p ≡ true
 below_any_before_dot [] p plain h = h
 below_any_before_dot (top ∷ tops) p plain h =
     let (this, others) = and_parts (is_plain top) (list_all is_plain tops) plain in
-    elim (or_cases (is_at_or_below top (aside_name p)) (is_below_any tops (aside_name p)) h) [
+    elim (or_cases (is_at_or_below top (apk_new_name p)) (is_below_any tops (apk_new_name p)) h) [
       | inl here ↦ or_left (is_at_or_below top p) (is_below_any tops p) (below_before_dot top p this here)
       | inr more ↦ or_right (is_at_or_below top p) (is_below_any tops p) (below_any_before_dot tops p others more)
     ]
 
-unreserved_beside : (path : List ℕ) → is_reserved path ≡ false → is_reserved (aside_name path) ≡ false
+unreserved_beside : (path : List ℕ) → is_reserved path ≡ false → is_reserved (apk_new_name path) ≡ false
 unreserved_beside path free =
-    false_from_ne_true (is_reserved (aside_name path)) (λ reserved. true≢false (sym (below_any_before_dot reserved_names path refl reserved) ∙ free))
+    false_from_ne_true (is_reserved (apk_new_name path)) (λ reserved. true≢false (sym (below_any_before_dot reserved_names path refl reserved) ∙ free))
 
 -- ---- what is written, and the records
 
-pub written_unreserved : (change : FileChange) (files : Files) (name : List ℕ) (l : Listing) → first_reserved change.members ≡ None → written_as change files name ≡ Some l → is_reserved name ≡ false
+pub written_unreserved : (change : FileChange) (files : Files) (name : List ℕ) (l : Listing) → first_reserved_path change.members ≡ None → listing_written_under_name change files name ≡ Some l → is_reserved name ≡ false
 written_unreserved change files name l none e =
     let written = written_is change files name l e in
     let free = unreserved_path change l.path none (in_coming_paths change l.path l written.comes) in

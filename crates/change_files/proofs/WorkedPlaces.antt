@@ -2,14 +2,14 @@
 use Rattle.std.proofs.Common.{◌≡◌, ℕ, List, [], ◌∷◌, refl, codes, false}
 use Rattle.adb_view.specs.Plain.{Plain}
 use Rattle.base_core.specs.Files.{no_names}
-use Rattle.file_owners.specs.db_core.Members.{Listing, claims_of, member_of_added, member_listing, member_listings}
+use Rattle.file_owners.specs.db_core.Members.{Listing, listings_of_path, member_of_added, member_listing, member_listings}
 use Rattle.file_owners.specs.path_claims.Contest.{winner}
 use Rattle.file_guard.specs.pkg_core.Contents.{Contents}
 use Rattle.file_owners.specs.Owners.{claims_in, owner_of_path}
 use Rattle.change_files.specs.Fate.{fate_of}
 use Rattle.change_files.specs.FileChange.{FileChange, is_claimed, old_entry, old_listings, owner_listing}
-use Rattle.change_files.specs.FilesAfter.{listing_bytes, written_as}
-use Rattle.change_files.specs.PlanLists.{file_writes_of, names_in_order}
+use Rattle.change_files.specs.FilesAfter.{listing_bytes, listing_written_under_name}
+use Rattle.change_files.specs.PlanLists.{file_writes_of, sorted_distinct_names}
 use Rattle.file_guard.proofs.Sample.{link, plain_file}
 use Rattle.change_files.proofs.Sample.{folder, info, package_with}
 
@@ -22,7 +22,7 @@ comes = record { old = []; members = member_of_added two [] ∷ []; purge = fals
 -- ---- where a plan finds the files
 
 two_writes : file_writes_of comes no_names ≡ record { name = codes "a/x"; member = 0; folder = 1; file = 1 } ∷ record { name = codes "a/y"; member = 0; folder = 1; file = 2 } ∷ []
-unfolding member_listings claims_of owner_of_path claims_in winner old_listings old_entry is_claimed owner_listing fate_of written_as names_in_order file_writes_of
+unfolding member_listings listings_of_path owner_of_path claims_in winner old_listings old_entry is_claimed owner_listing fate_of listing_written_under_name sorted_distinct_names file_writes_of
 two_writes = refl
 
 -- ---- what they have

@@ -9,26 +9,26 @@ use Rattle.file_guard.specs.AsListed.{do_entries_agree, is_as_listed}
 use Rattle.change_files.specs.FileChange.{FileChange, is_claimed, old_entry}
 
 -- whether a path is a protected configuration file, which the user may change: it is below `etc/`
-abbrev pub is_guarded : List ℕ → Bool
-is_guarded path = starts_with nat_eq path (codes "etc/")
+abbrev pub is_protected_path : List ℕ → Bool
+is_protected_path path = starts_with nat_eq path (codes "etc/")
 
 -- the ending of the name of a new file that is laid beside one that the user changed
-abbrev pub aside_ending : List ℕ
-aside_ending = codes ".apk-new"
+abbrev pub apk_new_ending : List ℕ
+apk_new_ending = codes ".apk-new"
 
 -- the name under which a new file is laid beside one that the user changed
-abbrev pub aside_name : List ℕ → List ℕ
-aside_name path = path ++ aside_ending
+abbrev pub apk_new_name : List ℕ → List ℕ
+apk_new_name path = path ++ apk_new_ending
 
 -- whether the package before has the same file there; false if the path was not listed before
-abbrev pub agrees_with_old : Option Plain → Plain → Bool
-agrees_with_old None entry = false
-agrees_with_old (Some old) entry = do_entries_agree old entry
+abbrev pub agrees_with_old_entry : Option Plain → Plain → Bool
+agrees_with_old_entry None entry = false
+agrees_with_old_entry (Some old) entry = do_entries_agree old entry
 
 -- whether bytes are as the package before lists them; false if the path was not listed before
-abbrev pub is_as_old : Option Plain → List ℕ → Bool
-is_as_old None bytes = false
-is_as_old (Some old) bytes = is_as_listed old bytes
+abbrev pub is_as_old_entry_lists : Option Plain → List ℕ → Bool
+is_as_old_entry_lists None bytes = false
+is_as_old_entry_lists (Some old) bytes = is_as_listed old bytes
 
 -- what is done with an added file of its owner
 pub data AddedFileFate : Type 0 where
@@ -46,20 +46,20 @@ longest_name = 1024
 -- What is done with a file if the user changed the file under its path. It is laid beside that one if
 -- it differs from what was listed before, no package lists the name beside, and that is not too long
 -- for a name.
-abbrev pub fate_beside : FileChange → List ℕ → Plain → AddedFileFate
-fate_beside change path entry =
-    if not (agrees_with_old (old_entry change path) entry)
-    && (nat_le (length (aside_name path)) longest_name && not (is_claimed change (aside_name path)))
+abbrev pub fate_of_protected_file : FileChange → List ℕ → Plain → AddedFileFate
+fate_of_protected_file change path entry =
+    if not (agrees_with_old_entry (old_entry change path) entry)
+    && (nat_le (length (apk_new_name path)) longest_name && not (is_claimed change (apk_new_name path)))
     then goes_aside else gives_way
 
 -- What is done with an added file, given the file under its path. The user changed a protected file if
 -- its bytes are neither those of the new entry nor those of the old one.
-abbrev pub fate_by : FileChange → List ℕ → Plain → Option (List ℕ) → AddedFileFate
-fate_by change path entry None = goes_in
-fate_by change path entry (Some bytes) =
-    if not (is_guarded path) || (is_as_listed entry bytes || is_as_old (old_entry change path) bytes)
-    then goes_in else fate_beside change path entry
+abbrev pub fate_with_file_found : FileChange → List ℕ → Plain → Option (List ℕ) → AddedFileFate
+fate_with_file_found change path entry None = goes_in
+fate_with_file_found change path entry (Some bytes) =
+    if not (is_protected_path path) || (is_as_listed entry bytes || is_as_old_entry_lists (old_entry change path) bytes)
+    then goes_in else fate_of_protected_file change path entry
 
 -- what is done with a file whose member is added and owns its path
 unfoldable pub fate_of : FileChange → Files → Listing → AddedFileFate
-fate_of change files l = fate_by change l.path l.entry (files l.path)
+fate_of change files l = fate_with_file_found change l.path l.entry (files l.path)

@@ -3,7 +3,7 @@
 use Rattle.std.specs.Prelude.{ℕ, ◌==◌, Bool, List, map, Option, Some, None, option_map, option_and_then, is_some, bytes_eq, if◌then◌else◌}
 use Rattle.std.specs.List.{find, list_any}
 use Rattle.adb_view.specs.Plain.{Plain}
-use Rattle.file_owners.specs.db_core.Members.{Listing, Member, claims_of, is_added, member_listings, member_of_kept}
+use Rattle.file_owners.specs.db_core.Members.{Listing, Member, listings_of_path, is_added, member_listings, member_of_kept}
 use Rattle.file_owners.specs.Owners.{owner_of_path}
 
 -- a change of packages, for their files: the packages of the database before, those after, and whether
@@ -37,7 +37,7 @@ is_claimed change path = list_any (λ l. bytes_eq l.path path) (member_listings 
 -- the file by which the member that owns a path lists it
 unfoldable pub owner_listing : FileChange → List ℕ → Option Listing
 owner_listing change path =
-    option_and_then (λ place. find (λ l. l.place == place) (claims_of change.members path))
+    option_and_then (λ place. find (λ l. l.place == place) (listings_of_path change.members path))
     (owner_of_path change.members path)
 
 -- a file, if its member is added: that of a kept package is not written

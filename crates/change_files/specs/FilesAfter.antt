@@ -9,62 +9,62 @@ use Rattle.file_owners.specs.db_core.Members.{Listing}
 use Rattle.file_guard.specs.pkg_core.Contents as Packages
 use Rattle.file_guard.specs.AsListed.{has_target, is_as_listed, link_bytes}
 pub use Rattle.root_names.specs.RootNames.{database_name, text_database_name, world_name}
-use Rattle.change_files.specs.Fate.{AddedFileFate, aside_ending, fate_of, gives_way, goes_aside, goes_in, is_guarded}
+use Rattle.change_files.specs.Fate.{AddedFileFate, apk_new_ending, fate_of, gives_way, goes_aside, goes_in, is_protected_path}
 use Rattle.change_files.specs.FileChange.{FileChange, added_owner_listing, is_claimed, old_entry, was_listed}
 
 -- ---- what is written
 
 -- the file, if it takes its path
-abbrev pub if_in : Listing → AddedFileFate → Option Listing
-if_in l goes_in = Some l
-if_in l gives_way = None
-if_in l goes_aside = None
+abbrev pub if_written_in_place : Listing → AddedFileFate → Option Listing
+if_written_in_place l goes_in = Some l
+if_written_in_place l gives_way = None
+if_written_in_place l goes_aside = None
 
 -- the file, if it is laid beside another
-abbrev pub if_aside : Listing → AddedFileFate → Option Listing
-if_aside l goes_in = None
-if_aside l gives_way = None
-if_aside l goes_aside = Some l
+abbrev pub if_written_as_apk_new : Listing → AddedFileFate → Option Listing
+if_written_as_apk_new l goes_in = None
+if_written_as_apk_new l gives_way = None
+if_written_as_apk_new l goes_aside = Some l
 
 -- the file that takes this path, if one does
-abbrev pub written_in : FileChange → Files → List ℕ → Option Listing
-written_in change files path =
-    option_and_then (λ l. if_in l (fate_of change files l)) (added_owner_listing change path)
+abbrev pub listing_written_in_place : FileChange → Files → List ℕ → Option Listing
+listing_written_in_place change files path =
+    option_and_then (λ l. if_written_in_place l (fate_of change files l)) (added_owner_listing change path)
 
 -- the file that is laid beside the one under this path, if one is
-abbrev pub aside_claim_at : FileChange → Files → List ℕ → Option Listing
-aside_claim_at change files path =
-    option_and_then (λ l. if_aside l (fate_of change files l)) (added_owner_listing change path)
+abbrev pub apk_new_listing_at : FileChange → Files → List ℕ → Option Listing
+apk_new_listing_at change files path =
+    option_and_then (λ l. if_written_as_apk_new l (fate_of change files l)) (added_owner_listing change path)
 
 -- the path beside which a file of this name would be laid: the name without the ending
-abbrev pub path_beside : List ℕ → Option (List ℕ)
-path_beside name =
-    if ends_with nat_eq name aside_ending then Some (take (length name - length aside_ending) name)
+abbrev pub path_of_apk_new_name : List ℕ → Option (List ℕ)
+path_of_apk_new_name name =
+    if ends_with nat_eq name apk_new_ending then Some (take (length name - length apk_new_ending) name)
     else None
 
 -- the file whose contents this name gets, if one is written there
-unfoldable pub written_as : FileChange → Files → List ℕ → Option Listing
-written_as change files name =
-    option_or (written_in change files name)
-    (option_and_then (aside_claim_at change files) (path_beside name))
+unfoldable pub listing_written_under_name : FileChange → Files → List ℕ → Option Listing
+listing_written_under_name change files name =
+    option_or (listing_written_in_place change files name)
+    (option_and_then (apk_new_listing_at change files) (path_of_apk_new_name name))
 
 -- whether a file of a package is written under this name, be it its path or the name beside another
 abbrev pub is_written : FileChange → Files → List ℕ → Bool
-is_written change files name = is_some (written_as change files name)
+is_written change files name = is_some (listing_written_under_name change files name)
 
 -- ---- what is removed
 
 -- whether the user changed the file under a path, given its entry
-abbrev pub is_changed : Plain → Option (List ℕ) → Bool
-is_changed entry None = false
-is_changed entry (Some bytes) = not (is_as_listed entry bytes)
+abbrev pub is_modified_from_entry : Plain → Option (List ℕ) → Bool
+is_modified_from_entry entry None = false
+is_modified_from_entry entry (Some bytes) = not (is_as_listed entry bytes)
 
 -- whether a file that no package lists any more is configuration that the user changed and that is not
 -- to be purged
-abbrev pub may_be_kept : FileChange → List ℕ → Option (List ℕ) → Option Plain → Bool
-may_be_kept change path bytes None = false
-may_be_kept change path bytes (Some entry) =
-    is_guarded path && (not change.purge && is_changed entry bytes)
+abbrev pub is_modified_config_to_keep : FileChange → List ℕ → Option (List ℕ) → Option Plain → Bool
+is_modified_config_to_keep change path bytes None = false
+is_modified_config_to_keep change path bytes (Some entry) =
+    is_protected_path path && (not change.purge && is_modified_from_entry entry bytes)
 
 -- whether a path was listed before, and now no package lists it and nothing is written there
 abbrev pub is_no_longer_listed : FileChange → Files → List ℕ → Bool
@@ -72,14 +72,14 @@ is_no_longer_listed change files path =
     was_listed change path && (not (is_claimed change path) && not (is_written change files path))
 
 -- whether the user's file is kept under a path although its package is removed
-unfoldable pub is_kept : FileChange → Files → List ℕ → Bool
-is_kept change files path =
-    is_no_longer_listed change files path && may_be_kept change path (files path) (old_entry change path)
+unfoldable pub is_modified_file_kept : FileChange → Files → List ℕ → Bool
+is_modified_file_kept change files path =
+    is_no_longer_listed change files path && is_modified_config_to_keep change path (files path) (old_entry change path)
 
 -- whether a change removes the file under a path, if there is one
 unfoldable pub is_removed : FileChange → Files → List ℕ → Bool
 is_removed change files path =
-    is_no_longer_listed change files path && not (may_be_kept change path (files path) (old_entry change path))
+    is_no_longer_listed change files path && not (is_modified_config_to_keep change path (files path) (old_entry change path))
 
 -- ---- the contents of an added file
 
@@ -119,5 +119,5 @@ changed_files change bytes_of records files name =
     if bytes_eq name database_name then Some records.database
     else if bytes_eq name world_name then world_bytes_after records.world (files name)
     else if records.takes_text_over && bytes_eq name text_database_name then None
-    else bytes_after bytes_of (written_as change files name) (is_removed change files name)
+    else bytes_after bytes_of (listing_written_under_name change files name) (is_removed change files name)
     (files name)

@@ -6,7 +6,7 @@ use Rattle.base_core.specs.Files.{Files}
 use Rattle.path_clashes.specs.Clash.{NameChange}
 use Rattle.file_owners.specs.db_core.Members.{Member, is_added, member_listings}
 use Rattle.change_files.specs.FileChange.{FileChange, is_claimed, was_listed}
-use Rattle.change_files.specs.FilesAfter.{database_name, is_kept, aside_claim_at, path_beside, world_name}
+use Rattle.change_files.specs.FilesAfter.{database_name, is_modified_file_kept, apk_new_listing_at, path_of_apk_new_name, world_name}
 
 -- the paths that added packages list
 abbrev pub added_paths : List Member → List (List ℕ)
@@ -18,13 +18,13 @@ added_paths members =
 unfoldable pub counts_as_written : FileChange → Files → List ℕ → Bool
 counts_as_written change files name =
     list_any (bytes_eq name) (database_name ∷ world_name ∷ added_paths change.members)
-    || is_some (option_and_then (aside_claim_at change files) (path_beside name))
+    || is_some (option_and_then (apk_new_listing_at change files) (path_of_apk_new_name name))
 
 -- whether a change lets go of a name: a package listed it before, none does now, and the user's
 -- file is not kept
 unfoldable pub is_released : FileChange → Files → List ℕ → Bool
 is_released change files name =
-    was_listed change name && not (is_claimed change name || is_kept change files name)
+    was_listed change name && not (is_claimed change name || is_modified_file_kept change files name)
 
 -- the names of a change, as the search for the first clash needs them
 abbrev pub name_change : FileChange → Files → NameChange

@@ -9,25 +9,25 @@ use Rattle.base_core.specs.Sorted.{sorted_by}
 use Rattle.file_guard.specs.adb_schema.Reserved.{is_reserved}
 use Rattle.file_owners.specs.db_core.Members.{Listing, Member}
 use Rattle.change_files.specs.NamesAfter.{added_paths}
-use Rattle.change_files.specs.Fate.{aside_name}
+use Rattle.change_files.specs.Fate.{apk_new_name}
 use Rattle.change_files.specs.FileChange.{FileChange, old_listings}
-use Rattle.change_files.specs.FilesAfter.{is_kept, is_removed, aside_claim_at, written_as}
+use Rattle.change_files.specs.FilesAfter.{is_modified_file_kept, is_removed, apk_new_listing_at, listing_written_under_name}
 
 -- ---- names in byte order, each once
 
 -- adds a name before names in byte order, unless the first of them is the same
-abbrev pub unless_next : List ℕ → List (List ℕ) → List (List ℕ)
-unless_next name [] = name ∷ []
-unless_next name (x ∷ xs) = cond (bytes_eq name x) (x ∷ xs) (name ∷ x ∷ xs)
+abbrev pub prepend_unless_repeated : List ℕ → List (List ℕ) → List (List ℕ)
+prepend_unless_repeated name [] = name ∷ []
+prepend_unless_repeated name (x ∷ xs) = cond (bytes_eq name x) (x ∷ xs) (name ∷ x ∷ xs)
 
 -- names in byte order, with adjacent equal ones reduced to one
 abbrev pub without_repeats : List (List ℕ) → List (List ℕ)
 without_repeats [] = []
-without_repeats (x ∷ xs) = unless_next x (without_repeats xs)
+without_repeats (x ∷ xs) = prepend_unless_repeated x (without_repeats xs)
 
 -- names in byte order, each once
-unfoldable pub names_in_order : List (List ℕ) → List (List ℕ)
-names_in_order names = without_repeats (sorted_by bytes_cmp names)
+unfoldable pub sorted_distinct_names : List (List ℕ) → List (List ℕ)
+sorted_distinct_names names = without_repeats (sorted_by bytes_cmp names)
 
 -- the paths of the files that the packages before list
 abbrev pub old_paths : FileChange → List (List ℕ)
@@ -50,25 +50,25 @@ write_to name l = record { name = name; member = l.place; folder = l.folder; fil
 -- the writes of a change, in byte order of their names
 unfoldable pub file_writes_of : FileChange → Files → List FileWrite
 file_writes_of change files =
-    filter_map (λ name. option_map (write_to name) (written_as change files name))
-    (names_in_order (added_paths change.members ++ map aside_name (added_paths change.members)))
+    filter_map (λ name. option_map (write_to name) (listing_written_under_name change files name))
+    (sorted_distinct_names (added_paths change.members ++ map apk_new_name (added_paths change.members)))
 
 -- the names that are removed, in byte order
 unfoldable pub removals_of : FileChange → Files → List (List ℕ)
-removals_of change files = filter (is_removed change files) (names_in_order (old_paths change))
+removals_of change files = filter (is_removed change files) (sorted_distinct_names (old_paths change))
 
 -- the paths at which the user's file is kept, in byte order
-unfoldable pub kept_of : FileChange → Files → List (List ℕ)
-kept_of change files = filter (is_kept change files) (names_in_order (old_paths change))
+unfoldable pub kept_paths_of : FileChange → Files → List (List ℕ)
+kept_paths_of change files = filter (is_modified_file_kept change files) (sorted_distinct_names (old_paths change))
 
 -- the paths beside which a file is laid, in byte order
-unfoldable pub aside_of : FileChange → Files → List (List ℕ)
-aside_of change files =
-    filter (λ path. is_some (aside_claim_at change files path))
-    (names_in_order (added_paths change.members))
+unfoldable pub paths_with_apk_new_file : FileChange → Files → List (List ℕ)
+paths_with_apk_new_file change files =
+    filter (λ path. is_some (apk_new_listing_at change files path))
+    (sorted_distinct_names (added_paths change.members))
 
 -- ---- reserved paths
 
 -- the first reserved path in byte order that an added package lists
-unfoldable pub first_reserved : List Member → Option (List ℕ)
-first_reserved members = smallest_text (filter is_reserved (added_paths members))
+unfoldable pub first_reserved_path : List Member → Option (List ℕ)
+first_reserved_path members = smallest_text (filter is_reserved (added_paths members))

@@ -7,9 +7,9 @@ use Rattle.base_core.specs.Files.{Files}
 use Rattle.file_owners.specs.db_core.Members.{Listing}
 use Rattle.adb_view.specs.Plain.{Plain}
 use Rattle.file_guard.specs.AsListed.{do_entries_agree, is_as_listed}
-use Rattle.change_files.specs.Fate.{is_guarded}
+use Rattle.change_files.specs.Fate.{is_protected_path}
 use Rattle.change_files.specs.FileChange.{FileChange, added_owner_listing, old_entry}
-use Rattle.change_files.specs.FilesAfter.{RootFilesAfter, database_name, aside_claim_at, path_beside, text_database_name, world_name, written_as}
+use Rattle.change_files.specs.FilesAfter.{RootFilesAfter, database_name, apk_new_listing_at, path_of_apk_new_name, text_database_name, world_name, listing_written_under_name}
 use Rattle.change_files.specs.NamesAfter.{added_paths}
 use Rattle.change_files.specs.PlanLists.{FileWrite, write_to}
 
@@ -20,9 +20,9 @@ is_record_name records name =
     || (bytes_eq name world_name || (records.takes_text_over && bytes_eq name text_database_name))
 
 -- whether a file is laid beside another one under this name
-abbrev pub is_aside_name : FileChange → Files → List ℕ → Bool
-is_aside_name change files name =
-    is_some (option_and_then (aside_claim_at change files) (path_beside name))
+abbrev pub is_apk_new_name : FileChange → Files → List ℕ → Bool
+is_apk_new_name change files name =
+    is_some (option_and_then (apk_new_listing_at change files) (path_of_apk_new_name name))
 
 -- whether an added package lists the path
 abbrev pub is_added_path : FileChange → List ℕ → Bool
@@ -30,8 +30,8 @@ is_added_path change path = list_any (bytes_eq path) (added_paths change.members
 
 -- configuration that the user changed: the file under a protected path is neither as an added package
 -- lists it nor as a package listed it before
-pub record IsUsersFile (change : FileChange) (files : Files) (path bytes : List ℕ) : Type 0 where
-  pub guarded : is_guarded path ≡ true
+pub record IsModifiedConfigFile (change : FileChange) (files : Files) (path bytes : List ℕ) : Type 0 where
+  pub guarded : is_protected_path path ≡ true
   pub present : files path ≡ Some bytes
   pub unlike_new : (l : Listing) → added_owner_listing change path ≡ Some l
       → is_as_listed l.entry bytes ≡ false
@@ -39,12 +39,12 @@ pub record IsUsersFile (change : FileChange) (files : Files) (path bytes : List 
       → is_as_listed entry bytes ≡ false
 
 -- if a package listed the path before, its entry differs from this one
-abbrev pub IsNewEntry : FileChange → List ℕ → Plain → Type 0
-IsNewEntry change path entry =
+abbrev pub DiffersFromOldEntry : FileChange → List ℕ → Plain → Type 0
+DiffersFromOldEntry change path entry =
     (old : Plain) → old_entry change path ≡ Some old → do_entries_agree old entry ≡ false
 
 -- what is written under a name, as an element of the plan
-pub record IsWriteOf (change : FileChange) (files : Files) (write : FileWrite) : Type 0 where
+pub record IsPlannedWrite (change : FileChange) (files : Files) (write : FileWrite) : Type 0 where
   pub listing : Listing
-  pub written : written_as change files write.name ≡ Some listing
+  pub written : listing_written_under_name change files write.name ≡ Some listing
   pub shown : write ≡ write_to write.name listing

@@ -5,7 +5,7 @@ ghost use Rattle.std.specs.Prelude.{◌≡◌, ◌≢◌, ◌⊎◌, ◌↔◌, 
 ghost use Rattle.file_guard.specs.adb_schema.Reserved.{is_reserved};
 ghost use Rattle.file_guard.specs.adb_schema.Texts.{is_with_contents};
 ghost use Rattle.base_core.specs.Files.{Files};
-ghost use Rattle.base_core.specs.Listed.{IsRising};
+ghost use Rattle.base_core.specs.Listed.{AreSortedDistinctNames};
 ghost use Rattle.base_core.specs.Name.{IsName};
 ghost use Rattle.file_owners.specs.db_core.Members.{Listing, Member, is_added, member_listings};
 ghost use Rattle.file_guard.specs.AsListed.{has_target, is_as_listed};
@@ -13,12 +13,12 @@ ghost use Rattle.file_owners.specs.Owners.{owner_of_path};
 ghost use Rattle.path_clashes.specs.Clash.{is_name_after};
 ghost use Rattle.file_guard.specs.pkg_core.Contents.{Contents, expected_contents};
 ghost use Rattle.file_guard.specs.pkg_core.GoodContents.{AreContentsOf, HaveDigests};
-ghost use Rattle.change_files.specs.Fate.{aside_name};
+ghost use Rattle.change_files.specs.Fate.{apk_new_name};
 ghost use Rattle.change_files.specs.FileChange.{FileChange, added_owner_listing, is_claimed, old_listings, owner_listing, was_listed};
-ghost use Rattle.change_files.specs.FilesAfter.{RootFilesAfter, changed_files, database_name, is_kept, is_no_longer_listed, is_removed, is_written, aside_claim_at, listing_bytes, text_database_name, world_name, written_as};
+ghost use Rattle.change_files.specs.FilesAfter.{RootFilesAfter, changed_files, database_name, is_modified_file_kept, is_no_longer_listed, is_removed, is_written, apk_new_listing_at, listing_bytes, text_database_name, world_name, listing_written_under_name};
 ghost use Rattle.change_files.specs.NamesAfter.{is_released, name_change};
-ghost use Rattle.change_files.specs.PlanLists.{FileWrite, aside_of, file_writes_of, first_reserved, kept_of, removals_of};
-ghost use Rattle.change_files.specs.Touched.{IsNewEntry, IsUsersFile, IsWriteOf, is_aside_name, is_added_path, is_record_name};
+ghost use Rattle.change_files.specs.PlanLists.{FileWrite, paths_with_apk_new_file, file_writes_of, first_reserved_path, kept_paths_of, removals_of};
+ghost use Rattle.change_files.specs.Touched.{DiffersFromOldEntry, IsModifiedConfigFile, IsPlannedWrite, is_apk_new_name, is_added_path, is_record_name};
 
 // ---- what is written
 
@@ -33,17 +33,17 @@ pub fn what_is_written_is_owned_by_an_added_package()
         × (owner_of_path change.members path ≡ Some l.place) }
     // Of each name under which something is written.
     ensures written { (change : FileChange) (files : Files) (name : List ℕ) (l : Listing)
-        → written_as change files name ≡ Some l
+        → listing_written_under_name change files name ≡ Some l
         → (added_owner_listing change l.path ≡ Some l)
-        × ((name ≡ l.path) ⊎ (name ≡ aside_name l.path)) }
+        × ((name ≡ l.path) ⊎ (name ≡ apk_new_name l.path)) }
 {}
 
 /// A file of an added owner takes its path, unless the user changed the file there.
 pub fn an_added_file_takes_its_path()
     ensures { (change : FileChange) (files : Files) (path : List ℕ) (l : Listing)
         → added_owner_listing change path ≡ Some l
-        → ((bytes : List ℕ) → IsUsersFile change files path bytes → ⊥)
-        → written_as change files path ≡ Some l }
+        → ((bytes : List ℕ) → IsModifiedConfigFile change files path bytes → ⊥)
+        → listing_written_under_name change files path ≡ Some l }
 {}
 
 /// A new file is laid beside one that the user changed exactly if no package listed the path before
@@ -52,19 +52,19 @@ pub fn an_added_file_takes_its_path()
 pub fn what_differs_is_written_beside_the_users_file()
     // When the new file is laid beside.
     ensures beside { (change : FileChange) (files : Files) (path bytes : List ℕ) (l : Listing)
-        → added_owner_listing change path ≡ Some l → IsUsersFile change files path bytes
-        → IsNewEntry change path l.entry
-        → IsName (aside_name path) → is_claimed change (aside_name path) ≡ false
-        → aside_claim_at change files path ≡ Some l }
+        → added_owner_listing change path ≡ Some l → IsModifiedConfigFile change files path bytes
+        → DiffersFromOldEntry change path l.entry
+        → IsName (apk_new_name path) → is_claimed change (apk_new_name path) ≡ false
+        → apk_new_listing_at change files path ≡ Some l }
     // Only then.
     ensures only { (change : FileChange) (files : Files) (path : List ℕ) (l : Listing)
-        → aside_claim_at change files path ≡ Some l
-        → ((bytes : List ℕ) × IsUsersFile change files path bytes)
-        × IsNewEntry change path l.entry × (is_claimed change (aside_name path) ≡ false) }
+        → apk_new_listing_at change files path ≡ Some l
+        → ((bytes : List ℕ) × IsModifiedConfigFile change files path bytes)
+        × DiffersFromOldEntry change path l.entry × (is_claimed change (apk_new_name path) ≡ false) }
     // It is written under that name.
     ensures located { (change : FileChange) (files : Files) (path : List ℕ) (l : Listing)
-        → aside_claim_at change files path ≡ Some l
-        → written_as change files (aside_name path) ≡ Some l }
+        → apk_new_listing_at change files path ≡ Some l
+        → listing_written_under_name change files (apk_new_name path) ≡ Some l }
 {}
 
 /// The contents that a package has for a path are as its entry says: a link's text; contents of its
@@ -83,7 +83,7 @@ pub fn the_files_of_an_added_package_are_as_listed()
 /// A file that is written has those bytes after the change.
 pub fn what_is_written_takes_its_name()
     ensures { (change : FileChange) (bytes_of : Listing → List ℕ) (records : RootFilesAfter)
-        (files : Files) (name : List ℕ) (l : Listing) → written_as change files name ≡ Some l
+        (files : Files) (name : List ℕ) (l : Listing) → listing_written_under_name change files name ≡ Some l
         → is_record_name records name ≡ false
         → changed_files change bytes_of records files name ≡ Some (bytes_of l) }
 {}
@@ -92,7 +92,7 @@ pub fn what_is_written_takes_its_name()
 /// world and a text database have reserved names.
 pub fn what_is_written_is_not_reserved()
     ensures written { (change : FileChange) (files : Files) (name : List ℕ) (l : Listing)
-        → first_reserved change.members ≡ None → written_as change files name ≡ Some l
+        → first_reserved_path change.members ≡ None → listing_written_under_name change files name ≡ Some l
         → is_reserved name ≡ false }
     ensures records { (records : RootFilesAfter) (name : List ℕ) →
         is_record_name records name ≡ true
@@ -125,11 +125,11 @@ pub fn what_is_removed_is_not_reserved()
 pub fn what_is_left_over_is_removed_unless_it_is_the_users()
     ensures goes { (change : FileChange) (files : Files) (path : List ℕ)
         → is_no_longer_listed change files path ≡ true
-        → ((bytes : List ℕ) → IsUsersFile change files path bytes → ⊥) ⊎ (change.purge ≡ true)
+        → ((bytes : List ℕ) → IsModifiedConfigFile change files path bytes → ⊥) ⊎ (change.purge ≡ true)
         → is_removed change files path ≡ true }
     ensures kept { (change : FileChange) (files : Files) (path : List ℕ)
-        → is_kept change files path ≡ true
-        → ((bytes : List ℕ) × IsUsersFile change files path bytes) × (change.purge ≡ false) }
+        → is_modified_file_kept change files path ≡ true
+        → ((bytes : List ℕ) × IsModifiedConfigFile change files path bytes) × (change.purge ≡ false) }
 {}
 
 // ---- what is unchanged
@@ -139,7 +139,7 @@ pub fn the_file_of_a_kept_package_is_not_touched()
     // The plan of the change neither writes nor removes it.
     ensures plan { (change : FileChange) (files : Files) (path : List ℕ) (l : Listing)
         → owner_listing change path ≡ Some l → is_added l.member ≡ false
-        → (written_as change files path ≡ None) × (is_removed change files path ≡ false) }
+        → (listing_written_under_name change files path ≡ None) × (is_removed change files path ≡ false) }
     // So it is as before.
     ensures file { (change : FileChange) (bytes_of : Listing → List ℕ) (records : RootFilesAfter)
         (files : Files) (path : List ℕ) (l : Listing)
@@ -154,15 +154,15 @@ pub fn configuration_that_the_user_changed_is_kept()
     ensures { (change : FileChange) (bytes_of : Listing → List ℕ) (records : RootFilesAfter)
         (files : Files) (path bytes : List ℕ)
         → (change.purge ≡ false) ⊎ (is_claimed change path ≡ true)
-        → IsUsersFile change files path bytes
-        → is_aside_name change files path ≡ false → is_record_name records path ≡ false
+        → IsModifiedConfigFile change files path bytes
+        → is_apk_new_name change files path ≡ false → is_record_name records path ≡ false
         → changed_files change bytes_of records files path ≡ Some bytes }
 {}
 
 /// A kept file is unchanged.
 pub fn what_is_kept_is_unchanged()
     ensures { (change : FileChange) (bytes_of : Listing → List ℕ) (records : RootFilesAfter)
-        (files : Files) (path : List ℕ) → is_kept change files path ≡ true
+        (files : Files) (path : List ℕ) → is_modified_file_kept change files path ≡ true
         → is_record_name records path ≡ false
         → changed_files change bytes_of records files path ≡ files path }
 {}
@@ -173,7 +173,7 @@ pub fn a_name_that_nobody_lists_is_not_touched()
     ensures { (change : FileChange) (bytes_of : Listing → List ℕ) (records : RootFilesAfter)
         (files : Files) (name : List ℕ) → was_listed change name ≡ false
         → is_added_path change name ≡ false
-        → is_aside_name change files name ≡ false → is_record_name records name ≡ false
+        → is_apk_new_name change files name ≡ false → is_record_name records name ≡ false
         → changed_files change bytes_of records files name ≡ files name }
 {}
 
@@ -231,26 +231,26 @@ pub fn the_records_of_a_change_are_under_their_names()
 pub fn the_lists_of_a_plan_hold_just_its_names()
     // A write is in the list if something is written under its name, with that file.
     ensures writes { (change : FileChange) (files : Files) (write : FileWrite)
-        → Contains (file_writes_of change files) write ↔ IsWriteOf change files write }
+        → Contains (file_writes_of change files) write ↔ IsPlannedWrite change files write }
     ensures written { (change : FileChange) (files : Files) (name : List ℕ)
         → Contains (map (λ write. write.name) (file_writes_of change files)) name
         ↔ (is_written change files name ≡ true) }
     ensures removed { (change : FileChange) (files : Files) (path : List ℕ)
         → Contains (removals_of change files) path ↔ (is_removed change files path ≡ true) }
     ensures kept { (change : FileChange) (files : Files) (path : List ℕ)
-        → Contains (kept_of change files) path ↔ (is_kept change files path ≡ true) }
+        → Contains (kept_paths_of change files) path ↔ (is_modified_file_kept change files path ≡ true) }
     ensures aside { (change : FileChange) (files : Files) (path : List ℕ)
-        → Contains (aside_of change files) path
-        ↔ (is_some (aside_claim_at change files path) ≡ true) }
+        → Contains (paths_with_apk_new_file change files) path
+        ↔ (is_some (apk_new_listing_at change files path) ≡ true) }
 {}
 
 /// Each list of a plan is in byte order, and no name is repeated.
 pub fn the_lists_of_a_plan_rise()
     ensures writes { (change : FileChange) (files : Files)
-        → IsRising (map (λ write. write.name) (file_writes_of change files)) }
-    ensures removals { (change : FileChange) (files : Files) → IsRising (removals_of change files) }
-    ensures kept { (change : FileChange) (files : Files) → IsRising (kept_of change files) }
-    ensures aside { (change : FileChange) (files : Files) → IsRising (aside_of change files) }
+        → AreSortedDistinctNames (map (λ write. write.name) (file_writes_of change files)) }
+    ensures removals { (change : FileChange) (files : Files) → AreSortedDistinctNames (removals_of change files) }
+    ensures kept { (change : FileChange) (files : Files) → AreSortedDistinctNames (kept_paths_of change files) }
+    ensures aside { (change : FileChange) (files : Files) → AreSortedDistinctNames (paths_with_apk_new_file change files) }
 {}
 
 /// No name is both written and removed, and no kept name is either.
@@ -258,6 +258,6 @@ pub fn a_name_has_one_place_in_a_plan()
     ensures removed { (change : FileChange) (files : Files) (name : List ℕ)
         → is_written change files name ≡ true → is_removed change files name ≡ false }
     ensures kept { (change : FileChange) (files : Files) (name : List ℕ)
-        → is_kept change files name ≡ true
+        → is_modified_file_kept change files name ≡ true
         → (is_written change files name ≡ false) × (is_removed change files name ≡ false) }
 {}

@@ -3,7 +3,7 @@ use Rattle.std.proofs.Common.{◌≡◌, Result, Ok, Err, ap, sym, subst}
 use Rattle.std.specs.Result.{IsErrAnd}
 use Rattle.report_core.specs.declared.refusal.Refusal as Refusals
 use Rattle.change_inputs.specs.Chains.{and_then}
-use Rattle.change_inputs.specs.Answers.{Agrees, AgreesUnlessDisk, IsFailure}
+use Rattle.change_inputs.specs.Answers.{Agrees, AgreesUnlessDisk, IsDiskOrMemoryFailure}
 use Rattle.change_inputs.specs.declared.root.Refused.{Refused}
 use Rattle.change_inputs.specs.declared.root.Refused.TheVariants.{Disk, Memory, Refusal}
 
@@ -17,11 +17,11 @@ module _ {A B : Type 0} (view : A → B) (wanted : Result B Refusals.Refusal) wh
   handed_on (Err e) fault h agrees = let P : Refused → Type 0 = λ f. Agrees view (Err f) wanted in subst P (sym h) agrees
 
   -- a failure says nothing
-  pub failure_agrees : (r : Result A Refused) (fault : Refused) → IsErrAnd r (λ e. e ≡ fault) → IsFailure fault → AgreesUnlessDisk view r wanted
+  pub failure_agrees : (r : Result A Refused) (fault : Refused) → IsErrAnd r (λ e. e ≡ fault) → IsDiskOrMemoryFailure fault → AgreesUnlessDisk view r wanted
   failure_agrees (Ok a) fault h f = absurd h
   failure_agrees (Err e) fault h f = let P : Refused → Type 0 = λ x. AgreesUnlessDisk view (Err x) wanted in subst P (sym h) (go fault f)
     where
-      go : (x : Refused) → IsFailure x → AgreesUnlessDisk view (Err x) wanted
+      go : (x : Refused) → IsDiskOrMemoryFailure x → AgreesUnlessDisk view (Err x) wanted
       go (Refusal r) f = absurd f
       go Disk f = tt
       go Memory f = tt

@@ -8,7 +8,7 @@ use Rattle.report_core.specs.declared.refusal.Refusal as Refusals
 use Rattle.root_names.specs.RootNames.{database_name, repositories_name, text_database_name, world_name}
 use Rattle.change_inputs.specs.Chains.{and_then}
 use Rattle.change_inputs.specs.Indexes.{root_indexes}
-use Rattle.change_inputs.specs.Inputs.{Inputs, Root, index_reads_from, indexes_of, inputs_by, inputs_of, root_for, root_found}
+use Rattle.change_inputs.specs.Inputs.{Inputs, Root, index_reads_from, indexes_of, inputs_from_parts, inputs_of, root_for, root_found}
 
 same_index_reads : (read other : Reads) (n : ℕ) (rs : List Repository) → ((k : ℕ) (name : List ℕ) → k < n + length rs → read k name ≡ other k name) → index_reads_from read n rs ≡ index_reads_from other n rs
 same_index_reads read other n [] h = refl
@@ -23,7 +23,7 @@ given (Err refusal) next b is = absurd (cc)
 
 module _ (command : CommandLine) (read other : Reads) where
   same_inputs : (root : Root) (indexes : List Plain) → root_for command read ≡ Ok root → indexes_of read root.repositories ≡ Ok indexes
-      → ((n : ℕ) (name : List ℕ) → n < 4 + length root.repositories → read n name ≡ other n name) → inputs_of command other ≡ Ok (inputs_by root indexes)
+      → ((n : ℕ) (name : List ℕ) → n < 4 + length root.repositories → read n name ≡ other n name) → inputs_of command other ≡ Ok (inputs_from_parts root indexes)
   unfolding inputs_of
   same_inputs root indexes good those h =
       let e0 : read 0 database_name ≡ other 0 database_name = h 0 database_name (omega arith) in
@@ -32,14 +32,14 @@ module _ (command : CommandLine) (read other : Reads) where
       let e3 : read 3 repositories_name ≡ other 3 repositories_name = h 3 repositories_name (omega arith) in
       let roots : root_for command other ≡ Ok root = sym (λ i. root_found command (e0 i) (e1 i) (e2 i) (e3 i)) ∙ good in
       let all : indexes_of other root.repositories ≡ Ok indexes = ap root_indexes (sym (same_index_reads read other 4 root.repositories h)) ∙ those in
-      ap (λ r. and_then r (λ root. and_then (indexes_of other root.repositories) (λ indexes. Ok (inputs_by root indexes)))) roots
-      ∙ ap (λ r. and_then r (λ indexes. Ok (inputs_by root indexes))) all
+      ap (λ r. and_then r (λ root. and_then (indexes_of other root.repositories) (λ indexes. Ok (inputs_from_parts root indexes)))) roots
+      ∙ ap (λ r. and_then r (λ indexes. Ok (inputs_from_parts root indexes))) all
 
   pub own_reads : (inputs : Inputs) → inputs_of command read ≡ Ok inputs → ((n : ℕ) (name : List ℕ) → n < 4 + length inputs.root.repositories → read n name ≡ other n name) → inputs_of command other ≡ Ok inputs
   unfolding inputs_of
   own_reads inputs is h =
-      let p = given (root_for command read) (λ root. and_then (indexes_of read root.repositories) (λ indexes. Ok (inputs_by root indexes))) inputs is in
-      let q = given (indexes_of read p.0.repositories) (λ indexes. Ok (inputs_by p.0 indexes)) inputs p.2 in
-      let are : inputs_by p.0 q.0 ≡ inputs = cc (q.2) in
+      let p = given (root_for command read) (λ root. and_then (indexes_of read root.repositories) (λ indexes. Ok (inputs_from_parts root indexes))) inputs is in
+      let q = given (indexes_of read p.0.repositories) (λ indexes. Ok (inputs_from_parts p.0 indexes)) inputs p.2 in
+      let are : inputs_from_parts p.0 q.0 ≡ inputs = cc (q.2) in
       let P : Inputs → Type 0 = λ x. ((n : ℕ) (name : List ℕ) → n < 4 + length x.root.repositories → read n name ≡ other n name) → inputs_of command other ≡ Ok x in
       subst P are (same_inputs p.0 q.0 p.1 q.1) h

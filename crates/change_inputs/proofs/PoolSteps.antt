@@ -15,14 +15,14 @@ use Rattle.db_core.proofs.Places.{nth_listed}
 use Rattle.dep_core.specs.Repositories.{Repository}
 use Rattle.pool_core.proofs.candidate_core.Installed.{counted_once, stands_last}
 use Rattle.pool_core.specs.candidate_core.Candidates.{Candidate, candidate_of, candidates_of_index, is_same_package, with_installed}
-use Rattle.pool_core.specs.candidate_core.Rank.{SealedPool, UpgradedNames, sealed_pool_by}
+use Rattle.pool_core.specs.candidate_core.Rank.{SealedPool, UpgradedNames, sealed_pool_from_parts}
 use Rattle.pool_core.specs.candidate_core.Values.{IsPoolFault}
 use Rattle.pool_core.specs.candidate_core.declared.candidate_list.PoolFault.{PoolFault}
 use Rattle.pool_core.specs.candidate_core.declared.candidate_list.PoolFault.TheVariants as Pools
 use Rattle.pool_core.specs.candidate_core.declared.candidate_list.TheConstants.{MOST_CANDIDATES}
 use Rattle.pool_core.proofs.candidate_core.Steps.{fault_more}
 use Rattle.report_core.specs.declared.refusal.Refusal.TheVariants.{TooMany}
-use Rattle.change_inputs.specs.Candidates.{candidates_from, candidates_of, installed_candidate, root_pool, with_all_installed}
+use Rattle.change_inputs.specs.Candidates.{candidates_of_repositories_from, candidates_of, installed_candidate, root_pool, with_all_installed}
 use Rattle.change_inputs.specs.Inputs.{Inputs}
 
 pub fault_handed : {A : Type 0} (n : ℕ) (r : Result A PoolFault) (fault : PoolFault) → IsErrAnd r (λ e. e ≡ fault) → IsPoolFault fault n → IfErr r (λ e. IsPoolFault e n)
@@ -78,7 +78,7 @@ length-candidates_of_index n tag none = refl
 length-candidates_of_index n tag (more v vs) = ap suc (length-candidates_of_index n tag vs)
 
 abbrev pub IsIndexedTo : List Repository → List Plain → ℕ → List Candidate → Type 0
-IsIndexedTo rs xs i now = candidates_from 1 rs xs ≡ now ++ candidates_from (i + 1) (drop i rs) (drop i xs)
+IsIndexedTo rs xs i now = candidates_of_repositories_from 1 rs xs ≡ now ++ candidates_of_repositories_from (i + 1) (drop i rs) (drop i xs)
 
 tagged_at : (rs : List Repository) (i : ℕ) (tag : Option (List ℕ)) → option_map (λ (r : Repository). r.tag) (slice_get rs i) ≡ Some tag → (r : Repository) × (slice_get rs i ≡ Some r) × (r.tag ≡ tag)
 tagged_at rs i tag is = go (slice_get rs i) refl is
@@ -88,51 +88,51 @@ tagged_at rs i tag is = go (slice_get rs i) refl is
     go (Some r) at e = (r, at, cc)
 
 module _ (rs : List Repository) (xs : List Plain) (i : ℕ) (tag : Option (List ℕ)) (x : Plain) (now : List Candidate) (repository : option_map (λ (r : Repository). r.tag) (slice_get rs i) ≡ Some tag) (index : slice_get xs i ≡ Some x) (so_far : IsIndexedTo rs xs i now) where
-  here : candidates_from 1 rs xs ≡ now ++ (candidates_of_index (i + 1) tag (entries_in (entry_in x 1)) ++ candidates_from (i + 1 + 1) (drop (i + 1) rs) (drop (i + 1) xs))
+  here : candidates_of_repositories_from 1 rs xs ≡ now ++ (candidates_of_index (i + 1) tag (entries_in (entry_in x 1)) ++ candidates_of_repositories_from (i + 1 + 1) (drop (i + 1) rs) (drop (i + 1) xs))
   here =
       let r = tagged_at rs i tag repository in
       so_far
       ∙ ap (λ (cs : List Candidate). now ++ cs)
-      (ap (λ (l : List Repository). candidates_from (i + 1) l (drop i xs)) (left_at rs i r.0 r.1)
-      ∙ (ap (candidates_from (i + 1) (r.0 ∷ drop (i + 1) rs)) (left_at xs i x index)
-      ∙ ap (λ (t : Option (List ℕ)). candidates_of_index (i + 1) t (entries_in (entry_in x 1)) ++ candidates_from (i + 1 + 1) (drop (i + 1) rs) (drop (i + 1) xs)) r.2))
+      (ap (λ (l : List Repository). candidates_of_repositories_from (i + 1) l (drop i xs)) (left_at rs i r.0 r.1)
+      ∙ (ap (candidates_of_repositories_from (i + 1) (r.0 ∷ drop (i + 1) rs)) (left_at xs i x index)
+      ∙ ap (λ (t : Option (List ℕ)). candidates_of_index (i + 1) t (entries_in (entry_in x 1)) ++ candidates_of_repositories_from (i + 1 + 1) (drop (i + 1) rs) (drop (i + 1) xs)) r.2))
 
   pub indexed_more : (next : List Candidate) → next ≡ now ++ candidates_of_index (i + 1) tag (entries_in (entry_in x 1)) → IsIndexedTo rs xs (i + 1) next
   indexed_more next made =
       here
-      ∙ (sym (append_assoc now (candidates_of_index (i + 1) tag (entries_in (entry_in x 1))) (candidates_from (i + 1 + 1) (drop (i + 1) rs) (drop (i + 1) xs)))
-      ∙ ap (λ (cs : List Candidate). cs ++ candidates_from (i + 1 + 1) (drop (i + 1) rs) (drop (i + 1) xs)) (sym made))
+      ∙ (sym (append_assoc now (candidates_of_index (i + 1) tag (entries_in (entry_in x 1))) (candidates_of_repositories_from (i + 1 + 1) (drop (i + 1) rs) (drop (i + 1) xs)))
+      ∙ ap (λ (cs : List Candidate). cs ++ candidates_of_repositories_from (i + 1 + 1) (drop (i + 1) rs) (drop (i + 1) xs)) (sym made))
 
-  pub indexed_passes : (fault : PoolFault) → IsPoolFault fault (length now + count_of (entries_in (entry_in x 1))) → IsPoolFault fault (length (candidates_from 1 rs xs))
+  pub indexed_passes : (fault : PoolFault) → IsPoolFault fault (length now + count_of (entries_in (entry_in x 1))) → IsPoolFault fault (length (candidates_of_repositories_from 1 rs xs))
   indexed_passes fault h =
       let own = candidates_of_index (i + 1) tag (entries_in (entry_in x 1)) in
-      let rest = candidates_from (i + 1 + 1) (drop (i + 1) rs) (drop (i + 1) xs) in
-      let e1 : length (candidates_from 1 rs xs) ≡ length now + length (own ++ rest) = ap length here ∙ length-append now (own ++ rest) in
+      let rest = candidates_of_repositories_from (i + 1 + 1) (drop (i + 1) rs) (drop (i + 1) xs) in
+      let e1 : length (candidates_of_repositories_from 1 rs xs) ≡ length now + length (own ++ rest) = ap length here ∙ length-append now (own ++ rest) in
       let e2 : length (own ++ rest) ≡ length own + length rest = length-append own rest in
       let e3 : length own ≡ count_of (entries_in (entry_in x 1)) = length-candidates_of_index (i + 1) tag (entries_in (entry_in x 1)) in
       fault_more fault _ _ (omega (arith, e1, e2, e3)) h
 
 pub indexed_none : (rs : List Repository) (xs : List Plain) (now : List Candidate) → now ≡ [] → IsIndexedTo rs xs 0 now
-indexed_none rs xs now is = ap (λ (cs : List Candidate). cs ++ candidates_from 1 rs xs) (sym is)
+indexed_none rs xs now is = ap (λ (cs : List Candidate). cs ++ candidates_of_repositories_from 1 rs xs) (sym is)
 
-pub indexed_all : (rs : List Repository) (xs : List Plain) (i : ℕ) (now : List Candidate) → length rs ≤ i → IsIndexedTo rs xs i now → now ≡ candidates_from 1 rs xs
+pub indexed_all : (rs : List Repository) (xs : List Plain) (i : ℕ) (now : List Candidate) → length rs ≤ i → IsIndexedTo rs xs i now → now ≡ candidates_of_repositories_from 1 rs xs
 indexed_all rs xs i now past so_far =
-    sym (so_far ∙ (ap (λ (l : List Repository). now ++ candidates_from (i + 1) l (drop i xs)) (drop_of_length-le rs past) ∙ append-nil now))
+    sym (so_far ∙ (ap (λ (l : List Repository). now ++ candidates_of_repositories_from (i + 1) l (drop i xs)) (drop_of_length-le rs past) ∙ append-nil now))
 
 -- ---- the pool
 
-pub pool_is : (inputs : Inputs) (upgraded : UpgradedNames) → length (candidates_of inputs) ≤ MOST_CANDIDATES → root_pool inputs upgraded ≡ Ok (sealed_pool_by (candidates_of inputs) inputs.root.new_world upgraded)
+pub pool_is : (inputs : Inputs) (upgraded : UpgradedNames) → length (candidates_of inputs) ≤ MOST_CANDIDATES → root_pool inputs upgraded ≡ Ok (sealed_pool_from_parts (candidates_of inputs) inputs.root.new_world upgraded)
 unfolding root_pool
 pool_is inputs upgraded few =
-    ap (λ (b : Bool). if b then Err (TooMany (MOST_CANDIDATES + 1)) else Ok (sealed_pool_by (candidates_of inputs) inputs.root.new_world upgraded)) (le-ltb MOST_CANDIDATES (length (candidates_of inputs)) few)
+    ap (λ (b : Bool). if b then Err (TooMany (MOST_CANDIDATES + 1)) else Ok (sealed_pool_from_parts (candidates_of inputs) inputs.root.new_world upgraded)) (le-ltb MOST_CANDIDATES (length (candidates_of inputs)) few)
 
 pub pool_is_none : (inputs : Inputs) (upgraded : UpgradedNames) (count : ℕ) → IsPoolFault (Pools.TooMany count) (length (candidates_of inputs)) → root_pool inputs upgraded ≡ Err (TooMany count)
 unfolding root_pool
 pool_is_none inputs upgraded count h =
-    ap (λ (b : Bool). if b then Err (TooMany (MOST_CANDIDATES + 1)) else Ok (sealed_pool_by (candidates_of inputs) inputs.root.new_world upgraded)) (lt-ltb MOST_CANDIDATES (length (candidates_of inputs)) h.0)
+    ap (λ (b : Bool). if b then Err (TooMany (MOST_CANDIDATES + 1)) else Ok (sealed_pool_from_parts (candidates_of inputs) inputs.root.new_world upgraded)) (lt-ltb MOST_CANDIDATES (length (candidates_of inputs)) h.0)
     ∙ ap (λ (n : ℕ). Err (TooMany n)) (sym h.1)
 
-pub pool_made : (inputs : Inputs) (upgraded : UpgradedNames) (cs : List Candidate) (pool : SealedPool) → cs ≡ candidates_of inputs → length cs ≤ MOST_CANDIDATES → pool ≡ sealed_pool_by cs inputs.root.new_world upgraded → root_pool inputs upgraded ≡ Ok pool
+pub pool_made : (inputs : Inputs) (upgraded : UpgradedNames) (cs : List Candidate) (pool : SealedPool) → cs ≡ candidates_of inputs → length cs ≤ MOST_CANDIDATES → pool ≡ sealed_pool_from_parts cs inputs.root.new_world upgraded → root_pool inputs upgraded ≡ Ok pool
 pool_made inputs upgraded cs pool are few is =
     pool_is inputs upgraded (subst (λ (l : List Candidate). length l ≤ MOST_CANDIDATES) are few)
-    ∙ ap Ok (sym (is ∙ ap (λ (l : List Candidate). sealed_pool_by l inputs.root.new_world upgraded) are))
+    ∙ ap Ok (sym (is ∙ ap (λ (l : List Candidate). sealed_pool_from_parts l inputs.root.new_world upgraded) are))

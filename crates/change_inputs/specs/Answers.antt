@@ -25,19 +25,19 @@ AgreesUnlessDisk view (Err Disk) wanted = Unit {0}
 AgreesUnlessDisk view (Err Memory) wanted = Unit {0}
 
 -- why a call ends without a refusal: an I/O error of the tree, or out of memory
-abbrev pub IsFailure : Refused → Type 0
-IsFailure (Refusal refusal) = ⊥
-IsFailure Disk = Unit {0}
-IsFailure Memory = Unit {0}
+abbrev pub IsDiskOrMemoryFailure : Refused → Type 0
+IsDiskOrMemoryFailure (Refusal refusal) = ⊥
+IsDiskOrMemoryFailure Disk = Unit {0}
+IsDiskOrMemoryFailure Memory = Unit {0}
 
 -- if the tree's files are observable, what was found is the file under the name
-abbrev pub IsInTreeAt : List TreeState → List ℕ → Option (List ℕ) → Type 0
-IsInTreeAt history name found = IfObservable history (λ v. found ≡ files_of v name)
+abbrev pub IsFileFoundInTree : List TreeState → List ℕ → Option (List ℕ) → Type 0
+IsFileFoundInTree history name found = IfObservable history (λ v. found ≡ files_of v name)
 
 -- if the tree's files are observable, what was found are the files under the paths of the repositories
-abbrev pub AreInTreeAt : List TreeState → List Repository → List (Option (List ℕ)) → Type 0
-AreInTreeAt history [] [] = Unit {0}
-AreInTreeAt history [] (f ∷ found) = ⊥
-AreInTreeAt history (repository ∷ repositories) [] = ⊥
-AreInTreeAt history (repository ∷ repositories) (f ∷ found) =
-    IsInTreeAt history repository.path f × AreInTreeAt history repositories found
+abbrev pub AreFilesFoundInTree : List TreeState → List Repository → List (Option (List ℕ)) → Type 0
+AreFilesFoundInTree history [] [] = Unit {0}
+AreFilesFoundInTree history [] (f ∷ found) = ⊥
+AreFilesFoundInTree history (repository ∷ repositories) [] = ⊥
+AreFilesFoundInTree history (repository ∷ repositories) (f ∷ found) =
+    IsFileFoundInTree history repository.path f × AreFilesFoundInTree history repositories found

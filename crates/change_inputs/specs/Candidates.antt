@@ -7,18 +7,18 @@ use Rattle.adb_view.specs.Plain.{Plain}
 use Rattle.dep_core.specs.Repositories.{Repository}
 use Rattle.pool_core.specs.candidate_core.Candidates.{Candidate, candidate_of, candidates_of_index, with_installed}
 use Rattle.pool_core.specs.candidate_core.declared.candidate_list.TheConstants.{MOST_CANDIDATES}
-use Rattle.pool_core.specs.candidate_core.Rank.{SealedPool, UpgradedNames, sealed_pool_by}
+use Rattle.pool_core.specs.candidate_core.Rank.{SealedPool, UpgradedNames, sealed_pool_from_parts}
 use Rattle.report_core.specs.declared.refusal.Refusal.{Refusal}
 use Rattle.report_core.specs.declared.refusal.Refusal.TheVariants.{TooMany}
 use Rattle.change_inputs.specs.Inputs.{Inputs}
 
 -- the packages of the indexes of some repositories, of which the first has this number
-abbrev pub candidates_from : ℕ → List Repository → List Plain → List Candidate
-candidates_from n [] indexes = []
-candidates_from n (repository ∷ repositories) [] = []
-candidates_from n (repository ∷ repositories) (index ∷ indexes) =
+abbrev pub candidates_of_repositories_from : ℕ → List Repository → List Plain → List Candidate
+candidates_of_repositories_from n [] indexes = []
+candidates_of_repositories_from n (repository ∷ repositories) [] = []
+candidates_of_repositories_from n (repository ∷ repositories) (index ∷ indexes) =
     candidates_of_index n repository.tag (entries_in (entry_in index INDEX_PACKAGES))
-    ++ candidates_from (n + 1) repositories indexes
+    ++ candidates_of_repositories_from (n + 1) repositories indexes
 
 -- an installed package as a candidate, given its entry in the database
 abbrev pub installed_candidate : Plain → Candidate
@@ -34,7 +34,7 @@ with_all_installed candidates (pkg ∷ packages) =
 -- all candidates that the inputs have, however many they are
 abbrev pub candidates_of : Inputs → List Candidate
 candidates_of inputs =
-    with_all_installed (candidates_from 1 inputs.root.repositories inputs.indexes)
+    with_all_installed (candidates_of_repositories_from 1 inputs.root.repositories inputs.indexes)
     inputs.root.database.packages
 
 -- the candidates under the new world and the names that the command upgrades, unless they are too
@@ -43,4 +43,4 @@ unfoldable pub root_pool : Inputs → UpgradedNames → Result SealedPool Refusa
 root_pool inputs upgraded =
     if nat_lt MOST_CANDIDATES (length (candidates_of inputs)) then
     Err (TooMany (MOST_CANDIDATES + 1)) else
-    Ok (sealed_pool_by (candidates_of inputs) inputs.root.new_world upgraded)
+    Ok (sealed_pool_from_parts (candidates_of inputs) inputs.root.new_world upgraded)

@@ -22,20 +22,20 @@ pub record Database : Type 0 where
   pub from_text : Bool
 
 -- a database by its packages, by the bytes of the container, and by whether they are from a text
-abbrev pub database_by : List Plain → Option (List ℕ) → Bool → Database
-database_by packages file from_text =
+abbrev pub database_from_parts : List Plain → Option (List ℕ) → Bool → Database
+database_from_parts packages file from_text =
     record { packages = packages; file = file; from_text = from_text }
 
 -- the database in a container, or the first test that the container fails
 abbrev pub container_database : List ℕ → Result Database Refusal
 container_database file =
     unless_cause DatabaseBad (first_fault Idb file)
-    (database_by (entries_at IDB_PACKAGES (root_value Idb (payload_in file))) (Some file) false)
+    (database_from_parts (entries_at IDB_PACKAGES (root_value Idb (payload_in file))) (Some file) false)
 
 -- the database in the payload of a text database, or why there is none
 abbrev pub payload_database : Result (List ℕ) V2Fault → Result Database Refusal
 payload_database (Ok payload) =
-    Ok (database_by (entries_at IDB_PACKAGES (root_value Idb payload)) None true)
+    Ok (database_from_parts (entries_at IDB_PACKAGES (root_value Idb payload)) None true)
 payload_database (Err (Bad cause)) = Err (DatabaseBad cause)
 payload_database (Err (TooLarge bytes values)) = Err (ResultTooLarge bytes values)
 -- no text gives this: *payload_of_text* knows no memory
@@ -46,13 +46,13 @@ abbrev pub text_database : List ℕ → Result Database Refusal
 text_database text = payload_database (payload_of_text text)
 
 -- the database if there is none: one without packages, if it may be begun
-abbrev pub new_database : Bool → Result Database Refusal
-new_database true = Ok (database_by [] None false)
-new_database false = Err NoDatabase
+abbrev pub empty_database_if_allowed : Bool → Result Database Refusal
+empty_database_if_allowed true = Ok (database_from_parts [] None false)
+empty_database_if_allowed false = Err NoDatabase
 
 -- the database of a root, given what is found under its two names, of which the text is used last, and
 -- whether one may be begun
 abbrev pub root_database : Bool → Option (List ℕ) → Option (List ℕ) → Result Database Refusal
 root_database may_begin (Some file) text = container_database file
 root_database may_begin None (Some text) = text_database text
-root_database may_begin None None = new_database may_begin
+root_database may_begin None None = empty_database_if_allowed may_begin

@@ -13,7 +13,7 @@ use Rattle.change_inputs.specs.Chains.{and_then}
 use Rattle.change_inputs.specs.Database.{Database, root_database}
 use Rattle.change_inputs.specs.Indexes.{root_indexes}
 use Rattle.change_inputs.specs.Repositories.{root_repositories}
-use Rattle.change_inputs.specs.World.{new_world, root_world, text_found}
+use Rattle.change_inputs.specs.World.{new_world, root_world, found_text_or_empty}
 
 -- the contents of a root's files for a command
 pub record Root : Type 0 where
@@ -43,11 +43,11 @@ abbrev pub root_found :
     → Result Root Refusal
 root_found command file text world_file repositories_file =
     and_then (root_database command.flags.initdb file text) (λ database.
-    and_then (root_world (text_found world_file)) (λ world.
+    and_then (root_world (found_text_or_empty world_file)) (λ world.
     and_then
-    (root_repositories command.flags.allow_untrusted (text_found repositories_file))
+    (root_repositories command.flags.allow_untrusted (found_text_or_empty repositories_file))
     (λ repositories.
-    Ok (root_by command database (text_found world_file) world repositories))))
+    Ok (root_by command database (found_text_or_empty world_file) world repositories))))
 
 -- all that a change reads: the contents of a root's files, and the value of each repository's index
 pub record Inputs : Type 0 where
@@ -55,8 +55,8 @@ pub record Inputs : Type 0 where
   pub indexes : List Plain
 
 -- inputs by their two parts
-abbrev pub inputs_by : Root → List Plain → Inputs
-inputs_by root indexes = record { root = root; indexes = indexes }
+abbrev pub inputs_from_parts : Root → List Plain → Inputs
+inputs_from_parts root indexes = record { root = root; indexes = indexes }
 
 -- ---- the numbers of the reads
 
@@ -111,4 +111,4 @@ indexes_of read repositories =
 unfoldable pub inputs_of : CommandLine → Reads → Result Inputs Refusal
 inputs_of command read =
     and_then (root_for command read) (λ root.
-    and_then (indexes_of read root.repositories) (λ indexes. Ok (inputs_by root indexes)))
+    and_then (indexes_of read root.repositories) (λ indexes. Ok (inputs_from_parts root indexes)))

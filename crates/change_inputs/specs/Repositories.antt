@@ -7,13 +7,13 @@ use Rattle.report_core.specs.declared.refusal.Refusal.TheVariants.{RepositoriesB
 use Rattle.change_inputs.specs.Chains.{and_then, refused_as}
 
 -- the repositories that may be read: since signatures are not checked, any are read only with leave
-abbrev pub if_trusted : Bool → List Repository → Result (List Repository) Refusal
-if_trusted is_allowed [] = Ok []
-if_trusted true (repository ∷ repositories) = Ok (repository ∷ repositories)
-if_trusted false (repository ∷ repositories) = Err Untrusted
+abbrev pub if_untrusted_allowed : Bool → List Repository → Result (List Repository) Refusal
+if_untrusted_allowed is_allowed [] = Ok []
+if_untrusted_allowed true (repository ∷ repositories) = Ok (repository ∷ repositories)
+if_untrusted_allowed false (repository ∷ repositories) = Err Untrusted
 
 -- the repositories of a root, by the text of their file and whether there is leave, or their
 -- refusal
 abbrev pub root_repositories : Bool → List ℕ → Result (List Repository) Refusal
 root_repositories is_allowed text =
-    and_then (refused_as RepositoriesBad (repositories_of text)) (if_trusted is_allowed)
+    and_then (refused_as RepositoriesBad (repositories_of text)) (if_untrusted_allowed is_allowed)

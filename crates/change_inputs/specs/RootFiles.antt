@@ -3,13 +3,13 @@ use Rattle.std.specs.Prelude.{◌≡◌, List, None}
 use Rattle.base_core.specs.Read.{bytes_in}
 use Rattle.base_core.specs.Tree.{TreeState}
 use Rattle.root_names.specs.RootNames.{database_name, repositories_name, text_database_name, world_name}
-use Rattle.change_inputs.specs.Answers.{IsInTreeAt}
+use Rattle.change_inputs.specs.Answers.{IsFileFoundInTree}
 use Rattle.change_inputs.specs.declared.root.RootFiles.{RootFiles}
 
 -- the files of a root are those under their names; the text database is read only if there is no other
 pub record AreInTreeAsRoot (history : List TreeState) (files : RootFiles) : Type 0 where
-  pub database : IsInTreeAt history database_name (bytes_in files.database)
+  pub database : IsFileFoundInTree history database_name (bytes_in files.database)
   pub text_database : bytes_in files.database ≡ None
-      → IsInTreeAt history text_database_name (bytes_in files.text_database)
-  pub world : IsInTreeAt history world_name (bytes_in files.world)
-  pub repositories : IsInTreeAt history repositories_name (bytes_in files.repositories)
+      → IsFileFoundInTree history text_database_name (bytes_in files.text_database)
+  pub world : IsFileFoundInTree history world_name (bytes_in files.world)
+  pub repositories : IsFileFoundInTree history repositories_name (bytes_in files.repositories)

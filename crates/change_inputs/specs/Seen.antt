@@ -5,9 +5,9 @@ use Rattle.db_core.specs.adb_schema.Soundness.{payload_in, root_value}
 use Rattle.adb_view.specs.FieldIndexes.{IDB_PACKAGES}
 use Rattle.adb_view.specs.declared.tables.Which.TheVariants.{Idb}
 use Rattle.adb_view.specs.Plain.{Plain}
-use Rattle.change_inputs.specs.Database.{Database, database_by}
+use Rattle.change_inputs.specs.Database.{Database, database_from_parts}
 use Rattle.change_inputs.specs.IndexFiles.{bytes_of_each, index_of_file}
-use Rattle.change_inputs.specs.Inputs.{Inputs, Root, inputs_by}
+use Rattle.change_inputs.specs.Inputs.{Inputs, Root, inputs_from_parts}
 use Rattle.change_inputs.specs.declared.database.DatabaseFile.{DatabaseFile}
 use Rattle.change_inputs.specs.declared.database.DatabaseFile.TheVariants.{Container, New, Payload}
 use Rattle.change_inputs.specs.declared.index.IndexFiles.{IndexFiles}
@@ -19,11 +19,11 @@ use Rattle.change_inputs.specs.declared.root.TestedRoot.{TestedRoot}
 -- are from a text
 abbrev pub database_seen : DatabaseFile → Database
 database_seen (Container own) =
-    database_by (entries_at IDB_PACKAGES (root_value Idb (payload_in own.file.items)))
+    database_from_parts (entries_at IDB_PACKAGES (root_value Idb (payload_in own.file.items)))
     (Some own.file.items) false
 database_seen (Payload own) =
-    database_by (entries_at IDB_PACKAGES (root_value Idb own.payload.items)) None true
-database_seen New = database_by [] None false
+    database_from_parts (entries_at IDB_PACKAGES (root_value Idb own.payload.items)) None true
+database_seen New = database_from_parts [] None false
 
 -- the database that was read alone, as contracts see it
 abbrev pub installed_seen : Installed → Database
@@ -45,4 +45,4 @@ root_seen root = record {
 
 -- all that was loaded for a change, as contracts see it
 abbrev pub inputs_seen : Loaded → Inputs
-inputs_seen loaded = inputs_by (root_seen loaded.root) (indexes_seen loaded.indexes)
+inputs_seen loaded = inputs_from_parts (root_seen loaded.root) (indexes_seen loaded.indexes)

@@ -13,8 +13,8 @@ use Rattle.report_core.specs.declared.refusal.Refusal.TheVariants.{WorldBad}
 use Rattle.change_inputs.specs.Chains.{refused_as}
 
 -- the text of world or of the repositories, given what is found: an absent file counts as empty
-abbrev pub text_found : Option (List ℕ) → List ℕ
-text_found found = unwrap_or found []
+abbrev pub found_text_or_empty : Option (List ℕ) → List ℕ
+found_text_or_empty found = unwrap_or found []
 
 -- world before a command, by the text of its file, or its first bad line
 abbrev pub root_world : List ℕ → Result (List Dependency) Refusal

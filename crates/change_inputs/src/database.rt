@@ -10,7 +10,7 @@ ghost use Rattle.adb_view.specs.declared.tables.Which.TheVariants as Tables;
 ghost use Rattle.base_core.specs.Read.{bytes_in};
 ghost use Rattle.change_inputs.specs.Answers.{Agrees};
 ghost use Rattle.change_inputs.specs.Candidates.{with_all_installed};
-ghost use Rattle.change_inputs.specs.Database.{container_database, new_database, root_database, text_database};
+ghost use Rattle.change_inputs.specs.Database.{container_database, empty_database_if_allowed, root_database, text_database};
 ghost use Rattle.db_core.specs.Seen.{packages_of};
 ghost use Rattle.pool_core.specs.candidate_core.Values.{IsPoolFault};
 ghost use Rattle.pool_core.specs.candidate_core.declared.candidate_list.TheConstants.{MOST_CANDIDATES};
@@ -122,7 +122,7 @@ impl DatabaseFile {
 
     // A database without packages, if one may be begun.
     fn begun(may_begin: bool) -> Result<DatabaseFile, Refused>
-        ensures { Agrees database_seen result (new_database may_begin) }
+        ensures { Agrees database_seen result (empty_database_if_allowed may_begin) }
     {
         if !may_begin {
             return Err(Refused::Refusal(Refusal::NoDatabase));

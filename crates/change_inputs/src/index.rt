@@ -10,15 +10,15 @@ ghost use Rattle.adb_view.specs.declared.tables.Kind.TheVariants as Kinds;
 ghost use Rattle.adb_view.specs.declared.tables.Which.TheVariants as Tables;
 ghost use Rattle.adb_view.specs.Head.{head_fault, root_of};
 ghost use Rattle.base_core.specs.Read.{OnlyReads, bytes_in};
-ghost use Rattle.change_inputs.specs.Answers.{Agrees, AgreesUnlessDisk, AreInTreeAt, IsInTreeAt};
+ghost use Rattle.change_inputs.specs.Answers.{Agrees, AgreesUnlessDisk, AreFilesFoundInTree, IsFileFoundInTree};
 ghost use Rattle.change_inputs.specs.IndexFiles.{are_indexes, bytes_of_each, index_of_file, is_index};
 ghost use Rattle.change_inputs.specs.Indexes.{index_file, index_files_from, index_in_file, indexes_in_files};
 ghost use Rattle.std.specs.Prelude.{◌≡◌, ◌<◌, ◌++◌, ◌∷◌, [], true, ℕ, List, Option, Some, IfOk, OnOk, is_none, length, slice_get};
-ghost use Rattle.change_inputs.specs.Repositories.{if_trusted, root_repositories};
-ghost use Rattle.change_inputs.specs.World.{text_found};
+ghost use Rattle.change_inputs.specs.Repositories.{if_untrusted_allowed, root_repositories};
+ghost use Rattle.change_inputs.specs.World.{found_text_or_empty};
 
 use crate::root::{Refused, payload_in, read_file, test_file};
-use crate::world::text_found;
+use crate::world::found_text_or_empty;
 use adb_view::{Adb, values_of_few_visits_have_no_fault};
 use base_core::{Name, Tree};
 use db_core::{IndexView, ReadFault, Which};
@@ -95,11 +95,11 @@ pub(crate) fn read_index_files<T: Tree>(
     // If the tree's files are observable, they are what is found; all files are returned, or the
     // first absent one is refused.
     ensures found { (found : List (Option (List ℕ)))
-        × AreInTreeAt (T.history tree.old) repositories.now found
+        × AreFilesFoundInTree (T.history tree.old) repositories.now found
         × AgreesUnlessDisk (λ files. bytes_of_each files.items) result (index_files_from 1 found) }
     // There is one file for each repository.
     ensures count { IfOk result (λ files. length files.items ≡ length repositories.now) }
-    // The tree is only read; a fault of it has its cause.
+    // The tree is only read, and `Disk` has a counted fault of the tree as its cause.
     ensures tree { OnlyReads Refused.Disk (T.history tree.old) (T.history tree.new)
         (T.counts tree.old) (T.counts tree.new) result }
 {
@@ -127,7 +127,7 @@ fn read_index_file<T: Tree>(
     path: &Name,
     tree: &mut T,
 ) -> Result<Vec<u8>, Refused>
-    ensures found { (found : Option (List ℕ)) × IsInTreeAt (T.history tree.old) path.now found
+    ensures found { (found : Option (List ℕ)) × IsFileFoundInTree (T.history tree.old) path.now found
         × AgreesUnlessDisk (λ file. file.items) result (index_file number found) }
     ensures tree { OnlyReads Refused.Disk (T.history tree.old) (T.history tree.new)
         (T.counts tree.old) (T.counts tree.new) result }
@@ -166,19 +166,19 @@ pub(crate) fn repositories_of(
     found: Option<Vec<u8>>,
 ) -> Result<Repos, Refused>
     ensures { Agrees (λ repositories. repositories) result
-        (root_repositories is_allowed (text_found (bytes_in found))) }
+        (root_repositories is_allowed (found_text_or_empty (bytes_in found))) }
 {
-    let text = text_found(alloc, found);
+    let text = found_text_or_empty(alloc, found);
     match Repos::read(alloc, &text) {
-        Ok(repositories) => if_trusted(is_allowed, repositories),
+        Ok(repositories) => if_untrusted_allowed(is_allowed, repositories),
         Err(ReposFault::Bad { line }) => Err(Refused::Refusal(Refusal::RepositoriesBad { line })),
         Err(ReposFault::Memory) => Err(Refused::Memory),
     }
 }
 
 // Refuses repositories that may not be read, if there are any.
-fn if_trusted(is_allowed: bool, repositories: Repos) -> Result<Repos, Refused>
-    ensures { Agrees (λ repositories. repositories) result (if_trusted is_allowed repositories) }
+fn if_untrusted_allowed(is_allowed: bool, repositories: Repos) -> Result<Repos, Refused>
+    ensures { Agrees (λ repositories. repositories) result (if_untrusted_allowed is_allowed repositories) }
 {
     if !is_allowed && !repositories.is_empty() {
         return Err(Refused::Refusal(Refusal::Untrusted));

@@ -5,7 +5,7 @@ ghost use Rattle.change_inputs.specs.Answers.{AgreesUnlessDisk};
 ghost use Rattle.change_inputs.specs.Inputs.{database_for};
 ghost use Rattle.change_inputs.specs.Seen.{installed_seen};
 ghost use Rattle.db_core.specs.Seen.{packages_of};
-ghost use Rattle.package_files.specs.Runs.{Explains};
+ghost use Rattle.package_files.specs.Runs.{IsExplainedBySomeReads};
 ghost use Rattle.std.specs.Prelude.{◌≡◌, IfOk};
 
 use crate::database::DatabaseFile;
@@ -38,7 +38,7 @@ impl Installed {
     ) -> Result<Installed, Refused>
         // It is the database of some contents at each read: of the tree's, if its files are
         // observable.
-        ensures found { Explains (T.history tree.old) (λ read.
+        ensures found { IsExplainedBySomeReads (T.history tree.old) (λ read.
             AgreesUnlessDisk installed_seen result (database_for command.now read)) }
         // The tree is only read; a fault of it has its cause.
         ensures tree { OnlyReads Refused.Disk (T.history tree.old) (T.history tree.new)

@@ -3,11 +3,11 @@
 //! candidates in `docs/selection.md`, "What there is to choose from".
 ghost use Rattle.base_core.specs.Read.{OnlyReads};
 ghost use Rattle.change_inputs.specs.Answers.{Agrees, AgreesUnlessDisk};
-ghost use Rattle.change_inputs.specs.Candidates.{candidates_from, candidates_of, root_pool};
+ghost use Rattle.change_inputs.specs.Candidates.{candidates_of_repositories_from, candidates_of, root_pool};
 ghost use Rattle.change_inputs.specs.Inputs.{inputs_of};
 ghost use Rattle.change_inputs.specs.RootFiles.{AreInTreeAsRoot};
 ghost use Rattle.db_core.specs.Seen.{packages_of};
-ghost use Rattle.package_files.specs.Runs.{Explains};
+ghost use Rattle.package_files.specs.Runs.{IsExplainedBySomeReads};
 ghost use Rattle.pool_core.specs.candidate_core.declared.candidate_list.TheConstants.{MOST_CANDIDATES};
 ghost use Rattle.pool_core.specs.candidate_core.Values.{IsPoolFault, names_upgraded_by};
 ghost use Rattle.std.specs.Option.{option_copied};
@@ -50,7 +50,7 @@ impl Loaded {
     pub fn read<T: Tree>(alloc: Global, command: &Command, tree: &mut T) -> Result<Loaded, Refused>
         // The inputs are those of some contents at each read: of the tree's, if its files are
         // observable.
-        ensures found { Explains (T.history tree.old) (λ read.
+        ensures found { IsExplainedBySomeReads (T.history tree.old) (λ read.
             AgreesUnlessDisk inputs_seen result (inputs_of command.now read)) }
         // The tree is only read; a fault of it has its cause.
         ensures tree { OnlyReads Refused.Disk (T.history tree.old) (T.history tree.new)
@@ -70,7 +70,7 @@ impl Loaded {
         tree: &mut T,
     ) -> Result<Loaded, Refused>
         requires { AreInTreeAsRoot (T.history tree.old) files }
-        ensures found { Explains (T.history tree.old) (λ read.
+        ensures found { IsExplainedBySomeReads (T.history tree.old) (λ read.
             AgreesUnlessDisk inputs_seen result (inputs_of command.now read)) }
         ensures tree { OnlyReads Refused.Disk (T.history tree.old) (T.history tree.new)
             (T.counts tree.old) (T.counts tree.new) result }
@@ -172,10 +172,10 @@ impl Loaded {
         ensures fits { OnOk result (length pool.new ≤ MOST_CANDIDATES) }
         // The pool has the packages of each index then, repository by repository.
         ensures ok { OnOk result (pool.new
-            ≡ candidates_from 1 self.entry.now.root.repositories
+            ≡ candidates_of_repositories_from 1 self.entry.now.root.repositories
             (indexes_seen self.entry.now.indexes)) }
         ensures fault { IfErr result (λ fault. IsPoolFault fault (length
-            (candidates_from 1 self.entry.now.root.repositories
+            (candidates_of_repositories_from 1 self.entry.now.root.repositories
             (indexes_seen self.entry.now.indexes)))) }
     {
         for i in 0..self.indexes.len() {

@@ -3,7 +3,7 @@
 //! `del`", what is read and refused.
 
 ghost use Rattle.base_core.specs.Read.{OnlyReads, bytes_in};
-ghost use Rattle.change_inputs.specs.Answers.{Agrees, IsFailure, IsInTreeAt};
+ghost use Rattle.change_inputs.specs.Answers.{Agrees, IsDiskOrMemoryFailure, IsFileFoundInTree};
 ghost use Rattle.change_inputs.specs.Inputs.{root_found, Inputs, first_index_read, inputs_of};
 ghost use Rattle.change_inputs.specs.RootFiles.{AreInTreeAsRoot};
 ghost use Rattle.change_inputs.specs.Seen.{root_seen};
@@ -57,7 +57,7 @@ pub(crate) fn read_root<T: Tree>(alloc: Global, tree: &mut T) -> Result<RootFile
     // If the tree's files are observable, each is the one under its name.
     ensures found { IfOk result (λ files. AreInTreeAsRoot (T.history tree.old) files) }
     // Nothing is refused here.
-    ensures failed { IfErr result IsFailure }
+    ensures failed { IfErr result IsDiskOrMemoryFailure }
     // The tree is only read; a fault of it has its cause.
     ensures tree { OnlyReads Refused.Disk (T.history tree.old) (T.history tree.new)
         (T.counts tree.old) (T.counts tree.new) result }
@@ -84,12 +84,12 @@ pub(crate) fn read_databases<T: Tree>(
 ) -> Result<(Option<Vec<u8>>, Option<Vec<u8>>), Refused>
     // If the tree's files are observable, the database is there.
     ensures database { IfOk result (λ found.
-        IsInTreeAt (T.history tree.old) database_name (bytes_in found.0)) }
+        IsFileFoundInTree (T.history tree.old) database_name (bytes_in found.0)) }
     // So does the text database, which counts only if there is no other.
     ensures text_database { IfOk result (λ found. bytes_in found.0 ≡ None
-        → IsInTreeAt (T.history tree.old) text_database_name (bytes_in found.1)) }
+        → IsFileFoundInTree (T.history tree.old) text_database_name (bytes_in found.1)) }
     // Nothing is refused here.
-    ensures failed { IfErr result IsFailure }
+    ensures failed { IfErr result IsDiskOrMemoryFailure }
     ensures tree { OnlyReads Refused.Disk (T.history tree.old) (T.history tree.new)
         (T.counts tree.old) (T.counts tree.new) result }
 {
@@ -144,9 +144,9 @@ pub(crate) fn read_file<T: Tree>(
 ) -> Result<Option<Vec<u8>>, Refused>
     // If the tree's files are observable, it is the one there.
     ensures found { IfOk result (λ found.
-        IsInTreeAt (T.history tree.old) name.now (bytes_in found)) }
+        IsFileFoundInTree (T.history tree.old) name.now (bytes_in found)) }
     // Nothing is refused here.
-    ensures failed { IfErr result IsFailure }
+    ensures failed { IfErr result IsDiskOrMemoryFailure }
     ensures tree { OnlyReads Refused.Disk (T.history tree.old) (T.history tree.new)
         (T.counts tree.old) (T.counts tree.new) result }
 {

@@ -2,7 +2,7 @@
 //! `docs/commands.md`, "`add` and `del`".
 ghost use Rattle.base_core.specs.Read.{bytes_in};
 ghost use Rattle.change_inputs.specs.Answers.{Agrees};
-ghost use Rattle.change_inputs.specs.World.{new_world, operand_texts, root_world, text_found, world_with_operand, world_with_operands, world_without_operands};
+ghost use Rattle.change_inputs.specs.World.{new_world, operand_texts, root_world, found_text_or_empty, world_with_operand, world_with_operands, world_without_operands};
 ghost use Rattle.change_inputs.specs.WorldRest.{world_without_names};
 ghost use Rattle.std.specs.Prelude.{◌≡◌, [], IfOk, OnOk};
 
@@ -41,14 +41,14 @@ pub(crate) fn worlds_of(
 ) -> Result<Worlds, Refused>
     // World before the command is that of the file, or its first bad line is refused.
     ensures read { Agrees (λ worlds. worlds.before) result
-        (root_world (text_found (bytes_in found))) }
+        (root_world (found_text_or_empty (bytes_in found))) }
     // The file's text is kept: with it a change finds out whether world differs.
-    ensures text { IfOk result (λ worlds. worlds.text.items ≡ text_found (bytes_in found)) }
+    ensures text { IfOk result (λ worlds. worlds.text.items ≡ found_text_or_empty (bytes_in found)) }
     // World after is what the command makes of it.
     ensures after { IfOk result (λ worlds.
         worlds.after ≡ new_world command.now.applet command.now.operands worlds.before) }
 {
-    let text = text_found(alloc, found);
+    let text = found_text_or_empty(alloc, found);
     let before = read_world(alloc, &text)?;
     let mut after = read_world(alloc, &text)?;
     change_world(alloc, command, &mut after)?;
@@ -60,8 +60,8 @@ pub(crate) fn worlds_of(
 }
 
 /// The bytes of world's file or of the repositories'; one that is absent counts as empty.
-pub(crate) fn text_found(alloc: Global, found: Option<Vec<u8>>) -> Vec<u8>
-    ensures { result.items ≡ text_found (bytes_in found) }
+pub(crate) fn found_text_or_empty(alloc: Global, found: Option<Vec<u8>>) -> Vec<u8>
+    ensures { result.items ≡ found_text_or_empty (bytes_in found) }
 {
     match found {
         Some(text) => text,

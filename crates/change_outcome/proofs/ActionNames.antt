@@ -9,7 +9,7 @@ use Rattle.base_core.specs.Files.{Files}
 use Rattle.base_core.proofs.Rising.{IsIn, contains_from_in, in_from_contains}
 use Rattle.base_core.proofs.Listed.{in_both}
 use Rattle.package_changes.specs.change_files.FileChange.{FileChange}
-use Rattle.package_changes.specs.change_files.FilesAfter.{RootFilesAfter, database_name, is_removed, is_written, text_database_name, world_name, written_as}
+use Rattle.package_changes.specs.change_files.FilesAfter.{RootFilesAfter, database_name, is_removed, is_written, text_database_name, world_name, listing_written_under_name}
 use Rattle.package_changes.specs.change_files.PlanLists.{removals_of, file_writes_of}
 use Rattle.package_changes.proofs.change_files.InOrder.{from_order, in_left, in_order, in_right, order_rises}
 use Rattle.package_changes.proofs.change_files.LeftOver.{removed_unreserved}
@@ -17,7 +17,7 @@ use Rattle.package_changes.proofs.change_files.Lists.{any_name}
 use Rattle.package_changes.proofs.change_files.PlanNames.{removals_hold, written_or_removed, writes_hold, some_listing}
 use Rattle.package_changes.proofs.change_files.Reserved.{written_unreserved}
 use Rattle.change_inputs.specs.Inputs.{Inputs}
-use Rattle.change_outcome.specs.ChangeOutcome.{actions_of, is_other_file, name_if_needed, written_records}
+use Rattle.change_outcome.specs.ChangeOutcome.{actions_of, is_absent_or_different, name_if_needed, written_record_names}
 use Rattle.journal_core.specs.journal_intent.FreeNames.{HasFreeNames, IsNoneOf, IsOneOf}
 use Rattle.journal_core.specs.journal_intent.Intent.{Intent}
 use Rattle.journal_core.specs.journal_intent.IntentValue.{intent_of_lists}
@@ -44,13 +44,13 @@ module _ (inputs : Inputs) (change : FileChange) (files : Files) (records : Root
   plan_writes = map (λ w. w.name) (file_writes_of change files)
 
   abbrev database_write : List (List ℕ)
-  database_write = name_if_needed (is_other_file inputs.root.database.file records.database) database_name
+  database_write = name_if_needed (is_absent_or_different inputs.root.database.file records.database) database_name
 
   abbrev world_write : List (List ℕ)
   world_write = name_if_needed (not (bytes_eq inputs.root.world_text records.world)) world_name
 
   abbrev own_writes : List (List ℕ)
-  own_writes = written_records inputs records
+  own_writes = written_record_names inputs records
 
   abbrev text_removal : List (List ℕ)
   text_removal = name_if_needed records.takes_text_over text_database_name
@@ -92,13 +92,13 @@ module _ (inputs : Inputs) (change : FileChange) (files : Files) (records : Root
   pub database_and_world_names : (q : List ℕ) → IsIn q own_writes → (q ≡ database_name) ⊎ (q ≡ world_name)
   database_and_world_names q here =
       elim (in_both q database_write world_write here) [
-        | inl database ↦ inl (needed (is_other_file inputs.root.database.file records.database) database_name q database).0
+        | inl database ↦ inl (needed (is_absent_or_different inputs.root.database.file records.database) database_name q database).0
         | inr world ↦ inr (needed (not (bytes_eq inputs.root.world_text records.world)) world_name q world).0
       ]
 
   module _ (free : HasNoReservedPath change) where
     pub written_free : (q : List ℕ) → is_written change files q ≡ true → is_reserved q ≡ false
-    written_free q written = let l = some_listing (written_as change files q) written in written_unreserved change files q l.0 free.coming l.1
+    written_free q written = let l = some_listing (listing_written_under_name change files q) written in written_unreserved change files q l.0 free.coming l.1
 
     pub removed_free : (q : List ℕ) → is_removed change files q ≡ true → is_reserved q ≡ false
     removed_free q removed = removed_unreserved change files q free.before removed

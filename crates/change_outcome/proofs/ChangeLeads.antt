@@ -11,15 +11,15 @@ use Rattle.base_core.proofs.Rising.{IsIn}
 use Rattle.base_core.proofs.Listed.{in_both}
 use Rattle.base_core.proofs.AtName.{name_cases}
 use Rattle.package_changes.specs.change_files.FileChange.{FileChange}
-use Rattle.package_changes.specs.change_files.FilesAfter.{RootFilesAfter, bytes_after, changed_files, database_name, is_removed, is_written, text_database_name, world_bytes_after, world_name, written_as}
+use Rattle.package_changes.specs.change_files.FilesAfter.{RootFilesAfter, bytes_after, changed_files, database_name, is_removed, is_written, text_database_name, world_bytes_after, world_name, listing_written_under_name}
 use Rattle.package_changes.specs.change_files.Touched.{is_record_name}
 use Rattle.package_changes.proofs.change_files.InOrder.{in_left, in_right}
 use Rattle.package_changes.proofs.change_files.RecordNames.{database_after, no_text_after, world_after}
 use Rattle.package_changes.proofs.change_files.Reserved.{records_reserved}
 use Rattle.package_changes.proofs.change_files.Untouched.{changed_so, is_gone, takes_its_path, not_some}
 use Rattle.change_inputs.specs.Inputs.{Inputs}
-use Rattle.change_inputs.specs.World.{text_found}
-use Rattle.change_outcome.specs.ChangeOutcome.{actions_of, does_something, is_other_file, name_if_needed, new_records, written_records}
+use Rattle.change_inputs.specs.World.{found_text_or_empty}
+use Rattle.change_outcome.specs.ChangeOutcome.{actions_of, has_actions, is_absent_or_different, name_if_needed, new_records, written_record_names}
 use Rattle.db_write.specs.db_core.Members.{Listing}
 use Rattle.journal_core.specs.Staged.{IsEmptyStage}
 use Rattle.journal_core.specs.journal_intent.FreeNames.{IsNoneOf, IsOneOf}
@@ -32,19 +32,19 @@ some_there : (o : Option (List ℕ)) (bytes : List ℕ) → o ≡ Some bytes →
 some_there o bytes is = ap is_some is
 
 -- a file that is not written again has these bytes
-same_file : (o : Option (List ℕ)) (bytes : List ℕ) → is_other_file o bytes ≡ false → o ≡ Some bytes
+same_file : (o : Option (List ℕ)) (bytes : List ℕ) → is_absent_or_different o bytes ≡ false → o ≡ Some bytes
 same_file None bytes e = absurd (true≢false e)
 same_file (Some old) bytes e = ap (λ (b : List ℕ). Some b) ((bytes_eq-Decides old bytes).0 (not-false (bytes_eq old bytes) e))
 
 -- so has world
-same_world : (o : Option (List ℕ)) (world : List ℕ) → text_found o ≡ world → world_bytes_after world o ≡ o
+same_world : (o : Option (List ℕ)) (world : List ℕ) → found_text_or_empty o ≡ world → world_bytes_after world o ≡ o
 same_world None [] e = refl
 same_world None (b ∷ world) e = absurd (cc (e))
 same_world (Some old) [] e = ap (λ (b : List ℕ). Some b) (sym e)
 same_world (Some old) (b ∷ world) e = ap (λ (b : List ℕ). Some b) (sym e)
 
 -- and one that is written has something to say, or was there
-other_world : (o : Option (List ℕ)) (world text : List ℕ) → text ≡ text_found o → not (bytes_eq text world) ≡ true → (world ≢ []) ⊎ IsSome o
+other_world : (o : Option (List ℕ)) (world text : List ℕ) → text ≡ found_text_or_empty o → not (bytes_eq text world) ≡ true → (world ≢ []) ⊎ IsSome o
 other_world None [] text is other = absurd (true≢false (sym other ∙ ap (λ (t : List ℕ). not (bytes_eq t [])) is))
 other_world None (b ∷ world) text is other = inl (λ e. cc (e))
 other_world (Some old) world text is other = inr refl
@@ -57,7 +57,7 @@ module _ (inputs : Inputs) (change : FileChange) (bytes_of : Listing → List �
   actions = actions_of inputs change files records
 
   abbrev database_write : List (List ℕ)
-  database_write = name_if_needed (is_other_file inputs.root.database.file records.database) database_name
+  database_write = name_if_needed (is_absent_or_different inputs.root.database.file records.database) database_name
 
   abbrev world_write : List (List ℕ)
   world_write = name_if_needed (not (bytes_eq inputs.root.world_text records.world)) world_name
@@ -67,17 +67,17 @@ module _ (inputs : Inputs) (change : FileChange) (bytes_of : Listing → List �
 
   -- ---- all else stays
 
-  kept_database : (q : List ℕ) → (IsIn q (written_records inputs records) → ⊥) → q ≡ database_name → after q ≡ files q
+  kept_database : (q : List ℕ) → (IsIn q (written_record_names inputs records) → ⊥) → q ≡ database_name → after q ≡ files q
   kept_database q none is =
       ap after is ∙ (database_after change bytes_of records files
-      ∙ (sym (sym root.database ∙ same_file inputs.root.database.file records.database (false_from_ne_true (is_other_file inputs.root.database.file records.database) (λ other. none (in_left q database_write world_write (if_needed (is_other_file inputs.root.database.file records.database) database_name q is other)))))
+      ∙ (sym (sym root.database ∙ same_file inputs.root.database.file records.database (false_from_ne_true (is_absent_or_different inputs.root.database.file records.database) (λ other. none (in_left q database_write world_write (if_needed (is_absent_or_different inputs.root.database.file records.database) database_name q is other)))))
       ∙ sym (ap files is)))
 
   world_by : after world_name ≡ world_bytes_after records.world (files world_name)
   unfolding changed_files
   world_by = refl
 
-  kept_world : (q : List ℕ) → (IsIn q (written_records inputs records) → ⊥) → q ≡ world_name → after q ≡ files q
+  kept_world : (q : List ℕ) → (IsIn q (written_record_names inputs records) → ⊥) → q ≡ world_name → after q ≡ files q
   kept_world q none is =
       ap after is ∙ (world_by
       ∙ (same_world (files world_name) records.world (sym root.world ∙ (bytes_eq-Decides inputs.root.world_text records.world).0 (same (bytes_eq inputs.root.world_text records.world) refl))
@@ -90,7 +90,7 @@ module _ (inputs : Inputs) (change : FileChange) (bytes_of : Listing → List �
   kept_other : (q : List ℕ) → is_record_name records q ≡ false → is_written change files q ≡ false → is_removed change files q ≡ false → after q ≡ files q
   kept_other q other unwritten stays =
       changed_so change bytes_of records files q other
-      ∙ (ap (λ (o : Option Listing). bytes_after bytes_of o (is_removed change files q) (files q)) (not_some (written_as change files q) unwritten)
+      ∙ (ap (λ (o : Option Listing). bytes_after bytes_of o (is_removed change files q) (files q)) (not_some (listing_written_under_name change files q) unwritten)
       ∙ ap (λ (b : Bool). bytes_after bytes_of None b (files q)) stays)
 
   kept_by : (q : List ℕ) → (q ≡ text_database_name → records.takes_text_over ≡ true → ⊥) → bytes_eq q database_name ≡ false → bytes_eq q world_name ≡ false → is_record_name records q ≡ false
@@ -118,7 +118,7 @@ module _ (inputs : Inputs) (change : FileChange) (bytes_of : Listing → List �
   no_names [] e = refl
   no_names (x ∷ xs) e = absurd (let none : suc (length xs) ≡ 0 = eqb-true (suc (length xs)) 0 (not-false (suc (length xs) == 0) e) in omega (arith, none))
 
-  pub does_nothing : does_something actions ≡ false → after ≡ files
+  pub does_nothing : has_actions actions ≡ false → after ≡ files
   does_nothing nothing i q =
       let parts = or_parts (not (length actions.removals == 0)) (not (length actions.writes == 0)) nothing in
       keeps q (ap (λ (names : List (List ℕ)). list_any (bytes_eq q) names) (no_names actions.removals parts.0)) (ap (λ (names : List (List ℕ)). list_any (bytes_eq q) names) (no_names actions.writes parts.1)) i
@@ -130,17 +130,17 @@ module _ (inputs : Inputs) (change : FileChange) (bytes_of : Listing → List �
     -- ---- what is written is there
 
     written_there : (q : List ℕ) → is_written change files q ≡ true → IsSome (after q)
-    written_there q written = by_listing (written_as change files q) refl written
+    written_there q written = by_listing (listing_written_under_name change files q) refl written
       where
-        by_listing : (o : Option Listing) → written_as change files q ≡ o → is_some o ≡ true → IsSome (after q)
+        by_listing : (o : Option Listing) → listing_written_under_name change files q ≡ o → is_some o ≡ true → IsSome (after q)
         by_listing None is e = absurd (true≢false (sym e))
         by_listing (Some l) is e =
             some_there (after q) (bytes_of l) (takes_its_path change bytes_of records files q l is (unreserved_no_record q (written_free inputs change files records free q written)))
 
-    record_there : (q : List ℕ) → IsIn q (written_records inputs records) → IsSome (after q)
+    record_there : (q : List ℕ) → IsIn q (written_record_names inputs records) → IsSome (after q)
     record_there q here =
         elim (in_both q database_write world_write here) [
-          | inl own ↦ (let is = needed (is_other_file inputs.root.database.file records.database) database_name q own in some_there (after q) records.database (ap after is.0 ∙ database_after change bytes_of records files))
+          | inl own ↦ (let is = needed (is_absent_or_different inputs.root.database.file records.database) database_name q own in some_there (after q) records.database (ap after is.0 ∙ database_after change bytes_of records files))
           | inr own ↦ (let is = needed (not (bytes_eq inputs.root.world_text records.world)) world_name q own in
               some_there (after q) records.world (ap after is.0 ∙ world_after change bytes_of records files (other_world (files world_name) records.world inputs.root.world_text root.world is.1)))
         ]

@@ -3,7 +3,7 @@ use Rattle.std.proofs.Common.{◌≡◌, inl, inr, ◌&&◌, ◌<◌, ℕ, zero,
 use Rattle.std.specs.Prelude.{not}
 use Rattle.std.specs.Str.{bytes_eq}
 use Rattle.db_write.specs.adb_schema.Reserved.{is_intent_or_stage_name}
-use Rattle.db_write.specs.adb_schema.Rules.{is_change_name}
+use Rattle.db_write.specs.adb_schema.Rules.{is_changeable_name}
 use Rattle.base_core.specs.Files.{Files}
 use Rattle.base_core.specs.Name.{IsName, is_name}
 use Rattle.base_core.proofs.Rising.{IsIn, Rises, in_at, order, not_itself}
@@ -71,7 +71,7 @@ module _ (inputs : Inputs) (change : FileChange) (files : Files) (records : Root
   actions = actions_of inputs change files records
 
   module _ (removals_named : All IsName actions.removals) (writes_named : All IsName actions.writes) where
-    one_change_name : (q : List ℕ) → IsIn q (actions.removals ++ actions.writes) → is_change_name q ≡ true
+    one_change_name : (q : List ℕ) → IsIn q (actions.removals ++ actions.writes) → is_changeable_name q ≡ true
     one_change_name q here =
         elim (in_both q actions.removals actions.writes here) [
           | inl gone ↦ both_true (is_name q) (is_intent_or_stage_name q) (in_all IsName actions.removals removals_named q gone) (removal_outside inputs change files records free q (any_name q actions.removals gone))
@@ -80,7 +80,7 @@ module _ (inputs : Inputs) (change : FileChange) (files : Files) (records : Root
 
     pub change_names : AreChangeNames (actions.removals ++ actions.writes)
     change_names = record {
-      each = all_by (λ name. is_change_name name ≡ true) (actions.removals ++ actions.writes) one_change_name;
+      each = all_by (λ name. is_changeable_name name ≡ true) (actions.removals ++ actions.writes) one_change_name;
       once = pairs_apart (actions.removals ++ actions.writes)
           (apart_both actions.removals actions.writes (apart_rising actions.removals (order_rises _)) (apart_rising actions.writes (order_rises _))
           (λ q gone wrote. never_both inputs change files records free q (any_name q actions.writes wrote) (any_name q actions.removals gone)));

@@ -6,15 +6,15 @@ use Rattle.std.specs.List.{list_any}
 use Rattle.std.proofs.lemmas.Bool.{and_parts, eq-eqb, eqb-true, or_cases}
 use Rattle.base_core.specs.Files.{Files, IsFolderOf, HasNamesAmong}
 use Rattle.base_core.proofs.Rising.{IsIn}
-use Rattle.package_changes.specs.change_files.Fate.{aside_name}
+use Rattle.package_changes.specs.change_files.Fate.{apk_new_name}
 use Rattle.package_changes.specs.change_files.FileChange.{FileChange}
-use Rattle.package_changes.specs.change_files.FilesAfter.{database_name, aside_claim_at, path_beside, world_name}
+use Rattle.package_changes.specs.change_files.FilesAfter.{database_name, apk_new_listing_at, path_of_apk_new_name, world_name}
 use Rattle.package_changes.specs.change_files.NamesAfter.{added_paths, counts_as_written, name_change}
 use Rattle.package_changes.proofs.change_files.InOrder.{in_left, in_map, in_right}
 use Rattle.package_changes.proofs.change_files.OwnedFiles.{aside_found, beside_is, in_coming_paths}
 use Rattle.db_write.specs.db_core.Members.{Listing}
 use Rattle.package_changes.specs.path_clashes.Clash.{IsClash, NameChange, NamePair, is_name_after, precedes_pair}
-use Rattle.package_changes.specs.path_clashes.FirstClash.{IsClashOf}
+use Rattle.package_changes.specs.path_clashes.FirstClash.{IsFirstClashOrNone}
 use Rattle.package_changes.specs.path_clashes.NearName.{IsClashIfSome, IsNoEarlierClash}
 use Rattle.package_changes.proofs.path_clashes.PairOrder.{pairs_chain, pairs_one_way}
 use Rattle.change_outcome.proofs.FreeNames.{name_of_any}
@@ -155,50 +155,50 @@ in_all_pairs p q (x ∷ paths) names (inl is) there =
     among_left (record { path = p; other = q }) (pairs_with x names) (all_pairs paths names) (subst (λ (y : List ℕ). IsAmongPairs (record { path = p; other = q }) (pairs_with y names)) is (in_pairs_with p q names there))
 in_all_pairs p q (x ∷ paths) names (inr more) there = among_right (record { path = p; other = q }) (pairs_with x names) (all_pairs paths names) (in_all_pairs p q paths names more there)
 
-first_of_all : (change : NameChange) (files : Files) (names : List (List ℕ)) → ((q : List ℕ) → is_name_after change files q ≡ true → IsIn q names) → (found : Option NamePair) × IsClashOf change files found
+first_of_all : (change : NameChange) (files : Files) (names : List (List ℕ)) → ((q : List ℕ) → is_name_after change files q ≡ true → IsIn q names) → (found : Option NamePair) × IsFirstClashOrNone change files found
 first_of_all change files names all = by_found (first_among change files (all_pairs names names))
   where
     at_pair : (pair : NamePair) → IsClash change files pair → IsAmongPairs pair (all_pairs names names)
     at_pair pair clash = in_all_pairs pair.path pair.other names names (all pair.path clash.path_after) (all pair.other clash.other_after)
 
     by_option : (found : Option NamePair) → IsClashIfSome change files found → ((other : NamePair) → IsAmongPairs other (all_pairs names names) → IsNoEarlierClash change files found other)
-        → (found : Option NamePair) × IsClashOf change files found
+        → (found : Option NamePair) × IsFirstClashOrNone change files found
     by_option None is_one first = (None, λ pair clash. first pair (at_pair pair clash) clash)
     by_option (Some f) is_one first = (Some f, record { is_one = is_one; first = λ other clash before. true_false (sym before ∙ first other (at_pair other clash) clash) })
 
-    by_found : FirstAmong change files (all_pairs names names) → (found : Option NamePair) × IsClashOf change files found
+    by_found : FirstAmong change files (all_pairs names names) → (found : Option NamePair) × IsFirstClashOrNone change files found
     by_found among = by_option among.found among.is_one among.first
 
 -- ---- of a change of files
 
 module _ (change : FileChange) (files : Files) (within : List (List ℕ)) (finite : HasNamesAmong within files) where
   abbrev names : List (List ℕ)
-  names = within ++ (database_name ∷ world_name ∷ (added_paths change.members ++ map aside_name (added_paths change.members)))
+  names = within ++ (database_name ∷ world_name ∷ (added_paths change.members ++ map apk_new_name (added_paths change.members)))
 
   abbrev written : List (List ℕ)
-  written = database_name ∷ world_name ∷ (added_paths change.members ++ map aside_name (added_paths change.members))
+  written = database_name ∷ world_name ∷ (added_paths change.members ++ map apk_new_name (added_paths change.members))
 
   listed_in : (q : List ℕ) → IsIn q (database_name ∷ world_name ∷ added_paths change.members) → IsIn q written
   listed_in q (inl is) = inl is
   listed_in q (inr (inl is)) = inr (inl is)
-  listed_in q (inr (inr path)) = inr (inr (in_left q (added_paths change.members) (map aside_name (added_paths change.members)) path))
+  listed_in q (inr (inr path)) = inr (inr (in_left q (added_paths change.members) (map apk_new_name (added_paths change.members)) path))
 
-  beside_in : (q : List ℕ) (path : Option (List ℕ)) → path_beside q ≡ path → is_some (option_and_then (aside_claim_at change files) path) ≡ true → IsIn q written
+  beside_in : (q : List ℕ) (path : Option (List ℕ)) → path_of_apk_new_name q ≡ path → is_some (option_and_then (apk_new_listing_at change files) path) ≡ true → IsIn q written
   beside_in q None is e = absurd (true≢false (sym e))
-  beside_in q (Some p) is e = by_listing (aside_claim_at change files p) refl e
+  beside_in q (Some p) is e = by_listing (apk_new_listing_at change files p) refl e
     where
-      by_listing : (o : Option Listing) → aside_claim_at change files p ≡ o → is_some o ≡ true → IsIn q written
+      by_listing : (o : Option Listing) → apk_new_listing_at change files p ≡ o → is_some o ≡ true → IsIn q written
       by_listing None laid e = absurd (true≢false (sym e))
       by_listing (Some l) laid e =
-          inr (inr (in_right q (added_paths change.members) (map aside_name (added_paths change.members))
-          (subst (λ (x : List ℕ). IsIn x (map aside_name (added_paths change.members))) (sym (beside_is q p is)) (in_map aside_name p (added_paths change.members) (in_coming_paths change p l (aside_found change files p l laid).0)))))
+          inr (inr (in_right q (added_paths change.members) (map apk_new_name (added_paths change.members))
+          (subst (λ (x : List ℕ). IsIn x (map apk_new_name (added_paths change.members))) (sym (beside_is q p is)) (in_map apk_new_name p (added_paths change.members) (in_coming_paths change p l (aside_found change files p l laid).0)))))
 
   counted_in : (q : List ℕ) → counts_as_written change files q ≡ true → IsIn q written
   unfolding counts_as_written
   counted_in q counts =
-      elim (or_cases (list_any (bytes_eq q) (database_name ∷ world_name ∷ added_paths change.members)) (is_some (option_and_then (aside_claim_at change files) (path_beside q))) counts) [
+      elim (or_cases (list_any (bytes_eq q) (database_name ∷ world_name ∷ added_paths change.members)) (is_some (option_and_then (apk_new_listing_at change files) (path_of_apk_new_name q))) counts) [
         | inl listed ↦ listed_in q (name_of_any q (database_name ∷ world_name ∷ added_paths change.members) listed)
-        | inr beside ↦ beside_in q (path_beside q) refl beside
+        | inr beside ↦ beside_in q (path_of_apk_new_name q) refl beside
       ]
 
   after_in : (q : List ℕ) → is_name_after (name_change change files) files q ≡ true → IsIn q names
@@ -208,5 +208,5 @@ module _ (change : FileChange) (files : Files) (within : List (List ℕ)) (finit
         | inr counts ↦ in_right q within written (counted_in q counts)
       ]
 
-  pub clash_exists : (found : Option NamePair) × IsClashOf (name_change change files) files found
+  pub clash_exists : (found : Option NamePair) × IsFirstClashOrNone (name_change change files) files found
   clash_exists = first_of_all (name_change change files) files names after_in

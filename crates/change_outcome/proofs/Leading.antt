@@ -4,15 +4,15 @@ use Rattle.std.specs.Prelude.{IsSome, unwrap_or}
 use Rattle.std.specs.Str.{bytes_eq}
 use Rattle.std.specs.List.{list_any}
 use Rattle.base_core.specs.Files.{Files, put_name}
-use Rattle.journal_core.specs.Recovery.{after_actions, is_staged, stage_name}
-use Rattle.journal_core.specs.Staged.{with_staged}
+use Rattle.journal_core.specs.Recovery.{files_after_actions, is_staged, stage_name}
+use Rattle.journal_core.specs.Staged.{files_with_staged}
 use Rattle.journal_core.proofs.Contents.{own_bytes, removed_absent, untouched_others}
 use Rattle.journal_core.proofs.Acts.{among_index}
 use Rattle.journal_core.proofs.journal_intent.AtName.{put_name-off}
 use Rattle.journal_core.proofs.journal_intent.StageNames.{stage_name_staged}
 use Rattle.journal_core.specs.journal_intent.FreeNames.{IsNoneOf, IsOneOf}
 use Rattle.journal_core.specs.journal_intent.IntentValue.{intent_of_lists}
-use Rattle.change_outcome.specs.ChangeOutcome.{bytes_under}
+use Rattle.change_outcome.specs.ChangeOutcome.{bytes_or_empty_under}
 use Rattle.change_outcome.specs.Leading.{LeadsTo}
 use Rattle.change_outcome.proofs.Emptied.{acted_empty}
 
@@ -35,36 +35,36 @@ unwrapped (Some bytes) there = refl
 apart_shown : (q : List ℕ) (k : ℕ) → is_staged q ≡ false → q ≢ stage_name k
 apart_shown q k shown is = true_false (sym (stage_name_staged k) ∙ (sym (ap is_staged is) ∙ shown))
 
-staged_off : (cs : List (List ℕ)) (k : ℕ) (F : Files) (q : List ℕ) → is_staged q ≡ false → with_staged k cs F q ≡ F q
+staged_off : (cs : List (List ℕ)) (k : ℕ) (F : Files) (q : List ℕ) → is_staged q ≡ false → files_with_staged k cs F q ≡ F q
 staged_off [] k F q shown = refl
 staged_off (c ∷ cs) k F q shown = staged_off cs (k + 1) (put_name F (stage_name k) c) q shown ∙ put_name-off F (stage_name k) c q (apart_shown q k shown)
 
 module _ (removals writes : List (List ℕ)) (files after : Files) (leads : LeadsTo removals writes files after) where
   abbrev contents : List (List ℕ)
-  contents = map (bytes_under after) writes
+  contents = map (bytes_or_empty_under after) writes
 
   abbrev acted : Files
-  acted = after_actions (intent_of_lists removals writes) (with_staged 1 contents files)
+  acted = files_after_actions (intent_of_lists removals writes) (files_with_staged 1 contents files)
 
   written : (q : List ℕ) → IsOneOf q writes → acted q ≡ after q
   written q among =
       let place = among_index writes q among in
-      own_bytes removals writes contents files place.0 q (bytes_under after q) leads.free (length_map (bytes_under after) writes) leads.few place.1 (map_at (bytes_under after) writes place.0 q place.1)
+      own_bytes removals writes contents files place.0 q (bytes_or_empty_under after q) leads.free (length_map (bytes_or_empty_under after) writes) leads.few place.1 (map_at (bytes_or_empty_under after) writes place.0 q place.1)
       ∙ unwrapped (after q) (leads.gives q among)
 
-  unplaced : (q : List ℕ) → is_staged q ≡ false → with_staged 1 contents files q ≡ files q
+  unplaced : (q : List ℕ) → is_staged q ≡ false → files_with_staged 1 contents files q ≡ files q
   unplaced q shown = staged_off contents 1 files q shown
 
   others : (q : List ℕ) → IsNoneOf q removals → IsNoneOf q writes → (b : Bool) → is_staged q ≡ b → acted q ≡ after q
   others q kept unwritten true staged =
-      acted_empty removals writes contents files q leads.free (length_map (bytes_under after) writes) staged (leads.empty q staged)
+      acted_empty removals writes contents files q leads.free (length_map (bytes_or_empty_under after) writes) staged (leads.empty q staged)
       ∙ sym (leads.keeps q kept unwritten ∙ leads.empty q staged)
   others q kept unwritten false shown =
-      untouched_others (intent_of_lists removals writes) (with_staged 1 contents files) q shown kept unwritten
+      untouched_others (intent_of_lists removals writes) (files_with_staged 1 contents files) q shown kept unwritten
       ∙ (unplaced q shown ∙ sym (leads.keeps q kept unwritten))
 
   unwritten_at : (q : List ℕ) → IsNoneOf q writes → (b : Bool) → list_any (bytes_eq q) removals ≡ b → acted q ≡ after q
-  unwritten_at q unwritten true among = removed_absent (intent_of_lists removals writes) (with_staged 1 contents files) q leads.free among ∙ sym (leads.removes q among)
+  unwritten_at q unwritten true among = removed_absent (intent_of_lists removals writes) (files_with_staged 1 contents files) q leads.free among ∙ sym (leads.removes q among)
   unwritten_at q unwritten false kept = others q kept unwritten (is_staged q) refl
 
   at_name : (q : List ℕ) (b : Bool) → list_any (bytes_eq q) writes ≡ b → acted q ≡ after q

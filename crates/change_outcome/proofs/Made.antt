@@ -4,15 +4,15 @@ use Rattle.db_write.specs.adb_write.Canonical.{PayloadCounts, overflow_of}
 use Rattle.base_core.specs.Files.{Files, HasNamesAmong}
 use Rattle.package_changes.specs.change_files.FileChange.{FileChange}
 use Rattle.package_changes.specs.change_files.NamesAfter.{name_change}
-use Rattle.package_changes.specs.change_files.PlanLists.{first_reserved}
+use Rattle.package_changes.specs.change_files.PlanLists.{first_reserved_path}
 use Rattle.change_inputs.specs.Chains.{and_then}
 use Rattle.change_inputs.specs.Inputs.{Inputs}
-use Rattle.change_outcome.specs.ChangeOutcome.{ChangeDone, ChangeWishes, IsClashFound, IsClashOfChange, actions_of, change_done, change_members, change_or_refusal, change_with_members, file_change, new_records, touched_paths, unless_clash, unless_contested, unless_large, unless_overflow, unless_reserved_path, unless_too_large}
+use Rattle.change_outcome.specs.ChangeOutcome.{ChangeDone, ChangeWishes, IsClashFound, IsClashOfChange, actions_of, change_done, change_members, change_or_refusal, change_with_members, file_change, new_records, touched_paths, unless_clash, unless_contested, or_result_too_large, unless_overflow, unless_reserved_path, unless_too_large}
 use Rattle.change_outcome.specs.MembersAfter.{MemberFound}
-use Rattle.change_outcome.specs.Triggers.{unless_trigger}
+use Rattle.change_outcome.specs.Triggers.{unless_trigger_due}
 use Rattle.db_write.specs.db_core.Members.{Member}
 use Rattle.db_write.specs.NewDatabase.{database_of}
-use Rattle.package_changes.specs.file_owners.Owners.{contested_of, owned_of}
+use Rattle.package_changes.specs.file_owners.Owners.{first_contested_path_of_members, owned_flags_of}
 use Rattle.journal_core.specs.Staged.{AreStagingPathsFree}
 use Rattle.journal_core.specs.journal_intent.Intent.{intent_name}
 use Rattle.journal_core.specs.journal_intent.IntentValue.{value_of_intent}
@@ -20,7 +20,7 @@ use Rattle.change_inputs.specs.make_info.Reads.{Reads}
 use Rattle.package_changes.specs.Changes.{Replacement}
 use Rattle.package_changes.specs.path_claims.Claims.{ContestedPath}
 use Rattle.package_changes.specs.path_clashes.Clash.{HasNoClash, NamePair}
-use Rattle.package_changes.specs.path_clashes.FirstClash.{IsClashOf}
+use Rattle.package_changes.specs.path_clashes.FirstClash.{IsFirstClashOrNone}
 use Rattle.package_changes.proofs.path_clashes.OneFirst.{one_first}
 use Rattle.report_core.specs.declared.refusal.Refusal.{Refusal}
 use Rattle.change_outcome.specs.Made.{IsChangeMade}
@@ -47,7 +47,7 @@ uncontested_ok : {A : Type 0} (members : List Member) (o : Option ContestedPath)
 uncontested_ok members None next a e = (refl, e)
 uncontested_ok members (Some c) next a e = absurd (cc (e))
 
-large_ok : {A : Type 0} (r : Result A PayloadCounts) (a : A) → unless_large r ≡ Ok a → r ≡ Ok a
+large_ok : {A : Type 0} (r : Result A PayloadCounts) (a : A) → or_result_too_large r ≡ Ok a → r ≡ Ok a
 large_ok (Ok x) a e = let same : x ≡ a = cc in ap (λ y. Ok y) same
 large_ok (Err counts) a e = absurd (cc (e))
 
@@ -59,14 +59,14 @@ module _ (inputs : Inputs) (r : Replacement) (wishes : ChangeWishes) (read : Rea
   with_found : (found : List MemberFound) → change_members inputs r wishes read ≡ Ok found → change_with_members inputs r wishes clash files found ≡ Ok done → IsChangeMade inputs r wishes read clash files done
   with_found found are e =
       let change : FileChange = file_change inputs wishes found in
-      let reserved = unreserved_ok (first_reserved change.members) (unless_clash clash (unless_contested change.members (contested_of change.members)
-      (and_then (unless_trigger wishes.no_scripts (touched_paths change files) change.members) (λ is_allowed. unless_too_large inputs r wishes found files)))) done e in
-      let clashes = no_clash_ok clash (unless_contested change.members (contested_of change.members)
-      (and_then (unless_trigger wishes.no_scripts (touched_paths change files) change.members) (λ is_allowed. unless_too_large inputs r wishes found files))) done reserved.1 in
-      let contested = uncontested_ok change.members (contested_of change.members)
-      (and_then (unless_trigger wishes.no_scripts (touched_paths change files) change.members) (λ is_allowed. unless_too_large inputs r wishes found files)) done clashes.1 in
-      let triggers = and_then_ok (unless_trigger wishes.no_scripts (touched_paths change files) change.members) (λ is_allowed. unless_too_large inputs r wishes found files) done contested.1 in
-      let large = and_then_ok (unless_large (database_of change.members (owned_of change.members))) (λ database.
+      let reserved = unreserved_ok (first_reserved_path change.members) (unless_clash clash (unless_contested change.members (first_contested_path_of_members change.members)
+      (and_then (unless_trigger_due wishes.no_scripts (touched_paths change files) change.members) (λ is_allowed. unless_too_large inputs r wishes found files)))) done e in
+      let clashes = no_clash_ok clash (unless_contested change.members (first_contested_path_of_members change.members)
+      (and_then (unless_trigger_due wishes.no_scripts (touched_paths change files) change.members) (λ is_allowed. unless_too_large inputs r wishes found files))) done reserved.1 in
+      let contested = uncontested_ok change.members (first_contested_path_of_members change.members)
+      (and_then (unless_trigger_due wishes.no_scripts (touched_paths change files) change.members) (λ is_allowed. unless_too_large inputs r wishes found files)) done clashes.1 in
+      let triggers = and_then_ok (unless_trigger_due wishes.no_scripts (touched_paths change files) change.members) (λ is_allowed. unless_too_large inputs r wishes found files) done contested.1 in
+      let large = and_then_ok (or_result_too_large (database_of change.members (owned_flags_of change.members))) (λ database.
       unless_overflow (overflow_of (value_of_intent (actions_of inputs change files (new_records inputs database))))
       (change_done inputs r wishes found files (new_records inputs database))) done triggers.2 in
       let over = overflow_ok (overflow_of (value_of_intent (actions_of inputs change files (new_records inputs large.0))))
@@ -78,7 +78,7 @@ module _ (inputs : Inputs) (r : Replacement) (wishes : ChangeWishes) (read : Rea
         no_clash = clashes.0;
         uncontested = contested.0;
         database = large.0;
-        new_database = large_ok (database_of change.members (owned_of change.members)) large.0 large.1;
+        new_database = large_ok (database_of change.members (owned_flags_of change.members)) large.0 large.1;
         fits = over.0;
         is = sym over.1;
       }
@@ -97,7 +97,7 @@ module _ (inputs : Inputs) (r : Replacement) (wishes : ChangeWishes) (read : Rea
   no_clash_found : (m : IsChangeMade inputs r wishes read clash files done) → IsClashOfChange inputs r wishes read files clash → HasNoClash (name_change (file_change inputs wishes m.found) files) files
   no_clash_found m clashes =
       let at : IsClashFound inputs wishes files (Ok m.found) clash = subst (λ (x : Result (List MemberFound) Refusal). IsClashFound inputs wishes files x clash) m.members clashes in
-      subst (λ (o : Option NamePair). IsClashOf (name_change (file_change inputs wishes m.found) files) files o) m.no_clash at
+      subst (λ (o : Option NamePair). IsFirstClashOrNone (name_change (file_change inputs wishes m.found) files) files o) m.no_clash at
 
   pub keeps_room : IsChangeMade inputs r wishes read clash files done → IsClashOfChange inputs r wishes read files clash → AreStagingPathsFree files → AreStagingPathsFree done.files
   keeps_room m clashes stage =

@@ -6,9 +6,9 @@ use Rattle.base_core.specs.Files.{Files}
 use Rattle.base_core.specs.declared.cause.Cause.{Cause}
 use Rattle.change_inputs.specs.Chains.{and_then, unless_cause}
 use Rattle.change_inputs.specs.Database.{Database, payload_database, root_database}
-use Rattle.change_inputs.specs.Inputs.{Inputs, Root, database_read, indexes_of, inputs_by, inputs_of, repositories_read, root_by, root_found, root_for, text_database_read, world_read}
+use Rattle.change_inputs.specs.Inputs.{Inputs, Root, database_read, indexes_of, inputs_from_parts, inputs_of, repositories_read, root_by, root_found, root_for, text_database_read, world_read}
 use Rattle.change_inputs.specs.Repositories.{root_repositories}
-use Rattle.change_inputs.specs.World.{root_world, text_found}
+use Rattle.change_inputs.specs.World.{root_world, found_text_or_empty}
 use Rattle.command_core.specs.Command.{CommandLine}
 use Rattle.dep_core.specs.Dependency.{Dependency}
 use Rattle.dep_core.specs.Repositories.{Repository}
@@ -45,20 +45,20 @@ database_file true None None database e = one_file _ database e
 database_file false None None database e = absurd (cc (e))
 
 module _ (command : CommandLine) (file text world_file repositories_file : Option (List ℕ)) (root : Root) (e : root_found command file text world_file repositories_file ≡ Ok root) where
-  pub root_records : (root.database.file ≡ file) × (root.world_text ≡ text_found world_file)
+  pub root_records : (root.database.file ≡ file) × (root.world_text ≡ found_text_or_empty world_file)
   root_records =
       let after_database : Database → Result Root Refusal = λ database.
-      and_then (root_world (text_found world_file)) (λ world.
-      and_then (root_repositories command.flags.allow_untrusted (text_found repositories_file)) (λ repositories.
-      Ok (root_by command database (text_found world_file) world repositories))) in
+      and_then (root_world (found_text_or_empty world_file)) (λ world.
+      and_then (root_repositories command.flags.allow_untrusted (found_text_or_empty repositories_file)) (λ repositories.
+      Ok (root_by command database (found_text_or_empty world_file) world repositories))) in
       let database = and_then_ok (root_database command.flags.initdb file text) after_database root e in
       let after_world : List Dependency → Result Root Refusal = λ world.
-      and_then (root_repositories command.flags.allow_untrusted (text_found repositories_file)) (λ repositories.
-      Ok (root_by command database.0 (text_found world_file) world repositories)) in
-      let world = and_then_ok (root_world (text_found world_file)) after_world root database.2 in
-      let after_repositories : List Repository → Result Root Refusal = λ repositories. Ok (root_by command database.0 (text_found world_file) world.0 repositories) in
-      let repositories = and_then_ok (root_repositories command.flags.allow_untrusted (text_found repositories_file)) after_repositories root world.2 in
-      let same : root_by command database.0 (text_found world_file) world.0 repositories.0 ≡ root = (let last = repositories.2 in cc) in (
+      and_then (root_repositories command.flags.allow_untrusted (found_text_or_empty repositories_file)) (λ repositories.
+      Ok (root_by command database.0 (found_text_or_empty world_file) world repositories)) in
+      let world = and_then_ok (root_world (found_text_or_empty world_file)) after_world root database.2 in
+      let after_repositories : List Repository → Result Root Refusal = λ repositories. Ok (root_by command database.0 (found_text_or_empty world_file) world.0 repositories) in
+      let repositories = and_then_ok (root_repositories command.flags.allow_untrusted (found_text_or_empty repositories_file)) after_repositories root world.2 in
+      let same : root_by command database.0 (found_text_or_empty world_file) world.0 repositories.0 ≡ root = (let last = repositories.2 in cc) in (
         ap (λ (x : Root). x.database.file) (sym same) ∙ database_file command.flags.initdb file text database.0 database.1,
         ap (λ (x : Root). x.world_text) (sym same),
       )
@@ -66,11 +66,11 @@ module _ (command : CommandLine) (file text world_file repositories_file : Optio
 pub root_read : (command : CommandLine) (read : Reads) (inputs : Inputs) (files : Files) → ((n : ℕ) (name : List ℕ) → read n name ≡ files name) → inputs_of command read ≡ Ok inputs → IsRootOfFiles files inputs.root
 unfolding inputs_of
 root_read command read inputs files reads e =
-    let root = and_then_ok (root_for command read) (λ root. and_then (indexes_of read root.repositories) (λ indexes. Ok (inputs_by root indexes))) inputs e in
-    let indexes = and_then_ok (indexes_of read root.0.repositories) (λ indexes. Ok (inputs_by root.0 indexes)) inputs root.2 in
-    let same : inputs_by root.0 indexes.0 ≡ inputs = (let last = indexes.2 in cc) in
+    let root = and_then_ok (root_for command read) (λ root. and_then (indexes_of read root.repositories) (λ indexes. Ok (inputs_from_parts root indexes))) inputs e in
+    let indexes = and_then_ok (indexes_of read root.0.repositories) (λ indexes. Ok (inputs_from_parts root.0 indexes)) inputs root.2 in
+    let same : inputs_from_parts root.0 indexes.0 ≡ inputs = (let last = indexes.2 in cc) in
     let records = root_records command (read database_read database_name) (read text_database_read text_database_name) (read world_read world_name) (read repositories_read repositories_name) root.0 root.1 in
     record {
       database = ap (λ (x : Inputs). x.root.database.file) (sym same) ∙ (records.0 ∙ reads database_read database_name);
-      world = ap (λ (x : Inputs). x.root.world_text) (sym same) ∙ (records.1 ∙ ap text_found (reads world_read world_name));
+      world = ap (λ (x : Inputs). x.root.world_text) (sym same) ∙ (records.1 ∙ ap found_text_or_empty (reads world_read world_name));
     }

@@ -10,10 +10,10 @@ use Rattle.db_write.specs.adb_schema.Reserved.{is_at_or_below, is_reserved}
 use Rattle.base_core.specs.Files.{Files, IsFolderOf}
 use Rattle.base_core.proofs.Rising.{IsIn}
 use Rattle.package_changes.specs.change_files.FileChange.{FileChange}
-use Rattle.package_changes.specs.change_files.FilesAfter.{RootFilesAfter, bytes_after, changed_files, database_name, is_removed, aside_claim_at, path_beside, text_database_name, world_name, written_as, written_in}
+use Rattle.package_changes.specs.change_files.FilesAfter.{RootFilesAfter, bytes_after, changed_files, database_name, is_removed, apk_new_listing_at, path_of_apk_new_name, text_database_name, world_name, listing_written_under_name, listing_written_in_place}
 use Rattle.std.specs.Option.{option_or}
 use Rattle.package_changes.specs.change_files.NamesAfter.{added_paths, counts_as_written, name_change}
-use Rattle.package_changes.specs.change_files.PlanLists.{first_reserved}
+use Rattle.package_changes.specs.change_files.PlanLists.{first_reserved_path}
 use Rattle.package_changes.specs.change_files.Touched.{is_record_name}
 use Rattle.package_changes.proofs.change_files.AfterNames.{names_after}
 use Rattle.package_changes.proofs.change_files.Reserved.{unreserved_path, written_unreserved}
@@ -80,9 +80,9 @@ below_taken p q (inr (k, is)) (rest, e) = ap is_reserved (e ∙ ap (λ (x : List
 
 -- ---- names that count as written
 
-beside_written : (change : FileChange) (files : Files) (name : List ℕ) → is_some (option_and_then (aside_claim_at change files) (path_beside name)) ≡ true → (l : Listing) × (written_as change files name ≡ Some l)
-unfolding written_as
-beside_written change files name there = by_both (written_in change files name) (option_and_then (aside_claim_at change files) (path_beside name)) there
+beside_written : (change : FileChange) (files : Files) (name : List ℕ) → is_some (option_and_then (apk_new_listing_at change files) (path_of_apk_new_name name)) ≡ true → (l : Listing) × (listing_written_under_name change files name ≡ Some l)
+unfolding listing_written_under_name
+beside_written change files name there = by_both (listing_written_in_place change files name) (option_and_then (apk_new_listing_at change files) (path_of_apk_new_name name)) there
   where
     by_both : (a b : Option Listing) → is_some b ≡ true → (l : Listing) × (option_or a b ≡ Some l)
     by_both None None e = absurd (true≢false (sym e))
@@ -90,11 +90,11 @@ beside_written change files name there = by_both (written_in change files name) 
     by_both (Some l) b e = (l, refl)
 
 -- the database, world, or a name that is not reserved
-pub counted_is : (change : FileChange) (files : Files) (name : List ℕ) → first_reserved change.members ≡ None → counts_as_written change files name ≡ true
+pub counted_is : (change : FileChange) (files : Files) (name : List ℕ) → first_reserved_path change.members ≡ None → counts_as_written change files name ≡ true
     → (name ≡ database_name) ⊎ ((name ≡ world_name) ⊎ (is_reserved name ≡ false))
 unfolding counts_as_written
 counted_is change files name none counts =
-    elim (or_cases (list_any (bytes_eq name) (database_name ∷ world_name ∷ added_paths change.members)) (is_some (option_and_then (aside_claim_at change files) (path_beside name))) counts) [
+    elim (or_cases (list_any (bytes_eq name) (database_name ∷ world_name ∷ added_paths change.members)) (is_some (option_and_then (apk_new_listing_at change files) (path_of_apk_new_name name))) counts) [
       | inl listed ↦ by_place (name_of_any name (database_name ∷ world_name ∷ added_paths change.members) listed)
       | inr beside ↦ inr (inr (let l = beside_written change files name beside in written_unreserved change files name l.0 none l.1))
     ]
@@ -160,8 +160,8 @@ intent_no_record : (records : RootFilesAfter) → is_record_name records intent_
 intent_no_record records = unlike_records (λ q. bytes_eq q intent_name) records intent_name refl refl refl refl
 
 -- a reserved name that is absent stays so
-module _ (change : FileChange) (bytes_of : Listing → List ℕ) (records : RootFilesAfter) (files : Files) (none : first_reserved change.members ≡ None) where
-  unwritten : (q : List ℕ) → is_reserved q ≡ true → (o : Option Listing) → written_as change files q ≡ o → o ≡ None
+module _ (change : FileChange) (bytes_of : Listing → List ℕ) (records : RootFilesAfter) (files : Files) (none : first_reserved_path change.members ≡ None) where
+  unwritten : (q : List ℕ) → is_reserved q ≡ true → (o : Option Listing) → listing_written_under_name change files q ≡ o → o ≡ None
   unwritten q reserved None is = refl
   unwritten q reserved (Some l) is = absurd (true≢false (sym reserved ∙ written_unreserved change files q l none is))
 
@@ -172,13 +172,13 @@ module _ (change : FileChange) (bytes_of : Listing → List ℕ) (records : Root
   reserved_absent : (q : List ℕ) → is_reserved q ≡ true → is_record_name records q ≡ false → files q ≡ None → changed_files change bytes_of records files q ≡ None
   reserved_absent q reserved other absent =
       changed_so change bytes_of records files q other
-      ∙ (ap (λ (o : Option Listing). bytes_after bytes_of o (is_removed change files q) (files q)) (unwritten q reserved (written_as change files q) refl)
+      ∙ (ap (λ (o : Option Listing). bytes_after bytes_of o (is_removed change files q) (files q)) (unwritten q reserved (listing_written_under_name change files q) refl)
       ∙ stays_absent (is_removed change files q) (files q) absent)
 
   pub no_intent : files intent_name ≡ None → changed_files change bytes_of records files intent_name ≡ None
   no_intent absent = reserved_absent intent_name refl (intent_no_record records) absent
 
-module _ (change : FileChange) (bytes_of : Listing → List ℕ) (records : RootFilesAfter) (files : Files) (none : first_reserved change.members ≡ None) (stage : AreStagingPathsFree files) (apart : HasNoClash (name_change change files) files) where
+module _ (change : FileChange) (bytes_of : Listing → List ℕ) (records : RootFilesAfter) (files : Files) (none : first_reserved_path change.members ≡ None) (stage : AreStagingPathsFree files) (apart : HasNoClash (name_change change files) files) where
   abbrev after : Files
   after = changed_files change bytes_of records files
 

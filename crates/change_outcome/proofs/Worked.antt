@@ -1,7 +1,7 @@
 -- Examples: the folder of a path, and which folders a pattern matches.
 use Rattle.std.proofs.Common.{◌≡◌, refl, true, false, ℕ, List, [], ◌∷◌, codes}
 use Rattle.adb_view.specs.Plain.{Plains, arr, blob, blob_or_null, more, none, null, obj}
-use Rattle.package_changes.specs.change_files.PlanLists.{names_in_order}
+use Rattle.package_changes.specs.change_files.PlanLists.{sorted_distinct_names}
 use Rattle.db_write.specs.db_core.Members.{Member, member_of_kept}
 use Rattle.change_outcome.specs.ConfigurationLines.{configuration_lines}
 use Rattle.change_inputs.specs.package_files.Folders.{folder_of}
@@ -112,15 +112,15 @@ man = watcher (codes "man") (codes "s") (more (blob (codes "/usr/share/man/*")) 
 
 -- two patterns match the folder of two files
 one_line : trigger_lines (codes "usr/share/man/man1/e" ∷ (codes "usr/share/man/man1/d" ∷ [])) (man ∷ []) ≡ codes "man: trigger due for usr/share/man/man1\n"
-unfolding trigger_lines is_folder_matched names_in_order watcher man
+unfolding trigger_lines is_folder_matched sorted_distinct_names watcher man
 one_line = refl
 
 -- packages in their order, and of each the folders in byte order
 lines_in_order : trigger_lines (codes "usr/share/man/man5/x" ∷ (codes "d" ∷ (codes "usr/share/man/man1/e" ∷ []))) (man ∷ (watcher (codes "top") (codes "s") (more (blob (codes "/")) none) ∷ []))
     ≡ codes "man: trigger due for usr/share/man/man1\nman: trigger due for usr/share/man/man5\ntop: trigger due for /\n"
-unfolding trigger_lines is_folder_matched names_in_order watcher man
+unfolding trigger_lines is_folder_matched sorted_distinct_names watcher man
 lines_in_order = refl
 
 no_script : trigger_lines (codes "d" ∷ []) (watcher (codes "top") [] (more (blob (codes "/")) none) ∷ []) ≡ []
-unfolding trigger_lines is_folder_matched names_in_order watcher
+unfolding trigger_lines is_folder_matched sorted_distinct_names watcher
 no_script = refl

@@ -9,28 +9,28 @@ use Rattle.base_core.specs.Files.{Files}
 use Rattle.package_changes.specs.change_files.FileChange.{FileChange}
 use Rattle.package_changes.specs.change_files.FilesAfter.{RootFilesAfter, changed_files, listing_bytes}
 use Rattle.package_changes.specs.change_files.NamesAfter.{name_change}
-use Rattle.package_changes.specs.change_files.PlanLists.{aside_of, file_writes_of, first_reserved, kept_of, names_in_order, removals_of}
+use Rattle.package_changes.specs.change_files.PlanLists.{paths_with_apk_new_file, file_writes_of, first_reserved_path, kept_paths_of, sorted_distinct_names, removals_of}
 use Rattle.change_inputs.specs.Chains.{and_then}
 use Rattle.change_inputs.specs.Inputs.{Inputs}
 use Rattle.db_write.specs.db_core.Members.{Member, member_name}
 use Rattle.db_write.specs.NewDatabase.{database_of}
 use Rattle.dep_core.specs.World.{world_text}
-use Rattle.package_changes.specs.file_owners.Owners.{contested_of, owned_of}
+use Rattle.package_changes.specs.file_owners.Owners.{first_contested_path_of_members, owned_flags_of}
 use Rattle.journal_core.specs.journal_intent.Intent.{Intent}
 use Rattle.journal_core.specs.journal_intent.IntentValue.{value_of_intent}
 use Rattle.change_inputs.specs.make_info.Reads.{Reads}
 use Rattle.package_changes.specs.Changes.{Replacement, changes_of}
-use Rattle.package_changes.specs.Report.{stay_lines}
+use Rattle.package_changes.specs.Report.{still_needed_lines}
 use Rattle.package_changes.specs.path_claims.Claims.{ContestedPath}
 use Rattle.package_changes.specs.path_clashes.Clash.{NamePair}
-use Rattle.package_changes.specs.path_clashes.FirstClash.{IsClashOf}
+use Rattle.package_changes.specs.path_clashes.FirstClash.{IsFirstClashOrNone}
 use Rattle.report_core.specs.Reports.{change_lines, report_line, sum_text}
 use Rattle.report_core.specs.declared.refusal.Refusal.{Refusal}
 use Rattle.report_core.specs.declared.refusal.Refusal.TheVariants.{Owned, PathClash, Reserved, ResultTooLarge}
 use Rattle.root_names.specs.RootNames.{database_name, text_database_name, world_name}
 use Rattle.change_outcome.specs.ConfigurationLines.{configuration_lines}
 use Rattle.change_outcome.specs.MembersAfter.{MemberFound, found_package_contents, members_after, found_members}
-use Rattle.change_outcome.specs.Triggers.{trigger_lines, unless_trigger}
+use Rattle.change_outcome.specs.Triggers.{trigger_lines, unless_trigger_due}
 
 -- the wishes of a command beside its world: whether changed configuration is removed too (`--purge`),
 -- whether scripts are left out (`--no-scripts`), and the names to be removed
@@ -60,33 +60,33 @@ unless_clash None next = next
 unless_clash (Some pair) next = Err (PathClash pair.path pair.other)
 
 -- the name of the member at a place
-abbrev pub name_at_place : List Member → ℕ → List ℕ
-name_at_place members place = option_map_or member_name (slice_get members place) []
+abbrev pub member_name_at_place : List Member → ℕ → List ℕ
+member_name_at_place members place = option_map_or member_name (slice_get members place) []
 
 -- the result that follows, unless a path has no owner; the refusal names two packages that list it
 abbrev pub unless_contested :
     {A : Type 0} → List Member → Option ContestedPath → Result A Refusal → Result A Refusal
 unless_contested members None next = next
 unless_contested members (Some c) next =
-    Err (Owned c.path (name_at_place members c.rivals.first)
-    (name_at_place members c.rivals.second))
+    Err (Owned c.path (member_name_at_place members c.rivals.first)
+    (member_name_at_place members c.rivals.second))
 
 -- ---- the database and world
 
 -- a value, unless it does not fit into a payload, which is refused with its two counts
-abbrev pub unless_large : {A : Type 0} → Result A PayloadCounts → Result A Refusal
-unless_large (Ok a) = Ok a
-unless_large (Err counts) = Err (ResultTooLarge counts.0 counts.1)
+abbrev pub or_result_too_large : {A : Type 0} → Result A PayloadCounts → Result A Refusal
+or_result_too_large (Ok a) = Ok a
+or_result_too_large (Err counts) = Err (ResultTooLarge counts.0 counts.1)
 
--- *unless_large* of a value, given only the counts
+-- *or_result_too_large* of a value, given only the counts
 abbrev pub unless_overflow : {A : Type 0} → Option PayloadCounts → A → Result A Refusal
 unless_overflow None a = Ok a
 unless_overflow (Some counts) a = Err (ResultTooLarge counts.0 counts.1)
 
 -- whether a file is absent or has other bytes, so that these are written
-abbrev pub is_other_file : Option (List ℕ) → List ℕ → Bool
-is_other_file None bytes = true
-is_other_file (Some old) bytes = not (bytes_eq old bytes)
+abbrev pub is_absent_or_different : Option (List ℕ) → List ℕ → Bool
+is_absent_or_different None bytes = true
+is_absent_or_different (Some old) bytes = not (bytes_eq old bytes)
 
 -- what the change does to the database and to world
 abbrev pub new_records : Inputs → List ℕ → RootFilesAfter
@@ -103,9 +103,9 @@ name_if_needed false name = []
 
 -- the names of the database and of world, each if it is written: world if its text differs; an absent
 -- file counts as empty
-abbrev pub written_records : Inputs → RootFilesAfter → List (List ℕ)
-written_records inputs records =
-    name_if_needed (is_other_file inputs.root.database.file records.database) database_name
+abbrev pub written_record_names : Inputs → RootFilesAfter → List (List ℕ)
+written_record_names inputs records =
+    name_if_needed (is_absent_or_different inputs.root.database.file records.database) database_name
     ++ name_if_needed (not (bytes_eq inputs.root.world_text records.world)) world_name
 
 -- ---- what is done, as two lists of names in byte order
@@ -115,20 +115,20 @@ written_records inputs records =
 -- with them, if they differ.
 abbrev pub actions_of : Inputs → FileChange → Files → RootFilesAfter → Intent
 actions_of inputs change files records = record {
-  removals = names_in_order (removals_of change files
+  removals = sorted_distinct_names (removals_of change files
       ++ name_if_needed records.takes_text_over text_database_name);
-  writes = names_in_order (map (λ w. w.name) (file_writes_of change files)
-      ++ written_records inputs records);
+  writes = sorted_distinct_names (map (λ w. w.name) (file_writes_of change files)
+      ++ written_record_names inputs records);
 }
 
 -- The bytes of a file, or none. For each write, the bytes are staged that the files afterwards have
 -- under its name.
-abbrev pub bytes_under : Files → List ℕ → List ℕ
-bytes_under files name = unwrap_or (files name) []
+abbrev pub bytes_or_empty_under : Files → List ℕ → List ℕ
+bytes_or_empty_under files name = unwrap_or (files name) []
 
 -- whether a change has actions; one without them writes nothing, not even an intent
-abbrev pub does_something : Intent → Bool
-does_something actions = not (length actions.removals == 0) || not (length actions.writes == 0)
+abbrev pub has_actions : Intent → Bool
+has_actions actions = not (length actions.removals == 0) || not (length actions.writes == 0)
 
 -- ---- the report
 
@@ -147,8 +147,8 @@ touched_paths change files = map (λ w. w.name) (file_writes_of change files) ++
 -- all lines of a report, in their order
 abbrev pub change_report : Replacement → ChangeWishes → FileChange → Files → List ℕ
 change_report r wishes change files =
-    change_lines (changes_of r) ++ stay_lines r.before r.selected wishes.to_remove
-    ++ configuration_lines (aside_of change files) (kept_of change files)
+    change_lines (changes_of r) ++ still_needed_lines r.before r.selected wishes.to_remove
+    ++ configuration_lines (paths_with_apk_new_file change files) (kept_paths_of change files)
     ++ trigger_lines (touched_paths change files) change.members ++ member_sum_line change.members
 
 -- ---- the change
@@ -167,7 +167,7 @@ change_done inputs r wishes found files records =
     record {
       report = change_report r wishes change files;
       files = changed_files change (listing_bytes (found_package_contents found)) records files;
-      commits = does_something (actions_of inputs change files records);
+      commits = has_actions (actions_of inputs change files records);
     }
 
 -- a change that is made, unless a limit of the writer is exceeded, first by the database and then by
@@ -176,7 +176,7 @@ abbrev pub unless_too_large :
     Inputs → Replacement → ChangeWishes → List MemberFound → Files → Result ChangeDone Refusal
 unless_too_large inputs r wishes found files =
     let change = file_change inputs wishes found in
-    and_then (unless_large (database_of change.members (owned_of change.members))) (λ database.
+    and_then (or_result_too_large (database_of change.members (owned_flags_of change.members))) (λ database.
     let records = new_records inputs database in
     let actions = actions_of inputs change files records in
     unless_overflow (overflow_of (value_of_intent actions))
@@ -189,10 +189,10 @@ abbrev pub change_with_members :
     → Result ChangeDone Refusal
 change_with_members inputs r wishes clash files found =
     let change = file_change inputs wishes found in
-    unless_reserved_path (first_reserved change.members)
+    unless_reserved_path (first_reserved_path change.members)
     (unless_clash clash
-    (unless_contested change.members (contested_of change.members)
-    (and_then (unless_trigger wishes.no_scripts (touched_paths change files) change.members)
+    (unless_contested change.members (first_contested_path_of_members change.members)
+    (and_then (unless_trigger_due wishes.no_scripts (touched_paths change files) change.members)
     (λ is_allowed. unless_too_large inputs r wishes found files))))
 
 -- the packages after a change, or the first refusal of one
@@ -218,7 +218,7 @@ abbrev pub IsClashFoundAmong :
     Inputs → ChangeWishes → Files → Files → Result (List MemberFound) Refusal → Option NamePair
     → Type 0
 IsClashFoundAmong inputs wishes files present_files (Ok found) clash =
-    IsClashOf (name_change (file_change inputs wishes found) files) present_files clash
+    IsFirstClashOrNone (name_change (file_change inputs wishes found) files) present_files clash
 IsClashFoundAmong inputs wishes files present_files (Err refusal) clash = clash ≡ None
 
 -- *IsClashFoundAmong* for the packages that the reads find

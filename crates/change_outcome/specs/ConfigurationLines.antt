@@ -4,19 +4,19 @@ use Rattle.std.specs.Prelude.{ℕ, List, ◌++◌, map, codes}
 use Rattle.std.specs.List.{flat_map}
 use Rattle.std.specs.Ordering.{on}
 use Rattle.std.specs.declared.cmp.Ordering.{Ordering}
-use Rattle.package_changes.specs.change_files.Fate.{aside_name}
+use Rattle.package_changes.specs.change_files.Fate.{apk_new_name}
 use Rattle.base_core.specs.ByteOrder.{bytes_cmp}
 use Rattle.base_core.specs.Sorted.{sorted_by}
 use Rattle.report_core.specs.Reports.{report_line}
 
 -- the line that says that a new file is laid beside the user's
-abbrev pub aside_line : List ℕ → List ℕ
-aside_line path =
-    report_line (aside_name path ++ codes " installed; " ++ path ++ codes " was changed")
+abbrev pub apk_new_line : List ℕ → List ℕ
+apk_new_line path =
+    report_line (apk_new_name path ++ codes " installed; " ++ path ++ codes " was changed")
 
 -- the line that says that the user's file is kept although its package is removed
-abbrev pub kept_line : List ℕ → List ℕ
-kept_line path = report_line (path ++ codes " kept; it was changed")
+abbrev pub kept_config_line : List ℕ → List ℕ
+kept_config_line path = report_line (path ++ codes " kept; it was changed")
 
 -- a path, and the line about it
 pub record PathLine : Type 0 where
@@ -35,4 +35,4 @@ path_line_cmp = on (λ l. l.path) bytes_cmp
 -- laid, and one for each at which the user's file is kept
 unfoldable pub configuration_lines : List (List ℕ) → List (List ℕ) → List ℕ
 configuration_lines aside kept = flat_map (λ l. l.line)
-    (sorted_by path_line_cmp (map (path_line aside_line) aside ++ map (path_line kept_line) kept))
+    (sorted_by path_line_cmp (map (path_line apk_new_line) aside ++ map (path_line kept_config_line) kept))

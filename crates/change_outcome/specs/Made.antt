@@ -3,12 +3,12 @@
 use Rattle.std.specs.Prelude.{◌≡◌, ℕ, List, Option, None, Ok}
 use Rattle.db_write.specs.adb_write.Canonical.{overflow_of}
 use Rattle.base_core.specs.Files.{Files}
-use Rattle.package_changes.specs.change_files.PlanLists.{first_reserved}
+use Rattle.package_changes.specs.change_files.PlanLists.{first_reserved_path}
 use Rattle.change_inputs.specs.Inputs.{Inputs}
 use Rattle.change_outcome.specs.ChangeOutcome.{ChangeDone, ChangeWishes, actions_of, change_done, change_members, file_change, new_records}
 use Rattle.change_outcome.specs.MembersAfter.{MemberFound, found_members}
 use Rattle.db_write.specs.NewDatabase.{database_of}
-use Rattle.package_changes.specs.file_owners.Owners.{contested_of, owned_of}
+use Rattle.package_changes.specs.file_owners.Owners.{first_contested_path_of_members, owned_flags_of}
 use Rattle.journal_core.specs.journal_intent.IntentValue.{value_of_intent}
 use Rattle.change_inputs.specs.make_info.Reads.{Reads}
 use Rattle.package_changes.specs.Changes.{Replacement}
@@ -19,11 +19,11 @@ pub record IsChangeMade (inputs : Inputs) (r : Replacement) (wishes : ChangeWish
     (clash : Option NamePair) (files : Files) (done : ChangeDone) : Type 0 where
   pub found : List MemberFound
   pub members : change_members inputs r wishes read ≡ Ok found
-  pub unreserved : first_reserved (found_members found) ≡ None
+  pub unreserved : first_reserved_path (found_members found) ≡ None
   pub no_clash : clash ≡ None
-  pub uncontested : contested_of (found_members found) ≡ None
+  pub uncontested : first_contested_path_of_members (found_members found) ≡ None
   pub database : List ℕ
-  pub new_database : database_of (found_members found) (owned_of (found_members found))
+  pub new_database : database_of (found_members found) (owned_flags_of (found_members found))
       ≡ Ok database
   pub fits : (let actions = actions_of inputs (file_change inputs wishes found) files
       (new_records inputs database) in

@@ -10,12 +10,12 @@ use Rattle.db_write.specs.db_core.Members.{Member, member_of_added, member_of_ke
 use Rattle.db_write.specs.db_core.Packages.{is_package_named}
 use Rattle.dep_core.specs.Repositories.{Repository}
 use Rattle.change_inputs.specs.make_info.Reads.{Reads}
-use Rattle.package_changes.specs.Changes.{Replacement, change_of_name, is_selected_named, names_on_both_sides}
+use Rattle.package_changes.specs.Changes.{Replacement, change_of_name, is_selected_named, names_before_and_selected}
 use Rattle.db_write.specs.pkg_core.Contents.{Contents}
 use Rattle.change_inputs.specs.candidate_core.Candidates.{Candidate}
 use Rattle.report_core.specs.Reports.{Change}
 use Rattle.report_core.specs.declared.refusal.Refusal.{Refusal}
-use Rattle.change_outcome.specs.PackageFiles.{AddedPackage, package_file_of, package_found, scripts_of_change, unless_script}
+use Rattle.change_outcome.specs.PackageFiles.{AddedPackage, package_file_of, added_package_or_refusal, scripts_of_change, unless_script}
 
 -- a package after the change; and for an added one its file, and the contents of its files
 pub record MemberFound : Type 0 where
@@ -38,8 +38,8 @@ added_member_found pkg = record {
 -- the package of an added candidate, given what a read finds under the name of its file, if it has one
 abbrev pub added_package_by_path :
     Reads → ℕ → Candidate → Option (List ℕ) → Result AddedPackage Refusal
-added_package_by_path read n c None = package_found c None
-added_package_by_path read n c (Some path) = package_found c (read n path)
+added_package_by_path read n c None = added_package_or_refusal c None
+added_package_by_path read n c (Some path) = added_package_or_refusal c (read n path)
 
 -- the member of an added candidate, whose file is the read with this number, or its refusal
 abbrev pub member_of_added_name :
@@ -101,7 +101,7 @@ unfoldable pub members_after :
     Replacement → Reads → List Repository → Bool → Result (List MemberFound) Refusal
 members_after r read repositories no_scripts =
     names_after r read repositories no_scripts (first_index_read + length repositories)
-    (names_on_both_sides r)
+    (names_before_and_selected r)
 
 -- the members alone of the packages that are found
 abbrev pub found_members : List MemberFound → List Member

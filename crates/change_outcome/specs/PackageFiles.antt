@@ -78,9 +78,9 @@ unless_package_bad c None pkg = unless_different c pkg
 unless_package_bad c (Some cause) pkg = Err (PackageBad c.name (selected_version c) cause)
 
 -- the package of a candidate, given what is found under the name of its file, or why it is refused
-abbrev pub package_found : Candidate → Option (List ℕ) → Result AddedPackage Refusal
-package_found c None = Err (PackageMissing c.name (selected_version c))
-package_found c (Some file) = unless_package_bad c (package_fault file) (package_in_file file)
+abbrev pub added_package_or_refusal : Candidate → Option (List ℕ) → Result AddedPackage Refusal
+added_package_or_refusal c None = Err (PackageMissing c.name (selected_version c))
+added_package_or_refusal c (Some file) = unless_package_bad c (package_fault file) (package_in_file file)
 
 -- ---- scripts
 

@@ -5,17 +5,17 @@ use Rattle.std.specs.Prelude.{◌≡◌, All, false, None}
 use Rattle.db_write.specs.adb_schema.Reserved.{is_reserved}
 use Rattle.base_core.specs.Files.{Files}
 use Rattle.package_changes.specs.change_files.FileChange.{FileChange, old_listings}
-use Rattle.package_changes.specs.change_files.PlanLists.{first_reserved}
+use Rattle.package_changes.specs.change_files.PlanLists.{first_reserved_path}
 use Rattle.change_inputs.specs.Inputs.{Root}
-use Rattle.change_inputs.specs.World.{text_found}
+use Rattle.change_inputs.specs.World.{found_text_or_empty}
 use Rattle.root_names.specs.RootNames.{database_name, world_name}
 
 -- no path is reserved that a package before or an added package lists
 pub record HasNoReservedPath (change : FileChange) : Type 0 where
   pub before : All (λ l. is_reserved l.path ≡ false) (old_listings change)
-  pub coming : first_reserved change.members ≡ None
+  pub coming : first_reserved_path change.members ≡ None
 
 -- the database and world were read from these files
 pub record IsRootOfFiles (files : Files) (root : Root) : Type 0 where
   pub database : root.database.file ≡ files database_name
-  pub world : root.world_text ≡ text_found (files world_name)
+  pub world : root.world_text ≡ found_text_or_empty (files world_name)

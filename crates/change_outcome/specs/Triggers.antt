@@ -7,7 +7,7 @@ use Rattle.db_write.specs.adb_fields.Repeated.{entries_at, package_name}
 use Rattle.adb_view.specs.FieldIndexes.{PACKAGE_TRIGGERS}
 use Rattle.adb_view.specs.Values.{text_in}
 use Rattle.adb_view.specs.Plain.{Plain}
-use Rattle.package_changes.specs.change_files.PlanLists.{names_in_order}
+use Rattle.package_changes.specs.change_files.PlanLists.{sorted_distinct_names}
 use Rattle.db_write.specs.db_core.Members.{Member, member_name}
 use Rattle.dep_core.specs.LeadingSlash.{without_slash}
 use Rattle.change_inputs.specs.package_files.Folders.{folder_of}
@@ -42,39 +42,39 @@ patterns_of pkg = map text_in (entries_at PACKAGE_TRIGGERS pkg)
 -- ---- what is due
 
 -- whether one of the package's patterns matches the folder
-abbrev pub is_watched : Plain → List ℕ → Bool
-is_watched pkg folder = list_any (is_folder_matched folder) (patterns_of pkg)
+abbrev pub watches_folder : Plain → List ℕ → Bool
+watches_folder pkg folder = list_any (is_folder_matched folder) (patterns_of pkg)
 
 -- whether the trigger of a package is due for a folder: it watches the folder and has a trigger
 -- script
-abbrev pub is_due : Plain → List ℕ → Bool
-is_due pkg folder = has_script_of pkg TRIGGER_SCRIPT && is_watched pkg folder
+abbrev pub is_trigger_due : Plain → List ℕ → Bool
+is_trigger_due pkg folder = has_script_of pkg TRIGGER_SCRIPT && watches_folder pkg folder
 
 -- the folders of files, in byte order, each once; folders further up do not count
 abbrev pub folders_of_paths : List (List ℕ) → List (List ℕ)
-folders_of_paths paths = names_in_order (map folder_of paths)
+folders_of_paths paths = sorted_distinct_names (map folder_of paths)
 
 -- the line that says that the package's trigger is due for the folder
-abbrev pub due_line : Plain → List ℕ → List ℕ
-due_line pkg folder = report_line (trigger_text (package_name pkg) folder)
+abbrev pub due_trigger_line : Plain → List ℕ → List ℕ
+due_trigger_line pkg folder = report_line (trigger_text (package_name pkg) folder)
 
 -- a line for each of the folders for which the package's trigger is due
-abbrev pub due_lines : List (List ℕ) → Plain → List ℕ
-due_lines folders pkg = flat_map (due_line pkg) (filter (is_due pkg) folders)
+abbrev pub due_trigger_lines : List (List ℕ) → Plain → List ℕ
+due_trigger_lines folders pkg = flat_map (due_trigger_line pkg) (filter (is_trigger_due pkg) folders)
 
 -- the lines on triggers of the packages after a change that writes and removes files with these
 -- paths, in their order
 unfoldable pub trigger_lines : List (List ℕ) → List Member → List ℕ
-trigger_lines paths members = flat_map (λ m. due_lines (folders_of_paths paths) m.pkg) members
+trigger_lines paths members = flat_map (λ m. due_trigger_lines (folders_of_paths paths) m.pkg) members
 
 -- whether a trigger of the package is due for one of the folders
 abbrev pub has_due_trigger : List (List ℕ) → Plain → Bool
-has_due_trigger folders pkg = list_any (is_due pkg) folders
+has_due_trigger folders pkg = list_any (is_trigger_due pkg) folders
 
 -- true, unless a trigger is due and may not be left out, which refuses the change
-abbrev pub unless_trigger : Bool → List (List ℕ) → List Member → Result Bool Refusal
-unless_trigger true paths members = Ok true
-unless_trigger false paths [] = Ok true
-unless_trigger false paths (m ∷ members) =
+abbrev pub unless_trigger_due : Bool → List (List ℕ) → List Member → Result Bool Refusal
+unless_trigger_due true paths members = Ok true
+unless_trigger_due false paths [] = Ok true
+unless_trigger_due false paths (m ∷ members) =
     if has_due_trigger (folders_of_paths paths) m.pkg then Err (TriggerNeeded (member_name m))
-    else unless_trigger false paths members
+    else unless_trigger_due false paths members

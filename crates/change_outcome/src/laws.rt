@@ -7,11 +7,11 @@ ghost use Rattle.base_core.specs.Name.{IsName};
 ghost use Rattle.package_changes.specs.change_files.FileChange.{FileChange};
 ghost use Rattle.package_changes.specs.change_files.FilesAfter.{RootFilesAfter, changed_files};
 ghost use Rattle.change_inputs.specs.Inputs.{Inputs, inputs_of};
-ghost use Rattle.change_outcome.specs.ChangeOutcome.{ChangeDone, ChangeWishes, IsClashOfChange, actions_of, bytes_under, change_or_refusal, does_something, new_records};
+ghost use Rattle.change_outcome.specs.ChangeOutcome.{ChangeDone, ChangeWishes, IsClashOfChange, actions_of, bytes_or_empty_under, change_or_refusal, has_actions, new_records};
 ghost use Rattle.command_core.specs.Command.{CommandLine};
 ghost use Rattle.db_write.specs.db_core.Members.{Listing};
-ghost use Rattle.journal_core.specs.Recovery.{after_actions};
-ghost use Rattle.journal_core.specs.Staged.{AreStagingPathsFree, IsEmptyStage, with_staged};
+ghost use Rattle.journal_core.specs.Recovery.{files_after_actions};
+ghost use Rattle.journal_core.specs.Staged.{AreStagingPathsFree, IsEmptyStage, files_with_staged};
 ghost use Rattle.journal_core.specs.journal_intent.Intent.{AreChangeNames, intent_name};
 ghost use Rattle.journal_core.specs.journal_intent.IntentValue.{intent_of_lists};
 ghost use Rattle.change_inputs.specs.make_info.Reads.{Reads};
@@ -38,8 +38,8 @@ pub fn what_is_read_of_a_root_is_in_the_tree()
 pub fn actions_lead_to_given_files()
     ensures { (removals writes : List (List ℕ)) (files after : Files)
         → LeadsTo removals writes files after
-        → after_actions (intent_of_lists removals writes)
-        (with_staged 1 (map (bytes_under after) writes) files) ≡ after }
+        → files_after_actions (intent_of_lists removals writes)
+        (files_with_staged 1 (map (bytes_or_empty_under after) writes) files) ≡ after }
 {}
 
 /// So the actions of a change lead to the files of its definition. `bytes_of` gives the bytes of a
@@ -52,8 +52,8 @@ pub fn the_actions_of_a_change_lead_to_its_files()
         let actions = actions_of inputs change files records in
         let after = changed_files change bytes_of records files in
         length actions.writes < write_limit
-        → after_actions actions
-        (with_staged 1 (map (bytes_under after) actions.writes) files) ≡ after }
+        → files_after_actions actions
+        (files_with_staged 1 (map (bytes_or_empty_under after) actions.writes) files) ≡ after }
 {}
 
 /// The names that a change removes and writes are names that a change may have, and none is
@@ -71,7 +71,7 @@ pub fn a_change_that_writes_nothing_leaves_the_files()
     // Of the files of its definition.
     ensures actions { (inputs : Inputs) (change : FileChange) (bytes_of : Listing → List ℕ)
         (database : List ℕ) (files : Files) → IsRootOfFiles files inputs.root
-        → does_something (actions_of inputs change files (new_records inputs database)) ≡ false
+        → has_actions (actions_of inputs change files (new_records inputs database)) ≡ false
         → changed_files change bytes_of (new_records inputs database) files ≡ files }
     // Of the change's result.
     ensures done { (inputs : Inputs) (r : Replacement) (wishes : ChangeWishes) (read : Reads)

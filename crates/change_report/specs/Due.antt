@@ -1,7 +1,7 @@
 -- Which triggers are due after a change, by the plan of its files. The rules are in
 -- `docs/commands.md`, "`add` and `del`", which triggers are due and how they are refused.
 use Rattle.std.specs.Prelude.{ℕ, Bool, true, List, ◌++◌, Option, Some, None, Result, Ok, Err}
-use Rattle.change_outcome.specs.ChangeOutcome.{name_at_place}
+use Rattle.change_outcome.specs.ChangeOutcome.{member_name_at_place}
 use Rattle.change_outcome.specs.db_core.Members.{Member}
 use Rattle.own_core.specs.Planned.{written_names}
 use Rattle.own_core.specs.declared.planning.FilePlan.{FilePlan}
@@ -13,6 +13,6 @@ abbrev pub planned_paths : FilePlan → List (List ℕ)
 planned_paths plan = written_names plan ++ plan.removals
 
 -- the result if the trigger of the package at a place is due, which refuses the change, or if none is
-abbrev pub trigger_needed : List Member → Option ℕ → Result Bool Refusal
-trigger_needed members None = Ok true
-trigger_needed members (Some place) = Err (TriggerNeeded (name_at_place members place))
+abbrev pub refusal_if_trigger_due : List Member → Option ℕ → Result Bool Refusal
+refusal_if_trigger_due members None = Ok true
+refusal_if_trigger_due members (Some place) = Err (TriggerNeeded (member_name_at_place members place))

@@ -2,12 +2,12 @@
 -- `src/configuration.rt`; the lines are defined in `docs/commands.md`, "`add` and `del`", what is
 -- reported.
 use Rattle.std.specs.Prelude.{if◌then◌else◌}
-use Rattle.change_outcome.specs.ConfigurationLines.{PathLine, aside_line, kept_line}
+use Rattle.change_outcome.specs.ConfigurationLines.{PathLine, apk_new_line, kept_config_line}
 use Rattle.change_report.specs.declared.configuration.Notice.{Notice}
 
 -- a path and its line, which says that the user's file was kept or that the new one lies beside it
 abbrev pub notice_seen : Notice → PathLine
 notice_seen n = record {
   path = n.path.now;
-  line = (if n.is_kept then kept_line else aside_line) n.path.now;
+  line = (if n.is_kept then kept_config_line else apk_new_line) n.path.now;
 }

@@ -8,14 +8,14 @@ use Rattle.change_outcome.specs.db_core.Seen.{members_of}
 use Rattle.own_core.specs.Planned.{ArePlanLists}
 use Rattle.change_outcome.specs.package_changes.Changes.{Replacement, changes_of}
 use Rattle.change_outcome.specs.package_changes.Placed.{PlacedChange, replacement_of}
-use Rattle.change_outcome.specs.package_changes.Seen.{changes_seen, replacement_by}
+use Rattle.change_outcome.specs.package_changes.Seen.{changes_seen, placed_replacement_from_parts}
 use Rattle.change_report.specs.declared.reporting.ReportedChange.{ReportedChange}
 
 -- the replacement that a report describes: the selection replaces the packages before, and these names
 -- are to be installed again
 abbrev pub replacement_reported : ReportedChange → List (List ℕ) → Replacement
 replacement_reported c again =
-    replacement_of (replacement_by c.db.now c.pool.now c.trace.now again)
+    replacement_of (placed_replacement_from_parts c.db.now c.pool.now c.trace.now again)
 
 -- a report describes this change: its changes are those of the replacement, and its plan is that of the
 -- change over these files

@@ -1,7 +1,7 @@
 //! The lines on configuration that the user changed. The lines are defined in `docs/commands.md`,
 //! "`add` and `del`", what is reported; which files are kept or laid beside others in "What a
 //! change does with files".
-ghost use Rattle.change_outcome.specs.ConfigurationLines.{aside_line, configuration_lines, kept_line, path_line, path_line_cmp};
+ghost use Rattle.change_outcome.specs.ConfigurationLines.{apk_new_line, configuration_lines, kept_config_line, path_line, path_line_cmp};
 ghost use Rattle.change_report.specs.Notices.{notice_seen};
 ghost use Rattle.base_core.specs.Sorted.{sorted_by};
 ghost use Rattle.std.specs.List.{flat_map};
@@ -48,7 +48,7 @@ fn push_notices<'p>(
     is_kept: bool,
 ) -> Result<(), AllocError>
     ensures { OnOk result (map notice_seen notices.new.items ≡ map notice_seen notices.old.items
-        ++ map (path_line (if is_kept then kept_line else aside_line)) paths.entry.now) }
+        ++ map (path_line (if is_kept then kept_config_line else apk_new_line)) paths.entry.now) }
 {
     for i in 0..paths.len() {
         let path = paths.get(i).as_bytes();
@@ -89,7 +89,7 @@ fn push_line(report: &mut Report, notice: &Notice<'_>) -> Result<(), AllocError>
 
 /// Adds the line that says that a new file is laid beside the user's.
 fn push_aside_line(report: &mut Report, path: &[u8]) -> Result<(), AllocError>
-    ensures { OnOk result (report.new ≡ report.old ++ aside_line path.now) }
+    ensures { OnOk result (report.new ≡ report.old ++ apk_new_line path.now) }
 {
     report.push(path)?;
     report.push(b".apk-new installed; ")?;
@@ -101,7 +101,7 @@ fn push_aside_line(report: &mut Report, path: &[u8]) -> Result<(), AllocError>
 
 /// Adds the line that says that the user's file is kept.
 fn push_kept_line(report: &mut Report, path: &[u8]) -> Result<(), AllocError>
-    ensures { OnOk result (report.new ≡ report.old ++ kept_line path.now) }
+    ensures { OnOk result (report.new ≡ report.old ++ kept_config_line path.now) }
 {
     report.push(path)?;
     report.push(b" kept; it was changed")?;

@@ -2,15 +2,15 @@
 //! removes. The rules are in `docs/commands.md`, "`add` and `del`", which triggers are due.
 
 ghost use Rattle.change_outcome.specs.adb_schema.Views.{package_value};
-ghost use Rattle.change_outcome.specs.Triggers.{due_line, due_lines, folders_of_paths, has_due_trigger, is_watched, trigger_lines, unless_trigger};
+ghost use Rattle.change_outcome.specs.Triggers.{due_trigger_line, due_trigger_lines, folders_of_paths, has_due_trigger, watches_folder, trigger_lines, unless_trigger_due};
 ghost use Rattle.change_outcome.specs.db_core.Seen.{members_of};
-ghost use Rattle.change_report.specs.Due.{trigger_needed, planned_paths};
+ghost use Rattle.change_report.specs.Due.{refusal_if_trigger_due, planned_paths};
 ghost use Rattle.report_core.specs.Reports.{folder_text, report_line, trigger_text};
 ghost use Rattle.std.specs.Prelude.{◌≡◌, ◌<◌, ◌++◌, ℕ, List, [], false, if◌then◌else◌, length, map, IfSome, OnOk, IfOk};
 ghost use Rattle.make_package.specs.package_files.Folders.{folder_of};
 ghost use Rattle.own_core.specs.WritesSeen.{writes_in};
 
-use crate::watched::{has_trigger_script, is_watched, name_of};
+use crate::watched::{has_trigger_script, name_of, watches_folder};
 use base_core::Names;
 use change_outcome::{Members, PackageView, names_in_order};
 use make_package::folder_of;
@@ -24,8 +24,8 @@ use std::marker::PhantomData;
 /// costs a look at its scripts.
 pub fn first_due(members: &Members<'_>, folders: &[&[u8]]) -> Option<usize>
     ensures needed { (paths : List (List ℕ)) → map (λ f. f.now) folders.now ≡ folders_of_paths paths
-        → unless_trigger false paths (members_of members.now)
-        ≡ trigger_needed (members_of members.now) result }
+        → unless_trigger_due false paths (members_of members.now)
+        ≡ refusal_if_trigger_due (members_of members.now) result }
     ensures within { IfSome result (λ i. i < length (members_of members.now)) }
 {
     for i in 0..members.len() {
@@ -64,7 +64,7 @@ fn has_due_trigger(pkg: &PackageView<'_>, folders: &[&[u8]]) -> bool
         return false;
     }
     for folder in folders {
-        if is_watched(pkg, folder) {
+        if watches_folder(pkg, folder) {
             return true;
         }
     }
@@ -78,7 +78,7 @@ fn push_due_lines(
     folders: &[&[u8]],
 ) -> Result<(), AllocError>
     ensures { OnOk result (report.new
-        ≡ report.old ++ due_lines (map (λ f. f.now) folders.now) (package_value pkg.now)) }
+        ≡ report.old ++ due_trigger_lines (map (λ f. f.now) folders.now) (package_value pkg.now)) }
 {
     if !has_trigger_script(pkg, PhantomData) {
         return Ok(());
@@ -96,10 +96,10 @@ fn push_line_if_watched(
     folder: &[u8],
 ) -> Result<(), AllocError>
     ensures { OnOk result (report.new
-        ≡ report.old ++ (if is_watched (package_value pkg.now) folder.now
-        then due_line (package_value pkg.now) folder.now else [])) }
+        ≡ report.old ++ (if watches_folder (package_value pkg.now) folder.now
+        then due_trigger_line (package_value pkg.now) folder.now else [])) }
 {
-    if is_watched(pkg, folder) {
+    if watches_folder(pkg, folder) {
         push_trigger_line(report, name_of(pkg, PhantomData), folder)?;
     }
     Ok(())

@@ -9,7 +9,7 @@ ghost use Rattle.change_outcome.specs.adb_schema.Views.{package_value};
 ghost use Rattle.adb_view.specs.Values.{count_of, entries_in, entry_in, text_in};
 ghost use Rattle.change_outcome.specs.PackageFiles.{has_script_of};
 ghost use Rattle.report_core.specs.Numbers.{TRIGGER_SCRIPT};
-ghost use Rattle.change_outcome.specs.Triggers.{is_folder_matched, is_watched};
+ghost use Rattle.change_outcome.specs.Triggers.{is_folder_matched, watches_folder};
 ghost use Rattle.std.specs.Prelude.{◌≡◌, ◌<◌};
 
 use crate::pattern::is_folder_matched;
@@ -36,8 +36,8 @@ pub(crate) fn has_trigger_script<'a>(
 }
 
 /// Whether one of the patterns of a package matches a folder.
-pub(crate) fn is_watched(pkg: &PackageView<'_>, folder: &[u8]) -> bool
-    ensures { result ≡ is_watched (package_value pkg.now) folder.now }
+pub(crate) fn watches_folder(pkg: &PackageView<'_>, folder: &[u8]) -> bool
+    ensures { result ≡ watches_folder (package_value pkg.now) folder.now }
 {
     let patterns = pkg.triggers();
     for i in 0..patterns.len() {

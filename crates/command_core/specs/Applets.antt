@@ -10,24 +10,24 @@ use Rattle.command_core.specs.declared.values.TheConstants.{OUTPUT}
 use Rattle.command_core.specs.Operands.{at_least, at_most, exactly}
 
 -- the letter of the option that an applet needs, so that it must have a value, if there is one
-abbrev pub needed_option : Applet → Option ℕ
-needed_option Mkndx = Some OUTPUT
-needed_option applet = None
+abbrev pub required_option_letter : Applet → Option ℕ
+required_option_letter Mkndx = Some OUTPUT
+required_option_letter applet = None
 
 -- ---- operands
 
 -- the operands of `info`: one path with the flag `--who-owns`, one or more packages with another flag
 -- of its own, and any number of packages without one
-abbrev pub info_operands : Flags → OperandRule
-info_operands flags =
+abbrev pub info_operand_rule : Flags → OperandRule
+info_operand_rule flags =
     if flags.who_owns then exactly 1 Path else
     if flags.installed || flags.contents || flags.depends then at_least 1 PackageName else
     at_least 0 PackageName
 
 -- the operands of `version`: two texts to compare, or one or more to check; None if the flag is missing
 -- that selects one of the two
-abbrev pub version_operands : Flags → Option OperandRule
-version_operands flags =
+abbrev pub version_operand_rule : Flags → Option OperandRule
+version_operand_rule flags =
     if flags.test then Some (exactly 2 Any) else
     if flags.check then Some (at_least 1 Any) else
     None
@@ -39,12 +39,12 @@ operand_rule Add flags = Some (at_least 0 Dependency)
 operand_rule Del flags = Some (at_least 1 DependencyName)
 operand_rule Upgrade flags = Some (at_least 0 PackageName)
 operand_rule Fix flags = Some (at_least 1 PackageName)
-operand_rule Info flags = Some (info_operands flags)
+operand_rule Info flags = Some (info_operand_rule flags)
 operand_rule Verify flags = Some (at_least 1 File)
 operand_rule Adbdump flags = Some (exactly 1 File)
 operand_rule Mkpkg flags = Some (exactly 0 File)
 operand_rule Mkndx flags = Some (at_least 0 File)
-operand_rule Version flags = version_operands flags
+operand_rule Version flags = version_operand_rule flags
 operand_rule Demo flags = Some (exactly 1 Number)
 operand_rule Adbgen flags = Some (exactly 1 File)
 operand_rule Audit flags = Some (exactly 0 Any)

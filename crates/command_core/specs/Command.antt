@@ -15,6 +15,6 @@ pub record CommandLine : Type 0 where
   pub behind : ℕ
 
 -- a command by its parts
-abbrev pub command_by : Applet → Flags → List Operand → List OptionValue → ℕ → CommandLine
-command_by applet flags operands values behind =
+abbrev pub command_from_parts : Applet → Flags → List Operand → List OptionValue → ℕ → CommandLine
+command_from_parts applet flags operands values behind =
     record { applet = applet; flags = flags; operands = operands; values = values; behind = behind }

@@ -6,12 +6,12 @@ use Rattle.base_core.specs.Name.{is_name}
 use Rattle.dep_core.specs.LeadingSlash.{without_slash}
 
 -- a text without one leading `./`
-abbrev pub without_dot : List ℕ → List ℕ
-without_dot text = if bytes_eq (take 2 text) (codes "./") then drop 2 text else text
+abbrev pub without_dot_slash : List ℕ → List ℕ
+without_dot_slash text = if bytes_eq (take 2 text) (codes "./") then drop 2 text else text
 
 -- whether a text names a file
 abbrev pub is_file : List ℕ → Bool
-is_file text = is_name (without_dot text)
+is_file text = is_name (without_dot_slash text)
 
 -- the longest path of a file that is made, in bytes: its scratch name, the path with `.apk-tmp` after
 -- it, has eight bytes more, and a name at most 1,024
@@ -19,10 +19,10 @@ abbrev pub longest_output : ℕ
 longest_output = 1016
 
 -- whether a text names a file that may be written
-abbrev pub is_output : List ℕ → Bool
-is_output text = is_file text && nat_le (length (without_dot text)) longest_output
+abbrev pub is_output_argument : List ℕ → Bool
+is_output_argument text = is_file text && nat_le (length (without_dot_slash text)) longest_output
 
 -- whether a text is a path, as `info --who-owns` takes one: one leading `/` is dropped, and the rest is
 -- a name
-abbrev pub is_path : List ℕ → Bool
-is_path text = is_name (without_slash text)
+abbrev pub is_path_argument : List ℕ → Bool
+is_path_argument text = is_name (without_slash text)

@@ -55,5 +55,5 @@ abbrev pub kinds : List Flag
 kinds = Installed ∷ (Contents ∷ (Depends ∷ (WhoOwns ∷ (Test ∷ (Check ∷ [])))))
 
 -- whether a flag that selects the kind of the command was given
-abbrev pub has_kind : Flags → Bool
-has_kind flags = list_any (λ flag. has_flag flag flags) kinds
+abbrev pub has_command_kind_flag : Flags → Bool
+has_command_kind_flag flags = list_any (λ flag. has_flag flag flags) kinds

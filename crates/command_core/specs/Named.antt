@@ -6,16 +6,16 @@ use Rattle.std.specs.List.{list_all}
 use Rattle.command_core.specs.declared.operands.Operand.{Operand}
 use Rattle.command_core.specs.declared.values.OptionValue.{OptionValue}
 use Rattle.command_core.specs.declared.values.TheConstants.{SCRIPT}
-use Rattle.command_core.specs.Files.{is_file, without_dot}
+use Rattle.command_core.specs.Files.{is_file, without_dot_slash}
 use Rattle.command_core.specs.Values.{script_file}
 
 -- the name of the file that a text names; None if it names none
 abbrev pub file_name : List ℕ → Option (List ℕ)
-file_name text = if is_file text then Some (without_dot text) else None
+file_name text = if is_file text then Some (without_dot_slash text) else None
 
 -- the name of the file that an operand is, without a leading `./`
 abbrev pub operand_file : Operand → List ℕ
-operand_file operand = without_dot operand.text
+operand_file operand = without_dot_slash operand.text
 
 -- whether each operand can name a file
 abbrev pub are_files : List Operand → Bool
@@ -23,9 +23,9 @@ are_files operands = list_all (λ (o : Operand). is_file o.text) operands
 
 -- the part of a value of the option with this letter that may name a file: the part of a script after
 -- the first `:`, and all of any other value
-abbrev pub file_part : ℕ → List ℕ → List ℕ
-file_part letter text = if letter == SCRIPT then script_file text else text
+abbrev pub file_part_of_value : ℕ → List ℕ → List ℕ
+file_part_of_value letter text = if letter == SCRIPT then script_file text else text
 
 -- the name of the file in a value; None if there is none
 abbrev pub file_in : OptionValue → Option (List ℕ)
-file_in v = file_name (file_part v.letter v.text)
+file_in v = file_name (file_part_of_value v.letter v.text)

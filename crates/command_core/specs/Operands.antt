@@ -11,7 +11,7 @@ use Rattle.command_core.specs.declared.operands.Operand.{Operand}
 use Rattle.command_core.specs.declared.operands.OperandKind.{OperandKind}
 use Rattle.command_core.specs.declared.operands.OperandKind.TheVariants.{File, Any, Dependency, DependencyName, PackageName, Path, Number, Pattern}
 use Rattle.command_core.specs.declared.operands.OperandRule.{OperandRule}
-use Rattle.command_core.specs.Files.{is_file, is_path}
+use Rattle.command_core.specs.Files.{is_file, is_path_argument}
 
 -- the operand that a word at a place is; places count from 1
 abbrev pub operand_at : ℕ → List ℕ → Operand
@@ -43,15 +43,15 @@ abbrev pub is_pattern : List ℕ → Bool
 is_pattern text = nat_lt 0 (length text) && list_all is_ascii_graphic text
 
 -- whether a text can be an operand of this kind
-abbrev pub is_of_kind : OperandKind → List ℕ → Bool
-is_of_kind File text = is_file text
-is_of_kind Any text = true
-is_of_kind Dependency text = is_some (dependency_of text)
-is_of_kind DependencyName text = is_dep_name text
-is_of_kind PackageName text = is_package_name text
-is_of_kind Path text = is_path text
-is_of_kind Number text = is_demo_number text
-is_of_kind Pattern text = is_pattern text
+abbrev pub is_operand_of_kind : OperandKind → List ℕ → Bool
+is_operand_of_kind File text = is_file text
+is_operand_of_kind Any text = true
+is_operand_of_kind Dependency text = is_some (dependency_of text)
+is_operand_of_kind DependencyName text = is_dep_name text
+is_operand_of_kind PackageName text = is_package_name text
+is_operand_of_kind Path text = is_path_argument text
+is_operand_of_kind Number text = is_demo_number text
+is_operand_of_kind Pattern text = is_pattern text
 
 -- ---- rules
 
@@ -74,11 +74,11 @@ allows_one_more (Some most) before = nat_lt before most
 
 -- whether a rule takes a text as an operand, by how many operands precede it
 abbrev pub takes : OperandRule → ℕ → List ℕ → Bool
-takes rule before text = allows_one_more rule.most before && is_of_kind rule.kind text
+takes rule before text = allows_one_more rule.most before && is_operand_of_kind rule.kind text
 
 -- the place of the first operand that a rule does not take, if this many precede it
-abbrev pub first_refused : OperandRule → ℕ → List Operand → Option ℕ
-first_refused rule before [] = None
-first_refused rule before (operand ∷ operands) =
-    if takes rule before operand.text then first_refused rule (before + 1) operands else
+abbrev pub first_refused_operand : OperandRule → ℕ → List Operand → Option ℕ
+first_refused_operand rule before [] = None
+first_refused_operand rule before (operand ∷ operands) =
+    if takes rule before operand.text then first_refused_operand rule (before + 1) operands else
     Some operand.place

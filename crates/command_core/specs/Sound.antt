@@ -11,11 +11,11 @@ use Rattle.command_core.specs.declared.operands.Operand.{Operand}
 use Rattle.command_core.specs.declared.operands.OperandRule.{OperandRule}
 use Rattle.command_core.specs.declared.values.OptionValue.{OptionValue}
 use Rattle.command_core.specs.declared.values.ValueRule.{ValueRule}
-use Rattle.command_core.specs.Applets.{needed_option, operand_rule}
+use Rattle.command_core.specs.Applets.{required_option_letter, operand_rule}
 use Rattle.command_core.specs.Command.{CommandLine}
 use Rattle.command_core.specs.Flags.{has_flag, kinds, no_flags, with_flag}
-use Rattle.command_core.specs.Operands.{is_of_kind}
-use Rattle.command_core.specs.Values.{compression_rule, description_rule, excludes, files_rule, info_rule, is_value, lacks_value, output_rule, script_rule, trigger_rule}
+use Rattle.command_core.specs.Operands.{is_operand_of_kind}
+use Rattle.command_core.specs.Values.{compression_rule, description_rule, excludes, files_rule, info_rule, is_value, is_required_value_missing, output_rule, script_rule, trigger_rule}
 
 -- ---- flags
 
@@ -33,8 +33,8 @@ has_at_most_one (flag ∷ others) flags =
     && has_at_most_one others flags
 
 -- whether each flag that was given is among those that are allowed
-abbrev pub are_within : Flags → Flags → Bool
-are_within allowed flags =
+abbrev pub are_flags_allowed : Flags → Flags → Bool
+are_flags_allowed allowed flags =
     list_all (λ flag. not (has_flag flag flags) || has_flag flag allowed) all_flags
 
 -- the flags that every applet with a word may have
@@ -57,23 +57,23 @@ allowed_flags applet = common_flags
 
 -- whether an applet may have some flags: each is one of its own, and at most one selects the kind of
 -- the command
-abbrev pub may_have : Applet → Flags → Bool
-may_have applet flags = are_within (allowed_flags applet) flags && has_at_most_one kinds flags
+abbrev pub may_have_flags : Applet → Flags → Bool
+may_have_flags applet flags = are_flags_allowed (allowed_flags applet) flags && has_at_most_one kinds flags
 
 -- ---- operands
 
 -- whether a number of operands is no more than the most that a rule takes
-abbrev pub is_at_most : Option ℕ → ℕ → Bool
-is_at_most None count = true
-is_at_most (Some most) count = nat_le count most
+abbrev pub is_count_within_limit : Option ℕ → ℕ → Bool
+is_count_within_limit None count = true
+is_count_within_limit (Some most) count = nat_le count most
 
 -- whether operands are those of an applet: each of its kind, and as many as it takes. An applet without
 -- its kind has none
-abbrev pub are_operands : Option OperandRule → List Operand → Bool
-are_operands None operands = false
-are_operands (Some rule) operands =
-    nat_le rule.least (length operands) && is_at_most rule.most (length operands)
-    && list_all (λ (o : Operand). is_of_kind rule.kind o.text) operands
+abbrev pub are_allowed_operands : Option OperandRule → List Operand → Bool
+are_allowed_operands None operands = false
+are_allowed_operands (Some rule) operands =
+    nat_le rule.least (length operands) && is_count_within_limit rule.most (length operands)
+    && list_all (λ (o : Operand). is_operand_of_kind rule.kind o.text) operands
 
 -- ---- options with values
 
@@ -90,37 +90,37 @@ abbrev pub rule_for : List ValueRule → ℕ → Option ValueRule
 rule_for rules letter = find (λ (rule : ValueRule). rule.letter == letter) rules
 
 -- whether a text may be a value of an option with this rule; None: there is no such option
-abbrev pub is_value_by : Option ValueRule → List ℕ → Bool
-is_value_by None text = false
-is_value_by (Some rule) text = is_value rule.kind text
+abbrev pub is_allowed_value : Option ValueRule → List ℕ → Bool
+is_allowed_value None text = false
+is_allowed_value (Some rule) text = is_value rule.kind text
 
 -- whether two values of one option exclude each other, by the option's rule
-abbrev pub excludes_by : Option ValueRule → List ℕ → List ℕ → Bool
-excludes_by None a b = false
-excludes_by (Some rule) a b = rule.single || excludes rule.kind a b
+abbrev pub are_exclusive_values : Option ValueRule → List ℕ → List ℕ → Bool
+are_exclusive_values None a b = false
+are_exclusive_values (Some rule) a b = rule.single || excludes rule.kind a b
 
 -- whether two values may both be given: they are of different options, or neither excludes the
 -- other
 abbrev pub may_both_be_given : List ValueRule → OptionValue → OptionValue → Bool
 may_both_be_given rules a b =
-    not ((a.letter == b.letter) && excludes_by (rule_for rules a.letter) a.text b.text)
+    not ((a.letter == b.letter) && are_exclusive_values (rule_for rules a.letter) a.text b.text)
 
 -- whether each value is one of an option with one of these rules, and no two of them exclude each other
-abbrev pub are_values : List ValueRule → List OptionValue → Bool
-are_values rules [] = true
-are_values rules (v ∷ vs) =
-    is_value_by (rule_for rules v.letter) v.text && list_all (may_both_be_given rules v) vs
-    && are_values rules vs
+abbrev pub are_allowed_values : List ValueRule → List OptionValue → Bool
+are_allowed_values rules [] = true
+are_allowed_values rules (v ∷ vs) =
+    is_allowed_value (rule_for rules v.letter) v.text && list_all (may_both_be_given rules v) vs
+    && are_allowed_values rules vs
 
 -- ---- the command
 
 -- whether the applet may have flags, operands and values together, and none is missing
-abbrev pub is_command : CommandLine → Bool
-is_command c =
-    may_have c.applet c.flags && are_operands (operand_rule c.applet c.flags) c.operands
-    && are_values (value_rules c.applet) c.values
-    && not (lacks_value (needed_option c.applet) c.values)
+abbrev pub is_valid_command : CommandLine → Bool
+is_valid_command c =
+    may_have_flags c.applet c.flags && are_allowed_operands (operand_rule c.applet c.flags) c.operands
+    && are_allowed_values (value_rules c.applet) c.values
+    && not (is_required_value_missing (required_option_letter c.applet) c.values)
 
 -- a command line is a command
-abbrev pub IsCommand : CommandLine → Type 0
-IsCommand command = IsTrue (is_command command)
+abbrev pub IsValidCommand : CommandLine → Type 0
+IsValidCommand command = IsTrue (is_valid_command command)

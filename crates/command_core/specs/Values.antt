@@ -8,7 +8,7 @@ use Rattle.command_core.specs.declared.values.TheConstants.{COMPRESSION, DESCRIP
 use Rattle.command_core.specs.declared.values.ValueKind.{ValueKind}
 use Rattle.command_core.specs.declared.values.ValueKind.TheVariants.{Any, Nonempty, File, Output, Uncompressed, Script}
 use Rattle.command_core.specs.declared.values.ValueRule.{ValueRule}
-use Rattle.command_core.specs.Files.{is_file, is_output}
+use Rattle.command_core.specs.Files.{is_file, is_output_argument}
 
 -- the value of an option with this letter, at the place of its word
 abbrev pub option_value : ℕ → ℕ → List ℕ → OptionValue
@@ -54,7 +54,7 @@ abbrev pub is_value : ValueKind → List ℕ → Bool
 is_value Any text = true
 is_value Nonempty text = nat_lt 0 (length text)
 is_value File text = is_file text
-is_value Output text = is_output text
+is_value Output text = is_output_argument text
 is_value Uncompressed text = bytes_eq text (codes "none")
 is_value Script text = is_script text
 
@@ -94,16 +94,16 @@ abbrev pub description_rule : ValueRule
 description_rule = record { letter = DESCRIPTION; single = true; kind = Any }
 
 -- whether an option may not be given again: it may be given once, and has a value
-abbrev pub is_spent : ValueRule → List OptionValue → Bool
-is_spent rule values = rule.single && is_given rule.letter values
+abbrev pub is_single_and_given : ValueRule → List OptionValue → Bool
+is_single_and_given rule values = rule.single && is_given rule.letter values
 
 -- whether an earlier value of the option excludes this text
-abbrev pub is_excluded : ValueRule → List ℕ → List OptionValue → Bool
-is_excluded rule text values =
+abbrev pub is_excluded_by_earlier_value : ValueRule → List ℕ → List OptionValue → Bool
+is_excluded_by_earlier_value rule text values =
     list_any (λ (v : OptionValue). (v.letter == rule.letter) && excludes rule.kind v.text text)
     values
 
 -- whether the option that must have a value, if there is one, has none
-abbrev pub lacks_value : Option ℕ → List OptionValue → Bool
-lacks_value None values = false
-lacks_value (Some letter) values = not (is_given letter values)
+abbrev pub is_required_value_missing : Option ℕ → List OptionValue → Bool
+is_required_value_missing None values = false
+is_required_value_missing (Some letter) values = not (is_given letter values)

@@ -1,10 +1,10 @@
 //! Applets, the options without a value, and what a command line asks for. The rules are in
 //! `docs/commands.md`, "Words"; which operands an applet takes is in the section with its name.
 ghost use Rattle.std.specs.Prelude.{◌≡◌, IsTrue};
-ghost use Rattle.command_core.specs.Applets.{info_operands, needed_option, operand_rule, version_operands};
-ghost use Rattle.command_core.specs.Command.{command_by};
-ghost use Rattle.command_core.specs.Sound.{IsCommand, is_command};
-ghost use Rattle.command_core.specs.Flags.{has_flag, has_kind, no_flags, with_flag};
+ghost use Rattle.command_core.specs.Applets.{info_operand_rule, required_option_letter, operand_rule, version_operand_rule};
+ghost use Rattle.command_core.specs.Command.{command_from_parts};
+ghost use Rattle.command_core.specs.Sound.{IsValidCommand, is_valid_command};
+ghost use Rattle.command_core.specs.Flags.{has_flag, has_command_kind_flag, no_flags, with_flag};
 
 use crate::operands::{OperandKind, OperandRule, Operands};
 use crate::values::{OUTPUT, Values};
@@ -149,8 +149,8 @@ impl Flags {
 
     /// Whether a flag was given that selects the kind of the command: one of `info`, of `list`, or
     /// of `version`.
-    pub fn has_kind(&self) -> bool
-        ensures { result ≡ has_kind self.now }
+    pub fn has_command_kind_flag(&self) -> bool
+        ensures { result ≡ has_command_kind_flag self.now }
     {
         if self.installed || self.contents || self.depends || self.who_owns {
             return true;
@@ -181,8 +181,8 @@ impl Flags {
 
 impl Applet {
     /// The letter of the option that must have a value, if there is one.
-    pub fn needed_option(self) -> Option<u8>
-        ensures { result ≡ needed_option self }
+    pub fn required_option_letter(self) -> Option<u8>
+        ensures { result ≡ required_option_letter self }
     {
         match self {
             Applet::Mkndx => Some(OUTPUT),
@@ -200,12 +200,12 @@ impl Applet {
             Applet::Del => Some(OperandRule::at_least(1, OperandKind::DependencyName)),
             Applet::Upgrade => Some(OperandRule::at_least(0, OperandKind::PackageName)),
             Applet::Fix => Some(OperandRule::at_least(1, OperandKind::PackageName)),
-            Applet::Info => Some(info_operands(flags)),
+            Applet::Info => Some(info_operand_rule(flags)),
             Applet::Verify => Some(OperandRule::at_least(1, OperandKind::File)),
             Applet::Adbdump => Some(OperandRule::exactly(1, OperandKind::File)),
             Applet::Mkpkg => Some(OperandRule::exactly(0, OperandKind::File)),
             Applet::Mkndx => Some(OperandRule::at_least(0, OperandKind::File)),
-            Applet::Version => version_operands(flags),
+            Applet::Version => version_operand_rule(flags),
             Applet::Demo => Some(OperandRule::exactly(1, OperandKind::Number)),
             Applet::Adbgen => Some(OperandRule::exactly(1, OperandKind::File)),
             Applet::Audit => Some(OperandRule::exactly(0, OperandKind::Any)),
@@ -220,8 +220,8 @@ impl Applet {
 }
 
 // The operands of `info` under some flags.
-fn info_operands(flags: Flags) -> OperandRule
-    ensures { result ≡ info_operands flags }
+fn info_operand_rule(flags: Flags) -> OperandRule
+    ensures { result ≡ info_operand_rule flags }
 {
     if flags.who_owns {
         return OperandRule::exactly(1, OperandKind::Path);
@@ -233,8 +233,8 @@ fn info_operands(flags: Flags) -> OperandRule
 }
 
 // The operands of `version` under some flags, one of which selects the kind of the command.
-fn version_operands(flags: Flags) -> Option<OperandRule>
-    ensures { result ≡ version_operands flags }
+fn version_operand_rule(flags: Flags) -> Option<OperandRule>
+    ensures { result ≡ version_operand_rule flags }
 {
     if flags.test {
         return Some(OperandRule::exactly(2, OperandKind::Any));
@@ -257,16 +257,16 @@ pub struct Command {
 }
 
 impl Model for Command {
-    ghost use Rattle.command_core.specs.Command.{CommandLine, command_by};
-    ghost use Rattle.command_core.specs.Sound.{is_command};
+    ghost use Rattle.command_core.specs.Command.{CommandLine, command_from_parts};
+    ghost use Rattle.command_core.specs.Sound.{is_valid_command};
     ghost use Rattle.std.specs.Prelude.{IsTrue};
 
     ghost Value = { CommandLine };
 
-    ghost view = { λ c. command_by c.applet c.flags c.operands c.values c.behind };
+    ghost view = { λ c. command_from_parts c.applet c.flags c.operands c.values c.behind };
 
     ghost invariant = { λ c.
-        IsTrue (is_command (command_by c.applet c.flags c.operands c.values c.behind)) };
+        IsTrue (is_valid_command (command_from_parts c.applet c.flags c.operands c.values c.behind)) };
 }
 
 impl Command {
@@ -278,8 +278,8 @@ impl Command {
         values: Values,
         behind: u32,
     ) -> Command
-        requires { IsTrue (is_command (command_by applet flags operands values behind)) }
-        ensures { result ≡ command_by applet flags operands values behind }
+        requires { IsTrue (is_valid_command (command_from_parts applet flags operands values behind)) }
+        ensures { result ≡ command_from_parts applet flags operands values behind }
     {
         Command {
             applet,
@@ -293,7 +293,7 @@ impl Command {
     /// The applet that the first operand names.
     pub fn applet(&self) -> Applet
         ensures value { result ≡ self.now.applet }
-        ensures command { IsCommand self.now }
+        ensures command { IsValidCommand self.now }
     {
         self.applet
     }
@@ -301,7 +301,7 @@ impl Command {
     /// The options without a value that were given.
     pub fn flags(&self) -> Flags
         ensures value { result ≡ self.now.flags }
-        ensures command { IsCommand self.now }
+        ensures command { IsValidCommand self.now }
     {
         self.flags
     }
@@ -309,7 +309,7 @@ impl Command {
     /// The operands after the applet.
     pub fn operands(&self) -> &Operands
         ensures value { result.now ≡ self.now.operands }
-        ensures command { IsCommand self.now }
+        ensures command { IsValidCommand self.now }
     {
         &self.operands
     }
@@ -317,7 +317,7 @@ impl Command {
     /// The values that its options were given.
     pub fn values(&self) -> &Values
         ensures value { result.now ≡ self.now.values }
-        ensures command { IsCommand self.now }
+        ensures command { IsValidCommand self.now }
     {
         &self.values
     }

@@ -4,17 +4,17 @@
 
 ghost use Rattle.std.specs.Prelude.{◌≡◌, ◌<◌, ◌==◌, ◌++◌, ◌∷◌, [], IfOk, IsTrue, None, OnErr, OnOk, Some, length, slice_get, ℕ};
 ghost use Rattle.std.specs.Option.{option_map};
-ghost use Rattle.command_core.specs.Files.{without_dot, is_file, is_output};
+ghost use Rattle.command_core.specs.Files.{without_dot_slash, is_file, is_output_argument};
 ghost use Rattle.command_core.specs.Named.{file_name, are_files, operand_file};
-ghost use Rattle.command_core.specs.Operands.{at_least, at_most, exactly, first_refused, allows_one_more, is_of_kind, operand_at, takes};
-ghost use Rattle.command_core.specs.Applets.{needed_option, operand_rule};
-ghost use Rattle.command_core.specs.Sound.{value_rules, IsCommand, are_operands, are_values, is_value_by, rule_for};
+ghost use Rattle.command_core.specs.Operands.{at_least, at_most, exactly, first_refused_operand, allows_one_more, is_operand_of_kind, operand_at, takes};
+ghost use Rattle.command_core.specs.Applets.{required_option_letter, operand_rule};
+ghost use Rattle.command_core.specs.Sound.{value_rules, IsValidCommand, are_allowed_operands, are_allowed_values, is_allowed_value, rule_for};
 ghost use Rattle.command_core.specs.Command.{CommandLine};
 ghost use Rattle.command_core.specs.Values.{first_value, is_given, is_script};
 ghost use Rattle.command_core.specs.declared.operands.OperandRule.{OperandRule};
 ghost use Rattle.command_core.specs.declared.values.OptionValue.{OptionValue};
 
-use crate::texts::{is_demo_number, is_file, is_path, is_pattern, read_file};
+use crate::texts::{is_demo_number, is_file, is_path_argument, is_pattern, read_file};
 use crate::values::{FILES, OUTPUT, SCRIPT};
 use base_core::{Name, Text};
 use dep_core::{is_dep_name, is_package_name, read_dep};
@@ -45,7 +45,7 @@ pub enum OperandKind {
 impl OperandKind {
     /// Whether a text is an operand of this kind.
     pub fn has(self, text: &[u8]) -> bool
-        ensures { result ≡ is_of_kind self text.now }
+        ensures { result ≡ is_operand_of_kind self text.now }
     {
         match self {
             OperandKind::File => is_file(text),
@@ -53,7 +53,7 @@ impl OperandKind {
             OperandKind::Dependency => read_dep(text).is_some(),
             OperandKind::DependencyName => is_dep_name(text),
             OperandKind::PackageName => is_package_name(text),
-            OperandKind::Path => is_path(text),
+            OperandKind::Path => is_path_argument(text),
             OperandKind::Number => is_demo_number(text),
             OperandKind::Pattern => is_pattern(text),
         }
@@ -107,8 +107,8 @@ impl OperandRule {
 
     /// The place, counted from 1, of the first operand that the rule does not take, because of its
     /// kind or because too many precede it.
-    pub fn first_refused(&self, operands: &Operands) -> Option<u32>
-        ensures { result ≡ first_refused self.now 0 operands.now }
+    pub fn first_refused_operand(&self, operands: &Operands) -> Option<u32>
+        ensures { result ≡ first_refused_operand self.now 0 operands.now }
     {
         for i in 0..operands.len() {
             let operand = operands.get(i);
@@ -244,17 +244,17 @@ impl Operands {
 /// The operands of a command are allowed for its applet, and so are the values of its options; the
 /// option that it needs is given.
 pub fn a_command_has_what_its_applet_may_have()
-    ensures operands { (c : CommandLine) → IsCommand c →
-        IsTrue (are_operands (operand_rule c.applet c.flags) c.operands) }
-    ensures values { (c : CommandLine) → IsCommand c →
-        IsTrue (are_values (value_rules c.applet) c.values) }
-    ensures needed { (c : CommandLine) (letter : ℕ) → IsCommand c →
-        needed_option c.applet ≡ Some letter → IsTrue (is_given letter c.values) }
+    ensures operands { (c : CommandLine) → IsValidCommand c →
+        IsTrue (are_allowed_operands (operand_rule c.applet c.flags) c.operands) }
+    ensures values { (c : CommandLine) → IsValidCommand c →
+        IsTrue (are_allowed_values (value_rules c.applet) c.values) }
+    ensures needed { (c : CommandLine) (letter : ℕ) → IsValidCommand c →
+        required_option_letter c.applet ≡ Some letter → IsTrue (is_given letter c.values) }
 {}
 
 /// If the applet takes files, the operands are files.
 pub fn file_operands_are_files()
-    ensures { (c : CommandLine) (rule : OperandRule) → IsCommand c →
+    ensures { (c : CommandLine) (rule : OperandRule) → IsValidCommand c →
         operand_rule c.applet c.flags ≡ Some rule → rule.kind ≡ OperandKind.File →
         IsTrue (are_files c.operands) }
 {}
@@ -262,13 +262,13 @@ pub fn file_operands_are_files()
 /// Each value is one of its option's kind: that of `--output` is a file of at most 1,016 bytes,
 /// that of `--files` a file, and each of `--script` is TYPE:FILE.
 pub fn values_are_of_their_kind()
-    ensures each { (c : CommandLine) (i : ℕ) (v : OptionValue) → IsCommand c →
+    ensures each { (c : CommandLine) (i : ℕ) (v : OptionValue) → IsValidCommand c →
         slice_get c.values i ≡ Some v →
-        IsTrue (is_value_by (rule_for (value_rules c.applet) v.letter) v.text) }
-    ensures output { (c : CommandLine) (v : OptionValue) → IsCommand c →
-        first_value OUTPUT c.values ≡ Some v → IsTrue (is_output v.text) }
-    ensures folder { (c : CommandLine) (v : OptionValue) → IsCommand c →
+        IsTrue (is_allowed_value (rule_for (value_rules c.applet) v.letter) v.text) }
+    ensures output { (c : CommandLine) (v : OptionValue) → IsValidCommand c →
+        first_value OUTPUT c.values ≡ Some v → IsTrue (is_output_argument v.text) }
+    ensures folder { (c : CommandLine) (v : OptionValue) → IsValidCommand c →
         first_value FILES c.values ≡ Some v → IsTrue (is_file v.text) }
-    ensures script { (c : CommandLine) (i : ℕ) (v : OptionValue) → IsCommand c →
+    ensures script { (c : CommandLine) (i : ℕ) (v : OptionValue) → IsValidCommand c →
         slice_get c.values i ≡ Some v → v.letter ≡ SCRIPT → IsTrue (is_script v.text) }
 {}

@@ -5,7 +5,7 @@ ghost use Rattle.std.specs.Prelude.{◌≡◌, ◌==◌, IfOk, drop};
 ghost use Rattle.std.specs.Char.{is_ascii_digit, is_ascii_graphic};
 ghost use Rattle.std.specs.List.{list_all, list_any, position};
 ghost use Rattle.std.specs.Str.{bytes_eq};
-ghost use Rattle.command_core.specs.Files.{is_file, is_output, is_path, without_dot};
+ghost use Rattle.command_core.specs.Files.{is_file, is_output_argument, is_path_argument, without_dot_slash};
 ghost use Rattle.command_core.specs.Named.{file_name};
 ghost use Rattle.command_core.specs.Operands.{has_zero_in_front, is_decimal, is_demo_number, is_pattern};
 ghost use Rattle.command_core.specs.Values.{colon, is_script, script_file, script_type, script_types};
@@ -34,8 +34,8 @@ static SCRIPT_TYPES: [&[u8]; 7] = [
 ];
 
 /// A text without one leading `./`.
-pub fn without_dot(text: &[u8]) -> &[u8]
-    ensures { result.now ≡ without_dot text.now }
+pub fn without_dot_slash(text: &[u8]) -> &[u8]
+    ensures { result.now ≡ without_dot_slash text.now }
 {
     if text.starts_with(b"./".as_slice()) {
         &text[2..]
@@ -48,29 +48,29 @@ pub fn without_dot(text: &[u8]) -> &[u8]
 pub(crate) fn is_file(text: &[u8]) -> bool
     ensures { result ≡ is_file text.now }
 {
-    is_name(without_dot(text))
+    is_name(without_dot_slash(text))
 }
 
 /// The name that a text is, without one leading `./`. None if it is no file.
 pub(crate) fn read_file(alloc: Global, text: &[u8]) -> Result<Option<Name>, AllocError>
     ensures { IfOk result (λ file. file ≡ file_name text.now) }
 {
-    Name::read(alloc, without_dot(text))
+    Name::read(alloc, without_dot_slash(text))
 }
 
 /// Whether a text is a file that may be written: its path has at most 1,016 bytes.
-pub(crate) fn is_output(text: &[u8]) -> bool
-    ensures { result ≡ is_output text.now }
+pub(crate) fn is_output_argument(text: &[u8]) -> bool
+    ensures { result ≡ is_output_argument text.now }
 {
     if !is_file(text) {
         return false;
     }
-    without_dot(text).len() <= LONGEST_OUTPUT
+    without_dot_slash(text).len() <= LONGEST_OUTPUT
 }
 
 /// Whether a text is a path below the root, after one optional `/`.
-pub(crate) fn is_path(text: &[u8]) -> bool
-    ensures { result ≡ is_path text.now }
+pub(crate) fn is_path_argument(text: &[u8]) -> bool
+    ensures { result ≡ is_path_argument text.now }
 {
     is_name(without_slash(text))
 }

@@ -2,12 +2,12 @@
 //! are in `docs/commands.md`, "Words", the table of options, the rows with a value.
 ghost use Rattle.std.specs.Prelude.{◌≡◌, ◌<◌, ◌==◌, ◌++◌, ◌∷◌, [], IfOk, IfSome, IsTrue, OnErr, OnOk, Some, length, not, slice_get};
 ghost use Rattle.std.specs.Option.{option_map};
-ghost use Rattle.command_core.specs.Files.{is_file, without_dot};
-ghost use Rattle.command_core.specs.Named.{file_name, file_in, file_part};
-ghost use Rattle.command_core.specs.Values.{excludes, is_excluded, is_given, is_spent, is_value, script_file, script_type, option_value, first_value};
+ghost use Rattle.command_core.specs.Files.{is_file, without_dot_slash};
+ghost use Rattle.command_core.specs.Named.{file_name, file_in, file_part_of_value};
+ghost use Rattle.command_core.specs.Values.{excludes, is_excluded_by_earlier_value, is_given, is_single_and_given, is_value, script_file, script_type, option_value, first_value};
 ghost use Rattle.command_core.specs.declared.values.OptionValue.{OptionValue};
 
-use crate::texts::{is_file, is_output, is_script, read_file, script_file, script_type};
+use crate::texts::{is_file, is_output_argument, is_script, read_file, script_file, script_type};
 use base_core::{Name, Text};
 use std::alloc::{AllocError, Global};
 use std::marker::Model;
@@ -65,7 +65,7 @@ impl ValueKind {
             ValueKind::Any => true,
             ValueKind::Nonempty => !text.is_empty(),
             ValueKind::File => is_file(text),
-            ValueKind::Output => is_output(text),
+            ValueKind::Output => is_output_argument(text),
             ValueKind::Uncompressed => text == b"none".as_slice(),
             ValueKind::Script => is_script(text),
         }
@@ -175,14 +175,14 @@ impl Values {
     /// Whether the option with this rule may not be given again: it may be given once, and has a
     /// value.
     pub fn are_spent(&self, rule: ValueRule) -> bool
-        ensures { result ≡ is_spent rule self.now }
+        ensures { result ≡ is_single_and_given rule self.now }
     {
         rule.single && self.is_given(rule.letter)
     }
 
     /// Whether an earlier value of the option excludes this text.
     pub fn exclude(&self, rule: ValueRule, text: &[u8]) -> bool
-        ensures { result ≡ is_excluded rule text.now self.now }
+        ensures { result ≡ is_excluded_by_earlier_value rule text.now self.now }
     {
         self.entries.iter().any(|entry| entry.value.letter == rule.letter
             && rule.kind.excludes(entry.value.text.as_bytes(), text))
@@ -227,7 +227,7 @@ impl Values {
         requires file { IfSome (first_value letter self.now)
             (λ value. IsTrue (is_file value.text)) }
         ensures { option_map (λ name. name.now) result
-            ≡ option_map (λ value. without_dot value.text) (first_value letter self.entry.now) }
+            ≡ option_map (λ value. without_dot_slash value.text) (first_value letter self.entry.now) }
     {
         match self.first_entry(letter) {
             Some(entry) => entry.file.as_ref(),
@@ -241,7 +241,7 @@ impl Values {
         requires here { i < length self.now }
         requires script { IfSome (slice_get self.now i)
             (λ value. value.letter ≡ SCRIPT × IsTrue (is_file (script_file value.text))) }
-        ensures { option_map (λ value. without_dot (script_file value.text))
+        ensures { option_map (λ value. without_dot_slash (script_file value.text))
             (slice_get self.now i) ≡ Some result.now }
     {
         match &self.entries[i].file {
@@ -265,7 +265,7 @@ impl Values {
 
 // The name of the file in a value of the option with a letter, if there is one.
 fn read_value_file(alloc: Global, letter: u8, text: &[u8]) -> Result<Option<Name>, AllocError>
-    ensures { IfOk result (λ file. file ≡ file_name (file_part letter text.now)) }
+    ensures { IfOk result (λ file. file ≡ file_name (file_part_of_value letter text.now)) }
 {
     if letter == SCRIPT {
         return read_file(alloc, script_file(text));

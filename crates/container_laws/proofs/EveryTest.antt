@@ -6,10 +6,10 @@ use Rattle.std.proofs.lemmas.Bool.{eqb-true}
 use Rattle.adb_block.specs.Framing.{HeadFields, Step, block, ended, failed, head_of, kind_of_number, next_step, step_by_head, step_by_order, step_by_size}
 use Rattle.adb_block.specs.Header.{header_of}
 use Rattle.adb_block.specs.Piece.{Piece, may_be_next_kind, least_payload}
-use Rattle.adb_block.specs.Reading.{Reading, done, fault, more, reading_by_step, reading_from, reading_of}
-use Rattle.adb_block.specs.ReaderPosition.{start_of}
+use Rattle.adb_block.specs.Reading.{Reading, done, fault, more, block_stream_after_step, block_stream_from_offset, block_stream_from}
+use Rattle.adb_block.specs.ReaderPosition.{first_block_position}
 use Rattle.adb_block.specs.declared.block.BlockKind.{BlockKind}
-use Rattle.pkg_core.specs.adb_schema.Soundness.{blocks_fault, file_fault, is_schema_wanted, payload_fault, root_value, schema_fault, schema_word}
+use Rattle.pkg_core.specs.adb_schema.Soundness.{blocks_fault, file_fault_after_header, is_schema_wanted, payload_fault, root_value, schema_fault, schema_word}
 use Rattle.pkg_core.specs.adb_schema.declared.read.TheConstants.{PACKAGE_WORD, INDEX_WORD, IDB_WORD, INTENT_WORD}
 use Rattle.pkg_core.specs.adb_fields.Repeated.{repeated_fault}
 use Rattle.pkg_core.specs.adb_schema.Texts.{text_fault}
@@ -24,7 +24,7 @@ use Rattle.base_core.specs.declared.cause.Cause.TheVariants.{WrongSchema}
 use Rattle.base_core.proofs.Causes.{both_none}
 use Rattle.container_laws.specs.TestsInOrder.{PassesEveryTest, tests_of_values}
 use Rattle.container_laws.proofs.FirstTests.{chain, five}
-use Rattle.pkg_core.specs.Whole.{fault_after_first, container_fault, fault_by_header, fault_by_schema, root_of_schema, whole_fault}
+use Rattle.pkg_core.specs.Whole.{fault_of_further_blocks, container_fault, container_fault_after_header, container_fault_after_schema, table_of_schema, container_fault_of_table}
 
 -- ---- a file without a block is refused
 
@@ -55,13 +55,13 @@ unfolding next_step
 first_goes_on at bytes =
     either_goes_on (eqb (length bytes) 0) _ _ (λ e. absurd cc) (head_goes_on at bytes (head_of bytes))
 
-by_step : (at : ℕ) (further : Piece → ℕ → Reading) (s : Step) → IsNoEnd s → reading_by_step at further s ≡ done → ⊥
+by_step : (at : ℕ) (further : Piece → ℕ → Reading) (s : Step) → IsNoEnd s → block_stream_after_step at further s ≡ done → ⊥
 by_step at further ended on e = on refl
 by_step at further (failed c) on e = absurd cc
 by_step at further (block b size) on e = absurd cc
 
-not_done : (schema : ℕ) (file : List ℕ) → reading_of (start_of schema file) ≡ done → ⊥
-unfolding reading_of reading_from
+not_done : (schema : ℕ) (file : List ℕ) → block_stream_from (first_block_position schema file) ≡ done → ⊥
+unfolding block_stream_from block_stream_from_offset
 not_done schema file e = by_step 8 _ (next_step None 8 (drop 8 file)) (first_goes_on 8 (drop 8 file)) e
 
 -- ---- tests that do not fail
@@ -90,7 +90,7 @@ chosen_of : (b : Bool) (x y : Option Which) (which : Which) → (if b then x els
 chosen_of true x y which e = inl (refl, e)
 chosen_of false x y which e = inr e
 
-wanted : (schema : ℕ) (which : Which) → root_of_schema schema ≡ Some which → is_schema_wanted (schema_word which) schema ≡ true
+wanted : (schema : ℕ) (which : Which) → table_of_schema schema ≡ Some which → is_schema_wanted (schema_word which) schema ≡ true
 wanted schema which e =
     elim (chosen_of (eqb schema PACKAGE_WORD) _ _ which e) [
       | inl x ↦ named Package PACKAGE_WORD refl refl x.0 x.1
@@ -118,19 +118,19 @@ wanted schema which e =
 
 -- ---- both ways
 
-by_reading : (which : Which) (r : Reading) → (r ≡ done → ⊥) → blocks_fault (fault_after_first which) which r ≡ None
+by_reading : (which : Which) (r : Reading) → (r ≡ done → ⊥) → blocks_fault (fault_of_further_blocks which) which r ≡ None
     → (first : Piece) × (at : ℕ) × (behind : Reading) × (r ≡ more first at behind) × EachPasses (tests_of_values which first.payload behind)
 by_reading which done on e = absurd (on refl)
 by_reading which (fault c) on e = absurd cc
 by_reading which (more b at r) on e =
-    (b, at, r, refl, none_fails (tests_of_values which b.payload r) (sym (five (head_fault b.payload) (shape_fault b.payload (shape_of (Obj which)) (root_of b.payload)) (text_fault which (root_value which b.payload)) (repeated_fault which (root_value which b.payload)) (fault_after_first which (root_value which b.payload) r)) ∙ e))
+    (b, at, r, refl, none_fails (tests_of_values which b.payload r) (sym (five (head_fault b.payload) (shape_fault b.payload (shape_of (Obj which)) (root_of b.payload)) (text_fault which (root_value which b.payload)) (repeated_fault which (root_value which b.payload)) (fault_of_further_blocks which (root_value which b.payload) r)) ∙ e))
 
-by_table : (file : List ℕ) (schema : ℕ) (which : Which) → header_of file ≡ Ok schema → root_of_schema schema ≡ Some which → whole_fault which file ≡ None → PassesEveryTest file
-unfolding whole_fault
+by_table : (file : List ℕ) (schema : ℕ) (which : Which) → header_of file ≡ Ok schema → table_of_schema schema ≡ Some which → container_fault_of_table which file ≡ None → PassesEveryTest file
+unfolding container_fault_of_table
 by_table file schema which header root e =
-    let all : file_fault (fault_after_first which) which file (Ok schema) ≡ None = sym (ap (file_fault (fault_after_first which) which file) header) ∙ e in
+    let all : file_fault_after_header (fault_of_further_blocks which) which file (Ok schema) ≡ None = sym (ap (file_fault_after_header (fault_of_further_blocks which) which file) header) ∙ e in
     let blocks = (both_none (schema_fault which schema) _ all).1 in
-    let (first, at, behind, is, each) = by_reading which (reading_of (start_of schema file)) (not_done schema file) blocks in
+    let (first, at, behind, is, each) = by_reading which (block_stream_from (first_block_position schema file)) (not_done schema file) blocks in
     record {
       schema = schema;
       header = header;
@@ -143,31 +143,31 @@ by_table file schema which header root e =
       each = each;
     }
 
-by_root : (file : List ℕ) (schema : ℕ) (root : Option Which) → header_of file ≡ Ok schema → root_of_schema schema ≡ root → fault_by_schema file schema root ≡ None → PassesEveryTest file
+by_root : (file : List ℕ) (schema : ℕ) (root : Option Which) → header_of file ≡ Ok schema → table_of_schema schema ≡ root → container_fault_after_schema file schema root ≡ None → PassesEveryTest file
 by_root file schema None header root e = absurd cc
 by_root file schema (Some which) header root e = by_table file schema which header root e
 
-by_header : (file : List ℕ) (h : Result ℕ Cause) → header_of file ≡ h → fault_by_header file h ≡ None → PassesEveryTest file
+by_header : (file : List ℕ) (h : Result ℕ Cause) → header_of file ≡ h → container_fault_after_header file h ≡ None → PassesEveryTest file
 by_header file (Err c) header e = absurd cc
-by_header file (Ok schema) header e = by_root file schema (root_of_schema schema) header refl e
+by_header file (Ok schema) header e = by_root file schema (table_of_schema schema) header refl e
 
 passes : (file : List ℕ) → container_fault file ≡ None → PassesEveryTest file
 unfolding container_fault
 passes file e = by_header file (header_of file) refl e
 
 accepted : (file : List ℕ) → PassesEveryTest file → container_fault file ≡ None
-unfolding container_fault whole_fault
+unfolding container_fault container_fault_of_table
 accepted file p =
     let values = tests_of_values p.which p.first.payload p.behind in
-    let blocks : blocks_fault (fault_after_first p.which) p.which (reading_of (start_of p.schema file)) ≡ None =
-    ap (blocks_fault (fault_after_first p.which) p.which) p.blocks
+    let blocks : blocks_fault (fault_of_further_blocks p.which) p.which (block_stream_from (first_block_position p.schema file)) ≡ None =
+    ap (blocks_fault (fault_of_further_blocks p.which) p.which) p.blocks
     ∙ five (head_fault p.first.payload) (shape_fault p.first.payload (shape_of (Obj p.which)) (root_of p.first.payload)) (text_fault p.which (root_value p.which p.first.payload)) (repeated_fault p.which (root_value p.which p.first.payload))
-    (fault_after_first p.which (root_value p.which p.first.payload) p.behind)
+    (fault_of_further_blocks p.which (root_value p.which p.first.payload) p.behind)
     ∙ each_holds values p.each in
-    ap (fault_by_header file) p.header
-    ∙ ap (fault_by_schema file p.schema) p.root
-    ∙ ap (file_fault (fault_after_first p.which) p.which file) p.header
-    ∙ ap (λ (b : Bool). option_or (if b then None else Some (WrongSchema p.schema)) (blocks_fault (fault_after_first p.which) p.which (reading_of (start_of p.schema file)))) (wanted p.schema p.which p.root)
+    ap (container_fault_after_header file) p.header
+    ∙ ap (container_fault_after_schema file p.schema) p.root
+    ∙ ap (file_fault_after_header (fault_of_further_blocks p.which) p.which file) p.header
+    ∙ ap (λ (b : Bool). option_or (if b then None else Some (WrongSchema p.schema)) (blocks_fault (fault_of_further_blocks p.which) p.which (block_stream_from (first_block_position p.schema file)))) (wanted p.schema p.which p.root)
     ∙ blocks
 
 pub every_test : (file : List ℕ) → (container_fault file ≡ None) ↔ PassesEveryTest file

@@ -6,7 +6,7 @@ use Rattle.std.proofs.lemmas.Slice.Eq.{bytes_eq-Decides}
 use Rattle.adb_block.specs.Header.{header_of, is_compressed, word_at}
 use Rattle.base_core.specs.declared.Cause.{Cause}
 use Rattle.base_core.specs.declared.Cause.TheVariants.{NotAdb, Compressed, Truncated}
-use Rattle.container_laws.specs.HeaderFaults.{BeginsAs, IsCompressedFile, IsHeaderFault, IsNoContainer}
+use Rattle.container_laws.specs.HeaderFaults.{BeginsAs, IsCompressedFile, IsHeaderFault, BeginsAsNoContainer}
 
 front_is : (mark file : List ℕ) → bytes_eq (take 4 file) mark ≡ true → BeginsAs mark file
 front_is mark file e =
@@ -42,7 +42,7 @@ by_tests file c false true other cut es ec eo et e =
 by_tests file c false false true cut es ec eo et e =
     let same : NotAdb ≡ c = cc (e) in
     let no : bytes_eq (take 4 file) (codes "ADB.") ≡ false = not-true (bytes_eq (take 4 file) (codes "ADB.")) eo in
-    let unknown : IsNoContainer file = (none_compressed file ec, λ h. let yes = front_of (codes "ADB.") file refl h in cc (no, yes)) in
+    let unknown : BeginsAsNoContainer file = (none_compressed file ec, λ h. let yes = front_of (codes "ADB.") file refl h in cc (no, yes)) in
     inr (inr (inl (ltb-false (length file) 4 es, unknown, sym same)))
 by_tests file c false false false true es ec eo et e =
     let same : Truncated 0 ≡ c = cc (e) in

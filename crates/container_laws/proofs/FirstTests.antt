@@ -3,15 +3,15 @@ use Rattle.std.proofs.Common.{◌≡◌, inl, inr, ℕ, zero, suc, ◌<◌, Bool
 use Rattle.std.specs.Prelude.{slice_get}
 use Rattle.std.specs.Option.{option_or}
 use Rattle.adb_block.specs.Header.{header_of}
-use Rattle.adb_block.specs.Reading.{Reading, done, fault, more, reading_of}
-use Rattle.adb_block.specs.ReaderPosition.{start_of}
-use Rattle.pkg_core.specs.adb_schema.Soundness.{blocks_fault, file_fault, is_schema_wanted, root_value, schema_word}
+use Rattle.adb_block.specs.Reading.{Reading, done, fault, more, block_stream_from}
+use Rattle.adb_block.specs.ReaderPosition.{first_block_position}
+use Rattle.pkg_core.specs.adb_schema.Soundness.{blocks_fault, file_fault_after_header, is_schema_wanted, root_value, schema_word}
 use Rattle.adb_view.specs.declared.tables.Which.{Which}
 use Rattle.base_core.specs.declared.cause.Cause.{Cause}
 use Rattle.base_core.specs.declared.cause.Cause.TheVariants.{WrongSchema}
 use Rattle.container_laws.specs.TestsInOrder.{IsBlocksFault, IsContainerFault, IsFaultOfTable, IsFirstFailing, tests_of_values}
 use Rattle.container_laws.proofs.FirstHeader.{header_told}
-use Rattle.pkg_core.specs.Whole.{fault_after_first, container_fault, fault_by_header, fault_by_schema, root_of_schema, whole_fault}
+use Rattle.pkg_core.specs.Whole.{fault_of_further_blocks, container_fault, container_fault_after_header, container_fault_after_schema, table_of_schema, container_fault_of_table}
 use Rattle.pkg_core.proofs.WholeTests.{or_none}
 
 -- ---- tests in sequence
@@ -44,40 +44,40 @@ five None None None e f = ap (option_or e) (sym (or_none f))
 
 -- ---- the blocks
 
-blocks_told : (which : Which) (r : Reading) (c : Cause) → blocks_fault (fault_after_first which) which r ≡ Some c → IsBlocksFault which r c
+blocks_told : (which : Which) (r : Reading) (c : Cause) → blocks_fault (fault_of_further_blocks which) which r ≡ Some c → IsBlocksFault which r c
 blocks_told which done c e = absurd (cc (e))
 blocks_told which (fault d) c e = let same : d ≡ c = cc (e) in inl (ap fault same)
 blocks_told which (more b at r) c e =
-    inr (b, at, r, refl, first_of (tests_of_values which b.payload r) c (sym (five _ _ _ _ (fault_after_first which (root_value which b.payload) r)) ∙ e))
+    inr (b, at, r, refl, first_of (tests_of_values which b.payload r) c (sym (five _ _ _ _ (fault_of_further_blocks which (root_value which b.payload) r)) ∙ e))
 
 table_by : (which : Which) (file : List ℕ) (c : Cause) (schema : ℕ) (b : Bool) → header_of file ≡ Ok schema → is_schema_wanted (schema_word which) schema ≡ b
-    → option_or (if b then None else Some (WrongSchema schema)) (blocks_fault (fault_after_first which) which (reading_of (start_of schema file))) ≡ Some c → IsFaultOfTable which file c
-table_by which file c schema true header wanted e = inr (schema, header, inr (wanted, blocks_told which (reading_of (start_of schema file)) c e))
+    → option_or (if b then None else Some (WrongSchema schema)) (blocks_fault (fault_of_further_blocks which) which (block_stream_from (first_block_position schema file))) ≡ Some c → IsFaultOfTable which file c
+table_by which file c schema true header wanted e = inr (schema, header, inr (wanted, blocks_told which (block_stream_from (first_block_position schema file)) c e))
 table_by which file c schema false header wanted e =
     let same : WrongSchema schema ≡ c = cc (e) in
     inr (schema, header, inl (wanted, sym same))
 
-by_header : (which : Which) (file : List ℕ) (c : Cause) (h : Result ℕ Cause) → header_of file ≡ h → file_fault (fault_after_first which) which file h ≡ Some c → IsFaultOfTable which file c
+by_header : (which : Which) (file : List ℕ) (c : Cause) (h : Result ℕ Cause) → header_of file ≡ h → file_fault_after_header (fault_of_further_blocks which) which file h ≡ Some c → IsFaultOfTable which file c
 by_header which file c (Err d) header e =
     let same : d ≡ c = cc (e) in
     inl (header_told file c (header ∙ ap Err same))
 by_header which file c (Ok schema) header e = table_by which file c schema (is_schema_wanted (schema_word which) schema) header refl e
 
-pub table_told : (which : Which) (file : List ℕ) (c : Cause) → whole_fault which file ≡ Some c → IsFaultOfTable which file c
-unfolding whole_fault
+pub table_told : (which : Which) (file : List ℕ) (c : Cause) → container_fault_of_table which file ≡ Some c → IsFaultOfTable which file c
+unfolding container_fault_of_table
 table_told which file c e = by_header which file c (header_of file) refl e
 
-by_schema : (file : List ℕ) (c : Cause) (schema : ℕ) (root : Option Which) → header_of file ≡ Ok schema → root_of_schema schema ≡ root → fault_by_schema file schema root ≡ Some c → IsContainerFault file c
+by_schema : (file : List ℕ) (c : Cause) (schema : ℕ) (root : Option Which) → header_of file ≡ Ok schema → table_of_schema schema ≡ root → container_fault_after_schema file schema root ≡ Some c → IsContainerFault file c
 by_schema file c schema None header root e =
     let same : WrongSchema schema ≡ c = cc (e) in
     inr (schema, header, inl (root, sym same))
 by_schema file c schema (Some which) header root e = inr (schema, header, inr (which, root, table_told which file c e))
 
-any_by : (file : List ℕ) (c : Cause) (h : Result ℕ Cause) → header_of file ≡ h → fault_by_header file h ≡ Some c → IsContainerFault file c
+any_by : (file : List ℕ) (c : Cause) (h : Result ℕ Cause) → header_of file ≡ h → container_fault_after_header file h ≡ Some c → IsContainerFault file c
 any_by file c (Err d) header e =
     let same : d ≡ c = cc (e) in
     inl (header_told file c (header ∙ ap Err same))
-any_by file c (Ok schema) header e = by_schema file c schema (root_of_schema schema) header refl e
+any_by file c (Ok schema) header e = by_schema file c schema (table_of_schema schema) header refl e
 
 pub any_told : (file : List ℕ) (c : Cause) → container_fault file ≡ Some c → IsContainerFault file c
 unfolding container_fault

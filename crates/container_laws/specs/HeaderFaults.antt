@@ -13,8 +13,8 @@ abbrev pub IsCompressedFile : List ℕ → Type 0
 IsCompressedFile file = BeginsAs (codes "ADBd") file ⊎ BeginsAs (codes "ADBc") file
 
 -- a file begins as no container that is known
-abbrev pub IsNoContainer : List ℕ → Type 0
-IsNoContainer file = (IsCompressedFile file → ⊥) × (BeginsAs (codes "ADB.") file → ⊥)
+abbrev pub BeginsAsNoContainer : List ℕ → Type 0
+BeginsAsNoContainer file = (IsCompressedFile file → ⊥) × (BeginsAs (codes "ADB.") file → ⊥)
 
 -- The fault of a file's header: it has fewer than four bytes; else it begins as a compressed container;
 -- else it does not begin as a container; else it has fewer than eight bytes
@@ -22,5 +22,5 @@ abbrev pub IsHeaderFault : List ℕ → Cause → Type 0
 IsHeaderFault file c =
     ((length file < 4) × (c ≡ Truncated 0))
     ⊎ ((IsCompressedFile file × (c ≡ Compressed))
-    ⊎ (((4 ≤ length file) × IsNoContainer file × (c ≡ NotAdb))
+    ⊎ (((4 ≤ length file) × BeginsAsNoContainer file × (c ≡ NotAdb))
     ⊎ (BeginsAs (codes "ADB.") file × (length file < 8) × (c ≡ Truncated 0))))

@@ -5,8 +5,8 @@ use Rattle.base_core.specs.declared.cause.Cause.{Cause}
 use Rattle.base_core.specs.declared.cause.Cause.TheVariants.{WrongSchema}
 use Rattle.adb_block.specs.Header.{header_of}
 use Rattle.adb_block.specs.Piece.{Piece}
-use Rattle.adb_block.specs.Reading.{Reading, fault, more, reading_of}
-use Rattle.adb_block.specs.ReaderPosition.{start_of}
+use Rattle.adb_block.specs.Reading.{Reading, fault, more, block_stream_from}
+use Rattle.adb_block.specs.ReaderPosition.{first_block_position}
 use Rattle.pkg_core.specs.adb_fields.Repeated.{repeated_fault}
 use Rattle.pkg_core.specs.adb_schema.Texts.{text_fault}
 use Rattle.pkg_core.specs.adb_schema.Soundness.{is_schema_wanted, root_value, schema_word}
@@ -16,7 +16,7 @@ use Rattle.adb_view.specs.declared.tables.Kind.TheVariants.{Obj}
 use Rattle.adb_view.specs.declared.tables.Which.{Which}
 use Rattle.adb_view.specs.Head.{head_fault, root_of}
 use Rattle.container_laws.specs.HeaderFaults.{IsHeaderFault}
-use Rattle.pkg_core.specs.Whole.{fault_after_first, root_of_schema}
+use Rattle.pkg_core.specs.Whole.{fault_of_further_blocks, table_of_schema}
 
 -- the fault of tests in their order: one test has it, and no test before that has one
 pub record IsFirstFailing (tests : List (Option Cause)) (c : Cause) : Type 0 where
@@ -32,7 +32,7 @@ tests_of_values which payload behind =
     ∷ (shape_fault payload (shape_of (Obj which)) (root_of payload)
     ∷ (text_fault which (root_value which payload)
     ∷ (repeated_fault which (root_value which payload)
-    ∷ (fault_after_first which (root_value which payload) behind ∷ []))))
+    ∷ (fault_of_further_blocks which (root_value which payload) behind ∷ []))))
 
 -- the fault of a file's blocks: the first block is bad; or it is good, and the fault is the first of
 -- its tests or of the further blocks
@@ -50,7 +50,7 @@ IsFaultOfTable which file c =
     ⊎ ((schema : ℕ) × (header_of file ≡ Ok schema)
     × (((is_schema_wanted (schema_word which) schema ≡ false) × (c ≡ WrongSchema schema))
     ⊎ ((is_schema_wanted (schema_word which) schema ≡ true)
-    × IsBlocksFault which (reading_of (start_of schema file)) c)))
+    × IsBlocksFault which (block_stream_from (first_block_position schema file)) c)))
 
 -- the fault of a container of any of the four schemas: of the header, then that its schema is unknown,
 -- then of its tests
@@ -58,8 +58,8 @@ abbrev pub IsContainerFault : List ℕ → Cause → Type 0
 IsContainerFault file c =
     IsHeaderFault file c
     ⊎ ((schema : ℕ) × (header_of file ≡ Ok schema)
-    × (((root_of_schema schema ≡ None) × (c ≡ WrongSchema schema))
-    ⊎ ((which : Which) × (root_of_schema schema ≡ Some which) × IsFaultOfTable which file c)))
+    × (((table_of_schema schema ≡ None) × (c ≡ WrongSchema schema))
+    ⊎ ((which : Which) × (table_of_schema schema ≡ Some which) × IsFaultOfTable which file c)))
 
 -- A file passes every test of a container: it has a header with one of the four schemas, and a first
 -- block; no test of the values and of the blocks after them fails
@@ -67,10 +67,10 @@ pub record PassesEveryTest (file : List ℕ) : Type 0 where
   pub schema : ℕ
   pub header : header_of file ≡ Ok schema
   pub which : Which
-  pub root : root_of_schema schema ≡ Some which
+  pub root : table_of_schema schema ≡ Some which
   pub first : Piece
   pub at : ℕ
   pub behind : Reading
-  pub blocks : reading_of (start_of schema file) ≡ more first at behind
+  pub blocks : block_stream_from (first_block_position schema file) ≡ more first at behind
   pub each : (i : ℕ) (test : Option Cause)
       → slice_get (tests_of_values which first.payload behind) i ≡ Some test → test ≡ None

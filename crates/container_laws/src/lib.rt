@@ -10,7 +10,7 @@ ghost use Rattle.adb_view.specs.declared.tables.Which.{Which};
 ghost use Rattle.base_core.specs.declared.cause.Cause.{Cause};
 ghost use Rattle.container_laws.specs.HeaderFaults.{IsHeaderFault};
 ghost use Rattle.container_laws.specs.TestsInOrder.{IsContainerFault, IsFaultOfTable, PassesEveryTest};
-ghost use Rattle.pkg_core.specs.Whole.{container_fault, whole_fault};
+ghost use Rattle.pkg_core.specs.Whole.{container_fault, container_fault_of_table};
 ghost use Rattle.std.specs.Prelude.{◌≡◌, ◌↔◌, ℕ, Err, List, Some, None};
 
 /// The fault that is reported of a header: no four bytes, else a compressed container, else no
@@ -25,7 +25,7 @@ pub fn the_first_fault_of_a_header_is_reported()
 pub fn the_first_fault_of_a_container_is_reported()
     // Of a file that has to have one table at its root.
     ensures table { (which : Which) (file : List ℕ) (c : Cause)
-        → whole_fault which file ≡ Some c → IsFaultOfTable which file c }
+        → container_fault_of_table which file ≡ Some c → IsFaultOfTable which file c }
     // Of a file of any of the four schemas.
     ensures any { (file : List ℕ) (c : Cause)
         → container_fault file ≡ Some c → IsContainerFault file c }

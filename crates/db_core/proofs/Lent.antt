@@ -4,7 +4,7 @@ use Rattle.std.specs.Prelude.{◌||◌, bytes_eq, is_some, slice_get}
 use Rattle.std.specs.List.{list_all}
 use Rattle.std.proofs.lemmas.Bool.{and_parts}
 use Rattle.std.proofs.lemmas.Slice.Eq.{bytes_eq-Decides}
-use Rattle.db_core.specs.EntrySeen.{is_added_or_has_payload, member_by}
+use Rattle.db_core.specs.EntrySeen.{is_added_or_has_payload, member_of_entry}
 use Rattle.db_core.specs.Members.{Member, is_added}
 use Rattle.db_core.proofs.ListedNames.{Kept}
 
@@ -20,13 +20,13 @@ member_or m None = m
 member_or m (Some found) = found
 
 -- the entry at a place is that of the member there
-pub kept_member : (es : List Kept) (i : ℕ) (e : Kept) (m : Member) → e ≡ get_or es i e → slice_get (map member_by es) i ≡ Some m → member_by e ≡ m
+pub kept_member : (es : List Kept) (i : ℕ) (e : Kept) (m : Member) → e ≡ get_or es i e → slice_get (map member_of_entry es) i ≡ Some m → member_of_entry e ≡ m
 kept_member [] i e m at here = absurd (no_member m here)
-kept_member (x ∷ es) zero e m at here = ap (λ (k : Kept). member_by k) at ∙ ap (member_or m) here
+kept_member (x ∷ es) zero e m at here = ap (λ (k : Kept). member_of_entry k) at ∙ ap (member_or m) here
 kept_member (x ∷ es) (suc i) e m at here = kept_member es i e m at here
 
 -- of one that stays it has the payload of the database
-pub kept_lent : (payload : List ℕ) (es : List Kept) (i : ℕ) (e : Kept) (m : Member) → list_all (is_added_or_has_payload payload) es ≡ true → e ≡ get_or es i e → slice_get (map member_by es) i ≡ Some m → is_added m ≡ false → e.0 ≡ payload
+pub kept_lent : (payload : List ℕ) (es : List Kept) (i : ℕ) (e : Kept) (m : Member) → list_all (is_added_or_has_payload payload) es ≡ true → e ≡ get_or es i e → slice_get (map member_of_entry es) i ≡ Some m → is_added m ≡ false → e.0 ≡ payload
 kept_lent payload [] i e m all at here stays = absurd (no_member m here)
 kept_lent payload (x ∷ es) zero e m all at here stays =
     let one = and_parts (is_added_or_has_payload payload x) (list_all (is_added_or_has_payload payload) es) all in

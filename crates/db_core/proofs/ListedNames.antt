@@ -19,10 +19,10 @@ use Rattle.pkg_core.specs.adb_fields.Paths.{path_of}
 use Rattle.pkg_core.specs.adb_fields.Repeated.{files_in, folders_in, list_of, name_of, paths_in, paths_under}
 use Rattle.pkg_core.specs.adb_schema.Reserved.{is_reserved}
 use Rattle.pkg_core.specs.adb_schema.Rules.{is_file_name, is_folder_name, is_one_part}
-use Rattle.pkg_core.specs.adb_schema.SoundValues.{IsFileOf, IsFolder, IsPackage}
-use Rattle.db_core.specs.EntrySeen.{member_by}
-use Rattle.db_core.specs.Members.{Member, is_added, listings_by, listings_from, listings_in_folder, listings_in_folders, member_listings, member_of_kept}
-use Rattle.db_core.specs.Packages.{is_added_or_lists_no_reserved, lists_names, lists_no_reserved}
+use Rattle.pkg_core.specs.adb_schema.SoundValues.{IsSoundFileOf, IsSoundFolder, IsSoundPackage}
+use Rattle.db_core.specs.EntrySeen.{member_of_entry}
+use Rattle.db_core.specs.Members.{Member, is_added, listings_of_member, listings_of_members_from, listings_in_folder, listings_in_folders, member_listings, member_of_kept}
+use Rattle.db_core.specs.Packages.{is_added_or_lists_no_reserved, lists_only_valid_names, lists_no_reserved_path}
 
 -- ---- a name behind another one and a slash
 
@@ -62,12 +62,12 @@ path_named (b ∷ folder) name h file =
 -- ---- the paths of a package that keeps the rules
 
 module _ (p : List ℕ → Bool) (root : Which)
-    (file_passes : (folder : List ℕ) (v : Plain) → is_folder_name folder ≡ true → IsFileOf root folder v → p (path_of folder (name_of v)) ≡ true) where
-  files_pass : (folder : List ℕ) → is_folder_name folder ≡ true → (vs : Plains) → Each (IsFileOf root folder) vs → list_all p (map (λ file. path_of folder (name_of file)) (list_of vs)) ≡ true
+    (file_passes : (folder : List ℕ) (v : Plain) → is_folder_name folder ≡ true → IsSoundFileOf root folder v → p (path_of folder (name_of v)) ≡ true) where
+  files_pass : (folder : List ℕ) → is_folder_name folder ≡ true → (vs : Plains) → Each (IsSoundFileOf root folder) vs → list_all p (map (λ file. path_of folder (name_of file)) (list_of vs)) ≡ true
   files_pass folder h none each = refl
   files_pass folder h (more v vs) each = and_from (p (path_of folder (name_of v))) _ (file_passes folder v h each.0) (files_pass folder h vs each.1)
 
-  folders_pass : (vs : Plains) → Each (IsFolder root) vs → list_all p (flat_map paths_under (list_of vs)) ≡ true
+  folders_pass : (vs : Plains) → Each (IsSoundFolder root) vs → list_all p (flat_map paths_under (list_of vs)) ≡ true
   folders_pass none each = refl
   folders_pass (more v vs) each =
       list_all-append p (paths_under v) (flat_map paths_under (list_of vs))
@@ -75,24 +75,24 @@ module _ (p : List ℕ → Bool) (root : Which)
       (files_pass (name_of v) each.0.name (entries_in (entry_in v 2)) each.0.files)
       (folders_pass vs each.1)
 
-  package_passes : (v : Plain) → IsPackage root v → list_all p (paths_in v) ≡ true
+  package_passes : (v : Plain) → IsSoundPackage root v → list_all p (paths_in v) ≡ true
   package_passes v is = folders_pass (entries_in (entry_in v 1)) is.folders
 
-  packages_pass : (vs : Plains) → Each (IsPackage root) vs → list_all (λ v. list_all p (paths_in v)) (list_of vs) ≡ true
+  packages_pass : (vs : Plains) → Each (IsSoundPackage root) vs → list_all (λ v. list_all p (paths_in v)) (list_of vs) ≡ true
   packages_pass none each = refl
   packages_pass (more v vs) each = and_from (list_all p (paths_in v)) (list_all (λ v. list_all p (paths_in v)) (list_of vs)) (package_passes v each.0) (packages_pass vs each.1)
 
-file_named : (root : Which) (folder : List ℕ) (v : Plain) → is_folder_name folder ≡ true → IsFileOf root folder v → is_name (path_of folder (name_of v)) ≡ true
+file_named : (root : Which) (folder : List ℕ) (v : Plain) → is_folder_name folder ≡ true → IsSoundFileOf root folder v → is_name (path_of folder (name_of v)) ≡ true
 file_named root folder v h file = path_named folder (name_of v) h file.name
 
-pub package_lists_names : (root : Which) (v : Plain) → IsPackage root v → lists_names v ≡ true
+pub package_lists_names : (root : Which) (v : Plain) → IsSoundPackage root v → lists_only_valid_names v ≡ true
 package_lists_names root v is = package_passes is_name root (file_named root) v is
 
-pub packages_list_names : (root : Which) (vs : Plains) → Each (IsPackage root) vs → list_all lists_names (list_of vs) ≡ true
+pub packages_list_names : (root : Which) (vs : Plains) → Each (IsSoundPackage root) vs → list_all lists_only_valid_names (list_of vs) ≡ true
 packages_list_names root vs each = packages_pass is_name root (file_named root) vs each
 
 -- in a database none is reserved
-pub packages_list_no_reserved : (vs : Plains) → Each (IsPackage Idb) vs → list_all lists_no_reserved (list_of vs) ≡ true
+pub packages_list_no_reserved : (vs : Plains) → Each (IsSoundPackage Idb) vs → list_all lists_no_reserved_path (list_of vs) ≡ true
 packages_list_no_reserved vs each = packages_pass (λ path. not (is_reserved path)) Idb (λ folder v h file. file.listed) vs each
 
 -- ---- of a database and of members
@@ -128,30 +128,30 @@ module _ (q : Member → List ℕ → Bool) where
       ∙ ((λ j. in_folder m place i 1 (name_of f) (files_in f) j && in_folders m place (i + 1) fs j)
       ∙ sym (list_all-append (q m) (paths_under f) (flat_map paths_under fs)))
 
-  in_members : (place : ℕ) (ms : List Member) → list_all (λ l. q l.member l.path) (listings_from place ms) ≡ list_all (λ m. list_all (q m) (paths_in m.pkg)) ms
+  in_members : (place : ℕ) (ms : List Member) → list_all (λ l. q l.member l.path) (listings_of_members_from place ms) ≡ list_all (λ m. list_all (q m) (paths_in m.pkg)) ms
   in_members place [] = refl
   in_members place (m ∷ ms) =
-      list_all-append (λ l. q l.member l.path) (listings_by place m) (listings_from (place + 1) ms)
+      list_all-append (λ l. q l.member l.path) (listings_of_member place m) (listings_of_members_from (place + 1) ms)
       ∙ (λ j. in_folders m place 1 (folders_in m.pkg) j && in_members (place + 1) ms j)
 
   all_pass : (ms : List Member) → list_all (λ m. list_all (q m) (paths_in m.pkg)) ms ≡ true → All (λ l. q l.member l.path ≡ true) (member_listings ms)
   unfolding member_listings
-  all_pass ms h k d l = passes_at (λ l. q l.member l.path) (listings_from 0 ms) (in_members 0 ms ∙ h) k d l
+  all_pass ms h k d l = passes_at (λ l. q l.member l.path) (listings_of_members_from 0 ms) (in_members 0 ms ∙ h) k d l
 
 packages_all_pass : (p : List ℕ → Bool) (pkgs : List Plain) → list_all (λ v. list_all p (paths_in v)) pkgs ≡ true → All (λ l. p l.path ≡ true) (member_listings (map member_of_kept pkgs))
 packages_all_pass p pkgs h = all_pass (λ m. p) (map member_of_kept pkgs) (list_all-map (λ (m : Member). list_all p (paths_in m.pkg)) member_of_kept pkgs ∙ h)
 
-pub packages_named : (pkgs : List Plain) → list_all lists_names pkgs ≡ true → All (λ l. IsName l.path) (member_listings (map member_of_kept pkgs))
+pub packages_named : (pkgs : List Plain) → list_all lists_only_valid_names pkgs ≡ true → All (λ l. IsName l.path) (member_listings (map member_of_kept pkgs))
 packages_named pkgs h = packages_all_pass is_name pkgs h
 
-pub packages_unreserved : (pkgs : List Plain) → list_all lists_no_reserved pkgs ≡ true → All (λ l. is_reserved l.path ≡ false) (member_listings (map member_of_kept pkgs))
+pub packages_unreserved : (pkgs : List Plain) → list_all lists_no_reserved_path pkgs ≡ true → All (λ l. is_reserved l.path ≡ false) (member_listings (map member_of_kept pkgs))
 packages_unreserved pkgs h k d l = not-true (is_reserved (get_or (member_listings (map member_of_kept pkgs)) k d).path) (packages_all_pass (λ path. not (is_reserved path)) pkgs h k d l)
 
 abbrev pub Kept : Type 0
 Kept = List ℕ × ℕ × Option (List ℕ)
 
-pub members_named : (es : List Kept) → list_all (λ e. lists_names (member_by e).pkg) es ≡ true → All (λ l. IsName l.path) (member_listings (map member_by es))
-members_named es h = all_pass (λ m. is_name) (map member_by es) (list_all-map (λ (m : Member). lists_names m.pkg) member_by es ∙ h)
+pub members_named : (es : List Kept) → list_all (λ e. lists_only_valid_names (member_of_entry e).pkg) es ≡ true → All (λ l. IsName l.path) (member_listings (map member_of_entry es))
+members_named es h = all_pass (λ m. is_name) (map member_of_entry es) (list_all-map (λ (m : Member). lists_only_valid_names m.pkg) member_of_entry es ∙ h)
 
 pub passed_more : (p : Kept → Bool) {A B : Type 0} (r : Result A B) (es new : List Kept) (e : Kept) → new ≡ (if is_ok r then es ++ e ∷ [] else es) → list_all p es ≡ true → p e ≡ true → list_all p new ≡ true
 passed_more p (Ok x) es new e is all one =
@@ -179,7 +179,7 @@ members_free (m ∷ ms) h =
     let parts = and_parts (is_added_or_lists_no_reserved m) (list_all is_added_or_lists_no_reserved ms) h in
     and_from _ _ (paths_free (is_added m) (paths_in m.pkg) parts.0) (members_free ms parts.1)
 
-pub stays_unreserved : (es : List Kept) → list_all (λ e. is_added_or_lists_no_reserved (member_by e)) es ≡ true → All (λ l. is_added l.member ≡ false → is_reserved l.path ≡ false) (member_listings (map member_by es))
+pub stays_unreserved : (es : List Kept) → list_all (λ e. is_added_or_lists_no_reserved (member_of_entry e)) es ≡ true → All (λ l. is_added l.member ≡ false → is_reserved l.path ≡ false) (member_listings (map member_of_entry es))
 unfolding comes_or_free
 stays_unreserved es h k d l stays =
-    not-true _ (either _ _ (all_pass comes_or_free (map member_by es) (members_free (map member_by es) (list_all-map is_added_or_lists_no_reserved member_by es ∙ h)) k d l) stays)
+    not-true _ (either _ _ (all_pass comes_or_free (map member_of_entry es) (members_free (map member_of_entry es) (list_all-map is_added_or_lists_no_reserved member_of_entry es ∙ h)) k d l) stays)

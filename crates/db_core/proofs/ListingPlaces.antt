@@ -5,7 +5,7 @@ use Rattle.adb_view.specs.Plain.{Plain}
 use Rattle.pkg_core.specs.adb_fields.Paths.{path_of}
 use Rattle.pkg_core.specs.adb_fields.Repeated.{files_in, folders_in, name_of}
 use Rattle.db_core.specs.ListedAt.{IsListedAt}
-use Rattle.db_core.specs.Members.{Listing, Member, listings_by, listings_from, listings_in_folder, listings_in_folders, member_listings}
+use Rattle.db_core.specs.Members.{Listing, Member, listings_of_member, listings_of_members_from, listings_in_folder, listings_in_folders, member_listings}
 
 abbrev is_one : {X : Type 0} → Option X → Bool
 is_one None = false
@@ -99,9 +99,9 @@ record InMembers (place : ℕ) (ms : List Member) (l : Listing) : Type 0 where
   member : slice_get ms (l.place - place) ≡ Some l.member
   within : InFolders l.member l.place 1 (folders_in l.member.pkg) l
 
-in_members : (place : ℕ) (ms : List Member) (k : ℕ) (l : Listing) → slice_get (listings_from place ms) k ≡ Some l → InMembers place ms l
+in_members : (place : ℕ) (ms : List Member) (k : ℕ) (l : Listing) → slice_get (listings_of_members_from place ms) k ≡ Some l → InMembers place ms l
 in_members place [] k l g = absurd (no_some l g)
-in_members place (m ∷ ms) k l g = go (in_either (listings_by place m) (listings_from (place + 1) ms) k l g) (in_members (place + 1) ms)
+in_members place (m ∷ ms) k l g = go (in_either (listings_of_member place m) (listings_of_members_from (place + 1) ms) k l g) (in_members (place + 1) ms)
   where
     further : InMembers (place + 1) ms l → InMembers place (m ∷ ms) l
     further r =
@@ -126,8 +126,8 @@ in_members place (m ∷ ms) k l g = go (in_either (listings_by place m) (listing
           };
         }
 
-    go : (slice_get (listings_by place m) k ≡ Some l) ⊎ ((j : ℕ) × (slice_get (listings_from (place + 1) ms) j ≡ Some l))
-        → ((j : ℕ) (l : Listing) → slice_get (listings_from (place + 1) ms) j ≡ Some l → InMembers (place + 1) ms l)
+    go : (slice_get (listings_of_member place m) k ≡ Some l) ⊎ ((j : ℕ) × (slice_get (listings_of_members_from (place + 1) ms) j ≡ Some l))
+        → ((j : ℕ) (l : Listing) → slice_get (listings_of_members_from (place + 1) ms) j ≡ Some l → InMembers (place + 1) ms l)
         → InMembers place (m ∷ ms) l
     go (inl h) rest = here (in_folders m place 1 (folders_in m.pkg) k l h)
     go (inr (j, h)) rest = further (rest j l h)

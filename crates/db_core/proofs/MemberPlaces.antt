@@ -9,15 +9,15 @@ use Rattle.std.proofs.lemmas.Bool.{cases_eq, cases_lt}
 use Rattle.std.proofs.lemmas.Bool.Decides.{eqb_tells}
 use Rattle.std.proofs.lemmas.Cmp.{nat_list_cmp_total, tied_itself}
 use Rattle.std.proofs.lemmas.List.{get_or-map, length-map}
-use Rattle.base_core.specs.Listed.{IsRising}
+use Rattle.base_core.specs.Listed.{AreSortedDistinctNames}
 use Rattle.base_core.specs.ByteOrder.{bytes_cmp, precedes}
 use Rattle.base_core.proofs.Orderings.{is_less}
-use Rattle.db_core.specs.EntrySeen.{member_by}
-use Rattle.db_core.specs.Members.{Member, is_place, member_name}
+use Rattle.db_core.specs.EntrySeen.{member_of_entry}
+use Rattle.db_core.specs.Members.{Member, is_found_place, member_name}
 use Rattle.db_core.proofs.Ordered.{Kept, kept_names}
 
 abbrev pub kept_name : Kept → List ℕ
-kept_name e = member_name (member_by e)
+kept_name e = member_name (member_of_entry e)
 
 abbrev is_one : {X : Type 0} → Option X → Bool
 is_one None = false
@@ -30,12 +30,12 @@ value_or d (Some x) = x
 -- ---- the names of those that are kept
 
 -- of two the later one has the greater name
-later : (es : List Kept) → IsRising (kept_names es) → (i j : ℕ) (d : Kept) → i < j → j < length es → bytes_cmp (kept_name (get_or es i d)) (kept_name (get_or es j d)) ≡ Less
+later : (es : List Kept) → AreSortedDistinctNames (kept_names es) → (i j : ℕ) (d : Kept) → i < j → j < length es → bytes_cmp (kept_name (get_or es i d)) (kept_name (get_or es j d)) ≡ Less
 later es rising i j d l m =
     sym (λ k. bytes_cmp (get_or-map kept_name es i d (kept_name d) (omega (arith, l, m)) k) (get_or-map kept_name es j d (kept_name d) m k))
     ∙ rising i j (kept_name d) l (omega (arith, m, length-map es kept_name))
 
-pub kept_parted : (es : List Kept) (q : List ℕ) → IsRising (kept_names es) → IsPartitionedBy (λ e. precedes (kept_name e) q) es
+pub kept_parted : (es : List Kept) (q : List ℕ) → AreSortedDistinctNames (kept_names es) → IsPartitionedBy (λ e. precedes (kept_name e) q) es
 kept_parted es q rising i j d le l h = go (cases_eq i j)
   where
     go : (i ≡ j) ⊎ (i ≡ j → ⊥) → precedes (kept_name (get_or es i d)) q ≡ true
@@ -44,7 +44,7 @@ kept_parted es q rising i j d le l h = go (cases_eq i j)
         let less : bytes_cmp (kept_name (get_or es j d)) q ≡ Less = is_less (bytes_cmp (kept_name (get_or es j d)) q) h in
         ap is_lt (nat_list_cmp_total.trans (kept_name (get_or es i d)) (kept_name (get_or es j d)) q (later es rising i j d (omega (arith, le, n)) l) less)
 
-module _ (es : List Kept) (q : List ℕ) (at : ℕ) (rising : IsRising (kept_names es))
+module _ (es : List Kept) (q : List ℕ) (at : ℕ) (rising : AreSortedDistinctNames (kept_names es))
     (point : IsPartitionPoint (λ e. precedes (kept_name e) q ≡ true) (λ e. precedes (kept_name e) q ≡ false) es at) where
   -- one that stands elsewhere has another name
   other_there : (i : ℕ) (d : Kept) → i < length es → (i ≡ at → ⊥) → bytes_eq (kept_name (get_or es i d)) q ≡ false
@@ -61,12 +61,12 @@ module _ (es : List Kept) (q : List ℕ) (at : ℕ) (rising : IsRising (kept_nam
           absurd (true≢false (sym (ap is_lt less) ∙ (ap (λ b. precedes (kept_name (get_or es at d)) b) is ∙ point.1 at d (omega arith) (omega (arith, above, n, l)))))
 
   -- a member by its place
-  member_there : (xs : List Kept) (i : ℕ) (m : Member) (d : Kept) → slice_get (map member_by xs) i ≡ Some m → (i < length xs) × (kept_name (get_or xs i d) ≡ member_name m)
+  member_there : (xs : List Kept) (i : ℕ) (m : Member) (d : Kept) → slice_get (map member_of_entry xs) i ≡ Some m → (i < length xs) × (kept_name (get_or xs i d) ≡ member_name m)
   member_there [] i m d g = absurd (true≢false (sym (ap is_one g)))
   member_there (x ∷ xs) zero m d g = (omega arith, ap (λ o. member_name (value_or m o)) g)
   member_there (x ∷ xs) (suc i) m d g = let r = member_there xs i m d g in (omega (arith, r.0), r.1)
 
-  pub none_at_end : at ≡ length es → (i : ℕ) (m : Member) → slice_get (map member_by es) i ≡ Some m → false ≡ bytes_eq (member_name m) q
+  pub none_at_end : at ≡ length es → (i : ℕ) (m : Member) → slice_get (map member_of_entry es) i ≡ Some m → false ≡ bytes_eq (member_name m) q
   none_at_end e i m g =
       let d : Kept = ([], 0, None) in
       let r = member_there es i m d g in
@@ -75,7 +75,7 @@ module _ (es : List Kept) (q : List ℕ) (at : ℕ) (rising : IsRising (kept_nam
       n_less : (n : ℕ) → n < n → ⊥
       n_less n h = omega (arith, h)
 
-  pub none_is_there : (d : Kept) → bytes_eq (kept_name (get_or es at d)) q ≡ false → (i : ℕ) (m : Member) → slice_get (map member_by es) i ≡ Some m → false ≡ bytes_eq (member_name m) q
+  pub none_is_there : (d : Kept) → bytes_eq (kept_name (get_or es at d)) q ≡ false → (i : ℕ) (m : Member) → slice_get (map member_of_entry es) i ≡ Some m → false ≡ bytes_eq (member_name m) q
   none_is_there d f i m g =
       let r = member_there es i m d g in
       sym (ap (λ a. bytes_eq a q) (sym r.1) ∙ go r.0 (cases_eq i at))
@@ -84,7 +84,7 @@ module _ (es : List Kept) (q : List ℕ) (at : ℕ) (rising : IsRising (kept_nam
       go l (inl s) = ap (λ k. bytes_eq (kept_name (get_or es k d)) q) s ∙ f
       go l (inr n) = other_there i d l n
 
-  pub one_is_there : (d : Kept) → bytes_eq (kept_name (get_or es at d)) q ≡ true → (i : ℕ) (m : Member) → slice_get (map member_by es) i ≡ Some m → is_place i (Some at) ≡ bytes_eq (member_name m) q
+  pub one_is_there : (d : Kept) → bytes_eq (kept_name (get_or es at d)) q ≡ true → (i : ℕ) (m : Member) → slice_get (map member_of_entry es) i ≡ Some m → is_found_place i (Some at) ≡ bytes_eq (member_name m) q
   one_is_there d f i m g =
       let r = member_there es i m d g in
       go r.0 (eqb_tells at i) ∙ ap (λ a. bytes_eq a q) r.1

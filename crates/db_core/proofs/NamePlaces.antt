@@ -17,7 +17,7 @@ use Rattle.base_core.proofs.Sorting.{Each, Rises, ranks, rises_sorted, sorted_up
 use Rattle.adb_view.specs.Plain.{Plain, Plains, none, more}
 use Rattle.adb_view.specs.Values.{count_of, nth}
 use Rattle.pkg_core.specs.adb_fields.Repeated.{list_of, package_name}
-use Rattle.db_core.specs.NamePlaces.{NameWithPlace, placed_name_cmp, placed_names_in_order, place_named, placed_names_from}
+use Rattle.db_core.specs.NamePlaces.{NameWithPlace, placed_name_cmp, placed_names_in_order, place_under_name, placed_names_from}
 use Rattle.db_core.specs.NameSeen.{name_seen}
 use Rattle.db_core.specs.Packages.{is_package_named}
 use Rattle.db_core.specs.declared.name_places.NamePlace.{NamePlace}
@@ -87,17 +87,17 @@ found_sorted : (q : List ℕ) (xs : List NameWithPlace) → find (is_named q) (s
 found_sorted q [] = refl
 found_sorted q (x ∷ xs) = found_put q x (sorted_by placed_name_cmp xs) ∙ ap (λ o. cond (is_named q x) (Some x) o) (found_sorted q xs)
 
-found_place : (q : List ℕ) (n : ℕ) (pkgs : List Plain) → place_named q (placed_names_from n pkgs) ≡ position_from (is_package_named q) n pkgs
+found_place : (q : List ℕ) (n : ℕ) (pkgs : List Plain) → place_under_name q (placed_names_from n pkgs) ≡ position_from (is_package_named q) n pkgs
 found_place q n [] = refl
 found_place q n (pkg ∷ pkgs) = go (is_package_named q pkg) (found_place q (n + 1) pkgs)
   where
-    go : (t : Bool) → place_named q (placed_names_from (n + 1) pkgs) ≡ position_from (is_package_named q) (n + 1) pkgs
+    go : (t : Bool) → place_under_name q (placed_names_from (n + 1) pkgs) ≡ position_from (is_package_named q) (n + 1) pkgs
         → option_map (λ m. m.place) (cond t (Some (record { name = package_name pkg; place = n })) (find (is_named q) (placed_names_from (n + 1) pkgs))) ≡ cond t (Some n) (position_from (is_package_named q) (n + 1) pkgs)
     go true r = refl
     go false r = r
 
 -- the place that is found is that of the first package with the name
-pub place_in_order : (q : List ℕ) (pkgs : List Plain) → place_named q (placed_names_in_order pkgs) ≡ position_from (is_package_named q) 0 pkgs
+pub place_in_order : (q : List ℕ) (pkgs : List Plain) → place_under_name q (placed_names_in_order pkgs) ≡ position_from (is_package_named q) 0 pkgs
 place_in_order q pkgs = ap (option_map (λ m. m.place)) (found_sorted q (placed_names_from 0 pkgs)) ∙ found_place q 0 pkgs
 
 -- ---- where a name stands
@@ -160,7 +160,7 @@ point_seen ns q i l (low, high) = (
 
 module _ (ns : List NamePlace) (q : List ℕ) (i : ℕ) (up : IsSorted placed_name_cmp (map name_seen ns))
     (point : IsPartitionPoint (λ n. precedes n.name q ≡ true) (λ n. precedes n.name q ≡ false) (map name_seen ns) i) where
-  found_at : place_named q (map name_seen ns) ≡ option_map (λ n. n.place) (at_place q (slice_get (map name_seen ns) i))
+  found_at : place_under_name q (map name_seen ns) ≡ option_map (λ n. n.place) (at_place q (slice_get (map name_seen ns) i))
   found_at =
       ap (option_map (λ n. n.place))
       (parted q (map name_seen ns) i (rises_sorted is_below (ranks placed_name_cmp names_total) (map name_seen ns) up) (λ k d l. point.0 k d (omega arith) l) point.1)
@@ -175,15 +175,15 @@ module _ (ns : List NamePlace) (q : List ℕ) (i : ℕ) (up : IsSorted placed_na
   seen_at (x ∷ xs) zero d l = refl
   seen_at (x ∷ xs) (suc k) d l = seen_at xs k d (omega arith)
 
-  pub none_past : i ≡ length ns → None ≡ place_named q (map name_seen ns)
+  pub none_past : i ≡ length ns → None ≡ place_under_name q (map name_seen ns)
   none_past e = sym (found_at ∙ ap (λ o. option_map (λ n. n.place) (at_place q o)) (past ns i (omega (arith, e))))
 
-  pub none_there : (d : NamePlace) → i < length ns → bytes_eq (get_or ns i d).name.now q ≡ false → None ≡ place_named q (map name_seen ns)
+  pub none_there : (d : NamePlace) → i < length ns → bytes_eq (get_or ns i d).name.now q ≡ false → None ≡ place_under_name q (map name_seen ns)
   none_there d l e =
       sym (found_at ∙ (ap (λ o. option_map (λ n. n.place) (at_place q o)) (seen_at ns i d l)
       ∙ ap (λ t. option_map (λ n. n.place) (cond t (Some (name_seen (get_or ns i d))) None)) e))
 
-  pub one_there : (d : NamePlace) → i < length ns → bytes_eq (get_or ns i d).name.now q ≡ true → Some (get_or ns i d).place ≡ place_named q (map name_seen ns)
+  pub one_there : (d : NamePlace) → i < length ns → bytes_eq (get_or ns i d).name.now q ≡ true → Some (get_or ns i d).place ≡ place_under_name q (map name_seen ns)
   one_there d l e =
       sym (found_at ∙ (ap (λ o. option_map (λ n. n.place) (at_place q o)) (seen_at ns i d l)
       ∙ ap (λ t. option_map (λ n. n.place) (cond t (Some (name_seen (get_or ns i d))) None)) e))

@@ -3,11 +3,11 @@ use Rattle.std.proofs.Common.{◌≡◌, ◌⊎◌, inl, inr, ℕ, suc, zero, �
 use Rattle.std.specs.Prelude.{get_or, if◌then◌else◌, is_ok}
 use Rattle.std.proofs.lemmas.Cmp.{nat_list_cmp_total}
 use Rattle.std.proofs.lemmas.List.{length-map}
-use Rattle.base_core.specs.Listed.{IsRising}
+use Rattle.base_core.specs.Listed.{AreSortedDistinctNames}
 use Rattle.base_core.proofs.Rising.{IsIn, Rises, pairs_from_rises, rises_from_pairs}
 use Rattle.base_core.specs.ByteOrder.{bytes_cmp, precedes}
 use Rattle.base_core.proofs.Orderings.{is_less}
-use Rattle.db_core.specs.EntrySeen.{member_by}
+use Rattle.db_core.specs.EntrySeen.{member_of_entry}
 use Rattle.db_core.specs.Members.{AreInOrder, Member, is_after_members, member_name}
 
 -- as is_after_members, of names
@@ -53,7 +53,7 @@ after_names name (m ∷ n ∷ members) h = after_names name (n ∷ members) h
 pub in_order_more : (members : List Member) (m : Member) → AreInOrder members → is_after_members (member_name m) members ≡ true → AreInOrder (members ++ m ∷ [])
 in_order_more members m rising behind =
     let rises : Rises (map member_name members) = rises_from_pairs _ rising in
-    subst IsRising (sym (names_more members m))
+    subst AreSortedDistinctNames (sym (names_more members m))
     (pairs_from_rises _ (rises_more (member_name m) (map member_name members) rises (all_before (member_name m) (map member_name members) rises (after_names (member_name m) members behind))))
 
 -- ---- as the program keeps them
@@ -62,35 +62,35 @@ abbrev pub Kept : Type 0
 Kept = List ℕ × ℕ × Option (List ℕ)
 
 abbrev pub kept_names : List Kept → List (List ℕ)
-kept_names es = map (λ e. member_name (member_by e)) es
+kept_names es = map (λ e. member_name (member_of_entry e)) es
 
-names_are : (es : List Kept) → kept_names es ≡ map member_name (map member_by es)
+names_are : (es : List Kept) → kept_names es ≡ map member_name (map member_of_entry es)
 names_are [] = refl
-names_are (e ∷ es) = ap (λ names. member_name (member_by e) ∷ names) (names_are es)
+names_are (e ∷ es) = ap (λ names. member_name (member_of_entry e) ∷ names) (names_are es)
 
-members_more : (es : List Kept) (e : Kept) → map member_by (es ++ e ∷ []) ≡ map member_by es ++ member_by e ∷ []
+members_more : (es : List Kept) (e : Kept) → map member_of_entry (es ++ e ∷ []) ≡ map member_of_entry es ++ member_of_entry e ∷ []
 members_more [] e = refl
-members_more (x ∷ es) e = ap (λ ms. member_by x ∷ ms) (members_more es e)
+members_more (x ∷ es) e = ap (λ ms. member_of_entry x ∷ ms) (members_more es e)
 
-pub members_in_order : (es : List Kept) → IsRising (kept_names es) → AreInOrder (map member_by es)
-members_in_order es h = subst IsRising (names_are es) h
+pub members_in_order : (es : List Kept) → AreSortedDistinctNames (kept_names es) → AreInOrder (map member_of_entry es)
+members_in_order es h = subst AreSortedDistinctNames (names_are es) h
 
-pub kept_more : {A B : Type 0} (r : Result A B) (es new : List Kept) (e : Kept) → new ≡ (if is_ok r then es ++ e ∷ [] else es) → IsRising (kept_names es)
-    → is_after_members (member_name (member_by e)) (map member_by es) ≡ true → IsRising (kept_names new)
+pub kept_more : {A B : Type 0} (r : Result A B) (es new : List Kept) (e : Kept) → new ≡ (if is_ok r then es ++ e ∷ [] else es) → AreSortedDistinctNames (kept_names es)
+    → is_after_members (member_name (member_of_entry e)) (map member_of_entry es) ≡ true → AreSortedDistinctNames (kept_names new)
 kept_more (Ok x) es new e is h behind =
-    let ordered : AreInOrder (map member_by es ++ member_by e ∷ []) = in_order_more (map member_by es) (member_by e) (members_in_order es h) behind in
-    subst IsRising (sym (ap kept_names is ∙ names_are (es ++ e ∷ []))) (subst AreInOrder (sym (members_more es e)) ordered)
-kept_more (Err x) es new e is h behind = subst IsRising (sym (ap kept_names is)) h
+    let ordered : AreInOrder (map member_of_entry es ++ member_of_entry e ∷ []) = in_order_more (map member_of_entry es) (member_of_entry e) (members_in_order es h) behind in
+    subst AreSortedDistinctNames (sym (ap kept_names is ∙ names_are (es ++ e ∷ []))) (subst AreInOrder (sym (members_more es e)) ordered)
+kept_more (Err x) es new e is h behind = subst AreSortedDistinctNames (sym (ap kept_names is)) h
 
 pub few_more : {A B : Type 0} (r : Result A B) (es new : List Kept) (e : Kept) (most : ℕ) → new ≡ (if is_ok r then es ++ e ∷ [] else es) → length es ≤ most
-    → length (map member_by es) < most → length new ≤ most
-few_more (Ok x) es new e most is h few = omega (arith, ap length is, length-append es (e ∷ []), length-map es member_by, few)
+    → length (map member_of_entry es) < most → length new ≤ most
+few_more (Ok x) es new e most is h few = omega (arith, ap length is, length-append es (e ∷ []), length-map es member_of_entry, few)
 few_more (Err x) es new e most is h few = omega (arith, ap length is, h)
 
 -- the last one decides
-pub last_decides : (name : List ℕ) (es : List Kept) (e : Kept) (k : ℕ) → suc k ≡ length (map member_by es) → e ≡ get_or es k e → precedes (member_name (member_by e)) name ≡ is_after_members name (map member_by es)
+pub last_decides : (name : List ℕ) (es : List Kept) (e : Kept) (k : ℕ) → suc k ≡ length (map member_of_entry es) → e ≡ get_or es k e → precedes (member_name (member_of_entry e)) name ≡ is_after_members name (map member_of_entry es)
 last_decides name [] e k h at = absurd (omega (arith, h))
-last_decides name (x ∷ []) e zero h at = ap (λ (z : Kept). precedes (member_name (member_by z)) name) at
+last_decides name (x ∷ []) e zero h at = ap (λ (z : Kept). precedes (member_name (member_of_entry z)) name) at
 last_decides name (x ∷ []) e (suc k) h at = absurd (omega (arith, h))
 last_decides name (x ∷ y ∷ es) e zero h at = absurd (omega (arith, h))
 last_decides name (x ∷ y ∷ es) e (suc k) h at = last_decides name (y ∷ es) e k (omega (arith, h)) at

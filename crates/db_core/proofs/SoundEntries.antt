@@ -10,9 +10,9 @@ use Rattle.pkg_core.specs.adb_fields.Repeated.{entries_at}
 use Rattle.pkg_core.specs.adb_schema.Rules.{is_digest_length}
 use Rattle.pkg_core.specs.adb_schema.SoundContainers.{IsSoundValue}
 use Rattle.adb_view.specs.declared.tables.Which.TheVariants.{Idb, Package}
-use Rattle.db_core.specs.EntrySeen.{member_by}
+use Rattle.db_core.specs.EntrySeen.{member_of_entry}
 use Rattle.db_core.specs.Members.{Member}
-use Rattle.db_core.specs.Packages.{packages_by}
+use Rattle.db_core.specs.Packages.{packages_of_database_value}
 use Rattle.db_core.specs.SoundMembers.{AreOfSoundContainers, IsOfSoundContainer, IsOfSoundDatabase, IsOfSoundPackage, IsSoundDatabaseIfAny}
 use Rattle.db_core.proofs.ListedNames.{Kept}
 
@@ -30,11 +30,11 @@ in_at (v ∷ vs) (suc i) pkg at = inr (in_at vs i pkg at)
 
 -- ---- one package
 
-listed_sound : (database : Option Plain) (i : ℕ) (pkg : Plain) → slice_get (packages_by database) i ≡ Some pkg → IsSoundDatabaseIfAny database → IsOfSoundDatabase pkg
+listed_sound : (database : Option Plain) (i : ℕ) (pkg : Plain) → slice_get (packages_of_database_value database) i ≡ Some pkg → IsSoundDatabaseIfAny database → IsOfSoundDatabase pkg
 listed_sound None i pkg at sound = absurd (no_some pkg at)
 listed_sound (Some v) i pkg at sound = record { database = v; sound = sound.0; normal = sound.1; listed = in_at (entries_at 0 v) i pkg at }
 
-pub stays_sound : (database : Option Plain) (i : ℕ) (pkg : Plain) → slice_get (packages_by database) i ≡ Some pkg → ∥ IsSoundDatabaseIfAny database ∥₁ → ∥ IsOfSoundContainer pkg None ∥₁
+pub stays_sound : (database : Option Plain) (i : ℕ) (pkg : Plain) → slice_get (packages_of_database_value database) i ≡ Some pkg → ∥ IsSoundDatabaseIfAny database ∥₁ → ∥ IsOfSoundContainer pkg None ∥₁
 stays_sound database i pkg at sound = ∥∥₁_map {B = IsOfSoundDatabase pkg} sound (listed_sound database i pkg at)
 
 pub comes_sound : (pkg value : Plain) (id payload : List ℕ) → pkg ≡ value → id ≡ sha256 payload → IsSoundValue Package value → IsNormal value → ∥ IsOfSoundContainer pkg (Some id) ∥₁
@@ -47,13 +47,13 @@ all_more : (ms : List Member) (m : Member) → AreOfSoundContainers ms → IsOfS
 all_more [] m all one = (one, tt)
 all_more (n ∷ ms) m all one = (all.0, all_more ms m all.1 one)
 
-map_more : (es : List Kept) (e : Kept) → map member_by (es ++ e ∷ []) ≡ map member_by es ++ member_by e ∷ []
+map_more : (es : List Kept) (e : Kept) → map member_of_entry (es ++ e ∷ []) ≡ map member_of_entry es ++ member_of_entry e ∷ []
 map_more [] e = refl
-map_more (x ∷ es) e = ap (λ ms. member_by x ∷ ms) (map_more es e)
+map_more (x ∷ es) e = ap (λ ms. member_of_entry x ∷ ms) (map_more es e)
 
 pub sound_more : {A B : Type 0} (r : Result A B) (es new : List Kept) (e : Kept) → new ≡ (if is_ok r then es ++ e ∷ [] else es)
-    → ∥ AreOfSoundContainers (map member_by es) ∥₁ → ∥ IsOfSoundContainer (member_by e).pkg (member_by e).id ∥₁ → ∥ AreOfSoundContainers (map member_by new) ∥₁
+    → ∥ AreOfSoundContainers (map member_of_entry es) ∥₁ → ∥ IsOfSoundContainer (member_of_entry e).pkg (member_of_entry e).id ∥₁ → ∥ AreOfSoundContainers (map member_of_entry new) ∥₁
 sound_more (Ok x) es new e is all one =
-    subst (λ ms. ∥ AreOfSoundContainers ms ∥₁) (sym (ap (map member_by) is ∙ map_more es e))
-    (∥∥₁_map₂ {C = AreOfSoundContainers (map member_by es ++ member_by e ∷ [])} all one (all_more (map member_by es) (member_by e)))
-sound_more (Err x) es new e is all one = subst (λ (ks : List Kept). ∥ AreOfSoundContainers (map member_by ks) ∥₁) (sym is) all
+    subst (λ ms. ∥ AreOfSoundContainers ms ∥₁) (sym (ap (map member_of_entry) is ∙ map_more es e))
+    (∥∥₁_map₂ {C = AreOfSoundContainers (map member_of_entry es ++ member_of_entry e ∷ [])} all one (all_more (map member_of_entry es) (member_of_entry e)))
+sound_more (Err x) es new e is all one = subst (λ (ks : List Kept). ∥ AreOfSoundContainers (map member_of_entry ks) ∥₁) (sym is) all

@@ -11,8 +11,8 @@ use Rattle.db_core.specs.Members.{Member}
 
 -- the member of a payload, a word in it and an id: the word leads to the package, and a kept one has no
 -- id
-abbrev pub member_by : List ℕ × ℕ × Option (List ℕ) → Member
-member_by e = record { pkg = value_at e.0 (Obj Package) e.1; id = e.2 }
+abbrev pub member_of_entry : List ℕ × ℕ × Option (List ℕ) → Member
+member_of_entry e = record { pkg = value_at e.0 (Obj Package) e.1; id = e.2 }
 
 -- the payload that the packages of a database are read from; no bytes if there is no database
 abbrev pub payload_of_database : Option IdbView → List ℕ

@@ -3,7 +3,7 @@
 -- *listing* in `docs/names.md`, "The installed database and a change of it".
 use Rattle.std.specs.Prelude.{ℕ, ◌+◌, ◌==◌, Bool, true, false, List, [], ◌∷◌, ◌++◌, Option, Some, None, is_some, bytes_eq, map}
 use Rattle.std.specs.List.{filter}
-use Rattle.base_core.specs.Listed.{IsRising}
+use Rattle.base_core.specs.Listed.{AreSortedDistinctNames}
 use Rattle.base_core.specs.ByteOrder.{precedes}
 use Rattle.adb_view.specs.Plain.{Plain}
 use Rattle.pkg_core.specs.adb_fields.Paths.{path_of}
@@ -38,7 +38,7 @@ is_added m = is_some m.id
 
 -- members are in byte order of their names, each name once
 abbrev pub AreInOrder : List Member → Type 0
-AreInOrder members = IsRising (map member_name members)
+AreInOrder members = AreSortedDistinctNames (map member_name members)
 
 -- whether a name is after the last of some members, and so after all of them
 abbrev pub is_after_members : List ℕ → List Member → Bool
@@ -47,9 +47,9 @@ is_after_members name (m ∷ []) = precedes (member_name m) name
 is_after_members name (m ∷ n ∷ members) = is_after_members name (n ∷ members)
 
 -- whether a place is the one that was found, if one was
-abbrev pub is_place : ℕ → Option ℕ → Bool
-is_place i None = false
-is_place i (Some found) = found == i
+abbrev pub is_found_place : ℕ → Option ℕ → Bool
+is_found_place i None = false
+is_found_place i (Some found) = found == i
 
 -- ---- their files
 
@@ -89,18 +89,18 @@ listings_in_folders m place i (folder ∷ folders) =
     ++ listings_in_folders m place (i + 1) folders
 
 -- the listings of the member at a place, in the order of its folders and files
-abbrev pub listings_by : ℕ → Member → List Listing
-listings_by place m = listings_in_folders m place 1 (folders_in m.pkg)
+abbrev pub listings_of_member : ℕ → Member → List Listing
+listings_of_member place m = listings_in_folders m place 1 (folders_in m.pkg)
 
 -- the listings of members, the first of which has this place
-abbrev pub listings_from : ℕ → List Member → List Listing
-listings_from place [] = []
-listings_from place (m ∷ members) = listings_by place m ++ listings_from (place + 1) members
+abbrev pub listings_of_members_from : ℕ → List Member → List Listing
+listings_of_members_from place [] = []
+listings_of_members_from place (m ∷ members) = listings_of_member place m ++ listings_of_members_from (place + 1) members
 
 -- all files that members list: member by member, folder by folder
 unfoldable pub member_listings : List Member → List Listing
-member_listings members = listings_from 0 members
+member_listings members = listings_of_members_from 0 members
 
 -- the listings of a path, one for each member that lists it: its claims
-unfoldable pub claims_of : List Member → List ℕ → List Listing
-claims_of members path = filter (λ l. bytes_eq l.path path) (member_listings members)
+unfoldable pub listings_of_path : List Member → List ℕ → List Listing
+listings_of_path members path = filter (λ l. bytes_eq l.path path) (member_listings members)

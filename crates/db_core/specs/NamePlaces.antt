@@ -30,5 +30,5 @@ abbrev pub placed_names_in_order : List Plain → List NameWithPlace
 placed_names_in_order packages = sorted_by placed_name_cmp (placed_names_from 0 packages)
 
 -- the place of the first name of the list that is this one, if one is
-abbrev pub place_named : List ℕ → List NameWithPlace → Option ℕ
-place_named name names = option_map (λ n. n.place) (find (λ n. bytes_eq n.name name) names)
+abbrev pub place_under_name : List ℕ → List NameWithPlace → Option ℕ
+place_under_name name names = option_map (λ n. n.place) (find (λ n. bytes_eq n.name name) names)

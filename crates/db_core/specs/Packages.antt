@@ -24,18 +24,18 @@ abbrev pub lists_path : List ℕ → Plain → Bool
 lists_path path pkg = list_any (bytes_eq path) (paths_in pkg)
 
 -- whether each path that a package lists is a name
-abbrev pub lists_names : Plain → Bool
-lists_names pkg = list_all is_name (paths_in pkg)
+abbrev pub lists_only_valid_names : Plain → Bool
+lists_only_valid_names pkg = list_all is_name (paths_in pkg)
 
 -- whether no path that a package lists is reserved
-abbrev pub lists_no_reserved : Plain → Bool
-lists_no_reserved pkg = list_all (λ path. not (is_reserved path)) (paths_in pkg)
+abbrev pub lists_no_reserved_path : Plain → Bool
+lists_no_reserved_path pkg = list_all (λ path. not (is_reserved path)) (paths_in pkg)
 
 -- whether a member is added, or lists no reserved path: a package may list one, a database may not
 abbrev pub is_added_or_lists_no_reserved : Member → Bool
-is_added_or_lists_no_reserved m = is_added m || lists_no_reserved m.pkg
+is_added_or_lists_no_reserved m = is_added m || lists_no_reserved_path m.pkg
 
 -- the packages of the value of a database; none if there is no database
-abbrev pub packages_by : Option Plain → List Plain
-packages_by None = []
-packages_by (Some v) = entries_at IDB_PACKAGES v
+abbrev pub packages_of_database_value : Option Plain → List Plain
+packages_of_database_value None = []
+packages_of_database_value (Some v) = entries_at IDB_PACKAGES v

@@ -49,6 +49,6 @@ NoneReserved [] = Unit {0}
 NoneReserved (path ∷ paths) = (is_reserved path ≡ false) × NoneReserved paths
 
 -- listings that a database may have: each path has one owner, and none is reserved
-pub record MayBeListed (listings : List Listing) : Type 0 where
+pub record MayBeInDatabase (listings : List Listing) : Type 0 where
   pub one_owner : HaveOneOwner listings
   pub free : NoneReserved (map (λ l. l.path) listings)

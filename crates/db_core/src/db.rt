@@ -16,7 +16,7 @@ ghost use Rattle.adb_view.specs.Head.{head_fault, root_of};
 ghost use Rattle.db_core.specs.EntrySeen.{payload_of_database};
 ghost use Rattle.db_core.specs.NamePlaces.{placed_names_in_order};
 ghost use Rattle.db_core.specs.NameSeen.{name_seen};
-ghost use Rattle.db_core.specs.Packages.{is_package_named, lists_names, lists_no_reserved, lists_path, packages_by};
+ghost use Rattle.db_core.specs.Packages.{is_package_named, lists_only_valid_names, lists_no_reserved_path, lists_path, packages_of_database_value};
 ghost use Rattle.db_core.specs.SoundMembers.{IsSoundDatabaseIfAny};
 ghost use Rattle.std.specs.List.{list_all, position_from};
 ghost use Rattle.std.specs.Prelude.{◌≡◌, ◌<◌, ◌^◌, ◌==◌, true, false, [], All, Some, None, IfSome, length, map, option_map, slice_get, IfOk, IfErr, is_none};
@@ -42,10 +42,10 @@ pub struct Db<'a> {
     pub(crate) names: Vec<NamePlace<'a>>,
     // The names are those of the packages, in byte order.
     ghost by_name: { map name_seen names.items
-        ≡ placed_names_in_order (packages_by (option_map idb_value idb)) },
+        ≡ placed_names_in_order (packages_of_database_value (option_map idb_value idb)) },
     // Each path that a package lists is a name, and none is reserved.
-    ghost named: { list_all lists_names (packages_by (option_map idb_value idb)) ≡ true },
-    ghost free: { list_all lists_no_reserved (packages_by (option_map idb_value idb)) ≡ true },
+    ghost named: { list_all lists_only_valid_names (packages_of_database_value (option_map idb_value idb)) ≡ true },
+    ghost free: { list_all lists_no_reserved_path (packages_of_database_value (option_map idb_value idb)) ≡ true },
     // The database passed all tests: its value is sound.
     ghost sound: { ∥ IsSoundDatabaseIfAny (option_map idb_value idb) ∥₁ },
 }
@@ -171,8 +171,8 @@ impl<'a> Db<'a> {
 
 /// The package at a place of a database, counted from 0, which is read from the database's payload.
 pub(crate) fn package_of_database<'a>(idb: &Option<IdbView<'a>>, i: usize) -> PackageView<'a>
-    requires { i < length (packages_by (option_map idb_value idb.now)) }
-    ensures value { slice_get (packages_by (option_map idb_value idb.now)) i
+    requires { i < length (packages_of_database_value (option_map idb_value idb.now)) }
+    ensures value { slice_get (packages_of_database_value (option_map idb_value idb.now)) i
         ≡ Some (package_value result) }
     ensures lent { payload_of result.adb ≡ payload_of_database idb.now }
 {

@@ -7,12 +7,12 @@ ghost use Rattle.pkg_core.specs.adb_fields.Repeated.{package_name};
 ghost use Rattle.pkg_core.specs.adb_schema.Views.{package_value};
 ghost use Rattle.adb_view.specs.Adb.{payload_of};
 ghost use Rattle.adb_view.specs.Plain.{Plain};
-ghost use Rattle.base_core.specs.Listed.{IsRising};
-ghost use Rattle.db_core.specs.EntrySeen.{is_added_or_has_payload, member_by, payload_of_database};
-ghost use Rattle.db_core.specs.Members.{Member, is_after_members, member_of_added, is_added, is_place, member_name, member_of_kept, Listing, member_listings};
+ghost use Rattle.base_core.specs.Listed.{AreSortedDistinctNames};
+ghost use Rattle.db_core.specs.EntrySeen.{is_added_or_has_payload, member_of_entry, payload_of_database};
+ghost use Rattle.db_core.specs.Members.{Member, is_after_members, member_of_added, is_added, is_found_place, member_name, member_of_kept, Listing, member_listings};
 ghost use Rattle.base_core.specs.ByteOrder.{precedes};
 ghost use Rattle.std.specs.List.Sorted.{IsPartitionPoint};
-ghost use Rattle.db_core.specs.Packages.{is_added_or_lists_no_reserved, lists_names};
+ghost use Rattle.db_core.specs.Packages.{is_added_or_lists_no_reserved, lists_only_valid_names};
 ghost use Rattle.db_core.specs.SoundMembers.{AreOfSoundContainers};
 ghost use Rattle.db_core.specs.declared.members.TheConstants.{MOST_MEMBERS};
 ghost use Rattle.pkg_core.specs.Values.{payload_of_contents, value_of_contents};
@@ -62,15 +62,15 @@ pub struct Members<'a> {
     /// The packages, in byte order of their names.
     pub(crate) entries: Vec<PackageWithId<'a>>,
     // The packages are in byte order of their names, each name once.
-    ghost in_order: { IsRising (map (λ e. member_name (member_by e)) entries.items) },
+    ghost in_order: { AreSortedDistinctNames (map (λ e. member_name (member_of_entry e)) entries.items) },
     // There are no more packages than there may be.
     ghost few: { length entries.items ≤ MOST_MEMBERS },
     // Each path that a package lists is a name; a kept package lists no reserved path.
-    ghost named: { list_all (λ e. lists_names (member_by e).pkg) entries.items ≡ true },
-    ghost free: { list_all (λ e. is_added_or_lists_no_reserved (member_by e)) entries.items
+    ghost named: { list_all (λ e. lists_only_valid_names (member_of_entry e).pkg) entries.items ≡ true },
+    ghost free: { list_all (λ e. is_added_or_lists_no_reserved (member_of_entry e)) entries.items
         ≡ true },
     // The packages are from sound containers.
-    ghost sound: { ∥ AreOfSoundContainers (map member_by entries.items) ∥₁ },
+    ghost sound: { ∥ AreOfSoundContainers (map member_of_entry entries.items) ∥₁ },
     // A kept package is read from the payload of the database.
     ghost lent: { list_all (is_added_or_has_payload (payload_of_database db.now.idb)) entries.items
         ≡ true },
@@ -78,7 +78,7 @@ pub struct Members<'a> {
 
 /// Whether the name of a package is before another name in byte order.
 fn is_before(entry: &PackageWithId<'_>, name: &[u8]) -> bool
-    ensures { result ≡ precedes (member_name (member_by entry.now)) name.now }
+    ensures { result ≡ precedes (member_name (member_of_entry entry.now)) name.now }
 {
     let order = entry.view.info().name().cmp(&name);
     order.is_lt()
@@ -88,12 +88,12 @@ impl<'a> Members<'a> {
     ghost use Rattle.pkg_core.specs.adb_schema.Reserved.{is_reserved};
     ghost use Rattle.base_core.specs.Name.{IsName};
     ghost use Rattle.db_core.specs.Members.{AreInOrder, member_listings};
-    ghost use Rattle.db_core.specs.Seen.{members_of, packages_before, packages_of, payload_before};
+    ghost use Rattle.db_core.specs.Seen.{members_of, packages_of_old_database, packages_of, payload_of_old_database};
 
     /// A list without packages, for kept packages of a database and added ones.
     pub fn new(alloc: Global, db: &'a Db<'a>) -> Members<'a>
         ensures none { members_of result ≡ [] }
-        ensures before { packages_before result ≡ packages_of db.entry.now }
+        ensures before { packages_of_old_database result ≡ packages_of db.entry.now }
     {
         Members {
             db,
@@ -103,7 +103,7 @@ impl<'a> Members<'a> {
 
     /// The database of the kept packages.
     pub fn db(&self) -> &'a Db<'a>
-        ensures { packages_of result.now ≡ packages_before self.now }
+        ensures { packages_of result.now ≡ packages_of_old_database self.now }
     {
         self.db
     }
@@ -115,14 +115,14 @@ impl<'a> Members<'a> {
     ///
     /// Out of memory.
     pub fn stays(&mut self, i: usize) -> Result<(), AllocError>
-        requires at { i < length (packages_before self.old) }
-        requires behind { (pkg : Plain) → slice_get (packages_before self.old) i ≡ Some pkg
+        requires at { i < length (packages_of_old_database self.old) }
+        requires behind { (pkg : Plain) → slice_get (packages_of_old_database self.old) i ≡ Some pkg
             → is_after_members (package_name pkg) (members_of self.old) ≡ true }
         requires few { length (members_of self.old) < MOST_MEMBERS }
-        ensures ok { OnOk result ((pkg : Plain) → slice_get (packages_before self.old) i ≡ Some pkg
+        ensures ok { OnOk result ((pkg : Plain) → slice_get (packages_of_old_database self.old) i ≡ Some pkg
             → members_of self.new ≡ members_of self.old ++ member_of_kept pkg ∷ []) }
         ensures err { OnErr result (members_of self.new ≡ members_of self.old) }
-        ensures before { packages_before self.new ≡ packages_before self.old }
+        ensures before { packages_of_old_database self.new ≡ packages_of_old_database self.old }
     {
         let view = package_of_database(&self.db.idb, i);
         self.entries.push(PackageWithId { view, id: None })?;
@@ -142,7 +142,7 @@ impl<'a> Members<'a> {
             ++ member_of_added (value_of_contents contents.now)
             (sha256 (payload_of_contents contents.now)) ∷ []) }
         ensures err { OnErr result (members_of self.new ≡ members_of self.old) }
-        ensures before { packages_before self.new ≡ packages_before self.old }
+        ensures before { packages_of_old_database self.new ≡ packages_of_old_database self.old }
     {
         contents.values_keep_their_rules();
         contents.values_are_sound();
@@ -168,7 +168,7 @@ impl<'a> Members<'a> {
     /// returned exactly if no package has the name.
     pub fn find(&self, name: &[u8]) -> Option<usize>
         ensures found { (i : ℕ) (m : Member) → slice_get (members_of self.now) i ≡ Some m
-            → is_place i result ≡ bytes_eq (member_name m) name.now }
+            → is_found_place i result ≡ bytes_eq (member_name m) name.now }
         ensures within { IfSome result (λ i. i < length (members_of self.now)) }
     {
         let at = self.count_before(name);
@@ -185,8 +185,8 @@ impl<'a> Members<'a> {
     fn count_before(&self, name: &[u8]) -> usize
         ensures within { result ≤ length self.now.entries.items }
         ensures point { IsPartitionPoint
-            (λ e. precedes (member_name (member_by e)) name.now ≡ true)
-            (λ e. precedes (member_name (member_by e)) name.now ≡ false)
+            (λ e. precedes (member_name (member_of_entry e)) name.now ≡ true)
+            (λ e. precedes (member_name (member_of_entry e)) name.now ≡ false)
             self.now.entries.items result }
     {
         self.entries.partition_point(|entry| is_before(entry, name))
@@ -213,7 +213,7 @@ impl<'a> Members<'a> {
         ensures value { (m : Member) → slice_get (members_of self.now) i ≡ Some m
             → package_value result.now ≡ m.pkg }
         ensures stays { (m : Member) → slice_get (members_of self.now) i ≡ Some m
-            → is_added m ≡ false → payload_of result.now.adb ≡ payload_before self.now }
+            → is_added m ≡ false → payload_of result.now.adb ≡ payload_of_old_database self.now }
     {
         &self.entries[i].view
     }

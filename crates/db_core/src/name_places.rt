@@ -5,7 +5,7 @@ ghost use Rattle.pkg_core.specs.adb_fields.ListValue.{list_value};
 ghost use Rattle.pkg_core.specs.adb_fields.Repeated.{list_of, package_name};
 ghost use Rattle.pkg_core.specs.adb_schema.Views.{package_value};
 ghost use Rattle.adb_view.specs.Values.{count_of, entries_in, entry_in};
-ghost use Rattle.db_core.specs.NamePlaces.{placed_name_cmp, placed_names_in_order, place_named, placed_names_from};
+ghost use Rattle.db_core.specs.NamePlaces.{placed_name_cmp, placed_names_in_order, place_under_name, placed_names_from};
 ghost use Rattle.db_core.specs.NameSeen.{name_seen};
 ghost use Rattle.base_core.specs.ByteOrder.{precedes};
 ghost use Rattle.base_core.specs.Sorted.{sorted_by};
@@ -89,7 +89,7 @@ fn count_before(names: &[NamePlace<'_>], name: &[u8]) -> usize
 /// order.
 pub(crate) fn place_of(names: &[NamePlace<'_>], name: &[u8]) -> Option<usize>
     requires { IsSorted placed_name_cmp (map name_seen names.now) }
-    ensures { result ≡ place_named name.now (map name_seen names.now) }
+    ensures { result ≡ place_under_name name.now (map name_seen names.now) }
 {
     let at = count_before(names, name);
     if at == names.len() {

@@ -7,9 +7,9 @@ use Rattle.adb_view.specs.declared.tables.Which.TheVariants.{Idb}
 use Rattle.adb_copy.specs.adb_fields.Repeated.{entries_at, files_in, folders_in, list_of, name_of}
 use Rattle.adb_sound.specs.adb_schema.Soundness.{payload_in, root_value}
 use Rattle.adb_sound.specs.adb_schema.declared.read.TheConstants.{IDB_WORD}
-use Rattle.adb_sound.specs.adb_write.Canonical.{written_of}
+use Rattle.adb_sound.specs.adb_write.Canonical.{payload_or_overflow}
 use Rattle.adb_sound.specs.Root.{IsRootOf}
-use Rattle.adb_copy.specs.Zeros.{all_without_zeros, info_with, int_or_null, with_at, without_zeros}
+use Rattle.adb_copy.specs.Zeros.{all_without_zeros, info_with_id_and_size, int_or_null, with_value_at_index, without_zeros}
 use Rattle.adb_view.proofs.ValueEntries.{nth_obj}
 use Rattle.adb_copy.proofs.WithoutZeros.{int_zeros, text_zeros}
 use Rattle.adb_copy.proofs.Zeros.{at_other, at_same, nth_zeros, zeros_arr, zeros_obj, zeros_twice}
@@ -17,7 +17,7 @@ use Rattle.db_core.specs.Members.{Member, members_of_kept}
 use Rattle.adb_view.specs.FieldIndexes.{INFO_FILE_SIZE, INFO_HASHES}
 use Rattle.db_core.specs.Packages.{installed_id}
 use Rattle.db_write.specs.Information.{file_size_of}
-use Rattle.db_write.specs.NewDatabase.{database_container, database_of, database_value, each_by_flags, file_count, folder_after, folders_after, info_in_new_database, member_file_count, owned_entries, package_after, packages_after}
+use Rattle.db_write.specs.NewDatabase.{database_container, database_of, database_value, each_by_flags, file_count, folder_in_new_database, folders_in_new_database, info_in_new_database, member_file_count, owned_entries, package_in_new_database, packages_in_new_database}
 use Rattle.db_write.specs.Unchanged.{all_owned}
 use Rattle.db_write.proofs.ReadBack.{Back, is_file}
 use Rattle.db_write.proofs.RootNames.{info_entry, package_folders, package_info}
@@ -29,52 +29,52 @@ use Rattle.db_write.proofs.Unchanged.{database_same}
 apart : (n : ℕ) → n ≡ 12 → n ≢ 2
 apart n e f = omega (arith, e, f)
 
-pub hashes_after : (m : Member) (flags : List Bool) → installed_id (package_after m flags) ≡ unwrap_or m.id (installed_id m.pkg)
-unfolding info_with without_zeros
+pub hashes_after : (m : Member) (flags : List Bool) → installed_id (package_in_new_database m flags) ≡ unwrap_or m.id (installed_id m.pkg)
+unfolding info_with_id_and_size without_zeros
 hashes_after m flags =
     let info : Plain = entry_in m.pkg 0 in
     let hash : Plain = blob (unwrap_or m.id (text_in (entry_in info 2))) in
     let size : Plain = int (int_in (entry_in info 12)) in
-    let vs : Plains = with_at 12 size (with_at 2 hash (entries_in info)) in
+    let vs : Plains = with_value_at_index 12 size (with_value_at_index 2 hash (entries_in info)) in
     ap (λ v. text_in (entry_in v 2)) (package_info m flags)
-    ∙ (ap text_in (nth_obj (all_without_zeros vs) 2 ∙ (nth_zeros vs 2 ∙ ap without_zeros (at_other 12 2 size (with_at 2 hash (entries_in info)) (apart 12 refl) ∙ at_same 2 hash (entries_in info))))
+    ∙ (ap text_in (nth_obj (all_without_zeros vs) 2 ∙ (nth_zeros vs 2 ∙ ap without_zeros (at_other 12 2 size (with_value_at_index 2 hash (entries_in info)) (apart 12 refl) ∙ at_same 2 hash (entries_in info))))
     ∙ text_zeros hash)
 
-pub size_after : (m : Member) (flags : List Bool) → file_size_of (package_after m flags) ≡ file_size_of m.pkg
-unfolding info_with without_zeros
+pub size_after : (m : Member) (flags : List Bool) → file_size_of (package_in_new_database m flags) ≡ file_size_of m.pkg
+unfolding info_with_id_and_size without_zeros
 size_after m flags =
     let info : Plain = entry_in m.pkg 0 in
     let hash : Plain = blob (unwrap_or m.id (text_in (entry_in info 2))) in
     let size : Plain = int (int_in (entry_in info 12)) in
-    let vs : Plains = with_at 12 size (with_at 2 hash (entries_in info)) in
+    let vs : Plains = with_value_at_index 12 size (with_value_at_index 2 hash (entries_in info)) in
     ap (λ v. int_in (entry_in v 12)) (package_info m flags)
-    ∙ (ap int_in (nth_obj (all_without_zeros vs) 12 ∙ (nth_zeros vs 12 ∙ ap without_zeros (at_same 12 size (with_at 2 hash (entries_in info)))))
+    ∙ (ap int_in (nth_obj (all_without_zeros vs) 12 ∙ (nth_zeros vs 12 ∙ ap without_zeros (at_same 12 size (with_value_at_index 2 hash (entries_in info)))))
     ∙ int_zeros size)
 
-pub others_after : (m : Member) (flags : List Bool) (i : ℕ) → i ≢ INFO_HASHES → i ≢ INFO_FILE_SIZE → entry_in (entry_in (package_after m flags) 0) i ≡ without_zeros (entry_in (entry_in m.pkg 0) i)
+pub others_after : (m : Member) (flags : List Bool) (i : ℕ) → i ≢ INFO_HASHES → i ≢ INFO_FILE_SIZE → entry_in (entry_in (package_in_new_database m flags) 0) i ≡ without_zeros (entry_in (entry_in m.pkg 0) i)
 others_after m flags i a b = ap (λ v. entry_in v i) (package_info m flags) ∙ info_entry m.id (entry_in m.pkg 0) i (λ e. a (sym e)) (λ e. b (sym e))
 
 -- ---- folders
 
-each_part : {A : Type 0} (f g : Plain → A) → ((d : Plain) (flags : List Bool) → f (folder_after d flags) ≡ g d) → (ds : List Plain) (flags : List Bool) → map f (list_of (folders_after ds flags)) ≡ map g ds
+each_part : {A : Type 0} (f g : Plain → A) → ((d : Plain) (flags : List Bool) → f (folder_in_new_database d flags) ≡ g d) → (ds : List Plain) (flags : List Bool) → map f (list_of (folders_in_new_database ds flags)) ≡ map g ds
 each_part f g h [] flags = refl
 each_part f g h (d ∷ ds) flags = λ j. h d flags j ∷ each_part f g h ds (drop (file_count d) flags) j
 
-pub folder_parts : {A : Type 0} (f g : Plain → A) → ((d : Plain) (flags : List Bool) → f (folder_after d flags) ≡ g d) → (m : Member) (flags : List Bool) → map f (folders_in (package_after m flags)) ≡ map g (folders_in m.pkg)
+pub folder_parts : {A : Type 0} (f g : Plain → A) → ((d : Plain) (flags : List Bool) → f (folder_in_new_database d flags) ≡ g d) → (m : Member) (flags : List Bool) → map f (folders_in (package_in_new_database m flags)) ≡ map g (folders_in m.pkg)
 folder_parts f g h m flags = ap (λ vs. map f (list_of vs)) (package_folders m flags) ∙ each_part f g h (folders_in m.pkg) flags
 
-pub folder_acl : (d : Plain) (flags : List Bool) → entry_in (folder_after d flags) 1 ≡ without_zeros (entry_in d 1)
+pub folder_acl : (d : Plain) (flags : List Bool) → entry_in (folder_in_new_database d flags) 1 ≡ without_zeros (entry_in d 1)
 folder_acl d flags = nth_obj (fields_of_folder d flags) 1
 
 -- ---- scripts, triggers and priority
 
-pub scripts_after : (m : Member) (flags : List Bool) → entry_in (package_after m flags) 2 ≡ without_zeros (entry_in m.pkg 2)
+pub scripts_after : (m : Member) (flags : List Bool) → entry_in (package_in_new_database m flags) 2 ≡ without_zeros (entry_in m.pkg 2)
 scripts_after m flags = nth_obj (fields_of_package m flags) 2
 
-pub triggers_after : (m : Member) (flags : List Bool) → entry_in (package_after m flags) 3 ≡ without_zeros (entry_in m.pkg 3)
+pub triggers_after : (m : Member) (flags : List Bool) → entry_in (package_in_new_database m flags) 3 ≡ without_zeros (entry_in m.pkg 3)
 triggers_after m flags = nth_obj (fields_of_package m flags) 3
 
-pub priority_after : (m : Member) (flags : List Bool) → int_in (entry_in (package_after m flags) 4) ≡ int_in (entry_in m.pkg 4)
+pub priority_after : (m : Member) (flags : List Bool) → int_in (entry_in (package_in_new_database m flags) 4) ≡ int_in (entry_in m.pkg 4)
 unfolding without_zeros
 priority_after m flags = ap int_in (nth_obj (fields_of_package m flags) 4) ∙ int_zeros (int (int_in (entry_in m.pkg 4)))
 
@@ -93,28 +93,28 @@ unfolding without_zeros
 each_free count value h [] flags = refl
 each_free count value h (x ∷ xs) flags = λ j. more (h x flags j) (each_free count value h xs (drop (count x) flags) j)
 
-folder_free : (d : Plain) (flags : List Bool) → without_zeros (folder_after d flags) ≡ folder_after d flags
+folder_free : (d : Plain) (flags : List Bool) → without_zeros (folder_in_new_database d flags) ≡ folder_in_new_database d flags
 unfolding without_zeros
 folder_free d flags =
     zeros_obj (more (blob_or_null (name_of d)) (more (without_zeros (entry_in d 1)) (more (arr_value (owned_entries (files_in d) flags)) none)))
     ∙ (λ j. obj_value (more (zeros_twice (blob (name_of d)) j) (more (zeros_twice (entry_in d 1) j)
     (more ((zeros_arr (owned_entries (files_in d) flags) ∙ ap arr_value (owned_free (files_in d) flags)) j) none))))
 
-package_free : (m : Member) (flags : List Bool) → without_zeros (package_after m flags) ≡ package_after m flags
-unfolding without_zeros info_with
+package_free : (m : Member) (flags : List Bool) → without_zeros (package_in_new_database m flags) ≡ package_in_new_database m flags
+unfolding without_zeros info_with_id_and_size
 package_free m flags =
     let info : Plain = entry_in m.pkg 0 in
-    let with_id : Plains = with_at 12 (int (int_in (entry_in info 12))) (with_at 2 (blob (unwrap_or m.id (text_in (entry_in info 2)))) (entries_in info)) in
-    zeros_obj (more (info_in_new_database m.id info) (more (arr_value (folders_after (folders_in m.pkg) flags)) (more (without_zeros (entry_in m.pkg 2)) (more (without_zeros (entry_in m.pkg 3)) (more (int_or_null (int_in (entry_in m.pkg 4))) none)))))
+    let with_id : Plains = with_value_at_index 12 (int (int_in (entry_in info 12))) (with_value_at_index 2 (blob (unwrap_or m.id (text_in (entry_in info 2)))) (entries_in info)) in
+    zeros_obj (more (info_in_new_database m.id info) (more (arr_value (folders_in_new_database (folders_in m.pkg) flags)) (more (without_zeros (entry_in m.pkg 2)) (more (without_zeros (entry_in m.pkg 3)) (more (int_or_null (int_in (entry_in m.pkg 4))) none)))))
     ∙ (λ j. obj_value (more (zeros_twice (obj with_id) j)
-    (more ((zeros_arr (folders_after (folders_in m.pkg) flags) ∙ ap arr_value (each_free file_count folder_after folder_free (folders_in m.pkg) flags)) j)
+    (more ((zeros_arr (folders_in_new_database (folders_in m.pkg) flags) ∙ ap arr_value (each_free file_count folder_in_new_database folder_free (folders_in m.pkg) flags)) j)
     (more (zeros_twice (entry_in m.pkg 2) j) (more (zeros_twice (entry_in m.pkg 3) j) (more (zeros_twice (int (int_in (entry_in m.pkg 4))) j) none))))))
 
 database_free : (members : List Member) (flags : List Bool) → without_zeros (database_value members flags) ≡ database_value members flags
 unfolding without_zeros database_value
 database_free members flags =
-    zeros_obj (more (arr_value (packages_after members flags)) none)
-    ∙ (λ j. obj_value (more ((zeros_arr (packages_after members flags) ∙ ap arr_value (each_free member_file_count package_after package_free members flags)) j) none))
+    zeros_obj (more (arr_value (packages_in_new_database members flags)) none)
+    ∙ (λ j. obj_value (more ((zeros_arr (packages_in_new_database members flags) ∙ ap arr_value (each_free member_file_count package_in_new_database package_free members flags)) j) none))
 
 -- ---- written again
 
@@ -125,4 +125,4 @@ written_again law members flags bytes root h =
     let v : Plain = database_value members flags in
     let back : root_value Idb (payload_in bytes) ≡ v = ap (λ (file : List ℕ). root_value Idb (payload_in file)) (sym (is_file members flags bytes h)) ∙ law Idb IDB_WORD v refl root in
     (λ j. database_of (members_of_kept (entries_at 0 (back j))) (all_owned (members_of_kept (entries_at 0 (back j)))))
-    ∙ (ap (λ u. database_container (written_of u)) (database_same v root.shaped ∙ database_free members flags) ∙ h)
+    ∙ (ap (λ u. database_container (payload_or_overflow u)) (database_same v root.shaped ∙ database_free members flags) ∙ h)

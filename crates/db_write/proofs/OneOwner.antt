@@ -3,10 +3,10 @@ use Rattle.std.proofs.Common.{◌≡◌, ◌⊎◌, inl, inr, ℕ, ◌+◌, ◌�
 use Rattle.std.specs.List.{flat_map}
 use Rattle.adb_view.specs.Plain.{Plain}
 use Rattle.adb_copy.specs.adb_fields.FirstPair.{IsIn}
-use Rattle.adb_copy.specs.adb_fields.Once.{AreApart, IsInOneOf}
+use Rattle.adb_copy.specs.adb_fields.Once.{ShareNoName, IsInOneOf}
 use Rattle.adb_copy.specs.adb_fields.Repeated.{files_in, folders_in, list_of, name_of, paths_in}
-use Rattle.db_core.specs.Members.{Listing, Member, listings_by, listings_from, listings_in_folder, listings_in_folders, member_listings}
-use Rattle.db_write.specs.NewDatabase.{member_file_count, packages_after}
+use Rattle.db_core.specs.Members.{Listing, Member, listings_of_member, listings_of_members_from, listings_in_folder, listings_in_folders, member_listings}
+use Rattle.db_write.specs.NewDatabase.{member_file_count, packages_in_new_database}
 use Rattle.db_core.specs.OwnedListings.{owned_listings}
 use Rattle.db_core.specs.OwnedListings.{HaveOneOwner}
 use Rattle.db_write.proofs.Listed.{in_folders}
@@ -60,11 +60,11 @@ at_first place l is = omega (arith, is)
 at_next : (place : ℕ) (l : Listing) → place + 1 ≤ l.place → place ≤ l.place
 at_next place l le = omega (arith, le)
 
-at_or_behind : (place : ℕ) (members : List Member) (l : Listing) → IsIn l (listings_from place members) → place ≤ l.place
+at_or_behind : (place : ℕ) (members : List Member) (l : Listing) → IsIn l (listings_of_members_from place members) → place ≤ l.place
 at_or_behind place [] l h = absurd h
 at_or_behind place (m ∷ members) l h =
     by_part (λ a. at_first place l (at_folders m place 1 (folders_in m.pkg) l a)) (λ b. at_next place l (at_or_behind (place + 1) members l b))
-    (in_either l (listings_by place m) (listings_from (place + 1) members) h)
+    (in_either l (listings_of_member place m) (listings_of_members_from (place + 1) members) h)
 
 owned_in : (ls : List Listing) (flags : List Bool) (l : Listing) → IsIn l (owned_listings ls flags) → IsIn l ls
 owned_in [] flags l h = absurd h
@@ -80,26 +80,26 @@ with_path path (l ∷ ls) (inr h) = let (k, here, is) = with_path path ls h in (
 
 -- ---- the packages
 
-apart_from : (place : ℕ) (members : List Member) (flags : List Bool) → HaveOneOwner (owned_listings (listings_from place members) flags) → AreApart (map paths_in (list_of (packages_after members flags)))
+apart_from : (place : ℕ) (members : List Member) (flags : List Bool) → HaveOneOwner (owned_listings (listings_of_members_from place members) flags) → ShareNoName (map paths_in (list_of (packages_in_new_database members flags)))
 apart_from place [] flags one = tt
 apart_from place (m ∷ members) flags one =
-    let own : List Listing = owned_listings (listings_by place m) flags in
+    let own : List Listing = owned_listings (listings_of_member place m) flags in
     let left : List Bool = drop (member_file_count m) flags in
-    let others : List Listing = owned_listings (listings_from (place + 1) members) left in
-    let joined : owned_listings (listings_by place m ++ listings_from (place + 1) members) flags ≡ own ++ others =
-    owned_joined (listings_by place m) (listings_from (place + 1) members) flags
-    ∙ ap (λ n. own ++ owned_listings (listings_from (place + 1) members) (drop n flags)) (in_folders m place 1 (folders_in m.pkg)) in
+    let others : List Listing = owned_listings (listings_of_members_from (place + 1) members) left in
+    let joined : owned_listings (listings_of_member place m ++ listings_of_members_from (place + 1) members) flags ≡ own ++ others =
+    owned_joined (listings_of_member place m) (listings_of_members_from (place + 1) members) flags
+    ∙ ap (λ n. own ++ owned_listings (listings_of_members_from (place + 1) members) (drop n flags)) (in_folders m place 1 (folders_in m.pkg)) in
     let both : HaveOneOwner (own ++ others) = subst HaveOneOwner joined one in (
       λ path here there.
           (let (l, l_in, l_is) = with_path path own (subst (IsIn path) (package_owned m place flags) here) in
-          let (k, k_in, k_is) = with_path path others (subst (IsIn path) (members_owned (place + 1) members left) (in_one paths_in path (list_of (packages_after members left)) there)) in
+          let (k, k_in, k_is) = with_path path others (subst (IsIn path) (members_owned (place + 1) members left) (in_one paths_in path (list_of (packages_in_new_database members left)) there)) in
           let same : l.place ≡ k.place = both l k (in_front l own others l_in) (in_back k own others k_in) (l_is ∙ sym k_is) in
-          let first : l.place ≡ place = at_folders m place 1 (folders_in m.pkg) l (owned_in (listings_by place m) flags l l_in) in
-          let behind : place + 1 ≤ k.place = at_or_behind (place + 1) members k (owned_in (listings_from (place + 1) members) left k k_in) in
+          let first : l.place ≡ place = at_folders m place 1 (folders_in m.pkg) l (owned_in (listings_of_member place m) flags l l_in) in
+          let behind : place + 1 ≤ k.place = at_or_behind (place + 1) members k (owned_in (listings_of_members_from (place + 1) members) left k k_in) in
           omega (arith, same, first, behind)),
       apart_from (place + 1) members left (λ l k a b e. both l k (in_back l own others a) (in_back k own others b) e),
     )
 
-pub owned_apart : (members : List Member) (flags : List Bool) → HaveOneOwner (owned_listings (member_listings members) flags) → AreApart (map paths_in (list_of (packages_after members flags)))
+pub owned_apart : (members : List Member) (flags : List Bool) → HaveOneOwner (owned_listings (member_listings members) flags) → ShareNoName (map paths_in (list_of (packages_in_new_database members flags)))
 unfolding member_listings
 owned_apart members flags one = apart_from 0 members flags one

@@ -5,9 +5,9 @@ use Rattle.std.specs.List.{flat_map}
 use Rattle.adb_view.specs.Plain.{Plain}
 use Rattle.adb_copy.specs.adb_fields.Repeated.{files_in, folders_in, list_of, name_of}
 use Rattle.adb_copy.specs.Zeros.{without_zeros}
-use Rattle.db_core.specs.Members.{Listing, Member, listings_by, listings_from, listings_in_folder, listings_in_folders, member_listings, member_of_kept}
+use Rattle.db_core.specs.Members.{Listing, Member, listings_of_member, listings_of_members_from, listings_in_folder, listings_in_folders, member_listings, member_of_kept}
 use Rattle.db_core.specs.OwnedListings.{owned_listings}
-use Rattle.db_write.specs.NewDatabase.{file_count, folders_after, member_file_count, owned_entries, package_after, packages_after}
+use Rattle.db_write.specs.NewDatabase.{file_count, folders_in_new_database, member_file_count, owned_entries, package_in_new_database, packages_in_new_database}
 use Rattle.db_write.proofs.Listed.{in_folder, in_folders}
 use Rattle.db_write.proofs.OwnedPaths.{owned_joined}
 use Rattle.db_write.proofs.RootNames.{folder_files, package_folders}
@@ -28,10 +28,10 @@ listed_in_folders m place i (d ∷ ds) =
     map-append (λ l. l.entry) (listings_in_folder m place i 1 (name_of d) (files_in d)) (listings_in_folders m place (i + 1) ds)
     ∙ (λ j. listed_in_folder m place i 1 (name_of d) (files_in d) j ++ listed_in_folders m place (i + 1) ds j)
 
-listed_from : (place : ℕ) (pkgs : List Plain) → map (λ l. l.entry) (listings_from place (map member_of_kept pkgs)) ≡ flat_map entries_of pkgs
+listed_from : (place : ℕ) (pkgs : List Plain) → map (λ l. l.entry) (listings_of_members_from place (map member_of_kept pkgs)) ≡ flat_map entries_of pkgs
 listed_from place [] = refl
 listed_from place (v ∷ pkgs) =
-    map-append (λ l. l.entry) (listings_by place (member_of_kept v)) (listings_from (place + 1) (map member_of_kept pkgs))
+    map-append (λ l. l.entry) (listings_of_member place (member_of_kept v)) (listings_of_members_from (place + 1) (map member_of_kept pkgs))
     ∙ (λ j. listed_in_folders (member_of_kept v) place 1 (folders_in v) j ++ listed_from (place + 1) pkgs j)
 
 -- ---- what they own
@@ -52,22 +52,22 @@ files_owned m place folder i above (f ∷ files) [] = refl
 files_owned m place folder i above (f ∷ files) (true ∷ flags) = ap (λ r. without_zeros f ∷ r) (files_owned m place folder (i + 1) above files flags)
 files_owned m place folder i above (f ∷ files) (false ∷ flags) = files_owned m place folder (i + 1) above files flags
 
-folders_owned : (m : Member) (place i : ℕ) (ds : List Plain) (flags : List Bool) → flat_map files_in (list_of (folders_after ds flags)) ≡ owned_of (listings_in_folders m place i ds) flags
+folders_owned : (m : Member) (place i : ℕ) (ds : List Plain) (flags : List Bool) → flat_map files_in (list_of (folders_in_new_database ds flags)) ≡ owned_of (listings_in_folders m place i ds) flags
 folders_owned m place i [] flags = refl
 folders_owned m place i (d ∷ ds) flags =
     (λ j. (ap list_of (folder_files d flags) ∙ files_owned m place i 1 (name_of d) (files_in d) flags) j ++ folders_owned m place (i + 1) ds (drop (file_count d) flags) j)
     ∙ sym (joined (listings_in_folder m place i 1 (name_of d) (files_in d)) (listings_in_folders m place (i + 1) ds) (file_count d) flags (in_folder m place i 1 (name_of d) (files_in d)))
 
-package_owned : (m : Member) (place : ℕ) (flags : List Bool) → entries_of (package_after m flags) ≡ owned_of (listings_by place m) flags
+package_owned : (m : Member) (place : ℕ) (flags : List Bool) → entries_of (package_in_new_database m flags) ≡ owned_of (listings_of_member place m) flags
 package_owned m place flags = ap (λ vs. flat_map files_in (list_of vs)) (package_folders m flags) ∙ folders_owned m place 1 (folders_in m.pkg) flags
 
-members_owned : (place : ℕ) (members : List Member) (flags : List Bool) → flat_map entries_of (list_of (packages_after members flags)) ≡ owned_of (listings_from place members) flags
+members_owned : (place : ℕ) (members : List Member) (flags : List Bool) → flat_map entries_of (list_of (packages_in_new_database members flags)) ≡ owned_of (listings_of_members_from place members) flags
 members_owned place [] flags = refl
 members_owned place (m ∷ members) flags =
     (λ j. package_owned m place flags j ++ members_owned (place + 1) members (drop (member_file_count m) flags) j)
-    ∙ sym (joined (listings_by place m) (listings_from (place + 1) members) (member_file_count m) flags (in_folders m place 1 (folders_in m.pkg)))
+    ∙ sym (joined (listings_of_member place m) (listings_of_members_from (place + 1) members) (member_file_count m) flags (in_folders m place 1 (folders_in m.pkg)))
 
 pub entries_kept : (members : List Member) (flags : List Bool)
-    → map (λ l. l.entry) (member_listings (map member_of_kept (list_of (packages_after members flags)))) ≡ map (λ l. without_zeros l.entry) (owned_listings (member_listings members) flags)
+    → map (λ l. l.entry) (member_listings (map member_of_kept (list_of (packages_in_new_database members flags)))) ≡ map (λ l. without_zeros l.entry) (owned_listings (member_listings members) flags)
 unfolding member_listings
-entries_kept members flags = listed_from 0 (list_of (packages_after members flags)) ∙ members_owned 0 members flags
+entries_kept members flags = listed_from 0 (list_of (packages_in_new_database members flags)) ∙ members_owned 0 members flags

@@ -15,21 +15,21 @@ use Rattle.adb_sound.specs.adb_schema.SoundContainers.{IsSound}
 use Rattle.adb_sound.specs.adb_schema.Soundness.{first_fault, payload_in, root_value, schema_word}
 use Rattle.adb_sound.specs.adb_schema.declared.read.TheConstants.{IDB_WORD}
 use Rattle.adb_sound.specs.adb_write.Size.{size_of}
-use Rattle.adb_sound.specs.adb_write.Canonical.{MOST_BYTES, PayloadCounts, canonical, empty_layout, write, or_overflow, overflow_of, written_of}
+use Rattle.adb_sound.specs.adb_write.Canonical.{MOST_BYTES, PayloadCounts, canonical, empty_layout, write, or_overflow, overflow_of, payload_or_overflow}
 use Rattle.adb_sound.specs.adb_write.File.{adb_piece, file_of}
 use Rattle.adb_sound.specs.Root.{IsRootOf}
 use Rattle.adb_sound.proofs.Payloads.{payload_long}
-use Rattle.adb_sound.specs.pkg_core.Whole.{container_fault, fault_by_header, whole_fault}
+use Rattle.adb_sound.specs.pkg_core.Whole.{container_fault, container_fault_after_header, container_fault_of_table}
 use Rattle.adb_view.proofs.ValueEntries.{entries_arr, nth_obj}
 use Rattle.db_core.specs.Members.{Member}
-use Rattle.db_write.specs.NewDatabase.{database_container, database_of, database_value, packages_after}
+use Rattle.db_write.specs.NewDatabase.{database_container, database_of, database_value, packages_in_new_database}
 
 written_by : (v : Plain) (o : Option PayloadCounts) (bytes : List ℕ) → database_container (or_overflow (canonical v) o) ≡ Ok bytes → file_of IDB_WORD (canonical v) ≡ bytes
 written_by v None bytes h = cc (h)
 written_by v (Some c) bytes h = absurd (cc (h))
 
 pub is_file : (members : List Member) (flags : List Bool) (bytes : List ℕ) → database_of members flags ≡ Ok bytes → file_of IDB_WORD (canonical (database_value members flags)) ≡ bytes
-unfolding database_of written_of
+unfolding database_of payload_or_overflow
 is_file members flags bytes h = written_by (database_value members flags) (overflow_of (database_value members flags)) bytes h
 
 not_package : Idb ≢ Package
@@ -46,13 +46,13 @@ pub is_sound : Sound → (members : List Member) (flags : List Bool) (bytes : Li
 is_sound law members flags bytes root h =
     subst (λ (file : List ℕ). container_fault file ≡ None) (is_file members flags bytes h) (law Idb IDB_WORD (database_value members flags) refl not_package root)
 
-pub packages_in : (members : List Member) (flags : List Bool) → entries_at 0 (database_value members flags) ≡ list_of (packages_after members flags)
+pub packages_in : (members : List Member) (flags : List Bool) → entries_at 0 (database_value members flags) ≡ list_of (packages_in_new_database members flags)
 unfolding database_value
 packages_in members flags =
-    ap (λ v. list_of (entries_in v)) (nth_obj (more (arr_value (packages_after members flags)) none) 0) ∙ ap list_of (entries_arr (packages_after members flags))
+    ap (λ v. list_of (entries_in v)) (nth_obj (more (arr_value (packages_in_new_database members flags)) none) 0) ∙ ap list_of (entries_arr (packages_in_new_database members flags))
 
 pub is_read_back : Back → (members : List Member) (flags : List Bool) (bytes : List ℕ) → IsRootOf Idb (database_value members flags) → database_of members flags ≡ Ok bytes
-    → entries_at 0 (root_value Idb (payload_in bytes)) ≡ list_of (packages_after members flags)
+    → entries_at 0 (root_value Idb (payload_in bytes)) ≡ list_of (packages_in_new_database members flags)
 is_read_back law members flags bytes root h =
     let back : root_value Idb (payload_in (file_of IDB_WORD (canonical (database_value members flags)))) ≡ database_value members flags = law Idb IDB_WORD (database_value members flags) refl root in
     ap (λ (file : List ℕ). entries_at 0 (root_value Idb (payload_in file))) (sym (is_file members flags bytes h)) ∙ (ap (entries_at 0) back ∙ packages_in members flags)
@@ -71,8 +71,8 @@ database_header spelled read v fits =
     (spelled IDB_WORD (canonical v) (lit< tt) (payload_long (write v empty_layout).0 (write v empty_layout).1) fits)).0
 
 whole_is_first : (file : List ℕ) → header_of file ≡ Ok IDB_WORD → container_fault file ≡ None → first_fault Idb file ≡ None
-unfolding container_fault whole_fault first_fault
-whole_is_first file header sound = sym (ap (fault_by_header file) header) ∙ sound
+unfolding container_fault container_fault_of_table first_fault
+whole_is_first file header sound = sym (ap (container_fault_after_header file) header) ∙ sound
 
 pub is_sound_database : Spelled → ReadAs → Sound → (members : List Member) (flags : List Bool) (bytes : List ℕ) → IsRootOf Idb (database_value members flags) → database_of members flags ≡ Ok bytes → IsSound Idb bytes
 is_sound_database spelled read law members flags bytes root h =

@@ -9,13 +9,13 @@ use Rattle.adb_copy.specs.adb_fields.Once.{HasNoRepeatedName}
 use Rattle.adb_copy.specs.adb_fields.Repeated.{repeated_fault}
 use Rattle.adb_sound.specs.adb_schema.SoundValues.{KeepsRules}
 use Rattle.adb_sound.specs.adb_schema.Texts.{text_fault}
-use Rattle.adb_sound.specs.adb_write.Canonical.{PayloadCounts, canonical, or_overflow, overflow_of, exceeds_a_limit, written_of, MOST_BYTES, MOST_VALUES}
+use Rattle.adb_sound.specs.adb_write.Canonical.{PayloadCounts, canonical, or_overflow, overflow_of, exceeds_a_limit, payload_or_overflow, MOST_BYTES, MOST_VALUES}
 use Rattle.adb_sound.specs.adb_write.Size.{size_of, value_count}
 use Rattle.adb_sound.specs.Root.{IsRootOf}
 use Rattle.db_core.specs.Members.{AreInOrder, Member, member_listings}
 use Rattle.db_write.specs.NewDatabase.{database_container, database_of, database_value}
 use Rattle.db_core.specs.OwnedListings.{owned_listings}
-use Rattle.db_core.specs.SoundMembers.{AreOfSoundContainers, MayBeListed}
+use Rattle.db_core.specs.SoundMembers.{AreOfSoundContainers, MayBeInDatabase}
 use Rattle.db_write.proofs.RootNames.{names_once}
 use Rattle.db_write.proofs.RootParts.{EachIn, database_normal, database_shape, members_enter}
 use Rattle.db_write.proofs.RootRules.{rules_kept}
@@ -28,7 +28,7 @@ within_by v None bytes h = refl
 within_by v (Some c) bytes h = absurd (cc (h))
 
 within : (members : List Member) (flags : List Bool) (bytes : List ℕ) → database_of members flags ≡ Ok bytes → is_some (overflow_of (database_value members flags)) ≡ false
-unfolding database_of written_of
+unfolding database_of payload_or_overflow
 within members flags bytes h = within_by (database_value members flags) (overflow_of (database_value members flags)) bytes h
 
 -- ---- what the layers below say
@@ -42,7 +42,7 @@ Kept = (which : Which) (v : Plain) → (text_fault which v ≡ None) ↔ KeepsRu
 abbrev pub Once : Type 0
 Once = (which : Which) (v : Plain) → (repeated_fault which v ≡ None) ↔ HasNoRepeatedName which v
 
-pub database_root : Exact → Kept → Once → (members : List Member) (flags : List Bool) (bytes : List ℕ) → AreOfSoundContainers members → AreInOrder members → MayBeListed (owned_listings (member_listings members) flags)
+pub database_root : Exact → Kept → Once → (members : List Member) (flags : List Bool) (bytes : List ℕ) → AreOfSoundContainers members → AreInOrder members → MayBeInDatabase (owned_listings (member_listings members) flags)
     → database_of members flags ≡ Ok bytes → IsRootOf Idb (database_value members flags)
 database_root exact kept once members flags bytes sound order listed written =
     let v : Plain = database_value members flags in

@@ -10,14 +10,14 @@ use Rattle.adb_view.specs.Plain.{Plain, Plains, int, blob}
 use Rattle.adb_view.specs.Values.{entries_in, entry_in, int_in, text_in}
 use Rattle.adb_view.specs.declared.tables.Which.TheVariants.{Idb}
 use Rattle.adb_copy.specs.adb_fields.FirstPair.{IsIn}
-use Rattle.adb_copy.specs.adb_fields.Once.{AllDistinct, AreDistinctNames, HasNoRepeatedName, HaveNoRepeatBetween, HaveNoRepeatInside}
+use Rattle.adb_copy.specs.adb_fields.Once.{EachHasDistinctNames, AreDistinctNames, HasNoRepeatedName, HaveNoRepeatBetween, HaveNoRepeatInside}
 use Rattle.adb_copy.specs.adb_fields.Repeated.{files_in, folders_in, list_of, name_of, package_name}
-use Rattle.adb_copy.specs.Zeros.{info_with, with_at, without_zeros}
+use Rattle.adb_copy.specs.Zeros.{info_with_id_and_size, with_value_at_index, without_zeros}
 use Rattle.adb_view.proofs.ValueEntries.{entries_arr, nth_obj, text_blob}
 use Rattle.adb_copy.proofs.WithoutZeros.{text_zeros}
 use Rattle.adb_copy.proofs.Zeros.{at_other, nth_zeros}
 use Rattle.db_core.specs.Members.{AreInOrder, Member, member_listings, member_name}
-use Rattle.db_write.specs.NewDatabase.{database_value, file_count, folder_after, folders_after, info_in_new_database, member_file_count, owned_entries, package_after, packages_after}
+use Rattle.db_write.specs.NewDatabase.{database_value, file_count, folder_in_new_database, folders_in_new_database, info_in_new_database, member_file_count, owned_entries, package_in_new_database, packages_in_new_database}
 use Rattle.db_core.specs.OwnedListings.{owned_listings}
 use Rattle.db_core.specs.OwnedListings.{HaveOneOwner}
 use Rattle.db_write.proofs.OneOwner.{owned_apart}
@@ -28,30 +28,30 @@ use Rattle.db_write.proofs.SoundPackages.{MayEnter}
 
 -- ---- the parts of what is written
 
-pub folder_name : (d : Plain) (flags : List Bool) → name_of (folder_after d flags) ≡ name_of d
+pub folder_name : (d : Plain) (flags : List Bool) → name_of (folder_in_new_database d flags) ≡ name_of d
 folder_name d flags = ap text_in (nth_obj (fields_of_folder d flags) 0) ∙ text_blob (name_of d)
 
-pub folder_files : (d : Plain) (flags : List Bool) → entries_in (entry_in (folder_after d flags) 2) ≡ owned_entries (files_in d) flags
+pub folder_files : (d : Plain) (flags : List Bool) → entries_in (entry_in (folder_in_new_database d flags) 2) ≡ owned_entries (files_in d) flags
 folder_files d flags =
     ap entries_in (nth_obj (fields_of_folder d flags) 2)
     ∙ entries_arr (owned_entries (files_in d) flags)
 
-pub package_info : (m : Member) (flags : List Bool) → entry_in (package_after m flags) 0 ≡ info_in_new_database m.id (entry_in m.pkg 0)
+pub package_info : (m : Member) (flags : List Bool) → entry_in (package_in_new_database m flags) 0 ≡ info_in_new_database m.id (entry_in m.pkg 0)
 package_info m flags = nth_obj (fields_of_package m flags) 0
 
-pub package_folders : (m : Member) (flags : List Bool) → entries_in (entry_in (package_after m flags) 1) ≡ folders_after (folders_in m.pkg) flags
-package_folders m flags = ap entries_in (nth_obj (fields_of_package m flags) 1) ∙ entries_arr (folders_after (folders_in m.pkg) flags)
+pub package_folders : (m : Member) (flags : List Bool) → entries_in (entry_in (package_in_new_database m flags) 1) ≡ folders_in_new_database (folders_in m.pkg) flags
+package_folders m flags = ap entries_in (nth_obj (fields_of_package m flags) 1) ∙ entries_arr (folders_in_new_database (folders_in m.pkg) flags)
 
 -- a field of an information but its hash and its size
 pub info_entry : (id : Option (List ℕ)) (info : Plain) (i : ℕ) → (2 ≡ i → ⊥) → (12 ≡ i → ⊥) → entry_in (info_in_new_database id info) i ≡ without_zeros (entry_in info i)
-unfolding info_with without_zeros
+unfolding info_with_id_and_size without_zeros
 info_entry id info i a b =
     let hash : Plain = blob (unwrap_or id (text_in (entry_in info 2))) in
     let size : Plain = int (int_in (entry_in info 12)) in
-    let vs : Plains = with_at 12 size (with_at 2 hash (entries_in info)) in
-    nth_obj _ i ∙ (nth_zeros vs i ∙ ap without_zeros (at_other 12 i size (with_at 2 hash (entries_in info)) b ∙ at_other 2 i hash (entries_in info) a))
+    let vs : Plains = with_value_at_index 12 size (with_value_at_index 2 hash (entries_in info)) in
+    nth_obj _ i ∙ (nth_zeros vs i ∙ ap without_zeros (at_other 12 i size (with_value_at_index 2 hash (entries_in info)) b ∙ at_other 2 i hash (entries_in info) a))
 
-pub package_named : (m : Member) (flags : List Bool) → package_name (package_after m flags) ≡ member_name m
+pub package_named : (m : Member) (flags : List Bool) → package_name (package_in_new_database m flags) ≡ member_name m
 package_named m flags =
     ap name_of (package_info m flags)
     ∙ (ap text_in (info_entry m.id (entry_in m.pkg 0) 0 (not_first 1) (not_first 11)) ∙ text_zeros (entry_in (entry_in m.pkg 0) 0))
@@ -74,14 +74,14 @@ owned_distinct (f ∷ files) (false ∷ flags) h = owned_distinct files flags h.
 
 -- ---- names in a package
 
-names_kept : (ds : List Plain) (flags : List Bool) → map name_of (list_of (folders_after ds flags)) ≡ map name_of ds
+names_kept : (ds : List Plain) (flags : List Bool) → map name_of (list_of (folders_in_new_database ds flags)) ≡ map name_of ds
 names_kept [] flags = refl
 names_kept (d ∷ ds) flags = λ j. folder_name d flags j ∷ names_kept ds (drop (file_count d) flags) j
 
 abbrev file_names : Plain → List (List ℕ)
 file_names folder = map name_of (files_in folder)
 
-files_distinct : (ds : List Plain) (flags : List Bool) → AllDistinct (map file_names ds) → AllDistinct (map file_names (list_of (folders_after ds flags)))
+files_distinct : (ds : List Plain) (flags : List Bool) → EachHasDistinctNames (map file_names ds) → EachHasDistinctNames (map file_names (list_of (folders_in_new_database ds flags)))
 files_distinct [] flags h = tt
 files_distinct (d ∷ ds) flags h = (
   subst (λ (vs : Plains). AreDistinctNames (map name_of (list_of vs))) (sym (folder_files d flags)) (owned_distinct (files_in d) flags h.0),
@@ -90,26 +90,26 @@ files_distinct (d ∷ ds) flags h = (
 
 -- ---- names in all packages
 
-all_distinct : (xs ys : List (List (List ℕ))) → AllDistinct xs → AllDistinct ys → AllDistinct (xs ++ ys)
+all_distinct : (xs ys : List (List (List ℕ))) → EachHasDistinctNames xs → EachHasDistinctNames ys → EachHasDistinctNames (xs ++ ys)
 all_distinct [] ys a b = b
 all_distinct (x ∷ xs) ys a b = (a.0, all_distinct xs ys a.1 b)
 
 folders_inside : (members : List Member) (flags : List Bool) → EachIn (λ (m : Member). MayEnter m.pkg) members
-    → AllDistinct (map (λ pkg. map name_of (folders_in pkg)) (list_of (packages_after members flags)))
+    → EachHasDistinctNames (map (λ pkg. map name_of (folders_in pkg)) (list_of (packages_in_new_database members flags)))
 folders_inside [] flags h = tt
 folders_inside (m ∷ members) flags h =
-    let names : map name_of (folders_in (package_after m flags)) ≡ map name_of (folders_in m.pkg) = ap (λ (vs : Plains). map name_of (list_of vs)) (package_folders m flags) ∙ names_kept (folders_in m.pkg) flags in
+    let names : map name_of (folders_in (package_in_new_database m flags)) ≡ map name_of (folders_in m.pkg) = ap (λ (vs : Plains). map name_of (list_of vs)) (package_folders m flags) ∙ names_kept (folders_in m.pkg) flags in
     (subst AreDistinctNames (sym names) h.0.folders_once, folders_inside members (drop (member_file_count m) flags) h.1)
 
 files_inside : (members : List Member) (flags : List Bool) → EachIn (λ (m : Member). MayEnter m.pkg) members
-    → AllDistinct (flat_map (λ pkg. map file_names (folders_in pkg)) (list_of (packages_after members flags)))
+    → EachHasDistinctNames (flat_map (λ pkg. map file_names (folders_in pkg)) (list_of (packages_in_new_database members flags)))
 files_inside [] flags h = tt
 files_inside (m ∷ members) flags h =
-    all_distinct (map file_names (folders_in (package_after m flags))) _
-    (subst (λ (vs : Plains). AllDistinct (map file_names (list_of vs))) (sym (package_folders m flags)) (files_distinct (folders_in m.pkg) flags h.0.files_once))
+    all_distinct (map file_names (folders_in (package_in_new_database m flags))) _
+    (subst (λ (vs : Plains). EachHasDistinctNames (map file_names (list_of vs))) (sym (package_folders m flags)) (files_distinct (folders_in m.pkg) flags h.0.files_once))
     (files_inside members (drop (member_file_count m) flags) h.1)
 
-package_names : (members : List Member) (flags : List Bool) → map package_name (list_of (packages_after members flags)) ≡ map member_name members
+package_names : (members : List Member) (flags : List Bool) → map package_name (list_of (packages_in_new_database members flags)) ≡ map member_name members
 package_names [] flags = refl
 package_names (m ∷ members) flags = λ j. package_named m flags j ∷ package_names members (drop (member_file_count m) flags) j
 
@@ -127,7 +127,7 @@ rising_distinct (x ∷ xs) pairs = (
 pub names_once : (members : List Member) (flags : List Bool) → EachIn (λ (m : Member). MayEnter m.pkg) members → AreInOrder members → HaveOneOwner (owned_listings (member_listings members) flags)
     → HasNoRepeatedName Idb (database_value members flags)
 names_once members flags enter order owned =
-    let packages : List Plain = list_of (packages_after members flags) in
+    let packages : List Plain = list_of (packages_in_new_database members flags) in
     subst (λ (ps : List Plain). HaveNoRepeatInside ps × HaveNoRepeatBetween ps) (sym (packages_in members flags)) (
       record { folders = folders_inside members flags enter; files = files_inside members flags enter },
       record {

@@ -8,14 +8,14 @@ use Rattle.adb_view.specs.Values.{entries_in, entry_in, int_in, text_in}
 use Rattle.adb_view.specs.declared.tables.Kind.TheVariants.{Obj, TextArr}
 use Rattle.adb_view.specs.declared.tables.Which.TheVariants as Tables
 use Rattle.adb_copy.specs.adb_fields.Repeated.{files_in, folders_in, list_of, name_of}
-use Rattle.adb_copy.specs.Zeros.{info_with, int_or_null, without_zeros}
+use Rattle.adb_copy.specs.Zeros.{info_with_id_and_size, int_or_null, without_zeros}
 use Rattle.adb_copy.proofs.Fields.{INFO}
 use Rattle.adb_view.proofs.FoundShapes.{arr_value_shape, blob_value_text, obj_value_shape}
 use Rattle.adb_view.proofs.Normal.{arr_normal, blob_value_normal, obj_normal}
 use Rattle.adb_copy.proofs.Shapes.{entries_shape, nth_shape}
 use Rattle.adb_copy.proofs.WithoutZeros.{HasInts, HaveInts, each_ints, entries_ints, int_normal, int_shape, nth_ints, placed_normal, placed_shape, read_small, zeros_normal, zeros_shape}
 use Rattle.db_core.specs.Members.{Member}
-use Rattle.db_write.specs.NewDatabase.{database_value, each_by_flags, file_count, folder_after, folders_after, info_in_new_database, member_file_count, owned_entries, package_after, packages_after}
+use Rattle.db_write.specs.NewDatabase.{database_value, each_by_flags, file_count, folder_in_new_database, folders_in_new_database, info_in_new_database, member_file_count, owned_entries, package_in_new_database, packages_in_new_database}
 use Rattle.db_core.specs.SoundMembers.{AreOfSoundContainers}
 use Rattle.db_write.proofs.SoundPackages.{MayEnter, member_enters}
 use Rattle.db_write.proofs.Unchanged.{array_entries}
@@ -56,20 +56,20 @@ abbrev pub fields_of_folder : Plain → List Bool → Plains
 fields_of_folder d flags = more (blob_or_null (name_of d)) (more (without_zeros (entry_in d 1)) (more (arr_value (owned_entries (files_in d) flags)) none))
 
 abbrev pub fields_of_package : Member → List Bool → Plains
-fields_of_package m flags = more (info_in_new_database m.id (entry_in m.pkg 0)) (more (arr_value (folders_after (folders_in m.pkg) flags))
+fields_of_package m flags = more (info_in_new_database m.id (entry_in m.pkg 0)) (more (arr_value (folders_in_new_database (folders_in m.pkg) flags))
     (more (without_zeros (entry_in m.pkg 2)) (more (without_zeros (entry_in m.pkg 3)) (more (int_or_null (int_in (entry_in m.pkg 4))) none))))
 
 abbrev pub fields_of_database : List Member → List Bool → Plains
-fields_of_database members flags = more (arr_value (packages_after members flags)) none
+fields_of_database members flags = more (arr_value (packages_in_new_database members flags)) none
 
 -- ---- normal
 
 info_normal : (id : Option (List ℕ)) (info : Plain) → HasInts info → IsNormal (info_in_new_database id info)
-unfolding info_with HasInts
+unfolding info_with_id_and_size HasInts
 info_normal id info h = placed_normal 12 2 (int (int_in (entry_in info 12))) (blob (unwrap_or id (text_in (entry_in info 2)))) (entries_in info)
     (read_small (entry_in info 12) (nth_ints (entries_in info) 12 (entries_ints info h))) tt (entries_ints info h)
 
-folder_normal : (d : Plain) (flags : List Bool) → HasInts d → IsNormal (folder_after d flags)
+folder_normal : (d : Plain) (flags : List Bool) → HasInts d → IsNormal (folder_in_new_database d flags)
 unfolding AreNormal
 folder_normal d flags h =
     let vs : Plains = entries_in (entry_in d 2) in
@@ -77,14 +77,14 @@ folder_normal d flags h =
     let files = all_normal (owned_entries (list_of vs) flags) (each_owned HasInts IsNormal zeros_normal vs flags (each_ints vs (entries_ints (entry_in d 2) (nth_ints (entries_in d) 2 fields)))) in
     obj_normal (fields_of_folder d flags) (blob_value_normal (name_of d), (zeros_normal (entry_in d 1) (nth_ints (entries_in d) 1 fields), (arr_normal _ files, tt)))
 
-package_normal : (m : Member) (flags : List Bool) → HasInts m.pkg → IsNormal (package_after m flags)
+package_normal : (m : Member) (flags : List Bool) → HasInts m.pkg → IsNormal (package_in_new_database m flags)
 unfolding AreNormal
 package_normal m flags h =
     let vs : Plains = entries_in m.pkg in
     let fields : HaveInts vs = entries_ints m.pkg h in
     let listed : Plains = entries_in (entry_in m.pkg 1) in
-    let folders = all_normal (folders_after (folders_in m.pkg) flags)
-    (each_made file_count folder_after HasInts IsNormal folder_normal (folders_in m.pkg) flags (each_listed HasInts listed (each_ints listed (entries_ints (entry_in m.pkg 1) (nth_ints vs 1 fields))))) in
+    let folders = all_normal (folders_in_new_database (folders_in m.pkg) flags)
+    (each_made file_count folder_in_new_database HasInts IsNormal folder_normal (folders_in m.pkg) flags (each_listed HasInts listed (each_ints listed (entries_ints (entry_in m.pkg 1) (nth_ints vs 1 fields))))) in
     obj_normal (fields_of_package m flags) (
       info_normal m.id (entry_in m.pkg 0) (nth_ints vs 0 fields),
       (
@@ -103,18 +103,18 @@ pub database_normal : (members : List Member) (flags : List Bool) → EachIn (λ
 unfolding AreNormal database_value
 database_normal members flags h =
     obj_normal (fields_of_database members flags) (
-      arr_normal _ (all_normal (packages_after members flags)
-          (each_made member_file_count package_after (λ (m : Member). MayEnter m.pkg) IsNormal (λ m fs e. package_normal m fs e.ints) members flags h)),
+      arr_normal _ (all_normal (packages_in_new_database members flags)
+          (each_made member_file_count package_in_new_database (λ (m : Member). MayEnter m.pkg) IsNormal (λ m fs e. package_normal m fs e.ints) members flags h)),
       tt,
     )
 
 -- ---- of its shape
 
 info_shape : (id : Option (List ℕ)) (info : Plain) → HasShape (shape_of (Obj Tables.PkgInfo)) info → HasShape (shape_of (Obj Tables.PkgInfo)) (info_in_new_database id info)
-unfolding info_with HasShape shape_of
+unfolding info_with_id_and_size HasShape shape_of
 info_shape id info h = placed_shape 3 INFO 12 2 (int (int_in (entry_in info 12))) (blob (unwrap_or id (text_in (entry_in info 2)))) (entries_in info) tt tt tt tt (entries_shape 3 INFO info h)
 
-folder_shape : (d : Plain) (flags : List Bool) → HasShape (shape_of (Obj Tables.Dir)) d → HasShape (shape_of (Obj Tables.Dir)) (folder_after d flags)
+folder_shape : (d : Plain) (flags : List Bool) → HasShape (shape_of (Obj Tables.Dir)) d → HasShape (shape_of (Obj Tables.Dir)) (folder_in_new_database d flags)
 unfolding shape_of HasShape HaveShapes
 folder_shape d flags h =
     let fields = entries_shape 5 (shapes_of (table Tables.Dir)) d h in
@@ -124,7 +124,7 @@ folder_shape d flags h =
     (array_entries (HasShape (shape_of (Obj Tables.File))) (entry_in d 2) files) in
     obj_value_shape 5 (shapes_of (table Tables.Dir)) (fields_of_folder d flags) (blob_value_text (name_of d), (zeros_shape (shape_of (Obj Tables.Acl)) (entry_in d 1) acl, (arr_value_shape (shape_of (Obj Tables.File)) _ owned, tt)))
 
-package_shape : (m : Member) (flags : List Bool) → HasShape (shape_of (Obj Tables.Package)) m.pkg → HasShape (shape_of (Obj Tables.Package)) (package_after m flags)
+package_shape : (m : Member) (flags : List Bool) → HasShape (shape_of (Obj Tables.Package)) m.pkg → HasShape (shape_of (Obj Tables.Package)) (package_in_new_database m flags)
 unfolding shape_of HasShape HaveShapes
 package_shape m flags h =
     let v : Plain = m.pkg in
@@ -133,7 +133,7 @@ package_shape m flags h =
     let listed : IsArrayOf (HasShape (shape_of (Obj Tables.Dir))) (entry_in v 1) = nth_shape (shapes_of (table Tables.Package)) (entries_in v) 1 fields in
     let scripts : HasShape (shape_of (Obj Tables.Scripts)) (entry_in v 2) = nth_shape (shapes_of (table Tables.Package)) (entries_in v) 2 fields in
     let triggers : HasShape (shape_of TextArr) (entry_in v 3) = nth_shape (shapes_of (table Tables.Package)) (entries_in v) 3 fields in
-    let folders = each_made file_count folder_after (HasShape (shape_of (Obj Tables.Dir))) (HasShape (shape_of (Obj Tables.Dir))) folder_shape (folders_in v) flags
+    let folders = each_made file_count folder_in_new_database (HasShape (shape_of (Obj Tables.Dir))) (HasShape (shape_of (Obj Tables.Dir))) folder_shape (folders_in v) flags
     (each_listed (HasShape (shape_of (Obj Tables.Dir))) (entries_in (entry_in v 1)) (array_entries (HasShape (shape_of (Obj Tables.Dir))) (entry_in v 1) listed)) in
     obj_value_shape 7 (shapes_of (table Tables.Package)) (fields_of_package m flags) (
       info_shape m.id (entry_in v 0) info,
@@ -146,5 +146,5 @@ package_shape m flags h =
 pub database_shape : (members : List Member) (flags : List Bool) → EachIn (λ (m : Member). MayEnter m.pkg) members → HasShape (shape_of (Obj Tables.Idb)) (database_value members flags)
 unfolding shape_of HasShape HaveShapes database_value
 database_shape members flags h =
-    let packages = each_made member_file_count package_after (λ (m : Member). MayEnter m.pkg) (HasShape (shape_of (Obj Tables.Package))) (λ m fs e. package_shape m fs e.shape) members flags h in
+    let packages = each_made member_file_count package_in_new_database (λ (m : Member). MayEnter m.pkg) (HasShape (shape_of (Obj Tables.Package))) (λ m fs e. package_shape m fs e.shape) members flags h in
     obj_value_shape 9 (shapes_of (table Tables.Idb)) (fields_of_database members flags) (arr_value_shape (shape_of (Obj Tables.Package)) _ packages, tt)

@@ -4,7 +4,7 @@ use Rattle.std.specs.Prelude.{unwrap_or}
 use Rattle.std.specs.List.{flat_map}
 use Rattle.version_core.specs.Order.{is_version}
 use Rattle.dep_core.specs.Dependency.{is_dep_name, is_package_name}
-use Rattle.dep_core.specs.Value.{is_matching, is_version_or_empty}
+use Rattle.dep_core.specs.Value.{is_match_number, is_version_or_empty}
 use Rattle.adb_view.specs.Plain.{Plain, int, blob, Plains, none, more, arr_value}
 use Rattle.adb_view.specs.Shaped.{Each, HasShape, IsArrayOf}
 use Rattle.adb_view.specs.Schema.{shape_of, shapes_of, table}
@@ -14,16 +14,16 @@ use Rattle.adb_view.specs.declared.tables.Which.TheVariants as Tables
 use Rattle.adb_copy.specs.adb_fields.Paths.{path_of}
 use Rattle.adb_copy.specs.adb_fields.Repeated.{files_in, folders_in, list_of, name_of, paths_in, paths_under}
 use Rattle.adb_sound.specs.adb_schema.Reserved.{is_reserved}
-use Rattle.adb_sound.specs.adb_schema.Rules.{is_digest_length_or_none, is_file_name, is_folder_name, is_target}
-use Rattle.adb_sound.specs.adb_schema.SoundValues.{IsFileOf, IsFolder, IsInformation, IsPackage, IsSoundDependency, KeepsRules}
-use Rattle.adb_copy.specs.Zeros.{all_without_zeros, info_with, with_at, without_zeros}
+use Rattle.adb_sound.specs.adb_schema.Rules.{is_digest_length_or_none, is_file_name, is_folder_name, is_link_target_or_none}
+use Rattle.adb_sound.specs.adb_schema.SoundValues.{IsSoundFileOf, IsSoundFolder, IsSoundInformation, IsSoundPackage, IsSoundDependency, KeepsRules}
+use Rattle.adb_copy.specs.Zeros.{all_without_zeros, info_with_id_and_size, with_value_at_index, without_zeros}
 use Rattle.adb_copy.proofs.Shapes.{entries_shape, nth_shape}
 use Rattle.adb_view.proofs.ValueEntries.{entries_arr, nth_obj}
 use Rattle.adb_copy.proofs.WithoutZeros.{int_zeros, text_zeros}
 use Rattle.adb_copy.proofs.Zeros.{at_other, at_same, nth_zeros, zeros_array}
 use Rattle.adb_copy.proofs.Entries.{entry_zeros}
 use Rattle.db_core.specs.Members.{Member}
-use Rattle.db_write.specs.NewDatabase.{database_value, file_count, folder_after, folders_after, info_in_new_database, member_file_count, owned_entries, package_after, packages_after}
+use Rattle.db_write.specs.NewDatabase.{database_value, file_count, folder_in_new_database, folders_in_new_database, info_in_new_database, member_file_count, owned_entries, package_in_new_database, packages_in_new_database}
 use Rattle.db_core.specs.OwnedListings.{owned_paths}
 use Rattle.db_core.specs.SoundMembers.{AreOfSoundContainers, IsOfSoundContainer, NoneReserved}
 use Rattle.db_write.proofs.OwnedPaths.{all_owned_listed, name_zeros}
@@ -36,7 +36,7 @@ zeros_dependency : (v : Plain) → IsSoundDependency v → IsSoundDependency (wi
 zeros_dependency v h = record {
   name = ap is_dep_name (ap text_in (entry_zeros v 0) ∙ text_zeros (entry_in v 0)) ∙ h.name;
   version = ap is_version_or_empty (ap text_in (entry_zeros v 1) ∙ text_zeros (entry_in v 1)) ∙ h.version;
-  matching = ap is_matching (ap int_in (entry_zeros v 2) ∙ int_zeros (entry_in v 2)) ∙ h.matching;
+  matching = ap is_match_number (ap int_in (entry_zeros v 2) ∙ int_zeros (entry_in v 2)) ∙ h.matching;
 }
 
 each_zeros : (P : Plain → Type 0) → ((v : Plain) → P v → P (without_zeros v)) → (vs : Plains) → Each P vs → Each P (all_without_zeros vs)
@@ -48,12 +48,12 @@ array_zeros : (P : Plain → Type 0) (v : Plain) → IsArrayOf P v → entries_i
 array_zeros P v h = ap entries_in (zeros_array P v h) ∙ entries_arr (all_without_zeros (entries_in v))
 
 hash_after : (id : Option (List ℕ)) (info : Plain) → text_in (entry_in (info_in_new_database id info) 2) ≡ unwrap_or id (text_in (entry_in info 2))
-unfolding info_with without_zeros
+unfolding info_with_id_and_size without_zeros
 hash_after id info =
     let hash : Plain = blob (unwrap_or id (text_in (entry_in info 2))) in
     let size : Plain = int (int_in (entry_in info 12)) in
-    let vs : Plains = with_at 12 size (with_at 2 hash (entries_in info)) in
-    ap text_in (nth_obj (all_without_zeros vs) 2 ∙ (nth_zeros vs 2 ∙ ap without_zeros (at_other 12 2 size (with_at 2 hash (entries_in info)) (λ e. omega (arith, e)) ∙ at_same 2 hash (entries_in info))))
+    let vs : Plains = with_value_at_index 12 size (with_value_at_index 2 hash (entries_in info)) in
+    ap text_in (nth_obj (all_without_zeros vs) 2 ∙ (nth_zeros vs 2 ∙ ap without_zeros (at_other 12 2 size (with_value_at_index 2 hash (entries_in info)) (λ e. omega (arith, e)) ∙ at_same 2 hash (entries_in info))))
     ∙ text_zeros hash
 
 hash_kept : (pkg info : Plain) (id : Option (List ℕ)) → IsOfSoundContainer pkg id → is_digest_length_or_none (length (text_in (entry_in info 2))) ≡ true
@@ -74,7 +74,7 @@ module _ (id : Option (List ℕ)) (info : Plain) (shape : HasShape (shape_of (Ob
   dependencies : (i : ℕ) → Type 0
   dependencies i = IsArrayOf (HasShape (shape_of (Obj Tables.Dep))) (entry_in info i)
 
-  pub info_kept : (pkg : Plain) → IsOfSoundContainer pkg id → IsInformation Tables.Idb info → IsInformation Tables.Idb (info_in_new_database id info)
+  pub info_kept : (pkg : Plain) → IsOfSoundContainer pkg id → IsSoundInformation Tables.Idb info → IsSoundInformation Tables.Idb (info_in_new_database id info)
   unfolding shape_of HasShape
   info_kept pkg from h =
       let fields = entries_shape 3 (shapes_of (table Tables.PkgInfo)) info shape in
@@ -101,63 +101,63 @@ free_back (x ∷ xs) ys h = free_back xs ys h.1
 
 -- ---- files and folders
 
-file_kept : (above : List ℕ) (v : Plain) → IsFileUnder above v → is_reserved (path_of above (name_of (without_zeros v))) ≡ false → IsFileOf Tables.Idb above (without_zeros v)
+file_kept : (above : List ℕ) (v : Plain) → IsFileUnder above v → is_reserved (path_of above (name_of (without_zeros v))) ≡ false → IsSoundFileOf Tables.Idb above (without_zeros v)
 file_kept above v h free = record {
   name = ap (is_file_name above) (name_zeros v) ∙ h.name;
   listed = ap not free;
   hash = ap (λ (t : List ℕ). is_digest_length_or_none (length t)) (ap text_in (entry_zeros v 4) ∙ text_zeros (entry_in v 4)) ∙ h.hash;
-  target = ap is_target (ap text_in (entry_zeros v 5) ∙ text_zeros (entry_in v 5)) ∙ h.target;
+  target = ap is_link_target_or_none (ap text_in (entry_zeros v 5) ∙ text_zeros (entry_in v 5)) ∙ h.target;
 }
 
 files_kept : (above : List ℕ) (vs : Plains) (flags : List Bool) → Each (IsFileUnder above) vs → NoneReserved (map (λ file. path_of above (name_of file)) (list_of (owned_entries (list_of vs) flags)))
-    → Each (IsFileOf Tables.Idb above) (owned_entries (list_of vs) flags)
+    → Each (IsSoundFileOf Tables.Idb above) (owned_entries (list_of vs) flags)
 files_kept above none flags h free = tt
 files_kept above (more v vs) [] h free = tt
 files_kept above (more v vs) (true ∷ flags) h free = (file_kept above v h.0 free.0, files_kept above vs flags h.1 free.1)
 files_kept above (more v vs) (false ∷ flags) h free = files_kept above vs flags h.1 free
 
-folder_kept : (d : Plain) (flags : List Bool) → IsFolderAnywhere d → NoneReserved (paths_under (folder_after d flags)) → IsFolder Tables.Idb (folder_after d flags)
+folder_kept : (d : Plain) (flags : List Bool) → IsFolderAnywhere d → NoneReserved (paths_under (folder_in_new_database d flags)) → IsSoundFolder Tables.Idb (folder_in_new_database d flags)
 folder_kept d flags h free =
     let owned : Plains = owned_entries (files_in d) flags in
     let paths : NoneReserved (map (λ file. path_of (name_of d) (name_of file)) (list_of owned)) =
     subst (λ (above : List ℕ). NoneReserved (map (λ file. path_of above (name_of file)) (list_of owned))) (folder_name d flags)
-    (subst (λ (vs : Plains). NoneReserved (map (λ file. path_of (name_of (folder_after d flags)) (name_of file)) (list_of vs))) (folder_files d flags) free) in
-    let files : Each (IsFileOf Tables.Idb (name_of d)) owned = files_kept (name_of d) (entries_in (entry_in d 2)) flags h.files paths in
+    (subst (λ (vs : Plains). NoneReserved (map (λ file. path_of (name_of (folder_in_new_database d flags)) (name_of file)) (list_of vs))) (folder_files d flags) free) in
+    let files : Each (IsSoundFileOf Tables.Idb (name_of d)) owned = files_kept (name_of d) (entries_in (entry_in d 2)) flags h.files paths in
     record {
       name = ap is_folder_name (folder_name d flags) ∙ h.name;
-      files = subst (λ (above : List ℕ). Each (IsFileOf Tables.Idb above) (entries_in (entry_in (folder_after d flags) 2))) (sym (folder_name d flags))
-          (subst (Each (IsFileOf Tables.Idb (name_of d))) (sym (folder_files d flags)) files);
+      files = subst (λ (above : List ℕ). Each (IsSoundFileOf Tables.Idb above) (entries_in (entry_in (folder_in_new_database d flags) 2))) (sym (folder_name d flags))
+          (subst (Each (IsSoundFileOf Tables.Idb (name_of d))) (sym (folder_files d flags)) files);
     }
 
-folders_kept : (vs : Plains) (flags : List Bool) → Each IsFolderAnywhere vs → NoneReserved (flat_map paths_under (list_of (folders_after (list_of vs) flags))) → Each (IsFolder Tables.Idb) (folders_after (list_of vs) flags)
+folders_kept : (vs : Plains) (flags : List Bool) → Each IsFolderAnywhere vs → NoneReserved (flat_map paths_under (list_of (folders_in_new_database (list_of vs) flags))) → Each (IsSoundFolder Tables.Idb) (folders_in_new_database (list_of vs) flags)
 folders_kept none flags h free = tt
 folders_kept (more d ds) flags h free =
-    let others : List (List ℕ) = flat_map paths_under (list_of (folders_after (list_of ds) (drop (file_count d) flags))) in (
-      folder_kept d flags h.0 (free_front (paths_under (folder_after d flags)) others free),
-      folders_kept ds (drop (file_count d) flags) h.1 (free_back (paths_under (folder_after d flags)) others free),
+    let others : List (List ℕ) = flat_map paths_under (list_of (folders_in_new_database (list_of ds) (drop (file_count d) flags))) in (
+      folder_kept d flags h.0 (free_front (paths_under (folder_in_new_database d flags)) others free),
+      folders_kept ds (drop (file_count d) flags) h.1 (free_back (paths_under (folder_in_new_database d flags)) others free),
     )
 
 -- ---- packages
 
-package_kept : (m : Member) (flags : List Bool) → IsOfSoundContainer m.pkg m.id → NoneReserved (paths_in (package_after m flags)) → IsPackage Tables.Idb (package_after m flags)
+package_kept : (m : Member) (flags : List Bool) → IsOfSoundContainer m.pkg m.id → NoneReserved (paths_in (package_in_new_database m flags)) → IsSoundPackage Tables.Idb (package_in_new_database m flags)
 unfolding shape_of HasShape
 package_kept m flags from free =
     let h : MayEnter m.pkg = member_enters m.pkg m.id from in
     let info : HasShape (shape_of (Obj Tables.PkgInfo)) (entry_in m.pkg 0) =
     nth_shape (shapes_of (table Tables.Package)) (entries_in m.pkg) 0 (entries_shape 7 (shapes_of (table Tables.Package)) m.pkg h.shape) in
-    let paths : NoneReserved (flat_map paths_under (list_of (folders_after (folders_in m.pkg) flags))) =
+    let paths : NoneReserved (flat_map paths_under (list_of (folders_in_new_database (folders_in m.pkg) flags))) =
     subst (λ (vs : Plains). NoneReserved (flat_map paths_under (list_of vs))) (package_folders m flags) free in
     record {
-      info = subst (IsInformation Tables.Idb) (sym (package_info m flags)) (info_kept m.id (entry_in m.pkg 0) info m.pkg from h.info);
-      folders = subst (Each (IsFolder Tables.Idb)) (sym (package_folders m flags)) (folders_kept (entries_in (entry_in m.pkg 1)) flags h.folders paths);
+      info = subst (IsSoundInformation Tables.Idb) (sym (package_info m flags)) (info_kept m.id (entry_in m.pkg 0) info m.pkg from h.info);
+      folders = subst (Each (IsSoundFolder Tables.Idb)) (sym (package_folders m flags)) (folders_kept (entries_in (entry_in m.pkg 1)) flags h.folders paths);
     }
 
-packages_kept : (members : List Member) (flags : List Bool) → AreOfSoundContainers members → NoneReserved (flat_map paths_in (list_of (packages_after members flags))) → Each (IsPackage Tables.Idb) (packages_after members flags)
+packages_kept : (members : List Member) (flags : List Bool) → AreOfSoundContainers members → NoneReserved (flat_map paths_in (list_of (packages_in_new_database members flags))) → Each (IsSoundPackage Tables.Idb) (packages_in_new_database members flags)
 packages_kept [] flags h free = tt
 packages_kept (m ∷ members) flags h free =
-    let others : List (List ℕ) = flat_map paths_in (list_of (packages_after members (drop (member_file_count m) flags))) in (
-      package_kept m flags h.0 (free_front (paths_in (package_after m flags)) others free),
-      packages_kept members (drop (member_file_count m) flags) h.1 (free_back (paths_in (package_after m flags)) others free),
+    let others : List (List ℕ) = flat_map paths_in (list_of (packages_in_new_database members (drop (member_file_count m) flags))) in (
+      package_kept m flags h.0 (free_front (paths_in (package_in_new_database m flags)) others free),
+      packages_kept members (drop (member_file_count m) flags) h.1 (free_back (paths_in (package_in_new_database m flags)) others free),
     )
 
 -- ---- the database
@@ -165,5 +165,5 @@ packages_kept (m ∷ members) flags h free =
 pub rules_kept : (members : List Member) (flags : List Bool) → AreOfSoundContainers members → NoneReserved (owned_paths members flags) → KeepsRules Tables.Idb (database_value members flags)
 unfolding database_value
 rules_kept members flags h free =
-    subst (Each (IsPackage Tables.Idb)) (sym (ap entries_in (nth_obj (more (arr_value (packages_after members flags)) none) 0) ∙ entries_arr (packages_after members flags)))
+    subst (Each (IsSoundPackage Tables.Idb)) (sym (ap entries_in (nth_obj (more (arr_value (packages_in_new_database members flags)) none) 0) ∙ entries_arr (packages_in_new_database members flags)))
     (packages_kept members flags h (subst NoneReserved (sym (all_owned_listed members flags)) free))

@@ -11,11 +11,11 @@ use Rattle.adb_view.specs.declared.tables.Kind.TheVariants.{Obj}
 use Rattle.adb_view.specs.declared.tables.Which.{Which}
 use Rattle.adb_view.specs.declared.tables.Which.TheVariants as Tables
 use Rattle.adb_copy.specs.adb_fields.FirstPair.{IsIn}
-use Rattle.adb_copy.specs.adb_fields.Once.{AllDistinct, AreDistinctNames, HaveNoRepeatInside}
+use Rattle.adb_copy.specs.adb_fields.Once.{EachHasDistinctNames, AreDistinctNames, HaveNoRepeatInside}
 use Rattle.adb_copy.specs.adb_fields.Repeated.{entries_at, files_in, folders_in, list_of, name_of}
 use Rattle.adb_copy.proofs.adb_fields.Distinct.{distinct_front}
-use Rattle.adb_sound.specs.adb_schema.Rules.{is_digest_length, is_digest_length_or_none, is_file_name, is_folder_name, is_target}
-use Rattle.adb_sound.specs.adb_schema.SoundValues.{IsFileOf, IsFolder, IsInformation, IsPackage}
+use Rattle.adb_sound.specs.adb_schema.Rules.{is_digest_length, is_digest_length_or_none, is_file_name, is_folder_name, is_link_target_or_none}
+use Rattle.adb_sound.specs.adb_schema.SoundValues.{IsSoundFileOf, IsSoundFolder, IsSoundInformation, IsSoundPackage}
 use Rattle.adb_sound.specs.adb_schema.Texts.{is_with_contents, needs_hash}
 use Rattle.adb_sound.specs.adb_schema.SoundContainers.{IsSound, IsSoundValue}
 use Rattle.adb_sound.specs.adb_schema.Soundness.{payload_in, root_value}
@@ -28,7 +28,7 @@ use Rattle.adb_copy.proofs.WithoutZeros.{HasInts, each_ints, entries_ints, norma
 pub record IsFileUnder (folder : List ℕ) (v : Plain) : Type 0 where
   pub name : is_file_name folder (name_of v) ≡ true
   pub hash : is_digest_length_or_none (length (text_in (entry_in v 4))) ≡ true
-  pub target : is_target (text_in (entry_in v 5)) ≡ true
+  pub target : is_link_target_or_none (text_in (entry_in v 5)) ≡ true
 
 pub record IsFolderAnywhere (v : Plain) : Type 0 where
   pub name : is_folder_name (name_of v) ≡ true
@@ -37,10 +37,10 @@ pub record IsFolderAnywhere (v : Plain) : Type 0 where
 pub record MayEnter (pkg : Plain) : Type 0 where
   pub ints : HasInts pkg
   pub shape : HasShape (shape_of (Obj Tables.Package)) pkg
-  pub info : IsInformation Tables.Idb (entry_in pkg 0)
+  pub info : IsSoundInformation Tables.Idb (entry_in pkg 0)
   pub folders : Each IsFolderAnywhere (entries_in (entry_in pkg 1))
   pub folders_once : AreDistinctNames (map name_of (folders_in pkg))
-  pub files_once : AllDistinct (map (λ folder. map name_of (files_in folder)) (folders_in pkg))
+  pub files_once : EachHasDistinctNames (map (λ folder. map name_of (files_in folder)) (folders_in pkg))
 
 -- ---- lists
 
@@ -53,18 +53,18 @@ each_in P v none h here = absurd here
 each_in P v (more u us) h (inl is) = subst P (sym is) h.0
 each_in P v (more u us) h (inr here) = each_in P v us h.1 here
 
-distinct_back : (xs ys : List (List (List ℕ))) → AllDistinct (xs ++ ys) → AllDistinct ys
+distinct_back : (xs ys : List (List (List ℕ))) → EachHasDistinctNames (xs ++ ys) → EachHasDistinctNames ys
 distinct_back [] ys h = h
 distinct_back (x ∷ xs) ys h = distinct_back xs ys h.1
 
-one_distinct : (f : Plain → List (List ℕ)) (v : Plain) (vs : List Plain) → AllDistinct (map f vs) → IsIn v vs → AreDistinctNames (f v)
+one_distinct : (f : Plain → List (List ℕ)) (v : Plain) (vs : List Plain) → EachHasDistinctNames (map f vs) → IsIn v vs → AreDistinctNames (f v)
 one_distinct f v [] h here = absurd here
 one_distinct f v (u ∷ us) h (inl is) = subst (λ w. AreDistinctNames (f w)) (sym is) h.0
 one_distinct f v (u ∷ us) h (inr here) = one_distinct f v us h.1 here
 
-those_distinct : (f : Plain → List (List (List ℕ))) (v : Plain) (vs : List Plain) → AllDistinct (flat_map f vs) → IsIn v vs → AllDistinct (f v)
+those_distinct : (f : Plain → List (List (List ℕ))) (v : Plain) (vs : List Plain) → EachHasDistinctNames (flat_map f vs) → IsIn v vs → EachHasDistinctNames (f v)
 those_distinct f v [] h here = absurd here
-those_distinct f v (u ∷ us) h (inl is) = subst (λ w. AllDistinct (f w)) (sym is) (distinct_front (f u) (flat_map f us) h)
+those_distinct f v (u ∷ us) h (inl is) = subst (λ w. EachHasDistinctNames (f w)) (sym is) (distinct_front (f u) (flat_map f us) h)
 those_distinct f v (u ∷ us) h (inr here) = those_distinct f v us (distinct_back (f u) (flat_map f us) h) here
 
 -- ---- the rules, whichever table is at the root
@@ -76,18 +76,18 @@ hash_or_none false n e = e
 pub digest_or_none : (n : ℕ) → is_digest_length n ≡ true → is_digest_length_or_none n ≡ true
 digest_or_none n e = or_right _ (is_digest_length n) e
 
-file_under : (root : Which) (folder : List ℕ) (v : Plain) → IsFileOf root folder v → IsFileUnder folder v
+file_under : (root : Which) (folder : List ℕ) (v : Plain) → IsSoundFileOf root folder v → IsFileUnder folder v
 file_under root folder v h = record {
   name = h.name;
   hash = hash_or_none (needs_hash root (is_with_contents v)) (length (text_in (entry_in v 4))) h.hash;
   target = h.target;
 }
 
-folder_anywhere : (root : Which) (v : Plain) → IsFolder root v → IsFolderAnywhere v
-folder_anywhere root v h = record { name = h.name; files = each_map (IsFileOf root (name_of v)) (IsFileUnder (name_of v)) (file_under root (name_of v)) (entries_in (entry_in v 2)) h.files }
+folder_anywhere : (root : Which) (v : Plain) → IsSoundFolder root v → IsFolderAnywhere v
+folder_anywhere root v h = record { name = h.name; files = each_map (IsSoundFileOf root (name_of v)) (IsFileUnder (name_of v)) (file_under root (name_of v)) (entries_in (entry_in v 2)) h.files }
 
 -- an information has the same rules in a package and in a database
-of_package : (v : Plain) → IsInformation Tables.Package v → IsInformation Tables.Idb v
+of_package : (v : Plain) → IsSoundInformation Tables.Package v → IsSoundInformation Tables.Idb v
 of_package v h = record {
   name = h.name;
   version = h.version;
@@ -103,13 +103,13 @@ of_package v h = record {
 
 package_enters : (pkg : Plain) (id : List ℕ) → IsOfSoundPackage pkg id → MayEnter pkg
 package_enters pkg id h =
-    let rules : IsPackage Tables.Package pkg = h.sound.rules in
+    let rules : IsSoundPackage Tables.Package pkg = h.sound.rules in
     let once : HaveNoRepeatInside (pkg ∷ []) = h.sound.once in
     record {
       ints = normal_ints pkg h.normal;
       shape = h.sound.shape;
       info = of_package (entry_in pkg 0) rules.info;
-      folders = each_map (IsFolder Tables.Package) IsFolderAnywhere (folder_anywhere Tables.Package) (entries_in (entry_in pkg 1)) rules.folders;
+      folders = each_map (IsSoundFolder Tables.Package) IsFolderAnywhere (folder_anywhere Tables.Package) (entries_in (entry_in pkg 1)) rules.folders;
       folders_once = once.folders.0;
       files_once = those_distinct (λ p. map (λ folder. map name_of (files_in folder)) (folders_in p)) pkg (pkg ∷ []) once.files (inl refl);
     }
@@ -120,13 +120,13 @@ database_enters pkg h =
     let vs : Plains = entries_in (entry_in h.database 0) in
     let packages : IsArrayOf (HasShape (shape_of (Obj Tables.Package))) (entry_in h.database 0) =
     nth_shape (shapes_of (table Tables.Idb)) (entries_in h.database) 0 (entries_shape 9 (shapes_of (table Tables.Idb)) h.database h.sound.shape) in
-    let rules : IsPackage Tables.Idb pkg = each_in (IsPackage Tables.Idb) pkg vs h.sound.rules h.listed in
+    let rules : IsSoundPackage Tables.Idb pkg = each_in (IsSoundPackage Tables.Idb) pkg vs h.sound.rules h.listed in
     let once : HaveNoRepeatInside (entries_at 0 h.database) = h.sound.once.0 in
     record {
       ints = each_in HasInts pkg vs (each_ints vs (entries_ints (entry_in h.database 0) (nth_ints (entries_in h.database) 0 (entries_ints h.database (normal_ints h.database h.normal))))) h.listed;
       shape = each_in (HasShape (shape_of (Obj Tables.Package))) pkg vs (array_entries (HasShape (shape_of (Obj Tables.Package))) (entry_in h.database 0) packages) h.listed;
       info = rules.info;
-      folders = each_map (IsFolder Tables.Idb) IsFolderAnywhere (folder_anywhere Tables.Idb) (entries_in (entry_in pkg 1)) rules.folders;
+      folders = each_map (IsSoundFolder Tables.Idb) IsFolderAnywhere (folder_anywhere Tables.Idb) (entries_in (entry_in pkg 1)) rules.folders;
       folders_once = one_distinct (λ p. map name_of (folders_in p)) pkg (entries_at 0 h.database) once.folders h.listed;
       files_once = those_distinct (λ p. map (λ folder. map name_of (files_in folder)) (folders_in p)) pkg (entries_at 0 h.database) once.files h.listed;
     }

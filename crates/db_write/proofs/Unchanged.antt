@@ -9,14 +9,14 @@ use Rattle.adb_view.specs.declared.tables.Which.TheVariants as Tables
 use Rattle.adb_copy.specs.adb_fields.Repeated.{entries_at, files_in, folders_in, list_of, name_of}
 use Rattle.adb_copy.proofs.adb_fields.NameLists.{count-listed}
 use Rattle.adb_sound.specs.adb_schema.declared.read.TheConstants.{IDB_WORD}
-use Rattle.adb_sound.specs.adb_write.Canonical.{written_of}
+use Rattle.adb_sound.specs.adb_write.Canonical.{payload_or_overflow}
 use Rattle.adb_sound.specs.adb_write.File.{file_of}
 use Rattle.adb_copy.specs.Zeros.{all_without_zeros, int_or_null, without_zeros}
 use Rattle.adb_copy.proofs.Fields.{INFO, info_written, object_written}
 use Rattle.adb_copy.proofs.Shapes.{entries_shape, nth_shape}
 use Rattle.adb_copy.proofs.Zeros.{zeros_array}
 use Rattle.db_core.specs.Members.{Member, member_of_kept, members_of_kept}
-use Rattle.db_write.specs.NewDatabase.{database_container, database_of, database_value, each_by_flags, file_count, folder_after, folders_after, info_in_new_database, member_file_count, owned_entries, package_after, packages_after, total_of}
+use Rattle.db_write.specs.NewDatabase.{database_container, database_of, database_value, each_by_flags, file_count, folder_in_new_database, folders_in_new_database, info_in_new_database, member_file_count, owned_entries, package_in_new_database, packages_in_new_database, total_of}
 use Rattle.db_write.specs.Unchanged.{all_owned}
 
 -- ---- flags that are all set
@@ -59,7 +59,7 @@ array_entries P (blob b) h = absurd h
 array_entries P (arr vs) h = h
 array_entries P (obj vs) h = absurd h
 
-folder_same : (v : Plain) (m : ℕ) → HasShape (shape_of (Kinds.Obj Tables.Dir)) v → file_count v ≤ m → folder_after v (replicate m true) ≡ without_zeros v
+folder_same : (v : Plain) (m : ℕ) → HasShape (shape_of (Kinds.Obj Tables.Dir)) v → file_count v ≤ m → folder_in_new_database v (replicate m true) ≡ without_zeros v
 unfolding shape_of HasShape
 folder_same v m h enough =
     let files : IsArrayOf (HasShape (shape_of (Kinds.Obj Tables.File))) (entry_in v 2) = nth_shape (shapes_of (table Tables.Dir)) (entries_in v) 2 (entries_shape 5 (shapes_of (table Tables.Dir)) v h) in
@@ -78,16 +78,16 @@ info_same info h =
     refl refl refl refl refl refl refl refl refl refl refl refl refl refl refl refl refl refl refl refl
     ∙ object_written 3 INFO info h
 
-package_same : (v : Plain) (m : ℕ) → HasShape (shape_of (Kinds.Obj Tables.Package)) v → member_file_count (member_of_kept v) ≤ m → package_after (member_of_kept v) (replicate m true) ≡ without_zeros v
+package_same : (v : Plain) (m : ℕ) → HasShape (shape_of (Kinds.Obj Tables.Package)) v → member_file_count (member_of_kept v) ≤ m → package_in_new_database (member_of_kept v) (replicate m true) ≡ without_zeros v
 unfolding shape_of HasShape
 package_same v m h enough =
     let fields = entries_shape 7 (shapes_of (table Tables.Package)) v h in
     let info : HasShape (shape_of (Kinds.Obj Tables.PkgInfo)) (entry_in v 0) = nth_shape (shapes_of (table Tables.Package)) (entries_in v) 0 fields in
     let folders : IsArrayOf (HasShape (shape_of (Kinds.Obj Tables.Dir))) (entry_in v 1) = nth_shape (shapes_of (table Tables.Package)) (entries_in v) 1 fields in
     let listed : List Plain = folders_in v in
-    let all : folders_after listed (replicate m true) ≡ all_without_zeros (entries_in (entry_in v 1)) =
-    ap (λ ds. folders_after ds (replicate m true)) (sym (map_same listed))
-    ∙ each_all file_count folder_after (λ d. d) (HasShape (shape_of (Kinds.Obj Tables.Dir))) folder_same (entries_in (entry_in v 1)) m (array_entries (HasShape (shape_of (Kinds.Obj Tables.Dir))) (entry_in v 1) folders)
+    let all : folders_in_new_database listed (replicate m true) ≡ all_without_zeros (entries_in (entry_in v 1)) =
+    ap (λ ds. folders_in_new_database ds (replicate m true)) (sym (map_same listed))
+    ∙ each_all file_count folder_in_new_database (λ d. d) (HasShape (shape_of (Kinds.Obj Tables.Dir))) folder_same (entries_in (entry_in v 1)) m (array_entries (HasShape (shape_of (Kinds.Obj Tables.Dir))) (entry_in v 1) folders)
     (subst (λ ds. total_of file_count ds ≤ m) (sym (map_same listed)) enough) in
     (λ j. obj_value (more (info_same (entry_in v 0) info j)
     (more ((ap arr_value all ∙ sym (zeros_array (HasShape (shape_of (Kinds.Obj Tables.Dir))) (entry_in v 1) folders)) j)
@@ -101,13 +101,13 @@ unfolding shape_of HasShape database_value
 database_same v h =
     let packages : IsArrayOf (HasShape (shape_of (Kinds.Obj Tables.Package))) (entry_in v 0) = nth_shape (shapes_of (table Tables.Idb)) (entries_in v) 0 (entries_shape 9 (shapes_of (table Tables.Idb)) v h) in
     let members : List Member = members_of_kept (entries_at 0 v) in
-    let all : packages_after members (all_owned members) ≡ all_without_zeros (entries_in (entry_in v 0)) =
-    each_all member_file_count package_after member_of_kept (HasShape (shape_of (Kinds.Obj Tables.Package))) package_same (entries_in (entry_in v 0)) (total_of member_file_count members)
+    let all : packages_in_new_database members (all_owned members) ≡ all_without_zeros (entries_in (entry_in v 0)) =
+    each_all member_file_count package_in_new_database member_of_kept (HasShape (shape_of (Kinds.Obj Tables.Package))) package_same (entries_in (entry_in v 0)) (total_of member_file_count members)
     (array_entries (HasShape (shape_of (Kinds.Obj Tables.Package))) (entry_in v 0) packages) (omega arith) in
     ap (λ ps. obj_value (more ps none)) (ap arr_value all ∙ sym (zeros_array (HasShape (shape_of (Kinds.Obj Tables.Package))) (entry_in v 0) packages))
     ∙ object_written 9 (shapes_of (table Tables.Idb)) v h
 
-pub bytes_same : (v : Plain) (payload : List ℕ) → HasShape (shape_of (Kinds.Obj Tables.Idb)) v → without_zeros v ≡ v → written_of v ≡ Ok payload
+pub bytes_same : (v : Plain) (payload : List ℕ) → HasShape (shape_of (Kinds.Obj Tables.Idb)) v → without_zeros v ≡ v → payload_or_overflow v ≡ Ok payload
     → database_of (members_of_kept (entries_at 0 v)) (all_owned (members_of_kept (entries_at 0 v))) ≡ Ok (file_of IDB_WORD payload)
 unfolding database_of
-bytes_same v payload h free canonical = ap (λ u. database_container (written_of u)) (database_same v h ∙ free) ∙ ap database_container canonical
+bytes_same v payload h free canonical = ap (λ u. database_container (payload_or_overflow u)) (database_same v h ∙ free) ∙ ap database_container canonical

@@ -8,9 +8,9 @@ use Rattle.adb_view.specs.FieldIndexes.{DIR_ACL, INFO_FILE_SIZE, INFO_HASHES, PA
 use Rattle.adb_view.specs.Values.{entry_in, int_in, text_in}
 use Rattle.adb_copy.specs.adb_fields.Repeated.{name_of, folders_in, files_in}
 use Rattle.adb_sound.specs.adb_schema.declared.read.TheConstants.{IDB_WORD}
-use Rattle.adb_sound.specs.adb_write.Canonical.{PayloadCounts, written_of}
+use Rattle.adb_sound.specs.adb_write.Canonical.{PayloadCounts, payload_or_overflow}
 use Rattle.adb_sound.specs.adb_write.File.{file_of}
-use Rattle.adb_copy.specs.Zeros.{info_with, int_or_null, without_zeros}
+use Rattle.adb_copy.specs.Zeros.{info_with_id_and_size, int_or_null, without_zeros}
 use Rattle.db_core.specs.Members.{Member}
 
 -- ---- by flags, one for each file in its order
@@ -43,14 +43,14 @@ abbrev pub file_count : Plain → ℕ
 file_count folder = length (files_in folder)
 
 -- a folder in the new database: its name, its access list, and those of its files whose flag is set
-abbrev pub folder_after : Plain → List Bool → Plain
-folder_after folder flags =
+abbrev pub folder_in_new_database : Plain → List Bool → Plain
+folder_in_new_database folder flags =
     obj_value (more (blob_or_null (name_of folder)) (more (without_zeros (entry_in folder DIR_ACL))
     (more (arr_value (owned_entries (files_in folder) flags)) none)))
 
 -- the folders of a package in the new database; each takes as many flags as it has files
-abbrev pub folders_after : List Plain → List Bool → Plains
-folders_after folders flags = each_by_flags file_count folder_after folders flags
+abbrev pub folders_in_new_database : List Plain → List Bool → Plains
+folders_in_new_database folders flags = each_by_flags file_count folder_in_new_database folders flags
 
 -- ---- packages
 
@@ -61,28 +61,28 @@ member_file_count m = total_of file_count (folders_in m.pkg)
 -- the information of a package in the new database; the hash of an added package is its id
 abbrev pub info_in_new_database : Option (List ℕ) → Plain → Plain
 info_in_new_database id info =
-    info_with info (unwrap_or id (text_in (entry_in info INFO_HASHES)))
+    info_with_id_and_size info (unwrap_or id (text_in (entry_in info INFO_HASHES)))
     (int_in (entry_in info INFO_FILE_SIZE))
 
 -- a package in the new database: its information, its folders, its scripts, its triggers, and its
 -- priority in replacing
-abbrev pub package_after : Member → List Bool → Plain
-package_after m flags =
+abbrev pub package_in_new_database : Member → List Bool → Plain
+package_in_new_database m flags =
     obj_value (more (info_in_new_database m.id (entry_in m.pkg PACKAGE_INFO))
-    (more (arr_value (folders_after (folders_in m.pkg) flags))
+    (more (arr_value (folders_in_new_database (folders_in m.pkg) flags))
     (more (without_zeros (entry_in m.pkg PACKAGE_SCRIPTS))
     (more (without_zeros (entry_in m.pkg PACKAGE_TRIGGERS))
     (more (int_or_null (int_in (entry_in m.pkg PACKAGE_REPLACES_PRIORITY))) none)))))
 
 -- the packages of the new database, each with the flags of its own files
-abbrev pub packages_after : List Member → List Bool → Plains
-packages_after members flags = each_by_flags member_file_count package_after members flags
+abbrev pub packages_in_new_database : List Member → List Bool → Plains
+packages_in_new_database members flags = each_by_flags member_file_count package_in_new_database members flags
 
 -- ---- the database
 
 -- the value of the new database
 unfoldable pub database_value : List Member → List Bool → Plain
-database_value members flags = obj_value (more (arr_value (packages_after members flags)) none)
+database_value members flags = obj_value (more (arr_value (packages_in_new_database members flags)) none)
 
 -- the file of a database with this payload, unless the payload exceeds a limit of the writer
 abbrev pub database_container : Result (List ℕ) PayloadCounts → Result (List ℕ) PayloadCounts
@@ -91,4 +91,4 @@ database_container (Err counts) = Err counts
 
 -- the file of the new database, or the counts of the writer at the first value that exceeds a limit
 unfoldable pub database_of : List Member → List Bool → Result (List ℕ) PayloadCounts
-database_of members flags = database_container (written_of (database_value members flags))
+database_of members flags = database_container (payload_or_overflow (database_value members flags))

@@ -4,13 +4,13 @@
 //! installed database".
 ghost use Rattle.adb_copy.specs.adb_values.Drafts.{draft_with};
 ghost use Rattle.adb_copy.specs.adb_values.Written.{IsWrittenAs};
-ghost use Rattle.adb_sound.specs.adb_write.Canonical.{written_of, MOST_BYTES};
+ghost use Rattle.adb_sound.specs.adb_write.Canonical.{payload_or_overflow, MOST_BYTES};
 ghost use Rattle.adb_sound.specs.adb_schema.SoundContainers.{IsSound};
 ghost use Rattle.adb_view.specs.declared.tables.Which.TheVariants as Tables;
 ghost use Rattle.db_core.specs.Members.{member_listings};
 ghost use Rattle.db_core.specs.OwnedListings.{owned_listings};
 ghost use Rattle.db_core.specs.Seen.{members_of};
-ghost use Rattle.db_core.specs.SoundMembers.{MayBeListed};
+ghost use Rattle.db_core.specs.SoundMembers.{MayBeInDatabase};
 ghost use Rattle.db_write.specs.NewDatabase.{database_of, database_value};
 ghost use Rattle.std.specs.Prelude.{◌≡◌, ◌≤◌, IfOk, OnOk, length};
 
@@ -35,7 +35,7 @@ pub fn write_db(alloc: Global, members: &Members<'_>, owned: &Owned) -> Result<V
         (database_of (members_of members.now) owned.now) }
     // The file passes all tests of a database if the owned listings may be listed.
     ensures sound { IfOk result (λ file.
-        MayBeListed (owned_listings (member_listings (members_of members.now)) owned.now)
+        MayBeInDatabase (owned_listings (member_listings (members_of members.now)) owned.now)
         → IsSound Tables.Idb file.items) }
 {
     members.members_are_in_order();
@@ -57,7 +57,7 @@ fn database_payload(
     flags: &[bool],
 ) -> Result<Vec<u8>, WriteFault>
     ensures written { IsWrittenAs (λ payload. payload.items) result
-        (written_of (database_value (members_of members.now) flags.now)) }
+        (payload_or_overflow (database_value (members_of members.now) flags.now)) }
     ensures small { IfOk result (λ payload. length payload.items ≤ MOST_BYTES) }
 {
     let mut draft = Draft::new(alloc);

@@ -2,7 +2,7 @@
 //! The rule is in `docs/formats.md`, "The database after a change": "each folder with its name
 //! and its access list, also if it is empty, and of its files those that the package owns"; the
 //! fields in "Schemas", tables 5 and 7.
-ghost use Rattle.adb_copy.specs.Known.{AreBlobsOf};
+ghost use Rattle.adb_copy.specs.Known.{AreRememberedBlobsOfDraft};
 ghost use Rattle.adb_copy.specs.adb_fields.Fields.{are_all_sound, array_at};
 ghost use Rattle.adb_copy.specs.adb_fields.Repeated.{folders_in, list_of};
 ghost use Rattle.adb_view.specs.Values.{entries_in, is_sound, value_at};
@@ -12,7 +12,7 @@ ghost use Rattle.adb_copy.specs.adb_values.Drafts.{draft_with};
 ghost use Rattle.adb_view.specs.Adb.{payload_of};
 ghost use Rattle.adb_view.specs.Entries.{array_entries};
 ghost use Rattle.adb_view.specs.Plain.{arr_value};
-ghost use Rattle.db_write.specs.NewDatabase.{file_count, folder_after, folders_after, owned_entries, total_of};
+ghost use Rattle.db_write.specs.NewDatabase.{file_count, folder_in_new_database, folders_in_new_database, owned_entries, total_of};
 ghost use Rattle.std.specs.Prelude.{◌≡◌, ◌<◌, true, false, OnOk, Some, drop, length, slice_get, unwrap_or};
 
 use adb_copy::{Draft, KnownTexts, field_word, objects_field, write_acl, write_file};
@@ -30,10 +30,10 @@ pub(crate) fn write_folders(
     flags: &[bool],
 ) -> Result<(), AllocError>
     requires sound { is_sound (payload_of adb) (Kinds.Obj Tables.Package) pkg ≡ true }
-    requires known { AreBlobsOf (payload_of adb) draft.old known.old }
-    ensures folders { OnOk result (draft.new ≡ draft_with (arr_value (folders_after (folders_in
+    requires known { AreRememberedBlobsOfDraft (payload_of adb) draft.old known.old }
+    ensures folders { OnOk result (draft.new ≡ draft_with (arr_value (folders_in_new_database (folders_in
         (value_at (payload_of adb.entry) (Kinds.Obj Tables.Package) pkg)) flags.now)) draft.old) }
-    ensures known { OnOk result (AreBlobsOf (payload_of adb.entry) draft.new known.new) }
+    ensures known { OnOk result (AreRememberedBlobsOfDraft (payload_of adb.entry) draft.new known.new) }
 {
     let folders = objects_field(adb, Which::Package, pkg, PACKAGE_PATHS, Which::Dir);
     write_folder_list(draft, adb, known, folders, flags)
@@ -59,11 +59,11 @@ fn write_folder_list<'a>(
 ) -> Result<(), AllocError>
     requires sound { are_all_sound (payload_of adb) (Kinds.Obj Tables.Dir) (array_entries folders)
         ≡ true }
-    requires known { AreBlobsOf (payload_of adb) draft.old known.old }
-    ensures folders { OnOk result (draft.new ≡ draft_with (arr_value (folders_after (list_of
+    requires known { AreRememberedBlobsOfDraft (payload_of adb) draft.old known.old }
+    ensures folders { OnOk result (draft.new ≡ draft_with (arr_value (folders_in_new_database (list_of
         (entries_in (array_at (payload_of adb.entry) (Kinds.Obj Tables.Dir)
         (array_entries folders.entry)))) flags.now)) draft.old) }
-    ensures known { OnOk result (AreBlobsOf (payload_of adb.entry) draft.new known.new) }
+    ensures known { OnOk result (AreRememberedBlobsOfDraft (payload_of adb.entry) draft.new known.new) }
 {
     draft.open_list()?;
     let mut left = flags;
@@ -116,10 +116,10 @@ fn write_folder(
     flags: &[bool],
 ) -> Result<(), AllocError>
     requires sound { is_sound (payload_of adb) (Kinds.Obj Tables.Dir) folder ≡ true }
-    requires known { AreBlobsOf (payload_of adb) draft.old known.old }
-    ensures folder { OnOk result (draft.new ≡ draft_with (folder_after
+    requires known { AreRememberedBlobsOfDraft (payload_of adb) draft.old known.old }
+    ensures folder { OnOk result (draft.new ≡ draft_with (folder_in_new_database
         (value_at (payload_of adb.entry) (Kinds.Obj Tables.Dir) folder) flags.now) draft.old) }
-    ensures known { OnOk result (AreBlobsOf (payload_of adb.entry) draft.new known.new) }
+    ensures known { OnOk result (AreRememberedBlobsOfDraft (payload_of adb.entry) draft.new known.new) }
 {
     draft.open_list()?;
     known.write_field(draft, adb, Which::Dir, folder, DIR_NAME)?;
@@ -140,11 +140,11 @@ fn write_files<'a>(
 ) -> Result<(), AllocError>
     requires sound { are_all_sound (payload_of adb) (Kinds.Obj Tables.File) (array_entries files)
         ≡ true }
-    requires known { AreBlobsOf (payload_of adb) draft.old known.old }
+    requires known { AreRememberedBlobsOfDraft (payload_of adb) draft.old known.old }
     ensures files { OnOk result (draft.new ≡ draft_with (arr_value (owned_entries (list_of
         (entries_in (array_at (payload_of adb.entry) (Kinds.Obj Tables.File)
         (array_entries files.entry)))) flags.now)) draft.old) }
-    ensures known { OnOk result (AreBlobsOf (payload_of adb.entry) draft.new known.new) }
+    ensures known { OnOk result (AreRememberedBlobsOfDraft (payload_of adb.entry) draft.new known.new) }
 {
     draft.open_list()?;
     for i in 0..files.len() {

@@ -17,14 +17,14 @@ ghost use Rattle.adb_view.specs.declared.tables.Kind.TheVariants as Kinds;
 ghost use Rattle.adb_view.specs.declared.tables.Which.TheVariants as Tables;
 ghost use Rattle.adb_view.specs.Plain.{Plain};
 ghost use Rattle.adb_view.specs.Shaped.{HasShape};
-ghost use Rattle.adb_sound.specs.adb_write.Canonical.{written_of};
+ghost use Rattle.adb_sound.specs.adb_write.Canonical.{payload_or_overflow};
 ghost use Rattle.adb_sound.specs.adb_write.File.{file_of};
 ghost use Rattle.db_core.specs.Members.{AreInOrder, Member, member_of_added, member_listings, member_of_kept, members_of_kept};
 ghost use Rattle.db_core.specs.Packages.{installed_id};
 ghost use Rattle.db_write.specs.Information.{file_size_of};
-ghost use Rattle.db_write.specs.NewDatabase.{database_of, database_value, package_after, packages_after};
+ghost use Rattle.db_write.specs.NewDatabase.{database_of, database_value, package_in_new_database, packages_in_new_database};
 ghost use Rattle.db_core.specs.OwnedListings.{owned_listings, owned_paths};
-ghost use Rattle.db_core.specs.SoundMembers.{AreOfSoundContainers, IsOfSoundContainer, MayBeListed};
+ghost use Rattle.db_core.specs.SoundMembers.{AreOfSoundContainers, IsOfSoundContainer, MayBeInDatabase};
 ghost use Rattle.db_write.specs.Unchanged.{all_owned};
 ghost use Rattle.adb_sound.specs.pkg_core.Whole.{container_fault};
 ghost use Rattle.std.specs.List.{flat_map};
@@ -48,7 +48,7 @@ pub fn a_written_database_is_read_back()
     ensures packages { (members : List Member) (flags : List Bool) (bytes : List ℕ)
         → IsRootOf Tables.Idb (database_value members flags) → database_of members flags ≡ Ok bytes
         → entries_at IDB_PACKAGES (root_value Tables.Idb (payload_in bytes))
-        ≡ list_of (packages_after members flags) }
+        ≡ list_of (packages_in_new_database members flags) }
 {
     a_file_is_spelled();
     what_is_spelled_is_read();
@@ -62,7 +62,7 @@ pub fn a_written_database_is_read_back()
 pub fn a_database_of_sound_packages_may_be_the_root()
     ensures { (members : List Member) (flags : List Bool) (bytes : List ℕ)
         → AreOfSoundContainers members → AreInOrder members
-        → MayBeListed (owned_listings (member_listings members) flags)
+        → MayBeInDatabase (owned_listings (member_listings members) flags)
         → database_of members flags ≡ Ok bytes
         → IsRootOf Tables.Idb (database_value members flags) }
 {
@@ -90,7 +90,7 @@ pub fn packages_of_sound_containers_may_be_members()
 /// their order.
 pub fn a_database_lists_the_owned_files()
     ensures { (members : List Member) (flags : List Bool)
-        → flat_map paths_in (list_of (packages_after members flags)) ≡ owned_paths members flags }
+        → flat_map paths_in (list_of (packages_in_new_database members flags)) ≡ owned_paths members flags }
 {}
 
 /// A database that is read and written with nothing changed has the same value, in which an integer
@@ -102,7 +102,7 @@ pub fn a_database_without_changes_stays_the_same()
         (all_owned (members_of_kept (entries_at IDB_PACKAGES v)))
         ≡ without_zeros v }
     ensures bytes { (v : Plain) (payload : List ℕ) → HasShape (shape_of (Kinds.Obj Tables.Idb)) v
-        → without_zeros v ≡ v → written_of v ≡ Ok payload
+        → without_zeros v ≡ v → payload_or_overflow v ≡ Ok payload
         → database_of (members_of_kept (entries_at IDB_PACKAGES v))
         (all_owned (members_of_kept (entries_at IDB_PACKAGES v)))
         ≡ Ok (file_of IDB_WORD payload) }
@@ -112,14 +112,14 @@ pub fn a_database_without_changes_stays_the_same()
 /// of its file is unchanged, and so is each other field, in which an integer 0 is Null.
 pub fn a_package_keeps_its_information()
     ensures comes { (pkg : Plain) (id : List ℕ) (flags : List Bool)
-        → installed_id (package_after (member_of_added pkg id) flags) ≡ id }
+        → installed_id (package_in_new_database (member_of_added pkg id) flags) ≡ id }
     ensures stays { (pkg : Plain) (flags : List Bool)
-        → installed_id (package_after (member_of_kept pkg) flags) ≡ installed_id pkg }
+        → installed_id (package_in_new_database (member_of_kept pkg) flags) ≡ installed_id pkg }
     ensures size { (m : Member) (flags : List Bool)
-        → file_size_of (package_after m flags) ≡ file_size_of m.pkg }
+        → file_size_of (package_in_new_database m flags) ≡ file_size_of m.pkg }
     ensures others { (m : Member) (flags : List Bool) (i : ℕ)
         → i ≢ INFO_HASHES → i ≢ INFO_FILE_SIZE
-        → entry_in (entry_in (package_after m flags) PACKAGE_INFO) i
+        → entry_in (entry_in (package_in_new_database m flags) PACKAGE_INFO) i
         ≡ without_zeros (entry_in (entry_in m.pkg PACKAGE_INFO) i) }
 {}
 
@@ -127,9 +127,9 @@ pub fn a_package_keeps_its_information()
 /// even if no file of them is owned.
 pub fn a_package_keeps_its_folders()
     ensures names { (m : Member) (flags : List Bool)
-        → map name_of (folders_in (package_after m flags)) ≡ map name_of (folders_in m.pkg) }
+        → map name_of (folders_in (package_in_new_database m flags)) ≡ map name_of (folders_in m.pkg) }
     ensures acls { (m : Member) (flags : List Bool)
-        → map (λ folder. entry_in folder DIR_ACL) (folders_in (package_after m flags))
+        → map (λ folder. entry_in folder DIR_ACL) (folders_in (package_in_new_database m flags))
         ≡ map (λ folder. without_zeros (entry_in folder DIR_ACL)) (folders_in m.pkg) }
 {}
 
@@ -138,7 +138,7 @@ pub fn a_package_keeps_its_folders()
 pub fn a_database_keeps_the_entries_of_owned_files()
     ensures { (members : List Member) (flags : List Bool)
         → map (λ l. l.entry)
-        (member_listings (members_of_kept (list_of (packages_after members flags))))
+        (member_listings (members_of_kept (list_of (packages_in_new_database members flags))))
         ≡ map (λ l. without_zeros l.entry) (owned_listings (member_listings members) flags) }
 {}
 
@@ -146,13 +146,13 @@ pub fn a_database_keeps_the_entries_of_owned_files()
 /// which an integer 0 is Null.
 pub fn a_package_keeps_its_scripts_and_its_priority()
     ensures scripts { (m : Member) (flags : List Bool)
-        → entry_in (package_after m flags) PACKAGE_SCRIPTS
+        → entry_in (package_in_new_database m flags) PACKAGE_SCRIPTS
         ≡ without_zeros (entry_in m.pkg PACKAGE_SCRIPTS) }
     ensures triggers { (m : Member) (flags : List Bool)
-        → entry_in (package_after m flags) PACKAGE_TRIGGERS
+        → entry_in (package_in_new_database m flags) PACKAGE_TRIGGERS
         ≡ without_zeros (entry_in m.pkg PACKAGE_TRIGGERS) }
     ensures priority { (m : Member) (flags : List Bool)
-        → int_in (entry_in (package_after m flags) PACKAGE_REPLACES_PRIORITY)
+        → int_in (entry_in (package_in_new_database m flags) PACKAGE_REPLACES_PRIORITY)
         ≡ int_in (entry_in m.pkg PACKAGE_REPLACES_PRIORITY) }
 {}
 

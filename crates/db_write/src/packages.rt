@@ -1,7 +1,7 @@
 //! The packages of a database.
 //! The rule is in `docs/formats.md`, "The database after a change": the contents of the database
 //! for each package; the fields are in "Schemas", table 7.
-ghost use Rattle.adb_copy.specs.Known.{AreBlobsOf};
+ghost use Rattle.adb_copy.specs.Known.{AreRememberedBlobsOfDraft};
 ghost use Rattle.adb_view.specs.FieldIndexes.{PACKAGE_INFO};
 ghost use Rattle.adb_view.specs.Values.{entry_in, is_sound, value_at};
 ghost use Rattle.adb_view.specs.declared.tables.Kind.TheVariants as Kinds;
@@ -10,8 +10,8 @@ ghost use Rattle.adb_copy.specs.adb_values.Drafts.{draft_with};
 ghost use Rattle.adb_view.specs.Adb.{payload_of};
 ghost use Rattle.adb_view.specs.Plain.{arr_value};
 ghost use Rattle.db_core.specs.Members.{Member};
-ghost use Rattle.db_core.specs.Seen.{members_of, payload_before};
-ghost use Rattle.db_write.specs.NewDatabase.{info_in_new_database, member_file_count, package_after, packages_after};
+ghost use Rattle.db_core.specs.Seen.{members_of, payload_of_old_database};
+ghost use Rattle.db_write.specs.NewDatabase.{info_in_new_database, member_file_count, package_in_new_database, packages_in_new_database};
 ghost use Rattle.std.specs.Prelude.{◌≡◌, ◌<◌, true, OnOk, Some, drop, length, slice_get, unwrap_or};
 
 use crate::folders::{flags_behind, write_folders};
@@ -37,7 +37,7 @@ pub(crate) fn write_packages(
     flags: &[bool],
 ) -> Result<(), AllocError>
     ensures { OnOk result (draft.new
-        ≡ draft_with (arr_value (packages_after (members_of members.now) flags.now)) draft.old) }
+        ≡ draft_with (arr_value (packages_in_new_database (members_of members.now) flags.now)) draft.old) }
 {
     let mut known = KnownTexts::new(alloc);
     draft.open_list()?;
@@ -72,10 +72,10 @@ fn write_member(
     flags: &[bool],
 ) -> Result<(), AllocError>
     requires within { i < length (members_of members.now) }
-    requires known { AreBlobsOf (payload_before members.now) draft.old known.old }
+    requires known { AreRememberedBlobsOfDraft (payload_of_old_database members.now) draft.old known.old }
     ensures value { OnOk result ((m : Member) → slice_get (members_of members.now) i ≡ Some m
-        → draft.new ≡ draft_with (package_after m flags.now) draft.old) }
-    ensures known { OnOk result (AreBlobsOf (payload_before members.now) draft.new known.new) }
+        → draft.new ≡ draft_with (package_in_new_database m flags.now) draft.old) }
+    ensures known { OnOk result (AreRememberedBlobsOfDraft (payload_of_old_database members.now) draft.new known.new) }
 {
     let view = members.view(i);
     let adb = view.adb();
@@ -100,11 +100,11 @@ fn write_package(
     flags: &[bool],
 ) -> Result<(), AllocError>
     requires sound { is_sound (payload_of adb) (Kinds.Obj Tables.Package) pkg ≡ true }
-    requires known { AreBlobsOf (payload_of adb) draft.old known.old }
-    ensures value { OnOk result (draft.new ≡ draft_with (package_after
+    requires known { AreRememberedBlobsOfDraft (payload_of adb) draft.old known.old }
+    ensures value { OnOk result (draft.new ≡ draft_with (package_in_new_database
         (record { pkg = value_at (payload_of adb.entry) (Kinds.Obj Tables.Package) pkg; id = id })
         flags.now) draft.old) }
-    ensures known { OnOk result (AreBlobsOf (payload_of adb.entry) draft.new known.new) }
+    ensures known { OnOk result (AreRememberedBlobsOfDraft (payload_of adb.entry) draft.new known.new) }
 {
     draft.open_list()?;
     write_member_info(draft, adb, known, pkg, id)?;
@@ -128,11 +128,11 @@ fn write_member_info(
     id: Option<[u8; 32]>,
 ) -> Result<(), AllocError>
     requires sound { is_sound (payload_of adb) (Kinds.Obj Tables.Package) pkg ≡ true }
-    requires known { AreBlobsOf (payload_of adb) draft.old known.old }
+    requires known { AreRememberedBlobsOfDraft (payload_of adb) draft.old known.old }
     ensures info { OnOk result (draft.new ≡ draft_with (info_in_new_database id (entry_in
         (value_at (payload_of adb.entry) (Kinds.Obj Tables.Package) pkg) PACKAGE_INFO))
         draft.old) }
-    ensures known { OnOk result (AreBlobsOf (payload_of adb.entry) draft.new known.new) }
+    ensures known { OnOk result (AreRememberedBlobsOfDraft (payload_of adb.entry) draft.new known.new) }
 {
     let info = field_word(adb, Which::Package, pkg, PACKAGE_INFO);
     let own = hash_field(adb, Which::PkgInfo, info, INFO_HASHES);

@@ -71,14 +71,14 @@ abbrev pub mkndx_words : ℕ → List (List ℕ)
 mkndx_words n = codes "mkndx" ∷ codes "-o" ∷ demo_index ∷ demo_packages n
 
 -- the name of package i, if none of n depends on it: only packages 2i and 2i + 1 could
-abbrev pub top_name : ℕ → ℕ → List (List ℕ)
-top_name n i = if nat_lt n (2 * i) then demo_name i ∷ [] else []
+abbrev pub name_if_not_needed : ℕ → ℕ → List (List ℕ)
+name_if_not_needed n i = if nat_lt n (2 * i) then demo_name i ∷ [] else []
 
 -- the names of those of the packages 1 to i on which none of n depends
-abbrev pub top_names : ℕ → ℕ → List (List ℕ)
-top_names n zero = []
-top_names n (suc i) = top_names n i ++ top_name n (suc i)
+abbrev pub names_not_needed : ℕ → ℕ → List (List ℕ)
+names_not_needed n zero = []
+names_not_needed n (suc i) = names_not_needed n i ++ name_if_not_needed n (suc i)
 
 -- the words that add those of n packages on which no other depends
 abbrev pub add_words : ℕ → List (List ℕ)
-add_words n = codes "add" ∷ codes "--initdb" ∷ codes "--allow-untrusted" ∷ top_names n n
+add_words n = codes "add" ∷ codes "--initdb" ∷ codes "--allow-untrusted" ∷ names_not_needed n n

@@ -5,10 +5,10 @@
 //! 100,000. A list of words has a limit, 4,294,967,294, which no command of `demo` comes near.
 
 ghost use Rattle.std.specs.Prelude.{◌≡◌, ◌<◌, ◌++◌, ◌∷◌, [], codes, length, IfOk, OnOk, true, IsTrue, Some};
-ghost use Rattle.demo_lines.specs.Lines.{add_words, demo_name, demo_package, demo_packages, demo_version, depends_words, mkndx_words, mkpkg_words, top_name, top_names};
+ghost use Rattle.demo_lines.specs.Lines.{add_words, demo_name, demo_package, demo_packages, demo_version, depends_words, mkndx_words, mkpkg_words, name_if_not_needed, names_not_needed};
 ghost use Rattle.std.specs.Str.Parse.{digits_value};
 ghost use Rattle.command_core.specs.Operands.{exactly, is_demo_number};
-ghost use Rattle.command_core.specs.Sound.{are_operands};
+ghost use Rattle.command_core.specs.Sound.{are_allowed_operands};
 ghost use Rattle.command_core.specs.declared.operands.OperandKind.TheVariants.{Number};
 ghost use Rattle.demo_lines.specs.Count.{demo_count};
 ghost use Rattle.demo_lines.specs.Report.{demo_line, last_line};
@@ -128,7 +128,7 @@ pub fn add_words(alloc: Global, n: u16) -> Result<Words, AllocError>
 // Adds the names of those of n packages on which no other depends.
 fn push_top_names(words: &mut Words, alloc: Global, n: u16) -> Result<(), AllocError>
     requires { length words.old < 16 }
-    ensures { OnOk result (words.new ≡ words.old ++ top_names n n) }
+    ensures { OnOk result (words.new ≡ words.old ++ names_not_needed n n) }
 {
     for i in 0..n {
         push_if_top(words, alloc, n, i + 1)?;
@@ -139,7 +139,7 @@ fn push_top_names(words: &mut Words, alloc: Global, n: u16) -> Result<(), AllocE
 // Adds the name of package i, if none of n depends on it: the first that does has twice its number.
 fn push_if_top(words: &mut Words, alloc: Global, n: u16, i: u16) -> Result<(), AllocError>
     requires { length words.old < 100000 }
-    ensures { OnOk result (words.new ≡ words.old ++ top_name n i) }
+    ensures { OnOk result (words.new ≡ words.old ++ name_if_not_needed n i) }
 {
     if 2 * i as u32 <= n as u32 {
         return Ok(());
@@ -153,7 +153,7 @@ fn push_if_top(words: &mut Words, alloc: Global, n: u16, i: u16) -> Result<(), A
 /// The number of packages that `demo` makes: its one operand.
 #[tactic(auto, using(crate::proofs::Numbers::one_operand))]
 pub fn demo_count(operands: &Operands) -> u16
-    requires { IsTrue (are_operands (Some (exactly 1 Number)) operands.now) }
+    requires { IsTrue (are_allowed_operands (Some (exactly 1 Number)) operands.now) }
     ensures { result ≡ demo_count operands.now }
 {
     number_of(operands.get(0).text.as_bytes())

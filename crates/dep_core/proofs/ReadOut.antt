@@ -5,9 +5,9 @@ use Rattle.std.specs.List.{prefix_len, take_while}
 use Rattle.std.proofs.lemmas.List.{take-append-drop}
 use Rattle.std.proofs.lemmas.Bool.{and_parts, and_from, eqb-true, cases_Bool}
 use Rattle.version_core.specs.Order.{is_version}
-use Rattle.dep_core.specs.Dependency.{Dependency, dependency_by, is_dep_name, is_name_byte, is_tag, is_tag_byte}
-use Rattle.dep_core.specs.DependencyText.{IsDependency, is_constraint, is_tag_or_none, mark_text, operator_text, tag_text}
-use Rattle.dep_core.specs.Reading.{at_tag, rest_after, dependency_of, at_version_end, is_not_at, is_operator_byte, with_constraint_read, at_operator_end, at_name, operator_bits, at_name_end, at_version, with_constraint, with_tag}
+use Rattle.dep_core.specs.Dependency.{Dependency, dependency_from_parts, is_dep_name, is_name_byte, is_tag, is_tag_byte}
+use Rattle.dep_core.specs.DependencyText.{IsDependency, is_constraint_or_none, is_tag_or_none, mark_text, operator_text, tag_text}
+use Rattle.dep_core.specs.Reading.{dependency_from_tag, rest_after, dependency_of, dependency_after_version, is_not_at_sign, is_operator_byte, with_constraint_read, dependency_after_operator, dependency_from_name, operator_bits, dependency_after_name, dependency_from_version, with_constraint, with_tag}
 use Rattle.dep_core.specs.Spelling.{SpellsDependency, SpellsConstraint}
 use Rattle.dep_core.proofs.Operators.{operator-is, some-inj}
 
@@ -26,12 +26,12 @@ front-behind : (p : ℕ → Bool) (text : List ℕ) → take_while p text ++ res
 front-behind p text = take-append-drop (prefix_len p text) text
 
 abbrev bare : List ℕ → Bool → Option (List ℕ) → Dependency
-bare name conflict tag = dependency_by name None 1 conflict tag
+bare name conflict tag = dependency_from_parts name None 1 conflict tag
 
 -- ---- after the version
 
-ended-out : (b : Dependency) (tail : List ℕ) (d : Dependency) → at_version_end b tail ≡ Some d → ((b ≡ d) × (tail ≡ [])) ⊎ ((tag : List ℕ) × (b.tag ≡ None) × (is_tag tag ≡ true) × (with_tag b tag ≡ d) × (tail ≡ 64 ∷ tag))
-unfolding at_version_end
+ended-out : (b : Dependency) (tail : List ℕ) (d : Dependency) → dependency_after_version b tail ≡ Some d → ((b ≡ d) × (tail ≡ [])) ⊎ ((tag : List ℕ) × (b.tag ≡ None) × (is_tag tag ≡ true) × (with_tag b tag ≡ d) × (tail ≡ 64 ∷ tag))
+unfolding dependency_after_version
 ended-out b [] d h = inl (some-inj h, refl)
 ended-out b (e ∷ tag) d h =
     let found = cond_some (eqb e 64 && (not (is_some b.tag) && is_tag tag)) (Some (with_tag b tag)) d h in
@@ -50,20 +50,20 @@ record IsLimited (name : List ℕ) (conflict : Bool) (tag : Option (List ℕ)) (
   spelled : SpellsConstraint limit d.version d.bits
   placed : ((d.tag ≡ tag) × (text ≡ limit)) ⊎ ((tag ≡ None) × (text ≡ limit ++ tag_text d.tag))
 
-good-by : (name : List ℕ) (conflict : Bool) (tag version : Option (List ℕ)) (bits : ℕ) → is_dep_name name ≡ true → is_constraint version bits ≡ true → is_tag_or_none tag ≡ true → IsDependency (dependency_by name version bits conflict tag)
+good-by : (name : List ℕ) (conflict : Bool) (tag version : Option (List ℕ)) (bits : ℕ) → is_dep_name name ≡ true → is_constraint_or_none version bits ≡ true → is_tag_or_none tag ≡ true → IsDependency (dependency_from_parts name version bits conflict tag)
 good-by name conflict tag version bits n l t =
-    and_from (is_dep_name name && is_constraint version bits) (is_tag_or_none tag) (and_from (is_dep_name name) (is_constraint version bits) n l) t
+    and_from (is_dep_name name && is_constraint_or_none version bits) (is_tag_or_none tag) (and_from (is_dep_name name) (is_constraint_or_none version bits) n l) t
 
-versioned-out : (name : List ℕ) (conflict : Bool) (tag : Option (List ℕ)) (bits : ℕ) (op rest text : List ℕ) (d : Dependency) → is_dep_name name ≡ true → is_tag_or_none tag ≡ true → operator_bits op ≡ Some bits → op ++ rest ≡ text → at_version (bare name conflict tag) bits rest ≡ Some d → IsLimited name conflict tag text d
-unfolding at_version
+versioned-out : (name : List ℕ) (conflict : Bool) (tag : Option (List ℕ)) (bits : ℕ) (op rest text : List ℕ) (d : Dependency) → is_dep_name name ≡ true → is_tag_or_none tag ≡ true → operator_bits op ≡ Some bits → op ++ rest ≡ text → dependency_from_version (bare name conflict tag) bits rest ≡ Some d → IsLimited name conflict tag text d
+unfolding dependency_from_version
 versioned-out name conflict tag bits op rest text d n t o e h =
-    let v : List ℕ = take_while is_not_at rest in
-    let tail : List ℕ = rest_after is_not_at rest in
-    let found : (is_version v ≡ true) × (at_version_end (with_constraint (bare name conflict tag) v bits) tail ≡ Some d) =
-    cond_some (is_version v) (at_version_end (with_constraint (bare name conflict tag) v bits) tail) d h in
-    let limited_well : is_constraint (Some v) bits ≡ true = and_from (is_version v) (is_some (operator_text bits)) found.0 (operator-is op bits o).2 in
+    let v : List ℕ = take_while is_not_at_sign rest in
+    let tail : List ℕ = rest_after is_not_at_sign rest in
+    let found : (is_version v ≡ true) × (dependency_after_version (with_constraint (bare name conflict tag) v bits) tail ≡ Some d) =
+    cond_some (is_version v) (dependency_after_version (with_constraint (bare name conflict tag) v bits) tail) d h in
+    let limited_well : is_constraint_or_none (Some v) bits ≡ true = and_from (is_version v) (is_some (operator_text bits)) found.0 (operator-is op bits o).2 in
     let whole : text ≡ (op ++ v) ++ tail =
-    sym e ∙ (ap (λ r. op ++ r) (sym (front-behind is_not_at rest)) ∙ sym (append_assoc op v tail)) in
+    sym e ∙ (ap (λ r. op ++ r) (sym (front-behind is_not_at_sign rest)) ∙ sym (append_assoc op v tail)) in
     let P : Dependency → Type 0 = λ x. IsLimited name conflict tag text x in
     elim (ended-out (with_constraint (bare name conflict tag) v bits) tail d found.1) [
       | inl s ↦ subst P s.0 (record {
@@ -84,7 +84,7 @@ versioned-out name conflict tag bits op rest text d n t o e h =
       })
     ]
 
-limited-by-out : (name : List ℕ) (conflict : Bool) (tag : Option (List ℕ)) (r : Option ℕ) (op rest text : List ℕ) (d : Dependency) → is_dep_name name ≡ true → is_tag_or_none tag ≡ true → operator_bits op ≡ r → op ++ rest ≡ text → at_operator_end (bare name conflict tag) r rest ≡ Some d → IsLimited name conflict tag text d
+limited-by-out : (name : List ℕ) (conflict : Bool) (tag : Option (List ℕ)) (r : Option ℕ) (op rest text : List ℕ) (d : Dependency) → is_dep_name name ≡ true → is_tag_or_none tag ≡ true → operator_bits op ≡ r → op ++ rest ≡ text → dependency_after_operator (bare name conflict tag) r rest ≡ Some d → IsLimited name conflict tag text d
 limited-by-out name conflict tag None op rest text d n t o e h = (cc)
 limited-by-out name conflict tag (Some bits) op rest text d n t o e h = versioned-out name conflict tag bits op rest text d n t o e h
 
@@ -114,9 +114,9 @@ record IsTagged (name : List ℕ) (conflict : Bool) (text : List ℕ) (d : Depen
   spelled : SpellsConstraint limit d.version d.bits
   placed : (text ≡ tag_text d.tag ++ limit) ⊎ (text ≡ limit ++ tag_text d.tag)
 
-at_tag-out : (name : List ℕ) (conflict : Bool) (c : ℕ) (rest : List ℕ) (d : Dependency) → is_dep_name name ≡ true → c ≡ 64 → at_tag (bare name conflict None) rest ≡ Some d → IsTagged name conflict (c ∷ rest) d
-unfolding at_tag
-at_tag-out name conflict c rest d n e h =
+dependency_from_tag-out : (name : List ℕ) (conflict : Bool) (c : ℕ) (rest : List ℕ) (d : Dependency) → is_dep_name name ≡ true → c ≡ 64 → dependency_from_tag (bare name conflict None) rest ≡ Some d → IsTagged name conflict (c ∷ rest) d
+unfolding dependency_from_tag
+dependency_from_tag-out name conflict c rest d n e h =
     let tag : List ℕ = take_while is_tag_byte rest in
     let tail : List ℕ = rest_after is_tag_byte rest in
     let found : (is_tag tag ≡ true) × (with_constraint_read (bare name conflict (Some tag)) tail ≡ Some d) =
@@ -148,8 +148,8 @@ limited-tagged name conflict text d out = record {
   ];
 }
 
-tagged-out : (name : List ℕ) (conflict : Bool) (text : List ℕ) (d : Dependency) → is_dep_name name ≡ true → at_name_end (bare name conflict None) text ≡ Some d → IsTagged name conflict text d
-unfolding at_name_end
+tagged-out : (name : List ℕ) (conflict : Bool) (text : List ℕ) (d : Dependency) → is_dep_name name ≡ true → dependency_after_name (bare name conflict None) text ≡ Some d → IsTagged name conflict text d
+unfolding dependency_after_name
 tagged-out name conflict [] d n h =
     let P : Dependency → Type 0 = λ x. IsTagged name conflict [] x in
     subst P (some-inj h) (record {
@@ -162,19 +162,19 @@ tagged-out name conflict [] d n h =
     })
 tagged-out name conflict (c ∷ rest) d n h =
     elim (cases_Bool (eqb c 64)) [
-      | inl e ↦ at_tag-out name conflict c rest d n (eqb-true c 64 e) (sym (ap (λ b. cond b (at_tag (bare name conflict None) rest) (with_constraint_read (bare name conflict None) (c ∷ rest))) e) ∙ h)
-      | inr e ↦ limited-tagged name conflict (c ∷ rest) d (limited-out name conflict None (c ∷ rest) d n refl (sym (ap (λ b. cond b (at_tag (bare name conflict None) rest) (with_constraint_read (bare name conflict None) (c ∷ rest))) e) ∙ h))
+      | inl e ↦ dependency_from_tag-out name conflict c rest d n (eqb-true c 64 e) (sym (ap (λ b. cond b (dependency_from_tag (bare name conflict None) rest) (with_constraint_read (bare name conflict None) (c ∷ rest))) e) ∙ h)
+      | inr e ↦ limited-tagged name conflict (c ∷ rest) d (limited-out name conflict None (c ∷ rest) d n refl (sym (ap (λ b. cond b (dependency_from_tag (bare name conflict None) rest) (with_constraint_read (bare name conflict None) (c ∷ rest))) e) ∙ h))
     ]
 
 -- ---- the name, and the mark before it
 
-named-out : (conflict : Bool) (text : List ℕ) (d : Dependency) (whole : List ℕ) → mark_text conflict ++ text ≡ whole → at_name conflict text ≡ Some d → SpellsDependency whole d
-unfolding at_name
+named-out : (conflict : Bool) (text : List ℕ) (d : Dependency) (whole : List ℕ) → mark_text conflict ++ text ≡ whole → dependency_from_name conflict text ≡ Some d → SpellsDependency whole d
+unfolding dependency_from_name
 named-out conflict text d whole e h =
     let name : List ℕ = take_while is_name_byte text in
     let rest : List ℕ = rest_after is_name_byte text in
-    let found : (is_dep_name name ≡ true) × (at_name_end (bare name conflict None) rest ≡ Some d) =
-    cond_some (is_dep_name name) (at_name_end (bare name conflict None) rest) d h in
+    let found : (is_dep_name name ≡ true) × (dependency_after_name (bare name conflict None) rest ≡ Some d) =
+    cond_some (is_dep_name name) (dependency_after_name (bare name conflict None) rest) d h in
     let out : IsTagged name conflict rest d = tagged-out name conflict rest d found.0 found.1 in
     let front : whole ≡ mark_text d.conflict ++ (d.name ++ rest) =
     sym e ∙ (ap (λ t. mark_text conflict ++ t) (sym (front-behind is_name_byte text)) ∙ (λ i. mark_text (sym out.same_conflict i) ++ (sym out.same_name i ++ rest))) in (
@@ -194,6 +194,6 @@ unfolding dependency_of
 read-out [] d h = absurd (some-none (sym h))
 read-out (b ∷ rest) d h =
     elim (cases_Bool (eqb b 33)) [
-      | inl e ↦ named-out true rest d (b ∷ rest) (ap (λ c. c ∷ rest) (sym (eqb-true b 33 e))) (sym (ap (λ x. cond x (at_name true rest) (at_name false (b ∷ rest))) e) ∙ h)
-      | inr e ↦ named-out false (b ∷ rest) d (b ∷ rest) refl (sym (ap (λ x. cond x (at_name true rest) (at_name false (b ∷ rest))) e) ∙ h)
+      | inl e ↦ named-out true rest d (b ∷ rest) (ap (λ c. c ∷ rest) (sym (eqb-true b 33 e))) (sym (ap (λ x. cond x (dependency_from_name true rest) (dependency_from_name false (b ∷ rest))) e) ∙ h)
+      | inr e ↦ named-out false (b ∷ rest) d (b ∷ rest) refl (sym (ap (λ x. cond x (dependency_from_name true rest) (dependency_from_name false (b ∷ rest))) e) ∙ h)
     ]

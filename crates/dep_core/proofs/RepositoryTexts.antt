@@ -15,8 +15,8 @@ use Rattle.base_core.specs.Name.{is_name, is_part, parts_of}
 use Rattle.dep_core.specs.Dependency.{is_tag, is_tag_byte}
 use Rattle.dep_core.specs.DependencyText.{is_tag_or_none}
 use Rattle.dep_core.specs.Reading.{rest_after}
-use Rattle.dep_core.specs.Repositories.{Repository, at_path, with_repositories, begins_with_blank, is_blank_or_comment, singleton, repositories_from, repositories_of, repositories_on, repository, repository_of, tagged_repository, without_outer_blanks, without_trailing_blanks}
-use Rattle.dep_core.specs.RepositoryText.{is_line_path, is_line_repository, repositories_text, tag_front}
+use Rattle.dep_core.specs.Repositories.{Repository, repository_at_path, with_repositories_of_line, begins_with_blank, is_blank_or_comment, singleton, repositories_from, repositories_of, repositories_on_line, repository, repository_of, tagged_repository, without_outer_blanks, without_trailing_blanks}
+use Rattle.dep_core.specs.RepositoryText.{is_line_path, is_line_repository, repositories_text, tag_prefix}
 use Rattle.dep_core.specs.World.{is_blank, is_line_end, lines_of}
 use Rattle.dep_core.proofs.Spelled.{run, past_run}
 
@@ -28,7 +28,7 @@ is_in_line b = not (is_line_end b)
 tag_in_line : (b : ℕ) → is_tag_byte b ≡ true → is_in_line b ≡ true
 tag_in_line b h = grind (arith, nat_tests)
 
-front-in_line : (tag : Option (List ℕ)) → is_tag_or_none tag ≡ true → list_all is_in_line (tag_front tag) ≡ true
+front-in_line : (tag : Option (List ℕ)) → is_tag_or_none tag ≡ true → list_all is_in_line (tag_prefix tag) ≡ true
 front-in_line None h = refl
 front-in_line (Some tag) h =
     all-append is_in_line tag (32 ∷ []) (all-imp is_tag_byte is_in_line tag_in_line tag (and_parts (nat_lt 0 (length tag)) (list_all is_tag_byte tag) h).1) refl
@@ -62,14 +62,14 @@ name-long path h =
     let d : (nat_lt 0 (length path) ≡ true) × (nat_le (length path) 1024 ≡ true) = and_parts (nat_lt 0 (length path)) (nat_le (length path) 1024) c.0 in
     ltb-true 0 (length path) d.0
 
-whole_line : (tag : Option (List ℕ)) (path : List ℕ) → is_name path ≡ true → suffix_len is_blank path ≡ 0 → without_outer_blanks (tag_front tag ++ (47 ∷ path)) ≡ tag_front tag ++ (47 ∷ path)
+whole_line : (tag : Option (List ℕ)) (path : List ℕ) → is_name path ≡ true → suffix_len is_blank path ≡ 0 → without_outer_blanks (tag_prefix tag ++ (47 ∷ path)) ≡ tag_prefix tag ++ (47 ∷ path)
 whole_line None path n s = nothing_cut (47 ∷ path) (suffix-none (47 ∷ []) path (name-long path n) s)
 whole_line (Some tag) path n s =
     nothing_cut ((64 ∷ (tag ++ (32 ∷ []))) ++ (47 ∷ path)) (ap (suffix_len is_blank) (sym (append_assoc (64 ∷ (tag ++ (32 ∷ []))) (47 ∷ []) path)) ∙ suffix-none ((64 ∷ (tag ++ (32 ∷ []))) ++ (47 ∷ [])) path (name-long path n) s)
 
 -- ---- one line
 
-path-read : (tag : Option (List ℕ)) (path : List ℕ) → is_name path ≡ true → at_path tag (47 ∷ path) ≡ Some (repository tag path)
+path-read : (tag : Option (List ℕ)) (path : List ℕ) → is_name path ≡ true → repository_at_path tag (47 ∷ path) ≡ Some (repository tag path)
 path-read tag path n = ap (λ b. cond b (Some (repository tag path)) None) n
 
 tagged-read : (tag path : List ℕ) → is_tag tag ≡ true → is_name path ≡ true → tagged_repository (tag ++ (32 ∷ (47 ∷ path))) ≡ Some (repository (Some tag) path)
@@ -78,23 +78,23 @@ tagged-read tag path t n =
     let bytes : list_all is_tag_byte tag ≡ true = (and_parts (nat_lt 0 (length tag)) (list_all is_tag_byte tag) t).1 in
     let first : take_while is_tag_byte (tag ++ (32 ∷ (47 ∷ path))) ≡ tag = run is_tag_byte tag (32 ∷ (47 ∷ path)) bytes refl in
     let rest : rest_after is_tag_byte (tag ++ (32 ∷ (47 ∷ path))) ≡ 32 ∷ (47 ∷ path) = past_run is_tag_byte tag (32 ∷ (47 ∷ path)) bytes refl in
-    (λ i. cond (is_tag (first i) && begins_with_blank (rest i)) (at_path (Some (first i)) (rest_after is_blank (rest i))) None)
-    ∙ (ap (λ b. cond (b && true) (at_path (Some tag) (47 ∷ path)) None) t ∙ path-read (Some tag) path n)
+    (λ i. cond (is_tag (first i) && begins_with_blank (rest i)) (repository_at_path (Some (first i)) (rest_after is_blank (rest i))) None)
+    ∙ (ap (λ b. cond (b && true) (repository_at_path (Some tag) (47 ∷ path)) None) t ∙ path-read (Some tag) path n)
 
-line-read : (tag : Option (List ℕ)) (path : List ℕ) → is_tag_or_none tag ≡ true → is_name path ≡ true → repository_of (tag_front tag ++ (47 ∷ path)) ≡ Some (repository tag path)
+line-read : (tag : Option (List ℕ)) (path : List ℕ) → is_tag_or_none tag ≡ true → is_name path ≡ true → repository_of (tag_prefix tag ++ (47 ∷ path)) ≡ Some (repository tag path)
 unfolding repository_of
 line-read None path t n = path-read None path n
 line-read (Some tag) path t n =
     ap tagged_repository (append_assoc tag (32 ∷ []) (47 ∷ path)) ∙ tagged-read tag path t n
 
-is_no_comment : (tag : Option (List ℕ)) (path : List ℕ) → is_blank_or_comment (tag_front tag ++ (47 ∷ path)) ≡ false
+is_no_comment : (tag : Option (List ℕ)) (path : List ℕ) → is_blank_or_comment (tag_prefix tag ++ (47 ∷ path)) ≡ false
 is_no_comment None path = refl
 is_no_comment (Some tag) path = refl
 
-on-line : (tag : Option (List ℕ)) (path : List ℕ) → is_tag_or_none tag ≡ true → is_name path ≡ true → suffix_len is_blank path ≡ 0 → repositories_on (tag_front tag ++ (47 ∷ path)) ≡ Some (repository tag path ∷ [])
+on-line : (tag : Option (List ℕ)) (path : List ℕ) → is_tag_or_none tag ≡ true → is_name path ≡ true → suffix_len is_blank path ≡ 0 → repositories_on_line (tag_prefix tag ++ (47 ∷ path)) ≡ Some (repository tag path ∷ [])
 on-line tag path t n s =
     (λ i. cond (is_blank_or_comment (whole_line tag path n s i)) (Some []) (option_map singleton (repository_of (whole_line tag path n s i))))
-    ∙ (ap (λ b. cond b (Some []) (option_map singleton (repository_of (tag_front tag ++ (47 ∷ path))))) (is_no_comment tag path)
+    ∙ (ap (λ b. cond b (Some []) (option_map singleton (repository_of (tag_prefix tag ++ (47 ∷ path))))) (is_no_comment tag path)
     ∙ ap (option_map singleton) (line-read tag path t n))
 
 -- ---- the whole text
@@ -106,10 +106,10 @@ lines-read (r ∷ rs) k h =
     let both : (is_tag_or_none r.tag ≡ true) × (is_line_path r.path ≡ true) = and_parts (is_tag_or_none r.tag) (is_line_path r.path) parts.0 in
     let path = and_parts (is_name r.path) (list_all is_in_line r.path && eqb (suffix_len is_blank r.path) 0) both.1 in
     let ends : (list_all is_in_line r.path ≡ true) × (eqb (suffix_len is_blank r.path) 0 ≡ true) = and_parts (list_all is_in_line r.path) (eqb (suffix_len is_blank r.path) 0) path.1 in
-    let in_line : list_all is_in_line (tag_front r.tag ++ (47 ∷ r.path)) ≡ true =
-    all-append is_in_line (tag_front r.tag) (47 ∷ r.path) (front-in_line r.tag both.0) ends.0 in
-    ap (repositories_from k) (slice_split_at is_line_end (tag_front r.tag ++ (47 ∷ r.path)) 10 (repositories_text rs) (no_line_end (tag_front r.tag ++ (47 ∷ r.path)) in_line) refl)
-    ∙ (λ i. with_repositories k (on-line r.tag r.path both.0 path.0 (eqb-true (suffix_len is_blank r.path) 0 ends.1) i) (lines-read rs (k + 1) parts.1 i))
+    let in_line : list_all is_in_line (tag_prefix r.tag ++ (47 ∷ r.path)) ≡ true =
+    all-append is_in_line (tag_prefix r.tag) (47 ∷ r.path) (front-in_line r.tag both.0) ends.0 in
+    ap (repositories_from k) (slice_split_at is_line_end (tag_prefix r.tag ++ (47 ∷ r.path)) 10 (repositories_text rs) (no_line_end (tag_prefix r.tag ++ (47 ∷ r.path)) in_line) refl)
+    ∙ (λ i. with_repositories_of_line k (on-line r.tag r.path both.0 path.0 (eqb-true (suffix_len is_blank r.path) 0 ends.1) i) (lines-read rs (k + 1) parts.1 i))
 
 pub repositories-read : (rs : List Repository) → list_all is_line_repository rs ≡ true → repositories_of (repositories_text rs) ≡ Ok rs
 unfolding repositories_of

@@ -12,8 +12,8 @@ use Rattle.std.proofs.lemmas.List.Sums.{AllPass-from_list_all}
 use Rattle.std.proofs.lemmas.List.Splits.{slice_split_none, slice_split_at}
 use Rattle.version_core.specs.Order.{is_version}
 use Rattle.dep_core.specs.Dependency.{Dependency, is_dep_name, is_name_byte, is_tag_byte}
-use Rattle.dep_core.specs.DependencyText.{IsDependency, dep_text, is_dependency, is_constraint, is_tag_or_none, constraint_text, mark_text, operator_text, tag_text}
-use Rattle.dep_core.specs.World.{IsWorld, has_name, is_blank, is_in_order, is_line_end, lines_of, or_bad_line, with_entry, with_lines, with_new_entry, with_words, words_of, world_of, world_text}
+use Rattle.dep_core.specs.DependencyText.{IsDependency, dep_text, is_dependency, is_constraint_or_none, is_tag_or_none, constraint_text, mark_text, operator_text, tag_text}
+use Rattle.dep_core.specs.World.{IsWorld, has_name, is_blank, is_in_order, is_line_end, lines_of, or_bad_line, with_entry, world_with_lines, with_new_entry, world_with_words, words_of, world_of, world_text}
 use Rattle.base_core.specs.ByteOrder.{bytes_cmp}
 use Rattle.base_core.proofs.Orderings.{is_less}
 use Rattle.dep_core.proofs.Lines.{is_word}
@@ -53,7 +53,7 @@ tag-visible None h = refl
 tag-visible (Some tag) h =
     all-imp is_tag_byte is_visible tag_visible tag (and_parts (nat_lt 0 (length tag)) (list_all is_tag_byte tag) h).1
 
-limit-visible : Versions → (version : Option (List ℕ)) (bits : ℕ) → is_constraint version bits ≡ true → list_all is_visible (constraint_text version bits) ≡ true
+limit-visible : Versions → (version : Option (List ℕ)) (bits : ℕ) → is_constraint_or_none version bits ≡ true → list_all is_visible (constraint_text version bits) ≡ true
 limit-visible spelled None bits g = refl
 limit-visible spelled (Some v) bits g =
     let parts : (is_version v ≡ true) × (is_some (operator_text bits) ≡ true) = and_parts (is_version v) (is_some (operator_text bits)) g in
@@ -61,8 +61,8 @@ limit-visible spelled (Some v) bits g =
 
 text-is_visible : Versions → (d : Dependency) → IsDependency d → list_all is_visible (dep_text d) ≡ true
 text-is_visible spelled d g =
-    let good = and_parts (is_dep_name d.name && is_constraint d.version d.bits) (is_tag_or_none d.tag) g in
-    let both = and_parts (is_dep_name d.name) (is_constraint d.version d.bits) good.0 in
+    let good = and_parts (is_dep_name d.name && is_constraint_or_none d.version d.bits) (is_tag_or_none d.tag) g in
+    let both = and_parts (is_dep_name d.name) (is_constraint_or_none d.version d.bits) good.0 in
     let name = and_parts (nat_lt 0 (length d.name) && nat_le (length d.name) 255) (list_all is_name_byte d.name) both.0 in
     all-append is_visible (mark_text d.conflict) _ (mark-visible d.conflict) (all-append is_visible d.name _ (all-imp is_name_byte is_visible name_visible d.name name.1) (all-append is_visible (tag_text d.tag) (constraint_text d.version d.bits) (tag-visible d.tag good.1) (limit-visible spelled d.version d.bits both.1)))
 
@@ -108,22 +108,22 @@ last-new (e ∷ w) d rest h =
 
 -- ---- the whole text
 
-one-line : Versions → (w : List Dependency) (d : Dependency) (rest : List Dependency) → IsDependency d → is_in_order (w ++ (d ∷ rest)) ≡ true → with_words w (words_of (dep_text d)) ≡ Some (w ++ (d ∷ []))
+one-line : Versions → (w : List Dependency) (d : Dependency) (rest : List Dependency) → IsDependency d → is_in_order (w ++ (d ∷ rest)) ≡ true → world_with_words w (words_of (dep_text d)) ≡ Some (w ++ (d ∷ []))
 one-line spelled w d rest g h =
-    let good = and_parts (is_dep_name d.name && is_constraint d.version d.bits) (is_tag_or_none d.tag) g in
-    let named = (and_parts (is_dep_name d.name) (is_constraint d.version d.bits) good.0).0 in
+    let good = and_parts (is_dep_name d.name && is_constraint_or_none d.version d.bits) (is_tag_or_none d.tag) g in
+    let named = (and_parts (is_dep_name d.name) (is_constraint_or_none d.version d.bits) good.0).0 in
     let new : (has_name d.name w ≡ false) × (with_entry d w ≡ w ++ (d ∷ [])) = last-new w d rest h in
-    ap (with_words w) (one-word (dep_text d) (text-is_visible spelled d g) (text-word d.conflict d.name (tag_text d.tag ++ constraint_text d.version d.bits) named))
+    ap (world_with_words w) (one-word (dep_text d) (text-is_visible spelled d g) (text-word d.conflict d.name (tag_text d.tag ++ constraint_text d.version d.bits) named))
     ∙ (ap (λ o. option_and_then (λ more. Some more) (option_and_then (with_new_entry w) o)) (read-written spelled d g)
     ∙ (λ i. option_and_then (λ more. Some more) (cond (new.0 i) None (Some (new.1 i)))))
 
-lines-read : Versions → (rest w : List Dependency) (k : ℕ) → list_all is_dependency rest ≡ true → is_in_order (w ++ rest) ≡ true → with_lines w k (lines_of (world_text rest)) ≡ Ok (w ++ rest)
+lines-read : Versions → (rest w : List Dependency) (k : ℕ) → list_all is_dependency rest ≡ true → is_in_order (w ++ rest) ≡ true → world_with_lines w k (lines_of (world_text rest)) ≡ Ok (w ++ rest)
 lines-read spelled [] w k g h = ap Ok (sym (append-nil w))
 lines-read spelled (d ∷ rest) w k g h =
     let parts : (is_dependency d ≡ true) × (list_all is_dependency rest ≡ true) = and_parts (is_dependency d) (list_all is_dependency rest) g in
     let P : List Dependency → Type 0 = λ ds. is_in_order ds ≡ true in
-    ap (with_lines w k) (slice_split_at is_line_end (dep_text d) 10 (world_text rest) (no_line_end (dep_text d) (text-is_visible spelled d parts.0)) refl)
-    ∙ (ap (or_bad_line k (λ more. with_lines more (k + 1) (lines_of (world_text rest)))) (one-line spelled w d rest parts.0 h)
+    ap (world_with_lines w k) (slice_split_at is_line_end (dep_text d) 10 (world_text rest) (no_line_end (dep_text d) (text-is_visible spelled d parts.0)) refl)
+    ∙ (ap (or_bad_line k (λ more. world_with_lines more (k + 1) (lines_of (world_text rest)))) (one-line spelled w d rest parts.0 h)
     ∙ (lines-read spelled rest (w ++ (d ∷ [])) (k + 1) parts.1 (subst P (sym (append_assoc w (d ∷ []) rest)) h) ∙ ap Ok (append_assoc w (d ∷ []) rest)))
 
 pub text-read_back : Versions → (world : List Dependency) → IsWorld world → world_of (world_text world) ≡ Ok world

@@ -13,7 +13,7 @@ use Rattle.std.proofs.lemmas.Bool.{and_parts, and_from, or_parts, not-true, not_
 use Rattle.std.proofs.lemmas.List.Sorted.{IsPermutation-refl, IsPermutation-sym, IsPermutation-trans, IsPermutation-cons, IsPermutation-middle, IsPermutation-append_right}
 use Rattle.dep_core.specs.Dependency.{Dependency}
 use Rattle.dep_core.specs.Reading.{dependency_of}
-use Rattle.dep_core.specs.World.{IsWorld, has_name, lines_of, or_bad_line, with_entry, with_lines, with_new_entry, with_words, words_of, world_of}
+use Rattle.dep_core.specs.World.{IsWorld, has_name, lines_of, or_bad_line, with_entry, world_with_lines, with_new_entry, world_with_words, words_of, world_of}
 use Rattle.base_core.specs.ByteOrder.{bytes_cmp}
 use Rattle.base_core.proofs.Booleans.{or_swap}
 use Rattle.dep_core.specs.Entries.{IsFirstBadLine, IsWorldOf, have_different_names, words_in}
@@ -23,24 +23,24 @@ use Rattle.dep_core.proofs.Worlds.{IsWorld-with_entry, cmp-back}
 
 -- ---- lines and words
 
-append-by : (o : Option (List Dependency)) (front back : List (List ℕ)) → ((w : List Dependency) → with_words w (front ++ back) ≡ option_and_then (λ m. with_words m back) (with_words w front)) → option_and_then (λ m. with_words m (front ++ back)) o ≡ option_and_then (λ m. with_words m back) (option_and_then (λ m. with_words m front) o)
+append-by : (o : Option (List Dependency)) (front back : List (List ℕ)) → ((w : List Dependency) → world_with_words w (front ++ back) ≡ option_and_then (λ m. world_with_words m back) (world_with_words w front)) → option_and_then (λ m. world_with_words m (front ++ back)) o ≡ option_and_then (λ m. world_with_words m back) (option_and_then (λ m. world_with_words m front) o)
 append-by None front back h = refl
 append-by (Some w) front back h = h w
 
-words-append : (front back : List (List ℕ)) (w : List Dependency) → with_words w (front ++ back) ≡ option_and_then (λ m. with_words m back) (with_words w front)
+words-append : (front back : List (List ℕ)) (w : List Dependency) → world_with_words w (front ++ back) ≡ option_and_then (λ m. world_with_words m back) (world_with_words w front)
 words-append [] back w = refl
 words-append (x ∷ front) back w =
     append-by (option_and_then (with_new_entry w) (dependency_of x)) front back (words-append front back)
 
-line-by : (o : Option (List Dependency)) (k : ℕ) (lines : List (List ℕ)) → ((w : List Dependency) → result_ok (with_lines w (k + 1) lines) ≡ with_words w (flat_map words_of lines)) → result_ok (or_bad_line k (λ m. with_lines m (k + 1) lines) o) ≡ option_and_then (λ m. with_words m (flat_map words_of lines)) o
+line-by : (o : Option (List Dependency)) (k : ℕ) (lines : List (List ℕ)) → ((w : List Dependency) → result_ok (world_with_lines w (k + 1) lines) ≡ world_with_words w (flat_map words_of lines)) → result_ok (or_bad_line k (λ m. world_with_lines m (k + 1) lines) o) ≡ option_and_then (λ m. world_with_words m (flat_map words_of lines)) o
 line-by None k lines h = refl
 line-by (Some w) k lines h = h w
 
 -- the lines are a world where their words are one
-lines-words : (lines : List (List ℕ)) (k : ℕ) (w : List Dependency) → result_ok (with_lines w k lines) ≡ with_words w (flat_map words_of lines)
+lines-words : (lines : List (List ℕ)) (k : ℕ) (w : List Dependency) → result_ok (world_with_lines w k lines) ≡ world_with_words w (flat_map words_of lines)
 lines-words [] k w = refl
 lines-words (line ∷ lines) k w =
-    line-by (with_words w (words_of line)) k lines (lines-words lines (k + 1))
+    line-by (world_with_words w (words_of line)) k lines (lines-words lines (k + 1))
     ∙ sym (words-append (words_of line) (flat_map words_of lines) w)
 
 -- ---- an entry of a new name
@@ -121,15 +121,15 @@ one-more x words d w v r h out =
       kept = (λ world. out.kept (IsWorld-with_entry d w (read-out x d r).0 world));
     }
 
-new-by : (x : List ℕ) (words : List (List ℕ)) (d : Dependency) (w v : List Dependency) (b : Bool) → dependency_of x ≡ Some d → has_name d.name w ≡ b → option_and_then (λ m. with_words m words) (cond b None (Some (with_entry d w))) ≡ Some v → ((u : List Dependency) → with_words u words ≡ Some v → AreRead words u v) → AreRead (x ∷ words) w v
+new-by : (x : List ℕ) (words : List (List ℕ)) (d : Dependency) (w v : List Dependency) (b : Bool) → dependency_of x ≡ Some d → has_name d.name w ≡ b → option_and_then (λ m. world_with_words m words) (cond b None (Some (with_entry d w))) ≡ Some v → ((u : List Dependency) → world_with_words u words ≡ Some v → AreRead words u v) → AreRead (x ∷ words) w v
 new-by x words d w v true r e h more = (cc)
 new-by x words d w v false r e h more = one-more x words d w v r e (more (with_entry d w) h)
 
-read-by : (x : List ℕ) (words : List (List ℕ)) (o : Option Dependency) (w v : List Dependency) → dependency_of x ≡ o → option_and_then (λ m. with_words m words) (option_and_then (with_new_entry w) o) ≡ Some v → ((u : List Dependency) → with_words u words ≡ Some v → AreRead words u v) → AreRead (x ∷ words) w v
+read-by : (x : List ℕ) (words : List (List ℕ)) (o : Option Dependency) (w v : List Dependency) → dependency_of x ≡ o → option_and_then (λ m. world_with_words m words) (option_and_then (with_new_entry w) o) ≡ Some v → ((u : List Dependency) → world_with_words u words ≡ Some v → AreRead words u v) → AreRead (x ∷ words) w v
 read-by x words None w v r h more = (cc)
 read-by x words (Some d) w v r h more = new-by x words d w v (has_name d.name w) r refl h more
 
-words-read : (words : List (List ℕ)) (v w : List Dependency) → with_words w words ≡ Some v → AreRead words w v
+words-read : (words : List (List ℕ)) (v w : List Dependency) → world_with_words w words ≡ Some v → AreRead words w v
 words-read [] v w h = record {
   entries = [];
   read = refl;
@@ -140,7 +140,7 @@ words-read [] v w h = record {
 }
 words-read (x ∷ words) v w h = read-by x words (dependency_of x) w v refl h (words-read words v)
 
-words-good : (words : List (List ℕ)) (ds w : List Dependency) → map dependency_of words ≡ map Some ds → have_different_names ds ≡ true → are_new w ds ≡ true → is_some (with_words w words) ≡ true
+words-good : (words : List (List ℕ)) (ds w : List Dependency) → map dependency_of words ≡ map Some ds → have_different_names ds ≡ true → are_new w ds ≡ true → is_some (world_with_words w words) ≡ true
 words-good [] ds w r a n = refl
 words-good (x ∷ words) [] w r a n = (cc)
 words-good (x ∷ words) (d ∷ ds) w r a n =
@@ -149,8 +149,8 @@ words-good (x ∷ words) (d ∷ ds) w r a n =
     let apart : (not (has_name d.name ds) ≡ true) × (have_different_names ds ≡ true) = and_parts (not (has_name d.name ds)) (have_different_names ds) a in
     let fresh : (not (has_name d.name w) ≡ true) × (are_new w ds ≡ true) = and_parts (not (has_name d.name w)) (are_new w ds) n in
     let absent : has_name d.name w ≡ false = not-true (has_name d.name w) fresh.0 in
-    ap (λ o. is_some (option_and_then (λ m. with_words m words) (option_and_then (with_new_entry w) o))) first
-    ∙ (ap (λ b. is_some (option_and_then (λ m. with_words m words) (cond b None (Some (with_entry d w))))) absent
+    ap (λ o. is_some (option_and_then (λ m. world_with_words m words) (option_and_then (with_new_entry w) o))) first
+    ∙ (ap (λ b. is_some (option_and_then (λ m. world_with_words m words) (cond b None (Some (with_entry d w))))) absent
     ∙ words-good words ds (with_entry d w) others apart.1 (new-joined d w ds absent (not-true (has_name d.name ds) apart.0) fresh.1))
 
 -- ---- the whole text
@@ -173,7 +173,7 @@ none_taken (d ∷ ds) = none_taken ds
 pub words-world : (text : List ℕ) (ds : List Dependency) → map dependency_of (words_in text) ≡ map Some ds → have_different_names ds ≡ true → is_ok (world_of text) ≡ true
 unfolding world_of
 words-world text ds r a =
-    ok-by (with_lines [] 1 (lines_of text)) (ap is_some (lines-words (lines_of text) 1 []) ∙ words-good (words_in text) ds [] r a (none_taken ds))
+    ok-by (world_with_lines [] 1 (lines_of text)) (ap is_some (lines-words (lines_of text) 1 []) ∙ words-good (words_in text) ds [] r a (none_taken ds))
 
 -- ---- the first bad line
 
@@ -181,16 +181,16 @@ record IsBadAt (w : List Dependency) (k : ℕ) (lines : List (List ℕ)) (line :
   before : ℕ
   number : line ≡ before + k
   within : before < length lines
-  good_before : is_ok (with_lines w k (take before lines)) ≡ true
-  bad_with : is_ok (with_lines w k (take (suc before) lines)) ≡ false
+  good_before : is_ok (world_with_lines w k (take before lines)) ≡ true
+  bad_with : is_ok (world_with_lines w k (take (suc before) lines)) ≡ false
 
-bad-by : (w : List Dependency) (k : ℕ) (text : List ℕ) (lines : List (List ℕ)) (line : ℕ) (o : Option (List Dependency)) → with_words w (words_of text) ≡ o → or_bad_line k (λ m. with_lines m (k + 1) lines) o ≡ Err line → ((u : List Dependency) → with_lines u (k + 1) lines ≡ Err line → IsBadAt u (k + 1) lines line) → IsBadAt w k (text ∷ lines) line
+bad-by : (w : List Dependency) (k : ℕ) (text : List ℕ) (lines : List (List ℕ)) (line : ℕ) (o : Option (List Dependency)) → world_with_words w (words_of text) ≡ o → or_bad_line k (λ m. world_with_lines m (k + 1) lines) o ≡ Err line → ((u : List Dependency) → world_with_lines u (k + 1) lines ≡ Err line → IsBadAt u (k + 1) lines line) → IsBadAt w k (text ∷ lines) line
 bad-by w k text lines line None e h more = record {
   before = 0;
   number = (let same : k ≡ line = cc in omega arith);
   within = omega arith;
   good_before = refl;
-  bad_with = ap (λ o. is_ok (or_bad_line k (λ m. with_lines m (k + 1) []) o)) e;
+  bad_with = ap (λ o. is_ok (or_bad_line k (λ m. world_with_lines m (k + 1) []) o)) e;
 }
 bad-by w k text lines line (Some u) e h more =
     let out : IsBadAt u (k + 1) lines line = more u h in
@@ -198,14 +198,14 @@ bad-by w k text lines line (Some u) e h more =
       before = suc out.before;
       number = omega (arith, out.number);
       within = omega (arith, out.within);
-      good_before = ap (λ o. is_ok (or_bad_line k (λ m. with_lines m (k + 1) (take out.before lines)) o)) e ∙ out.good_before;
-      bad_with = ap (λ o. is_ok (or_bad_line k (λ m. with_lines m (k + 1) (take (suc out.before) lines)) o)) e ∙ out.bad_with;
+      good_before = ap (λ o. is_ok (or_bad_line k (λ m. world_with_lines m (k + 1) (take out.before lines)) o)) e ∙ out.good_before;
+      bad_with = ap (λ o. is_ok (or_bad_line k (λ m. world_with_lines m (k + 1) (take (suc out.before) lines)) o)) e ∙ out.bad_with;
     }
 
-bad-at : (lines : List (List ℕ)) (w : List Dependency) (k line : ℕ) → with_lines w k lines ≡ Err line → IsBadAt w k lines line
+bad-at : (lines : List (List ℕ)) (w : List Dependency) (k line : ℕ) → world_with_lines w k lines ≡ Err line → IsBadAt w k lines line
 bad-at [] w k line h = (cc)
 bad-at (text ∷ lines) w k line h =
-    bad-by w k text lines line (with_words w (words_of text)) refl h (λ u. bad-at lines u (k + 1) line)
+    bad-by w k text lines line (world_with_words w (words_of text)) refl h (λ u. bad-at lines u (k + 1) line)
 
 pub first-bad_line : (text : List ℕ) (line : ℕ) → world_of text ≡ Err line → IsFirstBadLine text line
 unfolding world_of
@@ -216,5 +216,5 @@ first-bad_line text line h =
       number = out.number;
       within = out.within;
       good_before = out.good_before;
-      bad_with = ap (λ n. is_ok (with_lines [] 1 (take n (lines_of text)))) (add-one out.before) ∙ out.bad_with;
+      bad_with = ap (λ n. is_ok (world_with_lines [] 1 (take n (lines_of text)))) (add-one out.before) ∙ out.bad_with;
     }

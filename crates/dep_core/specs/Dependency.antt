@@ -15,17 +15,17 @@ pub record Dependency : Type 0 where
   pub tag : Option (List ℕ)
 
 -- a dependency from its parts
-abbrev pub dependency_by : List ℕ → Option (List ℕ) → ℕ → Bool → Option (List ℕ) → Dependency
-dependency_by name version bits conflict tag =
+abbrev pub dependency_from_parts : List ℕ → Option (List ℕ) → ℕ → Bool → Option (List ℕ) → Dependency
+dependency_from_parts name version bits conflict tag =
     record { name = name; version = version; bits = bits; conflict = conflict; tag = tag }
 
 -- whether a byte is a mark, which ends a name: `!`, `<`, `=`, `>`, `@` or `~`
-abbrev pub is_mark : ℕ → Bool
-is_mark b = (b == 33) || (b == 60) || (b == 61) || (b == 62) || (b == 64) || (b == 126)
+abbrev pub is_name_end_mark : ℕ → Bool
+is_name_end_mark b = (b == 33) || (b == 60) || (b == 61) || (b == 62) || (b == 64) || (b == 126)
 
 -- whether a name may have this byte: it is from 0x21 to 0x7e, and no mark
 abbrev pub is_name_byte : ℕ → Bool
-is_name_byte b = nat_lt 32 b && nat_lt b 127 && not (is_mark b)
+is_name_byte b = nat_lt 32 b && nat_lt b 127 && not (is_name_end_mark b)
 
 -- whether the bytes are the name of a dependency: 1 to 255 bytes, each of which a name may have
 abbrev pub is_dep_name : List ℕ → Bool

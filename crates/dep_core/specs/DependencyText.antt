@@ -10,9 +10,9 @@ abbrev pub operator_text : ℕ → Option (List ℕ)
 operator_text bits = lookup (λ b. b == bits) (map (λ (o : List ℕ × ℕ). (o.1, o.0)) operators)
 
 -- whether match bits fit the wanted version: those of `=` if there is none, else those of an operator
-abbrev pub is_constraint : Option (List ℕ) → ℕ → Bool
-is_constraint None bits = bits == 1
-is_constraint (Some version) bits = is_version version && is_some (operator_text bits)
+abbrev pub is_constraint_or_none : Option (List ℕ) → ℕ → Bool
+is_constraint_or_none None bits = bits == 1
+is_constraint_or_none (Some version) bits = is_version version && is_some (operator_text bits)
 
 -- whether a tag, if there is one, has the bytes of a tag
 abbrev pub is_tag_or_none : Option (List ℕ) → Bool
@@ -22,7 +22,7 @@ is_tag_or_none (Some tag) = is_tag tag
 -- whether the parts of a dependency are in the grammar: its name, its version with the match bits, its
 -- tag
 abbrev pub is_dependency : Dependency → Bool
-is_dependency d = is_dep_name d.name && is_constraint d.version d.bits && is_tag_or_none d.tag
+is_dependency d = is_dep_name d.name && is_constraint_or_none d.version d.bits && is_tag_or_none d.tag
 
 -- the parts of a dependency are in the grammar
 abbrev pub IsDependency : Dependency → Type 0

@@ -5,7 +5,7 @@ use Rattle.std.specs.List.{flat_map}
 use Rattle.std.specs.List.Sorted.{IsPermutation}
 use Rattle.dep_core.specs.Dependency.{Dependency}
 use Rattle.dep_core.specs.Reading.{dependency_of}
-use Rattle.dep_core.specs.World.{IsWorld, has_name, lines_of, with_lines, words_of}
+use Rattle.dep_core.specs.World.{IsWorld, has_name, lines_of, world_with_lines, words_of}
 
 -- the words of all lines of a text, in their order
 abbrev pub words_in : List ℕ → List (List ℕ)
@@ -32,5 +32,5 @@ pub record IsFirstBadLine (text : List ℕ) (line : ℕ) : Type 0 where
   pub before : ℕ
   pub number : line ≡ before + 1
   pub within : before < length (lines_of text)
-  pub good_before : is_ok (with_lines [] 1 (take before (lines_of text))) ≡ true
-  pub bad_with : is_ok (with_lines [] 1 (take (before + 1) (lines_of text))) ≡ false
+  pub good_before : is_ok (world_with_lines [] 1 (take before (lines_of text))) ≡ true
+  pub bad_with : is_ok (world_with_lines [] 1 (take (before + 1) (lines_of text))) ≡ false

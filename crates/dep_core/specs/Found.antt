@@ -5,6 +5,6 @@ use Rattle.std.specs.Borrow.{Bor}
 use Rattle.dep_core.specs.Dependency.{Dependency}
 
 -- each entry has its own name as its key
-abbrev pub IsByName : List (Bor (List ℕ) × Dependency) → Type 0
-IsByName [] = Unit {0}
-IsByName (e ∷ rest) = (e.0.now ≡ e.1.name) × IsByName rest
+abbrev pub IsKeyedByName : List (Bor (List ℕ) × Dependency) → Type 0
+IsKeyedByName [] = Unit {0}
+IsKeyedByName (e ∷ rest) = (e.0.now ≡ e.1.name) × IsKeyedByName rest

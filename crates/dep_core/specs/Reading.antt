@@ -6,7 +6,7 @@ use Rattle.std.specs.List.{prefix_len, take_while}
 use Rattle.std.specs.Map.{lookup}
 use Rattle.std.specs.Str.{bytes_eq}
 use Rattle.version_core.specs.Order.{is_version}
-use Rattle.dep_core.specs.Dependency.{Dependency, dependency_by, is_name_byte, is_dep_name, is_tag_byte, is_tag, operators}
+use Rattle.dep_core.specs.Dependency.{Dependency, dependency_from_parts, is_name_byte, is_dep_name, is_tag_byte, is_tag, operators}
 
 -- the text after its longest front of bytes that have a property
 abbrev pub rest_after : (ℕ → Bool) → List ℕ → List ℕ
@@ -21,65 +21,65 @@ abbrev pub operator_bits : List ℕ → Option ℕ
 operator_bits text = lookup (bytes_eq text) (operators ++ ((codes "=~", 9) ∷ (codes "~=", 9) ∷ []))
 
 -- whether a byte is not the `@` (64) that precedes a tag
-abbrev pub is_not_at : ℕ → Bool
-is_not_at b = not (b == 64)
+abbrev pub is_not_at_sign : ℕ → Bool
+is_not_at_sign b = not (b == 64)
 
 -- a dependency on any version; it has the match bits of the operator `=`, which are 1
-abbrev pub any_version : Bool → List ℕ → Dependency
-any_version conflict name = dependency_by name None 1 conflict None
+abbrev pub dependency_on_any_version : Bool → List ℕ → Dependency
+dependency_on_any_version conflict name = dependency_from_parts name None 1 conflict None
 
 -- a dependency with this tag in place of its own
 abbrev pub with_tag : Dependency → List ℕ → Dependency
-with_tag d tag = dependency_by d.name d.version d.bits d.conflict (Some tag)
+with_tag d tag = dependency_from_parts d.name d.version d.bits d.conflict (Some tag)
 
 -- a dependency with this wanted version and these match bits in place of its own
 abbrev pub with_constraint : Dependency → List ℕ → ℕ → Dependency
-with_constraint d version bits = dependency_by d.name (Some version) bits d.conflict d.tag
+with_constraint d version bits = dependency_from_parts d.name (Some version) bits d.conflict d.tag
 
 -- reads after the version: nothing, or `@` (64) and the tag, if no tag followed the name
-unfoldable pub at_version_end : Dependency → List ℕ → Option Dependency
-at_version_end d [] = Some d
-at_version_end d (b ∷ tag) =
+unfoldable pub dependency_after_version : Dependency → List ℕ → Option Dependency
+dependency_after_version d [] = Some d
+dependency_after_version d (b ∷ tag) =
     if (b == 64) && (not (is_some d.tag) && is_tag tag) then Some (with_tag d tag) else None
 
 -- reads after the operator: the version, up to an `@`
-unfoldable pub at_version : Dependency → ℕ → List ℕ → Option Dependency
-at_version d bits text =
-    if is_version (take_while is_not_at text)
-    then at_version_end (with_constraint d (take_while is_not_at text) bits)
-    (rest_after is_not_at text)
+unfoldable pub dependency_from_version : Dependency → ℕ → List ℕ → Option Dependency
+dependency_from_version d bits text =
+    if is_version (take_while is_not_at_sign text)
+    then dependency_after_version (with_constraint d (take_while is_not_at_sign text) bits)
+    (rest_after is_not_at_sign text)
     else None
 
 -- reads after the bytes of an operator, with its match bits; None if they are no operator
-abbrev pub at_operator_end : Dependency → Option ℕ → List ℕ → Option Dependency
-at_operator_end d None text = None
-at_operator_end d (Some bits) text = at_version d bits text
+abbrev pub dependency_after_operator : Dependency → Option ℕ → List ℕ → Option Dependency
+dependency_after_operator d None text = None
+dependency_after_operator d (Some bits) text = dependency_from_version d bits text
 
 -- reads after the name and its tag: nothing, or the operator
 unfoldable pub with_constraint_read : Dependency → List ℕ → Option Dependency
 with_constraint_read d [] = Some d
 with_constraint_read d (b ∷ rest) =
-    at_operator_end d (operator_bits (take_while is_operator_byte (b ∷ rest)))
+    dependency_after_operator d (operator_bits (take_while is_operator_byte (b ∷ rest)))
     (rest_after is_operator_byte (b ∷ rest))
 
 -- reads after the `@`: the tag
-unfoldable pub at_tag : Dependency → List ℕ → Option Dependency
-at_tag d text =
+unfoldable pub dependency_from_tag : Dependency → List ℕ → Option Dependency
+dependency_from_tag d text =
     if is_tag (take_while is_tag_byte text)
     then with_constraint_read (with_tag d (take_while is_tag_byte text))
     (rest_after is_tag_byte text)
     else None
 
 -- reads after the name: `@` (64) and the tag, if there is one
-unfoldable pub at_name_end : Dependency → List ℕ → Option Dependency
-at_name_end d [] = Some d
-at_name_end d (b ∷ rest) = if b == 64 then at_tag d rest else with_constraint_read d (b ∷ rest)
+unfoldable pub dependency_after_name : Dependency → List ℕ → Option Dependency
+dependency_after_name d [] = Some d
+dependency_after_name d (b ∷ rest) = if b == 64 then dependency_from_tag d rest else with_constraint_read d (b ∷ rest)
 
 -- reads the name, from the front or after the mark of a conflict
-unfoldable pub at_name : Bool → List ℕ → Option Dependency
-at_name conflict text =
+unfoldable pub dependency_from_name : Bool → List ℕ → Option Dependency
+dependency_from_name conflict text =
     if is_dep_name (take_while is_name_byte text)
-    then at_name_end (any_version conflict (take_while is_name_byte text))
+    then dependency_after_name (dependency_on_any_version conflict (take_while is_name_byte text))
     (rest_after is_name_byte text)
     else None
 
@@ -87,4 +87,4 @@ at_name conflict text =
 -- conflict
 unfoldable pub dependency_of : List ℕ → Option Dependency
 dependency_of [] = None
-dependency_of (b ∷ rest) = if b == 33 then at_name true rest else at_name false (b ∷ rest)
+dependency_of (b ∷ rest) = if b == 33 then dependency_from_name true rest else dependency_from_name false (b ∷ rest)

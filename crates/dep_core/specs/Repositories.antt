@@ -38,8 +38,8 @@ begins_with_blank (b ∷ rest) = is_blank b
 
 -- the repository at a path, perhaps under a tag: one leading slash is dropped, and the rest must be a
 -- name
-abbrev pub at_path : Option (List ℕ) → List ℕ → Option Repository
-at_path tag path =
+abbrev pub repository_at_path : Option (List ℕ) → List ℕ → Option Repository
+repository_at_path tag path =
     if is_name (without_slash path) then Some (repository tag (without_slash path)) else None
 
 -- the repository of a text after `@`: the tag, blanks, the path
@@ -47,37 +47,37 @@ unfoldable pub tagged_repository : List ℕ → Option Repository
 tagged_repository text =
     let tag = take_while is_tag_byte text in
     let rest = rest_after is_tag_byte text in
-    if is_tag tag && begins_with_blank rest then at_path (Some tag) (rest_after is_blank rest)
+    if is_tag tag && begins_with_blank rest then repository_at_path (Some tag) (rest_after is_blank rest)
     else None
 
 -- the repository of a line that is not skipped, without blanks at its ends; `@` (64) precedes a tag
 unfoldable pub repository_of : List ℕ → Option Repository
 repository_of [] = None
-repository_of (b ∷ rest) = if b == 64 then tagged_repository rest else at_path None (b ∷ rest)
+repository_of (b ∷ rest) = if b == 64 then tagged_repository rest else repository_at_path None (b ∷ rest)
 
 -- the list of one repository
 abbrev pub singleton : Repository → List Repository
 singleton found = found ∷ []
 
 -- the repositories on a line, none or one; None if the line is bad
-abbrev pub repositories_on : List ℕ → Option (List Repository)
-repositories_on line =
+abbrev pub repositories_on_line : List ℕ → Option (List Repository)
+repositories_on_line line =
     if is_blank_or_comment (without_outer_blanks line) then Some []
     else option_map singleton (repository_of (without_outer_blanks line))
 
 -- the repositories of a line before those of the lines after it; the number of the line if it is bad
-abbrev pub with_repositories : ℕ → Option (List Repository) → Result (List Repository) ℕ
+abbrev pub with_repositories_of_line : ℕ → Option (List Repository) → Result (List Repository) ℕ
     → Result (List Repository) ℕ
-with_repositories line None rest = Err line
-with_repositories line (Some found) (Ok rest) = Ok (found ++ rest)
-with_repositories line (Some found) (Err bad) = Err bad
+with_repositories_of_line line None rest = Err line
+with_repositories_of_line line (Some found) (Ok rest) = Ok (found ++ rest)
+with_repositories_of_line line (Some found) (Err bad) = Err bad
 
 -- the repositories of some lines, the first of which has this number; or else the number of the first
 -- bad line
 abbrev pub repositories_from : ℕ → List (List ℕ) → Result (List Repository) ℕ
 repositories_from line [] = Ok []
 repositories_from line (text ∷ rest) =
-    with_repositories line (repositories_on text) (repositories_from (line + 1) rest)
+    with_repositories_of_line line (repositories_on_line text) (repositories_from (line + 1) rest)
 
 -- the repositories that a text names, or the number of its first bad line, counted from 1
 unfoldable pub repositories_of : List ℕ → Result (List Repository) ℕ

@@ -17,13 +17,13 @@ abbrev pub is_line_repository : Repository → Bool
 is_line_repository found = is_tag_or_none found.tag && is_line_path found.path
 
 -- the text before the path: `@` (64), the tag and a space (32), or nothing if there is no tag
-abbrev pub tag_front : Option (List ℕ) → List ℕ
-tag_front None = []
-tag_front (Some tag) = 64 ∷ (tag ++ (32 ∷ []))
+abbrev pub tag_prefix : Option (List ℕ) → List ℕ
+tag_prefix None = []
+tag_prefix (Some tag) = 64 ∷ (tag ++ (32 ∷ []))
 
 -- a text that names these repositories: for each a line with the path after a slash (47), which ends
 -- with a line end (10)
 abbrev pub repositories_text : List Repository → List ℕ
 repositories_text [] = []
 repositories_text (found ∷ rest) =
-    (tag_front found.tag ++ (47 ∷ found.path)) ++ (10 ∷ repositories_text rest)
+    (tag_prefix found.tag ++ (47 ∷ found.path)) ++ (10 ∷ repositories_text rest)

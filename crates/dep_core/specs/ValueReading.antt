@@ -2,29 +2,29 @@
 -- `docs/formats.md`, "Dependencies", the paragraph of the value in a package.
 use Rattle.std.specs.Prelude.{ℕ, ◌+◌, ◌%◌, ◌==◌, nat_lt, not, ◌&&◌, ◌||◌, if◌then◌else◌, List, [], ◌∷◌, Option, Some, None}
 use Rattle.dep_core.specs.Dependency.{Dependency, is_dep_name}
-use Rattle.dep_core.specs.Reading.{any_version, with_constraint}
-use Rattle.dep_core.specs.Value.{is_matching, is_version_or_empty}
+use Rattle.dep_core.specs.Reading.{dependency_on_any_version, with_constraint}
+use Rattle.dep_core.specs.Value.{is_match_number, is_version_or_empty}
 
 -- the match bits for the low four bits of a match number. 7 and 15 accept any version (None), and 0
 -- counts as 1. 8, 10 and 12, which match fuzzily, count as 9, 11 and 13, which accept equal versions
 -- too
-abbrev pub bits_of : ℕ → Option ℕ
-bits_of low =
+abbrev pub match_bits_of : ℕ → Option ℕ
+match_bits_of low =
     if (low == 7) || (low == 15) then None else
     if low == 0 then Some 1 else
     if (low == 8) || ((low == 10) || (low == 12)) then Some (low + 1) else
     Some low
 
 -- the dependency with a wanted version and its match bits; without match bits it is unchanged
-abbrev pub on_version : Dependency → List ℕ → Option ℕ → Dependency
-on_version d [] bits = d
-on_version d (b ∷ rest) None = d
-on_version d (b ∷ rest) (Some bits) = with_constraint d (b ∷ rest) bits
+abbrev pub with_wanted_version : Dependency → List ℕ → Option ℕ → Dependency
+with_wanted_version d [] bits = d
+with_wanted_version d (b ∷ rest) None = d
+with_wanted_version d (b ∷ rest) (Some bits) = with_constraint d (b ∷ rest) bits
 
 -- the dependency that a name, a version and a match number denote, or None if one of them is not
 -- allowed; from 16 on it is a conflict
 unfoldable pub dependency_of_value : List ℕ → List ℕ → ℕ → Option Dependency
 dependency_of_value name version matching =
-    if is_dep_name name && (is_version_or_empty version && is_matching matching) then
-    Some (on_version (any_version (not (nat_lt matching 16)) name) version (bits_of (matching % 16)))
+    if is_dep_name name && (is_version_or_empty version && is_match_number matching) then
+    Some (with_wanted_version (dependency_on_any_version (not (nat_lt matching 16)) name) version (match_bits_of (matching % 16)))
     else None

@@ -59,10 +59,10 @@ abbrev pub with_new_entry : List Dependency → Dependency → Option (List Depe
 with_new_entry world d = if has_name d.name world then None else Some (with_entry d world)
 
 -- world with the entries of some words, or None if a word is no dependency or repeats a name
-abbrev pub with_words : List Dependency → List (List ℕ) → Option (List Dependency)
-with_words world [] = Some world
-with_words world (word ∷ words) =
-    option_and_then (λ more. with_words more words)
+abbrev pub world_with_words : List Dependency → List (List ℕ) → Option (List Dependency)
+world_with_words world [] = Some world
+world_with_words world (word ∷ words) =
+    option_and_then (λ more. world_with_words more words)
     (option_and_then (with_new_entry world) (dependency_of word))
 
 -- the world after a line, or the number of that line if it is bad
@@ -73,11 +73,11 @@ or_bad_line line next (Some world) = next world
 
 -- world with the entries of some lines, the first of which has this number; or else the number of the
 -- first bad line
-abbrev pub with_lines : List Dependency → ℕ → List (List ℕ) → Result (List Dependency) ℕ
-with_lines world line [] = Ok world
-with_lines world line (text ∷ rest) =
-    or_bad_line line (λ more. with_lines more (line + 1) rest) (with_words world (words_of text))
+abbrev pub world_with_lines : List Dependency → ℕ → List (List ℕ) → Result (List Dependency) ℕ
+world_with_lines world line [] = Ok world
+world_with_lines world line (text ∷ rest) =
+    or_bad_line line (λ more. world_with_lines more (line + 1) rest) (world_with_words world (words_of text))
 
 -- the world that a text denotes, or the number of its first bad line, counted from 1
 unfoldable pub world_of : List ℕ → Result (List Dependency) ℕ
-world_of text = with_lines [] 1 (lines_of text)
+world_of text = world_with_lines [] 1 (lines_of text)

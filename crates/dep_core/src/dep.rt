@@ -3,7 +3,7 @@
 
 ghost use Rattle.std.specs.Prelude.{IsTrue, ◌≡◌, Some, IfSome, is_some, ◌==◌};
 ghost use Rattle.std.specs.Option.{option_copied};
-ghost use Rattle.dep_core.specs.Dependency.{dependency_by, begins_with_punctuation, is_dep_name, is_name_byte, is_package_name, is_tag, is_tag_byte};
+ghost use Rattle.dep_core.specs.Dependency.{dependency_from_parts, begins_with_punctuation, is_dep_name, is_name_byte, is_package_name, is_tag, is_tag_byte};
 ghost use Rattle.dep_core.specs.DependencyText.{is_dependency, operator_text};
 ghost use Rattle.dep_core.specs.Reading.{operator_bits};
 ghost use Rattle.std.specs.List.{list_all, list_any};
@@ -25,13 +25,13 @@ pub struct Dep<'a> {
     /// (apk-world(5)).
     pub tag: Option<&'a [u8]>,
     pub ghost in_grammar: { IsTrue (is_dependency
-        (dependency_by name.now version op conflict (option_copied tag))) },
+        (dependency_from_parts name.now version op conflict (option_copied tag))) },
 }
 
 impl<'a> Dep<'a> {
     ghost use Rattle.std.specs.Prelude.{◌≡◌};
     ghost use Rattle.std.specs.Option.{option_copied};
-    ghost use Rattle.dep_core.specs.Reading.{any_version, with_constraint, with_tag};
+    ghost use Rattle.dep_core.specs.Reading.{dependency_on_any_version, with_constraint, with_tag};
     ghost use Rattle.dep_core.specs.Meets.{dependency, meets};
 
     /// Whether a name and a version, if there is one, meet it: the names are equal, and it wants no
@@ -52,9 +52,9 @@ impl<'a> Dep<'a> {
     }
 
     /// The dependency on any version of a name.
-    pub(crate) fn any_version(conflict: bool, name: &'a [u8]) -> Dep<'a>
+    pub(crate) fn dependency_on_any_version(conflict: bool, name: &'a [u8]) -> Dep<'a>
         requires { IsTrue (is_dep_name name.now) }
-        ensures { dependency result ≡ any_version conflict name.entry.now }
+        ensures { dependency result ≡ dependency_on_any_version conflict name.entry.now }
     {
         Dep {
             name,

@@ -3,7 +3,7 @@
 
 ghost use Rattle.std.specs.Prelude.{◌≡◌, ◌<◌, ◌==◌, ◌++◌, length, slice_get, Some, None, if◌then◌else◌, IfOk, IfErr, option_copied};
 ghost use Rattle.std.specs.Option.{option_map};
-ghost use Rattle.dep_core.specs.Repositories.{at_path, begins_with_blank, is_blank_or_comment, repositories_of, repositories_on, repository_of, tagged_repository, without_outer_blanks, without_trailing_blanks};
+ghost use Rattle.dep_core.specs.Repositories.{repository_at_path, begins_with_blank, is_blank_or_comment, repositories_of, repositories_on_line, repository_of, tagged_repository, without_outer_blanks, without_trailing_blanks};
 ghost use Rattle.dep_core.specs.Faults.{IsReposFault};
 ghost use Rattle.dep_core.specs.LeadingSlash.{without_slash};
 
@@ -121,7 +121,7 @@ impl Repos {
 /// Adds the repository that a line names, if it names one, and returns whether the line is good.
 fn add_line(alloc: Global, repos: &mut Vec<Repo>, line: &[u8]) -> Result<bool, AllocError>
     ensures { IfOk result (λ good.
-        option_map (λ found. repos.old.items ++ found) (repositories_on line.now)
+        option_map (λ found. repos.old.items ++ found) (repositories_on_line line.now)
         ≡ (if good then Some repos.new.items else None)) }
 {
     let line = without_outer_blanks(line);
@@ -170,7 +170,7 @@ fn read_repo(alloc: Global, text: &[u8]) -> Result<Option<Repo>, AllocError>
 {
     match text.split_first() {
         Some((b'@', rest)) => read_tagged(alloc, rest),
-        Some(_) => at_path(alloc, None, text),
+        Some(_) => repository_at_path(alloc, None, text),
         None => Ok(None),
     }
 }
@@ -184,7 +184,7 @@ fn read_tagged(alloc: Global, text: &[u8]) -> Result<Option<Repo>, AllocError>
     if !is_tag(tag) || !begins_with_blank(rest) {
         return Ok(None);
     }
-    at_path(alloc, Some(tag), &rest[blank_len(rest)..])
+    repository_at_path(alloc, Some(tag), &rest[blank_len(rest)..])
 }
 
 /// Whether the first byte is a blank.
@@ -198,8 +198,12 @@ fn begins_with_blank(text: &[u8]) -> bool
 }
 
 /// The repository with this tag and this path; None if the path is not a name.
-fn at_path(alloc: Global, tag: Option<&[u8]>, path: &[u8]) -> Result<Option<Repo>, AllocError>
-    ensures { IfOk result (λ found. found ≡ at_path (option_copied tag.entry) path.now) }
+fn repository_at_path(
+    alloc: Global,
+    tag: Option<&[u8]>,
+    path: &[u8],
+) -> Result<Option<Repo>, AllocError>
+    ensures { IfOk result (λ found. found ≡ repository_at_path (option_copied tag.entry) path.now) }
 {
     let Some(path) = Name::read(alloc, without_slash(path))? else {
         return Ok(None);

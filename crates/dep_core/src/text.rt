@@ -5,10 +5,10 @@ ghost use Rattle.std.specs.Prelude.{◌≡◌, IsTrue, true, is_some, IfSome, �
 ghost use Rattle.std.specs.Option.{option_map};
 ghost use Rattle.dep_core.specs.Dependency.{is_dep_name, is_name_byte, is_tag_byte};
 ghost use Rattle.dep_core.specs.DependencyText.{operator_text, dep_text};
-ghost use Rattle.dep_core.specs.Reading.{at_tag, dependency_of, at_version_end, with_constraint_read, at_name, at_name_end, at_version, is_not_at, is_operator_byte};
+ghost use Rattle.dep_core.specs.Reading.{dependency_from_tag, dependency_of, dependency_after_version, with_constraint_read, dependency_from_name, dependency_after_name, dependency_from_version, is_not_at_sign, is_operator_byte};
 ghost use Rattle.dep_core.specs.Meets.{dependency};
 ghost use Rattle.dep_core.specs.Value.{is_version_or_empty};
-ghost use Rattle.dep_core.specs.ValueReading.{bits_of, dependency_of_value};
+ghost use Rattle.dep_core.specs.ValueReading.{match_bits_of, dependency_of_value};
 ghost use Rattle.std.specs.List.{prefix_len};
 ghost use Rattle.dep_core.specs.World.{is_blank};
 
@@ -24,40 +24,40 @@ pub fn read_dep(text: &[u8]) -> Option<Dep<'_>>
     ensures { option_map dependency result ≡ dependency_of text.entry.now }
 {
     match text.split_first() {
-        Some((b'!', rest)) => at_name(true, rest),
-        Some(_) => at_name(false, text),
+        Some((b'!', rest)) => dependency_from_name(true, rest),
+        Some(_) => dependency_from_name(false, text),
         None => None,
     }
 }
 
 /// Reads a dependency from its name on.
-#[tactic(auto, unfolding(crate::specs::Reading::at_name))]
-fn at_name(conflict: bool, text: &[u8]) -> Option<Dep<'_>>
-    ensures { option_map dependency result ≡ at_name conflict text.entry.now }
+#[tactic(auto, unfolding(crate::specs::Reading::dependency_from_name))]
+fn dependency_from_name(conflict: bool, text: &[u8]) -> Option<Dep<'_>>
+    ensures { option_map dependency result ≡ dependency_from_name conflict text.entry.now }
 {
     let (name, rest) = text.split_at(name_len(text));
     if !is_dep_name(name) {
         return None;
     }
-    at_name_end(Dep::any_version(conflict, name), rest)
+    dependency_after_name(Dep::dependency_on_any_version(conflict, name), rest)
 }
 
 /// Reads what follows the name: a tag, a constraint or nothing.
-#[tactic(auto, unfolding(crate::specs::Reading::at_name_end))]
-fn at_name_end<'a>(dep: Dep<'a>, text: &'a [u8]) -> Option<Dep<'a>>
-    ensures { option_map dependency result ≡ at_name_end (dependency dep.entry) text.entry.now }
+#[tactic(auto, unfolding(crate::specs::Reading::dependency_after_name))]
+fn dependency_after_name<'a>(dep: Dep<'a>, text: &'a [u8]) -> Option<Dep<'a>>
+    ensures { option_map dependency result ≡ dependency_after_name (dependency dep.entry) text.entry.now }
 {
     match text.split_first() {
         None => Some(dep),
-        Some((b'@', rest)) => at_tag(dep, rest),
+        Some((b'@', rest)) => dependency_from_tag(dep, rest),
         Some(_) => with_constraint_read(dep, text),
     }
 }
 
 /// Reads a tag after the name, and a constraint or nothing after it.
-#[tactic(auto, unfolding(crate::specs::Reading::at_tag))]
-fn at_tag<'a>(dep: Dep<'a>, text: &'a [u8]) -> Option<Dep<'a>>
-    ensures { option_map dependency result ≡ at_tag (dependency dep.entry) text.entry.now }
+#[tactic(auto, unfolding(crate::specs::Reading::dependency_from_tag))]
+fn dependency_from_tag<'a>(dep: Dep<'a>, text: &'a [u8]) -> Option<Dep<'a>>
+    ensures { option_map dependency result ≡ dependency_from_tag (dependency dep.entry) text.entry.now }
 {
     let (tag, rest) = text.split_at(tag_len(text));
     if !is_tag(tag) {
@@ -76,24 +76,24 @@ fn with_constraint_read<'a>(dep: Dep<'a>, text: &'a [u8]) -> Option<Dep<'a>>
     }
     let (operator, rest) = text.split_at(operator_len(text));
     let op = operator_of(operator)?;
-    at_version(dep, op, rest)
+    dependency_from_version(dep, op, rest)
 }
 
 /// Reads the version after an operator, and what follows it.
-#[tactic(auto, unfolding(crate::specs::Reading::at_version))]
-fn at_version<'a>(dep: Dep<'a>, op: Op, text: &'a [u8]) -> Option<Dep<'a>>
+#[tactic(auto, unfolding(crate::specs::Reading::dependency_from_version))]
+fn dependency_from_version<'a>(dep: Dep<'a>, op: Op, text: &'a [u8]) -> Option<Dep<'a>>
     requires { IsTrue (is_some (operator_text op)) }
-    ensures { option_map dependency result ≡ at_version (dependency dep.entry) op text.entry.now }
+    ensures { option_map dependency result ≡ dependency_from_version (dependency dep.entry) op text.entry.now }
 {
     let (version, rest) = text.split_at(len_before_at_sign(text));
     let version = Version::read(version)?;
-    at_version_end(dep.with_constraint(version, op), rest)
+    dependency_after_version(dep.with_constraint(version, op), rest)
 }
 
 /// Reads what follows the version: a tag or nothing.
-#[tactic(auto, unfolding(crate::specs::Reading::at_version_end))]
-fn at_version_end<'a>(dep: Dep<'a>, text: &'a [u8]) -> Option<Dep<'a>>
-    ensures { option_map dependency result ≡ at_version_end (dependency dep.entry) text.entry.now }
+#[tactic(auto, unfolding(crate::specs::Reading::dependency_after_version))]
+fn dependency_after_version<'a>(dep: Dep<'a>, text: &'a [u8]) -> Option<Dep<'a>>
+    ensures { option_map dependency result ≡ dependency_after_version (dependency dep.entry) text.entry.now }
 {
     match text.split_first() {
         None => Some(dep),
@@ -135,7 +135,7 @@ pub fn dep_of_parts<'a>(name: &'a [u8], version: &'a [u8], matching: u64) -> Opt
         return None;
     }
     let low = Op::of((matching % CONFLICT) as u8)?;
-    let dep = Dep::any_version(matching >= CONFLICT, name);
+    let dep = Dep::dependency_on_any_version(matching >= CONFLICT, name);
     if version.is_empty() {
         return Some(dep);
     }
@@ -154,7 +154,7 @@ fn is_version_or_empty(text: &[u8]) -> bool
 
 /// The operator that the low four bits of a match number denote; None if any version is accepted.
 fn wanted_op(low: Op) -> Option<Op>
-    ensures bits { result ≡ bits_of low }
+    ensures bits { result ≡ match_bits_of low }
     ensures has_text { IfSome result (λ op. IsTrue (is_some (operator_text op))) }
 {
     match low.bits() {
@@ -253,7 +253,7 @@ fn is_operator_byte(byte: u8) -> bool
 /// How many bytes precede the first `@`.
 #[tactic(auto, using(crate::proofs::Prefixes::len_at))]
 pub fn len_before_at_sign(text: &[u8]) -> usize
-    ensures len { result ≡ prefix_len is_not_at text.now }
+    ensures len { result ≡ prefix_len is_not_at_sign text.now }
     ensures within { result ≤ length text.now }
 {
     at_sign(text).unwrap_or(text.len())
@@ -261,7 +261,7 @@ pub fn len_before_at_sign(text: &[u8]) -> usize
 
 /// The index of the first `@`.
 fn at_sign(text: &[u8]) -> Option<usize>
-    ensures { result ≡ position (λ b. not (is_not_at b)) text.now }
+    ensures { result ≡ position (λ b. not (is_not_at_sign b)) text.now }
 {
     text.iter().position(|byte| *byte == b'@')
 }

@@ -4,7 +4,7 @@
 
 ghost use Rattle.std.specs.Prelude.{◌≡◌, ◌<◌, ◌==◌, Some, length, slice_get, IfOk, IfErr, OnOk, OnErr, IsTrue, [], None, not, if◌then◌else◌};
 ghost use Rattle.dep_core.specs.Meets.{dependency};
-ghost use Rattle.dep_core.specs.World.{IsWorld, has_name, with_entry, without_name, world_of, world_text, with_new_entry, with_words, words_of};
+ghost use Rattle.dep_core.specs.World.{IsWorld, has_name, with_entry, without_name, world_of, world_text, with_new_entry, world_with_words, words_of};
 ghost use Rattle.base_core.specs.ByteOrder.{bytes_cmp};
 ghost use Rattle.dep_core.specs.Faults.{IsWorldFault};
 ghost use Rattle.dep_core.specs.DependencyText.{is_dependency, IsDependency};
@@ -150,15 +150,15 @@ pub struct Entry {
 
 impl Model for Entry {
     ghost use Rattle.std.specs.Prelude.{IsTrue};
-    ghost use Rattle.dep_core.specs.Dependency.{Dependency, dependency_by};
+    ghost use Rattle.dep_core.specs.Dependency.{Dependency, dependency_from_parts};
     ghost use Rattle.dep_core.specs.DependencyText.{is_dependency};
 
     ghost Value = { Dependency };
 
-    ghost view = { λ e. dependency_by e.name e.version e.op e.conflict e.tag };
+    ghost view = { λ e. dependency_from_parts e.name e.version e.op e.conflict e.tag };
 
     ghost invariant = { λ e.
-        IsTrue (is_dependency (dependency_by e.name e.version e.op e.conflict e.tag)) };
+        IsTrue (is_dependency (dependency_from_parts e.name e.version e.op e.conflict e.tag)) };
 }
 
 impl Entry {
@@ -264,14 +264,14 @@ impl<'a> Model for Found<'a> {
     ghost use Rattle.std.specs.Prelude.{List};
     ghost use Rattle.std.specs.BTreeMap.{values};
     ghost use Rattle.dep_core.specs.Dependency.{Dependency};
-    ghost use Rattle.dep_core.specs.Found.{IsByName};
+    ghost use Rattle.dep_core.specs.Found.{IsKeyedByName};
     ghost use Rattle.dep_core.specs.World.{IsWorld};
 
     ghost Value = { List Dependency };
 
     ghost view = { λ found. values found.by_name };
 
-    ghost invariant = { λ found. IsByName found.by_name.entries × IsWorld (values found.by_name) };
+    ghost invariant = { λ found. IsKeyedByName found.by_name.entries × IsWorld (values found.by_name) };
 }
 
 impl<'a> Found<'a> {
@@ -289,7 +289,7 @@ impl<'a> Found<'a> {
     /// name.
     pub fn add_line(&mut self, line: &'a [u8]) -> Result<bool, AllocError>
         ensures { IfOk result (λ good.
-            with_words self.old (words_of line.entry.now)
+            world_with_words self.old (words_of line.entry.now)
             ≡ (if good then Some self.new else None)) }
     {
         for word in line.split(|byte| is_blank(*byte)) {

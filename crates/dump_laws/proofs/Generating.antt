@@ -4,8 +4,8 @@ use Rattle.std.proofs.lemmas.Bool.{eqb-true}
 use Rattle.std.specs.Prelude.{All, IfSome, IsSome, unwrap_or}
 use Rattle.base_core.specs.declared.cause.Cause.{Cause}
 use Rattle.adb_block.specs.Header.{header_of}
-use Rattle.adb_block.specs.ReaderPosition.{start_of}
-use Rattle.adb_block.specs.Reading.{Reading, reading_of}
+use Rattle.adb_block.specs.ReaderPosition.{first_block_position}
+use Rattle.adb_block.specs.Reading.{Reading, block_stream_from}
 use Rattle.adb_view.specs.Plain.{Plain, null, plain_of, IsNormal}
 use Rattle.adb_view.specs.Head.{root_of}
 use Rattle.adb_view.specs.Schema.{shape_of}
@@ -14,14 +14,14 @@ use Rattle.adb_view.specs.declared.tables.Which.{Which}
 use Rattle.adb_view.specs.declared.tables.Which.TheVariants.{Package, Index, Idb, Intent}
 use Rattle.adb_view.specs.declared.tables.Kind.TheVariants.{Obj}
 use Rattle.adb_view.proofs.FoundShapes.{shape_null}
-use Rattle.outcome.specs.adb_schema.Soundness.{first_payload, payload_after_header, payload_in, root_value, schema_word}
+use Rattle.outcome.specs.adb_schema.Soundness.{first_block_payload, payload_after_header, payload_in, root_value, schema_word}
 use Rattle.outcome.specs.adb_schema.declared.read.TheConstants.{PACKAGE_WORD, INDEX_WORD, IDB_WORD, INTENT_WORD}
-use Rattle.outcome.specs.adb_write.Canonical.{PayloadCounts, canonical, written_of}
+use Rattle.outcome.specs.adb_write.Canonical.{PayloadCounts, canonical, payload_or_overflow}
 use Rattle.outcome.specs.adb_write.File.{file_of}
-use Rattle.outcome.specs.pkg_core.Whole.{root_of_schema}
+use Rattle.outcome.specs.pkg_core.Whole.{table_of_schema}
 use Rattle.outcome.proofs.adb_sound.Lower.{Lower}
 use Rattle.outcome.specs.adb_dump.Dump.{dump_text}
-use Rattle.outcome.specs.adb_dump.Values.{IsOfBytes, IsValueOf}
+use Rattle.outcome.specs.adb_dump.Values.{IsOfBytes, IsNormalValueOfTable}
 use Rattle.outcome.proofs.adb_dump.Booleans.{chosen}
 use Rattle.outcome.specs.gen_core.Dumps.{IsRootValue}
 use Rattle.outcome.specs.gen_core.Generated.{DumpedRoot, dumped_root, file_of_root, file_unless_too_large, generated_file, word_of_root}
@@ -34,7 +34,7 @@ pub record Texts : Type 0 where
   pub accepted : (which : Which) (value : Plain) → IsRootValue which value → dumped_root (dump_text which value) ≡ Ok (record { which = which; value = value })
 
 abbrev pub Found : Type 0
-Found = (payload : List ℕ) → All (λ b. b < 256) payload → (which : Which) (word : ℕ) → IfSome (plain_of payload (shape_of (Obj which)) word) (λ v. IsValueOf which v × IsOfBytes v)
+Found = (payload : List ℕ) → All (λ b. b < 256) payload → (which : Which) (word : ℕ) → IfSome (plain_of payload (shape_of (Obj which)) word) (λ v. IsNormalValueOfTable which v × IsOfBytes v)
 
 -- ---- a text, its container, and the text again
 
@@ -58,7 +58,7 @@ printed_again laws over texts text file e = go (dumped_root text) refl e
     go (Err n) is e = absurd cc
     go (Ok root) is e =
         let (root_is, text_is) = texts.said text root is in
-        let (payload, wrote, file_is) = written_file (word_of_root root.which) (written_of root.value) file e in
+        let (payload, wrote, file_is) = written_file (word_of_root root.which) (payload_or_overflow root.value) file e in
         let (g, canonical_is) = within over root.which root.value payload root_is.normal.0 root_is.normal.1 wrote in
         ap dump_of (sym file_is ∙ ap (file_of (word_of_root root.which)) (sym canonical_is))
         ∙ printed laws root.which (word_of_root root.which) root.value (some_word root.which root_is.root) g
@@ -66,11 +66,11 @@ printed_again laws over texts text file e = go (dumped_root text) refl e
 
 -- ---- a container, its text, and the container again
 
-generated : Texts → (which : Which) (v : Plain) → IsRootValue which v → generated_file (dump_text which v) ≡ file_unless_too_large (word_of_root which) (written_of v)
+generated : Texts → (which : Which) (v : Plain) → IsRootValue which v → generated_file (dump_text which v) ≡ file_unless_too_large (word_of_root which) (payload_or_overflow v)
 unfolding generated_file
 generated texts which v is = ap file_of_root (texts.accepted which v is)
 
-root_word : (schema : ℕ) (which : Which) → root_of_schema schema ≡ Some which → schema_word which ≡ Some schema
+root_word : (schema : ℕ) (which : Which) → table_of_schema schema ≡ Some which → schema_word which ≡ Some schema
 root_word schema which e =
     elim (chosen (eqb schema PACKAGE_WORD) _ _ _ e) [
       | inl x ↦ named Package PACKAGE_WORD refl x.0 x.1
@@ -98,34 +98,34 @@ word_known : (which : Which) (schema : ℕ) → schema_word which ≡ Some schem
 word_known which schema e = (subst IsSome (sym e) refl, ap (λ (o : Option ℕ). unwrap_or o 0) e)
 
 -- what is printed of blocks
-text_of_blocks : (which : Which) (r : Reading) (text : List ℕ) → dump_of_blocks which r ≡ Ok text → dump_text which (root_value which (first_payload r)) ≡ text
+text_of_blocks : (which : Which) (r : Reading) (text : List ℕ) → dump_of_blocks which r ≡ Ok text → dump_text which (root_value which (first_block_payload r)) ≡ text
 text_of_blocks which r text e = go (dump_fault which r) e
   where
-    go : (o : Option Cause) → or_text o (dump_text which (root_value which (first_payload r))) ≡ Ok text → dump_text which (root_value which (first_payload r)) ≡ text
+    go : (o : Option Cause) → or_text o (dump_text which (root_value which (first_block_payload r))) ≡ Ok text → dump_text which (root_value which (first_block_payload r)) ≡ text
     go None e = cc
     go (Some c) e = absurd cc
 
-printed_text : (file text : List ℕ) (schema : ℕ) (which : Which) → dump_of file ≡ Ok text → header_of file ≡ Ok schema → root_of_schema schema ≡ Some which → dump_text which (root_value which (payload_in file)) ≡ text
+printed_text : (file text : List ℕ) (schema : ℕ) (which : Which) → dump_of file ≡ Ok text → header_of file ≡ Ok schema → table_of_schema schema ≡ Some which → dump_text which (root_value which (payload_in file)) ≡ text
 unfolding dump_of payload_in
 printed_text file text schema which e h root =
-    let r = reading_of (start_of schema file) in
+    let r = block_stream_from (first_block_position schema file) in
     let blocks : dump_of_blocks which r ≡ Ok text = sym (ap (dump_with_schema file) h ∙ ap (dump_with_root schema r) root) ∙ e in
     ap (λ (o : Result ℕ Cause). dump_text which (root_value which (payload_after_header file o))) h ∙ text_of_blocks which r text blocks
 
-null_root : (which : Which) → IsValueOf which null × IsOfBytes null
+null_root : (which : Which) → IsNormalValueOfTable which null × IsOfBytes null
 unfolding IsNormal IsOfBytes
 null_root which = ((tt, shape_null (shape_of (Obj which))), tt)
 
-found_value : Found → (which : Which) (payload : List ℕ) → All (λ b. b < 256) payload → IsValueOf which (root_value which payload) × IsOfBytes (root_value which payload)
+found_value : Found → (which : Which) (payload : List ℕ) → All (λ b. b < 256) payload → IsNormalValueOfTable which (root_value which payload) × IsOfBytes (root_value which payload)
 unfolding value_at
 found_value found which payload bytes = go (plain_of payload (shape_of (Obj which)) (root_of payload)) (found payload bytes which (root_of payload))
   where
-    go : (o : Option Plain) → IfSome o (λ v. IsValueOf which v × IsOfBytes v) → IsValueOf which (unwrap_or o null) × IsOfBytes (unwrap_or o null)
+    go : (o : Option Plain) → IfSome o (λ v. IsNormalValueOfTable which v × IsOfBytes v) → IsNormalValueOfTable which (unwrap_or o null) × IsOfBytes (unwrap_or o null)
     go None h = null_root which
     go (Some v) h = h
 
-pub generated_value : Texts → Found → (file text : List ℕ) (schema : ℕ) (which : Which) → All (λ b. b < 256) (payload_in file) → dump_of file ≡ Ok text → header_of file ≡ Ok schema → root_of_schema schema ≡ Some which
-    → generated_file text ≡ file_unless_too_large schema (written_of (root_value which (payload_in file)))
+pub generated_value : Texts → Found → (file text : List ℕ) (schema : ℕ) (which : Which) → All (λ b. b < 256) (payload_in file) → dump_of file ≡ Ok text → header_of file ≡ Ok schema → table_of_schema schema ≡ Some which
+    → generated_file text ≡ file_unless_too_large schema (payload_or_overflow (root_value which (payload_in file)))
 generated_value texts found file text schema which bytes e h root =
     let word = root_word schema which root in
     let k = word_known which schema word in
@@ -133,7 +133,7 @@ generated_value texts found file text schema which bytes e h root =
     let is : IsRootValue which (root_value which (payload_in file)) = record { root = k.0; normal = v.0; bytes = v.1 } in
     ap generated_file (sym (printed_text file text schema which e h root))
     ∙ generated texts which (root_value which (payload_in file)) is
-    ∙ ap (λ (n : ℕ). file_unless_too_large n (written_of (root_value which (payload_in file)))) k.1
+    ∙ ap (λ (n : ℕ). file_unless_too_large n (payload_or_overflow (root_value which (payload_in file)))) k.1
 
 abbrev ok_text : List ℕ → Result (List ℕ) Cause
 ok_text t = Ok t
@@ -141,7 +141,7 @@ ok_text t = Ok t
 same_text : (s t : List ℕ) → ok_text s ≡ ok_text t → s ≡ t
 same_text s t e = cc
 
-pub generated_again : Lower → Overflows → Texts → (which : Which) (value : Plain) (schema : ℕ) (payload text : List ℕ) → IsRootValue which value → schema_word which ≡ Some schema → written_of value ≡ Ok payload → dump_of (file_of schema payload) ≡ Ok text
+pub generated_again : Lower → Overflows → Texts → (which : Which) (value : Plain) (schema : ℕ) (payload text : List ℕ) → IsRootValue which value → schema_word which ≡ Some schema → payload_or_overflow value ≡ Ok payload → dump_of (file_of schema payload) ≡ Ok text
     → generated_file text ≡ Ok (file_of schema payload)
 generated_again laws over texts which value schema payload text is word wrote e =
     let (g, canonical_is) = within over which value payload is.normal.0 is.normal.1 wrote in
@@ -149,4 +149,4 @@ generated_again laws over texts which value schema payload text is word wrote e 
     let same : dump_text which value ≡ text = same_text (dump_text which value) text (sym dump ∙ e) in
     let k = word_known which schema word in
     ap generated_file (sym same) ∙ generated texts which value is
-    ∙ ap (λ (n : ℕ). file_unless_too_large n (written_of value)) k.1 ∙ ap (file_unless_too_large schema) wrote
+    ∙ ap (λ (n : ℕ). file_unless_too_large n (payload_or_overflow value)) k.1 ∙ ap (file_unless_too_large schema) wrote

@@ -7,8 +7,8 @@ use Rattle.base_core.specs.declared.cause.Cause.{Cause}
 use Rattle.base_core.proofs.Causes.{none_both}
 use Rattle.adb_block.specs.Piece.{Piece}
 use Rattle.adb_block.specs.Header.{header_of}
-use Rattle.adb_block.specs.ReaderPosition.{start_of}
-use Rattle.adb_block.specs.Reading.{Reading, done, more, reading_of}
+use Rattle.adb_block.specs.ReaderPosition.{first_block_position}
+use Rattle.adb_block.specs.Reading.{Reading, done, more, block_stream_from}
 use Rattle.adb_view.specs.Plain.{Plain, null, IsNormal}
 use Rattle.adb_view.specs.Head.{head_fault, root_of}
 use Rattle.adb_view.specs.Shaped.{HasShape}
@@ -18,18 +18,18 @@ use Rattle.adb_view.specs.Walk.{shape_fault}
 use Rattle.adb_view.specs.Visits.{MOST_VALUES}
 use Rattle.adb_view.specs.declared.tables.Which.{Which}
 use Rattle.adb_view.specs.declared.tables.Kind.TheVariants.{Obj}
-use Rattle.outcome.specs.adb_schema.Soundness.{first_payload, root_value, schema_word}
-use Rattle.outcome.specs.adb_write.Canonical.{Layout, MOST_BYTES, canonical, empty_layout, exceeds_a_limit, overflow_of, payload_with_root, write, written_of}
+use Rattle.outcome.specs.adb_schema.Soundness.{first_block_payload, root_value, schema_word}
+use Rattle.outcome.specs.adb_write.Canonical.{Layout, MOST_BYTES, canonical, empty_layout, exceeds_a_limit, overflow_of, payload_with_root, write, payload_or_overflow}
 use Rattle.outcome.specs.adb_write.Size.{size_of, value_count}
 use Rattle.outcome.specs.adb_write.File.{adb_piece, file_of}
-use Rattle.outcome.specs.pkg_core.Whole.{root_of_schema}
+use Rattle.outcome.specs.pkg_core.Whole.{table_of_schema}
 use Rattle.outcome.proofs.adb_sound.ContentsBlocks.{contents_stand, first_of, none_of_blocks}
 use Rattle.outcome.proofs.adb_sound.Lower.{Lower}
 use Rattle.outcome.proofs.adb_sound.Payloads.{payload_long}
 use Rattle.outcome.proofs.make_core.Roots.{written}
 use Rattle.outcome.proofs.adb_sound.SoundFiles.{IsWord, reading_is, word_is}
 use Rattle.outcome.specs.adb_dump.Dump.{dump_text}
-use Rattle.outcome.specs.Dump.{dump_fault, dump_of, dump_of_blocks, dump_with_root, dump_with_schema, form_fault, framing_fault, or_text}
+use Rattle.outcome.specs.Dump.{dump_fault, dump_of, dump_of_blocks, dump_with_root, dump_with_schema, head_or_shape_fault, framing_fault, or_text}
 
 -- a value within both limits, of a table
 pub record HasNamesAmong (which : Which) (v : Plain) : Type 0 where
@@ -48,7 +48,7 @@ neither : (a b : Bool) → false ≡ (a || b) → (a ≡ false) × (b ≡ false)
 neither true b e = absurd cc
 neither false b e = (refl, sym e)
 
-pub within : Overflows → (which : Which) (v : Plain) (payload : List ℕ) → IsNormal v → HasShape (shape_of (Obj which)) v → written_of v ≡ Ok payload → HasNamesAmong which v × (canonical v ≡ payload)
+pub within : Overflows → (which : Which) (v : Plain) (payload : List ℕ) → IsNormal v → HasShape (shape_of (Obj which)) v → payload_or_overflow v ≡ Ok payload → HasNamesAmong which v × (canonical v ≡ payload)
 within law which v payload n h e =
     let w = written v payload e in
     let passed = sym (ap is_some w.none) ∙ law v n in
@@ -67,7 +67,7 @@ shape_good laws which v g =
     (laws.faultless (canonical v) (shape_of (Obj which)) (root_of (canonical v))).1
     (ap is_some (laws.back (shape_of (Obj which)) v g.normal g.shaped g.fits), omega arith)
 
-form_good : Lower → (which : Which) (v : Plain) → HasNamesAmong which v → form_fault which (canonical v) ≡ None
+form_good : Lower → (which : Which) (v : Plain) → HasNamesAmong which v → head_or_shape_fault which (canonical v) ≡ None
 form_good laws which v g = none_both _ _ (head_good (write v empty_layout).0 (write v empty_layout).1) (shape_good laws which v g)
 
 value_is : Lower → (which : Which) (v : Plain) → HasNamesAmong which v → root_value which (canonical v) ≡ v
@@ -92,8 +92,8 @@ printed laws which schema v word g =
     let fits = g.fits in
     let spelled = laws.written schema pieces w.small (record { order = refl; long = long }, omega arith, contents_stand [] tt) in
     let read = laws.read file schema pieces spelled in
-    let first = first_of (reading_of (start_of schema file)) (adb_piece (canonical v)) [] (reading_is file schema pieces read.0 read.1) in
-    let alone : reading_of (start_of schema file) ≡ more (adb_piece (canonical v)) first.at done = first.is ∙ ap (λ (r : Reading). more (adb_piece (canonical v)) first.at r) (none_of_blocks first.later first.others) in
+    let first = first_of (block_stream_from (first_block_position schema file)) (adb_piece (canonical v)) [] (reading_is file schema pieces read.0 read.1) in
+    let alone : block_stream_from (first_block_position schema file) ≡ more (adb_piece (canonical v)) first.at done = first.is ∙ ap (λ (r : Reading). more (adb_piece (canonical v)) first.at r) (none_of_blocks first.later first.others) in
     ap (dump_with_schema file) read.0
-    ∙ ap (dump_with_root schema (reading_of (start_of schema file))) w.root
-    ∙ blocks_printed laws which v g (reading_of (start_of schema file)) first.at alone
+    ∙ ap (dump_with_root schema (block_stream_from (first_block_position schema file))) w.root
+    ∙ blocks_printed laws which v g (block_stream_from (first_block_position schema file)) first.at alone

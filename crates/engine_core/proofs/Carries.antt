@@ -7,7 +7,7 @@ use Rattle.std.specs.Option.{option_copied}
 use Rattle.std.specs.Str.{bytes_eq}
 use Rattle.added_packages.specs.adb_write.Canonical.{PayloadCounts, counts_after_values, overflow_of}
 use Rattle.journal_staging.specs.adb_schema.Reserved.{is_reserved}
-use Rattle.base_core.specs.Listed.{IsRising}
+use Rattle.base_core.specs.Listed.{AreSortedDistinctNames}
 use Rattle.base_core.specs.Name.{IsName}
 use Rattle.base_core.proofs.Rising.{IsIn, rises_from_pairs}
 use Rattle.base_core.specs.Calls.{IfObservable}
@@ -16,7 +16,7 @@ use Rattle.base_core.specs.Files.{Files}
 use Rattle.base_core.specs.Tree.{TreeState, files_of}
 use Rattle.change_report.specs.change_files.FileChange.{FileChange}
 use Rattle.change_report.specs.change_files.FilesAfter.{RootFilesAfter, listing_bytes}
-use Rattle.change_report.specs.change_files.PlanLists.{FileWrite, file_writes_of, first_reserved, names_in_order}
+use Rattle.change_report.specs.change_files.PlanLists.{FileWrite, file_writes_of, first_reserved_path, sorted_distinct_names}
 use Rattle.change_report.specs.change_inputs.Answers.{Agrees}
 use Rattle.change_report.specs.change_inputs.Chains.{and_then}
 use Rattle.change_report.specs.change_inputs.Inputs.{Inputs}
@@ -31,18 +31,18 @@ use Rattle.change_report.specs.journal_intent.Intent.{AreChangeNames, Intent}
 use Rattle.engine_core.proofs.Once.{once_both}
 use Rattle.change_report.proofs.change_outcome.Leading.{acted_is}
 use Rattle.change_report.proofs.change_outcome.Room.{room}
-use Rattle.change_report.specs.change_outcome.ChangeOutcome.{ChangeDone, ChangeWishes, actions_of, bytes_under, change_done, does_something, file_change, is_other_file, name_if_needed, new_records, unless_large, unless_overflow, unless_too_large, written_records}
+use Rattle.change_report.specs.change_outcome.ChangeOutcome.{ChangeDone, ChangeWishes, actions_of, bytes_or_empty_under, change_done, has_actions, file_change, is_absent_or_different, name_if_needed, new_records, or_result_too_large, unless_overflow, unless_too_large, written_record_names}
 use Rattle.change_report.specs.change_outcome.MembersAfter.{MemberFound, found_package_contents, found_members}
-use Rattle.change_report.specs.journal_core.Recovery.{after_actions, intent_name}
-use Rattle.change_report.specs.journal_core.Staged.{AreJournalPathsFree, AreStagingPathsFree, IsEmptyStage, Staging, action_count, new_stage, with_staged}
+use Rattle.change_report.specs.journal_core.Recovery.{files_after_actions, intent_name}
+use Rattle.change_report.specs.journal_core.Staged.{AreJournalPathsFree, AreStagingPathsFree, IsEmptyStage, Staging, action_count, new_stage, files_with_staged}
 use Rattle.change_report.specs.journal_intent.IntentValue.{intent_of_lists, value_of_intent}
 use Rattle.change_report.specs.change_files.NamesAfter.{name_change}
 use Rattle.change_report.specs.db_core.Members.{Member, is_added, member_name}
 use Rattle.change_report.specs.db_core.Seen.{members_of}
 use Rattle.change_report.specs.db_write.NewDatabase.{database_of}
-use Rattle.change_report.specs.file_owners.Owners.{owned_of}
+use Rattle.change_report.specs.file_owners.Owners.{owned_flags_of}
 use Rattle.change_report.specs.file_owners.Replaces.{version_text}
-use Rattle.change_report.specs.own_core.Planned.{IsOfAddedFile, IsOpenName, written_names}
+use Rattle.change_report.specs.own_core.Planned.{IsOfAddedFile, IsUnreservedName, written_names}
 use Rattle.change_report.specs.path_clashes.Clash.{HasNoClash}
 use Rattle.change_report.specs.own_core.WritesSeen.{writes_in}
 use Rattle.change_report.specs.package_changes.Changes.{Replacement}
@@ -63,8 +63,8 @@ use Rattle.journal_staging.specs.declared.writes.StagedWrite.{StagedWrite}
 use Rattle.engine_core.specs.Committing.{IsReadyToCommit, IsRefusedPackage, result_of_ready}
 use Rattle.engine_core.specs.Rendering.{IsOverflowOf, IsRendered, IsStageOf, removals_of_plan}
 use Rattle.engine_core.specs.ChangeRun.{CarriesOut, DoesCommit, IsUnchangedOrCommit, report_of_result}
-use Rattle.engine_core.specs.Preparing.{AreRecordWrites, AreRecordsOf, IsPlanned, bytes_if, inputs_of_plan, replacement_of_plan, wishes_of_plan}
-use Rattle.engine_core.specs.Writing.{HasBytes, IsRecordOf, IsSourceOfWrite, IsWriteBy, package_at, database_and_world_names, write_name}
+use Rattle.engine_core.specs.Preparing.{AreRecordWrites, AreNewRecordsOf, IsPlanned, bytes_if, inputs_of_plan, replacement_of_plan, wishes_of_plan}
+use Rattle.engine_core.specs.Writing.{HasBytes, IsWriteOfRecord, IsSourceOfWrite, IsWriteBy, package_at, database_and_world_names, name_of_write}
 use Rattle.engine_core.specs.declared.planning.Plan.{Plan}
 use Rattle.engine_core.specs.declared.rendering.NewRecords.{NewRecords}
 use Rattle.engine_core.specs.declared.rendering.Rendered.{Rendered}
@@ -101,11 +101,11 @@ ready_change inputs r wishes found files database =
 pub record IsMadeReady (history : List TreeState) (p : Plan) (found : List MemberFound) (files : Files) (records : NewRecords)
     (rw : RecordWrites) (writes : List StagedWrite) (removals : List (List ℕ)) : Type 0 where
   pub plan : IsPlanned history p found files
-  pub own : AreRecordsOf (inputs_of_plan p) records
+  pub own : AreNewRecordsOf (inputs_of_plan p) records
   pub which : AreRecordWrites (inputs_of_plan p) records rw
-  pub names : map write_name writes ≡ names_in_order (written_names p.files ++ database_and_world_names rw)
+  pub names : map name_of_write writes ≡ sorted_distinct_names (written_names p.files ++ database_and_world_names rw)
   pub each : All (IsWriteBy (members_of p.members) (package_at p.packages.now.arrivals) (writes_in p.files.writes) rw) writes
-  pub removed : removals ≡ names_in_order (p.files.removals ++ name_if_needed (inputs_of_plan p).root.database.from_text text_database_name)
+  pub removed : removals ≡ sorted_distinct_names (p.files.removals ++ name_if_needed (inputs_of_plan p).root.database.from_text text_database_name)
 
 -- what is rendered is made ready
 pub made_ready : (history : List TreeState) (p : Plan) (r : Rendered) (ready : IsReadyToCommit history p r)
@@ -126,10 +126,10 @@ all_in P [] all q here = absurd here
 all_in P (x ∷ xs) all q (inl is) = subst P (sym is) (all 0 x (omega arith))
 all_in P (x ∷ xs) all q (inr more) = all_in P xs (λ k d below. all (suc k) d (omega (arith, below))) q more
 
-pub once_reserved : (names more : List (List ℕ)) → All IsOpenName names → IsRising names → HaveNoRepeats more → ((q : List ℕ) → IsIn q more → is_reserved q ≡ true) → HaveNoRepeats (names ++ more)
+pub once_reserved : (names more : List (List ℕ)) → All IsUnreservedName names → AreSortedDistinctNames names → HaveNoRepeats more → ((q : List ℕ) → IsIn q more → is_reserved q ≡ true) → HaveNoRepeats (names ++ more)
 once_reserved names more listed rise once reserved =
     once_both names more (once_rising names (rises_from_pairs names rise)) once
-    (λ q at. none_of q more (λ here. true≢false (sym (reserved q here) ∙ (all_in IsOpenName names listed q (name_of_any q names at)).unreserved)))
+    (λ q at. none_of q more (λ here. true≢false (sym (reserved q here) ∙ (all_in IsUnreservedName names listed q (name_of_any q names at)).unreserved)))
 
 pub text_once : (b : Bool) → HaveNoRepeats (name_if_needed b text_database_name)
 text_once true = (refl, tt)
@@ -156,19 +156,19 @@ two_reserved true b q (inl is) = ap is_reserved is
 two_reserved true b q (inr here) = world_reserved b q here
 two_reserved false b q here = world_reserved b q here
 
-records_once : (inputs : Inputs) (records : RootFilesAfter) → HaveNoRepeats (written_records inputs records)
-records_once inputs records = two_once (is_other_file inputs.root.database.file records.database) (not (bytes_eq inputs.root.world_text records.world))
+records_once : (inputs : Inputs) (records : RootFilesAfter) → HaveNoRepeats (written_record_names inputs records)
+records_once inputs records = two_once (is_absent_or_different inputs.root.database.file records.database) (not (bytes_eq inputs.root.world_text records.world))
 
-records_are_reserved : (inputs : Inputs) (records : RootFilesAfter) (q : List ℕ) → IsIn q (written_records inputs records) → is_reserved q ≡ true
-records_are_reserved inputs records q here = two_reserved (is_other_file inputs.root.database.file records.database) (not (bytes_eq inputs.root.world_text records.world)) q here
+records_are_reserved : (inputs : Inputs) (records : RootFilesAfter) (q : List ℕ) → IsIn q (written_record_names inputs records) → is_reserved q ≡ true
+records_are_reserved inputs records q here = two_reserved (is_absent_or_different inputs.root.database.file records.database) (not (bytes_eq inputs.root.world_text records.world)) q here
 
 -- of the plan alone
 module _ (history : List TreeState) (p : Plan) (found : List MemberFound) (files : Files) (plan : IsPlanned history p found files) where
   pub no_reserved : HasNoReservedPath (file_change (inputs_of_plan p) (wishes_of_plan p) found)
-  no_reserved = record { before = plan.unreserved; coming = sym (ap first_reserved plan.arrived.members) ∙ plan.owners.allowed }
+  no_reserved = record { before = plan.unreserved; coming = sym (ap first_reserved_path plan.arrived.members) ∙ plan.owners.allowed }
 
-  module _ (records : NewRecords) (own : AreRecordsOf (inputs_of_plan p) records) (rw : RecordWrites) (which : AreRecordWrites (inputs_of_plan p) records rw) where
-    pub record_names_are : database_and_world_names rw ≡ written_records (inputs_of_plan p) (new_records (inputs_of_plan p) records.database.items)
+  module _ (records : NewRecords) (own : AreNewRecordsOf (inputs_of_plan p) records) (rw : RecordWrites) (which : AreRecordWrites (inputs_of_plan p) records rw) where
+    pub record_names_are : database_and_world_names rw ≡ written_record_names (inputs_of_plan p) (new_records (inputs_of_plan p) records.database.items)
     record_names_are =
         let inputs = inputs_of_plan p in
         let named = which.database_name ∙ own.database_name in
@@ -184,7 +184,7 @@ module _ (history : List TreeState) (p : Plan) (found : List MemberFound) (files
         (λ q here. records_are_reserved (inputs_of_plan p) (new_records (inputs_of_plan p) records.database.items) q (subst (λ (ns : List (List ℕ)). IsIn q ns) record_names_are here))
 
     pub write_names_are : written_names p.files ++ database_and_world_names rw
-        ≡ map (λ w. w.name) (file_writes_of (file_change (inputs_of_plan p) (wishes_of_plan p) found) files) ++ written_records (inputs_of_plan p) (new_records (inputs_of_plan p) records.database.items)
+        ≡ map (λ w. w.name) (file_writes_of (file_change (inputs_of_plan p) (wishes_of_plan p) found) files) ++ written_record_names (inputs_of_plan p) (new_records (inputs_of_plan p) records.database.items)
     write_names_are = let lists = plan.lists.writes in λ i. map (λ w. w.name) (lists i) ++ record_names_are i
 
 contained : {X : Type 0} (P : X → Type 0) (xs : List X) (x : X) → All P xs → Contains xs x → P x
@@ -198,7 +198,7 @@ module _ (history : List TreeState) (p : Plan) (found : List MemberFound) (files
   given_no_file bytes (Link target) has is = is
   given_no_file bytes (File f) has is = has
 
-  record_no_file : (name : List ℕ) (opt : Option (Bor (List ℕ))) (w : StagedWrite) → IsRecordOf name opt w → IsSpoiledAt member cause w.source → ⊥
+  record_no_file : (name : List ℕ) (opt : Option (Bor (List ℕ))) (w : StagedWrite) → IsWriteOfRecord name opt w → IsSpoiledAt member cause w.source → ⊥
   record_no_file name None w is at = is
   record_no_file name (Some bytes) w is at = given_no_file bytes.now w.source is.source at
 
@@ -247,16 +247,16 @@ module _ (history : List TreeState) (p : Plan) (found : List MemberFound) (files
   abbrev wanted : Result ChangeDone Refusal
   wanted = ready_change inputs (replacement_of_plan p) (wishes_of_plan p) found files own.database.items
 
-  pub written_is : map write_name writes ≡ actions.writes
-  written_is = ready.names ∙ ap names_in_order (write_names_are history p found files ready.plan own ready.own rw ready.which)
+  pub written_is : map name_of_write writes ≡ actions.writes
+  written_is = ready.names ∙ ap sorted_distinct_names (write_names_are history p found files ready.plan own ready.own rw ready.which)
 
   pub removed_is : removals ≡ actions.removals
-  removed_is = ready.removed ∙ ap (λ (names : List (List ℕ)). names_in_order (names ++ name_if_needed inputs.root.database.from_text text_database_name)) ready.plan.lists.removals
+  removed_is = ready.removed ∙ ap (λ (names : List (List ℕ)). sorted_distinct_names (names ++ name_if_needed inputs.root.database.from_text text_database_name)) ready.plan.lists.removals
 
   free : HasNoReservedPath change
   free = no_reserved history p found files ready.plan
 
-  pub may_be_changed : (names : List (List ℕ)) → names ≡ map write_name writes → All IsName removals → All IsName names → AreChangeNames (removals ++ names)
+  pub may_be_changed : (names : List (List ℕ)) → names ≡ map name_of_write writes → All IsName removals → All IsName names → AreChangeNames (removals ++ names)
   may_be_changed names names_is gone wrote =
       let named : AreChangeNames (actions.removals ++ actions.writes) =
       change_names inputs change files records free (subst (All IsName) removed_is gone) (subst (All IsName) (names_is ∙ written_is) wrote) in
@@ -264,31 +264,31 @@ module _ (history : List TreeState) (p : Plan) (found : List MemberFound) (files
 
   -- ---- the intent
 
-  pub overflow_is : overflow_of (value_of_intent (intent_of_lists removals (map write_name writes))) ≡ overflow_of (value_of_intent actions)
+  pub overflow_is : overflow_of (value_of_intent (intent_of_lists removals (map name_of_write writes))) ≡ overflow_of (value_of_intent actions)
   overflow_is = λ i. overflow_of (value_of_intent (intent_of_lists (removed_is i) (written_is i)))
 
-  pub ready_fits : unless_overflow (overflow_of (value_of_intent (intent_of_lists removals (map write_name writes)))) true ≡ Ok true → wanted ≡ Ok done
+  pub ready_fits : unless_overflow (overflow_of (value_of_intent (intent_of_lists removals (map name_of_write writes)))) true ≡ Ok true → wanted ≡ Ok done
   ready_fits is = fits (overflow_of (value_of_intent actions)) done (ap (λ (o : Option PayloadCounts). unless_overflow o true) (sym overflow_is) ∙ is)
 
-  pub commits_is : does_something (record { removals = removals; writes = map write_name writes }) ≡ done.commits
-  commits_is = λ i. does_something (record { removals = removed_is i; writes = written_is i })
+  pub commits_is : has_actions (record { removals = removals; writes = map name_of_write writes }) ≡ done.commits
+  commits_is = λ i. has_actions (record { removals = removed_is i; writes = written_is i })
 
   -- ---- where the tree shows its files
 
-  module _ (few : length (map write_name writes) < 2 ^ 63) (stage : Staging) (is_new : stage ≡ new_stage removals (map write_name writes)) where
+  module _ (few : length (map name_of_write writes) < 2 ^ 63) (stage : Staging) (is_new : stage ≡ new_stage removals (map name_of_write writes)) where
     acted : (v : TreeState) → files ≡ files_of v → IsRootOfFiles (files_of v) inputs.root → IsEmptyStage (files_of v)
-        → after_actions stage.intent (with_staged 1 (map (bytes_under done.files) (map write_name writes)) (files_of v)) ≡ done.files
+        → files_after_actions stage.intent (files_with_staged 1 (map (bytes_or_empty_under done.files) (map name_of_write writes)) (files_of v)) ≡ done.files
     acted v told root empty =
-        let of_files : after_actions actions (with_staged 1 (map (bytes_under done.files) actions.writes) files) ≡ done.files =
+        let of_files : files_after_actions actions (files_with_staged 1 (map (bytes_or_empty_under done.files) actions.writes) files) ≡ done.files =
         acted_is actions.removals actions.writes files done.files
         (leads inputs change (listing_bytes (found_package_contents found)) own.database.items files (subst (λ (f : Files). IsRootOfFiles f inputs.root) (sym told) root) free
         (subst IsEmptyStage (sym told) empty) (subst (λ (names : List (List ℕ)). length names < 2 ^ 63) written_is few)) in
-        (λ i. after_actions (is_new i).intent (with_staged 1 (map (bytes_under done.files) (map write_name writes)) (sym told i)))
-        ∙ ((λ i. after_actions (intent_of_lists (removed_is i) (written_is i)) (with_staged 1 (map (bytes_under done.files) (written_is i)) files))
+        (λ i. files_after_actions (is_new i).intent (files_with_staged 1 (map (bytes_or_empty_under done.files) (map name_of_write writes)) (sym told i)))
+        ∙ ((λ i. files_after_actions (intent_of_lists (removed_is i) (written_is i)) (files_with_staged 1 (map (bytes_or_empty_under done.files) (written_is i)) files))
         ∙ of_files)
 
     located : (v : TreeState) (earlier : List TreeState) → FilesAreRead (v ∷ earlier) found (package_at p.packages.now.arrivals) → files ≡ files_of v → IsRootOfFiles (files_of v) inputs.root
-        → EachDenotes (files_of v) writes (map (bytes_under done.files) (map write_name writes))
+        → EachDenotes (files_of v) writes (map (bytes_or_empty_under done.files) (map name_of_write writes))
     located v earlier read told root =
         all_stand inputs change found own rw (package_at p.packages.now.arrivals) ready.own ready.which free v earlier read files (subst (λ (f : Files). IsRootOfFiles f inputs.root) (sym told) root) writes
         (subst (λ (ms : List Member). All (IsWriteBy ms (package_at p.packages.now.arrivals) (file_writes_of change files) rw) writes) ready.plan.arrived.members
@@ -296,20 +296,20 @@ module _ (history : List TreeState) (p : Plan) (found : List MemberFound) (files
 
     -- what holds of the run by its contents and the files that it leads to holds by those of the change
     pub where_shown : (ws : List StagedWrite) → ws ≡ writes → (P : TreeState → Files → Type 0) → FilesAreRead history found (package_at p.packages.now.arrivals)
-        → IfObservable history (λ v. (contents : List (List ℕ)) → v.names intent_name ≡ None → IsEmptyStage (files_of v) → EachDenotes (files_of v) ws contents → P v (after_actions stage.intent (with_staged 1 contents (files_of v))))
+        → IfObservable history (λ v. (contents : List (List ℕ)) → v.names intent_name ≡ None → IsEmptyStage (files_of v) → EachDenotes (files_of v) ws contents → P v (files_after_actions stage.intent (files_with_staged 1 contents (files_of v))))
         → IfObservable history (λ v. v.names intent_name ≡ None → IsEmptyStage (files_of v) → P v done.files)
     where_shown ws ws_is P read run =
         by history refl read
-        (subst (λ (ws : List StagedWrite). IfObservable history (λ v. (contents : List (List ℕ)) → v.names intent_name ≡ None → IsEmptyStage (files_of v) → EachDenotes (files_of v) ws contents → P v (after_actions stage.intent (with_staged 1 contents (files_of v))))) ws_is run)
+        (subst (λ (ws : List StagedWrite). IfObservable history (λ v. (contents : List (List ℕ)) → v.names intent_name ≡ None → IsEmptyStage (files_of v) → EachDenotes (files_of v) ws contents → P v (files_after_actions stage.intent (files_with_staged 1 contents (files_of v))))) ws_is run)
         ready.plan.told ready.plan.arrived.read.root
       where
         by : (h : List TreeState) → h ≡ history → FilesAreRead h found (package_at p.packages.now.arrivals)
-            → IfObservable h (λ v. (contents : List (List ℕ)) → v.names intent_name ≡ None → IsEmptyStage (files_of v) → EachDenotes (files_of v) writes contents → P v (after_actions stage.intent (with_staged 1 contents (files_of v))))
+            → IfObservable h (λ v. (contents : List (List ℕ)) → v.names intent_name ≡ None → IsEmptyStage (files_of v) → EachDenotes (files_of v) writes contents → P v (files_after_actions stage.intent (files_with_staged 1 contents (files_of v))))
             → IfObservable h (λ v. files ≡ files_of v) → IfObservable h (λ v. IsRootOfFiles (files_of v) inputs.root)
             → IfObservable h (λ v. v.names intent_name ≡ None → IsEmptyStage (files_of v) → P v done.files)
         by [] same read run told root = tt
         by (v ∷ earlier) same read run told root = λ absent empty.
-            subst (P v) (acted v told root empty) (run (map (bytes_under done.files) (map write_name writes)) absent empty (located v earlier read told root))
+            subst (P v) (acted v told root empty) (run (map (bytes_or_empty_under done.files) (map name_of_write writes)) absent empty (located v earlier read told root))
 
     -- files that leave room leave it after the change
     pub room_after : IfObservable history (λ v. AreStagingPathsFree (files_of v) → AreJournalPathsFree done.files)
@@ -324,7 +324,7 @@ module _ (history : List TreeState) (p : Plan) (found : List MemberFound) (files
     -- no call is a misuse where there is room
     pub proper_shown : (ws : List StagedWrite) → ws ≡ writes → (before after : ℕ) → FilesAreRead history found (package_at p.packages.now.arrivals)
         → IfObservable history (λ v. (contents : List (List ℕ)) → v.names intent_name ≡ None → IsEmptyStage (files_of v) → EachDenotes (files_of v) ws contents → AreJournalPathsFree (files_of v)
-        → AreJournalPathsFree (after_actions stage.intent (with_staged 1 contents (files_of v))) → after ≡ before)
+        → AreJournalPathsFree (files_after_actions stage.intent (files_with_staged 1 contents (files_of v))) → after ≡ before)
         → IfObservable history (λ v. v.names intent_name ≡ None → IsEmptyStage (files_of v) → AreStagingPathsFree (files_of v) → after ≡ before)
     proper_shown ws ws_is before after read proper = both history (where_shown ws ws_is (λ v left. AreJournalPathsFree (files_of v) → AreJournalPathsFree left → after ≡ before) read proper) room_after
       where
@@ -438,7 +438,7 @@ ready_is history p r ready =
 -- a journal entry that is too large, by the names that are removed and written
 pub entry_large : {A : Type 0} (view : A → Bool) (history : List TreeState) (p : Plan) (found : List MemberFound) (files : Files) (made : NewRecords) (rw : RecordWrites) (writes : List StagedWrite) (removals : List (List ℕ))
     → IsMadeReady history p found files made rw writes removals → (fault : Refused)
-    → Agrees view (Err fault) (unless_overflow (overflow_of (value_of_intent (intent_of_lists removals (map write_name writes)))) true)
+    → Agrees view (Err fault) (unless_overflow (overflow_of (value_of_intent (intent_of_lists removals (map name_of_write writes)))) true)
     → Agrees {A = Bool} {B = Bool} (λ _. true) (Err fault) (unless_overflow (overflow_of (value_of_intent (actions_of (inputs_of_plan p) (file_change (inputs_of_plan p) (wishes_of_plan p) found) files (new_records (inputs_of_plan p) made.database.items)))) true)
 entry_large view history p found files made rw writes removals ready (IsRefused refusal) told =
     ap (λ (o : Option PayloadCounts). unless_overflow o true) (sym (overflow_is history p found files made rw writes removals ready)) ∙ told
@@ -454,11 +454,11 @@ same_told view other (IsRefused refusal) removals writes gone wrote gone_is wrot
 same_told view other Disk removals writes gone wrote gone_is wrote_is told = told
 same_told view other Memory removals writes gone wrote gone_is wrote_is told = tt
 
-pub not_idle : (removals writes gone wrote : List (List ℕ)) (idle b : Bool) → removals ≡ gone → writes ≡ wrote → idle ≡ not (does_something (record { removals = removals; writes = writes })) → idle ≡ b
-    → does_something (record { removals = gone; writes = wrote }) ≡ not b
+pub not_idle : (removals writes gone wrote : List (List ℕ)) (idle b : Bool) → removals ≡ gone → writes ≡ wrote → idle ≡ not (has_actions (record { removals = removals; writes = writes })) → idle ≡ b
+    → has_actions (record { removals = gone; writes = wrote }) ≡ not b
 not_idle removals writes gone wrote idle b gone_is wrote_is is by =
-    (λ i. does_something (record { removals = sym gone_is i; writes = sym wrote_is i }))
-    ∙ (twice (does_something (record { removals = removals; writes = writes })) ∙ ap not (sym is ∙ by))
+    (λ i. has_actions (record { removals = sym gone_is i; writes = sym wrote_is i }))
+    ∙ (twice (has_actions (record { removals = removals; writes = writes })) ∙ ap not (sym is ∙ by))
   where
     twice : (t : Bool) → t ≡ not (not t)
     twice true = refl
@@ -468,28 +468,28 @@ some_length : (name : List ℕ) (names : List (List ℕ)) → (length (name ∷ 
 some_length name names = ne_eqb (length (name ∷ names)) 0 (λ e. absurd (omega arith))
 
 -- that of a change that does nothing would fit
-pub idle_fits : (removals writes : List (List ℕ)) → does_something (record { removals = removals; writes = writes }) ≡ false
+pub idle_fits : (removals writes : List (List ℕ)) → has_actions (record { removals = removals; writes = writes }) ≡ false
     → unless_overflow (overflow_of (value_of_intent (intent_of_lists removals writes))) true ≡ Ok true
 unfolding counts_after_values
 idle_fits [] [] is = refl
 idle_fits (name ∷ removals) writes is =
-    let some : does_something (record { removals = name ∷ removals; writes = writes }) ≡ true = ap (λ (b : Bool). not b || not (length writes == 0)) (some_length name removals) in
+    let some : has_actions (record { removals = name ∷ removals; writes = writes }) ≡ true = ap (λ (b : Bool). not b || not (length writes == 0)) (some_length name removals) in
     absurd (true≢false (sym some ∙ is))
 idle_fits [] (name ∷ writes) is =
-    let some : does_something (record { removals = []; writes = name ∷ writes }) ≡ true = ap (λ (b : Bool). not b) (some_length name writes) in
+    let some : has_actions (record { removals = []; writes = name ∷ writes }) ≡ true = ap (λ (b : Bool). not b) (some_length name writes) in
     absurd (true≢false (sym some ∙ is))
 
 -- ---- a rendered change is committed
 
 pub stage_of : (o : Option Staging) (stage : Staging) (removals writes : List (List ℕ)) → o ≡ Some stage → IsStageOf removals writes o
-    → (does_something (record { removals = removals; writes = writes }) ≡ true) × (stage ≡ new_stage removals writes)
+    → (has_actions (record { removals = removals; writes = writes }) ≡ true) × (stage ≡ new_stage removals writes)
 stage_of o stage removals writes is of = subst (IsStageOf removals writes) is of
 
 pub new_stage_is : (stage : Staging) (removals writes : List (List ℕ)) → stage ≡ new_stage removals writes → stage ≡ new_stage stage.intent.removals stage.intent.writes
 new_stage_is stage removals writes is = is ∙ sym (λ i. new_stage (is i).intent.removals (is i).intent.writes)
 
-pub same_length : (stage : Staging) (removals : List (List ℕ)) (ws writes : List StagedWrite) → stage ≡ new_stage removals (map write_name writes) → ws ≡ writes → length ws ≡ length stage.intent.writes
-same_length stage removals ws writes is same = ap length same ∙ (sym (length-map writes write_name) ∙ sym (ap (λ (s : Staging). length s.intent.writes) is))
+pub same_length : (stage : Staging) (removals : List (List ℕ)) (ws writes : List StagedWrite) → stage ≡ new_stage removals (map name_of_write writes) → ws ≡ writes → length ws ≡ length stage.intent.writes
+same_length stage removals ws writes is same = ap length same ∙ (sym (length-map writes name_of_write) ∙ sym (ap (λ (s : Staging). length s.intent.writes) is))
 
 module _ (history : List TreeState) (p : Plan) (r : Rendered) (ready : IsReadyToCommit history p r) where
   abbrev of_records : RecordWrites
@@ -509,7 +509,7 @@ module _ (history : List TreeState) (p : Plan) (r : Rendered) (ready : IsReadyTo
   -- nothing is done
   pub nothing_done : r.stage ≡ None → (counts : Counts) → Ends history counts counts (Ok r.report)
   nothing_done is counts =
-      let idle : does_something (record { removals = removals_of_plan p; writes = map write_name r.writes.items }) ≡ false = subst (IsStageOf (removals_of_plan p) (map write_name r.writes.items)) is ready.rendered.stage in
+      let idle : has_actions (record { removals = removals_of_plan p; writes = map name_of_write r.writes.items }) ≡ false = subst (IsStageOf (removals_of_plan p) (map name_of_write r.writes.items)) is ready.rendered.stage in
       ends history counts counts (Ok r.report)
       (idle_comes history p ready.found ready.files ready.records of_records r.writes.items (removals_of_plan p) made (ready_is history p r ready)
       (sym (commits_is history p ready.found ready.files ready.records of_records r.writes.items (removals_of_plan p) made) ∙ idle) counts r.report (ready.rendered.report history ready.found ready.files ready.planned))
@@ -524,14 +524,14 @@ module _ (history : List TreeState) (p : Plan) (r : Rendered) (ready : IsReadyTo
   module _ (law : FilesAreRead history ready.found (package_at p.packages.now.arrivals))
       (stage : Staging) (staged : r.stage ≡ Some stage) (few : action_count stage.intent < 2 ^ 63) (ws : List StagedWrite) (ws_is : ws ≡ r.writes.items) (now : List TreeState) (before after : Counts) (res : Result (Unit {0}) StageFault)
       (run : IfObservable history (λ v. (contents : List (List ℕ)) → v.names intent_name ≡ None → IsEmptyStage (files_of v) → EachDenotes (files_of v) ws contents
-      → IsCarriedTo {A = Unit {0}} (after_actions stage.intent (with_staged 1 contents (files_of v))) v history now res))
+      → IsCarriedTo {A = Unit {0}} (files_after_actions stage.intent (files_with_staged 1 contents (files_of v))) v history now res))
       (proper : IfObservable history (λ v. (contents : List (List ℕ)) → v.names intent_name ≡ None → IsEmptyStage (files_of v) → EachDenotes (files_of v) ws contents → AreJournalPathsFree (files_of v)
-      → AreJournalPathsFree (after_actions stage.intent (with_staged 1 contents (files_of v))) → after.misuses ≡ before.misuses)) where
-    of_stage : (does_something (record { removals = removals_of_plan p; writes = map write_name r.writes.items }) ≡ true) × (stage ≡ new_stage (removals_of_plan p) (map write_name r.writes.items))
-    of_stage = stage_of r.stage stage (removals_of_plan p) (map write_name r.writes.items) staged ready.rendered.stage
+      → AreJournalPathsFree (files_after_actions stage.intent (files_with_staged 1 contents (files_of v))) → after.misuses ≡ before.misuses)) where
+    of_stage : (has_actions (record { removals = removals_of_plan p; writes = map name_of_write r.writes.items }) ≡ true) × (stage ≡ new_stage (removals_of_plan p) (map name_of_write r.writes.items))
+    of_stage = stage_of r.stage stage (removals_of_plan p) (map name_of_write r.writes.items) staged ready.rendered.stage
 
-    few_names : length (map write_name r.writes.items) < 2 ^ 63
-    few_names = few_writes stage (removals_of_plan p) (map write_name r.writes.items) (map write_name r.writes.items) of_stage.1 refl few
+    few_names : length (map name_of_write r.writes.items) < 2 ^ 63
+    few_names = few_writes stage (removals_of_plan p) (map name_of_write r.writes.items) (map name_of_write r.writes.items) of_stage.1 refl few
 
     commits : (result_of_ready ready).commits ≡ true
     commits = sym (commits_is history p ready.found ready.files ready.records of_records r.writes.items (removals_of_plan p) made) ∙ of_stage.0
@@ -576,18 +576,18 @@ entry_refused packages overflow ends history counts Memory told = comes_to_failu
 -- ---- what is left after the tests of a plan
 
 module _ (history : List TreeState) (p : Plan) (found : List MemberFound) (files : Files) (plan : IsPlanned history p found files) where
-  database_is : unless_large (database_of (members_of p.members) p.files.owned) ≡ unless_large (database_of (found_members found) (owned_of (found_members found)))
-  database_is = let owned = plan.owners.owned ∙ ap owned_of plan.arrived.members in λ i. unless_large (database_of (plan.arrived.members i) (owned i))
+  database_is : or_result_too_large (database_of (members_of p.members) p.files.owned) ≡ or_result_too_large (database_of (found_members found) (owned_flags_of (found_members found)))
+  database_is = let owned = plan.owners.owned ∙ ap owned_flags_of plan.arrived.members in λ i. or_result_too_large (database_of (plan.arrived.members i) (owned i))
 
   -- the database is too large
-  pub large_database : (counts : Counts) (fault : Refused) → Agrees {A = NewRecords} (λ r. r.database.items) (Err fault) (unless_large (database_of (members_of p.members) p.files.owned))
+  pub large_database : (counts : Counts) (fault : Refused) → Agrees {A = NewRecords} (λ r. r.database.items) (Err fault) (or_result_too_large (database_of (members_of p.members) p.files.owned))
       → CarriesOut (Ok found) (unless_too_large (inputs_of_plan p) (replacement_of_plan p) (wishes_of_plan p) found files) history history counts counts (Err fault)
   large_database counts fault told =
-      part_fails {A = NewRecords} {B = List ℕ} (Ok found) (unless_large (database_of (found_members found) (owned_of (found_members found)))) (unless_large (database_of (members_of p.members) p.files.owned))
+      part_fails {A = NewRecords} {B = List ℕ} (Ok found) (or_result_too_large (database_of (found_members found) (owned_flags_of (found_members found)))) (or_result_too_large (database_of (members_of p.members) p.files.owned))
       (ready_change (inputs_of_plan p) (replacement_of_plan p) (wishes_of_plan p) found files) (λ r. r.database.items) history counts fault database_is told
 
   -- the database is made
-  module _ (records : NewRecords) (told : unless_large (database_of (members_of p.members) p.files.owned) ≡ Ok records.database.items) where
+  module _ (records : NewRecords) (told : or_result_too_large (database_of (members_of p.members) p.files.owned) ≡ Ok records.database.items) where
     pub made_database : unless_too_large (inputs_of_plan p) (replacement_of_plan p) (wishes_of_plan p) found files ≡ ready_change (inputs_of_plan p) (replacement_of_plan p) (wishes_of_plan p) found files records.database.items
     made_database = ap (λ (part : Result (List ℕ) Refusal). and_then part (ready_change (inputs_of_plan p) (replacement_of_plan p) (wishes_of_plan p) found files)) (sym database_is ∙ told)
 
@@ -601,7 +601,7 @@ module _ (history : List TreeState) (p : Plan) (found : List MemberFound) (files
         (change_done (inputs_of_plan p) (replacement_of_plan p) (wishes_of_plan p) found files (new_records (inputs_of_plan p) records.database.items)) history counts fault (large history found files plan))
 
     -- the journal entry fits
-    pub entry_fits : (own : AreRecordsOf (inputs_of_plan p) records) (r : Rendered) → IsRendered p records r
+    pub entry_fits : (own : AreNewRecordsOf (inputs_of_plan p) records) (r : Rendered) → IsRendered p records r
         → unless_too_large (inputs_of_plan p) (replacement_of_plan p) (wishes_of_plan p) found files
         ≡ Ok (change_done (inputs_of_plan p) (replacement_of_plan p) (wishes_of_plan p) found files (new_records (inputs_of_plan p) records.database.items))
     entry_fits own r rendered =

@@ -1,7 +1,7 @@
 -- There is one choice.
 use Rattle.std.proofs.Common.{◌≡◌, inl, inr, ℕ, ◌+◌, List, Option, Some, None, Result, Ok, Err, refl, sym, ap, subst, ◌∙◌, arith}
 use Rattle.change_report.specs.candidate_core.Candidates.{Need, is_eligible}
-use Rattle.change_report.specs.candidate_core.Options.{IsIn, places_from}
+use Rattle.change_report.specs.candidate_core.Options.{IsIn, places_passing_from}
 use Rattle.change_report.specs.candidate_core.Rank.{SealedPool}
 use Rattle.change_report.proofs.candidate_core.OptionLists.{in_places}
 use Rattle.report_core.specs.declared.refusal.Refusal.{Refusal}
@@ -11,16 +11,16 @@ use Rattle.change_report.proofs.solve_core.Existence.{first_or_none}
 use Rattle.change_report.proofs.solve_core.FirstFound.{none_satisfies}
 use Rattle.change_report.proofs.search_tables.PoolFacts.{pool_facts}
 use Rattle.change_report.proofs.search_tables.Satisfying.{closed_of_satisfying, satisfying_of_closed}
-use Rattle.engine_core.specs.Choice.{IsChoice, IsChoiceFrom}
+use Rattle.engine_core.specs.Choice.{IsPreferredChoice, IsChoiceFrom}
 
 -- what a pool promises of the options of each need
 abbrev pub HaveOptions : Type 0
 HaveOptions = (pool : SealedPool) (need : Need) → HasOptions pool need
 
-pool_choice : HaveOptions → (pool : SealedPool) → (chosen : Option (List ℕ)) × IsChoice pool chosen
+pool_choice : HaveOptions → (pool : SealedPool) → (chosen : Option (List ℕ)) × IsPreferredChoice pool chosen
 pool_choice has pool =
     let facts = pool_facts pool (has pool) in
-    let all = places_from 0 (is_eligible pool.world) pool.candidates in
+    let all = places_passing_from 0 (is_eligible pool.world) pool.candidates in
     elim (first_or_none pool facts all (λ c h. let z : 0 + c ≡ c = omega arith in subst (λ (k : ℕ). IsIn k all) z (in_places 0 (is_eligible pool.world) pool.candidates c h))) [
       | inl found ↦ (
         Some found.0,
@@ -41,7 +41,7 @@ choice_exists has (Err refusal) = (None, refl)
 abbrev pub HasOneFirst : Type 0
 HasOneFirst = (pool : SealedPool) (trace other : List ℕ) → IsFirstSelection pool trace → IsFirstSelection pool other → trace ≡ other
 
-pool_one : HasOneFirst → (pool : SealedPool) (a b : Option (List ℕ)) → IsChoice pool a → IsChoice pool b → a ≡ b
+pool_one : HasOneFirst → (pool : SealedPool) (a b : Option (List ℕ)) → IsPreferredChoice pool a → IsPreferredChoice pool b → a ≡ b
 pool_one one pool None None x y = refl
 pool_one one pool None (Some t) x y = absurd (x t y.satisfies)
 pool_one one pool (Some t) None x y = absurd (y t x.satisfies)

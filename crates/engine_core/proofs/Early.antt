@@ -6,8 +6,8 @@ use Rattle.base_core.specs.Calls.{IfObservable}
 use Rattle.base_core.specs.Faults.{Counts}
 use Rattle.base_core.specs.Files.{Files, HasNamesAmong, no_names}
 use Rattle.base_core.specs.Read.{OnlyReads}
-use Rattle.base_core.specs.Tree.{IsWellFormed, TreeState, bytes_at, files_of}
-use Rattle.change_report.specs.change_inputs.Answers.{AgreesUnlessDisk, IsFailure}
+use Rattle.base_core.specs.Tree.{IsWellFormed, TreeState, bytes_of_file_number, files_of}
+use Rattle.change_report.specs.change_inputs.Answers.{AgreesUnlessDisk, IsDiskOrMemoryFailure}
 use Rattle.change_report.specs.change_inputs.Chains.{and_then}
 use Rattle.change_report.specs.change_inputs.Inputs.{Inputs}
 use Rattle.change_report.specs.change_inputs.declared.root.Refused.{Refused}
@@ -18,7 +18,7 @@ use Rattle.command_core.specs.Command.{CommandLine}
 use Rattle.change_report.specs.journal_core.Recovery.{intent_name}
 use Rattle.change_report.specs.journal_core.Staged.{AreStagingPathsFree, IsEmptyStage}
 use Rattle.change_report.specs.make_info.Reads.{Reads}
-use Rattle.change_report.specs.package_files.Runs.{AreObserved}
+use Rattle.change_report.specs.package_files.Runs.{AreReadsOfTree}
 use Rattle.change_report.specs.path_clashes.Clash.{NamePair}
 use Rattle.change_report.specs.package_changes.Changes.{Replacement}
 use Rattle.report_core.specs.declared.refusal.Refusal.{Refusal}
@@ -48,7 +48,7 @@ module _ (have : HaveClash) (names : List (List ℕ)) (files : Files) (within : 
 
 pub record Seen (command : CommandLine) (selected : Result Selected Refusal) (old : List TreeState) : Type 0 where
   pub read : Reads
-  pub observed : AreObserved old read
+  pub observed : AreReadsOfTree old read
   pub files : Files
   pub there : IfObservable old (λ v. files ≡ files_of v)
   pub clash : Option NamePair
@@ -60,7 +60,7 @@ nothing_within q is = absurd (cc)
 within_files : (v : TreeState) (names : List (List ℕ)) → HasNamesAmong names v.names → HasNamesAmong names (files_of v)
 within_files v names within q is = within q (by_number (v.names q) is)
   where
-    by_number : (n : Option ℕ) → IsSome (bytes_at v.files n) → IsSome n
+    by_number : (n : Option ℕ) → IsSome (bytes_of_file_number v.files n) → IsSome n
     by_number None is = is
     by_number (Some n) is = refl
 
@@ -80,7 +80,7 @@ files_seen have command selected (v ∷ earlier) read whole =
     let found = clash_selected have finite.0 (files_of v) (within_files v finite.0 finite.1) command read selected in
     record { files = files_of v; there = refl; clash = found.0; is_clash = found.1 }
 
-pub some_reads : (old : List TreeState) → (read : Reads) × AreObserved old read
+pub some_reads : (old : List TreeState) → (read : Reads) × AreReadsOfTree old read
 some_reads [] = ((λ n name. None), tt)
 some_reads (v ∷ earlier) = ((λ n name. files_of v name), λ n name. refl)
 
@@ -129,10 +129,10 @@ module _ (packages : Result (List MemberFound) Refusal) (wanted : Result ChangeD
   none_proper : IfObservable old (λ v. v.names intent_name ≡ None → IsEmptyStage (files_of v) → (DoesCommit wanted → AreStagingPathsFree (files_of v)) → after.misuses ≡ before.misuses)
   none_proper = if_told old _ _ quiet.proper (λ v same absent empty room. same)
 
-  pub comes_to_failure : (fault : Refused) → IsFailure fault → CarriesOut packages wanted old now before after (Err fault)
+  pub comes_to_failure : (fault : Refused) → IsDiskOrMemoryFailure fault → CarriesOut packages wanted old now before after (Err fault)
   comes_to_failure fault is = record { told = inl (failure_told fault is); run = none_run (Err fault) tt; proper = none_proper }
     where
-      failure_told : (e : Refused) → IsFailure e → AgreesUnlessDisk report_as_is (Err e) (report_of_result wanted)
+      failure_told : (e : Refused) → IsDiskOrMemoryFailure e → AgreesUnlessDisk report_as_is (Err e) (report_of_result wanted)
       failure_told (IsRefused r) h = absurd h
       failure_told Disk h = tt
       failure_told Memory h = tt
@@ -168,7 +168,7 @@ module _ (command : CommandLine) (selected : Result Selected Refusal) (old now :
     comes = comes;
   }
 
-  pub selected_failure : HaveClash → All IsWellFormed old → IsOnlyRead old now before after → (fault : Refused) → IsFailure fault → IsSelectedRun command selected old now before after (Err fault)
+  pub selected_failure : HaveClash → All IsWellFormed old → IsOnlyRead old now before after → (fault : Refused) → IsDiskOrMemoryFailure fault → IsSelectedRun command selected old now before after (Err fault)
   selected_failure have whole quiet fault is =
       let seen = seen_any have command selected old whole in
       of_seen seen (Err fault) (comes_to_failure _ _ old now before after quiet fault is)

@@ -9,37 +9,37 @@ use Rattle.adb_view.specs.Plain.{Plain}
 use Rattle.base_core.specs.Calls.{IfObservable}
 use Rattle.base_core.specs.Faults.{Counts}
 use Rattle.base_core.specs.Files.{Files, HasNamesAmong, no_names}
-use Rattle.base_core.specs.Tree.{IsWellFormed, TreeState, bytes_at, files_of}
+use Rattle.base_core.specs.Tree.{IsWellFormed, TreeState, bytes_of_file_number, files_of}
 use Rattle.change_report.specs.Due.{planned_paths}
 use Rattle.change_report.specs.change_files.FileChange.{FileChange, old_listings}
 use Rattle.change_report.specs.change_files.NamesAfter.{name_change}
-use Rattle.change_report.specs.change_files.PlanLists.{first_reserved}
-use Rattle.change_report.specs.change_inputs.Answers.{IsFailure}
+use Rattle.change_report.specs.change_files.PlanLists.{first_reserved_path}
+use Rattle.change_report.specs.change_inputs.Answers.{IsDiskOrMemoryFailure}
 use Rattle.change_report.specs.change_inputs.Chains.{and_then}
 use Rattle.change_report.specs.change_inputs.Inputs.{Inputs}
 use Rattle.change_report.specs.change_inputs.declared.root.Refused.{Refused}
 use Rattle.change_report.specs.change_inputs.declared.root.Refused.TheVariants as Commands
-use Rattle.change_report.specs.change_outcome.ChangeOutcome.{ChangeDone, ChangeWishes, IsClashFound, change_members, change_with_members, file_change, name_at_place, touched_paths, unless_clash, unless_contested, unless_reserved_path, unless_too_large}
+use Rattle.change_report.specs.change_outcome.ChangeOutcome.{ChangeDone, ChangeWishes, IsClashFound, change_members, change_with_members, file_change, member_name_at_place, touched_paths, unless_clash, unless_contested, unless_reserved_path, unless_too_large}
 use Rattle.change_report.specs.change_outcome.MembersAfter.{MemberFound, found_members}
-use Rattle.change_report.specs.change_outcome.Triggers.{unless_trigger}
+use Rattle.change_report.specs.change_outcome.Triggers.{unless_trigger_due}
 use Rattle.change_report.specs.db_core.Members.{Member, member_listings, member_name, member_of_kept}
 use Rattle.change_report.specs.db_core.Seen.{members_of, packages_of}
 use Rattle.change_report.specs.db_core.declared.members.Members.{Members}
-use Rattle.change_report.specs.file_owners.Owners.{contested_of}
+use Rattle.change_report.specs.file_owners.Owners.{first_contested_path_of_members}
 use Rattle.change_report.specs.make_info.Reads.{Reads}
-use Rattle.change_report.specs.own_core.Planned.{ArePlanLists, HasOwnNames, HasSources, IsClashBySome, IsPlanFor, IsPlanOf, IsRefusalFor, IsRefusalOf, MayBeRefusalOf, change_by, member_name_at}
+use Rattle.change_report.specs.own_core.Planned.{ArePlanLists, HasDisjointUnreservedNames, HasSources, IsClashBySome, IsPlanFor, IsPlanOf, IsRefusalFor, IsRefusalOf, MayBeRefusalOf, file_change_between, member_name_at}
 use Rattle.change_report.specs.own_core.declared.fault.PlanFault.{PlanFault}
 use Rattle.change_report.specs.own_core.declared.planning.FilePlan.{FilePlan}
 use Rattle.change_report.specs.own_core.declared.fault.PlanFault.TheVariants as Plans
 use Rattle.change_report.specs.package_changes.Changes.{Replacement}
 use Rattle.change_report.specs.path_claims.Claims.{ContestedPath}
 use Rattle.change_report.specs.path_clashes.Clash.{HasNoClash, NamePair}
-use Rattle.change_report.specs.path_clashes.FirstClash.{IsClashOf, IsClashOverSomeFiles}
+use Rattle.change_report.specs.path_clashes.FirstClash.{IsFirstClashOrNone, IsFirstClashOverSomeFiles}
 use Rattle.report_core.specs.declared.refusal.Refusal.{Refusal}
 use Rattle.report_core.specs.declared.refusal.Refusal.TheVariants.{Owned, PathClash, Reserved}
 use Rattle.engine_core.specs.ChangeRun.{CarriesOut}
 use Rattle.engine_core.specs.Preparing.{HasReadArrivals, IsArrived, IsPlanned, inputs_of_packages, replacement_of_packages, inputs_of_plan, replacement_of_plan, wishes_of_plan}
-use Rattle.engine_core.specs.Plans.{HasNoPlan, IsPlanFrom, IsRefusedFor}
+use Rattle.engine_core.specs.Plans.{HasNoPlan, IsPlanFrom, IsRefusalOfPlanFault}
 use Rattle.engine_core.specs.declared.packages.ReadPackages.{ReadPackages}
 use Rattle.engine_core.specs.declared.planning.Plan.{Plan}
 use Rattle.engine_core.specs.Runs.{IsFoundRun}
@@ -59,7 +59,7 @@ there_now (v ∷ earlier) = refl
 within_files : (v : TreeState) (names : List (List ℕ)) → HasNamesAmong names v.names → HasNamesAmong names (files_of v)
 within_files v names within q is = within q (by_number (v.names q) is)
   where
-    by_number : (n : Option ℕ) → IsSome (bytes_at v.files n) → IsSome n
+    by_number : (n : Option ℕ) → IsSome (bytes_of_file_number v.files n) → IsSome n
     by_number None is = is
     by_number (Some n) is = refl
 
@@ -75,15 +75,15 @@ record ClashTold (change : FileChange) (old : List TreeState) (clash : Option Na
   pub there : IfObservable old (λ v. files ≡ files_of v)
   pub present_files : Files
   pub stand : IfObservable old (λ v. present_files ≡ files_of v)
-  pub is_clash : IsClashOf (name_change change files) present_files clash
+  pub is_clash : IsFirstClashOrNone (name_change change files) present_files clash
 
-clash_told : (change : FileChange) (old : List TreeState) (clash : Option NamePair) → IsClashBySome change old clash → IfObservable old (λ v. IsClashOf (name_change change (files_of v)) (files_of v) clash) → ClashTold change old clash
+clash_told : (change : FileChange) (old : List TreeState) (clash : Option NamePair) → IsClashBySome change old clash → IfObservable old (λ v. IsFirstClashOrNone (name_change change (files_of v)) (files_of v) clash) → ClashTold change old clash
 clash_told change [] clash some told = record { files = some.files; there = tt; present_files = some.may.0; stand = tt; is_clash = some.may.1 }
 clash_told change (v ∷ earlier) clash some told = record { files = files_of v; there = refl; present_files = files_of v; stand = refl; is_clash = told }
 
 -- the same by files that are given
-none_told : (change : FileChange) (files : Files) (old : List TreeState) → IfObservable old (λ v. files ≡ files_of v) → IsClashOverSomeFiles (name_change change files) None → IfObservable old (λ v. HasNoClash (name_change change files) files)
-    → (present_files : Files) × IfObservable old (λ v. present_files ≡ files_of v) × IsClashOf (name_change change files) present_files None
+none_told : (change : FileChange) (files : Files) (old : List TreeState) → IfObservable old (λ v. files ≡ files_of v) → IsFirstClashOverSomeFiles (name_change change files) None → IfObservable old (λ v. HasNoClash (name_change change files) files)
+    → (present_files : Files) × IfObservable old (λ v. present_files ≡ files_of v) × IsFirstClashOrNone (name_change change files) present_files None
 none_told change files [] there may told = (may.0, tt, may.1)
 none_told change files (v ∷ earlier) there may told = (files, there, told)
 
@@ -104,32 +104,32 @@ module _ (have : HaveClash) (inputs : Inputs) (r : Replacement) (wishes : Change
         let seen = clash_seen old whole in
         record { files = files_now old; there = there_now old; present_files = files_now old; stand = there_now old; clash = seen.clash; is_clash = seen.is_clash; comes = comes seen.clash }
 
-    pub found_failure : (fault : Refused) → IsFailure fault → IsFoundRun inputs r wishes found old now before after (Err fault)
+    pub found_failure : (fault : Refused) → IsDiskOrMemoryFailure fault → IsFoundRun inputs r wishes found old now before after (Err fault)
     found_failure fault is = found_by (Err fault) (λ clash. comes_to_failure _ _ old now before after quiet fault is)
 
     -- ---- no plan
 
-    reserved_path : (path : List ℕ) → first_reserved (found_members found) ≡ Some path → IsFoundRun inputs r wishes found old now before after (Err (Commands.Refusal (Reserved path)))
+    reserved_path : (path : List ℕ) → first_reserved_path (found_members found) ≡ Some path → IsFoundRun inputs r wishes found old now before after (Err (Commands.Refusal (Reserved path)))
     reserved_path path is = found_by _ (λ clash. comes_to_refusal _ _ old now before after quiet (Reserved path)
-        (ap (λ (o : Option (List ℕ)). unless_reserved_path o (unless_clash clash (unless_contested (found_members found) (contested_of (found_members found))
-        (and_then (unless_trigger wishes.no_scripts (touched_paths (file_change inputs wishes found) (files_now old)) (found_members found)) (λ allowed. unless_too_large inputs r wishes found (files_now old)))))) is))
+        (ap (λ (o : Option (List ℕ)). unless_reserved_path o (unless_clash clash (unless_contested (found_members found) (first_contested_path_of_members (found_members found))
+        (and_then (unless_trigger_due wishes.no_scripts (touched_paths (file_change inputs wishes found) (files_now old)) (found_members found)) (λ allowed. unless_too_large inputs r wishes found (files_now old)))))) is))
 
     by_clash : (result : Result (List ℕ) Refused) (clash : Option NamePair) → (told : ClashTold (file_change inputs wishes found) old clash)
         → CarriesOut (Ok found) (change_with_members inputs r wishes clash told.files found) old now before after result → IsFoundRun inputs r wishes found old now before after result
     by_clash result clash told comes =
         record { files = told.files; there = told.there; present_files = told.present_files; stand = told.stand; clash = clash; is_clash = told.is_clash; comes = comes }
 
-    path_clash : (path other : List ℕ) → first_reserved (found_members found) ≡ None → ClashTold (file_change inputs wishes found) old (Some (record { path = path; other = other }))
+    path_clash : (path other : List ℕ) → first_reserved_path (found_members found) ≡ None → ClashTold (file_change inputs wishes found) old (Some (record { path = path; other = other }))
         → IsFoundRun inputs r wishes found old now before after (Err (Commands.Refusal (PathClash path other)))
     path_clash path other none told =
         let pair : NamePair = record { path = path; other = other } in
         by_clash _ (Some pair) told
         (comes_to_refusal _ _ old now before after quiet (PathClash path other)
-        (ap (λ (o : Option (List ℕ)). unless_reserved_path o (unless_clash (Some pair) (unless_contested (found_members found) (contested_of (found_members found))
-        (and_then (unless_trigger wishes.no_scripts (touched_paths (file_change inputs wishes found) told.files) (found_members found)) (λ allowed. unless_too_large inputs r wishes found told.files)))))
+        (ap (λ (o : Option (List ℕ)). unless_reserved_path o (unless_clash (Some pair) (unless_contested (found_members found) (first_contested_path_of_members (found_members found))
+        (and_then (unless_trigger_due wishes.no_scripts (touched_paths (file_change inputs wishes found) told.files) (found_members found)) (λ allowed. unless_too_large inputs r wishes found told.files)))))
         none))
 
-    named : (place : ℕ) (name : List ℕ) → member_name_at (found_members found) place ≡ Some name → name_at_place (found_members found) place ≡ name
+    named : (place : ℕ) (name : List ℕ) → member_name_at (found_members found) place ≡ Some name → member_name_at_place (found_members found) place ≡ name
     named place name is = by (slice_get (found_members found) place) is
       where
         by : (o : Option Member) → option_map member_name o ≡ Some name → option_map_or member_name o [] ≡ name
@@ -139,15 +139,15 @@ module _ (have : HaveClash) (inputs : Inputs) (r : Replacement) (wishes : Change
     owned_path : (path first second : List ℕ) → IsRefusalFor (found_members found) (Plans.Owned path first second) → ClashTold (file_change inputs wishes found) old None
         → IsFoundRun inputs r wishes found old now before after (Err (Commands.Refusal (Owned path first second)))
     owned_path path first second (none, contest) told =
-        let contested : Option ContestedPath = contested_of (found_members found) in
-        let rest = and_then (unless_trigger wishes.no_scripts (touched_paths (file_change inputs wishes found) told.files) (found_members found)) (λ allowed. unless_too_large inputs r wishes found told.files) in
+        let contested : Option ContestedPath = first_contested_path_of_members (found_members found) in
+        let rest = and_then (unless_trigger_due wishes.no_scripts (touched_paths (file_change inputs wishes found) told.files) (found_members found)) (λ allowed. unless_too_large inputs r wishes found told.files) in
         by_clash _ None told
         (comes_to_refusal _ _ old now before after quiet (Owned path first second)
         (ap (λ (o : Option (List ℕ)). unless_reserved_path o (unless_contested (found_members found) contested rest)) none
         ∙ ap (λ (o : Option ContestedPath). unless_contested (found_members found) o rest) contest.is
         ∙ ((λ i. Err (Owned (sym contest.at i) (named contest.contest.rivals.first first contest.lister i) (named contest.contest.rivals.second second contest.other i))))))
 
-    pub unplanned : (fault : PlanFault) (refused : Refused) → IsRefusedFor fault refused → IsRefusalFor (found_members found) fault
+    pub unplanned : (fault : PlanFault) (refused : Refused) → IsRefusalOfPlanFault fault refused → IsRefusalFor (found_members found) fault
         → IfObservable old (λ v. IsRefusalOf (file_change inputs wishes found) (files_of v) fault) → MayBeRefusalOf (file_change inputs wishes found) old fault → IsFoundRun inputs r wishes found old now before after (Err refused)
     unplanned (Plans.Reserved path) refused is cause first may = subst (λ (e : Refused). IsFoundRun inputs r wishes found old now before after (Err e)) (sym is) (reserved_path path cause)
     unplanned (Plans.PathClash path other) refused is cause first may = subst (λ (e : Refused). IsFoundRun inputs r wishes found old now before after (Err e)) (sym is) (path_clash path other cause (clash_told (file_change inputs wishes found) old (Some (record { path = path; other = other })) may first))
@@ -158,15 +158,15 @@ module _ (have : HaveClash) (inputs : Inputs) (r : Replacement) (wishes : Change
 -- ---- a plan
 
 change_is : (history : List TreeState) (a : ReadPackages) (ms : Members) (wishes : ChangeWishes) (found : List MemberFound) → IsArrived history a ms found
-    → change_by a.selection.now.db ms wishes.purge ≡ file_change (inputs_of_packages a) wishes found
+    → file_change_between a.selection.now.db ms wishes.purge ≡ file_change (inputs_of_packages a) wishes found
 change_is history a ms wishes found arrived = λ i. record { old = arrived.read.database i; members = arrived.members i; purge = wishes.purge }
 
 -- why there is none, of the packages that are found
 pub unplanned_run : HaveClash → (old now : List TreeState) (before after : Counts) (a : ReadPackages) (ms : Members) (wishes : ChangeWishes) (read : Reads) (found : List MemberFound) (fault : PlanFault) (refused : Refused)
     → All IsWellFormed old → IsOnlyRead old now before after → IsArrived old a ms found → change_members (inputs_of_packages a) (replacement_of_packages a) wishes read ≡ Ok found
-    → IsRefusedFor fault refused → IsRefusalFor (members_of ms) fault
-    → IfObservable old (λ v. IsRefusalOf (change_by a.selection.now.db ms wishes.purge) (files_of v) fault)
-    → MayBeRefusalOf (change_by a.selection.now.db ms wishes.purge) old fault
+    → IsRefusalOfPlanFault fault refused → IsRefusalFor (members_of ms) fault
+    → IfObservable old (λ v. IsRefusalOf (file_change_between a.selection.now.db ms wishes.purge) (files_of v) fault)
+    → MayBeRefusalOf (file_change_between a.selection.now.db ms wishes.purge) old fault
     → IsFoundRun (inputs_of_packages a) (replacement_of_packages a) wishes found old now before after (Err refused)
 unplanned_run have old now before after a ms wishes read found fault refused whole quiet arrived is_found is cause first may =
     unplanned have (inputs_of_packages a) (replacement_of_packages a) wishes read found is_found old now before after whole quiet fault refused is
@@ -182,8 +182,8 @@ unplanned_step have old now before after a ms wishes read found refused why whol
     unplanned_run have old now before after a ms wishes read found why.fault refused whole quiet arrived is_found why.reported why.cause why.first why.may
 
 pub planned_now : (old mid : List TreeState) → mid ≡ old → (p : Plan) (found : List MemberFound) → IsArrived old p.packages.now p.members found
-    → (plan : IsPlanOf (change_by p.packages.now.selection.now.db p.members (wishes_of_plan p).purge) old p.files)
-    → HasOwnNames p.files → HasSources (members_of p.members) p.files → IsPlanFor (members_of p.members) p.files
+    → (plan : IsPlanOf (file_change_between p.packages.now.selection.now.db p.members (wishes_of_plan p).purge) old p.files)
+    → HasDisjointUnreservedNames p.files → HasSources (members_of p.members) p.files → IsPlanFor (members_of p.members) p.files
     → All (λ l. is_reserved l.path ≡ false) (member_listings (map member_of_kept (packages_of p.packages.now.selection.now.db)))
     → IsPlanned mid p found plan.files
 unfolding old_listings
@@ -201,21 +201,21 @@ planned_now old mid same p found arrived plan names sources owners unreserved =
     })
 
 pub planned_run : (old mid now : List TreeState) (before between after : Counts) (a : ReadPackages) (ms : Members) (p : FilePlan) (wishes : ChangeWishes) (found : List MemberFound) (result : Result (List ℕ) Refused)
-    → IsOnlyRead old mid before between → IsArrived old a ms found → (plan : IsPlanOf (change_by a.selection.now.db ms wishes.purge) old p) → IsPlanFor (members_of ms) p
+    → IsOnlyRead old mid before between → IsArrived old a ms found → (plan : IsPlanOf (file_change_between a.selection.now.db ms wishes.purge) old p) → IsPlanFor (members_of ms) p
     → CarriesOut (Ok found)
-    (and_then (unless_trigger wishes.no_scripts (touched_paths (file_change (inputs_of_packages a) wishes found) plan.files) (found_members found))
+    (and_then (unless_trigger_due wishes.no_scripts (touched_paths (file_change (inputs_of_packages a) wishes found) plan.files) (found_members found))
     (λ allowed. unless_too_large (inputs_of_packages a) (replacement_of_packages a) wishes found plan.files)) mid now between after result
     → IsFoundRun (inputs_of_packages a) (replacement_of_packages a) wishes found old now before after result
 planned_run old mid now before between after a ms p wishes found result quiet arrived plan owners comes =
     let inputs = inputs_of_packages a in
     let r = replacement_of_packages a in
     let members : List Member = found_members found in
-    let rest : Result ChangeDone Refusal = and_then (unless_trigger wishes.no_scripts (touched_paths (file_change inputs wishes found) plan.files) members) (λ allowed. unless_too_large inputs r wishes found plan.files) in
+    let rest : Result ChangeDone Refusal = and_then (unless_trigger_due wishes.no_scripts (touched_paths (file_change inputs wishes found) plan.files) members) (λ allowed. unless_too_large inputs r wishes found plan.files) in
     let wanted_is : change_with_members inputs r wishes None plan.files found ≡ rest =
-    ap (λ (o : Option (List ℕ)). unless_reserved_path o (unless_contested members (contested_of members) rest)) (sym (ap first_reserved arrived.members) ∙ owners.allowed)
-    ∙ ap (λ (o : Option ContestedPath). unless_contested members o rest) (sym (ap contested_of arrived.members) ∙ owners.owners) in
+    ap (λ (o : Option (List ℕ)). unless_reserved_path o (unless_contested members (first_contested_path_of_members members) rest)) (sym (ap first_reserved_path arrived.members) ∙ owners.allowed)
+    ∙ ap (λ (o : Option ContestedPath). unless_contested members o rest) (sym (ap first_contested_path_of_members arrived.members) ∙ owners.owners) in
     let none = none_told (file_change inputs wishes found) plan.files old plan.told
-    (subst (λ (c : FileChange). IsClashOverSomeFiles (name_change c plan.files) None) (change_is old a ms wishes found arrived) plan.may_have_none)
+    (subst (λ (c : FileChange). IsFirstClashOverSomeFiles (name_change c plan.files) None) (change_is old a ms wishes found arrived) plan.may_have_none)
     (subst (λ (c : FileChange). IfObservable old (λ v. HasNoClash (name_change c plan.files) plan.files)) (change_is old a ms wishes found arrived) plan.no_clash) in
     record {
       files = plan.files;
@@ -237,7 +237,7 @@ planned_step old mid p found plan same arrived =
 pub planned_step_run : (old mid now : List TreeState) (before between after : Counts) (p : Plan) (found : List MemberFound) (result : Result (List ℕ) Refused)
     → ((files : Files) → IsPlanned mid p found files
     → CarriesOut (Ok found)
-    (and_then (unless_trigger (wishes_of_plan p).no_scripts (touched_paths (file_change (inputs_of_plan p) (wishes_of_plan p) found) files) (found_members found))
+    (and_then (unless_trigger_due (wishes_of_plan p).no_scripts (touched_paths (file_change (inputs_of_plan p) (wishes_of_plan p) found) files) (found_members found))
     (λ allowed. unless_too_large (inputs_of_plan p) (replacement_of_plan p) (wishes_of_plan p) found files)) mid now between after result)
     → IsPlanFrom old (wishes_of_plan p).purge p.packages.now.selection.now.db p.members p.files → IsOnlyRead old mid before between → IsArrived old p.packages.now p.members found
     → IsFoundRun (inputs_of_plan p) (replacement_of_plan p) (wishes_of_plan p) found old now before after result
@@ -247,10 +247,10 @@ planned_step_run old mid now before between after p found result comes plan quie
 
 -- the triggers of a planned change are those that the plan's paths have
 pub triggers_are : (history : List TreeState) (p : Plan) (found : List MemberFound) (files : Files) → IsPlanned history p found files
-    → unless_trigger (wishes_of_plan p).no_scripts (planned_paths p.files) (members_of p.members)
-    ≡ unless_trigger (wishes_of_plan p).no_scripts (touched_paths (file_change (inputs_of_plan p) (wishes_of_plan p) found) files) (found_members found)
+    → unless_trigger_due (wishes_of_plan p).no_scripts (planned_paths p.files) (members_of p.members)
+    ≡ unless_trigger_due (wishes_of_plan p).no_scripts (touched_paths (file_change (inputs_of_plan p) (wishes_of_plan p) found) files) (found_members found)
 triggers_are history p found files planned =
-    λ i. unless_trigger (wishes_of_plan p).no_scripts (map (λ w. w.name) (planned.lists.writes i) ++ planned.lists.removals i) (planned.arrived.members i)
+    λ i. unless_trigger_due (wishes_of_plan p).no_scripts (map (λ w. w.name) (planned.lists.writes i) ++ planned.lists.removals i) (planned.arrived.members i)
 
 -- the packages after a change have arrived
 pub has_arrived : (history : List TreeState) (a : ReadPackages) (ms : Members) (found : List MemberFound) → members_of ms ≡ found_members found → HasReadArrivals history a found

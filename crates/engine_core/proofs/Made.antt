@@ -16,7 +16,7 @@ use Rattle.change_report.specs.change_inputs.Inputs.{Inputs}
 use Rattle.change_report.specs.change_inputs.declared.root.Refused.{Refused}
 use Rattle.change_report.specs.change_inputs.declared.root.Refused.TheVariants.{Disk, Memory, Refusal as IsRefused}
 use Rattle.change_report.specs.change_outcome.ChangeOutcome.{ChangeDone, ChangeWishes, IsClashFoundAmong, change_members, change_or_refusal, change_with_members, file_change, touched_paths, unless_too_large}
-use Rattle.change_report.specs.change_outcome.Triggers.{unless_trigger}
+use Rattle.change_report.specs.change_outcome.Triggers.{unless_trigger_due}
 use Rattle.change_report.specs.change_outcome.MembersAfter.{MemberFound, found_members, members_after}
 use Rattle.command_core.specs.Command.{CommandLine}
 use Rattle.command_core.specs.declared.command.Flags.{Flags}
@@ -24,10 +24,10 @@ use Rattle.change_report.specs.db_core.Seen.{members_of, packages_of}
 use Rattle.change_report.specs.db_core.declared.members.TheConstants.{MOST_MEMBERS}
 use Rattle.dep_core.specs.Repositories.{Repository}
 use Rattle.change_report.specs.make_info.Reads.{Reads}
-use Rattle.change_report.specs.package_files.Runs.{AreObserved, Explains}
+use Rattle.change_report.specs.package_files.Runs.{AreReadsOfTree, IsExplainedBySomeReads}
 use Rattle.change_report.specs.package_changes.Changes.{Replacement}
 use Rattle.change_report.specs.package_changes.Placed.{candidates_at, placed_names_of, replacement_of}
-use Rattle.change_report.specs.package_changes.Seen.{placed_names_seen, replacement_by}
+use Rattle.change_report.specs.package_changes.Seen.{placed_names_seen, placed_replacement_from_parts}
 use Rattle.change_report.specs.package_changes.declared.placed.PlacedNames.{PlacedNames}
 use Rattle.change_report.specs.path_clashes.Clash.{NamePair}
 use Rattle.change_report.specs.candidate_core.Rank.{SealedPool}
@@ -37,7 +37,7 @@ use Rattle.engine_core.specs.ChangeRun.{CarriesOut}
 use Rattle.engine_core.specs.Changed.{IsClashOfSelectedAmong, IsClashUnlessSimulatedAmong, change_of_selected, simulated_change}
 use Rattle.engine_core.specs.Preparing.{HasReadArrivals, AreFoundBy, AreReadFor, IsArrived, IsPlanOfPackages, IsPlanned, IsRootRead, inputs_of_packages, inputs_of_plan, replacement_of_packages, replacement_of_plan, wishes_of_packages, wishes_of_plan}
 use Rattle.engine_core.specs.Runs.{IsSelectedRun}
-use Rattle.engine_core.specs.Selecting.{pool_by}
+use Rattle.engine_core.specs.Selecting.{pool_of_inputs}
 use Rattle.engine_core.specs.SelectionSeen.{HasDatabaseOfInputs, inputs_of_selection, replacement_seen, selection_seen, wishes_of_selection}
 use Rattle.engine_core.specs.declared.choosing.Selection.{Selection}
 use Rattle.engine_core.specs.declared.packages.ReadPackages.{ReadPackages}
@@ -62,7 +62,7 @@ few_by false n e made pool more is same = subst (λ (p : SealedPool). length p.c
     pool_or (Ok p) = p
     pool_or (Err refusal) = made
 
-pub few_candidates : (command : CommandLine) (inputs : Inputs) (pool : SealedPool) → pool_by command inputs ≡ Ok pool → length pool.candidates ≤ MOST_MEMBERS
+pub few_candidates : (command : CommandLine) (inputs : Inputs) (pool : SealedPool) → pool_of_inputs command inputs ≡ Ok pool → length pool.candidates ≤ MOST_MEMBERS
 unfolding root_pool
 few_candidates command inputs pool is = few_by (nat_lt MOST_CANDIDATES (length (candidates_of inputs))) (length (candidates_of inputs)) _ _ pool refl refl is
 
@@ -76,7 +76,7 @@ module _ (s : Selection) (database : HasDatabaseOfInputs s) where
   wishes = wishes_of_selection s
 
   abbrev placed : Replacement
-  placed = replacement_of (replacement_by s.db s.pool s.trace s.again)
+  placed = replacement_of (placed_replacement_from_parts s.db s.pool s.trace s.again)
 
   placed_is : placed ≡ replacement_seen s
   placed_is = λ i. record { before = database i; selected = candidates_at s.pool s.trace; again = s.again }
@@ -86,23 +86,23 @@ module _ (s : Selection) (database : HasDatabaseOfInputs s) where
   members_are read repositories flags are is = λ i. members_after (placed_is i) read (are i) (is i).no_scripts
 
   -- memory has run out
-  pub not_read : (old : List TreeState) → Explains old (λ read. DenotesUnlessDisk {A = ReadPackages} (AreReadFor old s) (Err Memory) (change_members inputs (replacement_seen s) wishes read))
+  pub not_read : (old : List TreeState) → IsExplainedBySomeReads old (λ read. DenotesUnlessDisk {A = ReadPackages} (AreReadFor old s) (Err Memory) (change_members inputs (replacement_seen s) wishes read))
   not_read old = let (read, observed) = some_reads old in record { read = read; observed = observed; is = tt }
 
   module _ (old : List TreeState) (repositories : List Repository) (are : repositories ≡ inputs.root.repositories) (flags : Flags) (is_flags : flags ≡ s.command.now.flags) where
     -- a package that comes is refused
     pub read_refused : (fault : Refused)
-        → Explains old (λ read. DenotesUnlessDisk (λ (a : Arrivals) (found : List MemberFound). AreMembersRead old (packages_of s.db) (arrivals_seen a) found) (Err fault) (members_after placed read repositories flags.no_scripts))
-        → Explains old (λ read. DenotesUnlessDisk {A = ReadPackages} (AreReadFor old s) (Err fault) (change_members inputs (replacement_seen s) wishes read))
+        → IsExplainedBySomeReads old (λ read. DenotesUnlessDisk (λ (a : Arrivals) (found : List MemberFound). AreMembersRead old (packages_of s.db) (arrivals_seen a) found) (Err fault) (members_after placed read repositories flags.no_scripts))
+        → IsExplainedBySomeReads old (λ read. DenotesUnlessDisk {A = ReadPackages} (AreReadFor old s) (Err fault) (change_members inputs (replacement_seen s) wishes read))
     read_refused (IsRefused refusal) explained =
         record { read = explained.read; observed = explained.observed; is = sym (members_are explained.read repositories flags are is_flags) ∙ explained.is }
     read_refused Disk explained = record { read = explained.read; observed = explained.observed; is = tt }
     read_refused Memory explained = record { read = explained.read; observed = explained.observed; is = tt }
 
     -- the packages that come are read
-    pub read_all : (a : ReadPackages) → a.selection.now ≡ s → placed_names_seen a.names ≡ placed_names_of (replacement_by s.db s.pool s.trace s.again)
-        → Explains old (λ read. DenotesUnlessDisk (λ (b : Arrivals) (found : List MemberFound). AreMembersRead old (packages_of s.db) (arrivals_seen b) found) (Ok a.arrivals) (members_after placed read repositories flags.no_scripts))
-        → Explains old (λ read. DenotesUnlessDisk (AreReadFor old s) (Ok a) (change_members inputs (replacement_seen s) wishes read))
+    pub read_all : (a : ReadPackages) → a.selection.now ≡ s → placed_names_seen a.names ≡ placed_names_of (placed_replacement_from_parts s.db s.pool s.trace s.again)
+        → IsExplainedBySomeReads old (λ read. DenotesUnlessDisk (λ (b : Arrivals) (found : List MemberFound). AreMembersRead old (packages_of s.db) (arrivals_seen b) found) (Ok a.arrivals) (members_after placed read repositories flags.no_scripts))
+        → IsExplainedBySomeReads old (λ read. DenotesUnlessDisk (AreReadFor old s) (Ok a) (change_members inputs (replacement_seen s) wishes read))
     read_all a same named explained = record {
       read = explained.read;
       observed = explained.observed;
@@ -111,7 +111,7 @@ module _ (s : Selection) (database : HasDatabaseOfInputs s) where
         sym (members_are explained.read repositories flags are is_flags) ∙ explained.is.1,
         record {
           selection = same;
-          placed = subst (λ (t : Selection). placed_names_seen a.names ≡ placed_names_of (replacement_by t.db t.pool t.trace t.again)) (sym same) named;
+          placed = subst (λ (t : Selection). placed_names_seen a.names ≡ placed_names_of (placed_replacement_from_parts t.db t.pool t.trace t.again)) (sym same) named;
           read = subst (λ (t : Selection). AreMembersRead old (packages_of t.db) (arrivals_seen a.arrivals) explained.is.0) (sym same) explained.is.2;
         },
       );
@@ -121,7 +121,7 @@ module _ (s : Selection) (database : HasDatabaseOfInputs s) where
 
 -- what `read_packages` explains
 abbrev pub Read : List TreeState → Selection → Result ReadPackages Refused → Type 0
-Read old s result = Explains old (λ read. DenotesUnlessDisk (AreReadFor old s) result (change_members (inputs_of_selection s) (replacement_seen s) (wishes_of_selection s) read))
+Read old s result = IsExplainedBySomeReads old (λ read. DenotesUnlessDisk (AreReadFor old s) result (change_members (inputs_of_selection s) (replacement_seen s) (wishes_of_selection s) read))
 
 module _ (s : Selection) (real : s.command.now.flags.simulate ≡ false) where
   change_is : (read : Reads) (files : Files) (clash : Option NamePair) → change_of_selected s.command.now read files clash (selection_seen s) ≡ change_or_refusal (inputs_of_selection s) (replacement_seen s) (wishes_of_selection s) read clash files
@@ -160,14 +160,14 @@ module _ (s : Selection) (real : s.command.now.flags.simulate ≡ false) where
     unarrived have whole Disk explained = selected_failure s.command.now (Ok (selection_seen s)) old mid before between have whole quiet Disk tt
     unarrived have whole Memory explained = selected_failure s.command.now (Ok (selection_seen s)) old mid before between have whole quiet Memory tt
 
-    found_run : (read : Reads) (found : List MemberFound) (now : List TreeState) (after : Counts) (result : Result (List ℕ) Refused) → AreObserved old read
+    found_run : (read : Reads) (found : List MemberFound) (now : List TreeState) (after : Counts) (result : Result (List ℕ) Refused) → AreReadsOfTree old read
         → change_members (inputs_of_selection s) (replacement_seen s) (wishes_of_selection s) read ≡ Ok found
         → IsFoundRun (inputs_of_selection s) (replacement_seen s) (wishes_of_selection s) found mid now between after result
         → IsSelectedRun s.command.now (Ok (selection_seen s)) old now before after result
     found_run read found now after result observed found_is run =
         run_after_reads s.command.now (Ok (selection_seen s)) old mid now before between after result quiet (record {
           read = read;
-          observed = subst (λ (h : List TreeState). AreObserved h read) (sym quiet.same) observed;
+          observed = subst (λ (h : List TreeState). AreReadsOfTree h read) (sym quiet.same) observed;
           files = run.files;
           there = run.there;
           present_files = run.present_files;
@@ -226,7 +226,7 @@ module _ (law : HaveMembers) (old mid : List TreeState) (before between : Counts
       (comes files planned))
       plan.files quiet plan_arrived)
     where
-      allowed : (files : Files) → IsPlanned mid p found files → unless_trigger (wishes_of_plan p).no_scripts (touched_paths (file_change (inputs_of_plan p) (wishes_of_plan p) found) files) (found_members found) ≡ Ok true
+      allowed : (files : Files) → IsPlanned mid p found files → unless_trigger_due (wishes_of_plan p).no_scripts (touched_paths (file_change (inputs_of_plan p) (wishes_of_plan p) found) files) (found_members found) ≡ Ok true
       allowed files planned = sym (triggers_are mid p found files planned) ∙ plan.triggers
 
 -- ---- a trigger is due
@@ -240,14 +240,14 @@ no_disk view wanted Memory told is = cc
 pub untriggered : HaveMembers → (old mid : List TreeState) (before between : Counts) → IsOnlyRead old mid before between → (p : Plan) → IsPlanFrom old (wishes_of_plan p).purge p.packages.now.selection.now.db p.members p.files
     → members_of p.members ≡ members_read (packages_of p.packages.now.selection.now.db) (arrivals_seen p.packages.now.arrivals) → (found : List MemberFound) → HasReadArrivals old p.packages.now found
     → (fault : Refused) (flags : Flags) → flags ≡ p.packages.now.selection.now.command.now.flags
-    → Agrees {A = Unit {0}} (λ _. true) (Err fault) (unless_trigger flags.no_scripts (planned_paths p.files) (members_of p.members))
+    → Agrees {A = Unit {0}} (λ _. true) (Err fault) (unless_trigger_due flags.no_scripts (planned_paths p.files) (members_of p.members))
     → IsFoundRun (inputs_of_plan p) (replacement_of_plan p) (wishes_of_plan p) found old mid before between (Err fault)
 untriggered law old mid before between quiet p files members found arrivals fault flags is_flags told =
     planned_step_run old mid mid before between between p found (Err fault)
     (λ fs planned.
-    part_fails {A = Unit {0}} {B = Bool} (Ok found) (unless_trigger (wishes_of_plan p).no_scripts (touched_paths (file_change (inputs_of_plan p) (wishes_of_plan p) found) fs) (found_members found))
-    (unless_trigger flags.no_scripts (planned_paths p.files) (members_of p.members)) (λ allowed. unless_too_large (inputs_of_plan p) (replacement_of_plan p) (wishes_of_plan p) found fs) (λ _. true) mid between fault
-    ((λ i. unless_trigger (is_flags i).no_scripts (planned_paths p.files) (members_of p.members)) ∙ triggers_are mid p found fs planned) told)
+    part_fails {A = Unit {0}} {B = Bool} (Ok found) (unless_trigger_due (wishes_of_plan p).no_scripts (touched_paths (file_change (inputs_of_plan p) (wishes_of_plan p) found) fs) (found_members found))
+    (unless_trigger_due flags.no_scripts (planned_paths p.files) (members_of p.members)) (λ allowed. unless_too_large (inputs_of_plan p) (replacement_of_plan p) (wishes_of_plan p) found fs) (λ _. true) mid between fault
+    ((λ i. unless_trigger_due (is_flags i).no_scripts (planned_paths p.files) (members_of p.members)) ∙ triggers_are mid p found fs planned) told)
     files quiet (has_arrived old p.packages.now p.members found (members ∙ law _ _ _ found arrivals.read) arrivals)
 
 -- nor does the rendering

@@ -8,7 +8,7 @@ use Rattle.std.specs.Str.{bytes_eq}
 use Rattle.std.proofs.lemmas.Slice.Eq.{bytes_eq-Decides}
 use Rattle.std.proofs.lemmas.Bool.{or_from}
 use Rattle.change_report.proofs.file_owners.NamedPlaces.{turned}
-use Rattle.change_report.specs.change_files.PlanLists.{names_in_order, unless_next, without_repeats}
+use Rattle.change_report.specs.change_files.PlanLists.{sorted_distinct_names, prepend_unless_repeated, without_repeats}
 use Rattle.change_report.specs.journal_intent.FreeNames.{HaveNoRepeats, IsNoneOf, IsOneOf}
 use Rattle.base_core.specs.ByteOrder.{bytes_cmp}
 use Rattle.base_core.specs.Sorted.{sorted_by, with_element}
@@ -43,12 +43,12 @@ without_same : (xs : List (List ℕ)) → HaveNoRepeats xs → without_repeats x
 without_same [] once = refl
 without_same (x ∷ []) once = refl
 without_same (x ∷ y ∷ ys) once =
-    ap (unless_next x) (without_same (y ∷ ys) once.1)
+    ap (prepend_unless_repeated x) (without_same (y ∷ ys) once.1)
     ∙ ap (λ b. cond b (y ∷ ys) (x ∷ y ∷ ys)) (neither_first (bytes_eq x y) _ once.0)
 
 -- names that stand once are only sorted
-pub once_ordered : (xs : List (List ℕ)) → HaveNoRepeats xs → sorted_by bytes_cmp xs ≡ names_in_order xs
-unfolding names_in_order
+pub once_ordered : (xs : List (List ℕ)) → HaveNoRepeats xs → sorted_by bytes_cmp xs ≡ sorted_distinct_names xs
+unfolding sorted_distinct_names
 once_ordered xs once = sym (without_same (sorted_by bytes_cmp xs) (once_sorted xs once))
 
 pub once_both : (xs ys : List (List ℕ)) → HaveNoRepeats xs → HaveNoRepeats ys → ((q : List ℕ) → IsOneOf q xs → IsNoneOf q ys) → HaveNoRepeats (xs ++ ys)

@@ -8,20 +8,20 @@ use Rattle.change_report.specs.change_inputs.declared.root.Refused.TheVariants a
 use Rattle.change_report.specs.own_core.declared.fault.PlanFault.{PlanFault}
 use Rattle.change_report.specs.own_core.declared.fault.PlanFault.TheVariants as Plans
 use Rattle.change_report.specs.own_core.declared.planning.FilePlan.{FilePlan}
-use Rattle.engine_core.specs.Plans.{IsRefusedFor}
+use Rattle.engine_core.specs.Plans.{IsRefusalOfPlanFault}
 
 pub plan_read : (old now : List TreeState) (before after : Counts) (plan : FilePlan) → OnlyReads {E = PlanFault} Plans.Disk old now before after (Ok plan) → OnlyReads {E = Refused} Commands.Disk old now before after (Ok plan)
 plan_read old now before after plan reads = record { same = reads.same; goes_on = reads.goes_on; disk = λ is. absurd (cc); kept = reads.kept; others = tt; proper = reads.proper }
 
 -- a refusal is an I/O error only if the plan ended by one
-disk_by : (fault : PlanFault) (refused : Refused) → IsRefusedFor fault refused → refused ≡ Commands.Disk → fault ≡ Plans.Disk
+disk_by : (fault : PlanFault) (refused : Refused) → IsRefusalOfPlanFault fault refused → refused ≡ Commands.Disk → fault ≡ Plans.Disk
 disk_by (Plans.Reserved path) refused is disk = absurd (cc)
 disk_by (Plans.PathClash path other) refused is disk = absurd (cc)
 disk_by (Plans.Owned path one two) refused is disk = absurd (cc)
 disk_by Plans.Disk refused is disk = refl
 disk_by Plans.Memory refused is disk = absurd (cc)
 
-disk_of : (fault : PlanFault) (refused : Refused) → IsRefusedFor fault refused → fault ≡ Plans.Disk → refused ≡ Commands.Disk
+disk_of : (fault : PlanFault) (refused : Refused) → IsRefusalOfPlanFault fault refused → fault ≡ Plans.Disk → refused ≡ Commands.Disk
 disk_of (Plans.Reserved path) refused is disk = absurd (cc)
 disk_of (Plans.PathClash path other) refused is disk = absurd (cc)
 disk_of (Plans.Owned path one two) refused is disk = absurd (cc)
@@ -31,7 +31,7 @@ disk_of Plans.Memory refused is disk = absurd (cc)
 same_error : {A E : Type 0} (r : Result A E) (e f : E) → r ≡ Err e → r ≡ Err f → e ≡ f
 same_error r e f one other = cc
 
-pub refused_read : (old now : List TreeState) (before after : Counts) (fault : PlanFault) (refused : Refused) → IsRefusedFor fault refused
+pub refused_read : (old now : List TreeState) (before after : Counts) (fault : PlanFault) (refused : Refused) → IsRefusalOfPlanFault fault refused
     → OnlyReads {A = FilePlan} {E = PlanFault} Plans.Disk old now before after (Err fault) → OnlyReads {A = FilePlan} {E = Refused} Commands.Disk old now before after (Err refused)
 refused_read old now before after fault refused is reads = record {
   same = reads.same;

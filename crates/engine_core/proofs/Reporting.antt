@@ -2,7 +2,7 @@
 use Rattle.std.proofs.Common.{◌≡◌, ◌∙◌, ℕ, List, [], ◌∷◌, map, Option, Some, None, refl, ap}
 use Rattle.std.specs.Prelude.{option_map}
 use Rattle.std.specs.List.{cons_option, filter_map}
-use Rattle.change_report.specs.package_changes.Changes.{change_of_name, changes_of, names_on_both_sides}
+use Rattle.change_report.specs.package_changes.Changes.{change_of_name, changes_of, names_before_and_selected}
 use Rattle.change_report.specs.package_changes.Placed.{PlacedChange, PlacedName, PlacedReplacement, change_in, placed_name_of, placed_names_of, replacement_of}
 use Rattle.change_report.proofs.package_changes.PlacedLaws.{change_alone}
 
@@ -24,4 +24,4 @@ changes_by own p (name ∷ names) =
 
 pub changes_named : HaveOwnChange → (p : PlacedReplacement) → map (λ (c : PlacedChange). c.change) (filter_map change_in (placed_names_of p)) ≡ changes_of (replacement_of p)
 unfolding placed_names_of changes_of
-changes_named own p = changes_by own p (names_on_both_sides (replacement_of p))
+changes_named own p = changes_by own p (names_before_and_selected (replacement_of p))

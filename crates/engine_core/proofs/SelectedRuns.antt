@@ -4,7 +4,7 @@ use Rattle.std.specs.Prelude.{All, if◌then◌else◌}
 use Rattle.std.specs.Result.{IsErrAnd}
 use Rattle.base_core.specs.Faults.{Counts}
 use Rattle.base_core.specs.Tree.{IsWellFormed, TreeState}
-use Rattle.change_report.specs.change_inputs.Answers.{Agrees, IsFailure}
+use Rattle.change_report.specs.change_inputs.Answers.{Agrees, IsDiskOrMemoryFailure}
 use Rattle.change_report.specs.change_inputs.Candidates.{root_pool}
 use Rattle.change_report.specs.change_inputs.Chains.{and_then}
 use Rattle.change_report.specs.change_inputs.Inputs.{Inputs}
@@ -17,10 +17,10 @@ use Rattle.change_report.specs.candidate_core.Rank.{SealedPool, UpgradedNames}
 use Rattle.report_core.specs.declared.refusal.Refusal.{Refusal}
 use Rattle.report_core.specs.declared.refusal.Refusal.TheVariants.{NotInstalled}
 use Rattle.engine_core.specs.Changed.{Selected, selected_by, selected_of_inputs, simulated_change}
-use Rattle.engine_core.specs.Choice.{IsChoice, IsChoiceFrom}
-use Rattle.engine_core.specs.Chosen.{IsChosen}
+use Rattle.engine_core.specs.Choice.{IsPreferredChoice, IsChoiceFrom}
+use Rattle.engine_core.specs.Chosen.{IsResultOfChoice}
 use Rattle.engine_core.specs.Runs.{IsSelectedRun}
-use Rattle.engine_core.specs.Selecting.{pool_by, replacement_of_choice}
+use Rattle.engine_core.specs.Selecting.{pool_of_inputs, replacement_of_choice}
 use Rattle.engine_core.specs.SelectionSeen.{IsSelectedFrom, selection_seen}
 use Rattle.engine_core.specs.Wishes.{names_to_remove, names_to_reinstall, names_to_upgrade, unknown_operand_place, unless_unknown_operand, wishes_of}
 use Rattle.engine_core.specs.declared.choosing.Selection.{Selection}
@@ -35,7 +35,7 @@ abbrev pub IsRunBy :
     → Result (List ℕ) Refused → Type 0
 IsRunBy command inputs old now before after result =
     (chosen : Option (List ℕ))
-    × IsChoiceFrom (pool_by command inputs) chosen
+    × IsChoiceFrom (pool_of_inputs command inputs) chosen
     × IsSelectedRun command (selected_of_inputs command chosen inputs)
     old now before after result
 
@@ -44,9 +44,9 @@ with_error P (Ok a) fault is p = absurd is
 with_error P (Err e) fault is p = let Q : Refused → Type 0 = λ f. P (Err f) in subst Q (sym is) p
 
 module _ (command : CommandLine) (inputs : Inputs) (old now : List TreeState) (before after : Counts) where
-  pub run_failure : HaveChoice → HaveClash → All IsWellFormed old → IsOnlyRead old now before after → (fault : Refused) → IsFailure fault → IsRunBy command inputs old now before after (Err fault)
+  pub run_failure : HaveChoice → HaveClash → All IsWellFormed old → IsOnlyRead old now before after → (fault : Refused) → IsDiskOrMemoryFailure fault → IsRunBy command inputs old now before after (Err fault)
   run_failure choose have whole quiet fault is =
-      let (chosen, choice) = choose (pool_by command inputs) in
+      let (chosen, choice) = choose (pool_of_inputs command inputs) in
       (chosen, choice, selected_failure command (selected_of_inputs command chosen inputs) old now before after have whole quiet fault is)
 
   -- nothing is selected
@@ -65,7 +65,7 @@ module _ (command : CommandLine) (inputs : Inputs) (old now : List TreeState) (b
 
 module _ (command : CommandLine) (inputs : Inputs) where
   pub out_of_memory : HaveChoice → IsSelectedFrom command inputs (Err Memory)
-  out_of_memory choose = let (chosen, choice) = choose (pool_by command inputs) in (chosen, choice, tt)
+  out_of_memory choose = let (chosen, choice) = choose (pool_of_inputs command inputs) in (chosen, choice, tt)
 
   -- it is no I/O error
   pub not_disk : (fault : Refused) → IsSelectedFrom command inputs (Err fault) → fault ≡ Disk → ⊥
@@ -78,7 +78,7 @@ module _ (command : CommandLine) (inputs : Inputs) where
   without_pool choose fault names same agrees =
       by fault (subst (λ (p : Result SealedPool Refusal). Agrees (λ (pool : SealedPool). pool) (Err fault) p) (ap (root_pool inputs) same) agrees)
     where
-      by : (fault : Refused) → Agrees (λ (pool : SealedPool). pool) (Err fault) (pool_by command inputs) → IsSelectedFrom command inputs (Err fault)
+      by : (fault : Refused) → Agrees (λ (pool : SealedPool). pool) (Err fault) (pool_of_inputs command inputs) → IsSelectedFrom command inputs (Err fault)
       by (IsRefused refusal) is = (
         None,
         subst (λ (p : Result SealedPool Refusal). IsChoiceFrom p None) (sym is) refl,
@@ -87,25 +87,25 @@ module _ (command : CommandLine) (inputs : Inputs) where
       by Disk is = absurd is
       by Memory is = out_of_memory choose
 
-  module _ (pool : SealedPool) (pool_is : pool_by command inputs ≡ Ok pool) where
+  module _ (pool : SealedPool) (pool_is : pool_of_inputs command inputs ≡ Ok pool) where
     selected_is : (chosen : Option (List ℕ)) (unknown : Option ℕ) → unknown_operand_place command.applet inputs command.operands ≡ unknown
         → selected_of_inputs command chosen inputs ≡ unless_unknown_operand unknown (selected_by command inputs pool chosen)
     selected_is chosen unknown known_is =
         ap (λ (p : Result SealedPool Refusal). and_then p (λ pool. unless_unknown_operand (unknown_operand_place command.applet inputs command.operands) (selected_by command inputs pool chosen))) pool_is
         ∙ ap (λ (o : Option ℕ). unless_unknown_operand o (selected_by command inputs pool chosen)) known_is
 
-    choice_is : (chosen : Option (List ℕ)) → IsChoice pool chosen → IsChoiceFrom (pool_by command inputs) chosen
+    choice_is : (chosen : Option (List ℕ)) → IsPreferredChoice pool chosen → IsChoiceFrom (pool_of_inputs command inputs) chosen
     choice_is chosen choice = subst (λ (p : Result SealedPool Refusal). IsChoiceFrom p chosen) (sym pool_is) choice
 
     -- an operand is not known
     pub unknown_operand_found : HaveChoice → (place : ℕ) → unknown_operand_place command.applet inputs command.operands ≡ Some place → IsSelectedFrom command inputs (Err (IsRefused (NotInstalled place)))
     unknown_operand_found choose place is =
-        let (chosen, choice) = choose (pool_by command inputs) in
+        let (chosen, choice) = choose (pool_of_inputs command inputs) in
         (chosen, choice, selected_is chosen (Some place) is)
 
-    module _ (known : unknown_operand_place command.applet inputs command.operands ≡ None) (chosen : Option (List ℕ)) (choice : IsChoice pool chosen) where
+    module _ (known : unknown_operand_place command.applet inputs command.operands ≡ None) (chosen : Option (List ℕ)) (choice : IsPreferredChoice pool chosen) where
       -- no selection satisfies the world
-      pub unchosen : (fault : Refused) → IsChosen chosen (Err fault) → IsSelectedFrom command inputs (Err fault)
+      pub unchosen : (fault : Refused) → IsResultOfChoice chosen (Err fault) → IsSelectedFrom command inputs (Err fault)
       unchosen (IsRefused refusal) is =
           (chosen, choice_is chosen choice, selected_is chosen None known ∙ ap (selected_by command inputs pool) is.0 ∙ ap Err (sym is.1))
       unchosen Disk is = absurd is

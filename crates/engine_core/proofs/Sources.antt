@@ -9,7 +9,7 @@ use Rattle.journal_staging.specs.adb_schema.Reserved.{is_reserved}
 use Rattle.adb_view.specs.Plain.{Plain}
 use Rattle.added_packages.specs.Arrivals.{IsFileOfMember}
 use Rattle.change_report.specs.change_files.FileChange.{FileChange}
-use Rattle.change_report.specs.change_files.FilesAfter.{RootFilesAfter, changed_files, database_name, is_written, listing_bytes, world_bytes_after, world_name, written_as}
+use Rattle.change_report.specs.change_files.FilesAfter.{RootFilesAfter, changed_files, database_name, is_written, listing_bytes, world_bytes_after, world_name, listing_written_under_name}
 use Rattle.change_report.specs.change_files.PlanLists.{FileWrite, file_writes_of, write_to}
 use Rattle.change_report.specs.change_files.Touched.{is_record_name}
 use Rattle.change_report.proofs.change_files.Lists.{IsOneOf}
@@ -22,10 +22,10 @@ use Rattle.std.proofs.lemmas.Bool.{false_from_ne_true}
 use Rattle.change_report.specs.change_inputs.Inputs.{Inputs}
 use Rattle.change_report.specs.change_outcome.Premises.{HasNoReservedPath, IsRootOfFiles}
 use Rattle.change_report.proofs.change_outcome.ActionNames.{written_free}
-use Rattle.change_report.specs.change_outcome.ChangeOutcome.{bytes_under, is_other_file, new_records}
+use Rattle.change_report.specs.change_outcome.ChangeOutcome.{bytes_or_empty_under, is_absent_or_different, new_records}
 use Rattle.change_report.specs.change_outcome.MembersAfter.{MemberFound, found_package_contents}
 use Rattle.change_report.specs.db_core.Members.{Listing, Member, member_listings}
-use Rattle.journal_staging.specs.file_guard.AsListed.{has_target, link_bytes, link_to}
+use Rattle.journal_staging.specs.file_guard.AsListed.{has_target, link_bytes, link_bytes_to}
 use Rattle.base_core.proofs.Sorting.{Each}
 use Rattle.change_report.specs.own_core.ClaimEntries.{folders_if_any, listed_file_at}
 use Rattle.change_report.proofs.own_core.Listings.{IsPlaced, each_placed}
@@ -36,8 +36,8 @@ use Rattle.journal_staging.specs.Sources.{EachDenotes, DenotesBytes}
 use Rattle.journal_staging.specs.declared.writes.Source.{Source}
 use Rattle.journal_staging.specs.declared.writes.Source.TheVariants.{Bytes, File, Link}
 use Rattle.journal_staging.specs.declared.writes.StagedWrite.{StagedWrite}
-use Rattle.engine_core.specs.Preparing.{AreRecordWrites, AreRecordsOf, bytes_if}
-use Rattle.engine_core.specs.Writing.{HasBytes, IsRecordOf, IsSourceOfWrite, IsWriteBy, entry_of_write, write_name}
+use Rattle.engine_core.specs.Preparing.{AreRecordWrites, AreNewRecordsOf, bytes_if}
+use Rattle.engine_core.specs.Writing.{HasBytes, IsWriteOfRecord, IsSourceOfWrite, IsWriteBy, entry_of_write, name_of_write}
 use Rattle.engine_core.specs.declared.rendering.NewRecords.{NewRecords}
 use Rattle.engine_core.specs.declared.writes.RecordWrites.{RecordWrites}
 
@@ -65,7 +65,7 @@ module _ (inputs : Inputs) (change : FileChange) (contents : ℕ → List Conten
   abbrev after : Files
   after = changed_files change (listing_bytes contents) records files
 
-  placed : (l : Listing) (name : List ℕ) → written_as change files name ≡ Some l → IsPlaced change.members l
+  placed : (l : Listing) (name : List ℕ) → listing_written_under_name change files name ≡ Some l → IsPlaced change.members l
   placed l name written =
       each_one (IsPlaced change.members) (member_listings change.members) l (each_placed change.members)
       ((coming_is change l.path l (written_is change files name l written).comes).0).listed
@@ -76,23 +76,23 @@ module _ (inputs : Inputs) (change : FileChange) (contents : ℕ → List Conten
   no_record : (name : List ℕ) → is_reserved name ≡ false → is_record_name records name ≡ false
   no_record name unreserved = false_from_ne_true (is_record_name records name) (λ is. true≢false (sym (records_reserved records name is) ∙ unreserved))
 
-  some_written : (l : Listing) (name : List ℕ) → written_as change files name ≡ Some l → is_written change files name ≡ true
+  some_written : (l : Listing) (name : List ℕ) → listing_written_under_name change files name ≡ Some l → is_written change files name ≡ true
   some_written l name written = ap is_some written
 
-  bytes_by : (l : Listing) (name : List ℕ) → written_as change files name ≡ Some l → bytes_under after name ≡ write_bytes change.members contents (write_to name l)
+  bytes_by : (l : Listing) (name : List ℕ) → listing_written_under_name change files name ≡ Some l → bytes_or_empty_under after name ≡ write_bytes change.members contents (write_to name l)
   bytes_by l name written =
       ap (λ (o : Option (List ℕ)). unwrap_or o []) (takes_its_path change (listing_bytes contents) records files name l written
       (no_record name (written_free inputs change files records free name (some_written l name written))))
       ∙ listing_bytes_are contents change.members name l (entry_is l name (placed l name written))
 
-  pub file_bytes : (w : FileWrite) → Contains (file_writes_of change files) w → bytes_under after w.name ≡ write_bytes change.members contents w
+  pub file_bytes : (w : FileWrite) → Contains (file_writes_of change files) w → bytes_or_empty_under after w.name ≡ write_bytes change.members contents w
   file_bytes w here =
       let is = (writes_are change files w).0 here in
       bytes_by is.listing w.name is.written ∙ sym (ap (write_bytes change.members contents) is.shown)
 
   -- ---- the database and world
 
-  pub database_bytes : bytes_under after database_name ≡ database
+  pub database_bytes : bytes_or_empty_under after database_name ≡ database
   database_bytes = ap (λ (o : Option (List ℕ)). unwrap_or o []) (database_after change (listing_bytes contents) records files)
 
   world_by : after world_name ≡ world_bytes_after records.world (files world_name)
@@ -104,7 +104,7 @@ module _ (inputs : Inputs) (change : FileChange) (contents : ℕ → List Conten
   said_world [] (Some old) = refl
   said_world (b ∷ world) old = refl
 
-  pub world_bytes : bytes_under after world_name ≡ records.world
+  pub world_bytes : bytes_or_empty_under after world_name ≡ records.world
   world_bytes = ap (λ (o : Option (List ℕ)). unwrap_or o []) world_by ∙ said_world records.world (files world_name)
 
 -- ---- sources
@@ -114,8 +114,8 @@ given_bytes own None b bytes is copied = absurd (cc)
 given_bytes own (Some x) true bytes is copied = let same : x ≡ bytes = cc in sym (ap (λ (y : Bor (List ℕ)). y.now) same) ∙ cc
 given_bytes own (Some x) false bytes is copied = absurd (cc)
 
-record_stands : (files : Files) (name own wanted : List ℕ) (b : Bool) (opt : Option (Bor (List ℕ))) (write : StagedWrite) → option_copied opt ≡ bytes_if b own → own ≡ wanted → IsRecordOf name opt write
-    → (write_name write ≡ name) × DenotesBytes files write.source wanted
+record_stands : (files : Files) (name own wanted : List ℕ) (b : Bool) (opt : Option (Bor (List ℕ))) (write : StagedWrite) → option_copied opt ≡ bytes_if b own → own ≡ wanted → IsWriteOfRecord name opt write
+    → (name_of_write write ≡ name) × DenotesBytes files write.source wanted
 record_stands files name own wanted b None write copied same is = absurd is
 record_stands files name own wanted b (Some bytes) write copied same is = (is.named, by write.source is.source)
   where
@@ -133,7 +133,7 @@ module _ (v : TreeState) (earlier : List TreeState) (found : List MemberFound) (
   file_stands w bytes (Bytes own) is source = absurd source
   file_stands w bytes (Link target) is source =
       is ∙ (ap (λ (b : Bool). if b then link_bytes (entry_of_write members w) else bytes_of_file w.folder w.file (found_package_contents found w.member)) source.0
-      ∙ ap link_to (sym source.1))
+      ∙ ap link_bytes_to (sym source.1))
   file_stands w bytes (File f) is source =
       let of = source.1 in
       let file = read w.member f.package.now of.read in
@@ -164,28 +164,28 @@ mapped_long f g [] = refl
 mapped_long f g (x ∷ xs) = ap suc (mapped_long f g xs)
 
 module _ (inputs : Inputs) (change : FileChange) (found : List MemberFound) (own : NewRecords) (rw : RecordWrites) (packages : ℕ → Option TestedPackage)
-    (is_own : AreRecordsOf inputs own) (which : AreRecordWrites inputs own rw) (free : HasNoReservedPath change)
+    (is_own : AreNewRecordsOf inputs own) (which : AreRecordWrites inputs own rw) (free : HasNoReservedPath change)
     (v : TreeState) (earlier : List TreeState) (read : FilesAreRead (v ∷ earlier) found packages)
     (files : Files) (root : IsRootOfFiles files inputs.root) where
   abbrev left : Files
   left = changed_files change (listing_bytes (found_package_contents found)) (new_records inputs own.database.items) files
 
-  one_stands : (w : StagedWrite) → IsWriteBy change.members packages (file_writes_of change files) rw w → DenotesBytes (files_of v) w.source (bytes_under left (write_name w))
+  one_stands : (w : StagedWrite) → IsWriteBy change.members packages (file_writes_of change files) rw w → DenotesBytes (files_of v) w.source (bytes_or_empty_under left (name_of_write w))
   one_stands w (inl f) =
-      file_stands v earlier found change.members packages read f.file (bytes_under left (write_name w)) w.source
-      (ap (bytes_under left) f.named ∙ file_bytes inputs change (found_package_contents found) own.database.items files root free f.file f.planned_file) f.source
+      file_stands v earlier found change.members packages read f.file (bytes_or_empty_under left (name_of_write w)) w.source
+      (ap (bytes_or_empty_under left) f.named ∙ file_bytes inputs change (found_package_contents found) own.database.items files root free f.file f.planned_file) f.source
   one_stands w (inr (inl r)) =
-      let (named, located) = record_stands (files_of v) rw.database_name.now own.database.items own.database.items (is_other_file inputs.root.database.file own.database.items) rw.database w which.database refl r in
+      let (named, located) = record_stands (files_of v) rw.database_name.now own.database.items own.database.items (is_absent_or_different inputs.root.database.file own.database.items) rw.database w which.database refl r in
       subst (DenotesBytes (files_of v) w.source)
-      (sym (ap (bytes_under left) (named ∙ (which.database_name ∙ is_own.database_name)) ∙ database_bytes inputs change (found_package_contents found) own.database.items files root free)) located
+      (sym (ap (bytes_or_empty_under left) (named ∙ (which.database_name ∙ is_own.database_name)) ∙ database_bytes inputs change (found_package_contents found) own.database.items files root free)) located
   one_stands w (inr (inr r)) =
       let (named, located) = record_stands (files_of v) rw.world_name.now own.world own.world (not (bytes_eq inputs.root.world_text own.world)) rw.world w which.world refl r in
       subst (DenotesBytes (files_of v) w.source)
-      (is_own.world ∙ sym (ap (bytes_under left) (named ∙ (which.world_name ∙ is_own.world_name)) ∙ world_bytes inputs change (found_package_contents found) own.database.items files root free)) located
+      (is_own.world ∙ sym (ap (bytes_or_empty_under left) (named ∙ (which.world_name ∙ is_own.world_name)) ∙ world_bytes inputs change (found_package_contents found) own.database.items files root free)) located
 
-  pub all_stand : (writes : List StagedWrite) → All (IsWriteBy change.members packages (file_writes_of change files) rw) writes → EachDenotes (files_of v) writes (map (bytes_under left) (map write_name writes))
+  pub all_stand : (writes : List StagedWrite) → All (IsWriteBy change.members packages (file_writes_of change files) rw) writes → EachDenotes (files_of v) writes (map (bytes_or_empty_under left) (map name_of_write writes))
   all_stand writes each = record {
-    same = mapped_long write_name (bytes_under left) writes;
-    each = λ i w bytes at is. subst (DenotesBytes (files_of v) w.source) (sym (mapped_at write_name (bytes_under left) writes i w bytes at is))
+    same = mapped_long name_of_write (bytes_or_empty_under left) writes;
+    each = λ i w bytes at is. subst (DenotesBytes (files_of v) w.source) (sym (mapped_at name_of_write (bytes_or_empty_under left) writes i w bytes at is))
         (one_stands w (all_at (IsWriteBy change.members packages (file_writes_of change files) rw) writes i w each at));
   }

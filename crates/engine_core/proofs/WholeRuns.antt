@@ -6,7 +6,7 @@ use Rattle.base_core.specs.Calls.{IfObservable}
 use Rattle.base_core.specs.Faults.{Counts}
 use Rattle.base_core.specs.Files.{Files}
 use Rattle.base_core.specs.Tree.{IsWellFormed, TreeState, files_of}
-use Rattle.change_report.specs.change_inputs.Answers.{AgreesUnlessDisk, IsFailure}
+use Rattle.change_report.specs.change_inputs.Answers.{AgreesUnlessDisk, IsDiskOrMemoryFailure}
 use Rattle.change_report.specs.change_inputs.Chains.{and_then}
 use Rattle.change_report.specs.change_inputs.Inputs.{Inputs, first_index_read, inputs_of}
 use Rattle.change_report.specs.change_inputs.Seen.{inputs_seen}
@@ -18,7 +18,7 @@ use Rattle.change_report.specs.change_outcome.MembersAfter.{MemberFound, members
 use Rattle.command_core.specs.Command.{CommandLine}
 use Rattle.dep_core.specs.Repositories.{Repository}
 use Rattle.change_report.specs.make_info.Reads.{Reads}
-use Rattle.change_report.specs.package_files.Runs.{AreObserved, Explains}
+use Rattle.change_report.specs.package_files.Runs.{AreReadsOfTree, IsExplainedBySomeReads}
 use Rattle.change_report.specs.package_changes.Changes.{Replacement}
 use Rattle.change_report.specs.path_clashes.Clash.{NamePair}
 use Rattle.change_report.specs.candidate_core.Rank.{SealedPool}
@@ -29,7 +29,7 @@ use Rattle.engine_core.specs.ChangeRun.{CarriesOut, IsChangeRun}
 use Rattle.engine_core.specs.Changed.{IsClashOfSelected, IsClashOfSelectedAmong, IsClashUnlessSimulatedAmong, Selected, change_of_selected, change_of_command, found_packages, selected_by, selected_for, selected_of_inputs, simulated_change}
 use Rattle.engine_core.specs.Choice.{IsChoiceFrom}
 use Rattle.engine_core.specs.Runs.{IsSelectedRun}
-use Rattle.engine_core.specs.Selecting.{pool_by, pool_for}
+use Rattle.engine_core.specs.Selecting.{pool_of_inputs, pool_of_command}
 use Rattle.engine_core.specs.Wishes.{unknown_operand_place, unless_unknown_operand, wishes_of}
 use Rattle.engine_core.proofs.Early.{HaveClash, IsOnlyRead, comes_to_failure, comes_to_refusal, files_seen}
 use Rattle.engine_core.proofs.SelectedRuns.{HaveChoice, IsRunBy}
@@ -59,7 +59,7 @@ splice_after count first behind n name less =
     let is : nat_lt n count ≡ false = grind (arith, nat_tests) in
     ap (λ (b : Bool). if b then first n name else behind n name) is
 
-splice_observed : (count : ℕ) (first behind : Reads) (old : List TreeState) → AreObserved old first → AreObserved old behind → AreObserved old (splice count first behind)
+splice_observed : (count : ℕ) (first behind : Reads) (old : List TreeState) → AreReadsOfTree old first → AreReadsOfTree old behind → AreReadsOfTree old (splice count first behind)
 unfolding splice
 splice_observed count first behind [] f b = tt
 splice_observed count first behind (v ∷ earlier) f b = λ n name. by (nat_lt n count) n name
@@ -90,7 +90,7 @@ pub run_after_reads : (command : CommandLine) (selected : Result Selected Refusa
     → IsOnlyRead old mid before between → IsSelectedRun command selected mid now between after result → IsSelectedRun command selected old now before after result
 run_after_reads command selected old mid now before between after result quiet run = record {
   read = run.read;
-  observed = subst (λ (h : List TreeState). AreObserved h run.read) quiet.same run.observed;
+  observed = subst (λ (h : List TreeState). AreReadsOfTree h run.read) quiet.same run.observed;
   files = run.files;
   there = subst (λ (h : List TreeState). IfObservable h (λ v. run.files ≡ files_of v)) quiet.same run.there;
   present_files = run.present_files;
@@ -140,7 +140,7 @@ HasInputs inputs (Ok s) = s.inputs ≡ inputs
 HasInputs inputs (Err refusal) = Unit {0}
 
 selected_has : (command : CommandLine) (chosen : Option (List ℕ)) (inputs : Inputs) → HasInputs inputs (selected_of_inputs command chosen inputs)
-selected_has command chosen inputs = by_pool (pool_by command inputs)
+selected_has command chosen inputs = by_pool (pool_of_inputs command inputs)
   where
     by_choice : (pool : SealedPool) (c : Option (List ℕ)) → HasInputs inputs (selected_by command inputs pool c)
     by_choice pool None = tt
@@ -155,8 +155,8 @@ selected_has command chosen inputs = by_pool (pool_by command inputs)
     by_pool (Err refusal) = tt
 
 module _ (have : HaveOwnReads) (command : CommandLine) (inputs : Inputs) (old now : List TreeState) (before after : Counts) (result : Result (List ℕ) Refused)
-    (first : Reads) (observed : AreObserved old first) (is : inputs_of command first ≡ Ok inputs)
-    (chosen : Option (List ℕ)) (choice : IsChoiceFrom (pool_by command inputs) chosen)
+    (first : Reads) (observed : AreReadsOfTree old first) (is : inputs_of command first ≡ Ok inputs)
+    (chosen : Option (List ℕ)) (choice : IsChoiceFrom (pool_of_inputs command inputs) chosen)
     (run : IsSelectedRun command (selected_of_inputs command chosen inputs) old now before after result) where
   count : ℕ
   count = first_index_read + length inputs.root.repositories
@@ -205,7 +205,7 @@ module _ (have : HaveOwnReads) (command : CommandLine) (inputs : Inputs) (old no
     read = read;
     observed = splice_observed count first run.read old observed run.observed;
     chosen = chosen;
-    choice = subst (λ (r : Result Inputs Refusal). IsChoiceFrom (and_then r (pool_by command)) chosen) (sym inputs_is) choice;
+    choice = subst (λ (r : Result Inputs Refusal). IsChoiceFrom (and_then r (pool_of_inputs command)) chosen) (sym inputs_is) choice;
     files = run.files;
     there = run.there;
     present_files = run.present_files;
@@ -218,7 +218,7 @@ module _ (have : HaveOwnReads) (command : CommandLine) (inputs : Inputs) (old no
   }
 
 pub joined : HaveOwnReads → (command : CommandLine) (loaded : Loaded) (old mid now : List TreeState) (before between after : Counts) (result : Result (List ℕ) Refused) → IsOnlyRead old mid before between
-    → Explains old (λ read. inputs_of command read ≡ Ok (inputs_seen loaded)) → IsRunBy command (inputs_seen loaded) mid now between after result → IsChangeRun command old now before after result
+    → IsExplainedBySomeReads old (λ read. inputs_of command read ≡ Ok (inputs_seen loaded)) → IsRunBy command (inputs_seen loaded) mid now between after result → IsChangeRun command old now before after result
 joined have command loaded old mid now before between after result quiet explained run =
     whole_run have command (inputs_seen loaded) old now before after result explained.read explained.observed explained.is run.0 run.1
     (run_after_reads command _ old mid now before between after result quiet run.2)
@@ -226,9 +226,9 @@ joined have command loaded old mid now before between after result quiet explain
 -- ---- a root that is not read
 
 module _ (choose : HaveChoice) (have : HaveClash) (command : CommandLine) (old now : List TreeState) (before after : Counts) (whole : All IsWellFormed old) (quiet : IsOnlyRead old now before after) where
-  unread_failure : (fault : Refused) → IsFailure fault → (read : Reads) → AreObserved old read → IsChangeRun command old now before after (Err fault)
+  unread_failure : (fault : Refused) → IsDiskOrMemoryFailure fault → (read : Reads) → AreReadsOfTree old read → IsChangeRun command old now before after (Err fault)
   unread_failure fault is read observed =
-      let (chosen, choice) = choose (pool_for command read) in
+      let (chosen, choice) = choose (pool_of_command command read) in
       let seen = files_seen have command (selected_for command read chosen) old read whole in
       record {
         read = read;
@@ -244,7 +244,7 @@ module _ (choose : HaveChoice) (have : HaveClash) (command : CommandLine) (old n
         comes = comes_to_failure _ _ old now before after quiet fault is;
       }
 
-  unread_refusal : (refusal : Refusal) (read : Reads) → AreObserved old read → inputs_of command read ≡ Err refusal → IsChangeRun command old now before after (Err (IsRefused refusal))
+  unread_refusal : (refusal : Refusal) (read : Reads) → AreReadsOfTree old read → inputs_of command read ≡ Err refusal → IsChangeRun command old now before after (Err (IsRefused refusal))
   unfolding change_of_command
   unread_refusal refusal read observed is =
       let seen = files_seen have command (Err refusal) old read whole in
@@ -253,7 +253,7 @@ module _ (choose : HaveChoice) (have : HaveClash) (command : CommandLine) (old n
         read = read;
         observed = observed;
         chosen = None;
-        choice = subst (λ (r : Result Inputs Refusal). IsChoiceFrom (and_then r (pool_by command)) None) (sym is) refl;
+        choice = subst (λ (r : Result Inputs Refusal). IsChoiceFrom (and_then r (pool_of_inputs command)) None) (sym is) refl;
         files = seen.files;
         there = seen.there;
         present_files = seen.files;
@@ -263,7 +263,7 @@ module _ (choose : HaveChoice) (have : HaveClash) (command : CommandLine) (old n
         comes = comes_to_refusal _ _ old now before after quiet refusal (ap (λ (s : Result Selected Refusal). and_then s (change_of_selected command read seen.files seen.clash)) selected);
       }
 
-  pub unread : (fault : Refused) → Explains old (λ read. AgreesUnlessDisk inputs_seen (Err fault) (inputs_of command read)) → IsChangeRun command old now before after (Err fault)
+  pub unread : (fault : Refused) → IsExplainedBySomeReads old (λ read. AgreesUnlessDisk inputs_seen (Err fault) (inputs_of command read)) → IsChangeRun command old now before after (Err fault)
   unread (IsRefused refusal) explained = unread_refusal refusal explained.read explained.observed explained.is
   unread Disk explained = unread_failure Disk tt explained.read explained.observed
   unread Memory explained = unread_failure Memory tt explained.read explained.observed
@@ -271,9 +271,9 @@ module _ (choose : HaveChoice) (have : HaveClash) (command : CommandLine) (old n
 -- ---- what was read of the root stands there
 
 pub root_read : ((command : CommandLine) (read : Reads) (inputs : Inputs) (files : Files) → ((n : ℕ) (name : List ℕ) → read n name ≡ files name) → inputs_of command read ≡ Ok inputs → IsRootOfFiles files inputs.root)
-    → (command : CommandLine) (inputs : Inputs) (old mid : List TreeState) → mid ≡ old → Explains old (λ read. inputs_of command read ≡ Ok inputs) → IsRootRead mid inputs
+    → (command : CommandLine) (inputs : Inputs) (old mid : List TreeState) → mid ≡ old → IsExplainedBySomeReads old (λ read. inputs_of command read ≡ Ok inputs) → IsRootRead mid inputs
 root_read law command inputs old mid same explained = subst (λ (h : List TreeState). IsRootRead h inputs) (sym same) (by old explained.observed)
   where
-    by : (h : List TreeState) → AreObserved h explained.read → IsRootRead h inputs
+    by : (h : List TreeState) → AreReadsOfTree h explained.read → IsRootRead h inputs
     by [] observed = tt
     by (v ∷ earlier) observed = law command explained.read inputs (files_of v) observed explained.is

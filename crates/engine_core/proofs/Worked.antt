@@ -2,18 +2,18 @@
 use Rattle.std.proofs.Common.{◌≡◌, ℕ, Bool, false, true, List, [], ◌∷◌, Some, None, refl}
 use Rattle.std.specs.Prelude.{codes}
 use Rattle.adb_view.specs.Plain.{Plain, blob, more, none, obj}
-use Rattle.change_report.specs.change_inputs.Database.{database_by}
-use Rattle.change_report.specs.change_inputs.Inputs.{Inputs, inputs_by, root_by}
-use Rattle.command_core.specs.Command.{command_by}
+use Rattle.change_report.specs.change_inputs.Database.{database_from_parts}
+use Rattle.change_report.specs.change_inputs.Inputs.{Inputs, inputs_from_parts, root_by}
+use Rattle.command_core.specs.Command.{command_from_parts}
 use Rattle.command_core.specs.Flags.{no_flags}
 use Rattle.command_core.specs.declared.command.Applet.{Applet}
 use Rattle.command_core.specs.declared.command.Applet.TheVariants.{Add, Del, Fix, Upgrade}
 use Rattle.command_core.specs.declared.operands.Operand.{Operand}
-use Rattle.dep_core.specs.Dependency.{Dependency, dependency_by}
+use Rattle.dep_core.specs.Dependency.{Dependency, dependency_from_parts}
 use Rattle.change_report.specs.package_changes.Changes.{change_of_name, changes_of}
-use Rattle.change_report.specs.change_files.PlanLists.{names_in_order}
+use Rattle.change_report.specs.change_files.PlanLists.{sorted_distinct_names}
 use Rattle.change_report.specs.candidate_core.Candidates.{Candidate, candidate_by, named}
-use Rattle.change_report.specs.candidate_core.Rank.{is_better, rank_cmp, sealed_pool_by}
+use Rattle.change_report.specs.candidate_core.Rank.{is_better, rank_cmp, sealed_pool_from_parts}
 use Rattle.report_core.specs.Reports.{Change, Reinstall, Upgrade as Upgrading}
 use Rattle.version_core.specs.Order.{is_version, tokens, version_cmp}
 use Rattle.version_core.specs.Token.{component_lexeme, next_lexeme, number_lexeme}
@@ -37,11 +37,11 @@ abbrev info_of_b : List ℕ → Plain
 info_of_b version = obj (more (blob (codes "b")) (more (blob version) none))
 
 abbrev needs_a : Dependency
-needs_a = dependency_by (codes "a") None 1 false None
+needs_a = dependency_from_parts (codes "a") None 1 false None
 
 abbrev inputs : Inputs
 inputs =
-    inputs_by (root_by (command_by Upgrade no_flags [] [] 2) (database_by (obj (more (info_of_b (codes "1")) none) ∷ []) None false) [] (needs_a ∷ []) []) []
+    inputs_from_parts (root_by (command_from_parts Upgrade no_flags [] [] 2) (database_from_parts (obj (more (info_of_b (codes "1")) none) ∷ []) None false) [] (needs_a ∷ []) []) []
 
 -- ---- the operand that is refused
 
@@ -71,7 +71,7 @@ newer_b = candidate_by (info_of_b (codes "2")) (codes "b") (Some (codes "2")) []
 -- whether the newer one comes first
 abbrev takes_newer : Applet → List Operand → Bool
 takes_newer applet operands =
-    is_better (sealed_pool_by (installed_b ∷ (newer_b ∷ [])) [] (names_to_upgrade applet operands)) (named (codes "b")) 1 0
+    is_better (sealed_pool_from_parts (installed_b ∷ (newer_b ∷ [])) [] (names_to_upgrade applet operands)) (named (codes "b")) 1 0
 
 upgrade_of_all : takes_newer Upgrade [] ≡ true
 unfolding rank_cmp is_version version_cmp tokens next_lexeme number_lexeme component_lexeme
@@ -99,16 +99,16 @@ add_upgrades_nothing = refl
 abbrev changes_by : Applet → List Operand → ℕ → List Change
 changes_by applet operands chosen =
     changes_of
-    (replacement_of_choice (names_to_reinstall applet operands) inputs (sealed_pool_by (installed_b ∷ (newer_b ∷ [])) [] (names_to_upgrade applet operands)) (chosen ∷ []))
+    (replacement_of_choice (names_to_reinstall applet operands) inputs (sealed_pool_from_parts (installed_b ∷ (newer_b ∷ [])) [] (names_to_upgrade applet operands)) (chosen ∷ []))
 
 fix_reinstalls : changes_by Fix just_b 0 ≡ Reinstall (codes "b") (codes "1") ∷ []
-unfolding changes_of change_of_name names_in_order
+unfolding changes_of change_of_name sorted_distinct_names
 fix_reinstalls = refl
 
 upgrade_reinstalls_nothing : changes_by Upgrade just_b 0 ≡ []
-unfolding changes_of change_of_name names_in_order
+unfolding changes_of change_of_name sorted_distinct_names
 upgrade_reinstalls_nothing = refl
 
 upgrade_upgrades : changes_by Upgrade [] 1 ≡ Upgrading (codes "b") (codes "1") (codes "2") ∷ []
-unfolding changes_of change_of_name names_in_order is_version version_cmp tokens next_lexeme number_lexeme component_lexeme
+unfolding changes_of change_of_name sorted_distinct_names is_version version_cmp tokens next_lexeme number_lexeme component_lexeme
 upgrade_upgrades = refl

@@ -3,7 +3,7 @@ use Rattle.std.proofs.Common.{◌≡◌, ◌∙◌, inl, inr, ◌+◌, ◌≤◌
 use Rattle.std.specs.Prelude.{is_some, slice_get}
 use Rattle.std.specs.Ordering.{on}
 use Rattle.std.proofs.lemmas.List.{length-map}
-use Rattle.change_report.specs.change_files.PlanLists.{FileWrite, names_in_order}
+use Rattle.change_report.specs.change_files.PlanLists.{FileWrite, sorted_distinct_names}
 use Rattle.change_report.specs.change_outcome.ChangeOutcome.{name_if_needed}
 use Rattle.change_report.specs.db_core.Members.{Member}
 use Rattle.change_report.specs.journal_intent.FreeNames.{HaveNoRepeats}
@@ -14,7 +14,7 @@ use Rattle.change_report.specs.own_core.Planned.{written_names}
 use Rattle.change_report.specs.own_core.WritesSeen.{writes_in}
 use Rattle.change_report.specs.own_core.declared.planning.FilePlan.{FilePlan}
 use Rattle.journal_staging.specs.declared.writes.StagedWrite.{StagedWrite}
-use Rattle.engine_core.specs.Writing.{IsFileWrite, IsRecordOf, IsSourceOfWrite, IsWriteBy, PackagesRead, database_and_world_names, record_writes, write_name}
+use Rattle.engine_core.specs.Writing.{IsFileWrite, IsWriteOfRecord, IsSourceOfWrite, IsWriteBy, PackagesRead, database_and_world_names, record_writes, name_of_write}
 use Rattle.engine_core.specs.declared.writes.RecordWrites.{RecordWrites}
 use Rattle.engine_core.proofs.Elements.{all_each, contains_at, each_all, each_both, each_weaker, mapped_at}
 use Rattle.engine_core.proofs.Lists.{map_both, map_more, take_next}
@@ -27,7 +27,7 @@ abbrev pub Wrote : List Member → PackagesRead → FilePlan → List StagedWrit
 Wrote members packages plan base i now =
     (files : List StagedWrite)
     × (now ≡ base ++ files)
-    × (map write_name files ≡ take i (written_names plan))
+    × (map name_of_write files ≡ take i (written_names plan))
     × Each (IsFileWrite members packages (writes_in plan.writes)) files
 
 module _ (members : List Member) (packages : PackagesRead) (plan : FilePlan) (base : List StagedWrite) where
@@ -39,19 +39,19 @@ module _ (members : List Member) (packages : PackagesRead) (plan : FilePlan) (ba
       nothing (x ∷ xs) = ap (λ l. x ∷ l) (nothing xs)
 
   pub one_wrote : (i : ℕ) (before after : List StagedWrite) (w : StagedWrite) (f : FileWrite)
-      → after ≡ before ++ w ∷ [] → slice_get (writes_in plan.writes) i ≡ Some f → write_name w ≡ f.name → IsSourceOfWrite members packages f w.source
+      → after ≡ before ++ w ∷ [] → slice_get (writes_in plan.writes) i ≡ Some f → name_of_write w ≡ f.name → IsSourceOfWrite members packages f w.source
       → Wrote members packages plan base i before → Wrote members packages plan base (i + 1) after
   one_wrote i before after w f more at named source (files, is, names, each) = (
     files ++ w ∷ [],
     more ∙ ap (λ l. l ++ w ∷ []) is ∙ append_assoc base files (w ∷ []),
-    map_more write_name files w ∙ ap (λ l. l ++ write_name w ∷ []) names ∙ ap (λ (n : List ℕ). take i (written_names plan) ++ n ∷ []) named
+    map_more name_of_write files w ∙ ap (λ l. l ++ name_of_write w ∷ []) names ∙ ap (λ (n : List ℕ). take i (written_names plan) ++ n ∷ []) named
         ∙ sym (take_next (written_names plan) i f.name (mapped_at (λ (x : FileWrite). x.name) (writes_in plan.writes) i f at)),
     each_both (IsFileWrite members packages (writes_in plan.writes)) files (w ∷ []) each
         (record { file = f; planned_file = contains_at (writes_in plan.writes) i f at; named = named; source = source }, tt),
   )
 
   pub all_wrote : (i : ℕ) (now : List StagedWrite) → length (writes_in plan.writes) ≤ i → Wrote members packages plan base i now
-      → (files : List StagedWrite) × (now ≡ base ++ files) × (map write_name files ≡ written_names plan) × All (IsFileWrite members packages (writes_in plan.writes)) files
+      → (files : List StagedWrite) × (now ≡ base ++ files) × (map name_of_write files ≡ written_names plan) × All (IsFileWrite members packages (writes_in plan.writes)) files
   all_wrote i now past (files, is, names, each) = (
     files,
     is,
@@ -61,11 +61,11 @@ module _ (members : List Member) (packages : PackagesRead) (plan : FilePlan) (ba
 
 -- ---- the database and world
 
-record_named : (name : Bor (List ℕ)) (bytes : Option (Bor (List ℕ))) → map write_name (record_writes name bytes) ≡ name_if_needed (is_some bytes) name.now
+record_named : (name : Bor (List ℕ)) (bytes : Option (Bor (List ℕ))) → map name_of_write (record_writes name bytes) ≡ name_if_needed (is_some bytes) name.now
 record_named name None = refl
 record_named name (Some bytes) = refl
 
-record_each : (Q : StagedWrite → Type 0) (name : Bor (List ℕ)) (bytes : Option (Bor (List ℕ))) → ((w : StagedWrite) → IsRecordOf name.now bytes w → Q w) → Each Q (record_writes name bytes)
+record_each : (Q : StagedWrite → Type 0) (name : Bor (List ℕ)) (bytes : Option (Bor (List ℕ))) → ((w : StagedWrite) → IsWriteOfRecord name.now bytes w → Q w) → Each Q (record_writes name bytes)
 record_each Q name None each = tt
 record_each Q name (Some bytes) each = (each _ (record { named = refl; source = refl }), tt)
 
@@ -76,27 +76,27 @@ module _ (members : List Member) (packages : PackagesRead) (plan : FilePlan) (r 
   Gathered items =
       (files : List StagedWrite)
       × (items ≡ (files ++ record_writes r.database_name r.database) ++ record_writes r.world_name r.world)
-      × (map write_name files ≡ written_names plan)
+      × (map name_of_write files ≡ written_names plan)
       × All (IsFileWrite members packages (writes_in plan.writes)) files
 
-  gathered_names : (items : List StagedWrite) → Gathered items → map write_name items ≡ written_names plan ++ database_and_world_names r
+  gathered_names : (items : List StagedWrite) → Gathered items → map name_of_write items ≡ written_names plan ++ database_and_world_names r
   gathered_names items (files, is, names, all) =
       let one = record_writes r.database_name r.database in
       let two = record_writes r.world_name r.world in
-      ap (map write_name) is
-      ∙ map_both write_name (files ++ one) two
-      ∙ ap (λ l. l ++ map write_name two) (map_both write_name files one)
-      ∙ append_assoc (map write_name files) (map write_name one) (map write_name two)
-      ∙ ap (λ l. l ++ (map write_name one ++ map write_name two)) names
-      ∙ ap (λ l. written_names plan ++ (l ++ map write_name two)) (record_named r.database_name r.database)
+      ap (map name_of_write) is
+      ∙ map_both name_of_write (files ++ one) two
+      ∙ ap (λ l. l ++ map name_of_write two) (map_both name_of_write files one)
+      ∙ append_assoc (map name_of_write files) (map name_of_write one) (map name_of_write two)
+      ∙ ap (λ l. l ++ (map name_of_write one ++ map name_of_write two)) names
+      ∙ ap (λ l. written_names plan ++ (l ++ map name_of_write two)) (record_named r.database_name r.database)
       ∙ ap (λ l. written_names plan ++ (name_if_needed (is_some r.database) r.database_name.now ++ l)) (record_named r.world_name r.world)
 
-  pub names_gathered : (items sorted : List StagedWrite) → Gathered items → HaveNoRepeats (written_names plan ++ database_and_world_names r) → sorted ≡ sorted_by (on write_name bytes_cmp) items
-      → map write_name sorted ≡ names_in_order (written_names plan ++ database_and_world_names r)
+  pub names_gathered : (items sorted : List StagedWrite) → Gathered items → HaveNoRepeats (written_names plan ++ database_and_world_names r) → sorted ≡ sorted_by (on name_of_write bytes_cmp) items
+      → map name_of_write sorted ≡ sorted_distinct_names (written_names plan ++ database_and_world_names r)
   names_gathered items sorted gathered once is =
-      ap (map write_name) is ∙ names_sorted write_name items ∙ ap (sorted_by bytes_cmp) (gathered_names items gathered) ∙ once_ordered (written_names plan ++ database_and_world_names r) once
+      ap (map name_of_write) is ∙ names_sorted name_of_write items ∙ ap (sorted_by bytes_cmp) (gathered_names items gathered) ∙ once_ordered (written_names plan ++ database_and_world_names r) once
 
-  pub each_gathered : (items sorted : List StagedWrite) → Gathered items → sorted ≡ sorted_by (on write_name bytes_cmp) items
+  pub each_gathered : (items sorted : List StagedWrite) → Gathered items → sorted ≡ sorted_by (on name_of_write bytes_cmp) items
       → All (IsWriteBy members packages (writes_in plan.writes) r) sorted
   each_gathered items sorted (files, is, names, all) sorts =
       let Q : StagedWrite → Type 0 = IsWriteBy members packages (writes_in plan.writes) r in
@@ -105,4 +105,4 @@ module _ (members : List Member) (packages : PackagesRead) (plan : FilePlan) (r 
       let ours : Each Q files = each_weaker (IsFileWrite members packages (writes_in plan.writes)) Q (λ w h. inl h) files (all_each (IsFileWrite members packages (writes_in plan.writes)) files all) in
       let records : Each Q ((files ++ one) ++ two) =
       each_both Q (files ++ one) two (each_both Q files one ours (record_each Q r.database_name r.database (λ w h. inr (inl h)))) (record_each Q r.world_name r.world (λ w h. inr (inr h))) in
-      each_all Q sorted (subst (Each Q) (sym sorts) (each_sorted (on write_name bytes_cmp) Q items (subst (Each Q) (sym is) records)))
+      each_all Q sorted (subst (Each Q) (sym sorts) (each_sorted (on name_of_write bytes_cmp) Q items (subst (Each Q) (sym is) records)))

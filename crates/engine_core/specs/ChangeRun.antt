@@ -19,7 +19,7 @@ use Rattle.change_report.specs.file_owners.Replaces.{version_text}
 use Rattle.change_report.specs.journal_core.Recovery.{intent_name}
 use Rattle.change_report.specs.journal_core.Staged.{AreStagingPathsFree, IsEmptyStage}
 use Rattle.change_report.specs.make_info.Reads.{Reads}
-use Rattle.change_report.specs.package_files.Runs.{AreObserved}
+use Rattle.change_report.specs.package_files.Runs.{AreReadsOfTree}
 use Rattle.change_report.specs.path_clashes.Clash.{NamePair}
 use Rattle.report_core.specs.declared.refusal.Refusal.{Refusal}
 use Rattle.report_core.specs.declared.refusal.Refusal.TheVariants.{PackageBad}
@@ -27,7 +27,7 @@ use Rattle.journal_staging.specs.Spoiled.{IsSpoiledFile}
 use Rattle.journal_staging.specs.journal_commit.StageRun.{IsStageRun, IsStageRunComplete}
 use Rattle.engine_core.specs.Changed.{IsClashForAmong, change_of_command, found_packages, selected_for}
 use Rattle.engine_core.specs.Choice.{IsChoiceFrom}
-use Rattle.engine_core.specs.Selecting.{pool_for}
+use Rattle.engine_core.specs.Selecting.{pool_of_command}
 
 -- ---- the answer
 
@@ -115,9 +115,9 @@ pub record CarriesOut (packages : Result (List MemberFound) Refusal)
 pub record IsChangeRun (command : CommandLine) (old now : List TreeState) (before after : Counts)
     (result : Result (List ℕ) Refused) : Type 0 where
   pub read : Reads
-  pub observed : AreObserved old read
+  pub observed : AreReadsOfTree old read
   pub chosen : Option (List ℕ)
-  pub choice : IsChoiceFrom (pool_for command read) chosen
+  pub choice : IsChoiceFrom (pool_of_command command read) chosen
   pub files : Files
   pub there : IfObservable old (λ v. files ≡ files_of v)
   pub present_files : Files

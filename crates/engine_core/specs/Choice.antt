@@ -7,11 +7,11 @@ use Rattle.change_report.specs.search_tables.Selection.{IsFirstSelection, IsSati
 
 -- the choice among candidates: the places of the first preferred selection; or none, if no selection
 -- satisfies the world
-abbrev pub IsChoice : SealedPool → Option (List ℕ) → Type 0
-IsChoice pool None = (selection : List ℕ) → IsSatisfying pool selection → ⊥
-IsChoice pool (Some trace) = IsFirstSelection pool trace
+abbrev pub IsPreferredChoice : SealedPool → Option (List ℕ) → Type 0
+IsPreferredChoice pool None = (selection : List ℕ) → IsSatisfying pool selection → ⊥
+IsPreferredChoice pool (Some trace) = IsFirstSelection pool trace
 
 -- the choice if candidates are made, or refused: none if there is a refusal
 abbrev pub IsChoiceFrom : Result SealedPool Refusal → Option (List ℕ) → Type 0
-IsChoiceFrom (Ok pool) chosen = IsChoice pool chosen
+IsChoiceFrom (Ok pool) chosen = IsPreferredChoice pool chosen
 IsChoiceFrom (Err refusal) chosen = chosen ≡ None

@@ -7,8 +7,8 @@ use Rattle.report_core.specs.declared.refusal.Refusal.TheVariants.{Unsatisfied}
 
 -- how a choice is answered: these are chosen; or none, and that is refused; running out of memory says
 -- nothing of the choice
-abbrev pub IsChosen : Option (List ℕ) → Result (List ℕ) Refused → Type 0
-IsChosen chosen (Ok trace) = chosen ≡ Some trace
-IsChosen chosen (Err (IsRefused refusal)) = (chosen ≡ None) × (refusal ≡ Unsatisfied)
-IsChosen chosen (Err Disk) = ⊥
-IsChosen chosen (Err Memory) = Unit {0}
+abbrev pub IsResultOfChoice : Option (List ℕ) → Result (List ℕ) Refused → Type 0
+IsResultOfChoice chosen (Ok trace) = chosen ≡ Some trace
+IsResultOfChoice chosen (Err (IsRefused refusal)) = (chosen ≡ None) × (refusal ≡ Unsatisfied)
+IsResultOfChoice chosen (Err Disk) = ⊥
+IsResultOfChoice chosen (Err Memory) = Unit {0}

@@ -12,7 +12,7 @@ use Rattle.change_report.specs.db_core.Members.{Member, member_name}
 use Rattle.change_report.specs.file_owners.Replaces.{version_text}
 use Rattle.report_core.specs.declared.refusal.Refusal.{Refusal}
 use Rattle.report_core.specs.declared.refusal.Refusal.TheVariants.{PackageBad}
-use Rattle.engine_core.specs.Preparing.{AreRecordsOf, IsPlanned, inputs_of_plan, replacement_of_plan, wishes_of_plan}
+use Rattle.engine_core.specs.Preparing.{AreNewRecordsOf, IsPlanned, inputs_of_plan, replacement_of_plan, wishes_of_plan}
 use Rattle.engine_core.specs.Rendering.{IsRendered}
 use Rattle.engine_core.specs.declared.planning.Plan.{Plan}
 use Rattle.engine_core.specs.declared.rendering.NewRecords.{NewRecords}
@@ -26,7 +26,7 @@ pub record IsReadyToCommit (history : List TreeState) (p : Plan) (r : Rendered) 
   pub files : Files
   pub planned : IsPlanned history p found files
   pub records : NewRecords
-  pub own : AreRecordsOf (inputs_of_plan p) records
+  pub own : AreNewRecordsOf (inputs_of_plan p) records
   pub rendered : IsRendered p records r
 
 -- the result of a change that is committed

@@ -11,28 +11,28 @@ use Rattle.change_report.specs.db_core.Members.{member_of_kept, member_listings}
 use Rattle.change_report.specs.db_core.Seen.{members_of, packages_of}
 use Rattle.change_report.specs.db_core.declared.db.Db.{Db}
 use Rattle.change_report.specs.db_core.declared.members.Members.{Members}
-use Rattle.change_report.specs.own_core.Planned.{HasOwnNames, HasSources, IsPlanFor, IsPlanOf, IsRefusalFor, IsRefusalOf, MayBeRefusalOf, change_by}
+use Rattle.change_report.specs.own_core.Planned.{HasDisjointUnreservedNames, HasSources, IsPlanFor, IsPlanOf, IsRefusalFor, IsRefusalOf, MayBeRefusalOf, file_change_between}
 use Rattle.change_report.specs.own_core.declared.fault.PlanFault.{PlanFault}
 use Rattle.change_report.specs.own_core.declared.fault.PlanFault.TheVariants as Plans
 use Rattle.change_report.specs.own_core.declared.planning.FilePlan.{FilePlan}
 use Rattle.report_core.specs.declared.refusal.Refusal.TheVariants.{Owned, PathClash, Reserved}
 
 -- the refusal that reports why there is no plan
-abbrev pub IsRefusedFor : PlanFault → Refused → Type 0
-IsRefusedFor (Plans.Reserved path) refused = refused ≡ Commands.Refusal (Reserved path)
-IsRefusedFor (Plans.PathClash path other) refused =
+abbrev pub IsRefusalOfPlanFault : PlanFault → Refused → Type 0
+IsRefusalOfPlanFault (Plans.Reserved path) refused = refused ≡ Commands.Refusal (Reserved path)
+IsRefusalOfPlanFault (Plans.PathClash path other) refused =
     refused ≡ Commands.Refusal (PathClash path other)
-IsRefusedFor (Plans.Owned path first second) refused =
+IsRefusalOfPlanFault (Plans.Owned path first second) refused =
     refused ≡ Commands.Refusal (Owned path first second)
-IsRefusedFor Plans.Disk refused = refused ≡ Commands.Disk
-IsRefusedFor Plans.Memory refused = refused ≡ Commands.Memory
+IsRefusalOfPlanFault Plans.Disk refused = refused ≡ Commands.Disk
+IsRefusalOfPlanFault Plans.Memory refused = refused ≡ Commands.Memory
 
 -- a plan is that of the change from a database to some packages, and what it lists can be written and
 -- removed
 pub record IsPlanFrom (history : List TreeState) (purge : Bool) (db : Db) (members : Members)
     (plan : FilePlan) : Type 0 where
-  pub lists : IsPlanOf (change_by db members purge) history plan
-  pub names : HasOwnNames plan
+  pub lists : IsPlanOf (file_change_between db members purge) history plan
+  pub names : HasDisjointUnreservedNames plan
   pub sources : HasSources (members_of members) plan
   pub owners : IsPlanFor (members_of members) plan
   -- no path that the old database lists is reserved
@@ -43,9 +43,9 @@ pub record IsPlanFrom (history : List TreeState) (purge : Bool) (db : Db) (membe
 pub record HasNoPlan (history : List TreeState) (purge : Bool) (db : Db) (members : Members)
     (refused : Refused) : Type 0 where
   pub fault : PlanFault
-  pub reported : IsRefusedFor fault refused
+  pub reported : IsRefusalOfPlanFault fault refused
   -- what the packages alone show of it
   pub cause : IsRefusalFor (members_of members) fault
   -- what the tree's files show of it, if they are observable; and else what some files show
-  pub first : IfObservable history (λ v. IsRefusalOf (change_by db members purge) (files_of v) fault)
-  pub may : MayBeRefusalOf (change_by db members purge) history fault
+  pub first : IfObservable history (λ v. IsRefusalOf (file_change_between db members purge) (files_of v) fault)
+  pub may : MayBeRefusalOf (file_change_between db members purge) history fault

@@ -14,17 +14,17 @@ use Rattle.change_report.specs.change_files.NamesAfter.{name_change}
 use Rattle.change_report.specs.path_clashes.Clash.{HasNoClash}
 use Rattle.change_report.specs.change_inputs.Inputs.{Inputs}
 use Rattle.change_report.specs.change_outcome.Premises.{IsRootOfFiles}
-use Rattle.change_report.specs.change_outcome.ChangeOutcome.{ChangeWishes, change_members, file_change, is_other_file}
+use Rattle.change_report.specs.change_outcome.ChangeOutcome.{ChangeWishes, change_members, file_change, is_absent_or_different}
 use Rattle.change_report.specs.change_outcome.MembersAfter.{MemberFound, found_members}
-use Rattle.change_report.specs.change_outcome.Triggers.{unless_trigger}
+use Rattle.change_report.specs.change_outcome.Triggers.{unless_trigger_due}
 use Rattle.change_report.specs.db_core.Seen.{members_of, packages_of}
 use Rattle.change_report.specs.db_core.declared.members.Members.{Members}
 use Rattle.change_report.specs.make_info.Reads.{Reads}
 use Rattle.dep_core.specs.World.{world_text}
-use Rattle.change_report.specs.own_core.Planned.{ArePlanLists, HasOwnNames, HasSources, IsPlanFor}
+use Rattle.change_report.specs.own_core.Planned.{ArePlanLists, HasDisjointUnreservedNames, HasSources, IsPlanFor}
 use Rattle.change_report.specs.package_changes.Changes.{Replacement}
 use Rattle.change_report.specs.package_changes.Placed.{placed_names_of}
-use Rattle.change_report.specs.package_changes.Seen.{placed_names_seen, replacement_by}
+use Rattle.change_report.specs.package_changes.Seen.{placed_names_seen, placed_replacement_from_parts}
 use Rattle.root_names.specs.RootNames as Names
 use Rattle.engine_core.specs.Plans.{IsPlanFrom}
 use Rattle.engine_core.specs.SelectionSeen.{HasDatabaseOfInputs, inputs_of_selection, replacement_seen, wishes_of_selection}
@@ -56,7 +56,7 @@ wishes_of_packages a = wishes_of_selection a.selection.now
 pub record AreReadFor (history : List TreeState) (s : Selection) (a : ReadPackages)
     (found : List MemberFound) : Type 0 where
   pub selection : a.selection.now ≡ s
-  pub placed : placed_names_seen a.names ≡ placed_names_of (replacement_by
+  pub placed : placed_names_seen a.names ≡ placed_names_of (placed_replacement_from_parts
       a.selection.now.db a.selection.now.pool a.selection.now.trace a.selection.now.again)
   pub read : AreMembersRead history (packages_of a.selection.now.db) (arrivals_seen a.arrivals) found
 
@@ -65,7 +65,7 @@ pub record AreReadFor (history : List TreeState) (s : Selection) (a : ReadPackag
 pub record HasReadArrivals (history : List TreeState) (a : ReadPackages) (found : List MemberFound)
     : Type 0 where
   pub database : HasDatabaseOfInputs a.selection.now
-  pub placed : placed_names_seen a.names ≡ placed_names_of (replacement_by
+  pub placed : placed_names_seen a.names ≡ placed_names_of (placed_replacement_from_parts
       a.selection.now.db a.selection.now.pool a.selection.now.trace a.selection.now.again)
   pub read : AreMembersRead history (packages_of a.selection.now.db) (arrivals_seen a.arrivals) found
   pub root : IsRootRead history (inputs_of_packages a)
@@ -104,7 +104,7 @@ pub record IsPlanOfPackages (history : List TreeState) (a : ReadPackages) (p : P
       ≡ members_read (packages_of p.packages.now.selection.now.db) (arrivals_seen p.packages.now.arrivals)
   pub files : IsPlanFrom history (wishes_of_plan p).purge p.packages.now.selection.now.db p.members
       p.files
-  pub triggers : unless_trigger (wishes_of_plan p).no_scripts (planned_paths p.files)
+  pub triggers : unless_trigger_due (wishes_of_plan p).no_scripts (planned_paths p.files)
       (members_of p.members) ≡ Ok true
 
 -- the files of a change are planned, over these files if the tree is observable
@@ -113,7 +113,7 @@ pub record IsPlanned (history : List TreeState) (p : Plan) (found : List MemberF
   pub arrived : IsArrived history p.packages.now p.members found
   pub told : IfObservable history (λ v. files ≡ files_of v)
   pub lists : ArePlanLists (file_change (inputs_of_plan p) (wishes_of_plan p) found) files p.files
-  pub names : HasOwnNames p.files
+  pub names : HasDisjointUnreservedNames p.files
   pub sources : HasSources (members_of p.members) p.files
   pub owners : IsPlanFor (members_of p.members) p.files
   pub no_clash : IfObservable history (λ v.
@@ -129,7 +129,7 @@ HasPlan history p = (found : List MemberFound) × (files : Files) × IsPlanned h
 
 -- the new database and world of a change: the text is that of the new world, and both have the names of
 -- their files
-pub record AreRecordsOf (inputs : Inputs) (records : NewRecords) : Type 0 where
+pub record AreNewRecordsOf (inputs : Inputs) (records : NewRecords) : Type 0 where
   pub world : records.world ≡ world_text inputs.root.new_world
   pub database_name : records.database_name ≡ Names.database_name
   pub world_name : records.world_name ≡ Names.world_name
@@ -144,7 +144,7 @@ pub record AreRecordWrites (inputs : Inputs) (records : NewRecords) (writes : Re
     : Type 0 where
   pub database_name : writes.database_name.now ≡ records.database_name
   pub database : option_copied writes.database
-      ≡ bytes_if (is_other_file inputs.root.database.file records.database.items) records.database.items
+      ≡ bytes_if (is_absent_or_different inputs.root.database.file records.database.items) records.database.items
   pub world_name : writes.world_name.now ≡ records.world_name
   pub world : option_copied writes.world
       ≡ bytes_if (not (bytes_eq inputs.root.world_text records.world)) records.world

@@ -5,10 +5,10 @@ use Rattle.std.specs.Prelude.{◌≡◌, ◌++◌, ℕ, Bool, true, false, List,
 use Rattle.added_packages.specs.adb_write.Canonical.{overflow_of}
 use Rattle.base_core.specs.Files.{Files}
 use Rattle.base_core.specs.Tree.{TreeState}
-use Rattle.change_report.specs.change_files.PlanLists.{names_in_order}
+use Rattle.change_report.specs.change_files.PlanLists.{sorted_distinct_names}
 use Rattle.change_report.specs.change_inputs.Answers.{Agrees}
 use Rattle.change_report.specs.change_inputs.declared.root.Refused.{Refused}
-use Rattle.change_report.specs.change_outcome.ChangeOutcome.{actions_of, change_report, does_something, file_change, name_if_needed, new_records, unless_overflow}
+use Rattle.change_report.specs.change_outcome.ChangeOutcome.{actions_of, change_report, has_actions, file_change, name_if_needed, new_records, unless_overflow}
 use Rattle.change_report.specs.change_outcome.MembersAfter.{MemberFound}
 use Rattle.change_report.specs.db_core.Seen.{members_of}
 use Rattle.change_report.specs.journal_core.Staged.{Staging, new_stage}
@@ -18,7 +18,7 @@ use Rattle.change_report.specs.own_core.WritesSeen.{writes_in}
 use Rattle.journal_staging.specs.declared.writes.StagedWrite.{StagedWrite}
 use Rattle.root_names.specs.RootNames.{text_database_name}
 use Rattle.engine_core.specs.Preparing.{AreRecordWrites, IsPlanned, inputs_of_plan, replacement_of_plan, wishes_of_plan}
-use Rattle.engine_core.specs.Writing.{IsWriteBy, database_and_world_names, package_at, write_name}
+use Rattle.engine_core.specs.Writing.{IsWriteBy, database_and_world_names, package_at, name_of_write}
 use Rattle.engine_core.specs.declared.planning.Plan.{Plan}
 use Rattle.engine_core.specs.declared.rendering.NewRecords.{NewRecords}
 use Rattle.engine_core.specs.declared.rendering.Rendered.{Rendered}
@@ -30,15 +30,15 @@ use Rattle.engine_core.specs.declared.writes.RecordWrites.{RecordWrites}
 pub record AreWritesOf (p : Plan) (records : NewRecords) (writes : List StagedWrite) : Type 0 where
   pub of_records : RecordWrites
   pub which : AreRecordWrites (inputs_of_plan p) records of_records
-  pub names : map write_name writes
-      ≡ names_in_order (written_names p.files ++ database_and_world_names of_records)
+  pub names : map name_of_write writes
+      ≡ sorted_distinct_names (written_names p.files ++ database_and_world_names of_records)
   pub each : All (IsWriteBy (members_of p.members) (package_at p.packages.now.arrivals)
       (writes_in p.files.writes) of_records) writes
 
 -- the names that a change removes, in byte order: those of its plan, and that of a text database that
 -- is converted
 abbrev pub removals_of_plan : Plan → List (List ℕ)
-removals_of_plan p = names_in_order (p.files.removals
+removals_of_plan p = sorted_distinct_names (p.files.removals
     ++ name_if_needed (inputs_of_plan p).root.database.from_text text_database_name)
 
 -- ---- the journal entry
@@ -46,9 +46,9 @@ removals_of_plan p = names_in_order (p.files.removals
 -- the stage of a change that removes and writes these names; there is none if it does nothing
 abbrev pub IsStageOf : List (List ℕ) → List (List ℕ) → Option Staging → Type 0
 IsStageOf removals writes None =
-    does_something (record { removals = removals; writes = writes }) ≡ false
+    has_actions (record { removals = removals; writes = writes }) ≡ false
 IsStageOf removals writes (Some stage) =
-    (does_something (record { removals = removals; writes = writes }) ≡ true)
+    (has_actions (record { removals = removals; writes = writes }) ≡ true)
     × (stage ≡ new_stage removals writes)
 
 -- a change is refused since its journal entry exceeds a limit of the writer; or memory has run out
@@ -66,10 +66,10 @@ IsOverflowOf p records refused =
 -- a change is rendered from its plan, with this database and world
 pub record IsRendered (p : Plan) (records : NewRecords) (r : Rendered) : Type 0 where
   pub written : AreWritesOf p records r.writes.items
-  pub stage : IsStageOf (removals_of_plan p) (map write_name r.writes.items) r.stage
+  pub stage : IsStageOf (removals_of_plan p) (map name_of_write r.writes.items) r.stage
   -- the journal entry exceeds no limit of the writer
   pub fits : unless_overflow (overflow_of (value_of_intent
-      (intent_of_lists (removals_of_plan p) (map write_name r.writes.items)))) true ≡ Ok true
+      (intent_of_lists (removals_of_plan p) (map name_of_write r.writes.items)))) true ≡ Ok true
   pub report : (history : List TreeState) (found : List MemberFound) (files : Files)
       → IsPlanned history p found files
       → r.report ≡ change_report (replacement_of_plan p) (wishes_of_plan p)

@@ -14,7 +14,7 @@ use Rattle.change_report.specs.change_outcome.ChangeOutcome.{ChangeWishes, IsCla
 use Rattle.change_report.specs.change_outcome.MembersAfter.{MemberFound}
 use Rattle.command_core.specs.Command.{CommandLine}
 use Rattle.change_report.specs.make_info.Reads.{Reads}
-use Rattle.change_report.specs.package_files.Runs.{AreObserved}
+use Rattle.change_report.specs.package_files.Runs.{AreReadsOfTree}
 use Rattle.change_report.specs.package_changes.Changes.{Replacement}
 use Rattle.change_report.specs.path_clashes.Clash.{NamePair}
 use Rattle.report_core.specs.declared.refusal.Refusal.{Refusal}
@@ -26,7 +26,7 @@ pub record IsSelectedRun (command : CommandLine) (selected : Result Selected Ref
     (old now : List TreeState) (before after : Counts)
     (result : Result (List ℕ) Refused) : Type 0 where
   pub read : Reads
-  pub observed : AreObserved old read
+  pub observed : AreReadsOfTree old read
   pub files : Files
   pub there : IfObservable old (λ v. files ≡ files_of v)
   pub present_files : Files

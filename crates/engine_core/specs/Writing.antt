@@ -18,8 +18,8 @@ use Rattle.journal_staging.specs.declared.writes.StagedWrite.{StagedWrite}
 use Rattle.engine_core.specs.declared.writes.RecordWrites.{RecordWrites}
 
 -- the name that the staged file is to have
-abbrev pub write_name : StagedWrite → List ℕ
-write_name w = w.name.now
+abbrev pub name_of_write : StagedWrite → List ℕ
+name_of_write w = w.name.now
 
 -- ---- a file of a package
 
@@ -53,7 +53,7 @@ pub record IsFileWrite (members : List Member) (packages : PackagesRead) (planne
     (write : StagedWrite) : Type 0 where
   pub file : FileWrite
   pub planned_file : Contains planned file
-  pub named : write_name write ≡ file.name
+  pub named : name_of_write write ≡ file.name
   pub source : IsSourceOfWrite members packages file write.source
 
 -- ---- the database and world
@@ -66,13 +66,13 @@ HasBytes bytes (File f) = ⊥
 
 -- the staged file of this name has these bytes
 pub record IsRecordWrite (name bytes : List ℕ) (write : StagedWrite) : Type 0 where
-  pub named : write_name write ≡ name
+  pub named : name_of_write write ≡ name
   pub source : HasBytes bytes write.source
 
 -- a write is that of a record, which has bytes if it is written; without bytes it is unchanged
-abbrev pub IsRecordOf : List ℕ → Option (Bor (List ℕ)) → StagedWrite → Type 0
-IsRecordOf name None write = ⊥
-IsRecordOf name (Some bytes) write = IsRecordWrite name bytes.now write
+abbrev pub IsWriteOfRecord : List ℕ → Option (Bor (List ℕ)) → StagedWrite → Type 0
+IsWriteOfRecord name None write = ⊥
+IsWriteOfRecord name (Some bytes) write = IsRecordWrite name bytes.now write
 
 -- the writes of a record, the database or world: one if it changes, none if it is unchanged
 abbrev pub record_writes : Bor (List ℕ) → Option (Bor (List ℕ)) → List StagedWrite
@@ -92,8 +92,8 @@ abbrev pub IsWriteBy :
     List Member → PackagesRead → List FileWrite → RecordWrites → StagedWrite → Type 0
 IsWriteBy members packages planned r write =
     IsFileWrite members packages planned write
-    ⊎ (IsRecordOf r.database_name.now r.database write
-    ⊎ IsRecordOf r.world_name.now r.world write)
+    ⊎ (IsWriteOfRecord r.database_name.now r.database write
+    ⊎ IsWriteOfRecord r.world_name.now r.world write)
 
 -- ---- what was read
 
@@ -102,6 +102,6 @@ abbrev pub package_at : Arrivals → ℕ → Option TestedPackage
 package_at arrivals place = option_and_then package_in (slice_get (arrivals_seen arrivals) place)
 
 -- the package of each added member was read
-abbrev pub HasPackages : List Member → Arrivals → Type 0
-HasPackages members arrivals = (place : ℕ) (m : Member) → slice_get members place ≡ Some m
+abbrev pub HasPackageOfEachAdded : List Member → Arrivals → Type 0
+HasPackageOfEachAdded members arrivals = (place : ℕ) (m : Member) → slice_get members place ≡ Some m
     → is_added m ≡ true → is_some (package_at arrivals place) ≡ true

@@ -3,8 +3,8 @@
 //! refusals in `docs/commands.md`, "`add` and `del`" and "`upgrade` and `fix`".
 
 ghost use Rattle.change_report.specs.change_inputs.Seen.{inputs_seen};
-ghost use Rattle.engine_core.specs.Chosen.{IsChosen};
-ghost use Rattle.engine_core.specs.Choice.{IsChoice, IsChoiceFrom};
+ghost use Rattle.engine_core.specs.Chosen.{IsResultOfChoice};
+ghost use Rattle.engine_core.specs.Choice.{IsPreferredChoice, IsChoiceFrom};
 ghost use Rattle.engine_core.specs.SelectionSeen.{IsSelectedFrom, IsSelectionFor};
 ghost use Rattle.engine_core.specs.Wishes.{names_of_upgrade};
 ghost use Rattle.std.specs.Prelude.{◌≡◌, ℕ, IfOk, List, Option, Result};
@@ -86,7 +86,7 @@ fn first_selection<'a>(
     pool: &Sealed<'a>,
 ) -> Result<Trace, Refused>
     requires { pool.now.world ≡ (inputs_seen loaded.now).root.new_world }
-    ensures { (chosen : Option (List ℕ)) × IsChoice pool.now chosen × IsChosen chosen result }
+    ensures { (chosen : Option (List ℕ)) × IsPreferredChoice pool.now chosen × IsResultOfChoice chosen result }
 {
     // A law that the proof needs; it has no effect at run time.
     a_choice_exists();

@@ -6,7 +6,7 @@ ghost use Rattle.added_packages.specs.Arrivals.{CanBeMembers, arrivals_seen};
 ghost use Rattle.base_core.specs.Read.{OnlyReads};
 ghost use Rattle.change_report.specs.change_outcome.ChangeOutcome.{change_members};
 ghost use Rattle.change_report.specs.db_core.Seen.{packages_of};
-ghost use Rattle.change_report.specs.package_files.Runs.{Explains};
+ghost use Rattle.change_report.specs.package_files.Runs.{IsExplainedBySomeReads};
 ghost use Rattle.engine_core.specs.Preparing.{AreReadFor};
 ghost use Rattle.engine_core.specs.SelectionSeen.{HasDatabaseOfInputs, HasPoolOfInputs, inputs_of_selection, replacement_seen, wishes_of_selection};
 ghost use Rattle.std.specs.Prelude.{IfOk};
@@ -43,7 +43,7 @@ pub(crate) fn read_packages<'r, 'a, T: Tree>(
     requires database { HasDatabaseOfInputs selection.now }
     requires pool { HasPoolOfInputs selection.now }
     // They are the packages that reads of the tree find; or one of them is refused, the first.
-    ensures found { Explains (T.history tree.old) (λ read.
+    ensures found { IsExplainedBySomeReads (T.history tree.old) (λ read.
         DenotesUnlessDisk (AreReadFor (T.history tree.old) selection.entry.now) result
         (change_members (inputs_of_selection selection.entry.now)
         (replacement_seen selection.entry.now) (wishes_of_selection selection.entry.now) read)) }

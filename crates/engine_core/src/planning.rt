@@ -5,13 +5,13 @@
 ghost use Rattle.added_packages.specs.Arrivals.{CanBeMembers, arrivals_seen};
 ghost use Rattle.base_core.specs.Read.{OnlyReads};
 ghost use Rattle.change_report.specs.change_inputs.Answers.{Agrees};
-ghost use Rattle.change_report.specs.change_outcome.ChangeOutcome.{name_at_place};
+ghost use Rattle.change_report.specs.change_outcome.ChangeOutcome.{member_name_at_place};
 ghost use Rattle.change_report.specs.change_outcome.MembersAfter.{MemberFound};
-ghost use Rattle.change_report.specs.change_outcome.Triggers.{unless_trigger};
+ghost use Rattle.change_report.specs.change_outcome.Triggers.{unless_trigger_due};
 ghost use Rattle.change_report.specs.db_core.Seen.{members_of, packages_of};
 ghost use Rattle.change_report.specs.Due.{planned_paths};
 ghost use Rattle.change_report.specs.make_info.Reads.{Reads};
-ghost use Rattle.engine_core.specs.Plans.{HasNoPlan, IsPlanFrom, IsRefusedFor};
+ghost use Rattle.engine_core.specs.Plans.{HasNoPlan, IsPlanFrom, IsRefusalOfPlanFault};
 ghost use Rattle.engine_core.specs.Preparing.{AreFoundBy, IsPlanOfPackages, inputs_of_packages, replacement_of_packages, wishes_of_packages};
 ghost use Rattle.engine_core.specs.Runs.{IsFoundRun};
 ghost use Rattle.std.specs.Prelude.{◌≡◌, ◌<◌, true, Err, IfErr, IfOk, List, length};
@@ -106,7 +106,7 @@ fn plan_files<T: Tree>(
 
 // Why a change is refused if its files cannot be planned.
 fn refused_plan(fault: PlanFault) -> Refused
-    ensures { IsRefusedFor fault result }
+    ensures { IsRefusalOfPlanFault fault result }
 {
     match fault {
         PlanFault::Reserved { path } => Refused::Refusal(Refusal::Reserved { path }),
@@ -139,7 +139,7 @@ fn test_triggers(
     plan: &FilePlan,
 ) -> Result<(), Refused>
     ensures { Agrees (λ _. true) result
-        (unless_trigger no_scripts (planned_paths plan.now) (members_of members.now)) }
+        (unless_trigger_due no_scripts (planned_paths plan.now) (members_of members.now)) }
 {
     if no_scripts {
         return Ok(());
@@ -157,7 +157,7 @@ fn test_triggers(
 /// The name of the package at a place.
 fn member_name(alloc: Global, members: &Members<'_>, place: usize) -> Result<Text, AllocError>
     requires { place < length (members_of members.now) }
-    ensures { IfOk result (λ name. name ≡ name_at_place (members_of members.now) place) }
+    ensures { IfOk result (λ name. name ≡ member_name_at_place (members_of members.now) place) }
 {
     let view = members.view(place);
     Text::of(alloc, view.info().name())

@@ -3,7 +3,7 @@
 //! limits in `docs/formats.md`, "Canonical layout".
 ghost use Rattle.added_packages.specs.adb_write.Canonical.{overflow_of};
 ghost use Rattle.change_report.specs.change_inputs.Answers.{Agrees};
-ghost use Rattle.change_report.specs.change_outcome.ChangeOutcome.{is_other_file, unless_large, unless_overflow};
+ghost use Rattle.change_report.specs.change_outcome.ChangeOutcome.{is_absent_or_different, or_result_too_large, unless_overflow};
 ghost use Rattle.change_report.specs.db_core.Seen.{members_of};
 ghost use Rattle.change_report.specs.db_write.NewDatabase.{database_of};
 ghost use Rattle.change_report.specs.journal_core.Staged.{new_stage};
@@ -30,7 +30,7 @@ pub(crate) fn new_database(
     owned: &Owned,
 ) -> Result<Vec<u8>, Refused>
     ensures { Agrees (λ file. file.items) result
-        (unless_large (database_of (members_of members.now) owned.now)) }
+        (or_result_too_large (database_of (members_of members.now) owned.now)) }
 {
     match write_db(alloc, members, owned) {
         Ok(file) => Ok(file),
@@ -42,8 +42,8 @@ pub(crate) fn new_database(
 }
 
 /// Whether a file is absent or has other bytes than these.
-pub(crate) fn is_other_file(found: Option<&[u8]>, bytes: &[u8]) -> bool
-    ensures { result ≡ is_other_file (option_copied found.entry) bytes.now }
+pub(crate) fn is_absent_or_different(found: Option<&[u8]>, bytes: &[u8]) -> bool
+    ensures { result ≡ is_absent_or_different (option_copied found.entry) bytes.now }
 {
     match found {
         Some(old) => old != bytes,

@@ -1,6 +1,6 @@
 //! What a change removes. The rules are in `docs/commands.md`, "What a change does with files", and
 //! for the text database in "A root of version 2".
-ghost use Rattle.change_report.specs.change_files.PlanLists.{names_in_order};
+ghost use Rattle.change_report.specs.change_files.PlanLists.{sorted_distinct_names};
 ghost use Rattle.change_report.specs.change_outcome.ChangeOutcome.{name_if_needed};
 ghost use Rattle.change_report.specs.journal_intent.FreeNames.{HaveNoRepeats};
 ghost use Rattle.base_core.specs.ByteOrder.{bytes_cmp};
@@ -21,7 +21,7 @@ pub(crate) fn removals_of(
 ) -> Result<Names, AllocError>
     requires { HaveNoRepeats (planned.now ++ name_if_needed takes_text_over text_database_name) }
     ensures { IfOk result (λ names. names
-        ≡ names_in_order (planned.now ++ name_if_needed takes_text_over text_database_name)) }
+        ≡ sorted_distinct_names (planned.now ++ name_if_needed takes_text_over text_database_name)) }
 {
     let text_name = text_database_name(alloc)?;
     let mut names = Vec::new(alloc);

@@ -7,19 +7,19 @@ ghost use Rattle.base_core.specs.Files.{Files};
 ghost use Rattle.base_core.specs.Tree.{TreeState};
 ghost use Rattle.change_report.specs.change_inputs.Answers.{Agrees};
 ghost use Rattle.change_report.specs.change_inputs.Seen.{inputs_seen};
-ghost use Rattle.change_report.specs.change_outcome.ChangeOutcome.{change_report, does_something, file_change, unless_large, unless_overflow};
+ghost use Rattle.change_report.specs.change_outcome.ChangeOutcome.{change_report, has_actions, file_change, or_result_too_large, unless_overflow};
 ghost use Rattle.change_report.specs.change_outcome.MembersAfter.{MemberFound};
 ghost use Rattle.change_report.specs.db_core.Seen.{members_of};
 ghost use Rattle.change_report.specs.db_write.NewDatabase.{database_of};
 ghost use Rattle.change_report.specs.journal_intent.IntentValue.{intent_of_lists, value_of_intent};
-ghost use Rattle.engine_core.specs.Preparing.{AreRecordWrites, AreRecordsOf, HasPlan, IsPlanned, bytes_if, inputs_of_plan, replacement_of_plan, wishes_of_plan};
+ghost use Rattle.engine_core.specs.Preparing.{AreRecordWrites, AreNewRecordsOf, HasPlan, IsPlanned, bytes_if, inputs_of_plan, replacement_of_plan, wishes_of_plan};
 ghost use Rattle.engine_core.specs.Rendering.{AreWritesOf, IsOverflowOf, IsRendered, IsStageOf, removals_of_plan};
-ghost use Rattle.engine_core.specs.Writing.{write_name};
+ghost use Rattle.engine_core.specs.Writing.{name_of_write};
 ghost use Rattle.std.specs.Option.{option_copied};
 ghost use Rattle.std.specs.Prelude.{◌≡◌, List, map, not, true, IfErr, IfOk};
 
 use crate::planning::Plan;
-use crate::records::{begin_stage, is_other_file, new_database};
+use crate::records::{begin_stage, is_absent_or_different, new_database};
 use crate::removals::removals_of;
 use crate::wishes::names_to_remove;
 use crate::writes::{RecordWrites, names_of, writes_of};
@@ -55,7 +55,7 @@ pub(crate) fn render<'c>(
     records: &'c NewRecords,
 ) -> Result<Rendered<'c>, Refused>
     requires plan { (history : List TreeState) × HasPlan history plan.now }
-    requires records { AreRecordsOf (inputs_of_plan plan.now) records.now }
+    requires records { AreNewRecordsOf (inputs_of_plan plan.now) records.now }
     ensures rendered { IfOk result (IsRendered plan.entry.now records.entry.now) }
     // Or the journal entry of the change is too large.
     ensures refused { IfErr result (IsOverflowOf plan.entry.now records.entry.now) }
@@ -85,12 +85,12 @@ fn journal_entry(
     writes: &[StagedWrite<'_>],
 ) -> Result<Option<Stage>, Refused>
     requires plan { (history : List TreeState) × HasPlan history plan.now }
-    requires writes { (records : NewRecords) × AreRecordsOf (inputs_of_plan plan.now) records
+    requires writes { (records : NewRecords) × AreNewRecordsOf (inputs_of_plan plan.now) records
         × AreWritesOf plan.now records writes.now }
     ensures stage { IfOk result
-        (IsStageOf (removals_of_plan plan.now) (map write_name writes.now)) }
+        (IsStageOf (removals_of_plan plan.now) (map name_of_write writes.now)) }
     ensures told { Agrees (λ _. true) result (unless_overflow (overflow_of (value_of_intent
-        (intent_of_lists (removals_of_plan plan.now) (map write_name writes.now)))) true) }
+        (intent_of_lists (removals_of_plan plan.now) (map name_of_write writes.now)))) true) }
 {
     let loaded = plan.packages.selection.loaded;
     let removals = removals_of(alloc, plan.files.removals(), loaded.is_from_text())?;
@@ -125,8 +125,8 @@ pub(crate) struct NewRecords {
 /// `ResultTooLarge` if the database exceeds a limit of the writer, or `Memory`.
 pub(crate) fn new_records(alloc: Global, plan: &Plan<'_, '_, '_>) -> Result<NewRecords, Refused>
     ensures told { Agrees (λ records. records.database.items) result
-        (unless_large (database_of (members_of plan.now.members) plan.now.files.owned)) }
-    ensures records { IfOk result (AreRecordsOf (inputs_of_plan plan.now)) }
+        (or_result_too_large (database_of (members_of plan.now.members) plan.now.files.owned)) }
+    ensures records { IfOk result (AreNewRecordsOf (inputs_of_plan plan.now)) }
 {
     let database = new_database(alloc, &plan.members, plan.files.owned())?;
     let world = plan.packages.selection.loaded.new_world().text(alloc)?;
@@ -155,7 +155,7 @@ fn bytes_if(is_other: bool, bytes: &[u8]) -> Option<&[u8]>
 fn record_writes_of<'c>(loaded: &Loaded, records: &'c NewRecords) -> RecordWrites<'c>
     ensures { AreRecordWrites (inputs_seen loaded.now) records.now result }
 {
-    let is_other_database = is_other_file(loaded.database_file(), &records.database);
+    let is_other_database = is_absent_or_different(loaded.database_file(), &records.database);
     let is_other_world = loaded.world_text() != records.world.as_bytes();
     RecordWrites {
         database_name: &records.database_name,
@@ -196,7 +196,7 @@ fn report_of(alloc: Global, plan: &Plan<'_, '_, '_>) -> Result<Text, AllocError>
 
 /// Whether a change removes and writes nothing.
 fn is_idle(removals: &Names, writes: &Names) -> bool
-    ensures { result ≡ not (does_something
+    ensures { result ≡ not (has_actions
         (record { removals = removals.now; writes = writes.now })) }
 {
     if !removals.is_empty() {

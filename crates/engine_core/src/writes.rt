@@ -1,8 +1,8 @@
 //! What a change writes. The rules are in `docs/commands.md`, "What a change does with files" and
 //! "`add` and `del`", what is written.
-ghost use Rattle.change_report.specs.change_files.PlanLists.{names_in_order};
+ghost use Rattle.change_report.specs.change_files.PlanLists.{sorted_distinct_names};
 ghost use Rattle.change_report.specs.db_core.Seen.{members_of};
-ghost use Rattle.engine_core.specs.Writing.{HasPackages, IsFileWrite, IsSourceOfWrite, IsWriteBy, package_at, database_and_world_names, record_writes, write_name};
+ghost use Rattle.engine_core.specs.Writing.{HasPackageOfEachAdded, IsFileWrite, IsSourceOfWrite, IsWriteBy, package_at, database_and_world_names, record_writes, name_of_write};
 ghost use Rattle.change_report.specs.journal_intent.FreeNames.{HaveNoRepeats};
 ghost use Rattle.base_core.specs.ByteOrder.{bytes_cmp};
 ghost use Rattle.base_core.specs.Sorted.{sorted_by};
@@ -36,7 +36,7 @@ pub(crate) struct RecordWrites<'c> {
 /// its member.
 fn source_of<'c>(members: &Members<'c>, arrivals: &'c Arrivals, write: &Write) -> Source<'c>
     requires file { IsOfAddedFile (members_of members.now) (write_seen write.now) }
-    requires packages { HasPackages (members_of members.now) arrivals.now }
+    requires packages { HasPackageOfEachAdded (members_of members.now) arrivals.now }
     ensures { IsSourceOfWrite (members_of members.now) (package_at arrivals.now)
         (write_seen write.now) result }
 {
@@ -63,10 +63,10 @@ fn push_files<'c>(
     plan: &'c FilePlan,
 ) -> Result<(), AllocError>
     requires sources { HasSources (members_of members.now) plan.now }
-    requires packages { HasPackages (members_of members.now) arrivals.now }
+    requires packages { HasPackageOfEachAdded (members_of members.now) arrivals.now }
     ensures { OnOk result ((files : List StagedWriteValue)
         × (writes.new.items ≡ writes.old.items ++ files)
-        × (map write_name files ≡ written_names plan.entry.now)
+        × (map name_of_write files ≡ written_names plan.entry.now)
         × All (IsFileWrite (members_of members.now) (package_at arrivals.entry.now)
         (writes_in plan.entry.now.writes)) files) }
 {
@@ -103,7 +103,7 @@ fn push_record<'c>(
 /// Puts writes into byte order of their names, in which the intent lists them.
 fn sort_writes(writes: &mut Vec<StagedWrite<'_>>) -> Result<(), AllocError>
     ensures { OnOk result (writes.new.items
-        ≡ sorted_by (on write_name bytes_cmp) writes.old.items) }
+        ≡ sorted_by (on name_of_write bytes_cmp) writes.old.items) }
 {
     writes.sort_by(|one, other| one.name.as_bytes().cmp(other.name.as_bytes()))?;
     Ok(())
@@ -120,12 +120,12 @@ pub(crate) fn writes_of<'c>(
     // Each planned write is of a file of an added package.
     requires sources { HasSources (members_of members.now) plan.now }
     // Each added package was read.
-    requires packages { HasPackages (members_of members.now) arrivals.now }
+    requires packages { HasPackageOfEachAdded (members_of members.now) arrivals.now }
     // No name is written twice.
     requires once { HaveNoRepeats (written_names plan.now ++ database_and_world_names records.now) }
     // The names are those of the plan and of the records, in byte order.
-    ensures names { IfOk result (λ writes. map write_name writes.items
-        ≡ names_in_order (written_names plan.entry.now ++ database_and_world_names records.now)) }
+    ensures names { IfOk result (λ writes. map name_of_write writes.items
+        ≡ sorted_distinct_names (written_names plan.entry.now ++ database_and_world_names records.now)) }
     // Each write has the bytes that its name is to have.
     ensures each { IfOk result (λ writes. All (IsWriteBy (members_of members.now)
         (package_at arrivals.entry.now) (writes_in plan.entry.now.writes) records.now)
@@ -141,7 +141,7 @@ pub(crate) fn writes_of<'c>(
 
 /// The names of writes, in the same order.
 pub(crate) fn names_of(alloc: Global, writes: &[StagedWrite<'_>]) -> Result<Names, AllocError>
-    ensures { IfOk result (λ names. names ≡ map write_name writes.now) }
+    ensures { IfOk result (λ names. names ≡ map name_of_write writes.now) }
 {
     let mut names = Names::new(alloc);
     for write in writes {

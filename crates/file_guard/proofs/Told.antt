@@ -5,7 +5,7 @@ use Rattle.std.specs.Str.{bytes_eq}
 use Rattle.pkg_core.specs.Contents.{hash_fault}
 use Rattle.adb_view.specs.Plain.{Plain}
 use Rattle.file_guard.specs.AsListed.{file_hash, file_size, is_as_listed, is_as_listed_by}
-use Rattle.file_guard.specs.Listed.{IsOfEntry, is_as_described}
+use Rattle.file_guard.specs.Listed.{DescribesEntry, is_as_described}
 use Rattle.file_guard.specs.declared.compare.ListedFile.{ListedFile}
 use Rattle.file_guard.proofs.Due.{not_zero}
 
@@ -30,7 +30,7 @@ unfolding is_as_listed_by
 told_never size hash target bytes no_link no_hash full = rw (no_link, no_hash, full) refl
 
 -- what a `ListedFile` says of bytes its entry says
-pub told_as_listed : (listed : ListedFile) (entry : Plain) (bytes : List ℕ) → IsOfEntry listed entry → is_as_described (Some listed) bytes ≡ is_as_listed entry bytes
+pub told_as_listed : (listed : ListedFile) (entry : Plain) (bytes : List ℕ) → DescribesEntry listed entry → is_as_described (Some listed) bytes ≡ is_as_listed entry bytes
 told_as_listed listed entry bytes is =
     ap (λ (n : ℕ). is_as_listed_by n listed.hash.now listed.target.now bytes) is.size
     ∙ (ap (λ (xs : List ℕ). is_as_listed_by (file_size entry) xs listed.target.now bytes) is.hash

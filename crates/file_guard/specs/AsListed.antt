@@ -25,26 +25,26 @@ abbrev pub has_target : Plain → Bool
 has_target entry = not (length (file_target entry) == 0)
 
 -- where the text of a link begins in its target, counted from 0: after `00 a0`
-abbrev pub link_text_at : ℕ
-link_text_at = 2
+abbrev pub link_text_offset : ℕ
+link_text_offset = 2
 
 -- the text of a link with this target
-abbrev pub target_text : List ℕ → List ℕ
-target_text target = drop link_text_at target
+abbrev pub link_text_of_target : List ℕ → List ℕ
+link_text_of_target target = drop link_text_offset target
 
 -- the bytes of a file that represents a link to a target: a mark, and the link's text
-abbrev pub link_to : List ℕ → List ℕ
-link_to target = codes "!<symlink>" ++ target_text target
+abbrev pub link_bytes_to : List ℕ → List ℕ
+link_bytes_to target = codes "!<symlink>" ++ link_text_of_target target
 
 -- the bytes of a file that represents the link of an entry
 abbrev pub link_bytes : Plain → List ℕ
-link_bytes entry = link_to (file_target entry)
+link_bytes entry = link_bytes_to (file_target entry)
 
 -- Whether bytes are as an entry with this size, hash and target lists them: a link's bytes; bytes with
 -- the hash; or, if there is no hash, no bytes at a size of 0.
 unfoldable pub is_as_listed_by : ℕ → List ℕ → List ℕ → List ℕ → Bool
 is_as_listed_by size hash target bytes =
-    if not (length target == 0) then bytes_eq bytes (link_to target)
+    if not (length target == 0) then bytes_eq bytes (link_bytes_to target)
     else if length hash == 0 then (size == 0) && (length bytes == 0)
     else is_none (hash_fault hash bytes)
 

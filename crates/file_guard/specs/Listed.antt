@@ -8,7 +8,7 @@ use Rattle.file_guard.specs.declared.compare.Comparison.{Comparison}
 use Rattle.file_guard.specs.declared.compare.ListedFile.{ListedFile}
 
 -- a `ListedFile` says of the bytes what the entry says
-pub record IsOfEntry (listed : ListedFile) (entry : Plain) : Type 0 where
+pub record DescribesEntry (listed : ListedFile) (entry : Plain) : Type 0 where
   pub size : listed.size ≡ file_size entry
   pub hash : listed.hash.now ≡ file_hash entry
   pub target : listed.target.now ≡ file_target entry
@@ -21,10 +21,10 @@ is_as_described (Some listed) bytes =
 
 -- how bytes compare with what is listed after a change and before it; a side that lists nothing
 -- agrees with no bytes
-abbrev pub comparison_by : Option ListedFile → Option ListedFile → List ℕ → Comparison
-comparison_by new old bytes =
+abbrev pub comparison_of_bytes : Option ListedFile → Option ListedFile → List ℕ → Comparison
+comparison_of_bytes new old bytes =
     record { as_new = is_as_described new bytes; as_old = is_as_described old bytes }
 
 -- how the file under the name compares, if there is one
-abbrev pub comparison_of : Option ListedFile → Option ListedFile → Option (List ℕ) → Option Comparison
-comparison_of new old found = option_map (comparison_by new old) found
+abbrev pub comparison_of_found_file : Option ListedFile → Option ListedFile → Option (List ℕ) → Option Comparison
+comparison_of_found_file new old found = option_map (comparison_of_bytes new old) found

@@ -2,7 +2,7 @@
 -- `src/watch.rt`.
 use Rattle.std.specs.Prelude.{◌≡◌, Bool, false, ℕ, List, ◌++◌, bytes_eq, is_none}
 use Rattle.pkg_core.specs.Contents.{hash_fault}
-use Rattle.pkg_core.specs.Hashing.{HoldsFor}
+use Rattle.pkg_core.specs.Hashing.{HasHashedMessage}
 use Rattle.file_guard.specs.declared.watch.Watch.{Watch}
 use Rattle.file_guard.specs.declared.watch.Watch.TheVariants.{Never, Exactly, Hashed}
 
@@ -13,5 +13,5 @@ Watches Never test so_far = (further : List ℕ) → test (so_far ++ further) �
 Watches (Exactly first second) test so_far =
     (further : List ℕ) → test (so_far ++ further) ≡ bytes_eq further (first.now ++ second.now)
 Watches (Hashed hasher hash) test so_far =
-    HoldsFor hasher hash.now so_far
+    HasHashedMessage hasher hash.now so_far
     × ((bytes : List ℕ) → test bytes ≡ is_none (hash_fault hash.now bytes))

@@ -6,7 +6,7 @@ ghost use Rattle.std.specs.Option.{option_map};
 ghost use Rattle.base_core.specs.Calls.{IfObservable};
 ghost use Rattle.base_core.specs.Read.{OnlyReads};
 ghost use Rattle.base_core.specs.Tree.{files_of};
-ghost use Rattle.file_guard.specs.Listed.{comparison_by, comparison_of, IsOfEntry};
+ghost use Rattle.file_guard.specs.Listed.{comparison_of_bytes, comparison_of_found_file, DescribesEntry};
 ghost use Rattle.pkg_core.specs.adb_schema.Views.{file_value};
 ghost use Rattle.adb_view.specs.Plain.{Plain};
 ghost use Rattle.file_guard.specs.AsListed.{do_entries_agree};
@@ -26,8 +26,9 @@ pub struct Comparison {
 
 /// Compares the file under a name with two entries. Either may be absent: then no bytes are as it
 /// lists them. Returns None exactly if the name is absent. The file is read once, in pieces of
-/// 65,536 bytes, and the tree is unchanged, whatever is returned. If the tree's files are not
-/// observable, the answer is right of some file or of none.
+/// 65,536 bytes, and the tree is unchanged, whatever is returned. If contracts cannot speak of the
+/// tree's files, as of the host's, the answer is correct for some bytes that the file may have, or
+/// for its absence.
 ///
 /// # Errors
 ///
@@ -38,13 +39,14 @@ pub fn compare_file<T: Tree>(
     new: Option<ListedFile<'_>>,
     old: Option<ListedFile<'_>>,
 ) -> Result<Option<Comparison>, Disk>
-    // Of every tree: the answer is right of some file under the name, or of its absence.
+    // Of every tree: the answer is correct for some bytes that the file may have, or for its
+    // absence.
     ensures found { IfOk result (λ answer. (file : Option (List ℕ))
         × IfObservable (T.history tree.old) (λ v. file ≡ files_of v name.now)
-        × (answer ≡ comparison_of new.entry old.entry file)) }
+        × (answer ≡ comparison_of_found_file new.entry old.entry file)) }
     // If the tree's files are observable, it is right of the file under the name.
     ensures answer { IfOk result (λ found. IfObservable (T.history tree.old) (λ v.
-        found ≡ comparison_of new.entry old.entry (files_of v name.now))) }
+        found ≡ comparison_of_found_file new.entry old.entry (files_of v name.now))) }
     ensures tree { OnlyReads (record {}) (T.history tree.old) (T.history tree.new)
         (T.counts tree.old) (T.counts tree.new) result }
 {
@@ -65,13 +67,14 @@ pub fn compare_file_in<T: Tree>(
     old: Option<ListedFile<'_>>,
     piece: &mut [u8; PIECE_LEN],
 ) -> Result<Option<Comparison>, Disk>
-    // Of every tree: the answer is right of some file under the name, or of its absence.
+    // Of every tree: the answer is correct for some bytes that the file may have, or for its
+    // absence.
     ensures found { IfOk result (λ answer. (file : Option (List ℕ))
         × IfObservable (T.history tree.old) (λ v. file ≡ files_of v name.now)
-        × (answer ≡ comparison_of new.entry old.entry file)) }
+        × (answer ≡ comparison_of_found_file new.entry old.entry file)) }
     // If the tree's files are observable, it is right of the file under the name.
     ensures answer { IfOk result (λ found. IfObservable (T.history tree.old) (λ v.
-        found ≡ comparison_of new.entry old.entry (files_of v name.now))) }
+        found ≡ comparison_of_found_file new.entry old.entry (files_of v name.now))) }
     ensures tree { OnlyReads (record {}) (T.history tree.old) (T.history tree.new)
         (T.counts tree.old) (T.counts tree.new) result }
 {
@@ -95,7 +98,7 @@ fn compare_present<T: Tree>(
         Some size ≡ option_map length (files_of v name.now)) }
     ensures found { IfOk result (λ comparison. (bytes : List ℕ)
         × IfObservable (T.history tree.old) (λ v. Some bytes ≡ files_of v name.now)
-        × (comparison ≡ comparison_by new.entry old.entry bytes)) }
+        × (comparison ≡ comparison_of_bytes new.entry old.entry bytes)) }
     ensures tree { OnlyReads (record {}) (T.history tree.old) (T.history tree.new)
         (T.counts tree.old) (T.counts tree.new) result }
 {
@@ -131,7 +134,7 @@ impl<'a> ListedFile<'a> {
     /// Whether two entries say the same of the bytes.
     #[tactic(auto, unfolding(crate::specs::AsListed::do_entries_agree))]
     pub fn agrees(&self, other: &ListedFile<'_>) -> bool
-        ensures { (a b : Plain) → IsOfEntry self.now a → IsOfEntry other.now b
+        ensures { (a b : Plain) → DescribesEntry self.now a → DescribesEntry other.now b
             → result ≡ do_entries_agree a b }
     {
         self.size == other.size && self.hash == other.hash && self.target == other.target
@@ -140,7 +143,7 @@ impl<'a> ListedFile<'a> {
 
 /// What the entry of a file says of its bytes.
 pub fn listed_file<'a>(file: &FileInfo<'a>) -> ListedFile<'a>
-    ensures { IsOfEntry result (file_value file.now) }
+    ensures { DescribesEntry result (file_value file.now) }
 {
     ListedFile {
         size: file.size(),

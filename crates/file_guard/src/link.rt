@@ -3,7 +3,7 @@
 //! `docs/formats.md`, "The texts", field 406.
 
 ghost use Rattle.std.specs.Prelude.{◌≡◌};
-ghost use Rattle.file_guard.specs.AsListed.{target_text};
+ghost use Rattle.file_guard.specs.AsListed.{link_text_of_target};
 
 /// The bytes before a link's text in the file that is written for the link.
 pub const LINK_MARK: &[u8] = b"!<symlink>";
@@ -12,8 +12,8 @@ pub const LINK_MARK: &[u8] = b"!<symlink>";
 const LINK_TEXT_AT: usize = 2;
 
 /// The text of a link with this target; none if the target is too short to have one.
-pub fn target_text(target: &[u8]) -> &[u8]
-    ensures { result.now ≡ target_text target.now }
+pub fn link_text_of_target(target: &[u8]) -> &[u8]
+    ensures { result.now ≡ link_text_of_target target.now }
 {
     match target.get(LINK_TEXT_AT..) {
         Some(text) => text,

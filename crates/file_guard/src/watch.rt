@@ -6,7 +6,7 @@ ghost use Rattle.file_guard.specs.Listed.{is_as_described};
 ghost use Rattle.file_guard.specs.Watching.{Watches};
 
 use crate::compare::ListedFile;
-use crate::link::{LINK_MARK, target_text};
+use crate::link::{LINK_MARK, link_text_of_target};
 use pkg_core::Hasher;
 
 /// What the remaining bytes have to be. `Watching` of `specs/` relates this to the test of all
@@ -68,7 +68,7 @@ fn watch_listed<'a>(listed: ListedFile<'a>) -> Watch<'a>
     ensures { Watches result (is_as_described (Some listed.entry)) [] }
 {
     if !listed.target.is_empty() {
-        return Watch::Exactly(LINK_MARK, target_text(listed.target));
+        return Watch::Exactly(LINK_MARK, link_text_of_target(listed.target));
     }
     if !listed.hash.is_empty() {
         return Watch::Hashed(Hasher::new(listed.hash), listed.hash);

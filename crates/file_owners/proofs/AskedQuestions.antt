@@ -14,10 +14,10 @@ use Rattle.path_claims.specs.adb_fields.Repeated.{list_of, package_name}
 use Rattle.db_core.specs.adb_schema.Dependencies.{dependency_in}
 use Rattle.adb_view.specs.Values.{count_of, entry_in, int_in, nth, text_in, value_at}
 use Rattle.adb_view.specs.declared.tables.Kind.TheVariants as Kinds
-use Rattle.db_core.specs.Members.{Member, is_place, member_name}
+use Rattle.db_core.specs.Members.{Member, is_found_place, member_name}
 use Rattle.db_core.proofs.AnyOf.{any_step, past_end}
-use Rattle.file_owners.specs.Questions.{AreSameQuestion, IsQuestionIn, entry_of_question, question_names, question_names_if_any, with_question}
-use Rattle.file_owners.specs.Replaces.{is_named_by, is_replaced_by, version_text}
+use Rattle.file_owners.specs.Questions.{AreSameQuestion, IsQuestionIn, entry_of_question, question_names_package, question_names_if_any, with_question}
+use Rattle.file_owners.specs.Replaces.{replaces_entry_names, is_replaced_by, version_text}
 use Rattle.file_owners.specs.declared.questions.Question.{Question}
 use Rattle.file_owners.proofs.AnyOfFront.{all_at, one_more, passed_in_front, settled, some_at}
 use Rattle.file_owners.proofs.NamedPlaces.{other_name}
@@ -25,7 +25,7 @@ use Rattle.file_owners.proofs.NamedPlaces.{other_name}
 -- ---- the question of one entry
 
 -- the member at the place that was found for a name has that name
-pub named_so : (members : List Member) (place : ℕ) (name : List ℕ) → ((i : ℕ) (m : Member) → slice_get members i ≡ Some m → is_place i (Some place) ≡ bytes_eq (member_name m) name)
+pub named_so : (members : List Member) (place : ℕ) (name : List ℕ) → ((i : ℕ) (m : Member) → slice_get members i ≡ Some m → is_found_place i (Some place) ≡ bytes_eq (member_name m) name)
     → (m : Member) → slice_get members place ≡ Some m → name ≡ member_name m
 named_so members place name found m g = sym ((bytes_decides (member_name m) name).0 (sym (found place m g) ∙ itself place))
   where
@@ -34,35 +34,35 @@ named_so members place name found m g = sym ((bytes_decides (member_name m) name
 
 -- an entry names no other member than the one that has its name
 pub found_asks : (entry : Plain) (members : List Member) (place : ℕ)
-    → ((i : ℕ) (m : Member) → slice_get members i ≡ Some m → is_place i (Some place) ≡ bytes_eq (member_name m) (text_in (entry_in entry 0)))
-    → (y : ℕ) (m : Member) → slice_get members y ≡ Some m → ((place == y) && is_named_by entry m.pkg) ≡ is_named_by entry m.pkg
+    → ((i : ℕ) (m : Member) → slice_get members i ≡ Some m → is_found_place i (Some place) ≡ bytes_eq (member_name m) (text_in (entry_in entry 0)))
+    → (y : ℕ) (m : Member) → slice_get members y ≡ Some m → ((place == y) && replaces_entry_names entry m.pkg) ≡ replaces_entry_names entry m.pkg
 found_asks entry members place found y m g = go (eqb_tells place y)
   where
-    go : ((place == y) ≡ true) × (place ≡ y) ⊎ ((place == y) ≡ false) × (place ≡ y → ⊥) → ((place == y) && is_named_by entry m.pkg) ≡ is_named_by entry m.pkg
-    go (inl (e, s)) = ap (λ b. b && is_named_by entry m.pkg) e
-    go (inr (e, n)) = ap (λ b. b && is_named_by entry m.pkg) e ∙ sym (other_name entry m.pkg (sym (found y m g) ∙ e))
+    go : ((place == y) ≡ true) × (place ≡ y) ⊎ ((place == y) ≡ false) × (place ≡ y → ⊥) → ((place == y) && replaces_entry_names entry m.pkg) ≡ replaces_entry_names entry m.pkg
+    go (inl (e, s)) = ap (λ b. b && replaces_entry_names entry m.pkg) e
+    go (inr (e, n)) = ap (λ b. b && replaces_entry_names entry m.pkg) e ∙ sym (other_name entry m.pkg (sym (found y m g) ∙ e))
 
 -- ---- the questions of entries
 
 abbrev pub AreAskedSoFar : List ℕ → List Member → List Question → Plains → ℕ → Type 0
 AreAskedSoFar payload members questions vs i =
     (y : ℕ) (m : Member) → slice_get members y ≡ Some m
-    → (list_any (question_names payload y m.pkg) questions || list_any (λ entry. is_named_by entry m.pkg) (drop i (list_of vs)))
-    ≡ list_any (λ entry. is_named_by entry m.pkg) (list_of vs)
+    → (list_any (question_names_package payload y m.pkg) questions || list_any (λ entry. replaces_entry_names entry m.pkg) (drop i (list_of vs)))
+    ≡ list_any (λ entry. replaces_entry_names entry m.pkg) (list_of vs)
 
-any_with : (payload : List ℕ) (y : ℕ) (pkg : Plain) (old : List Question) (q : Option Question) → list_any (question_names payload y pkg) (with_question old q) ≡ (list_any (question_names payload y pkg) old || question_names_if_any payload y pkg q)
-any_with payload y pkg old None = sym (or-false (list_any (question_names payload y pkg) old))
+any_with : (payload : List ℕ) (y : ℕ) (pkg : Plain) (old : List Question) (q : Option Question) → list_any (question_names_package payload y pkg) (with_question old q) ≡ (list_any (question_names_package payload y pkg) old || question_names_if_any payload y pkg q)
+any_with payload y pkg old None = sym (or-false (list_any (question_names_package payload y pkg) old))
 any_with payload y pkg old (Some q) =
-    list_any-append (question_names payload y pkg) old (q ∷ []) ∙ ap (λ b. list_any (question_names payload y pkg) old || b) (or-false (question_names payload y pkg q))
+    list_any-append (question_names_package payload y pkg) old (q ∷ []) ∙ ap (λ b. list_any (question_names_package payload y pkg) old || b) (or-false (question_names_package payload y pkg q))
 
 pub entry_asked : (payload : List ℕ) (members : List Member) (old new : List Question) (question : Option Question) (vs : Plains) (i : ℕ) (entry : Plain) → i < count_of vs → entry ≡ nth vs i
     → new ≡ with_question old question
-    → ((y : ℕ) (m : Member) → slice_get members y ≡ Some m → question_names_if_any payload y m.pkg question ≡ is_named_by entry m.pkg)
+    → ((y : ℕ) (m : Member) → slice_get members y ≡ Some m → question_names_if_any payload y m.pkg question ≡ replaces_entry_names entry m.pkg)
     → AreAskedSoFar payload members old vs i → AreAskedSoFar payload members new vs (i + 1)
 entry_asked payload members old new question vs i entry l is grown asked inv y m g =
     let s : i + 1 ≡ suc i = omega arith in
-    let p : Plain → Bool = λ entry. is_named_by entry m.pkg in
-    let a : Question → Bool = question_names payload y m.pkg in
+    let p : Plain → Bool = λ entry. replaces_entry_names entry m.pkg in
+    let a : Question → Bool = question_names_package payload y m.pkg in
     let added : list_any a new ≡ (list_any a old || question_names_if_any payload y m.pkg question) = ap (list_any a) grown ∙ any_with payload y m.pkg old question in
     (λ j. added j || list_any p (drop (s j) (list_of vs)))
     ∙ (or_assoc (list_any a old) (question_names_if_any payload y m.pkg question) (list_any p (drop (suc i) (list_of vs)))
@@ -70,10 +70,10 @@ entry_asked payload members old new question vs i entry l is grown asked inv y m
     ∙ (ap (λ b. list_any a old || b) (sym (any_step p vs i l)) ∙ inv y m g)))
 
 pub all_asked : (payload : List ℕ) (members : List Member) (questions : List Question) (vs : Plains) (i : ℕ) → count_of vs ≤ i → AreAskedSoFar payload members questions vs i
-    → (y : ℕ) (m : Member) → slice_get members y ≡ Some m → list_any (question_names payload y m.pkg) questions ≡ list_any (λ entry. is_named_by entry m.pkg) (list_of vs)
+    → (y : ℕ) (m : Member) → slice_get members y ≡ Some m → list_any (question_names_package payload y m.pkg) questions ≡ list_any (λ entry. replaces_entry_names entry m.pkg) (list_of vs)
 all_asked payload members questions vs i l inv y m g =
-    let p : Plain → Bool = λ entry. is_named_by entry m.pkg in
-    let a : Question → Bool = question_names payload y m.pkg in
+    let p : Plain → Bool = λ entry. replaces_entry_names entry m.pkg in
+    let a : Question → Bool = question_names_package payload y m.pkg in
     sym (or-false (list_any a questions)) ∙ (ap (λ b. list_any a questions || b) (sym (past_end p vs i l)) ∙ inv y m g)
 
 pub all_with : (P : Question → Type 0) (old : List Question) (q : Option Question) → All P old → IfSome q P → All P (with_question old q)
@@ -99,7 +99,7 @@ answered place y t named h = go (eqb_tells place y)
 
 -- questions that are the same have one answer: their entries are one dependency
 asks_alike : (members : List Member) (payload : List ℕ) (one other : Question) → IsQuestionIn members payload one → IsQuestionIn members payload other → AreSameQuestion one other
-    → (y : ℕ) (pkg : Plain) → question_names payload y pkg one ≡ question_names payload y pkg other
+    → (y : ℕ) (pkg : Plain) → question_names_package payload y pkg one ≡ question_names_package payload y pkg other
 asks_alike members payload one other p q same y pkg =
     let m = some_at members one.place p.within in
     let first : Plain = entry_of_question payload one in
@@ -112,16 +112,16 @@ asks_alike members payload one other p q same y pkg =
     λ k. (same.place k == y) && (is_version (version_text pkg) && is_replaced_by (dependency k) (package_name pkg) (version_text pkg))
 
 module _ (members : List Member) (payload : List ℕ) (questions : List Question) (i : ℕ) (all : All (IsQuestionIn members payload) questions) (y : ℕ) (m : Member) where
-  pub next_answered : (q : Question) (answer : Bool) → slice_get questions i ≡ Some q → answer ≡ question_names payload y m.pkg q
-      → (list_any (question_names payload y m.pkg) (take i questions) || answer) ≡ list_any (question_names payload y m.pkg) (take (i + 1) questions)
+  pub next_answered : (q : Question) (answer : Bool) → slice_get questions i ≡ Some q → answer ≡ question_names_package payload y m.pkg q
+      → (list_any (question_names_package payload y m.pkg) (take i questions) || answer) ≡ list_any (question_names_package payload y m.pkg) (take (i + 1) questions)
   next_answered q answer at is =
-      ap (λ b. list_any (question_names payload y m.pkg) (take i questions) || b) is ∙ sym (one_more (question_names payload y m.pkg) questions i q at)
+      ap (λ b. list_any (question_names_package payload y m.pkg) (take i questions) || b) is ∙ sym (one_more (question_names_package payload y m.pkg) questions i q at)
 
   pub again_answered : 0 < i → i < length questions
       → ((one other : Question) → slice_get questions (i - 1) ≡ Some one → slice_get questions i ≡ Some other → AreSameQuestion one other)
-      → (list_any (question_names payload y m.pkg) (take i questions) || false) ≡ list_any (question_names payload y m.pkg) (take (i + 1) questions)
+      → (list_any (question_names_package payload y m.pkg) (take i questions) || false) ≡ list_any (question_names_package payload y m.pkg) (take (i + 1) questions)
   again_answered low within same =
-      let a : Question → Bool = question_names payload y m.pkg in
+      let a : Question → Bool = question_names_package payload y m.pkg in
       let P : Question → Type 0 = IsQuestionIn members payload in
       let one = some_at questions (i - 1) (omega (arith, low, within)) in
       let other = some_at questions i within in

@@ -13,9 +13,9 @@ use Rattle.std.proofs.lemmas.List.Folds.{list_any_at, list_any_none}
 use Rattle.std.proofs.lemmas.List.Sorted.{list_any-IsPermutation, ranks_by, searched, sorted_far}
 use Rattle.std.proofs.lemmas.Map.Keys.{ge_from_not_lt}
 use Rattle.dep_core.specs.Dependency.{Dependency}
-use Rattle.dep_core.specs.Reading.{any_version}
-use Rattle.dep_core.specs.Value.{is_matching, is_version_or_empty}
-use Rattle.dep_core.specs.ValueReading.{bits_of, dependency_of_value, on_version}
+use Rattle.dep_core.specs.Reading.{dependency_on_any_version}
+use Rattle.dep_core.specs.Value.{is_match_number, is_version_or_empty}
+use Rattle.dep_core.specs.ValueReading.{match_bits_of, dependency_of_value, with_wanted_version}
 use Rattle.dep_core.specs.Dependency.{is_dep_name}
 use Rattle.version_core.specs.Order.{is_version}
 use Rattle.adb_view.specs.Plain.{Plain}
@@ -24,7 +24,7 @@ use Rattle.adb_view.specs.Values.{entry_in, int_in, text_in}
 use Rattle.db_core.specs.Members.{Member, member_name}
 use Rattle.file_owners.specs.NamedPlaces.{ArePlacesNamed, ArePlacesOfEach}
 use Rattle.file_owners.specs.Owners.{member_beats, takes_over_if_any}
-use Rattle.file_owners.specs.Replaces.{is_named_by, is_preferred_to, is_replaced_by, names_package, takes_over, version_text}
+use Rattle.file_owners.specs.Replaces.{replaces_entry_names, is_preferred_replacer, is_replaced_by, replaces_names_package, takes_over, version_text}
 use Rattle.db_core.specs.adb_schema.Dependencies.{dependency_in}
 
 abbrev is_one : {X : Type 0} → Option X → Bool
@@ -37,7 +37,7 @@ value_or d (Some x) = x
 
 -- ---- an entry names no package of another name
 
-named_on : (d : Dependency) (version : List ℕ) (bits : Option ℕ) → (on_version d version bits).name ≡ d.name
+named_on : (d : Dependency) (version : List ℕ) (bits : Option ℕ) → (with_wanted_version d version bits).name ≡ d.name
 named_on d [] bits = refl
 named_on d (b ∷ rest) None = refl
 named_on d (b ∷ rest) (Some bits) = refl
@@ -53,8 +53,8 @@ not_met (Some d) name version h = go (not d.conflict) (bytes_eq d.name name) _ (
 value_named : (name version : List ℕ) (matching : ℕ) (d : Dependency) → dependency_of_value name version matching ≡ Some d → d.name ≡ name
 unfolding dependency_of_value
 value_named name version matching d e =
-    let made : Dependency = on_version (any_version (not (nat_lt matching 16)) name) version (bits_of (matching % 16)) in
-    go (is_dep_name name && (is_version_or_empty version && is_matching matching)) made (named_on (any_version (not (nat_lt matching 16)) name) version (bits_of (matching % 16))) e
+    let made : Dependency = with_wanted_version (dependency_on_any_version (not (nat_lt matching 16)) name) version (match_bits_of (matching % 16)) in
+    go (is_dep_name name && (is_version_or_empty version && is_match_number matching)) made (named_on (dependency_on_any_version (not (nat_lt matching 16)) name) version (match_bits_of (matching % 16))) e
   where
     go : (t : Bool) (made : Dependency) → made.name ≡ name → (if t then Some made else None) ≡ Some d → d.name ≡ name
     go true made n s = sym (ap (λ o. (value_or d o).name) s) ∙ n
@@ -67,7 +67,7 @@ turned a b h = go (bytes_eq b a) refl
     go false e = refl
     go true e = absurd (true≢false (sym ((bytes_decides a b).1 (sym ((bytes_decides b a).0 e))) ∙ h))
 
-pub other_name : (entry y : Plain) → bytes_eq (package_name y) (text_in (entry_in entry 0)) ≡ false → is_named_by entry y ≡ false
+pub other_name : (entry y : Plain) → bytes_eq (package_name y) (text_in (entry_in entry 0)) ≡ false → replaces_entry_names entry y ≡ false
 other_name entry y h =
     let name : List ℕ = text_in (entry_in entry 0) in
     ap (λ t. is_version (version_text y) && t)
@@ -82,15 +82,15 @@ other_name entry y h =
 -- ---- the member that an entry names
 
 pub none_found : (entry : Plain) (members : List Member) → ((i : ℕ) (m : Member) → slice_get members i ≡ Some m → false ≡ bytes_eq (member_name m) (text_in (entry_in entry 0)))
-    → (y : ℕ) (m : Member) → slice_get members y ≡ Some m → false ≡ is_named_by entry m.pkg
+    → (y : ℕ) (m : Member) → slice_get members y ≡ Some m → false ≡ replaces_entry_names entry m.pkg
 none_found entry members h y m g = sym (other_name entry m.pkg (sym (h y m g)))
 
 -- ---- in rising order
 
 pub in_order : (members : List Member) (pkg : Plain) (old new : List ℕ) → IsPermutation old new → IsSorted nat_cmp new
-    → ((y : ℕ) (m : Member) → slice_get members y ≡ Some m → list_any (λ p. p == y) old ≡ list_any (λ entry. is_named_by entry m.pkg) (entries_at 16 (entry_in pkg 0)))
+    → ((y : ℕ) (m : Member) → slice_get members y ≡ Some m → list_any (λ p. p == y) old ≡ list_any (λ entry. replaces_entry_names entry m.pkg) (entries_at 16 (entry_in pkg 0)))
     → ArePlacesNamed members pkg new
-unfolding names_package
+unfolding replaces_names_package
 in_order members pkg old new moved rising named = record {
   rising = rising;
   named = λ y m g. sym (list_any-IsPermutation (λ p. p == y) old new moved) ∙ named y m g;
@@ -168,7 +168,7 @@ module _ (members : List Member) (named : List (List ℕ)) (all : ArePlacesOfEac
   pub rising_at : (i : ℕ) (places : List ℕ) → i < length members → slice_get named i ≡ Some places → IsSorted nat_cmp places
   rising_at i places h g = let m = some_member members i h in (all.each i m.0 places m.1 g).rising
 
-  names_at : (i j : ℕ) (m n : Member) (places : List ℕ) → slice_get members i ≡ Some m → slice_get members j ≡ Some n → slice_get named i ≡ Some places → list_any (λ p. p == j) places ≡ names_package m.pkg n.pkg
+  names_at : (i j : ℕ) (m n : Member) (places : List ℕ) → slice_get members i ≡ Some m → slice_get members j ≡ Some n → slice_get named i ≡ Some places → list_any (λ p. p == j) places ≡ replaces_names_package m.pkg n.pkg
   names_at i j m n places g h s = (all.each i m places g s).named j n h
 
   beats_is : (m n : Member) → slice_get members x ≡ Some m → slice_get members y ≡ Some n → takes_over m.pkg n.pkg ≡ member_beats members x y
@@ -180,8 +180,8 @@ module _ (members : List Member) (named : List (List ℕ)) (all : ArePlacesOfEac
   not_named places t g is absent =
       let m = some_member members x l in
       let n = some_member members y k in
-      let e : names_package m.0.pkg n.0.pkg ≡ false = sym (names_at x y m.0 n.0 places m.1 n.1 g) ∙ (sym is ∙ absent) in
-      sym (sym (beats_is m.0 n.0 m.1 n.1) ∙ ap (λ b. b && (not (names_package n.0.pkg m.0.pkg) || is_preferred_to m.0.pkg n.0.pkg)) e)
+      let e : replaces_names_package m.0.pkg n.0.pkg ≡ false = sym (names_at x y m.0 n.0 places m.1 n.1 g) ∙ (sym is ∙ absent) in
+      sym (sym (beats_is m.0 n.0 m.1 n.1) ∙ ap (λ b. b && (not (replaces_names_package n.0.pkg m.0.pkg) || is_preferred_replacer m.0.pkg n.0.pkg)) e)
 
   pub not_back : (places others : List ℕ) (t u : Bool) → slice_get named x ≡ Some places → slice_get named y ≡ Some others → t ≡ list_any (λ p. p == y) places → t ≡ true
       → u ≡ list_any (λ p. p == x) others → u ≡ false → true ≡ member_beats members x y
@@ -189,18 +189,18 @@ module _ (members : List Member) (named : List (List ℕ)) (all : ArePlacesOfEac
   not_back places others t u g h is yes_named back no_back =
       let m = some_member members x l in
       let n = some_member members y k in
-      let e : names_package m.0.pkg n.0.pkg ≡ true = sym (names_at x y m.0 n.0 places m.1 n.1 g) ∙ (sym is ∙ yes_named) in
-      let f : names_package n.0.pkg m.0.pkg ≡ false = sym (names_at y x n.0 m.0 others n.1 m.1 h) ∙ (sym back ∙ no_back) in
-      sym (sym (beats_is m.0 n.0 m.1 n.1) ∙ (λ j. e j && (not (f j) || is_preferred_to m.0.pkg n.0.pkg)))
+      let e : replaces_names_package m.0.pkg n.0.pkg ≡ true = sym (names_at x y m.0 n.0 places m.1 n.1 g) ∙ (sym is ∙ yes_named) in
+      let f : replaces_names_package n.0.pkg m.0.pkg ≡ false = sym (names_at y x n.0 m.0 others n.1 m.1 h) ∙ (sym back ∙ no_back) in
+      sym (sym (beats_is m.0 n.0 m.1 n.1) ∙ (λ j. e j && (not (f j) || is_preferred_replacer m.0.pkg n.0.pkg)))
 
   pub by_preference : (places others : List ℕ) (t u p : Bool) (v w : Plain) → slice_get named x ≡ Some places → slice_get named y ≡ Some others → t ≡ list_any (λ p. p == y) places → t ≡ true
       → u ≡ list_any (λ p. p == x) others → u ≡ true → ((m : Member) → slice_get members x ≡ Some m → v ≡ m.pkg) → ((m : Member) → slice_get members y ≡ Some m → w ≡ m.pkg)
-      → p ≡ is_preferred_to v w → p ≡ member_beats members x y
+      → p ≡ is_preferred_replacer v w → p ≡ member_beats members x y
   unfolding takes_over
   by_preference places others t u p v w g h is yes_named back yes_back first second preferred =
       let m = some_member members x l in
       let n = some_member members y k in
-      let e : names_package m.0.pkg n.0.pkg ≡ true = sym (names_at x y m.0 n.0 places m.1 n.1 g) ∙ (sym is ∙ yes_named) in
-      let f : names_package n.0.pkg m.0.pkg ≡ true = sym (names_at y x n.0 m.0 others n.1 m.1 h) ∙ (sym back ∙ yes_back) in
-      preferred ∙ ((λ j. is_preferred_to (first m.0 m.1 j) (second n.0 n.1 j))
-      ∙ (sym (λ j. e j && (not (f j) || is_preferred_to m.0.pkg n.0.pkg)) ∙ beats_is m.0 n.0 m.1 n.1))
+      let e : replaces_names_package m.0.pkg n.0.pkg ≡ true = sym (names_at x y m.0 n.0 places m.1 n.1 g) ∙ (sym is ∙ yes_named) in
+      let f : replaces_names_package n.0.pkg m.0.pkg ≡ true = sym (names_at y x n.0 m.0 others n.1 m.1 h) ∙ (sym back ∙ yes_back) in
+      preferred ∙ ((λ j. is_preferred_replacer (first m.0 m.1 j) (second n.0 n.1 j))
+      ∙ (sym (λ j. e j && (not (f j) || is_preferred_replacer m.0.pkg n.0.pkg)) ∙ beats_is m.0 n.0 m.1 n.1))

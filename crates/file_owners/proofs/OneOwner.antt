@@ -4,8 +4,8 @@ use Rattle.std.proofs.lemmas.Bool.{eqb-true}
 use Rattle.path_claims.specs.adb_fields.FirstPair.{IsIn}
 use Rattle.db_core.specs.Members.{Listing, Member, member_listings}
 use Rattle.db_core.specs.OwnedListings.{HaveOneOwner, owned_listings}
-use Rattle.path_claims.specs.Claims.{is_member}
-use Rattle.file_owners.specs.Owners.{owned_of, owner_of_path}
+use Rattle.path_claims.specs.Claims.{is_owning_member}
+use Rattle.file_owners.specs.Owners.{owned_flags_of, owner_of_path}
 
 -- what is kept by flags that a test gives passes the test
 passes : (f : Listing → Bool) (ls : List Listing) (l : Listing) → IsIn l (owned_listings ls (map f ls)) → f l ≡ true
@@ -17,7 +17,7 @@ passes f (x ∷ ls) l h = go (passes f ls l) (f x) refl h
     go rest true e (inr h) = rest h
     go rest false e h = rest h
 
-pub owner_is : (m : ℕ) (o : Option ℕ) → is_member m o ≡ true → o ≡ Some m
+pub owner_is : (m : ℕ) (o : Option ℕ) → is_owning_member m o ≡ true → o ≡ Some m
 owner_is m None h = absurd (true≢false (sym h))
 owner_is m (Some owner) h = ap Some (sym (eqb-true m owner h))
 
@@ -25,10 +25,10 @@ abbrev value_or : ℕ → Option ℕ → ℕ
 value_or d None = d
 value_or d (Some v) = v
 
-pub owned_once : (members : List Member) → HaveOneOwner (owned_listings (member_listings members) (owned_of members))
-unfolding owned_of
+pub owned_once : (members : List Member) → HaveOneOwner (owned_listings (member_listings members) (owned_flags_of members))
+unfolding owned_flags_of
 owned_once members l k lin kin same =
-    let owns : Listing → Bool = λ x. is_member x.place (owner_of_path members x.path) in
+    let owns : Listing → Bool = λ x. is_owning_member x.place (owner_of_path members x.path) in
     let first = owner_is l.place (owner_of_path members l.path) (passes owns (member_listings members) l lin) in
     let second = owner_is k.place (owner_of_path members k.path) (passes owns (member_listings members) k kin) in
     ap (value_or 0) (sym first ∙ (ap (owner_of_path members) same ∙ second))

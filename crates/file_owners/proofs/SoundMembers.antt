@@ -12,7 +12,7 @@ use Rattle.adb_view.specs.declared.tables.Which.{Which}
 use Rattle.adb_view.specs.declared.tables.Which.TheVariants as Tables
 use Rattle.path_claims.specs.adb_fields.FirstPair.{IsIn}
 use Rattle.path_claims.specs.adb_fields.Repeated.{list_of}
-use Rattle.db_core.specs.adb_schema.SoundValues.{IsPackage, IsSoundDependency}
+use Rattle.db_core.specs.adb_schema.SoundValues.{IsSoundPackage, IsSoundDependency}
 use Rattle.db_core.proofs.adb_schema.SoundLeaves.{each_at}
 use Rattle.db_core.specs.Members.{Member}
 use Rattle.db_core.specs.SoundMembers.{AreOfSoundContainers, IsOfSoundContainer}
@@ -25,7 +25,7 @@ record IsSoundMember (pkg : Plain) : Type 0 where
   pub version : is_version (version_text pkg) ≡ true
   pub replaced : Each IsSoundDependency (replaced_by pkg)
 
-of_package : (root : Which) (pkg : Plain) → IsPackage root pkg → IsSoundMember pkg
+of_package : (root : Which) (pkg : Plain) → IsSoundPackage root pkg → IsSoundMember pkg
 of_package root pkg h = record { version = h.info.version; replaced = h.info.replaces }
 
 each_in : (P : Plain → Type 0) (v : Plain) (vs : Plains) → Each P vs → IsIn v (list_of vs) → P v
@@ -34,7 +34,7 @@ each_in P v (more u us) h (inl is) = subst P (sym is) h.0
 each_in P v (more u us) h (inr here) = each_in P v us h.1 here
 
 of_container : (pkg : Plain) (id : Option (List ℕ)) → IsOfSoundContainer pkg id → IsSoundMember pkg
-of_container pkg None h = of_package Tables.Idb pkg (each_in (IsPackage Tables.Idb) pkg (entries_in (entry_in h.database 0)) h.sound.rules h.listed)
+of_container pkg None h = of_package Tables.Idb pkg (each_in (IsSoundPackage Tables.Idb) pkg (entries_in (entry_in h.database 0)) h.sound.rules h.listed)
 of_container pkg (Some id) h = of_package Tables.Package pkg h.sound.rules
 
 -- the package at a place of sound members

@@ -4,10 +4,10 @@
 use Rattle.std.specs.Prelude.{List, [], ◌∷◌, ◌++◌, length}
 use Rattle.db_core.specs.Members.{Listing}
 use Rattle.path_claims.specs.Claims.{PathClaim}
-use Rattle.file_owners.specs.Owners.{claim_by}
+use Rattle.file_owners.specs.Owners.{claim_of_listing}
 
 -- the claims followed by those of some listings, each with a number: how many claims are before it
-abbrev pub with_listings : List PathClaim → List Listing → List PathClaim
-with_listings claims [] = claims
-with_listings claims (l ∷ listings) =
-    with_listings (claims ++ (claim_by (length claims) l ∷ [])) listings
+abbrev pub claims_with_listings : List PathClaim → List Listing → List PathClaim
+claims_with_listings claims [] = claims
+claims_with_listings claims (l ∷ listings) =
+    claims_with_listings (claims ++ (claim_of_listing (length claims) l ∷ [])) listings

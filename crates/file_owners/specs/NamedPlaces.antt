@@ -7,13 +7,13 @@ use Rattle.std.specs.List.Sorted.{IsSorted}
 use Rattle.std.specs.Ordering.{nat_cmp}
 use Rattle.adb_view.specs.Plain.{Plain}
 use Rattle.db_core.specs.Members.{Member}
-use Rattle.file_owners.specs.Replaces.{names_package}
+use Rattle.file_owners.specs.Replaces.{replaces_names_package}
 
 -- the places rise, and are those of the members that the package names
 pub record ArePlacesNamed (members : List Member) (pkg : Plain) (places : List ℕ) : Type 0 where
   pub rising : IsSorted nat_cmp places
   pub named : (y : ℕ) (m : Member) → slice_get members y ≡ Some m
-      → list_any (λ place. place == y) places ≡ names_package pkg m.pkg
+      → list_any (λ place. place == y) places ≡ replaces_names_package pkg m.pkg
 
 -- for each member, in its order, the list has the places of the members that it names
 pub record ArePlacesOfEach (members : List Member) (named : List (List ℕ)) : Type 0 where

@@ -3,7 +3,7 @@
 -- *contested* and *rivals* in `docs/names.md`, "The installed database and a change of it".
 use Rattle.std.specs.Prelude.{ℕ, ◌+◌, Bool, false, List, [], ◌∷◌, map, Option, Some, None, slice_get}
 use Rattle.db_core.specs.Members.{Listing, Member, member_listings}
-use Rattle.path_claims.specs.Claims.{ContestedPath, PathClaim, contested_by, is_member, owner_by}
+use Rattle.path_claims.specs.Claims.{ContestedPath, PathClaim, first_contested_path, is_owning_member, owner_among}
 use Rattle.file_owners.specs.Replaces.{takes_over}
 
 -- ---- which member beats which
@@ -21,8 +21,8 @@ member_beats members x y = takes_over_if_any (slice_get members x) (slice_get me
 -- ---- what members claim
 
 -- the claim of a listed file, with its number: how many claims are before it
-abbrev pub claim_by : ℕ → Listing → PathClaim
-claim_by number l = record {
+abbrev pub claim_of_listing : ℕ → Listing → PathClaim
+claim_of_listing number l = record {
   path = l.path;
   member = l.place;
   folder = l.folder;
@@ -33,7 +33,7 @@ claim_by number l = record {
 -- the claims of some listings, whose numbers count from `number` on
 abbrev pub claims_from : ℕ → List Listing → List PathClaim
 claims_from number [] = []
-claims_from number (l ∷ listings) = claim_by number l ∷ claims_from (number + 1) listings
+claims_from number (l ∷ listings) = claim_of_listing number l ∷ claims_from (number + 1) listings
 
 -- the claims of members: each file that they list, with the number of claims before it
 unfoldable pub claims_in : List Member → List PathClaim
@@ -41,17 +41,17 @@ claims_in members = claims_from 0 (member_listings members)
 
 -- ---- who owns a path
 
--- the place of the member that owns a path: *owner_by* of the members' claims, by *member_beats*
+-- the place of the member that owns a path: *owner_among* of the members' claims, by *member_beats*
 unfoldable pub owner_of_path : List Member → List ℕ → Option ℕ
-owner_of_path members path = owner_by (member_beats members) (claims_in members) path
+owner_of_path members path = owner_among (member_beats members) (claims_in members) path
 
 -- for each file that members list, in the order of members, folders and files, whether its member
 -- owns it
-unfoldable pub owned_of : List Member → List Bool
-owned_of members =
-    map (λ l. is_member l.place (owner_of_path members l.path)) (member_listings members)
+unfoldable pub owned_flags_of : List Member → List Bool
+owned_flags_of members =
+    map (λ l. is_owning_member l.place (owner_of_path members l.path)) (member_listings members)
 
 -- the first path in byte order that no member owns, with the first member that lists it and the first
 -- other one that this one does not beat; none if each path has an owner
-unfoldable pub contested_of : List Member → Option ContestedPath
-contested_of members = contested_by (member_beats members) (claims_in members)
+unfoldable pub first_contested_path_of_members : List Member → Option ContestedPath
+first_contested_path_of_members members = first_contested_path (member_beats members) (claims_in members)

@@ -8,7 +8,7 @@ use Rattle.adb_view.specs.declared.tables.Kind.TheVariants.{Obj, Text}
 use Rattle.adb_view.specs.declared.tables.Which.TheVariants.{Dep}
 use Rattle.db_core.specs.adb_schema.SoundValues.{IsSoundDependency}
 use Rattle.db_core.specs.Members.{Member, member_name}
-use Rattle.file_owners.specs.Replaces.{is_named_by}
+use Rattle.file_owners.specs.Replaces.{replaces_entry_names}
 use Rattle.file_owners.specs.declared.questions.Question.{Question}
 
 -- the entry that asks, in its payload
@@ -16,14 +16,14 @@ abbrev pub entry_of_question : List ℕ → Question → Plain
 entry_of_question payload q = value_at payload (Obj Dep) q.word
 
 -- whether a question is about the member at a place, and its entry names that member's package
-abbrev pub question_names : List ℕ → ℕ → Plain → Question → Bool
-question_names payload place pkg q =
-    (q.place == place) && is_named_by (entry_of_question payload q) pkg
+abbrev pub question_names_package : List ℕ → ℕ → Plain → Question → Bool
+question_names_package payload place pkg q =
+    (q.place == place) && replaces_entry_names (entry_of_question payload q) pkg
 
 -- the same of a question, if there is one
 abbrev pub question_names_if_any : List ℕ → ℕ → Plain → Option Question → Bool
 question_names_if_any payload place pkg None = false
-question_names_if_any payload place pkg (Some q) = question_names payload place pkg q
+question_names_if_any payload place pkg (Some q) = question_names_package payload place pkg q
 
 -- the questions followed by one more, if there is one
 abbrev pub with_question : List Question → Option Question → List Question

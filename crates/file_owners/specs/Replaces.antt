@@ -22,15 +22,15 @@ is_replaced_by None name version = false
 is_replaced_by (Some d) name version = not d.conflict && meets d name (Some version)
 
 -- whether an entry of `replaces` names y: it is no conflict, and y's own name and version satisfy it
-abbrev pub is_named_by : Plain → Plain → Bool
-is_named_by entry y =
+abbrev pub replaces_entry_names : Plain → Plain → Bool
+replaces_entry_names entry y =
     is_version (version_text y)
     && is_replaced_by (dependency_in entry) (package_name y) (version_text y)
 
 -- whether x names y: an entry of x's `replaces` does
-unfoldable pub names_package : Plain → Plain → Bool
-names_package x y =
-    list_any (λ entry. is_named_by entry y) (entries_at INFO_REPLACES (entry_in x PACKAGE_INFO))
+unfoldable pub replaces_names_package : Plain → Plain → Bool
+replaces_names_package x y =
+    list_any (λ entry. replaces_entry_names entry y) (entries_at INFO_REPLACES (entry_in x PACKAGE_INFO))
 
 -- the priority of a package in replacing: 0 if the package gives none
 abbrev pub replacing_priority : Plain → ℕ
@@ -38,12 +38,12 @@ replacing_priority pkg = int_in (entry_in pkg PACKAGE_REPLACES_PRIORITY)
 
 -- whether the first of two packages that name each other is preferred: it has the greater priority,
 -- or at equal priority the name that is the later in byte order
-unfoldable pub is_preferred_to : Plain → Plain → Bool
-is_preferred_to x y =
+unfoldable pub is_preferred_replacer : Plain → Plain → Bool
+is_preferred_replacer x y =
     nat_lt (replacing_priority y) (replacing_priority x)
     || ((replacing_priority x == replacing_priority y)
     && precedes (package_name y) (package_name x))
 
 -- whether x takes over the files of y: it names y, and is not named back or is preferred
 unfoldable pub takes_over : Plain → Plain → Bool
-takes_over x y = names_package x y && (not (names_package y x) || is_preferred_to x y)
+takes_over x y = replaces_names_package x y && (not (replaces_names_package y x) || is_preferred_replacer x y)

@@ -3,12 +3,12 @@
 //! `docs/commands.md`, "Files that several packages list", that a kept package claims those files.
 
 ghost use Rattle.std.specs.Prelude.{◌≡◌, ◌<◌, [], Some, IfOk, length, map, slice_get};
-ghost use Rattle.db_core.specs.Members.{Member, listings_by, member_listings, member_of_kept};
+ghost use Rattle.db_core.specs.Members.{Member, listings_of_member, member_listings, member_of_kept};
 ghost use Rattle.db_core.specs.Seen.{packages_of};
 ghost use Rattle.base_core.specs.Sorted.{sorted_by};
 ghost use Rattle.path_claims.specs.Claims.{claim_cmp};
 ghost use Rattle.path_claims.specs.Seen.{claim_seen};
-ghost use Rattle.file_owners.specs.Gathered.{with_listings};
+ghost use Rattle.file_owners.specs.Gathered.{claims_with_listings};
 ghost use Rattle.file_owners.specs.Owners.{claims_in};
 
 use crate::gather::add_folders;
@@ -36,7 +36,7 @@ pub fn claims_in_database<'a>(alloc: Global, db: &Db<'a>) -> Result<Vec<Claim<'a
 /// The files of a database as claims, in the order of packages, folders and files.
 fn listed_files<'a>(alloc: Global, db: &Db<'a>) -> Result<Vec<Claim<'a>>, AllocError>
     ensures { IfOk result (λ claims. map claim_seen claims.items
-        ≡ with_listings [] (member_listings (map member_of_kept (packages_of db.now)))) }
+        ≡ claims_with_listings [] (member_listings (map member_of_kept (packages_of db.now)))) }
 {
     let mut claims = Vec::new(alloc);
     for i in 0..db.len() {
@@ -58,7 +58,7 @@ fn add_package<'a>(
     ensures { IfOk result (λ _. (m : Member)
         → slice_get (map member_of_kept (packages_of db.now)) i ≡ Some m
         → map claim_seen claims.new.items
-        ≡ with_listings (map claim_seen claims.old.items) (listings_by i m)) }
+        ≡ claims_with_listings (map claim_seen claims.old.items) (listings_of_member i m)) }
 {
     // Never so, by the contract; `len` says that places are below 2^32.
     if i >= db.len() {

@@ -8,10 +8,10 @@ ghost use Rattle.path_claims.specs.adb_fields.Paths.{path_of};
 ghost use Rattle.path_claims.specs.adb_fields.ListValue.{list_value};
 ghost use Rattle.path_claims.specs.adb_fields.Repeated.{files_in, list_of, name_of};
 ghost use Rattle.adb_view.specs.Values.{count_of, entries_in, nth};
-ghost use Rattle.db_core.specs.Members.{Listing, Member, listings_by, listings_in_folder, listings_in_folders, member_listings};
+ghost use Rattle.db_core.specs.Members.{Listing, Member, listings_of_member, listings_in_folder, listings_in_folders, member_listings};
 ghost use Rattle.db_core.specs.Seen.{members_of};
 ghost use Rattle.path_claims.specs.Seen.{claim_seen};
-ghost use Rattle.file_owners.specs.Gathered.{with_listings};
+ghost use Rattle.file_owners.specs.Gathered.{claims_with_listings};
 
 use db_core::{DirInfo, FileInfo, FilePath, List, Members};
 use path_claims::Claim;
@@ -38,7 +38,7 @@ fn add_file<'a>(
     ensures { IfOk result (λ _. (l : Listing) → l.path ≡ path_of place.now.name.now name.now
         → l.place ≡ place.now.member → l.folder ≡ place.now.folder → l.file ≡ file
         → map claim_seen claims.new.items
-        ≡ with_listings (map claim_seen claims.old.items) (l ∷ [])) }
+        ≡ claims_with_listings (map claim_seen claims.old.items) (l ∷ [])) }
 {
     let number = claims.len();
     claims.push(Claim {
@@ -61,7 +61,7 @@ fn add_files<'a>(
     files: &List<'a, FileInfo<'a>>,
 ) -> Result<(), AllocError>
     ensures { IfOk result (λ _. (m : Member) → map claim_seen claims.new.items
-        ≡ with_listings (map claim_seen claims.old.items)
+        ≡ claims_with_listings (map claim_seen claims.old.items)
         (listings_in_folder m place.now.member place.now.folder 1 place.now.name.now
         (list_of (entries_in (list_value files.now))))) }
 {
@@ -80,7 +80,7 @@ fn add_folder<'a>(
 ) -> Result<(), AllocError>
     requires { i < count_of (entries_in (list_value folders.now)) }
     ensures { IfOk result (λ _. (m : Member) → map claim_seen claims.new.items
-        ≡ with_listings (map claim_seen claims.old.items)
+        ≡ claims_with_listings (map claim_seen claims.old.items)
         (listings_in_folder m member (i + 1) 1
         (name_of (nth (entries_in (list_value folders.now)) i))
         (files_in (nth (entries_in (list_value folders.now)) i)))) }
@@ -106,7 +106,7 @@ pub(crate) fn add_folders<'a>(
     folders: &List<'a, DirInfo<'a>>,
 ) -> Result<(), AllocError>
     ensures { IfOk result (λ _. (m : Member) → map claim_seen claims.new.items
-        ≡ with_listings (map claim_seen claims.old.items)
+        ≡ claims_with_listings (map claim_seen claims.old.items)
         (listings_in_folders m member 1 (list_of (entries_in (list_value folders.now))))) }
 {
     for i in 0..folders.len() {
@@ -124,7 +124,7 @@ fn add_member<'a>(
     requires { i < length (members_of members.now) }
     ensures { IfOk result (λ _. (m : Member) → slice_get (members_of members.now) i ≡ Some m
         → map claim_seen claims.new.items
-        ≡ with_listings (map claim_seen claims.old.items) (listings_by i m)) }
+        ≡ claims_with_listings (map claim_seen claims.old.items) (listings_of_member i m)) }
 {
     let view = members.view(i);
     add_folders(claims, place_of(members, i), &view.paths())
@@ -148,7 +148,7 @@ pub(crate) fn claims_in<'a>(
     members: &Members<'a>,
 ) -> Result<Vec<Claim<'a>>, AllocError>
     ensures { IfOk result (λ claims. map claim_seen claims.items
-        ≡ with_listings [] (member_listings (members_of members.now))) }
+        ≡ claims_with_listings [] (member_listings (members_of members.now))) }
 {
     let mut claims = Vec::new(alloc);
     for i in 0..members.len() {

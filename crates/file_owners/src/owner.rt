@@ -10,10 +10,10 @@ ghost use Rattle.base_core.specs.Sorted.{sorted_by};
 ghost use Rattle.path_claims.specs.Claims.{claim_cmp};
 ghost use Rattle.path_claims.specs.ContestedSeen.{contested_seen};
 ghost use Rattle.path_claims.specs.Seen.{claim_seen};
-ghost use Rattle.file_owners.specs.Owners.{claims_in, contested_of, member_beats, owned_of, owner_of_path};
+ghost use Rattle.file_owners.specs.Owners.{claims_in, first_contested_path_of_members, member_beats, owned_flags_of, owner_of_path};
 ghost use Rattle.file_owners.specs.NamedPlaces.{ArePlacesOfEach};
 ghost use Rattle.db_core.specs.adb_schema.Views.{dependency_value, package_value};
-ghost use Rattle.file_owners.specs.Replaces.{is_named_by, is_preferred_to, is_replaced_by, takes_over, version_text};
+ghost use Rattle.file_owners.specs.Replaces.{replaces_entry_names, is_preferred_replacer, is_replaced_by, takes_over, version_text};
 ghost use Rattle.db_core.specs.adb_schema.Dependencies.{dependency_in};
 ghost use Rattle.db_core.specs.adb_schema.SoundValues.{IsSoundDependency};
 ghost use Rattle.version_core.specs.Order.{is_version};
@@ -87,10 +87,10 @@ pub fn owners_of_files<'a>(alloc: Global, members: &Members<'a>) -> Result<Owner
         ≡ map (λ c. owner_of_path (members_of members.now) c.path)
         (map claim_seen found.claims.items)) }
     // For each file, in the order of members, folders and files, whether its member owns it.
-    ensures owned { IfOk result (λ found. found.owned.items ≡ owned_of (members_of members.now)) }
+    ensures owned { IfOk result (λ found. found.owned.items ≡ owned_flags_of (members_of members.now)) }
     // The first path in byte order that nobody owns, with its rivals.
     ensures contested { IfOk result (λ found. option_map contested_seen found.contested
-        ≡ contested_of (members_of members.now)) }
+        ≡ first_contested_path_of_members (members_of members.now)) }
 {
     let claims = claims_in(alloc, members)?;
     let named = places_of_each(alloc, members)?;
@@ -111,10 +111,10 @@ fn is_replaced(dep: &DepView<'_>, name: &[u8], version: &Version<'_>) -> bool
 
 /// Whether an entry of `replaces` names another package: it is no conflict, and that one's name and
 /// version satisfy it. Neither is validated, since both are from sound containers.
-pub(crate) fn is_named_by(entry: &DepView<'_>, pkg: &PackageView<'_>) -> bool
+pub(crate) fn replaces_entry_names(entry: &DepView<'_>, pkg: &PackageView<'_>) -> bool
     requires entry { IsSoundDependency (dependency_value entry.now) }
     requires version { is_version (version_text (package_value pkg.now)) ≡ true }
-    ensures { result ≡ is_named_by (dependency_value entry.now) (package_value pkg.now) }
+    ensures { result ≡ replaces_entry_names (dependency_value entry.now) (package_value pkg.now) }
 {
     let info = pkg.info();
     let version = Version::of(info.version());
@@ -124,9 +124,9 @@ pub(crate) fn is_named_by(entry: &DepView<'_>, pkg: &PackageView<'_>) -> bool
 /// Whether the first of two packages that name each other is preferred: it has the greater priority
 /// in replacing, or at equal priority the later name.
 /// in replacing, or at equal priority the later name.
-#[tactic(auto, unfolding(crate::specs::Replaces::is_preferred_to))]
+#[tactic(auto, unfolding(crate::specs::Replaces::is_preferred_replacer))]
 pub(crate) fn is_preferred<'a, 'b>(one: &PackageView<'a>, other: &PackageView<'b>) -> bool
-    ensures { result ≡ is_preferred_to (package_value one.now) (package_value other.now) }
+    ensures { result ≡ is_preferred_replacer (package_value one.now) (package_value other.now) }
 {
     if one.replaces_priority() != other.replaces_priority() {
         return one.replaces_priority() > other.replaces_priority();
@@ -143,5 +143,5 @@ pub fn no_two_packages_take_over_from_each_other()
 /// database.
 pub fn no_path_is_owned_by_two_members()
     ensures { (members : List Member)
-        → HaveOneOwner (owned_listings (member_listings members) (owned_of members)) }
+        → HaveOneOwner (owned_listings (member_listings members) (owned_flags_of members)) }
 {}

@@ -14,14 +14,14 @@ ghost use Rattle.adb_view.specs.declared.tables.Which.TheVariants as Tables;
 ghost use Rattle.path_claims.specs.adb_fields.Fields.{are_all_sound, array_at};
 ghost use Rattle.path_claims.specs.adb_fields.Repeated.{list_of};
 ghost use Rattle.db_core.specs.adb_schema.SoundValues.{IsSoundDependency};
-ghost use Rattle.db_core.specs.Members.{Member, is_place};
+ghost use Rattle.db_core.specs.Members.{Member, is_found_place};
 ghost use Rattle.db_core.specs.Seen.{members_of};
-ghost use Rattle.file_owners.specs.Questions.{AreSameQuestion, IsQuestionIn, question_names, question_names_if_any, with_question};
-ghost use Rattle.file_owners.specs.Replaces.{is_named_by};
+ghost use Rattle.file_owners.specs.Questions.{AreSameQuestion, IsQuestionIn, question_names_package, question_names_if_any, with_question};
+ghost use Rattle.file_owners.specs.Replaces.{replaces_entry_names};
 ghost use Rattle.file_owners.specs.declared.questions.Question.{Question as AskedQuestion};
 
 use crate::gather::place_of;
-use crate::owner::is_named_by;
+use crate::owner::replaces_entry_names;
 use adb_view::{Adb, Arr, Val, Which, entry_word};
 use db_core::{DepView, Members, View};
 use path_claims::field_word;
@@ -79,7 +79,7 @@ pub(crate) fn places_in<'a>(
     ensures { IfOk result (λ places. (y : ℕ) (m : Member)
         → slice_get (members_of members.now) y ≡ Some m
         → list_any (λ place. place == y) places.items
-        ≡ list_any (λ entry. is_named_by entry m.pkg) (list_of (entries_in
+        ≡ list_any (λ entry. replaces_entry_names entry m.pkg) (list_of (entries_in
         (array_at (payload_of adb.entry) (Kinds.Obj Tables.Dep) (array_entries entries.entry))))) }
 {
     let mut questions = questions_of(alloc, members, adb, entries)?;
@@ -101,8 +101,8 @@ fn questions_of<'a>(
         (array_at (payload_of adb) (Kinds.Obj Tables.Dep) (array_entries entries))) }
     ensures asked { IfOk result (λ questions. (y : ℕ) (m : Member)
         → slice_get (members_of members.now) y ≡ Some m
-        → list_any (question_names (payload_of adb.entry) y m.pkg) questions.items
-        ≡ list_any (λ entry. is_named_by entry m.pkg) (list_of (entries_in
+        → list_any (question_names_package (payload_of adb.entry) y m.pkg) questions.items
+        ≡ list_any (λ entry. replaces_entry_names entry m.pkg) (list_of (entries_in
         (array_at (payload_of adb.entry) (Kinds.Obj Tables.Dep) (array_entries entries.entry))))) }
     ensures questions { IfOk result (λ questions.
         All (IsQuestionIn (members_of members.now) (payload_of adb.entry)) questions.items) }
@@ -134,7 +134,7 @@ fn question_of(members: &Members<'_>, adb: Adb<'_>, entry: Val) -> Option<Questi
     requires texts { IsSoundDependency (value_at (payload_of adb) (Kinds.Obj Tables.Dep) entry) }
     ensures asked { (y : ℕ) (m : Member) → slice_get (members_of members.now) y ≡ Some m
         → question_names_if_any (payload_of adb.entry) y m.pkg result
-        ≡ is_named_by (value_at (payload_of adb.entry) (Kinds.Obj Tables.Dep) entry) m.pkg }
+        ≡ replaces_entry_names (value_at (payload_of adb.entry) (Kinds.Obj Tables.Dep) entry) m.pkg }
     ensures question { IfSome result
         (IsQuestionIn (members_of members.now) (payload_of adb.entry)) }
 {
@@ -162,7 +162,7 @@ fn places_asked(
     ensures { IfOk result (λ places. (y : ℕ) (m : Member)
         → slice_get (members_of members.now) y ≡ Some m
         → list_any (λ place. place == y) places.items
-        ≡ list_any (question_names (payload_of adb.entry) y m.pkg) questions.now) }
+        ≡ list_any (question_names_package (payload_of adb.entry) y m.pkg) questions.now) }
 {
     let mut places = Vec::new(alloc);
     for i in 0..questions.len() {
@@ -174,7 +174,7 @@ fn places_asked(
 /// Adds a place to a list of places, if there is one.
 fn add_place(places: &mut Vec<u32>, place: Option<u32>) -> Result<(), AllocError>
     ensures { IfOk result (λ _. (y : ℕ) → list_any (λ p. p == y) places.new.items
-        ≡ (list_any (λ p. p == y) places.old.items || is_place y place)) }
+        ≡ (list_any (λ p. p == y) places.old.items || is_found_place y place)) }
 {
     if let Some(place) = place {
         places.push(place)?;
@@ -188,9 +188,9 @@ fn place_asked(members: &Members<'_>, adb: Adb<'_>, questions: &[Question], i: u
     requires questions { All (IsQuestionIn (members_of members.now) (payload_of adb))
         questions.now }
     ensures { (y : ℕ) (m : Member) → slice_get (members_of members.now) y ≡ Some m
-        → (list_any (question_names (payload_of adb.entry) y m.pkg) (take i questions.now)
-        || is_place y result)
-        ≡ list_any (question_names (payload_of adb.entry) y m.pkg) (take (i + 1) questions.now) }
+        → (list_any (question_names_package (payload_of adb.entry) y m.pkg) (take i questions.now)
+        || is_found_place y result)
+        ≡ list_any (question_names_package (payload_of adb.entry) y m.pkg) (take (i + 1) questions.now) }
 {
     if repeats_the_one_before(questions, i) {
         return None;
@@ -216,12 +216,12 @@ fn repeats_the_one_before(questions: &[Question], i: usize) -> bool
 fn place_if_named(members: &Members<'_>, adb: Adb<'_>, question: &Question) -> Option<u32>
     requires { IsQuestionIn (members_of members.now) (payload_of adb) question.now }
     ensures { (y : ℕ) (m : Member) → slice_get (members_of members.now) y ≡ Some m
-        → is_place y result ≡ question_names (payload_of adb.entry) y m.pkg question.now }
+        → is_found_place y result ≡ question_names_package (payload_of adb.entry) y m.pkg question.now }
 {
     members.packages_are_sound();
     let place = question.place;
     let entry = DepView::of(adb, question.word);
-    if is_named_by(&entry, members.view(place as usize)) {
+    if replaces_entry_names(&entry, members.view(place as usize)) {
         Some(place)
     } else {
         None

@@ -9,7 +9,7 @@ use Rattle.base_core.specs.Crash.{Since}
 use Rattle.base_core.specs.Undone.{IsDurable}
 use Rattle.journal_core.specs.Kept.{IsSyncedAt}
 use Rattle.journal_core.specs.Recovery.{StateDependsOn, EachCrashLeaves}
-use Rattle.journal_core.specs.Replacing.{scratch_of, replaced_files_by, replaced_files, IgnoresScratch, IsMomentOfReplacing}
+use Rattle.journal_core.specs.Replacing.{scratch_of, replaced_files_through_scratch, replaced_files, IgnoresScratch, IsMomentOfReplacing}
 use Rattle.journal_core.specs.Reading.{ReadsOldOrReplaced}
 use Rattle.journal_core.specs.Filling.{HasChangedOnly, HasNewFileAt, synced_file, IsReadyToMove, IsDurablyMoved}
 
@@ -29,7 +29,7 @@ module _ (scratch name bytes : List ℕ) (v : TreeState) (old mid rest : History
         record {
           is_durable = is_unchanged.is_durable;
           old_or_new = old_or_new_from_quiet ignored v
-              (replaced_files_by scratch name bytes (files_of v)) w is_unchanged.quiet;
+              (replaced_files_through_scratch scratch name bytes (files_of v)) w is_unchanged.quiet;
           made = is_unchanged.made;
         };
     reads = inl was.others;

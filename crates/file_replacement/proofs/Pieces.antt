@@ -5,7 +5,7 @@ use Rattle.base_core.specs.Calls.{IfObservable, HoldsNow, ChangesHistory, IsCoun
 use Rattle.base_core.specs.Crash.{Since}
 use Rattle.base_core.specs.Faults.{Counts}
 use Rattle.base_core.specs.Tree.{TreeState, File, after_create, after_append, after_failed_append, after_sync}
-use Rattle.base_core.specs.Tree.{after_remove, after_failed_call, change_at, IsAlwaysAllowed, CanCreate, HasName, IsWellFormed}
+use Rattle.base_core.specs.Tree.{after_remove, after_failed_call, with_file_changed, IsAlwaysAllowed, CanCreate, HasName, IsWellFormed}
 use Rattle.journal_core.specs.Filling.{HasChangedOnly, HasNewFileAt, HasOneMoreName, CanAddName}
 use Rattle.journal_core.proofs.Chain.{Runs, run_begun, run_called, step_now, proper_now}
 use Rattle.journal_core.proofs.History.{History, no_more, none_since, observable_all, observable_at, on_observable}
@@ -30,11 +30,11 @@ named-created name start v free = record {
   others = λ q ne. put_name-off v.names name v.made q ne ∙ free.others q ne;
 }
 
-changed_names : (change : File → File) (v : TreeState) (n : Option ℕ) → (change_at change v n).names ≡ v.names
+changed_names : (change : File → File) (v : TreeState) (n : Option ℕ) → (with_file_changed change v n).names ≡ v.names
 changed_names change v None = refl
 changed_names change v (Some n) = refl
 
-named-changed : (name : List ℕ) (change : File → File) (start v : TreeState) → HasOneMoreName name start v → HasOneMoreName name start (change_at change v (v.names name))
+named-changed : (name : List ℕ) (change : File → File) (start v : TreeState) → HasOneMoreName name start v → HasOneMoreName name start (with_file_changed change v (v.names name))
 named-changed name change start v more =
     let same = changed_names change v (v.names name) in
     record {

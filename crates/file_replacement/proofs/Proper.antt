@@ -5,7 +5,7 @@ use Rattle.journal_core.proofs.journal_intent.AtName.{drop_name-at, drop_name-of
 use Rattle.journal_core.proofs.History.{History, observable_at}
 use Rattle.file_replacement.proofs.Suffix.{scratch_apart}
 use Rattle.base_core.specs.Files.{put_name, drop_name, HasNoFileAsFolder}
-use Rattle.base_core.specs.Tree.{TreeState, files_of, remove_at, after_remove, CanCreate, CanRename}
+use Rattle.base_core.specs.Tree.{TreeState, files_of, with_name_removed, after_remove, CanCreate, CanRename}
 use Rattle.base_core.specs.Calls.{IfObservable, HoldsNow}
 use Rattle.base_core.proofs.AtName.{off_name}
 use Rattle.journal_core.specs.Replacing.{scratch_of, CanAddOutputNames}
@@ -22,7 +22,7 @@ pub record IsFree (name : List ℕ) (start v : TreeState) : Type 0 where
   pub absent : v.names name ≡ None
   pub others : (q : List ℕ) → q ≢ name → v.names q ≡ start.names q
 
-free_at : (name : List ℕ) (v : TreeState) (o : Option ℕ) → v.names name ≡ o → IsFree name v (remove_at name v o)
+free_at : (name : List ℕ) (v : TreeState) (o : Option ℕ) → v.names name ≡ o → IsFree name v (with_name_removed name v o)
 free_at name v None none = record { absent = none; others = λ q ne. refl }
 free_at name v (Some n) some = record { absent = drop_name-at v.names name name refl; others = λ q ne. drop_name-off v.names name q ne }
 

@@ -6,7 +6,7 @@ use Rattle.base_core.specs.Calls.{HoldsNow, IfObservable}
 use Rattle.base_core.specs.Crash.{Since}
 use Rattle.base_core.specs.Tree.{TreeState, File}
 use Rattle.journal_core.specs.Filling.{HasChangedOnly, HasNewFileAt, HasOneMoreName}
-use Rattle.journal_core.specs.Kept.{KeepsMapsExcept}
+use Rattle.journal_core.specs.Kept.{KeepsCrashMapsExcept}
 
 -- Since the history was `first`, only the file of the scratch name has changed. An unobservable history
 -- is still unobservable.
@@ -14,7 +14,7 @@ pub record OnlyScratchHasChanged (scratch : List ℕ) (first now : List TreeStat
   -- at each moment only this file may have changed
   pub moments : IfObservable first (λ v. Since (HasChangedOnly scratch v) first now)
   -- at each moment a crash leaves every other name as it might have left it before
-  pub others : IfObservable first (λ v. Since (KeepsMapsExcept (scratch ∷ []) v) first now)
+  pub others : IfObservable first (λ v. Since (KeepsCrashMapsExcept (scratch ∷ []) v) first now)
   pub unobservable : first ≡ [] → now ≡ []
 
 -- a file with these bytes that is not synced

@@ -6,10 +6,10 @@ ghost use Rattle.base_core.specs.Calls.{HoldsNow, IfObservable};
 ghost use Rattle.base_core.specs.Crash.{Since};
 ghost use Rattle.base_core.specs.Faults.{CountsOnlyRise, HasCause, IsNoFault};
 ghost use Rattle.base_core.specs.Tree.{TreeState, CanRename};
-ghost use Rattle.file_replacement.specs.Lengths.{longest_replaced};
+ghost use Rattle.file_replacement.specs.Lengths.{longest_replaceable_name};
 ghost use Rattle.file_replacement.specs.Pieces.{OnlyScratchHasChanged, IsNewFile};
 ghost use Rattle.journal_core.specs.Filling.{HasNewFileAt, IsReadyToMove, IsDurablyMoved, CanAddName, CanAddBothNames, synced_file};
-ghost use Rattle.journal_core.specs.Kept.{KeepsMapsExcept};
+ghost use Rattle.journal_core.specs.Kept.{KeepsCrashMapsExcept};
 ghost use Rattle.journal_core.specs.Recovery.{intent_name};
 ghost use Rattle.journal_core.specs.Replacing.{scratch_of};
 
@@ -55,7 +55,7 @@ impl<'a> NewFile<'a> {
         name: &'a Name,
     ) -> Result<NewFile<'a>, TreeFault>
         // The scratch name, which is longer, has to be a name too.
-        requires { length name.now ≤ longest_replaced }
+        requires { length name.now ≤ longest_replaceable_name }
         ensures name { IfOk result (λ file. file ≡ name.now) }
         // The file is made, and has no bytes.
         ensures begun { OnOk result (IsNewFile (scratch_of name.now) [] (T.history tree.old)
@@ -130,7 +130,7 @@ impl<'a> NewFile<'a> {
         ensures others { (bytes : List ℕ) (first : List TreeState)
             → IsNewFile (scratch_of self.now) bytes first (T.history tree.old)
             → IfObservable first (λ v. Since
-            (KeepsMapsExcept (self.now ∷ scratch_of self.now ∷ []) v) first
+            (KeepsCrashMapsExcept (self.now ∷ scratch_of self.now ∷ []) v) first
             (T.history tree.new)) }
 
         // No count of faults falls; a fault of the tree is returned only if that count rose, and Ok
@@ -155,7 +155,7 @@ impl<'a> NewFile<'a> {
 /// The scratch name of an output, under which the new file is made: the output's own name and
 /// `.apk-tmp`.
 fn scratch_name(alloc: Global, name: &Name) -> Result<Name, AllocError>
-    requires { length name.now ≤ longest_replaced }
+    requires { length name.now ≤ longest_replaceable_name }
     ensures { IfOk result (λ scratch. scratch ≡ scratch_of name.now) }
 {
     let mut bytes = Vec::from_slice(alloc, name.as_bytes())?;
@@ -215,7 +215,7 @@ fn settle<T: Tree>(tree: &mut T, from: &Name, to: &Name) -> Result<(), Disk>
         → OnOk result (IfObservable (T.history tree.new) (IsDurablyMoved from.now to.now bytes
         start))) }
     ensures others { IfObservable (T.history tree.old) (λ v.
-        Since (KeepsMapsExcept (to.now ∷ from.now ∷ []) v) (T.history tree.old)
+        Since (KeepsCrashMapsExcept (to.now ∷ from.now ∷ []) v) (T.history tree.old)
         (T.history tree.new)) }
 
     // No count of faults falls; a fault of the tree is returned only if that count rose, and Ok

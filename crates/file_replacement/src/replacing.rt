@@ -7,9 +7,9 @@ ghost use Rattle.base_core.specs.Crash.{Since};
 ghost use Rattle.base_core.specs.Undone.{IsDurable};
 ghost use Rattle.base_core.specs.Faults.{CountsOnlyRise, HasCause, IsNoFault};
 ghost use Rattle.base_core.specs.Tree.{files_of};
-ghost use Rattle.file_replacement.specs.Lengths.{longest_replaced};
+ghost use Rattle.file_replacement.specs.Lengths.{longest_replaceable_name};
 ghost use Rattle.journal_core.specs.Filling.{CanAddBothNames, IsDurablyMoved, IsReadyToMove};
-ghost use Rattle.journal_core.specs.Kept.{IsSyncedAt, KeepsMapsExcept};
+ghost use Rattle.journal_core.specs.Kept.{IsSyncedAt, KeepsCrashMapsExcept};
 ghost use Rattle.journal_core.specs.Reading.{ReadsOldOrReplaced};
 ghost use Rattle.journal_core.specs.Recovery.{StateDependsOn, EachCrashLeaves, intent_name};
 ghost use Rattle.journal_core.specs.Replacing.{IgnoresScratch, CanAddOutputNames, IsMomentOfReplacing, replaced_files, scratch_of};
@@ -35,7 +35,7 @@ pub fn replace<T: Tree>(
     bytes: &[u8],
 ) -> Result<(), TreeFault>
     // The scratch name, which is longer, has to be a name too.
-    requires length { length name.now ≤ longest_replaced }
+    requires length { length name.now ≤ longest_replaceable_name }
     requires apart { name.now ≢ intent_name }
 
     // At each moment the tree is durable, and a crash leaves a state from before or that of the new
@@ -67,7 +67,7 @@ pub fn replace<T: Tree>(
 
     // At each moment a crash leaves every other name as it might have left it before.
     ensures others { IfObservable (T.history tree.old) (λ v.
-        Since (KeepsMapsExcept (name.now ∷ scratch_of name.now ∷ []) v) (T.history tree.old)
+        Since (KeepsCrashMapsExcept (name.now ∷ scratch_of name.now ∷ []) v) (T.history tree.old)
         (T.history tree.new)) }
 
     // Once it has returned Ok, no crash undoes a change of names, and the new file is synced.
@@ -105,7 +105,7 @@ fn write_new<T: Tree>(
     name: &Name,
     bytes: &[u8],
 ) -> Result<(), TreeFault>
-    requires length { length name.now ≤ longest_replaced }
+    requires length { length name.now ≤ longest_replaceable_name }
     requires apart { name.now ≢ intent_name }
     ensures moments { IfObservable (T.history tree.old) (λ v.
         Since (IsReadyToMove (scratch_of name.now) name.now bytes.now v) (T.history tree.old)
@@ -114,7 +114,7 @@ fn write_new<T: Tree>(
         OnOk result (HoldsNow (T.history tree.new)
         (IsDurablyMoved (scratch_of name.now) name.now bytes.now v))) }
     ensures others { IfObservable (T.history tree.old) (λ v.
-        Since (KeepsMapsExcept (name.now ∷ scratch_of name.now ∷ []) v) (T.history tree.old)
+        Since (KeepsCrashMapsExcept (name.now ∷ scratch_of name.now ∷ []) v) (T.history tree.old)
         (T.history tree.new)) }
     ensures asked { (T.history tree.new ≡ T.history tree.old)
         ⊎ T.accepts (Some (scratch_of name.now)) name.now }

@@ -3,8 +3,8 @@ use Rattle.std.proofs.Common.{◌≡◌, ◌≢◌, ℕ, zero, suc, ◌+◌, ◌
 use Rattle.std.specs.Prelude.{codes}
 use Rattle.adb_dump.specs.Dump.{Line}
 use Rattle.adb_dump.specs.Margin.{margin}
-use Rattle.adb_dump.specs.ReadBack.{strip_prefix, stop_or_add, split_block, with_line}
-use Rattle.gen_core.specs.Cursors.{CursorState, after_block, after_line, at_entry, block_at, cursor_by, line_of_block, levels_after}
+use Rattle.adb_dump.specs.ReadBack.{strip_prefix, end_block_or_add_line, split_block, with_line_before_block}
+use Rattle.gen_core.specs.Cursors.{CursorState, cursor_after_block, cursor_after_line, cursor_at_entry, block_at, cursor_from_parts, line_of_block, margin_levels_after_block}
 use Rattle.gen_core.proofs.TextLines.{levels_read, margin-sum, two_some, two_none}
 
 -- a block and the lines after it
@@ -14,14 +14,14 @@ Split = List Line × List Line
 pub first_of_block : (depth : ℕ) (l : Line) (ls : List Line) → line_of_block (block_at depth (l ∷ ls)).0 ≡ strip_prefix (margin depth) l
 first_of_block depth l ls = go (strip_prefix (margin depth) l)
   where
-    go : (o : Option Line) → line_of_block (stop_or_add l ls o (block_at depth ls)).0 ≡ o
+    go : (o : Option Line) → line_of_block (end_block_or_add_line l ls o (block_at depth ls)).0 ≡ o
     go None = refl
     go (Some inner) = refl
 
 -- at depth 0 all lines are the block
 pub all_lines : (ls : List Line) → block_at 0 ls ≡ (ls, [])
 all_lines [] = refl
-all_lines (l ∷ ls) = ap (λ (b : Split). with_line l b) (all_lines ls)
+all_lines (l ∷ ls) = ap (λ (b : Split). with_line_before_block l b) (all_lines ls)
 
 -- ---- a block has no line, or a first one
 
@@ -29,7 +29,7 @@ pub no_block : (depth : ℕ) (ls : List Line) → None ≡ line_of_block (block_
 no_block depth [] e = refl
 no_block depth (l ∷ ls) e = go (strip_prefix (margin depth) l) e
   where
-    go : (o : Option Line) → None ≡ line_of_block (stop_or_add l ls o (block_at depth ls)).0 → stop_or_add l ls o (block_at depth ls) ≡ ([], l ∷ ls)
+    go : (o : Option Line) → None ≡ line_of_block (end_block_or_add_line l ls o (block_at depth ls)).0 → end_block_or_add_line l ls o (block_at depth ls) ≡ ([], l ∷ ls)
     go None e = refl
     go (Some inner) e = absurd cc
 
@@ -48,7 +48,7 @@ pub first_line : (depth : ℕ) (ls : List Line) (line : Line) → Some line ≡ 
 first_line depth [] line e = absurd cc
 first_line depth (l ∷ ls) line e =
     let is : strip_prefix (margin depth) l ≡ Some line = sym (e ∙ first_of_block depth l ls) in
-    record { whole = l; others = ls; lines = refl; stripped = is; block = ap (λ (o : Option Line). stop_or_add l ls o (block_at depth ls)) is }
+    record { whole = l; others = ls; lines = refl; stripped = is; block = ap (λ (o : Option Line). end_block_or_add_line l ls o (block_at depth ls)) is }
 
 -- ---- the block one level deeper
 
@@ -63,11 +63,11 @@ pub record Inner (depth : ℕ) (ls : List Line) : Type 0 where
 -- with one line more, by what it is without its levels, and without one level more
 abbrev InnerHere : ℕ → Line → List Line → Option Line → Option Line → Type 0
 InnerHere depth l ls o p =
-    ((stop_or_add l ls p (block_at (depth + 1) ls)).0 ≡ (split_block (stop_or_add l ls o (block_at depth ls)).0).0)
-    × (block_at depth (stop_or_add l ls p (block_at (depth + 1) ls)).1 ≡ ((split_block (stop_or_add l ls o (block_at depth ls)).0).1, (stop_or_add l ls o (block_at depth ls)).1))
+    ((end_block_or_add_line l ls p (block_at (depth + 1) ls)).0 ≡ (split_block (end_block_or_add_line l ls o (block_at depth ls)).0).0)
+    × (block_at depth (end_block_or_add_line l ls p (block_at (depth + 1) ls)).1 ≡ ((split_block (end_block_or_add_line l ls o (block_at depth ls)).0).1, (end_block_or_add_line l ls o (block_at depth ls)).1))
 
 inner_line : (depth : ℕ) (l : Line) (ls : List Line) (m : Line) (p : Option Line) → strip_prefix (margin depth) l ≡ Some m → strip_prefix (codes "  ") m ≡ p → Inner depth ls → InnerHere depth l ls (Some m) p
-inner_line depth l ls m None e f h = (rw f refl, ap (λ (o : Option Line). stop_or_add l ls o (block_at depth ls)) e ∙ rw f refl)
+inner_line depth l ls m None e f h = (rw f refl, ap (λ (o : Option Line). end_block_or_add_line l ls o (block_at depth ls)) e ∙ rw f refl)
 inner_line depth l ls m (Some k) e f h = (rw f (ap (λ (x : List Line). k ∷ x) h.front), h.later ∙ rw f refl)
 
 pub inner_block : (depth : ℕ) (ls : List Line) → Inner depth ls

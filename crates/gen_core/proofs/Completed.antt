@@ -8,11 +8,11 @@ use Rattle.adb_view.specs.Shaped.{Each, HasShape, HaveShapes}
 use Rattle.adb_view.proofs.FoundShapes.{shape_null}
 use Rattle.base_core.specs.Lists.{and_then}
 use Rattle.base_core.proofs.AtName.{is_name}
-use Rattle.adb_dump.specs.Dump.{Line, int_line, text_line, hash_line, indent, with_dash, or_null, array_lines, block_lines, named_line, named_block, named_lines, fields_lines, unless_absent}
+use Rattle.adb_dump.specs.Dump.{Line, int_line, text_line, hash_line, indent, with_dash, entry_lines_or_null_line, array_lines, block_lines, named_line, named_block, named_lines, fields_lines, field_lines_unless_null}
 use Rattle.adb_dump.specs.Values.{IsOfBytes, AreOfBytes}
-use Rattle.adb_dump.specs.ReadBack.{ResultOrBadLine, after_lines, strip_prefix, split_block, only_line, entry_read, after_dash, entries_read, arr_read, obj_read, field_on_line, field_below, if_form, if_named, block_read, named_read, fields_read, int_read, text_read, hash_read}
+use Rattle.adb_dump.specs.ReadBack.{ResultOrBadLine, after_lines, strip_prefix, split_block, single_line_value, entry_read, entries_after_dash, entries_read, arr_read, obj_read, field_on_line, field_with_value_below, if_line_prints_value, if_named, block_read, named_read, fields_read, int_read, text_read, hash_read}
 use Rattle.adb_dump.proofs.Booleans.{chosen}
-use Rattle.adb_dump.proofs.ReadOnly.{block_only, Fits1, split_block_parts, strip_prefix_some, keeps, or_null-is}
+use Rattle.adb_dump.proofs.ReadOnly.{block_only, Fits1, split_block_parts, strip_prefix_some, keeps, entry_lines_or_null_line-is}
 use Rattle.adb_dump.proofs.BlockLines.{no_lines}
 use Rattle.gen_core.specs.Reads.{line_read}
 use Rattle.gen_core.proofs.Reading.{HasOneLine}
@@ -181,7 +181,7 @@ pub record Completed (s : Shape) (ls : List Line) (k : ℕ) : Type 0 where
 at_first : (s : Shape) → Sample s → (ls : List Line) (k : ℕ) → k ≡ 0 → Completed s ls k
 at_first s p ls k e = subst (λ (n : ℕ). Completed s ls n) (sym e) (record { value = p.value; fit = p.fit; count = omega arith; rest = block_lines s p.value; lines = refl })
 
-form_zero : (form : Plain → Line) (l : Line) (o : Option Plain) (k : ℕ) → if_form form l o ≡ no_value k → k ≡ 0
+form_zero : (form : Plain → Line) (l : Line) (o : Option Plain) (k : ℕ) → if_line_prints_value form l o ≡ no_value k → k ≡ 0
 form_zero form l None k e = sym (value_number 0 k e)
 form_zero form l (Some v) k e =
     elim (chosen (bytes_eq (form v) l) _ _ _ e) [
@@ -199,7 +199,7 @@ line_zero (object which fs) l k e = sym (value_number 0 k e)
 line_completed : (s : Shape) → HasOneLine s → Sample s → (ls : List Line) (k : ℕ) → block_read s ls ≡ Err k → Completed s ls k
 line_completed s h p ls k e = go ls (sym (h ls) ∙ e)
   where
-    go : (ls : List Line) → only_line (line_read s) ls ≡ no_value k → Completed s ls k
+    go : (ls : List Line) → single_line_value (line_read s) ls ≡ no_value k → Completed s ls k
     go [] e = at_first s p [] k (sym (value_number 0 k e))
     go (l ∷ []) e = at_first s p (l ∷ []) k (line_zero s l k e)
     go (l ∷ m ∷ ms) e = by_first (line_read s l) refl e
@@ -218,7 +218,7 @@ record EntryCompleted (s : Shape) (ls : List Line) (k : ℕ) : Type 0 where
   fit : EntryFit s value
   count : k ≤ length ls
   rest : List Line
-  lines : or_null value (block_lines s value) ≡ take k ls ++ rest
+  lines : entry_lines_or_null_line value (block_lines s value) ≡ take k ls ++ rest
 
 -- lines before the bad one can be completed
 abbrev pub Completes : Shape → Type 0
@@ -230,27 +230,27 @@ entry_completed s h l ls k e =
       | inl x ↦ at_null ls (is_name l (codes "null") x.0) x.1
       | inr x ↦
           let c = h (l ∷ ls) k x.1 in
-          record { value = c.value; fit = as_entry s c.value c.fit; count = c.count; rest = c.rest; lines = or_null-is c.value (block_lines s c.value) c.fit.some ∙ c.lines }
+          record { value = c.value; fit = as_entry s c.value c.fit; count = c.count; rest = c.rest; lines = entry_lines_or_null_line-is c.value (block_lines s c.value) c.fit.some ∙ c.lines }
     ]
   where
-    at_null : (ls : List Line) → l ≡ codes "null" → only_line (λ x. Ok null) (l ∷ ls) ≡ no_value k → EntryCompleted s (l ∷ ls) k
+    at_null : (ls : List Line) → l ≡ codes "null" → single_line_value (λ x. Ok null) (l ∷ ls) ≡ no_value k → EntryCompleted s (l ∷ ls) k
     at_null [] word e = absurd cc
     at_null (m ∷ ms) word e =
         let one : 1 ≡ k = value_number 1 k e in
         subst (λ (n : ℕ). EntryCompleted s (l ∷ m ∷ ms) n) one (record { value = null; fit = null_entry_fit s; count = omega arith; rest = []; lines = ap (λ (x : Line). x ∷ []) (sym word) })
 
 -- an entry that was read, by its lines
-entry_there : (s : Shape) (l : Line) (ls : List Line) (v : Plain) → entry_read (block_read s) l ls ≡ Ok v → (or_null v (block_lines s v) ≡ l ∷ ls) × EntryFit s v
+entry_there : (s : Shape) (l : Line) (ls : List Line) (v : Plain) → entry_read (block_read s) l ls ≡ Ok v → (entry_lines_or_null_line v (block_lines s v) ≡ l ∷ ls) × EntryFit s v
 entry_there s l ls v e =
     elim (chosen (bytes_eq l (codes "null")) _ _ _ e) [
       | inl x ↦ at_null ls (is_name l (codes "null") x.0) x.1
       | inr x ↦
           let f = read_fit s (l ∷ ls) v x.1 in
-          (or_null-is v (block_lines s v) f.some ∙ (block_only s (l ∷ ls) v x.1).0, as_entry s v f)
+          (entry_lines_or_null_line-is v (block_lines s v) f.some ∙ (block_only s (l ∷ ls) v x.1).0, as_entry s v f)
     ]
   where
-    at_null : (ls : List Line) → l ≡ codes "null" → only_line (λ x. Ok null) (l ∷ ls) ≡ Ok v → (or_null v (block_lines s v) ≡ l ∷ ls) × EntryFit s v
-    at_null [] word e = let same : null ≡ v = cc in subst (λ (u : Plain). (or_null u (block_lines s u) ≡ l ∷ []) × EntryFit s u) same (ap (λ (x : Line). x ∷ []) (sym word), null_entry_fit s)
+    at_null : (ls : List Line) → l ≡ codes "null" → single_line_value (λ x. Ok null) (l ∷ ls) ≡ Ok v → (entry_lines_or_null_line v (block_lines s v) ≡ l ∷ ls) × EntryFit s v
+    at_null [] word e = let same : null ≡ v = cc in subst (λ (u : Plain). (entry_lines_or_null_line u (block_lines s u) ≡ l ∷ []) × EntryFit s u) same (ap (λ (x : Line). x ∷ []) (sym word), null_entry_fit s)
     at_null (m ∷ ms) word e = absurd cc
 
 record EntriesCompleted (s : Shape) (ls : List Line) (k : ℕ) : Type 0 where
@@ -288,7 +288,7 @@ entry_ends s l m ls (suc i) dash c =
       count = omega (arith, within, split_count ls);
       rest = indent c.rest;
       lines =
-          append-nil (with_dash (or_null c.value (block_lines s c.value))) ∙ ap with_dash c.lines
+          append-nil (with_dash (entry_lines_or_null_line c.value (block_lines s c.value))) ∙ ap with_dash c.lines
           ∙ ap (λ (x : List Line). (codes "- " ++ m) ∷ x) (indent-append (take i r.0) c.rest)
           ∙ ap (λ (x : Line). x ∷ (indent (take i r.0) ++ indent c.rest)) (dash_line l m dash)
           ∙ ap (λ (x : List Line). l ∷ (x ++ indent c.rest)) (sym front);
@@ -328,7 +328,7 @@ entries_completed s h (suc n) (l ∷ ls) k e = go (strip_prefix (codes "- ") l) 
         let (j, bad, count) = later (1 + length (split_block ls).0) v (entries_read (block_read s) n (split_block ls).1) k e in
         entry_passed s l m ls k j v dash is count (next j bad)
 
-    go : (o : Option Line) → o ≡ strip_prefix (codes "- ") l → ((j : ℕ) → entries_read (block_read s) n (split_block ls).1 ≡ Err j → EntriesCompleted s (split_block ls).1 j) → after_dash (block_read s) (entries_read (block_read s) n) (split_block ls) o ≡ no_values k → EntriesCompleted s (l ∷ ls) k
+    go : (o : Option Line) → o ≡ strip_prefix (codes "- ") l → ((j : ℕ) → entries_read (block_read s) n (split_block ls).1 ≡ Err j → EntriesCompleted s (split_block ls).1 j) → entries_after_dash (block_read s) (entries_read (block_read s) n) (split_block ls) o ≡ no_values k → EntriesCompleted s (l ∷ ls) k
     go None dash next e = no_entry s (l ∷ ls) k (sym (values_number 0 k e))
     go (Some m) dash next e = after m dash next (entry_read (block_read s) m (split_block ls).0) refl e
 
@@ -446,14 +446,14 @@ below_passed name s fs h l rest ls k j v here e read is c =
     }
 
 -- a field's value on its line
-on_line_completed : (name : List ℕ) (s : Shape) (fs : Fields) (form : Plain → Line) (read : Line → Option Plain) → ((v : Plain) → named_lines s name v ≡ named_line name (form v)) → ((l : Line) (v : Plain) → if_form form l (read l) ≡ Ok v → Fit s v) → FieldsComplete fs
-    → (l rest : Line) (ls : List Line) (k : ℕ) → NamedHere name l rest → field_on_line (λ x. if_form form x (read x)) (fields_read fs) ls (strip_prefix (codes " ") rest) ≡ no_values k → FieldsCompleted (field name s fs) (l ∷ ls) k
+on_line_completed : (name : List ℕ) (s : Shape) (fs : Fields) (form : Plain → Line) (read : Line → Option Plain) → ((v : Plain) → named_lines s name v ≡ named_line name (form v)) → ((l : Line) (v : Plain) → if_line_prints_value form l (read l) ≡ Ok v → Fit s v) → FieldsComplete fs
+    → (l rest : Line) (ls : List Line) (k : ℕ) → NamedHere name l rest → field_on_line (λ x. if_line_prints_value form x (read x)) (fields_read fs) ls (strip_prefix (codes " ") rest) ≡ no_values k → FieldsCompleted (field name s fs) (l ∷ ls) k
 on_line_completed name s fs form read h fits next l rest ls k here e = go (strip_prefix (codes " ") rest) refl e
   where
-    formed : (word : Line) (v : Plain) → if_form form word (read word) ≡ Ok v → form v ≡ word
+    formed : (word : Line) (v : Plain) → if_line_prints_value form word (read word) ≡ Ok v → form v ≡ word
     formed word v e = by_value (read word) e
       where
-        by_value : (o : Option Plain) → if_form form word o ≡ Ok v → form v ≡ word
+        by_value : (o : Option Plain) → if_line_prints_value form word o ≡ Ok v → form v ≡ word
         by_value None e = absurd cc
         by_value (Some u) e =
             elim (chosen (bytes_eq (form u) word) _ _ _ e) [
@@ -461,19 +461,19 @@ on_line_completed name s fs form read h fits next l rest ls k here e = go (strip
               | inr x ↦ absurd (let f = x.1 in cc)
             ]
 
-    after : (word : Line) → Some word ≡ strip_prefix (codes " ") rest → (x : ResultOrBadLine Plain) → if_form form word (read word) ≡ x → and_then x (λ v. after_lines 1 (more v) (fields_read fs ls)) ≡ no_values k → FieldsCompleted (field name s fs) (l ∷ ls) k
+    after : (word : Line) → Some word ≡ strip_prefix (codes " ") rest → (x : ResultOrBadLine Plain) → if_line_prints_value form word (read word) ≡ x → and_then x (λ v. after_lines 1 (more v) (fields_read fs ls)) ≡ no_values k → FieldsCompleted (field name s fs) (l ∷ ls) k
     after word space (Err j) is e = no_field (field name s fs) (l ∷ ls) k (sym (values_number j k e) ∙ form_zero form word (read word) j is)
     after word space (Ok v) is e =
         let (j, bad, count) = later 1 v (fields_read fs ls) k e in
         line_passed name s fs form h l rest word ls k j v here space (fits word v is) (formed word v is) count (next ls j bad)
 
-    go : (o : Option Line) → o ≡ strip_prefix (codes " ") rest → field_on_line (λ x. if_form form x (read x)) (fields_read fs) ls o ≡ no_values k → FieldsCompleted (field name s fs) (l ∷ ls) k
+    go : (o : Option Line) → o ≡ strip_prefix (codes " ") rest → field_on_line (λ x. if_line_prints_value form x (read x)) (fields_read fs) ls o ≡ no_values k → FieldsCompleted (field name s fs) (l ∷ ls) k
     go None space e = no_field (field name s fs) (l ∷ ls) k (sym (values_number 0 k e))
-    go (Some word) space e = after word space (if_form form word (read word)) refl e
+    go (Some word) space e = after word space (if_line_prints_value form word (read word)) refl e
 
 -- a field's value in the block below its name
 below_completed : (name : List ℕ) (s : Shape) (fs : Fields) → ((v : Plain) → named_lines s name v ≡ named_block name (block_lines s v)) → Completes s → FieldsComplete fs
-    → (l rest : Line) (ls : List Line) (k : ℕ) → NamedHere name l rest → field_below (block_read s) (fields_read fs) (split_block ls) rest ≡ no_values k → FieldsCompleted (field name s fs) (l ∷ ls) k
+    → (l rest : Line) (ls : List Line) (k : ℕ) → NamedHere name l rest → field_with_value_below (block_read s) (fields_read fs) (split_block ls) rest ≡ no_values k → FieldsCompleted (field name s fs) (l ∷ ls) k
 below_completed name s fs h inner next l (c ∷ cs) ls k here e = no_field (field name s fs) (l ∷ ls) k (sym (values_number 0 k e))
 below_completed name s fs h inner next l [] ls k here e = go (block_read s (split_block ls).0) refl e
   where
@@ -483,15 +483,15 @@ below_completed name s fs h inner next l [] ls k here e = go (block_read s (spli
         let (j, bad, count) = later (1 + length (split_block ls).0) v (fields_read fs (split_block ls).1) k e in
         below_passed name s fs h l [] ls k j v here refl is count (next (split_block ls).1 j bad)
 
-number_fits : (l : Line) (v : Plain) → if_form int_line l (int_read l) ≡ Ok v → Fit number v
+number_fits : (l : Line) (v : Plain) → if_line_prints_value int_line l (int_read l) ≡ Ok v → Fit number v
 unfolding block_read
 number_fits l v e = read_fit number (l ∷ []) v e
 
-text_fits : (l : Line) (v : Plain) → if_form text_line l (text_read l) ≡ Ok v → Fit text v
+text_fits : (l : Line) (v : Plain) → if_line_prints_value text_line l (text_read l) ≡ Ok v → Fit text v
 unfolding block_read
 text_fits l v e = read_fit text (l ∷ []) v e
 
-hash_fits : (l : Line) (v : Plain) → if_form hash_line l (hash_read l) ≡ Ok v → Fit hash v
+hash_fits : (l : Line) (v : Plain) → if_line_prints_value hash_line l (hash_read l) ≡ Ok v → Fit hash v
 unfolding block_read
 hash_fits l v e = read_fit hash (l ∷ []) v e
 

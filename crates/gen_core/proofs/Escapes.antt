@@ -6,7 +6,7 @@ use Rattle.std.proofs.lemmas.Bool.{cases_lt, eqb-true, leb-true, not-true, and_p
 use Rattle.std.proofs.lemmas.List.{append-nil}
 use Rattle.std.proofs.lemmas.List.Concat.{flat_map-cons}
 use Rattle.hex.specs.Hex.{encode_with, encode_lower, lower_digits}
-use Rattle.adb_dump.specs.Dump.{is_printable, escape_of, begins_with_byte, is_bare, text_form}
+use Rattle.adb_dump.specs.Dump.{is_printable, escape_of, begins_with_byte, needs_no_quotes, bare_or_quoted_text}
 use Rattle.adb_dump.proofs.Booleans.{chosen}
 use Rattle.adb_dump.proofs.LineBack.{AreBytes}
 use Rattle.gen_core.specs.Reads.{IsFormOf}
@@ -362,7 +362,7 @@ hash_form bytes rest line false r some stop e = λ other b ne f.
     some_line rest e (hash_ends rest (hash_left bytes other rest r.fits b (f ∙ sym r.is)) (sym stop))
 
 -- a text that stands as it is does not begin with a quote
-bare_unquoted : (b quoted : List ℕ) → is_bare b ≡ true → b ≢ 34 ∷ quoted
+bare_unquoted : (b quoted : List ℕ) → needs_no_quotes b ≡ true → b ≢ 34 ∷ quoted
 bare_unquoted b quoted bare is =
     let four = and_parts _ _ bare in
     let three = and_parts _ _ four.0 in
@@ -371,20 +371,20 @@ bare_unquoted b quoted bare is =
     let same = ap (begins_with_byte 34) is in
     absurd cc
 
-bare_form : (b : List ℕ) → is_bare b ≡ true → b ≡ text_form b
+bare_form : (b : List ℕ) → needs_no_quotes b ≡ true → b ≡ bare_or_quoted_text b
 bare_form b e = rw e refl
 
-quoted_form : (b : List ℕ) → is_bare b ≡ false → text_form b ≡ 34 ∷ quoted_rest b
+quoted_form : (b : List ℕ) → needs_no_quotes b ≡ false → bare_or_quoted_text b ≡ 34 ∷ quoted_rest b
 quoted_form b e = rw e refl
 
 -- the text of a line between quotes; other texts that stand as they are do not begin with a quote
-quoted_other : (other quoted : List ℕ) → text_form other ≡ 34 ∷ quoted → quoted_rest other ≡ quoted
-quoted_other other quoted e = go (is_bare other) refl e
+quoted_other : (other quoted : List ℕ) → bare_or_quoted_text other ≡ 34 ∷ quoted → quoted_rest other ≡ quoted
+quoted_other other quoted e = go (needs_no_quotes other) refl e
   where
     tail : (xs ys : List ℕ) → 34 ∷ xs ≡ 34 ∷ ys → xs ≡ ys
     tail xs ys e = cc
 
-    go : (t : Bool) → is_bare other ≡ t → cond t other (34 ∷ quoted_rest other) ≡ 34 ∷ quoted → quoted_rest other ≡ quoted
+    go : (t : Bool) → needs_no_quotes other ≡ t → cond t other (34 ∷ quoted_rest other) ≡ 34 ∷ quoted → quoted_rest other ≡ quoted
     go true bare e = absurd (bare_unquoted other quoted bare e)
     go false bare e = tail (quoted_rest other) quoted e
 
@@ -399,19 +399,19 @@ only_quoted (d ∷ ds) (x ∷ xs) a b e =
     let one : x ≡ d = firsts (x, quoted_rest xs) (d, quoted_rest ds) both in
     cc
 
-pub quoted_not_read : (bytes rest quoted : List ℕ) → AreRead (flat_map escape_of) bytes rest quoted → None ≡ unescaped_at rest → rest ≢ codes "\"" → IsFormOf text_form false bytes (34 ∷ quoted)
+pub quoted_not_read : (bytes rest quoted : List ℕ) → AreRead (flat_map escape_of) bytes rest quoted → None ≡ unescaped_at rest → rest ≢ codes "\"" → IsFormOf bare_or_quoted_text false bytes (34 ∷ quoted)
 quoted_not_read bytes rest quoted r stop some other b ne e =
     some (quote_alone rest (quoted_left bytes other rest r.fits b (quoted_other other quoted e ∙ sym r.is)) (sym stop))
 
-pub quoted_of_none : (bytes quoted : List ℕ) → quoted ≡ codes "\"" → IsFormOf text_form false bytes (34 ∷ quoted)
+pub quoted_of_none : (bytes quoted : List ℕ) → quoted ≡ codes "\"" → IsFormOf bare_or_quoted_text false bytes (34 ∷ quoted)
 quoted_of_none bytes quoted is other b ne e = ne (only_quoted [] other tt b (quoted_other other quoted e ∙ is))
 
 -- all was read: whether the text has to stand between quotes
-pub quoted_all : (bytes rest quoted : List ℕ) (bare : Bool) → AreRead (flat_map escape_of) bytes rest quoted → quoted ≢ codes "\"" → rest ≡ codes "\"" → bare ≡ is_bare bytes → IsFormOf text_form (not bare) bytes (34 ∷ quoted)
+pub quoted_all : (bytes rest quoted : List ℕ) (bare : Bool) → AreRead (flat_map escape_of) bytes rest quoted → quoted ≢ codes "\"" → rest ≡ codes "\"" → bare ≡ needs_no_quotes bytes → IsFormOf bare_or_quoted_text (not bare) bytes (34 ∷ quoted)
 quoted_all bytes rest quoted true r some e is = λ other b ne f.
     let whole : quoted_rest bytes ≡ quoted = ap (λ (x : List ℕ). flat_map escape_of bytes ++ x) (sym e) ∙ r.is in
     let same = only_quoted bytes other r.fits b (quoted_other other quoted f ∙ sym whole) in
-    let bare : is_bare other ≡ true = ap is_bare same ∙ sym is in
+    let bare : needs_no_quotes other ≡ true = ap needs_no_quotes same ∙ sym is in
     bare_unquoted other quoted bare (bare_form other bare ∙ f)
 quoted_all bytes rest quoted false r some e is =
     let whole : quoted_rest bytes ≡ quoted = ap (λ (x : List ℕ). flat_map escape_of bytes ++ x) (sym e) ∙ r.is in

@@ -14,7 +14,7 @@ use Rattle.adb_dump.specs.Dump.{Line, dump_lines, schema_line, value_lines}
 use Rattle.adb_dump.specs.ReadBack.{ResultOrBadLine, value_read}
 use Rattle.adb_dump.proofs.ValueLaws.{read_back}
 use Rattle.gen_core.specs.Dumps.{AreDumpLines, BeginsADump, IsFirstBadDumpLine, IsRootValue}
-use Rattle.gen_core.specs.Generated.{DumpedRoot, dumped_root, root_of_lines, root_of_table, root_read, table_of_line, text_lines, unless_rest}
+use Rattle.gen_core.specs.Generated.{DumpedRoot, dumped_root, root_of_lines, root_of_table, root_read, table_of_line, text_lines, unless_unfinished_line}
 use Rattle.gen_core.proofs.Completed.{Completed, block_completed, has_samples}
 use Rattle.gen_core.proofs.Stable.{Agree, block_stable}
 use Rattle.gen_core.proofs.Texts.{AreLinesOf, NamesRoot, line_of_root, lines_are_read, lines_of_root, root_of_line}
@@ -165,13 +165,13 @@ first t n e = go (root_of_lines (text_lines t).0) refl e
     ls : List Line
     ls = (text_lines t).0
 
-    by_rest : (root : DumpedRoot) (rest : List ℕ) → root_of_lines ls ≡ Ok root → (text_lines t).1 ≡ rest → unless_rest rest (length ls) root ≡ bad_root n → IsFirstBadDumpLine t n
+    by_rest : (root : DumpedRoot) (rest : List ℕ) → root_of_lines ls ≡ Ok root → (text_lines t).1 ≡ rest → unless_unfinished_line rest (length ls) root ≡ bad_root n → IsFirstBadDumpLine t n
     by_rest root [] ok is e = absurd cc
     by_rest root (c ∷ cs) ok is e =
         let f : FirstBad ls n = subst (FirstBad ls) (root_number (length ls + 1) n e) (only_rest_bad ls root ok) in
         record { low = f.low; high = f.high; before = f.before; bad = f.bad; end = λ at_end. inl (λ nothing. let g = sym is ∙ nothing in absurd cc) }
 
-    go : (r : Result DumpedRoot ℕ) → root_of_lines ls ≡ r → and_then r (unless_rest (text_lines t).1 (length ls)) ≡ bad_root n → IsFirstBadDumpLine t n
+    go : (r : Result DumpedRoot ℕ) → root_of_lines ls ≡ r → and_then r (unless_unfinished_line (text_lines t).1 (length ls)) ≡ bad_root n → IsFirstBadDumpLine t n
     go (Err m) is e =
         let bad : root_of_lines ls ≡ Err n = is ∙ e in
         let f = first_bad ls n bad in

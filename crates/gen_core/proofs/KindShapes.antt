@@ -11,7 +11,7 @@ use Rattle.base_core.specs.Lists.{and_then}
 use Rattle.adb_view.specs.declared.tables.Kind.{Kind}
 use Rattle.adb_view.specs.declared.tables.Kind.TheVariants.{Int, Text, Hash, Obj, TextArr, ObjArr}
 use Rattle.adb_dump.specs.Dump.{Line}
-use Rattle.adb_dump.specs.ReadBack.{ResultOrBadLine, arr_read, entries_read, fields_read, obj_read, value_read, only_line, field_on_line, field_below, block_read, named_read, split_block, strip_prefix}
+use Rattle.adb_dump.specs.ReadBack.{ResultOrBadLine, arr_read, entries_read, fields_read, obj_read, value_read, single_line_value, field_on_line, field_with_value_below, block_read, named_read, split_block, strip_prefix}
 use Rattle.adb_dump.specs.Words.{has_one_line}
 use Rattle.gen_core.specs.Cursors.{CursorState, block_at, line_of_block}
 use Rattle.gen_core.specs.Reads.{block_taken, line_read}

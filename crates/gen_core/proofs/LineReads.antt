@@ -8,8 +8,8 @@ use Rattle.std.proofs.lemmas.List.Concat.{flat_map-cons}
 use Rattle.hex.specs.Hex.{encode_with, encode_lower, lower_digits}
 use Rattle.base_core.proofs.AtName.{other_name}
 use Rattle.adb_view.specs.Plain.{Plain, int, blob, number, text, hash}
-use Rattle.adb_dump.specs.Dump.{Line, is_printable, begins_with_byte, is_bare, escape_of, text_form, int_line, text_line, hash_line}
-use Rattle.adb_dump.specs.ReadBack.{ResultOrBadLine, hex_value, quoted_read, unhex, blob_read, int_read, text_read, hash_read, if_form}
+use Rattle.adb_dump.specs.Dump.{Line, is_printable, begins_with_byte, needs_no_quotes, escape_of, bare_or_quoted_text, int_line, text_line, hash_line}
+use Rattle.adb_dump.specs.ReadBack.{ResultOrBadLine, hex_value, quoted_read, unhex, blob_read, int_read, text_read, hash_read, if_line_prints_value}
 use Rattle.adb_dump.proofs.Booleans.{chosen}
 use Rattle.adb_dump.proofs.LineBack.{AreBytes, int_back, text_back, hash_back, hex_value-digit, unquoted-escaped}
 use Rattle.adb_dump.proofs.ReadOnly.{made_blob_some}
@@ -27,7 +27,7 @@ number_not_read l other = go (ltb (digits_value 10 l) (2 ^ 64)) refl
     n : ℕ
     n = digits_value 10 l
 
-    go : (b : Bool) → ltb n (2 ^ 64) ≡ b → if_form int_line l (cond b (Some (int n)) None) ≡ Err 0
+    go : (b : Bool) → ltb n (2 ^ 64) ≡ b → if_line_prints_value int_line l (cond b (Some (int n)) None) ≡ Err 0
     go false e = refl
     go true e = let f : bytes_eq (decimal n) l ≡ false = other_name (decimal n) l (other n (ltb-true n (2 ^ 64) e)) in rw f refl
 
@@ -117,20 +117,20 @@ then_some : (o : Option (List ℕ)) (c : List ℕ) → option_and_then blob_read
 then_some None c e = absurd cc
 then_some (Some b) c e = ap Some (blob_some b c e)
 
-pub text_bytes : (b l : List ℕ) → text_read l ≡ Some (blob b) → text_form b ≡ l → AreBytes b
-text_bytes b l r e = go (is_bare b) refl
+pub text_bytes : (b l : List ℕ) → text_read l ≡ Some (blob b) → bare_or_quoted_text b ≡ l → AreBytes b
+text_bytes b l r e = go (needs_no_quotes b) refl
   where
-    go : (t : Bool) → is_bare b ≡ t → AreBytes b
+    go : (t : Bool) → needs_no_quotes b ≡ t → AreBytes b
     go true bare = bare_bytes b (and_parts _ _ (and_parts _ _ (and_parts _ _ (and_parts _ _ bare).0).0).0).0
     go false bare =
-        let is : text_form b ≡ 34 ∷ quoted_rest b = rw bare refl in
+        let is : bare_or_quoted_text b ≡ 34 ∷ quoted_rest b = rw bare refl in
         let read : text_read (34 ∷ quoted_rest b) ≡ Some (blob b) = ap text_read (sym is ∙ e) ∙ r in
         quoted_bytes b (length (34 ∷ quoted_rest b)) (then_some _ b read)
 
 -- ---- texts and hashes
 
 -- a blob whose form a line is, or no line of a blob
-no_blob : (form : List ℕ → Line) (l : Line) (o : Option Plain) (line : Plain → Line) → ((b : List ℕ) → line (blob b) ≡ form b) → ((v : Plain) → o ≡ Some v → (b : List ℕ) × (v ≡ blob b) × (b ≢ []) × (form b ≡ l → AreBytes b)) → IsFormOf form false [] l → if_form line l o ≡ Err 0
+no_blob : (form : List ℕ → Line) (l : Line) (o : Option Plain) (line : Plain → Line) → ((b : List ℕ) → line (blob b) ≡ form b) → ((v : Plain) → o ≡ Some v → (b : List ℕ) × (v ≡ blob b) × (b ≢ []) × (form b ≡ l → AreBytes b)) → IsFormOf form false [] l → if_line_prints_value line l o ≡ Err 0
 no_blob form l None line k h other = refl
 no_blob form l (Some v) line k h other =
     let (b, is, ne, fits) = h v refl in
@@ -149,12 +149,12 @@ some_text l v e =
     quoted None e = absurd cc
     quoted (Some b) e = let m = made_blob_some b v e in (b, m.0, m.1)
 
-pub text_taken : (b : List ℕ) (l : Line) → AreBytes b → IsFormOf text_form true b l → line_read text l ≡ Ok (blob b)
+pub text_taken : (b : List ℕ) (l : Line) → AreBytes b → IsFormOf bare_or_quoted_text true b l → line_read text l ≡ Ok (blob b)
 text_taken b l fits is = subst (λ (x : Line). line_read text x ≡ Ok (blob b)) is.1 (text_back b fits is.0)
 
-pub text_not_taken : (b : List ℕ) (l : Line) → IsFormOf text_form false b l → line_read text l ≡ Err 0
+pub text_not_taken : (b : List ℕ) (l : Line) → IsFormOf bare_or_quoted_text false b l → line_read text l ≡ Err 0
 text_not_taken b l other =
-    no_blob text_form l (text_read l) text_line (λ b. refl)
+    no_blob bare_or_quoted_text l (text_read l) text_line (λ b. refl)
     (λ v e. let (b, is, ne) = some_text l v e in (b, is, ne, text_bytes b l (e ∙ ap Some is))) other
 
 pub hash_taken : (b : List ℕ) (l : Line) → AreBytes b → IsFormOf encode_lower true b l → line_read hash l ≡ Ok (blob b)

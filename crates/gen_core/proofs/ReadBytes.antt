@@ -7,7 +7,7 @@ use Rattle.base_core.specs.Lists.{and_then}
 use Rattle.base_core.proofs.AtName.{is_name}
 use Rattle.adb_dump.specs.Dump.{Line, int_line, text_line, hash_line}
 use Rattle.adb_dump.specs.Values.{IsOfBytes, AreOfBytes}
-use Rattle.adb_dump.specs.ReadBack.{ResultOrBadLine, after_lines, strip_prefix, split_block, unhex, only_line, entry_read, after_dash, entries_read, arr_read, obj_read, field_on_line, field_below, if_form, if_named, block_read, named_read, fields_read, int_read, text_read, hash_read}
+use Rattle.adb_dump.specs.ReadBack.{ResultOrBadLine, after_lines, strip_prefix, split_block, unhex, single_line_value, entry_read, entries_after_dash, entries_read, arr_read, obj_read, field_on_line, field_with_value_below, if_line_prints_value, if_named, block_read, named_read, fields_read, int_read, text_read, hash_read}
 use Rattle.adb_dump.proofs.Booleans.{chosen}
 use Rattle.adb_dump.proofs.ReadOnly.{if_form_ok, made_blob_some}
 use Rattle.gen_core.proofs.LineReads.{hash_bytes, some_text, text_bytes}
@@ -22,14 +22,14 @@ pub read_after : {A B : Type 0} (n : ℕ) (f : A → B) (r : ResultOrBadLine A) 
 read_after n f (Ok x) y e = (x, refl, cc)
 read_after n f (Err k) y e = absurd cc
 
-only_ok : (f : Line → ResultOrBadLine Plain) (ls : List Line) (v : Plain) → only_line f ls ≡ Ok v → (l : Line) × (f l ≡ Ok v)
+only_ok : (f : Line → ResultOrBadLine Plain) (ls : List Line) (v : Plain) → single_line_value f ls ≡ Ok v → (l : Line) × (f l ≡ Ok v)
 only_ok f [] v e = absurd cc
 only_ok f (l ∷ []) v e = (l, e)
 only_ok f (l ∷ m ∷ ls) v e = absurd (let (x, a, b) = bound (f l) (λ v. Err 1) v e in cc)
 
 -- ---- one line
 
-pub int_of_bytes : (l : Line) (v : Plain) → if_form int_line l (int_read l) ≡ Ok v → IsOfBytes v
+pub int_of_bytes : (l : Line) (v : Plain) → if_line_prints_value int_line l (int_read l) ≡ Ok v → IsOfBytes v
 unfolding IsOfBytes
 int_of_bytes l v e =
     elim (chosen (ltb (digits_value 10 l) (2 ^ 64)) _ _ _ (if_form_ok int_line l (int_read l) v e).0) [
@@ -37,14 +37,14 @@ int_of_bytes l v e =
       | inr x ↦ absurd (let f = x.1 in cc)
     ]
 
-pub text_of_bytes : (l : Line) (v : Plain) → if_form text_line l (text_read l) ≡ Ok v → IsOfBytes v
+pub text_of_bytes : (l : Line) (v : Plain) → if_line_prints_value text_line l (text_read l) ≡ Ok v → IsOfBytes v
 unfolding IsOfBytes
 text_of_bytes l v e =
     let (read, form) = if_form_ok text_line l (text_read l) v e in
     let (b, is, ne) = some_text l v read in
     subst IsOfBytes (sym is) (text_bytes b l (read ∙ ap Some is) (ap text_line (sym is) ∙ form))
 
-pub hash_of_bytes : (l : Line) (v : Plain) → if_form hash_line l (hash_read l) ≡ Ok v → IsOfBytes v
+pub hash_of_bytes : (l : Line) (v : Plain) → if_line_prints_value hash_line l (hash_read l) ≡ Ok v → IsOfBytes v
 unfolding IsOfBytes
 hash_of_bytes l v e =
     let (read, form) = if_form_ok hash_line l (hash_read l) v e in
@@ -71,7 +71,7 @@ entries_bytes f h zero ls vs e = let same : none ≡ vs = cc in subst AreOfBytes
 entries_bytes f h (suc n) [] vs e = let same : none ≡ vs = cc in subst AreOfBytes same tt
 entries_bytes f h (suc n) (l ∷ ls) vs e = go (strip_prefix (codes "- ") l) (entries_bytes f h n (split_block ls).1) e
   where
-    go : (o : Option Line) → ((us : Plains) → entries_read f n (split_block ls).1 ≡ Ok us → AreOfBytes us) → after_dash f (entries_read f n) (split_block ls) o ≡ Ok vs → AreOfBytes vs
+    go : (o : Option Line) → ((us : Plains) → entries_read f n (split_block ls).1 ≡ Ok us → AreOfBytes us) → entries_after_dash f (entries_read f n) (split_block ls) o ≡ Ok vs → AreOfBytes vs
     go None k e = absurd cc
     go (Some m) k e =
         let (v, one, a) = bound (entry_read f m (split_block ls).0) (λ v. after_lines (1 + length (split_block ls).0) (more v) (entries_read f n (split_block ls).1)) vs e in
@@ -112,7 +112,7 @@ on_line_bytes g f hg hf ls (Some l) vs e =
     let (us, others, is) = read_after 1 (more v) (f ls) vs a in
     subst AreOfBytes is (hg l v one, hf ls us others)
 
-below_bytes : (b : List Line → ResultOrBadLine Plain) (f : List Line → ResultOrBadLine Plains) → ReadsBytes b → ReadsAllBytes f → (ls : List Line) (rest : Line) (vs : Plains) → field_below b f (split_block ls) rest ≡ Ok vs → AreOfBytes vs
+below_bytes : (b : List Line → ResultOrBadLine Plain) (f : List Line → ResultOrBadLine Plains) → ReadsBytes b → ReadsAllBytes f → (ls : List Line) (rest : Line) (vs : Plains) → field_with_value_below b f (split_block ls) rest ≡ Ok vs → AreOfBytes vs
 unfolding IsOfBytes
 below_bytes b f hb hf ls (c ∷ cs) vs e = absurd cc
 below_bytes b f hb hf ls [] vs e =
@@ -123,9 +123,9 @@ below_bytes b f hb hf ls [] vs e =
 
 named_bytes : (s : Shape) (f : List Line → ResultOrBadLine Plains) → ReadsBytes (block_read s) → ReadsAllBytes f → (ls : List Line) (rest : Line) (vs : Plains) → named_read s f ls rest ≡ Ok vs → AreOfBytes vs
 unfolding named_read block_read
-named_bytes number f hb hf ls rest vs e = on_line_bytes (λ l. if_form int_line l (int_read l)) f int_of_bytes hf ls (strip_prefix (codes " ") rest) vs e
-named_bytes text f hb hf ls rest vs e = on_line_bytes (λ l. if_form text_line l (text_read l)) f text_of_bytes hf ls (strip_prefix (codes " ") rest) vs e
-named_bytes hash f hb hf ls rest vs e = on_line_bytes (λ l. if_form hash_line l (hash_read l)) f hash_of_bytes hf ls (strip_prefix (codes " ") rest) vs e
+named_bytes number f hb hf ls rest vs e = on_line_bytes (λ l. if_line_prints_value int_line l (int_read l)) f int_of_bytes hf ls (strip_prefix (codes " ") rest) vs e
+named_bytes text f hb hf ls rest vs e = on_line_bytes (λ l. if_line_prints_value text_line l (text_read l)) f text_of_bytes hf ls (strip_prefix (codes " ") rest) vs e
+named_bytes hash f hb hf ls rest vs e = on_line_bytes (λ l. if_line_prints_value hash_line l (hash_read l)) f hash_of_bytes hf ls (strip_prefix (codes " ") rest) vs e
 named_bytes (array s) f hb hf ls rest vs e = below_bytes (block_read (array s)) f hb hf ls rest vs e
 named_bytes (object which fs) f hb hf ls rest vs e = below_bytes (block_read (object which fs)) f hb hf ls rest vs e
 
@@ -145,15 +145,15 @@ no_fields_bytes (l ∷ ls) vs e = absurd cc
 
 number_bytes : ReadsBytes (block_read number)
 unfolding block_read
-number_bytes ls v e = let (l, one) = only_ok (λ l. if_form int_line l (int_read l)) ls v e in int_of_bytes l v one
+number_bytes ls v e = let (l, one) = only_ok (λ l. if_line_prints_value int_line l (int_read l)) ls v e in int_of_bytes l v one
 
 text_bytes_read : ReadsBytes (block_read text)
 unfolding block_read
-text_bytes_read ls v e = let (l, one) = only_ok (λ l. if_form text_line l (text_read l)) ls v e in text_of_bytes l v one
+text_bytes_read ls v e = let (l, one) = only_ok (λ l. if_line_prints_value text_line l (text_read l)) ls v e in text_of_bytes l v one
 
 hash_bytes_read : ReadsBytes (block_read hash)
 unfolding block_read
-hash_bytes_read ls v e = let (l, one) = only_ok (λ l. if_form hash_line l (hash_read l)) ls v e in hash_of_bytes l v one
+hash_bytes_read ls v e = let (l, one) = only_ok (λ l. if_line_prints_value hash_line l (hash_read l)) ls v e in hash_of_bytes l v one
 
 mutual
   pub block_bytes : (s : Shape) → ReadsBytes (block_read s)

@@ -6,9 +6,9 @@ use Rattle.adb_values.specs.Drafts.{DraftState, draft_with, draft_with_all, draf
 use Rattle.base_core.specs.Lists.{and_then}
 use Rattle.adb_dump.specs.Dump.{Line}
 use Rattle.adb_dump.specs.Margin.{margin}
-use Rattle.adb_dump.specs.ReadBack.{ResultOrBadLine, after_lines, strip_prefix, stop_or_add, split_block, only_line, entry_read, after_dash, entries_read, arr_read, obj_read, field_on_line, field_below, if_named, block_read, named_read, fields_read}
-use Rattle.gen_core.specs.Cursors.{CursorState, after_block, after_line, at_entry, block_at, cursor_by, line_of_block, levels_after}
-use Rattle.gen_core.specs.Reads.{DraftOrBadLine, block_taken, end_read, entry_block_read, is_null_line, line_read, line_taken, values_taken, IsTextFault}
+use Rattle.adb_dump.specs.ReadBack.{ResultOrBadLine, after_lines, strip_prefix, end_block_or_add_line, split_block, single_line_value, entry_read, entries_after_dash, entries_read, arr_read, obj_read, field_on_line, field_with_value_below, if_named, block_read, named_read, fields_read}
+use Rattle.gen_core.specs.Cursors.{CursorState, cursor_after_block, cursor_after_line, cursor_at_entry, block_at, cursor_from_parts, line_of_block, margin_levels_after_block}
+use Rattle.gen_core.specs.Reads.{DraftOrBadLine, block_taken, end_or_bad_line, entry_block_read, is_null_line, line_read, draft_and_cursor_after_line, values_taken, IsTextFault}
 use Rattle.gen_core.specs.declared.generate.GenFault.{GenFault}
 use Rattle.gen_core.specs.declared.generate.GenFault.TheVariants.{Bad, TooLarge, Memory}
 use Rattle.gen_core.proofs.Blocks.{FirstLine, Inner, Split, first_line, inner_block, no_block}
@@ -78,8 +78,8 @@ none_taken s depth d c e =
     ap (λ (b : Split). block_taken (block_read s b.0) b d c) (no_block depth c.lines e)
     ∙ ap (λ (r : ResultOrBadLine Plain). block_taken r ([], c.lines) d c) (nothing_read s) ∙ number_plus_zero c.number
 
-same_place : (c : CursorState) → after_block ([], c.lines) c ≡ c
-same_place c = let e : c.number + 0 ≡ c.number = omega arith in ap (λ (n : ℕ). cursor_by c.lines n c.levels) e
+same_place : (c : CursorState) → cursor_after_block ([], c.lines) c ≡ c
+same_place c = let e : c.number + 0 ≡ c.number = omega arith in ap (λ (n : ℕ). cursor_from_parts c.lines n c.levels) e
 
 no_values : (r : List Line → ResultOrBadLine Plains) (depth : ℕ) (d : DraftState) (c : CursorState) → r [] ≡ Ok none → None ≡ line_of_block (block_at depth c.lines).0 → values_taken (r (block_at depth c.lines).0) (block_at depth c.lines) d c ≡ taken d c
 no_values r depth d c h e =
@@ -104,15 +104,15 @@ pub record CountsOnlyRise (block later : Split) (n : ℕ) (c new : CursorState) 
   pub lines : later.1 ≡ block.1
   pub number : new.number ≡ c.number + n
   pub count : n + length later.0 ≡ length block.0
-  pub levels : levels_after later.0 new.levels ≡ levels_after block.0 c.levels
+  pub levels : margin_levels_after_block later.0 new.levels ≡ margin_levels_after_block block.0 c.levels
 
 pub later_values : (block later : Split) (n : ℕ) (d : DraftState) (c new : CursorState) → CountsOnlyRise block later n c new → (v : Plain) (r : ResultOrBadLine Plains) → values_taken (after_lines n (more v) r) block d c ≡ values_taken r later (draft_with v d) new
 later_values block later n d c new g v (Ok vs) =
     let count : c.number + length block.0 ≡ new.number + length later.0 = omega (arith, g.number, g.count) in
     ap (λ (x : CursorState). taken (draft_with_all vs (draft_with v d)) x)
-    (ap (λ (ls : List Line). cursor_by ls (c.number + length block.0) (levels_after block.0 c.levels)) (sym g.lines)
-    ∙ ap (λ (k : ℕ). cursor_by later.1 k (levels_after block.0 c.levels)) count
-    ∙ ap (λ (k : ℕ). cursor_by later.1 (new.number + length later.0) k) (sym g.levels))
+    (ap (λ (ls : List Line). cursor_from_parts ls (c.number + length block.0) (margin_levels_after_block block.0 c.levels)) (sym g.lines)
+    ∙ ap (λ (k : ℕ). cursor_from_parts later.1 k (margin_levels_after_block block.0 c.levels)) count
+    ∙ ap (λ (k : ℕ). cursor_from_parts later.1 (new.number + length later.0) k) (sym g.levels))
 later_values block later n d c new g v (Err k) =
     let e : c.number + (n + k) ≡ new.number + k = omega (arith, g.number) in
     ap bad_at e
@@ -121,9 +121,9 @@ later_values block later n d c new g v (Err k) =
 
 -- the shape has one line
 abbrev pub HasOneLine : Shape → Type 0
-HasOneLine s = (ls : List Line) → block_read s ls ≡ only_line (line_read s) ls
+HasOneLine s = (ls : List Line) → block_read s ls ≡ single_line_value (line_read s) ls
 
-pub only_line_bad : (s : Shape) → HasOneLine s → (depth : ℕ) (line : Line) (d : DraftState) (c : CursorState) → Some line ≡ line_of_block (block_at depth c.lines).0 → (n : ℕ) → line_taken (line_read s line) d c ≡ bad_at n → block_taken (block_read s (block_at depth c.lines).0) (block_at depth c.lines) d c ≡ bad_at n
+pub only_line_bad : (s : Shape) → HasOneLine s → (depth : ℕ) (line : Line) (d : DraftState) (c : CursorState) → Some line ≡ line_of_block (block_at depth c.lines).0 → (n : ℕ) → draft_and_cursor_after_line (line_read s line) d c ≡ bad_at n → block_taken (block_read s (block_at depth c.lines).0) (block_at depth c.lines) d c ≡ bad_at n
 only_line_bad s h depth line d c e n bad =
     let f = first_line depth c.lines line e in
     let t = block_at depth f.others in
@@ -131,29 +131,29 @@ only_line_bad s h depth line d c e n bad =
     ∙ ap (λ (r : ResultOrBadLine Plain). block_taken r (line ∷ t.0, t.1) d c) (h (line ∷ t.0))
     ∙ go (line_read s line) t.0 t.1 bad
   where
-    go : (r : ResultOrBadLine Plain) (ls rest : List Line) → line_taken r d c ≡ bad_at n → block_taken (only_line (λ x. r) (line ∷ ls)) (line ∷ ls, rest) d c ≡ bad_at n
+    go : (r : ResultOrBadLine Plain) (ls rest : List Line) → draft_and_cursor_after_line r d c ≡ bad_at n → block_taken (single_line_value (λ x. r) (line ∷ ls)) (line ∷ ls, rest) d c ≡ bad_at n
     go (Ok v) ls rest e = absurd cc
     go (Err k) [] rest e = e
     go (Err k) (m ∷ ms) rest e = e
 
 -- a line was read as a value, and then the block has to end
-pub line_ends : (line : Line) (v : Plain) (d : DraftState) (c : CursorState) (others ls rest : List Line) → (None ≡ line_of_block ls → rest ≡ others) → (r : Result (Unit {0}) GenFault) → r ≡ end_read ls (c.number + 1)
-    → Answers r (block_taken (only_line (λ x. Ok v) (line ∷ ls)) (line ∷ ls, rest) d c) (draft_with v d) (cursor_by others (c.number + 1) 0)
-line_ends line v d c others [] rest same r is = subst (λ (r : Result (Unit {0}) GenFault). Answers r (block_taken (Ok v) (line ∷ [], rest) d c) (draft_with v d) (cursor_by others (c.number + 1) 0)) (sym is) (record { ok = ap (λ (ls : List Line). taken (draft_with v d) (cursor_by ls (c.number + 1) 0)) (same refl); err = tt })
-line_ends line v d c others (m ∷ ms) rest same r is = subst (λ (r : Result (Unit {0}) GenFault). Answers r (bad_at (c.number + 1)) (draft_with v d) (cursor_by others (c.number + 1) 0)) (sym is) (record { ok = tt; err = refl })
+pub line_ends : (line : Line) (v : Plain) (d : DraftState) (c : CursorState) (others ls rest : List Line) → (None ≡ line_of_block ls → rest ≡ others) → (r : Result (Unit {0}) GenFault) → r ≡ end_or_bad_line ls (c.number + 1)
+    → Answers r (block_taken (single_line_value (λ x. Ok v) (line ∷ ls)) (line ∷ ls, rest) d c) (draft_with v d) (cursor_from_parts others (c.number + 1) 0)
+line_ends line v d c others [] rest same r is = subst (λ (r : Result (Unit {0}) GenFault). Answers r (block_taken (Ok v) (line ∷ [], rest) d c) (draft_with v d) (cursor_from_parts others (c.number + 1) 0)) (sym is) (record { ok = ap (λ (ls : List Line). taken (draft_with v d) (cursor_from_parts ls (c.number + 1) 0)) (same refl); err = tt })
+line_ends line v d c others (m ∷ ms) rest same r is = subst (λ (r : Result (Unit {0}) GenFault). Answers r (bad_at (c.number + 1)) (draft_with v d) (cursor_from_parts others (c.number + 1) 0)) (sym is) (record { ok = tt; err = refl })
 
 -- the same, where the place is the one after the line
-pub place_ends : (depth : ℕ) (line : Line) (v : Plain) (d : DraftState) (c : CursorState) (f : FirstLine depth c.lines line) (r : Result (Unit {0}) GenFault) → r ≡ end_read (block_at depth (after_line c.lines c).lines).0 (after_line c.lines c).number
-    → Answers r (block_taken (only_line (λ x. Ok v) (line ∷ (block_at depth f.others).0)) (line ∷ (block_at depth f.others).0, (block_at depth f.others).1) d c) (draft_with v d) (after_line c.lines c)
+pub place_ends : (depth : ℕ) (line : Line) (v : Plain) (d : DraftState) (c : CursorState) (f : FirstLine depth c.lines line) (r : Result (Unit {0}) GenFault) → r ≡ end_or_bad_line (block_at depth (cursor_after_line c.lines c).lines).0 (cursor_after_line c.lines c).number
+    → Answers r (block_taken (single_line_value (λ x. Ok v) (line ∷ (block_at depth f.others).0)) (line ∷ (block_at depth f.others).0, (block_at depth f.others).1) d c) (draft_with v d) (cursor_after_line c.lines c)
 place_ends depth line v d c f r is =
     let t = block_at depth f.others in
-    let next : after_line c.lines c ≡ cursor_by f.others (c.number + 1) 0 = ap (λ (ls : List Line). after_line ls c) f.lines in
-    subst (λ (p : CursorState). r ≡ end_read (block_at depth p.lines).0 p.number → Answers r (block_taken (only_line (λ x. Ok v) (line ∷ t.0)) (line ∷ t.0, t.1) d c) (draft_with v d) p) (sym next)
+    let next : cursor_after_line c.lines c ≡ cursor_from_parts f.others (c.number + 1) 0 = ap (λ (ls : List Line). cursor_after_line ls c) f.lines in
+    subst (λ (p : CursorState). r ≡ end_or_bad_line (block_at depth p.lines).0 p.number → Answers r (block_taken (single_line_value (λ x. Ok v) (line ∷ t.0)) (line ∷ t.0, t.1) d c) (draft_with v d) p) (sym next)
     (line_ends line v d c f.others t.0 t.1 (λ none. ap (λ (b : Split). b.1) (no_block depth f.others none)) r) is
 
 -- the line is read, and then the block has to end
-pub only_line_ends : (s : Shape) → HasOneLine s → (depth : ℕ) (line : Line) (d : DraftState) (c : CursorState) → Some line ≡ line_of_block (block_at depth c.lines).0 → (later : Reading) → line_taken (line_read s line) d c ≡ Ok later
-    → (r : Result (Unit {0}) GenFault) → r ≡ end_read (block_at depth later.1.lines).0 later.1.number → Answers r (block_taken (block_read s (block_at depth c.lines).0) (block_at depth c.lines) d c) later.0 later.1
+pub only_line_ends : (s : Shape) → HasOneLine s → (depth : ℕ) (line : Line) (d : DraftState) (c : CursorState) → Some line ≡ line_of_block (block_at depth c.lines).0 → (later : Reading) → draft_and_cursor_after_line (line_read s line) d c ≡ Ok later
+    → (r : Result (Unit {0}) GenFault) → r ≡ end_or_bad_line (block_at depth later.1.lines).0 later.1.number → Answers r (block_taken (block_read s (block_at depth c.lines).0) (block_at depth c.lines) d c) later.0 later.1
 only_line_ends s h depth line d c e later ok r is =
     subst (λ (x : DraftOrBadLine). Answers r x later.0 later.1) (sym whole) (go (line_read s line) ok)
   where
@@ -163,14 +163,14 @@ only_line_ends s h depth line d c e later ok r is =
     t : Split
     t = block_at depth f.others
 
-    whole : block_taken (block_read s (block_at depth c.lines).0) (block_at depth c.lines) d c ≡ block_taken (only_line (line_read s) (line ∷ t.0)) (line ∷ t.0, t.1) d c
+    whole : block_taken (block_read s (block_at depth c.lines).0) (block_at depth c.lines) d c ≡ block_taken (single_line_value (line_read s) (line ∷ t.0)) (line ∷ t.0, t.1) d c
     whole = ap (λ (b : Split). block_taken (block_read s b.0) b d c) f.block ∙ ap (λ (x : ResultOrBadLine Plain). block_taken x (line ∷ t.0, t.1) d c) (h (line ∷ t.0))
 
-    go : (x : ResultOrBadLine Plain) → line_taken x d c ≡ Ok later → Answers r (block_taken (only_line (λ y. x) (line ∷ t.0)) (line ∷ t.0, t.1) d c) later.0 later.1
+    go : (x : ResultOrBadLine Plain) → draft_and_cursor_after_line x d c ≡ Ok later → Answers r (block_taken (single_line_value (λ y. x) (line ∷ t.0)) (line ∷ t.0, t.1) d c) later.0 later.1
     go (Err k) ok = absurd cc
     go (Ok v) ok =
-        subst (λ (p : Reading). r ≡ end_read (block_at depth p.1.lines).0 p.1.number → Answers r (block_taken (only_line (λ y. Ok v) (line ∷ t.0)) (line ∷ t.0, t.1) d c) p.0 p.1)
-        (one (draft_with v d, after_line c.lines c) later ok) (place_ends depth line v d c f r) is
+        subst (λ (p : Reading). r ≡ end_or_bad_line (block_at depth p.1.lines).0 p.1.number → Answers r (block_taken (single_line_value (λ y. Ok v) (line ∷ t.0)) (line ∷ t.0, t.1) d c) p.0 p.1)
+        (one (draft_with v d, cursor_after_line c.lines c) later ok) (place_ends depth line v d c f r) is
 
 -- ---- fields
 
@@ -205,10 +205,10 @@ pub some_first : (ls : List Line) (line : Line) → Some line ≡ line_of_block 
 some_first [] line e = absurd cc
 some_first (l ∷ ls) line e = omega arith
 
-pub fields_end : (depth : ℕ) (d : DraftState) (c : CursorState) (r : Result (Unit {0}) GenFault) → r ≡ end_read (block_at depth c.lines).0 c.number → Answers r (values_taken (fields_read no_fields (block_at depth c.lines).0) (block_at depth c.lines) d c) d c
+pub fields_end : (depth : ℕ) (d : DraftState) (c : CursorState) (r : Result (Unit {0}) GenFault) → r ≡ end_or_bad_line (block_at depth c.lines).0 c.number → Answers r (values_taken (fields_read no_fields (block_at depth c.lines).0) (block_at depth c.lines) d c) d c
 unfolding fields_read
 fields_end depth d c r is = go (block_at depth c.lines).0 (block_at depth c.lines).1 (λ none. ap (λ (b : Split). b.1) (no_block depth c.lines none)) is
   where
-    go : (ls rest : List Line) → (None ≡ line_of_block ls → rest ≡ c.lines) → r ≡ end_read ls c.number → Answers r (values_taken (fields_read no_fields ls) (ls, rest) d c) d c
-    go [] rest same is = subst (λ (r : Result (Unit {0}) GenFault). Answers r (values_taken (Ok none) ([], rest) d c) d c) (sym is) (record { ok = ap (λ (ls : List Line). taken d (after_block ([], ls) c)) (same refl) ∙ ap (λ (x : CursorState). taken d x) (same_place c); err = tt })
+    go : (ls rest : List Line) → (None ≡ line_of_block ls → rest ≡ c.lines) → r ≡ end_or_bad_line ls c.number → Answers r (values_taken (fields_read no_fields ls) (ls, rest) d c) d c
+    go [] rest same is = subst (λ (r : Result (Unit {0}) GenFault). Answers r (values_taken (Ok none) ([], rest) d c) d c) (sym is) (record { ok = ap (λ (ls : List Line). taken d (cursor_after_block ([], ls) c)) (same refl) ∙ ap (λ (x : CursorState). taken d x) (same_place c); err = tt })
     go (l ∷ ls) rest same is = subst (λ (r : Result (Unit {0}) GenFault). Answers r (bad_at (c.number + 0)) d c) (sym is) (record { ok = tt; err = number_plus_zero c.number })

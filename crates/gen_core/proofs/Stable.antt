@@ -4,7 +4,7 @@ use Rattle.std.specs.Prelude.{codes, bytes_eq}
 use Rattle.adb_view.specs.Plain.{Plain, Plains, null, none, more, Shape, number, text, hash, array, object, Fields, no_fields, field}
 use Rattle.base_core.specs.Lists.{and_then}
 use Rattle.adb_dump.specs.Dump.{Line, fields_lines, int_line, text_line, hash_line}
-use Rattle.adb_dump.specs.ReadBack.{ResultOrBadLine, after_lines, strip_prefix, stop_or_add, split_block, only_line, entry_read, after_dash, entries_read, arr_read, obj_read, field_on_line, field_below, if_form, if_named, block_read, named_read, fields_read, int_read, text_read, hash_read}
+use Rattle.adb_dump.specs.ReadBack.{ResultOrBadLine, after_lines, strip_prefix, end_block_or_add_line, split_block, single_line_value, entry_read, entries_after_dash, entries_read, arr_read, obj_read, field_on_line, field_with_value_below, if_line_prints_value, if_named, block_read, named_read, fields_read, int_read, text_read, hash_read}
 use Rattle.adb_dump.proofs.Booleans.{chosen}
 use Rattle.adb_dump.proofs.ReadOnly.{FieldsOnly, fields_only, some_line}
 use Rattle.gen_core.specs.Reads.{entry_block_read}
@@ -41,7 +41,7 @@ split_agree (suc n) (x ∷ xs) (y ∷ ys) a =
     subst (λ (l : Line). Inside (suc n) (split_block (x ∷ xs)) (split_block (l ∷ ys)) ⊎ Past (suc n) (split_block (x ∷ xs)) (split_block (l ∷ ys))) a.0 (go (strip_prefix (codes "  ") x) (split_agree n xs ys a.1))
   where
     go : (o : Option Line) → Inside n (split_block xs) (split_block ys) ⊎ Past n (split_block xs) (split_block ys)
-        → Inside (suc n) (stop_or_add x xs o (split_block xs)) (stop_or_add x ys o (split_block ys)) ⊎ Past (suc n) (stop_or_add x xs o (split_block xs)) (stop_or_add x ys o (split_block ys))
+        → Inside (suc n) (end_block_or_add_line x xs o (split_block xs)) (end_block_or_add_line x ys o (split_block ys)) ⊎ Past (suc n) (end_block_or_add_line x xs o (split_block xs)) (end_block_or_add_line x ys o (split_block ys))
     go None h = inr (record { left = suc n; count = omega arith; some = omega arith; same = refl; agree = (refl, a.1) })
     go (Some i) (inl h) = inl (record { le = omega (arith, h.le); agree = (refl, h.agree) })
     go (Some i) (inr h) = inr (record { left = h.left; count = omega (arith, h.count); some = h.some; same = ap (λ (ls : List Line). i ∷ ls) h.same; agree = h.agree })
@@ -64,12 +64,12 @@ value_number m n e = cc
 pub values_number : (m n : ℕ) → no_values m ≡ no_values n → m ≡ n
 values_number m n e = cc
 
-only_stable : (g : Line → ResultOrBadLine Plain) → IsStable (only_line g)
+only_stable : (g : Line → ResultOrBadLine Plain) → IsStable (single_line_value g)
 only_stable g [] ys k e a = absurd a
 only_stable g (x ∷ xs) [] k e a = absurd a
-only_stable g (x ∷ xs) (y ∷ ys) k e a = subst (λ (l : Line). only_line g (l ∷ ys) ≡ Err k) a.0 (go (g x) refl xs ys e a.1)
+only_stable g (x ∷ xs) (y ∷ ys) k e a = subst (λ (l : Line). single_line_value g (l ∷ ys) ≡ Err k) a.0 (go (g x) refl xs ys e a.1)
   where
-    go : (r : ResultOrBadLine Plain) → g x ≡ r → (xs ys : List Line) → only_line g (x ∷ xs) ≡ Err k → Agree k xs ys → only_line g (x ∷ ys) ≡ Err k
+    go : (r : ResultOrBadLine Plain) → g x ≡ r → (xs ys : List Line) → single_line_value g (x ∷ xs) ≡ Err k → Agree k xs ys → single_line_value g (x ∷ ys) ≡ Err k
     go r is [] [] e a = e
     go r is [] (m ∷ ms) e a = ap (λ (r : ResultOrBadLine Plain). and_then r (λ v. no_value 1)) e
     go (Err j) is (l ∷ ls) [] e a = is ∙ (sym (ap (λ (r : ResultOrBadLine Plain). and_then r (λ v. no_value 1)) is) ∙ e)
@@ -83,7 +83,7 @@ entry_stable f h [] ys k e a = absurd a
 entry_stable f h (x ∷ xs) [] k e a = absurd a
 entry_stable f h (x ∷ xs) (y ∷ ys) k e a = subst (λ (l : Line). entry_block_read f (l ∷ ys) ≡ Err k) a.0 (go (bytes_eq x (codes "null")) e)
   where
-    go : (word : Bool) → cond word (only_line (λ l. Ok null) (x ∷ xs)) (f (x ∷ xs)) ≡ no_value k → cond word (only_line (λ l. Ok null) (x ∷ ys)) (f (x ∷ ys)) ≡ no_value k
+    go : (word : Bool) → cond word (single_line_value (λ l. Ok null) (x ∷ xs)) (f (x ∷ xs)) ≡ no_value k → cond word (single_line_value (λ l. Ok null) (x ∷ ys)) (f (x ∷ ys)) ≡ no_value k
     go true e = only_stable (λ l. Ok null) (x ∷ xs) (x ∷ ys) k e (refl, a.1)
     go false e = h (x ∷ xs) (x ∷ ys) k e (refl, a.1)
 
@@ -95,7 +95,7 @@ later n v (Err j) k e = (j, refl, sym (values_number (n + j) k e))
 -- an entry, and those after it
 entry_step : (f : List Line → ResultOrBadLine Plain) → IsStable f → (g h : List Line → ResultOrBadLine Plains) (l : Line) (xs ys : List Line) (k : ℕ) → Agree k xs ys
     → ((j : ℕ) → g (split_block xs).1 ≡ Err j → Agree (suc j) (split_block xs).1 (split_block ys).1 → h (split_block ys).1 ≡ Err j)
-    → after_dash f g (split_block xs) (Some l) ≡ no_values k → after_dash f h (split_block ys) (Some l) ≡ no_values k
+    → entries_after_dash f g (split_block xs) (Some l) ≡ no_values k → entries_after_dash f h (split_block ys) (Some l) ≡ no_values k
 entry_step f s g h l xs ys k a next e = go (entry_read f l r.0) refl e
   where
     r : Split
@@ -108,7 +108,7 @@ entry_step f s g h l xs ys k a next e = go (entry_read f l r.0) refl e
     here j e is (inl i) = entry_stable f s (l ∷ r.0) (l ∷ q.0) k (e ∙ ap no_value is) (refl, i.agree)
     here j e is (inr p) = ap (entry_read f l) (sym p.same) ∙ e ∙ ap no_value is
 
-    beyond : (v : Plain) (j : ℕ) → entry_read f l r.0 ≡ Ok v → g r.1 ≡ Err j → k ≡ 1 + length r.0 + j → Inside k r q ⊎ Past k r q → after_dash f h q (Some l) ≡ no_values k
+    beyond : (v : Plain) (j : ℕ) → entry_read f l r.0 ≡ Ok v → g r.1 ≡ Err j → k ≡ 1 + length r.0 + j → Inside k r q ⊎ Past k r q → entries_after_dash f h q (Some l) ≡ no_values k
     beyond v j e bad is (inl i) = absurd (omega (arith, i.le, is))
     beyond v j e bad is (inr p) =
         let left : p.left ≡ suc j = omega (arith, p.count, is) in
@@ -118,7 +118,7 @@ entry_step f s g h l xs ys k a next e = go (entry_read f l r.0) refl e
         ap (λ (x : ResultOrBadLine Plain). and_then x (λ v. after_lines (1 + length q.0) (more v) (h q.1))) same
         ∙ ap (after_lines (1 + length q.0) (more v)) after ∙ ap no_values len
 
-    go : (x : ResultOrBadLine Plain) → entry_read f l r.0 ≡ x → and_then x (λ v. after_lines (1 + length r.0) (more v) (g r.1)) ≡ no_values k → after_dash f h q (Some l) ≡ no_values k
+    go : (x : ResultOrBadLine Plain) → entry_read f l r.0 ≡ x → and_then x (λ v. after_lines (1 + length r.0) (more v) (g r.1)) ≡ no_values k → entries_after_dash f h q (Some l) ≡ no_values k
     go (Err j) is e = ap (λ (x : ResultOrBadLine Plain). and_then x (λ v. after_lines (1 + length q.0) (more v) (h q.1))) (here j is (values_number j k e) (split_agree k xs ys a))
     go (Ok v) is e = let (j, bad, count) = later (1 + length r.0) v (g r.1) k e in beyond v j is bad count (split_agree k xs ys a)
 
@@ -132,7 +132,7 @@ entries_stable f s (suc n) (suc m) (x ∷ xs) (y ∷ ys) k a b e agree =
     (go (strip_prefix (codes "- ") x) (λ j bad more_agree. entries_stable f s n m (split_block xs).1 (split_block ys).1 j (omega (arith, a, split_count xs)) (omega (arith, b, split_count ys)) bad more_agree) e)
   where
     go : (o : Option Line) → ((j : ℕ) → entries_read f n (split_block xs).1 ≡ Err j → Agree (suc j) (split_block xs).1 (split_block ys).1 → entries_read f m (split_block ys).1 ≡ Err j)
-        → after_dash f (entries_read f n) (split_block xs) o ≡ no_values k → after_dash f (entries_read f m) (split_block ys) o ≡ no_values k
+        → entries_after_dash f (entries_read f n) (split_block xs) o ≡ no_values k → entries_after_dash f (entries_read f m) (split_block ys) o ≡ no_values k
     go None next e = e
     go (Some l) next e = entry_step f s (entries_read f n) (entries_read f m) l xs ys k agree.1 next e
 
@@ -190,7 +190,7 @@ on_line_stable g f s rest xs ys k a e = go (strip_prefix (codes " ") rest) e
     go None e = e
     go (Some l) e = then (g l) e
 
-below_stable : (b : List Line → ResultOrBadLine Plain) (f : List Line → ResultOrBadLine Plains) → IsStable b → IsStable f → StableNamed (λ ls rest. field_below b f (split_block ls) rest)
+below_stable : (b : List Line → ResultOrBadLine Plain) (f : List Line → ResultOrBadLine Plains) → IsStable b → IsStable f → StableNamed (λ ls rest. field_with_value_below b f (split_block ls) rest)
 below_stable b f sb sf (c ∷ cs) xs ys k a e = e
 below_stable b f sb sf [] xs ys k a e = go (b r.0) refl e
   where
@@ -200,7 +200,7 @@ below_stable b f sb sf [] xs ys k a e = go (b r.0) refl e
     q : Split
     q = split_block ys
 
-    here : (j : ℕ) → b r.0 ≡ Err j → 1 + j ≡ k → Inside k r q ⊎ Past k r q → field_below b f q [] ≡ no_values k
+    here : (j : ℕ) → b r.0 ≡ Err j → 1 + j ≡ k → Inside k r q ⊎ Past k r q → field_with_value_below b f q [] ≡ no_values k
     here j bad is (inl i) =
         let same : k ≡ suc j = omega (arith, is) in
         let agree : Agree (suc j) r.0 q.0 = subst (λ (n : ℕ). Agree n r.0 q.0) same i.agree in
@@ -208,7 +208,7 @@ below_stable b f sb sf [] xs ys k a e = go (b r.0) refl e
     here j bad is (inr p) =
         ap (λ (x : ResultOrBadLine Plain). and_then (after_lines 1 (λ v. v) x) (λ v. after_lines (1 + length q.0) (more v) (f q.1))) (ap b (sym p.same) ∙ bad) ∙ ap no_values is
 
-    beyond : (v : Plain) (j : ℕ) → b r.0 ≡ Ok v → f r.1 ≡ Err j → k ≡ 1 + length r.0 + j → Inside k r q ⊎ Past k r q → field_below b f q [] ≡ no_values k
+    beyond : (v : Plain) (j : ℕ) → b r.0 ≡ Ok v → f r.1 ≡ Err j → k ≡ 1 + length r.0 + j → Inside k r q ⊎ Past k r q → field_with_value_below b f q [] ≡ no_values k
     beyond v j ok bad is (inl i) = absurd (omega (arith, i.le, is))
     beyond v j ok bad is (inr p) =
         let left : p.left ≡ suc j = omega (arith, p.count, is) in
@@ -217,15 +217,15 @@ below_stable b f sb sf [] xs ys k a e = go (b r.0) refl e
         ap (λ (x : ResultOrBadLine Plain). and_then (after_lines 1 (λ v. v) x) (λ v. after_lines (1 + length q.0) (more v) (f q.1))) (ap b (sym p.same) ∙ ok)
         ∙ ap (after_lines (1 + length q.0) (more v)) after ∙ ap no_values len
 
-    go : (x : ResultOrBadLine Plain) → b r.0 ≡ x → and_then (after_lines 1 (λ v. v) x) (λ v. after_lines (1 + length r.0) (more v) (f r.1)) ≡ no_values k → field_below b f q [] ≡ no_values k
+    go : (x : ResultOrBadLine Plain) → b r.0 ≡ x → and_then (after_lines 1 (λ v. v) x) (λ v. after_lines (1 + length r.0) (more v) (f r.1)) ≡ no_values k → field_with_value_below b f q [] ≡ no_values k
     go (Err j) is e = here j is (values_number (1 + j) k e) (split_agree k xs ys a)
     go (Ok v) is e = let (j, bad, count) = later (1 + length r.0) v (f r.1) k e in beyond v j is bad count (split_agree k xs ys a)
 
 named_stable : (s : Shape) (f : List Line → ResultOrBadLine Plains) → IsStable (block_read s) → IsStable f → StableNamed (named_read s f)
 unfolding named_read block_read
-named_stable number f sb sf = on_line_stable (λ l. if_form int_line l (int_read l)) f sf
-named_stable text f sb sf = on_line_stable (λ l. if_form text_line l (text_read l)) f sf
-named_stable hash f sb sf = on_line_stable (λ l. if_form hash_line l (hash_read l)) f sf
+named_stable number f sb sf = on_line_stable (λ l. if_line_prints_value int_line l (int_read l)) f sf
+named_stable text f sb sf = on_line_stable (λ l. if_line_prints_value text_line l (text_read l)) f sf
+named_stable hash f sb sf = on_line_stable (λ l. if_line_prints_value hash_line l (hash_read l)) f sf
 named_stable (array s) f sb sf = below_stable (block_read (array s)) f sb sf
 named_stable (object which fs) f sb sf = below_stable (block_read (object which fs)) f sb sf
 
@@ -250,15 +250,15 @@ no_fields_stable (x ∷ xs) (y ∷ ys) k e a = e
 
 number_stable : IsStable (block_read number)
 unfolding block_read
-number_stable = only_stable (λ l. if_form int_line l (int_read l))
+number_stable = only_stable (λ l. if_line_prints_value int_line l (int_read l))
 
 text_stable : IsStable (block_read text)
 unfolding block_read
-text_stable = only_stable (λ l. if_form text_line l (text_read l))
+text_stable = only_stable (λ l. if_line_prints_value text_line l (text_read l))
 
 hash_stable : IsStable (block_read hash)
 unfolding block_read
-hash_stable = only_stable (λ l. if_form hash_line l (hash_read l))
+hash_stable = only_stable (λ l. if_line_prints_value hash_line l (hash_read l))
 
 mutual
   pub block_stable : (s : Shape) → IsStable (block_read s)

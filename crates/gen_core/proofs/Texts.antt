@@ -13,7 +13,7 @@ use Rattle.base_core.specs.Lists.{and_then}
 use Rattle.base_core.proofs.AtName.{is_name}
 use Rattle.adb_dump.specs.Dump.{Line, dump_lines, dump_text, schema_line, text_of, value_lines}
 use Rattle.adb_dump.specs.ReadBack.{ResultOrBadLine, add_char, split_lines, value_read}
-use Rattle.adb_dump.specs.Values.{IsOfBytes, IsValueOf}
+use Rattle.adb_dump.specs.Values.{IsOfBytes, IsNormalValueOfTable}
 use Rattle.adb_dump.proofs.Booleans.{chosen}
 use Rattle.adb_dump.proofs.ValueLaws.{only_values, read_back, text_split}
 use Rattle.adb_dump.proofs.TextLines.{line_first}
@@ -21,7 +21,7 @@ use Rattle.adb_view.specs.Schema.{shape_of}
 use Rattle.adb_view.specs.declared.tables.Kind.TheVariants.{Obj}
 use Rattle.gen_core.specs.Dumps.{IsRootValue}
 use Rattle.gen_core.proofs.ReadBytes.{block_bytes}
-use Rattle.gen_core.specs.Generated.{DumpedRoot, TextLines, dumped_root, root_of_lines, root_of_table, root_read, root_tables, table_of_line, text_lines, unless_rest, lines_with_byte, with_first_byte}
+use Rattle.gen_core.specs.Generated.{DumpedRoot, TextLines, dumped_root, root_of_lines, root_of_table, root_read, root_tables, table_of_line, text_lines, unless_unfinished_line, lines_with_byte, with_first_byte}
 
 -- ---- lines and texts
 
@@ -111,9 +111,9 @@ root_of_line l w e =
 
 -- ---- the root of a text
 
-split_same : (t : List ℕ) (ls : List Line) → text_lines t ≡ (ls, []) → dumped_root t ≡ and_then (root_of_lines ls) (unless_rest [] (length ls))
+split_same : (t : List ℕ) (ls : List Line) → text_lines t ≡ (ls, []) → dumped_root t ≡ and_then (root_of_lines ls) (unless_unfinished_line [] (length ls))
 unfolding dumped_root
-split_same t ls e = ap (λ (x : TextLines). and_then (root_of_lines x.0) (unless_rest x.1 (length x.0))) e
+split_same t ls e = ap (λ (x : TextLines). and_then (root_of_lines x.0) (unless_unfinished_line x.1 (length x.0))) e
 
 -- each dump is read as the root that it is of
 pub lines_are_read : (w : Which) (v : Plain) → IsRootValue w v → root_of_lines (dump_lines w v) ≡ Ok (record { which = w; value = v })
@@ -124,7 +124,7 @@ pub dump_is_read : (w : Which) (v : Plain) → IsRootValue w v → dumped_root (
 dump_is_read w v is =
     let lines : text_lines (dump_text w v) ≡ (dump_lines w v, []) = whole_lines (dump_text w v) (dump_lines w v) (text_split w v is.normal.0) in
     split_same (dump_text w v) (dump_lines w v) lines
-    ∙ ap (λ (r : Result DumpedRoot ℕ). and_then r (unless_rest [] (length (dump_lines w v)))) (lines_are_read w v is)
+    ∙ ap (λ (r : Result DumpedRoot ℕ). and_then r (unless_unfinished_line [] (length (dump_lines w v)))) (lines_are_read w v is)
 
 -- a value that is read is of bytes
 value_bytes : (w : Which) (ls : List Line) (v : Plain) → value_read w ls ≡ Ok v → IsOfBytes v
@@ -162,7 +162,7 @@ lines_of_root [] root ok = absurd cc
 lines_of_root (l ∷ ls) root ok = table_lines_of l ls (table_of_line l) root refl ok
 
 -- a text that is read is the dump of its root
-no_rest : (r : Result DumpedRoot ℕ) (rest : List ℕ) (n : ℕ) (root : DumpedRoot) → and_then r (unless_rest rest n) ≡ Ok root → (r ≡ Ok root) × (rest ≡ [])
+no_rest : (r : Result DumpedRoot ℕ) (rest : List ℕ) (n : ℕ) (root : DumpedRoot) → and_then r (unless_unfinished_line rest n) ≡ Ok root → (r ≡ Ok root) × (rest ≡ [])
 no_rest (Err k) rest n root e = absurd cc
 no_rest (Ok x) [] n root e = (e, refl)
 no_rest (Ok x) (c ∷ cs) n root e = absurd cc

@@ -4,7 +4,7 @@
 use Rattle.std.specs.Prelude.{ℕ, ◌+◌, List, [], ◌∷◌, ◌++◌, length, Option, Some, None}
 use Rattle.adb_dump.specs.Dump.{Line}
 use Rattle.adb_dump.specs.Margin.{margin}
-use Rattle.adb_dump.specs.ReadBack.{strip_prefix, stop_or_add}
+use Rattle.adb_dump.specs.ReadBack.{strip_prefix, end_block_or_add_line}
 use Rattle.gen_core.specs.Generated.{text_lines}
 
 -- a place in a text, at the beginning of a line
@@ -17,19 +17,19 @@ pub record CursorState : Type 0 where
   pub levels : ℕ
 
 -- a place by its parts
-abbrev pub cursor_by : List Line → ℕ → ℕ → CursorState
-cursor_by lines number levels = record { lines = lines; number = number; levels = levels }
+abbrev pub cursor_from_parts : List Line → ℕ → ℕ → CursorState
+cursor_from_parts lines number levels = record { lines = lines; number = number; levels = levels }
 
 -- the lines still to be read: the current one, with the levels of its margin that were read put back,
 -- and all lines after it that have their line ends
-abbrev pub lines_from : ℕ → Option Line → List ℕ → List Line
-lines_from levels None rest = []
-lines_from levels (Some l) rest = (margin levels ++ l) ∷ (text_lines rest).0
+abbrev pub lines_at_cursor : ℕ → Option Line → List ℕ → List Line
+lines_at_cursor levels None rest = []
+lines_at_cursor levels (Some l) rest = (margin levels ++ l) ∷ (text_lines rest).0
 
 -- how many line ends the line that is read has: one, if there is such a line
-abbrev pub ends_of_line : Option Line → ℕ
-ends_of_line None = 0
-ends_of_line (Some l) = 1
+abbrev pub line_end_count : Option Line → ℕ
+line_end_count None = 0
+line_end_count (Some l) = 1
 
 -- the first line of a block, if it has a line
 abbrev pub line_of_block : List Line → Option Line
@@ -40,25 +40,25 @@ line_of_block (l ∷ ls) = Some l
 -- and the lines after them
 abbrev pub block_at : ℕ → List Line → List Line × List Line
 block_at depth [] = ([], [])
-block_at depth (l ∷ ls) = stop_or_add l ls (strip_prefix (margin depth) l) (block_at depth ls)
+block_at depth (l ∷ ls) = end_block_or_add_line l ls (strip_prefix (margin depth) l) (block_at depth ls)
 
 -- how many levels were read of the line after a block: none, unless the block has no line
-abbrev pub levels_after : List Line → ℕ → ℕ
-levels_after [] levels = levels
-levels_after (l ∷ ls) levels = 0
+abbrev pub margin_levels_after_block : List Line → ℕ → ℕ
+margin_levels_after_block [] levels = levels
+margin_levels_after_block (l ∷ ls) levels = 0
 
 -- the place after a block
-abbrev pub after_block : List Line × List Line → CursorState → CursorState
-after_block block c =
-    cursor_by block.1 (c.number + length block.0) (levels_after block.0 c.levels)
+abbrev pub cursor_after_block : List Line × List Line → CursorState → CursorState
+cursor_after_block block c =
+    cursor_from_parts block.1 (c.number + length block.0) (margin_levels_after_block block.0 c.levels)
 
 -- the place after the line that is read; the same place if there is none
-abbrev pub after_line : List Line → CursorState → CursorState
-after_line [] c = c
-after_line (l ∷ ls) c = cursor_by ls (c.number + 1) 0
+abbrev pub cursor_after_line : List Line → CursorState → CursorState
+cursor_after_line [] c = c
+cursor_after_line (l ∷ ls) c = cursor_from_parts ls (c.number + 1) 0
 
 -- the place after the dash of an entry: the line counts as `entry` with a margin of this many levels, in
 -- the last of which the dash is
-abbrev pub at_entry : ℕ → Line → List Line → CursorState → CursorState
-at_entry levels entry [] c = c
-at_entry levels entry (l ∷ ls) c = cursor_by ((margin levels ++ entry) ∷ ls) c.number levels
+abbrev pub cursor_at_entry : ℕ → Line → List Line → CursorState → CursorState
+cursor_at_entry levels entry [] c = c
+cursor_at_entry levels entry (l ∷ ls) c = cursor_from_parts ((margin levels ++ entry) ∷ ls) c.number levels

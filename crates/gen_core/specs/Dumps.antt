@@ -6,7 +6,7 @@ use Rattle.adb_view.specs.Plain.{Plain}
 use Rattle.adb_view.specs.declared.tables.Which.{Which}
 use Rattle.adb_dump.specs.adb_schema.Soundness.{schema_word}
 use Rattle.adb_dump.specs.Dump.{Line, dump_lines}
-use Rattle.adb_dump.specs.Values.{IsOfBytes, IsValueOf}
+use Rattle.adb_dump.specs.Values.{IsOfBytes, IsNormalValueOfTable}
 use Rattle.gen_core.specs.Generated.{text_lines}
 
 -- a value of a root: a normal one of bytes, of one of the four tables that a root may have
@@ -14,7 +14,7 @@ pub record IsRootValue (which : Which) (value : Plain) : Type 0 where
   -- the table is that of a root
   pub root : IsSome (schema_word which)
   -- the value is a normal one of the table
-  pub normal : IsValueOf which value
+  pub normal : IsNormalValueOfTable which value
   -- the value is of bytes
   pub bytes : IsOfBytes value
 

@@ -7,7 +7,7 @@ use Rattle.adb_view.specs.Plain.{Plain}
 use Rattle.adb_view.specs.declared.tables.Which.{Which}
 use Rattle.adb_view.specs.declared.tables.Which.TheVariants.{Package, Index, Idb, Intent}
 use Rattle.adb_dump.specs.adb_schema.Soundness.{schema_word}
-use Rattle.adb_values.specs.adb_write.Canonical.{PayloadCounts, written_of}
+use Rattle.adb_values.specs.adb_write.Canonical.{PayloadCounts, payload_or_overflow}
 use Rattle.adb_values.specs.adb_write.File.{file_of}
 use Rattle.adb_dump.specs.Dump.{Line, schema_line}
 use Rattle.adb_dump.specs.ReadBack.{ResultOrBadLine, value_read}
@@ -70,15 +70,15 @@ root_of_lines [] = Err 1
 root_of_lines (l ∷ ls) = root_of_table (table_of_line l) ls
 
 -- the root, unless there are bytes after the last line end: they are the bad line after so many
-abbrev pub unless_rest : List ℕ → ℕ → DumpedRoot → Result DumpedRoot ℕ
-unless_rest [] lines root = Ok root
-unless_rest (c ∷ cs) lines root = Err (lines + 1)
+abbrev pub unless_unfinished_line : List ℕ → ℕ → DumpedRoot → Result DumpedRoot ℕ
+unless_unfinished_line [] lines root = Ok root
+unless_unfinished_line (c ∷ cs) lines root = Err (lines + 1)
 
 -- the root that a text says, or the number, from 1, of the first line that no dump has after the
 -- lines before it
 unfoldable pub dumped_root : List ℕ → Result DumpedRoot ℕ
 dumped_root text = let lines = text_lines text in
-    and_then (root_of_lines lines.0) (unless_rest lines.1 (length lines.0))
+    and_then (root_of_lines lines.0) (unless_unfinished_line lines.1 (length lines.0))
 
 -- ---- the container of a text
 
@@ -94,7 +94,7 @@ file_unless_too_large word (Err counts) = Err (TooLarge counts.0 counts.1)
 
 -- the container of a root, in its canonical layout; or the bad line
 abbrev pub file_of_root : Result DumpedRoot ℕ → Result (List ℕ) GenFault
-file_of_root (Ok root) = file_unless_too_large (word_of_root root.which) (written_of root.value)
+file_of_root (Ok root) = file_unless_too_large (word_of_root root.which) (payload_or_overflow root.value)
 file_of_root (Err line) = Err (Bad line)
 
 -- the container that is generated from a dump text; or what is reported: the first bad line, else the

@@ -8,8 +8,8 @@ use Rattle.adb_values.specs.adb_write.declared.writer.WriteFault.{WriteFault}
 use Rattle.adb_values.specs.adb_write.declared.writer.WriteFault.TheVariants as WriteFaults
 use Rattle.adb_values.specs.Drafts.{DraftState, draft_with, draft_with_all}
 use Rattle.adb_dump.specs.Dump.{Line, int_line, text_line, hash_line}
-use Rattle.adb_dump.specs.ReadBack.{ResultOrBadLine, entry_read, if_form, int_read, text_read, hash_read}
-use Rattle.gen_core.specs.Cursors.{CursorState, after_block, after_line}
+use Rattle.adb_dump.specs.ReadBack.{ResultOrBadLine, entry_read, if_line_prints_value, int_read, text_read, hash_read}
+use Rattle.gen_core.specs.Cursors.{CursorState, cursor_after_block, cursor_after_line}
 use Rattle.adb_view.specs.declared.tables.Which.{Which}
 use Rattle.gen_core.specs.Generated.{DumpedRoot, table_of_line}
 use Rattle.gen_core.specs.declared.generate.GenFault.{GenFault}
@@ -25,9 +25,9 @@ IsFormOf form false bytes l =
 
 -- the value of a shape that has one line; a shape of several lines has no such value
 abbrev pub line_read : Shape → Line → ResultOrBadLine Plain
-line_read number l = if_form int_line l (int_read l)
-line_read text l = if_form text_line l (text_read l)
-line_read hash l = if_form hash_line l (hash_read l)
+line_read number l = if_line_prints_value int_line l (int_read l)
+line_read text l = if_line_prints_value text_line l (text_read l)
+line_read hash l = if_line_prints_value hash_line l (hash_read l)
 line_read (array s) l = Err 0
 line_read (object schema fs) l = Err 0
 
@@ -44,20 +44,20 @@ abbrev pub DraftOrBadLine : Type 0
 DraftOrBadLine = Result (DraftState × CursorState) ℕ
 
 -- the line that is read is read as a value
-abbrev pub line_taken : ResultOrBadLine Plain → DraftState → CursorState → DraftOrBadLine
-line_taken (Ok v) d c = Ok (draft_with v d, after_line c.lines c)
-line_taken (Err k) d c = Err (c.number + k)
+abbrev pub draft_and_cursor_after_line : ResultOrBadLine Plain → DraftState → CursorState → DraftOrBadLine
+draft_and_cursor_after_line (Ok v) d c = Ok (draft_with v d, cursor_after_line c.lines c)
+draft_and_cursor_after_line (Err k) d c = Err (c.number + k)
 
 -- a block is read as a value
 abbrev pub block_taken :
     ResultOrBadLine Plain → List Line × List Line → DraftState → CursorState → DraftOrBadLine
-block_taken (Ok v) block d c = Ok (draft_with v d, after_block block c)
+block_taken (Ok v) block d c = Ok (draft_with v d, cursor_after_block block c)
 block_taken (Err k) block d c = Err (c.number + k)
 
 -- a block is read as values
 abbrev pub values_taken :
     ResultOrBadLine Plains → List Line × List Line → DraftState → CursorState → DraftOrBadLine
-values_taken (Ok vs) block d c = Ok (draft_with_all vs d, after_block block c)
+values_taken (Ok vs) block d c = Ok (draft_with_all vs d, cursor_after_block block c)
 values_taken (Err k) block d c = Err (c.number + k)
 
 -- a block is read as an entry of an array
@@ -71,9 +71,9 @@ is_null_line None = false
 is_null_line (Some l) = bytes_eq l (codes "null")
 
 -- nothing is left of a block; or its first line is bad
-abbrev pub end_read : List Line → ℕ → Result (Unit {0}) GenFault
-end_read [] n = Ok tt
-end_read (l ∷ ls) n = Err (Bad n)
+abbrev pub end_or_bad_line : List Line → ℕ → Result (Unit {0}) GenFault
+end_or_bad_line [] n = Ok tt
+end_or_bad_line (l ∷ ls) n = Err (Bad n)
 
 -- a fault is the bad line that reading comes to; out of memory may be reported at any place, and a
 -- payload that is too large is reported at the end of the text alone
@@ -95,9 +95,9 @@ has_rest [] = false
 has_rest (c ∷ cs) = true
 
 -- the table of the root, and a draft that has its value more; or the number of the first bad line
-abbrev pub root_taken : Result DumpedRoot ℕ → DraftState → Result (Which × DraftState) ℕ
-root_taken (Ok root) d = Ok (root.which, draft_with root.value d)
-root_taken (Err line) d = Err line
+abbrev pub table_and_draft_of_root : Result DumpedRoot ℕ → DraftState → Result (Which × DraftState) ℕ
+table_and_draft_of_root (Ok root) d = Ok (root.which, draft_with root.value d)
+table_and_draft_of_root (Err line) d = Err line
 
 -- the fault of a writer, as a fault of generating
 abbrev pub fault_of_writer : WriteFault → GenFault

@@ -6,7 +6,7 @@ ghost use Rattle.std.specs.Prelude.{◌≡◌, ◌+◌, ◌≤◌, ◌<◌, ◌^
 ghost use Rattle.adb_dump.specs.Margin.{margin};
 ghost use Rattle.adb_dump.specs.ReadBack.{strip_prefix};
 ghost use Rattle.gen_core.specs.declared.generate.GenFault.TheVariants.{Bad};
-ghost use Rattle.gen_core.specs.Cursors.{after_line, at_entry, block_at, cursor_by, line_of_block};
+ghost use Rattle.gen_core.specs.Cursors.{cursor_after_line, cursor_at_entry, block_at, cursor_from_parts, line_of_block};
 ghost use Rattle.gen_core.specs.Generated.{text_lines};
 
 use crate::generate::GenFault;
@@ -28,21 +28,21 @@ pub(crate) struct Cursor<'a> {
 
 impl<'a> Model for Cursor<'a> {
     ghost use Rattle.std.specs.Prelude.{◌+◌, ◌<◌, ◌^◌, length, option_copied};
-    ghost use Rattle.gen_core.specs.Cursors.{CursorState, cursor_by, ends_of_line, lines_from};
+    ghost use Rattle.gen_core.specs.Cursors.{CursorState, cursor_from_parts, line_end_count, lines_at_cursor};
 
     ghost Value = { CursorState };
 
-    ghost view = { λ c. cursor_by (lines_from c.levels (option_copied c.line) c.rest.now) c.number
+    ghost view = { λ c. cursor_from_parts (lines_at_cursor c.levels (option_copied c.line) c.rest.now) c.number
         c.levels };
 
-    ghost invariant = { λ c. c.number + ends_of_line (option_copied c.line) + length c.rest.now
+    ghost invariant = { λ c. c.number + line_end_count (option_copied c.line) + length c.rest.now
         < 2 ^ 64 };
 }
 
 impl<'a> Cursor<'a> {
     /// The beginning of a text.
     pub(crate) fn new(text: &'a [u8]) -> Cursor<'a>
-        ensures { result ≡ cursor_by (text_lines text.entry.now).0 1 0 }
+        ensures { result ≡ cursor_from_parts (text_lines text.entry.now).0 1 0 }
     {
         Cursor::at(text, 1)
     }
@@ -50,7 +50,7 @@ impl<'a> Cursor<'a> {
     /// The place at the beginning of these bytes, where the line has this number.
     fn at(text: &'a [u8], number: u64) -> Cursor<'a>
         requires { number + length text.now < 2 ^ 64 }
-        ensures { result ≡ cursor_by (text_lines text.entry.now).0 number 0 }
+        ensures { result ≡ cursor_from_parts (text_lines text.entry.now).0 number 0 }
     {
         match first_line(text) {
             Some((line, rest)) => Cursor {
@@ -70,7 +70,7 @@ impl<'a> Cursor<'a> {
 
     /// Goes to the next line.
     pub(crate) fn turn(&mut self)
-        ensures { self.new ≡ after_line self.old.lines self.old }
+        ensures { self.new ≡ cursor_after_line self.old.lines self.old }
     {
         if self.line.is_none() {
             return;
@@ -92,7 +92,7 @@ impl<'a> Cursor<'a> {
 
     /// Reads the dash of an entry, of whose line this is left: the line is then one of this depth.
     pub(crate) fn read_dash(&mut self, entry: &'a [u8], depth: u32)
-        ensures { self.new ≡ at_entry depth entry.entry.now self.old.lines self.old }
+        ensures { self.new ≡ cursor_at_entry depth entry.entry.now self.old.lines self.old }
     {
         if self.line.is_some() {
             self.line = Some(entry);

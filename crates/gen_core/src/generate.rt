@@ -3,9 +3,9 @@
 
 ghost use Rattle.std.specs.Prelude.{◌≡◌, IfErr, IfOk, OnOk, Ok, Err, Some, None};
 ghost use Rattle.gen_core.specs.declared.generate.GenFault.TheVariants.{Bad};
-ghost use Rattle.gen_core.specs.Cursors.{after_line};
+ghost use Rattle.gen_core.specs.Cursors.{cursor_after_line};
 ghost use Rattle.gen_core.specs.Generated.{IsGenFault, dumped_root, generated_file, table_of_line, text_lines, word_of_root};
-ghost use Rattle.gen_core.specs.Reads.{IsTextFault, fault_of_writer, has_rest, root_taken, table_read};
+ghost use Rattle.gen_core.specs.Reads.{IsTextFault, fault_of_writer, has_rest, table_and_draft_of_root, table_read};
 
 use crate::cursor::Cursor;
 use crate::read::read_root;
@@ -46,10 +46,10 @@ fn fault_of_writer(fault: WriteFault) -> GenFault
 
 /// Reads a text: the value of its root is added to the draft, and its table is the answer.
 fn read_text(alloc: Global, draft: &mut Draft, text: &[u8]) -> Result<Which, GenFault>
-    ensures ok { IfOk result (λ which. root_taken (dumped_root text.now) draft.old
+    ensures ok { IfOk result (λ which. table_and_draft_of_root (dumped_root text.now) draft.old
         ≡ Ok (which, draft.new)) }
     ensures err { IfErr result (λ fault. IsTextFault fault
-        (root_taken (dumped_root text.now) draft.old)) }
+        (table_and_draft_of_root (dumped_root text.now) draft.old)) }
 {
     let mut cursor = Cursor::new(text);
     let which = read_table(&mut cursor)?;
@@ -64,7 +64,7 @@ fn read_text(alloc: Global, draft: &mut Draft, text: &[u8]) -> Result<Which, Gen
 fn read_table(cursor: &mut Cursor<'_>) -> Result<Which, GenFault>
     requires { cursor.old.levels ≡ 0 }
     ensures ok { IfOk result (λ which. table_read cursor.old.lines ≡ Some which) }
-    ensures next { OnOk result (cursor.new ≡ after_line cursor.old.lines cursor.old) }
+    ensures next { OnOk result (cursor.new ≡ cursor_after_line cursor.old.lines cursor.old) }
     ensures err { IfErr result (λ fault. (fault ≡ Bad cursor.old.number)
         × (table_read cursor.old.lines ≡ None)) }
 {

@@ -12,7 +12,7 @@ ghost use Rattle.adb_dump.specs.Margin.{DEPTH_LIMIT};
 ghost use Rattle.adb_dump.specs.ReadBack.{ResultOrBadLine, block_read, entries_read, fields_read, named_read, strip_prefix, value_read};
 ghost use Rattle.adb_dump.specs.Words.{has_one_line};
 ghost use Rattle.gen_core.specs.Cursors.{block_at, line_of_block};
-ghost use Rattle.gen_core.specs.Reads.{IsLineRead, IsTextFault, block_taken, end_read, entry_block_read, is_null_line, line_read, line_taken, values_taken};
+ghost use Rattle.gen_core.specs.Reads.{IsLineRead, IsTextFault, block_taken, end_or_bad_line, entry_block_read, is_null_line, line_read, draft_and_cursor_after_line, values_taken};
 
 use crate::cursor::{Cursor, without_prefix};
 use crate::generate::GenFault;
@@ -101,10 +101,10 @@ fn read_line(
     kind: Kind,
     line: &[u8],
 ) -> Result<(), GenFault>
-    ensures ok { OnOk result (line_taken (line_read (shape_of kind) line.now) draft.old cursor.old
+    ensures ok { OnOk result (draft_and_cursor_after_line (line_read (shape_of kind) line.now) draft.old cursor.old
         ≡ Ok (draft.new, cursor.new)) }
     ensures err { IfErr result (λ fault. IsTextFault fault
-        (line_taken (line_read (shape_of kind) line.now) draft.old cursor.old)) }
+        (draft_and_cursor_after_line (line_read (shape_of kind) line.now) draft.old cursor.old)) }
 {
     if !read_value(draft, scratch, kind, line)? {
         return Err(cursor.bad_line());
@@ -155,7 +155,7 @@ fn read_value(
 /// Tests that no further line belongs to a block of this depth.
 fn end_block(cursor: &Cursor<'_>, depth: u32) -> Result<(), GenFault>
     requires { cursor.now.levels ≤ depth }
-    ensures { result ≡ end_read (block_at depth cursor.now.lines).0 cursor.now.number }
+    ensures { result ≡ end_or_bad_line (block_at depth cursor.now.lines).0 cursor.now.number }
 {
     match cursor.at_depth(depth) {
         Some(_) => Err(cursor.bad_line()),
@@ -341,6 +341,7 @@ fn read_named(
     value: &[u8],
     depth: u32,
 ) -> Result<(), GenFault>
+    // No more levels of the current line's indentation were read than the block has.
     requires within { cursor.old.levels ≤ depth }
     requires deep { depth + rank kind < DEPTH_LIMIT }
     requires some { 0 < length (block_at depth cursor.old.lines).0 }

@@ -5,11 +5,11 @@
 ghost use Rattle.std.specs.Prelude.{◌≡◌, ◌≢◌, ℕ, ◌<◌, ◌^◌, ◌++◌, IfOk, IfSome, IsTrue, ◌↔◌, MatchOption, codes, false, option_map};
 ghost use Rattle.std.specs.Fmt.{decimal};
 ghost use Rattle.hex.specs.Hex.{encode_lower};
-ghost use Rattle.adb_dump.specs.Dump.{begins_with_byte, is_printable, text_form};
+ghost use Rattle.adb_dump.specs.Dump.{begins_with_byte, is_printable, bare_or_quoted_text};
 ghost use Rattle.gen_core.specs.Reads.{IsFormOf};
 ghost use Rattle.gen_core.specs.Quoted.{escaped_at, hex_byte_at, hex_digit_value, unescaped_at, if_only_hex};
 
-use adb_dump::is_bare;
+use adb_dump::needs_no_quotes;
 use itoa::Buffer;
 use std::alloc::AllocError;
 
@@ -77,7 +77,7 @@ fn hex_digit(digit: u8) -> Option<u8>
 
 /// Reads the bytes of a text from its line into `bytes`; false if the line is that of no text.
 pub(crate) fn read_text(bytes: &mut Vec<u8>, line: &[u8]) -> Result<bool, AllocError>
-    ensures { IfOk result (λ is. IsFormOf text_form is bytes.new.items line.now) }
+    ensures { IfOk result (λ is. IsFormOf bare_or_quoted_text is bytes.new.items line.now) }
 {
     match line.split_first() {
         Some((b'"', quoted)) => read_quoted(bytes, quoted),
@@ -88,12 +88,12 @@ pub(crate) fn read_text(bytes: &mut Vec<u8>, line: &[u8]) -> Result<bool, AllocE
 /// Reads a text that is on its line as it is, without a quote in front.
 fn read_bare(bytes: &mut Vec<u8>, line: &[u8]) -> Result<bool, AllocError>
     requires { begins_with_byte 0x22 line.now ≡ false }
-    ensures { IfOk result (λ is. IsFormOf text_form is bytes.new.items line.now) }
+    ensures { IfOk result (λ is. IsFormOf bare_or_quoted_text is bytes.new.items line.now) }
 {
     if line.is_empty() {
         return Ok(false);
     }
-    if !is_bare(line) {
+    if !needs_no_quotes(line) {
         return Ok(false);
     }
     bytes.clear();
@@ -103,7 +103,7 @@ fn read_bare(bytes: &mut Vec<u8>, line: &[u8]) -> Result<bool, AllocError>
 
 /// Reads a text that is on its line between quotes, from after the first of them on.
 fn read_quoted(bytes: &mut Vec<u8>, quoted: &[u8]) -> Result<bool, AllocError>
-    ensures { IfOk result (λ is. IsFormOf text_form is bytes.new.items (codes "\"" ++ quoted.now)) }
+    ensures { IfOk result (λ is. IsFormOf bare_or_quoted_text is bytes.new.items (codes "\"" ++ quoted.now)) }
 {
     if is_quote(quoted) {
         return Ok(false);
@@ -117,7 +117,7 @@ fn read_quoted(bytes: &mut Vec<u8>, quoted: &[u8]) -> Result<bool, AllocError>
     if !is_quote(rest) {
         return Ok(false);
     }
-    Ok(!is_bare(bytes))
+    Ok(!needs_no_quotes(bytes))
 }
 
 /// Whether a text is the last quote of a line alone.

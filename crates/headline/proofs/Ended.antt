@@ -8,7 +8,7 @@ use Rattle.command_core.specs.declared.command.Applet.{Applet}
 use Rattle.run_lists.specs.journal_core.Recovery.{intent_name}
 use Rattle.run_lists.specs.journal_core.Staged.{unstaged_files}
 use Rattle.refusal_laws.specs.outcome.ChangeEnd.{IsRunEnd, TakesFirstSelection}
-use Rattle.refusal_laws.specs.outcome.Commands.{IsOutcomeOn}
+use Rattle.refusal_laws.specs.outcome.Commands.{IsOutcomeAfterRecovery}
 use Rattle.refusal_laws.specs.outcome.Effect.{Changes, does_recover, effect_of}
 use Rattle.refusal_laws.specs.outcome.Outcome.{Outcome, just_refusal}
 use Rattle.refusal_laws.specs.outcome.Recovers.{must_recover}
@@ -38,8 +38,8 @@ module _ (recovers : (applet : Applet) → does_recover (effect_of applet) ≡ m
     (bad : (words : List (List ℕ)) (command : CommandLine) (files : Files) (o : Outcome) (cause : Cause) → command_of words ≡ Ok command → IsTrue (must_recover command.applet)
     → fault_of_intent (files intent_name) ≡ Some cause → IsOutcome (command_of words) files o → o ≡ just_refusal files (IntentBad cause))
     (works : (words : List (List ℕ)) (command : CommandLine) (files : Files) (o : Outcome) → command_of words ≡ Ok command → IsTrue (must_recover command.applet)
-    → fault_of_intent (files intent_name) ≡ None → IsOutcome (command_of words) files o → IsOutcomeOn command (unstaged_files files) o)
-    (selected : (command : CommandLine) (files : Files) (o : Outcome) → effect_of command.applet ≡ Changes → IsOutcomeOn command files o → o.refusal ≡ None → command.flags.simulate ≡ false → HasFirstSelection command files)
+    → fault_of_intent (files intent_name) ≡ None → IsOutcome (command_of words) files o → IsOutcomeAfterRecovery command (unstaged_files files) o)
+    (selected : (command : CommandLine) (files : Files) (o : Outcome) → effect_of command.applet ≡ Changes → IsOutcomeAfterRecovery command files o → o.refusal ≡ None → command.flags.simulate ≡ false → HasFirstSelection command files)
     (ends : (words : List (List ℕ)) (command : CommandLine) (files : Files) (o : Outcome) → command_of words ≡ Ok command → effect_of command.applet ≡ Changes → IsOutcome (command_of words) files o → IsRunEnd command files o)
     (faults : (words : List (List ℕ)) (command : CommandLine) (files : Files) (o : Outcome) (refusal : Refusal) → command_of words ≡ Ok command → effect_of command.applet ≡ Changes
     → IsOutcome (command_of words) files o → o.refusal ≡ Some refusal → IsFaultOfRun command files refusal) where

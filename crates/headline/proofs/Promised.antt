@@ -1,6 +1,6 @@
 -- What a run recovers to, at each of its moments.
 use Rattle.std.proofs.Common.{◌≡◌, ◌⊎◌, inl, inr, ℕ, true, false, List, [], ◌∷◌, Ok, refl, subst, ◌∙◌}
-use Rattle.run_lists.specs.apk_front.Moments.{AnswersOutcome, IgnoresScratchOf, IsDurableState, MustLast}
+use Rattle.run_lists.specs.apk_front.Moments.{AnswersOutcome, IgnoresScratchOf, IsDurableState, MustOutcomeBeDurable}
 use Rattle.base_core.specs.Calls.{HoldsNow, IfObservable}
 use Rattle.base_core.specs.Undone.{IsDurable, IsCrashImage}
 use Rattle.base_core.specs.Files.{Files}
@@ -8,12 +8,12 @@ use Rattle.base_core.specs.Tree.{TreeState, files_of}
 use Rattle.command_core.specs.Command.{CommandLine}
 use Rattle.run_lists.specs.journal_core.Recovery.{EachCrashLeaves, StateDependsOn, intent_name}
 use Rattle.run_lists.proofs.journal_core.More.{states_same}
-use Rattle.refusal_laws.specs.outcome.Effect.{Changes, does_recover, effect_by, effect_of, output}
+use Rattle.refusal_laws.specs.outcome.Effect.{Changes, does_recover, effect_of_arguments, effect_of, output}
 use Rattle.refusal_laws.specs.outcome.Outcome.{Outcome}
 use Rattle.refusal_laws.specs.outcome.Words.{IsOutcome}
 use Rattle.refusal_laws.specs.words_core.Grammar.{command_of}
-use Rattle.run_lists.specs.Events.{Event, HasNoPendingRun, Reaches, ReachesWithoutCommit, ReachesOneState, IsRunWithoutCommit, IsOutcomeFrom, IsRunFrom, IsStopOf, Run, ignored_after, ignored_in, with_all_touched, with_scratch}
-use Rattle.run_lists.specs.Recovered.{ReachesWithoutBadIntent, HasStateBefore, HasStateBeforeOrOutcome, HasStateOf, IsRecoveredBy, LeavesNoBadIntent}
+use Rattle.run_lists.specs.Events.{Event, HasNoPendingRun, Reaches, ReachesWithoutCommit, ReachesOneState, IsRunWithoutCommit, IsOutcomeFrom, IsRunFrom, IsPossibleStop, Run, ignored_after, ignored_during_run, ignored_with_all_touched, ignored_with_scratch}
+use Rattle.run_lists.specs.Recovered.{ReachesWithoutBadIntent, HasStateBefore, HasStateBeforeOrOutcome, HasSameState, IsRecoveredBy, LeavesNoBadIntent}
 use Rattle.run_lists.specs.Safety.{HasOldOrOutcome, IsAtomicAfterAnyEvents, IsSafe, IsSafeAfterAnyEvents, LeavesOutcome}
 use Rattle.run_lists.proofs.AtMoments.{History}
 use Rattle.run_lists.proofs.Facts.{AreMore, Ignored}
@@ -27,12 +27,12 @@ use Rattle.headline.specs.Sentence.{EndsAsStated, HasGoodPast, IsAsPromised, IsA
 -- ---- from one moment on
 
 abbrev IsLeftAt : Ignored → TreeState → Type 0
-IsLeftAt names m = (w : TreeState) (later : List Event) (next : Run) → ReachesWithoutCommit m later w → IsRunFrom w next → does_recover (effect_by (command_of next.words)) ≡ true
-    → (image : Files) × IsCrashImage m image × IsRecoveredBy (HasStateOf (with_all_touched later names) image) w next
+IsLeftAt names m = (w : TreeState) (later : List Event) (next : Run) → ReachesWithoutCommit m later w → IsRunFrom w next → does_recover (effect_of_arguments (command_of next.words)) ≡ true
+    → (image : Files) × IsCrashImage m image × IsRecoveredBy (HasSameState (ignored_with_all_touched later names) image) w next
 
 -- a property of files that rests on their state alone, apart from some names
 record RestsOnState (HasState : Ignored → Files → Type 0) : Type 0 where
-  same : (names : Ignored) (a b : Files) → HasStateOf names b a → HasState names b → HasState names a
+  same : (names : Ignored) (a b : Files) → HasSameState names b a → HasState names b → HasState names a
   more : (few many : Ignored) → AreMore few many → (files : Files) → HasState few files → HasState many files
 
 recovers_to : (names : Ignored) (m : TreeState) → IsLeftAt names m → (HasState : Ignored → Files → Type 0) → RestsOnState HasState → ((image : Files) → IsCrashImage m image → HasState names image) → RootRecoversTo HasState names m
@@ -40,12 +40,12 @@ recovers_to names m left HasState rests crash = record {
   crash = crash;
   next = λ later w next seen is_run recovers.
       let at = left w later next seen is_run recovers in
-      let many = with_all_touched later names in
-      recovered_as (HasStateOf many at.0) (HasState many)
+      let many = ignored_with_all_touched later names in
+      recovered_as (HasSameState many at.0) (HasState many)
       (λ files is. rests.same many files at.0 is (rests.more names many (all_touched_more later names) at.0 (crash at.0 at.1))) w next at.2;
 }
 
-state_rests : (files : Files) → RestsOnState (λ names. HasStateOf names files)
+state_rests : (files : Files) → RestsOnState (λ names. HasSameState names files)
 state_rests files = record { same = λ names a b is has. is ∙ has; more = λ few many more a has. states_same few many more a files has }
 
 before_rests : (v : TreeState) → RestsOnState (λ names. HasStateBefore names v)
@@ -57,7 +57,7 @@ either_rests v run = record { same = λ names. state_on names v run; more = λ f
 old_rests : (v : TreeState) (run : Run) → RestsOnState (λ names. HasOldOrOutcome names v run)
 old_rests v run = record { same = same; more = more }
   where
-    same : (names : Ignored) (a b : Files) → HasStateOf names b a → HasOldOrOutcome names v run b → HasOldOrOutcome names v run a
+    same : (names : Ignored) (a b : Files) → HasSameState names b a → HasOldOrOutcome names v run b → HasOldOrOutcome names v run a
     same names a b is (inl old) = inl (is ∙ old)
     same names a b is (inr (o, one, commits, new)) = inr (o, one, commits, is ∙ new)
 
@@ -72,20 +72,20 @@ now_last (w ∷ rest) A B f a = f w refl a
 -- ---- after a list
 
 module _ (begins : (ignored : Ignored) (first v : TreeState) (events : List Event) (words : List (List ℕ)) → ignored intent_name ≡ false → IsDurable (StateDependsOn ignored) first → Reaches first events v
-    → IsDurable (StateDependsOn (with_scratch (output words) (ignored_after ignored events))) v × IgnoresScratchOf (output words) (with_scratch (output words) (ignored_after ignored events)))
+    → IsDurable (StateDependsOn (ignored_with_scratch (output words) (ignored_after ignored events))) v × IgnoresScratchOf (output words) (ignored_with_scratch (output words) (ignored_after ignored events)))
     (safe : (v : TreeState) (run : Run) → IsRunFrom v run → IsSafeAfterAnyEvents v run)
     (one_state : (ignored : Ignored) (first v : TreeState) (events : List Event) → ignored intent_name ≡ false → IsDurableState ignored (files_of first) first → ReachesOneState first events v → IsDurableState (ignored_after ignored events) (files_of v) v)
     (unbroken : (first v : TreeState) (events : List Event) → Reaches first events v → HasNoPendingRun events → ReachesOneState first events v)
     (left : (ignored : Ignored) (first v m w : TreeState) (events later : List Event) (run next : Run) → ignored intent_name ≡ false → IsDurable (StateDependsOn ignored) first → LeavesNoBadIntent first
-    → ReachesWithoutBadIntent first events v → IsRunFrom v run → IsStopOf run m → ReachesWithoutCommit m later w → IsRunFrom w next → does_recover (effect_by (command_of next.words)) ≡ true
-    → (image : Files) × IsCrashImage m image × IsRecoveredBy (HasStateOf (with_all_touched later (ignored_in run (ignored_after ignored events))) image) w next)
+    → ReachesWithoutBadIntent first events v → IsRunFrom v run → IsPossibleStop run m → ReachesWithoutCommit m later w → IsRunFrom w next → does_recover (effect_of_arguments (command_of next.words)) ≡ true
+    → (image : Files) × IsCrashImage m image × IsRecoveredBy (HasSameState (ignored_with_all_touched later (ignored_during_run run (ignored_after ignored events))) image) w next)
     (two : (ignored : Ignored) (v : TreeState) (run : Run) (files : Files) → EachCrashLeaves ignored (files_of v) v → HasStateBeforeOrOutcome ignored v run files → HasOldOrOutcome ignored v run files)
     (more_settled : (few many : Ignored) (files : Files) (v : TreeState) → AreMore few many → EachCrashLeaves few files v → EachCrashLeaves many files v)
     (unique : (words : List (List ℕ)) (files : Files) (a b : Outcome) → IsOutcome (command_of words) files a → IsOutcome (command_of words) files b → a ≡ b)
     (ended : (words : List (List ℕ)) (command : CommandLine) (files : Files) (o : Outcome) → command_of words ≡ Ok command → effect_of command.applet ≡ Changes → IsOutcome (command_of words) files o → EndsAsStated command files o)
     (v : TreeState) (run : Run) (is_run : IsRunFrom v run) (ignored : Ignored) (first : TreeState) (events : List Event) (past : HasGoodPast ignored first events v) where
   abbrev Names : Ignored
-  Names = ignored_in run (ignored_after ignored events)
+  Names = ignored_during_run run (ignored_after ignored events)
 
   seen : Reaches first events v
   seen = seen_plainly first v events past.seen
@@ -96,31 +96,31 @@ module _ (begins : (ignored : Ignored) (first v : TreeState) (events : List Even
   durable : IsDurable (StateDependsOn Names) v
   durable = (begins ignored first v events run.words past.counts past.durable seen).0
 
-  left_at : (m : TreeState) → IsStopOf run m → IsLeftAt Names m
+  left_at : (m : TreeState) → IsPossibleStop run m → IsLeftAt Names m
   left_at m stop w later next idly is_next recovers = left ignored first v m w events later run next past.counts past.durable past.good past.seen is_run stop idly is_next recovers
 
-  either : (m : TreeState) → IsStopOf run m → (image : Files) → IsCrashImage m image → HasStateBeforeOrOutcome Names v run image
+  either : (m : TreeState) → IsPossibleStop run m → (image : Files) → IsCrashImage m image → HasStateBeforeOrOutcome Names v run image
   either m (at, moment, torn) image is = left_state Names v run at (here.moments at moment) image (torn_image at m torn image is)
 
-  moments : (m : TreeState) → IsStopOf run m → RootRecoversTo (λ names. HasStateBeforeOrOutcome names v run) Names m
+  moments : (m : TreeState) → IsPossibleStop run m → RootRecoversTo (λ names. HasStateBeforeOrOutcome names v run) Names m
   moments m stop = recovers_to Names m (left_at m stop) (λ names. HasStateBeforeOrOutcome names v run) (either_rests v run) (either m stop)
 
-  one : EachCrashLeaves Names (files_of v) v → (m : TreeState) → IsStopOf run m → RootRecoversTo (λ names. HasOldOrOutcome names v run) Names m
+  one : EachCrashLeaves Names (files_of v) v → (m : TreeState) → IsPossibleStop run m → RootRecoversTo (λ names. HasOldOrOutcome names v run) Names m
   one settled m stop = recovers_to Names m (left_at m stop) (λ names. HasOldOrOutcome names v run) (old_rests v run) (λ image is. two Names v run image settled (either m stop image is))
 
-  kept : IsRunWithoutCommit v run → (m : TreeState) → IsStopOf run m → RootRecoversTo (λ names. HasStateBefore names v) Names m
+  kept : IsRunWithoutCommit v run → (m : TreeState) → IsPossibleStop run m → RootRecoversTo (λ names. HasStateBefore names v) Names m
   kept idle m (at, moment, torn) =
       recovers_to Names m (left_at m (at, moment, torn)) (λ names. HasStateBefore names v) (before_rests v)
       (λ image is. (idle_moment Names v run is_run durable idle at moment).quiet image (torn_image at m torn image is))
 
-  ends_settled : (o : Outcome) → IsOutcomeFrom v run o → MustLast (effect_by (command_of run.words)) Names v o → (w : TreeState) → LeavesOutcome (ignored_after ignored events) v run w → EachCrashLeaves Names o.files w
+  ends_settled : (o : Outcome) → IsOutcomeFrom v run o → MustOutcomeBeDurable (effect_of_arguments (command_of run.words)) Names v o → (w : TreeState) → LeavesOutcome (ignored_after ignored events) v run w → EachCrashLeaves Names o.files w
   ends_settled o is settles w leaves =
-      subst (λ (p : Outcome). (MustLast (effect_by (command_of run.words)) Names v p → EachCrashLeaves Names p.files w)) (unique run.words (files_of v) leaves.outcome o leaves.is_outcome is) leaves.settled settles
+      subst (λ (p : Outcome). (MustOutcomeBeDurable (effect_of_arguments (command_of run.words)) Names v p → EachCrashLeaves Names p.files w)) (unique run.words (files_of v) leaves.outcome o leaves.is_outcome is) leaves.settled settles
 
-  answered : AnswersOutcome run.answer → (o : Outcome) → IsOutcomeFrom v run o → MustLast (effect_by (command_of run.words)) Names v o → HoldsNow run.now (RootRecoversTo (λ names. HasStateOf names o.files) Names)
+  answered : AnswersOutcome run.answer → (o : Outcome) → IsOutcomeFrom v run o → MustOutcomeBeDurable (effect_of_arguments (command_of run.words)) Names v o → HoldsNow run.now (RootRecoversTo (λ names. HasSameState names o.files) Names)
   answered answers o is settles =
-      now_last run.now (LeavesOutcome (ignored_after ignored events) v run) (RootRecoversTo (λ names. HasStateOf names o.files) Names)
-      (λ w ends leaves. recovers_to Names w (left_at w (w, last_moment run v w is_run ends, torn_self w)) (λ names. HasStateOf names o.files) (state_rests o.files) (ends_settled o is settles w leaves))
+      now_last run.now (LeavesOutcome (ignored_after ignored events) v run) (RootRecoversTo (λ names. HasSameState names o.files) Names)
+      (λ w ends leaves. recovers_to Names w (left_at w (w, last_moment run v w is_run ends, torn_self w)) (λ names. HasSameState names o.files) (state_rests o.files) (ends_settled o is settles w leaves))
       (here.answered answers)
 
   to_one : ReachesOneState first events v ⊎ HasNoPendingRun events → ReachesOneState first events v

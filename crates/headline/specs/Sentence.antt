@@ -3,7 +3,7 @@
 -- (states), `outcome` (what a command comes to) and `refusal_laws` (what a refusal says).
 use Rattle.std.specs.Prelude.{◌≡◌, ◌⊎◌, ℕ, Bool, true, false, List, Some, None, Ok}
 use Rattle.run_lists.specs.apk_front.Answers.{IsAnswerOf, LeavesFiles}
-use Rattle.run_lists.specs.apk_front.Moments.{AnswersOutcome, IsDurableState, MustLast}
+use Rattle.run_lists.specs.apk_front.Moments.{AnswersOutcome, IsDurableState, MustOutcomeBeDurable}
 use Rattle.base_core.specs.Calls.{HoldsNow}
 use Rattle.base_core.specs.Undone.{IsDurable, IsCrashImage}
 use Rattle.base_core.specs.Faults.{HasCause}
@@ -13,13 +13,13 @@ use Rattle.command_core.specs.Command.{CommandLine}
 use Rattle.run_lists.specs.journal_core.Recovery.{EachCrashLeaves, StateDependsOn, intent_name}
 use Rattle.run_lists.specs.journal_core.Staged.{unstaged_files}
 use Rattle.refusal_laws.specs.outcome.ChangeEnd.{IsRunEnd, TakesFirstSelection}
-use Rattle.refusal_laws.specs.outcome.Effect.{Changes, does_recover, effect_by, effect_of}
+use Rattle.refusal_laws.specs.outcome.Effect.{Changes, does_recover, effect_of_arguments, effect_of}
 use Rattle.refusal_laws.specs.outcome.Outcome.{Outcome}
 use Rattle.refusal_laws.specs.RunFaults.{IsFaultOfRun}
 use Rattle.refusal_laws.specs.RunMade.{HasFirstSelection}
 use Rattle.report_core.specs.declared.refusal.Refusal.{Refusal}
-use Rattle.run_lists.specs.Events.{Event, HasNoPendingRun, ReachesWithoutCommit, ReachesOneState, IsRunWithoutCommit, IsOutcomeFrom, IsRunFrom, IsStopOf, Run, ignored_after, ignored_in, with_all_touched}
-use Rattle.run_lists.specs.Recovered.{ReachesWithoutBadIntent, HasStateBefore, HasStateBeforeOrOutcome, HasStateOf, IsRecoveredBy, LeavesNoBadIntent}
+use Rattle.run_lists.specs.Events.{Event, HasNoPendingRun, ReachesWithoutCommit, ReachesOneState, IsRunWithoutCommit, IsOutcomeFrom, IsRunFrom, IsPossibleStop, Run, ignored_after, ignored_during_run, ignored_with_all_touched}
+use Rattle.run_lists.specs.Recovered.{ReachesWithoutBadIntent, HasStateBefore, HasStateBeforeOrOutcome, HasSameState, IsRecoveredBy, LeavesNoBadIntent}
 use Rattle.run_lists.specs.Safety.{HasOldOrOutcome}
 use Rattle.refusal_laws.specs.words_core.Grammar.{command_of}
 
@@ -39,8 +39,8 @@ pub record RootRecoversTo (HasState : (List ℕ → Bool) → Files → Type 0) 
     (m : TreeState) : Type 0 where
   pub crash : (image : Files) → IsCrashImage m image → HasState ignored image
   pub next : (later : List Event) (w : TreeState) (next : Run) → ReachesWithoutCommit m later w
-      → IsRunFrom w next → does_recover (effect_by (command_of next.words)) ≡ true
-      → IsRecoveredBy (HasState (with_all_touched later ignored)) w next
+      → IsRunFrom w next → does_recover (effect_of_arguments (command_of next.words)) ≡ true
+      → IsRecoveredBy (HasState (ignored_with_all_touched later ignored)) w next
 
 -- A change is refused only for what is so, or because no selection satisfies the new world. Else the
 -- first preferred selection is carried out and reported. The packages are then just the selected ones,
@@ -56,21 +56,21 @@ pub record EndsAsStated (command : CommandLine) (files : Files) (o : Outcome) : 
 pub record IsAsPromised (ignored : List ℕ → Bool) (v : TreeState) (run : Run) : Type 0 where
   -- Suppose that the run ended, or was stopped at any moment, also inside a call. The root then recovers
   -- to a state from before the run, or to that of its outcome, which commits.
-  pub moments : (m : TreeState) → IsStopOf run m
+  pub moments : (m : TreeState) → IsPossibleStop run m
       → RootRecoversTo (λ names. HasStateBeforeOrOutcome names v run) ignored m
   -- Suppose that each crash before the run left the state of the files as read. The root then recovers
   -- to this state, or to that of the outcome, which commits.
-  pub one : EachCrashLeaves ignored (files_of v) v → (m : TreeState) → IsStopOf run m
+  pub one : EachCrashLeaves ignored (files_of v) v → (m : TreeState) → IsPossibleStop run m
       → RootRecoversTo (λ names. HasOldOrOutcome names v run) ignored m
   -- Suppose that the run answered by its outcome: Ok, a refusal, or a fault of an output stream. The root
   -- then recovers to the outcome's state, if this is made durable: the outcome commits, or each crash
   -- before the run left the state of the files as read, or an intent was found.
   pub answered : AnswersOutcome run.answer → (o : Outcome) → IsOutcomeFrom v run o
-      → MustLast (effect_by (command_of run.words)) ignored v o
-      → HoldsNow run.now (RootRecoversTo (λ names. HasStateOf names o.files) ignored)
+      → MustOutcomeBeDurable (effect_of_arguments (command_of run.words)) ignored v o
+      → HoldsNow run.now (RootRecoversTo (λ names. HasSameState names o.files) ignored)
   -- If the run is refused, runs out of memory, or commits nothing, the root recovers to a state from
   -- before the run.
-  pub left : IsRunWithoutCommit v run → (m : TreeState) → IsStopOf run m
+  pub left : IsRunWithoutCommit v run → (m : TreeState) → IsPossibleStop run m
       → RootRecoversTo (λ names. HasStateBefore names v) ignored m
   -- The answer, the printed bytes and the files left are the outcome's; or the run reports a fault of
   -- the tree or of an output stream, with its cause, or that it is out of memory.
@@ -88,7 +88,7 @@ abbrev pub IsAsPromisedAfterAnyEvents : TreeState → Run → Type 0
 IsAsPromisedAfterAnyEvents v run =
     (ignored : List ℕ → Bool) (first : TreeState) (events : List Event)
     → HasGoodPast ignored first events v
-    → IsAsPromised (ignored_in run (ignored_after ignored events)) v run
+    → IsAsPromised (ignored_during_run run (ignored_after ignored events)) v run
     × (IsDurableState ignored (files_of first) first
     → ReachesOneState first events v ⊎ HasNoPendingRun events
-    → EachCrashLeaves (ignored_in run (ignored_after ignored events)) (files_of v) v)
+    → EachCrashLeaves (ignored_during_run run (ignored_after ignored events)) (files_of v) v)

@@ -9,7 +9,7 @@ ghost use Rattle.base_core.specs.Files.{no_names};
 ghost use Rattle.base_core.specs.Sink.{sink_change, IsProperUse};
 ghost use Rattle.base_core.specs.Tree.{files_of};
 ghost use Rattle.headline.specs.Sentence.{IsAsPromisedAfterAnyEvents};
-ghost use Rattle.refusal_laws.specs.outcome.Effect.{Changes, effect_by, reads_only, depends_only_on_arguments};
+ghost use Rattle.refusal_laws.specs.outcome.Effect.{Changes, effect_of_arguments, reads_only, depends_only_on_arguments};
 ghost use Rattle.refusal_laws.specs.outcome.Words.{IsPossibleOutcome, IsOutcome};
 ghost use Rattle.run_lists.specs.Events.{IsRunFrom, Run};
 ghost use Rattle.refusal_laws.specs.words_core.Grammar.{command_of};
@@ -55,7 +55,7 @@ pub fn apk_as_promised<T: Tree, O: Sink, E: Sink>(
         (HasCause (T.counts tree.old) (T.counts tree.new)) result
         (sink_change O.bytes O.counts out.old out.new)
         (sink_change E.bytes E.counts err.old err.new) }
-    ensures asked { effect_by (command_of words.now) ≡ Changes
+    ensures asked { effect_of_arguments (command_of words.now) ≡ Changes
         → TargetsAreAcceptedThroughout T.accepts (T.history tree.old) (T.history tree.new) }
     ensures causes { HasCauses result (T.counts tree.old) (T.counts tree.new)
         (sink_change O.bytes O.counts out.old out.new)

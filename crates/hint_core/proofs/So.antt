@@ -11,10 +11,10 @@ use Rattle.adb_view.specs.declared.tables.Which.{Which}
 use Rattle.adb_view.specs.declared.tables.Which.TheVariants as Tables
 use Rattle.base_core.specs.declared.cause.Cause.{Cause}
 use Rattle.base_core.specs.declared.cause.Cause.TheVariants.{BadText, BlockOrder, CompatVersion, Compressed, DataOrder, DataSize, HashDiffers, NotAdb, Outside, Repeated, TextLine, TooLarge, Truncated, WrongKind, WrongSchema}
-use Rattle.dep_core.specs.Repositories.{Repository, is_blank_or_comment, repositories_from, repositories_of, repositories_on, repository_of, singleton, with_repositories, without_outer_blanks}
+use Rattle.dep_core.specs.Repositories.{Repository, is_blank_or_comment, repositories_from, repositories_of, repositories_on_line, repository_of, singleton, with_repositories_of_line, without_outer_blanks}
 use Rattle.dep_core.specs.World.{is_line_end, lines_of}
 use Rattle.pkg_core.specs.adb_schema.Soundness.{schema_word}
-use Rattle.pkg_core.specs.Whole.{root_of_schema}
+use Rattle.pkg_core.specs.Whole.{table_of_schema}
 use Rattle.pkg_core.specs.adb_schema.declared.read.TheConstants.{IDB_WORD, INDEX_WORD, INTENT_WORD, PACKAGE_WORD}
 use Rattle.report_core.specs.declared.refusal.Refusal.{Refusal}
 use Rattle.hint_core.specs.declared.find.PathAlone.TheVariants.{Path}
@@ -24,9 +24,9 @@ use Rattle.hint_core.specs.declared.hint.HintFile.{HintFile}
 use Rattle.hint_core.specs.declared.hint.Subject.{Subject}
 use Rattle.hint_core.specs.declared.hint.Subject.TheVariants.{Word, Information, Line, Database, AbsentDatabase}
 use Rattle.hint_core.specs.declared.hint.Subject.TheVariants as Subjects
-use Rattle.hint_core.specs.Hints.{absent_database, cause_hint, cause_of, field_hint, found_field, found_line, found_repository, found_schema, hint_of_cause, information_hint, subject_hint, subject_of, table_numbered, word_hint}
-use Rattle.hint_core.specs.Repositories.{on_line, path_alone, repository_at, repository_line_by}
-use Rattle.hint_core.specs.Truths.{HasPath, IsSo, NamesPlace}
+use Rattle.hint_core.specs.Hints.{absent_database_hint, cause_hint, cause_of, field_hint, field_hint_if_found, line_hint_if_found, repository_hint_if_found, schema_hint_if_found, hint_of_cause, information_hint, subject_hint, subject_of, table_numbered, word_hint}
+use Rattle.hint_core.specs.Repositories.{repository_from_line, path_alone, repository_at, repository_line_from_parts}
+use Rattle.hint_core.specs.Truths.{RepositoryHasPath, IsTrueHint, NamesFieldPlace}
 
 -- ---- lines, each without a line end
 
@@ -47,7 +47,7 @@ lines_alone (x ∷ text) =
       | false ↦ λ e. onto_alone x (slice_split is_line_end text) e (lines_alone text)
     ] refl
 
-read_alone : (line : List ℕ) → slice_split is_line_end line ≡ line ∷ [] → repositories_of line ≡ with_repositories 1 (repositories_on line) (Ok [])
+read_alone : (line : List ℕ) → slice_split is_line_end line ≡ line ∷ [] → repositories_of line ≡ with_repositories_of_line 1 (repositories_on_line line) (Ok [])
 unfolding repositories_of
 read_alone line alone = ap (repositories_from 1) alone
 
@@ -55,9 +55,9 @@ read_alone line alone = ap (repositories_from 1) alone
 
 -- a line between others: what it names is nothing, one repository, or bad
 data OnLine (line : List ℕ) : Type 0 where
-  skipped : repositories_on line ≡ Some [] → OnLine line
-  named : (found : Repository) → repositories_on line ≡ Some (found ∷ []) → OnLine line
-  bad : repositories_on line ≡ None → OnLine line
+  skipped : repositories_on_line line ≡ Some [] → OnLine line
+  named : (found : Repository) → repositories_on_line line ≡ Some (found ∷ []) → OnLine line
+  bad : repositories_on_line line ≡ None → OnLine line
 
 on_line_is : (line : List ℕ) → OnLine line
 on_line_is line =
@@ -84,7 +84,7 @@ named_later line text rest r n =
     let step : r.line - line ≡ suc (r.line - (line + 1)) = omega (arith, n.within) in
     record { within = omega (arith, n.within); alone = n.alone; found = n.found; more = n.more; at = ap (slice_get (text ∷ rest)) step ∙ n.at; named = n.named; path = n.path }
 
-named_here : (line : ℕ) (text : List ℕ) (rest : List (List ℕ)) (found : Repository) (more : List Repository) (r : RepositoryLine) → repositories_of text ≡ Ok (found ∷ more) → repository_line_by line found.path ≡ r → IsNamed line (text ∷ rest) r
+named_here : (line : ℕ) (text : List ℕ) (rest : List (List ℕ)) (found : Repository) (more : List Repository) (r : RepositoryLine) → repositories_of text ≡ Ok (found ∷ more) → repository_line_from_parts line found.path ≡ r → IsNamed line (text ∷ rest) r
 named_here line text rest found more r alone is =
     let same : line ≡ r.line = ap (λ (x : RepositoryLine). x.line) is in
     let none : r.line - line ≡ 0 = omega (arith, same) in
@@ -93,10 +93,10 @@ named_here line text rest found more r alone is =
 named_at : (number line : ℕ) (lines : List (List ℕ)) (r : RepositoryLine) → repository_at number line lines ≡ Some r → IsNamed line lines r
 named_at number line [] r e = absurd (none-some r e)
 named_at number line (text ∷ rest) r e =
-    elim (repositories_of text) as (λ o. repositories_of text ≡ o → on_line (path_alone o) number line (λ left. repository_at left (line + 1) rest) ≡ Some r → IsNamed line (text ∷ rest) r) [
+    elim (repositories_of text) as (λ o. repositories_of text ≡ o → repository_from_line (path_alone o) number line (λ left. repository_at left (line + 1) rest) ≡ Some r → IsNamed line (text ∷ rest) r) [
       | Err at ↦ λ o h. absurd (none-some r h)
       | Ok [] ↦ λ o h. named_later line text rest r (named_at number (line + 1) rest r h)
-      | Ok (found ∷ more) ↦ λ o h. elim (eqb number 1) as (λ b. cond b (Some (repository_line_by line found.path)) (repository_at (number - 1) (line + 1) rest) ≡ Some r → IsNamed line (text ∷ rest) r) [
+      | Ok (found ∷ more) ↦ λ o h. elim (eqb number 1) as (λ b. cond b (Some (repository_line_from_parts line found.path)) (repository_at (number - 1) (line + 1) rest) ≡ Some r → IsNamed line (text ∷ rest) r) [
         | true ↦ λ k. named_here line text rest found more r o (same_Some _ _ k)
         | false ↦ λ k. named_later line text rest r (named_at (number - 1) (line + 1) rest r k)
       ] h
@@ -106,7 +106,7 @@ named_at number line (text ∷ rest) r e =
 never : (line : ℕ) (lines : List (List ℕ)) (r : RepositoryLine) → repository_at 0 line lines ≡ Some r → ⊥
 never line [] r e = none-some r e
 never line (text ∷ rest) r e =
-    elim (repositories_of text) as (λ o. on_line (path_alone o) 0 line (λ left. repository_at left (line + 1) rest) ≡ Some r → ⊥) [
+    elim (repositories_of text) as (λ o. repository_from_line (path_alone o) 0 line (λ left. repository_at left (line + 1) rest) ≡ Some r → ⊥) [
       | Err at ↦ λ h. none-some r h
       | Ok [] ↦ λ h. never (line + 1) rest r h
       | Ok (found ∷ more) ↦ λ h. never (line + 1) rest r h
@@ -118,7 +118,7 @@ record IsBehind (found rs : List Repository) (rest : Result (List Repository) �
   are : rest ≡ Ok others
   joined : found ++ others ≡ rs
 
-behind : (k : ℕ) (found : List Repository) (rest : Result (List Repository) ℕ) (rs : List Repository) → with_repositories k (Some found) rest ≡ Ok rs → IsBehind found rs rest
+behind : (k : ℕ) (found : List Repository) (rest : Result (List Repository) ℕ) (rs : List Repository) → with_repositories_of_line k (Some found) rest ≡ Ok rs → IsBehind found rs rest
 behind k found (Ok others) rs h = record { others = others; are = refl; joined = cc }
 behind k found (Err at) rs h = absurd cc
 
@@ -133,7 +133,7 @@ one_before (suc (suc n)) line found others rest r e h is =
     let less : suc (suc n) - 1 - 1 ≡ n = omega arith in
     ap (path_at (found ∷ others)) step ∙ (ap (path_at others) (sym less) ∙ is)
 
-has_none : (k : ℕ) (rest : Result (List Repository) ℕ) (rs : List Repository) → with_repositories k None rest ≡ Ok rs → ⊥
+has_none : (k : ℕ) (rest : Result (List Repository) ℕ) (rs : List Repository) → with_repositories_of_line k None rest ≡ Ok rs → ⊥
 has_none k rest rs h = cc
 
 counted : (number line k : ℕ) (lines : List (List ℕ)) → AreAlone lines → (r : RepositoryLine) → repository_at number line lines ≡ Some r → (rs : List Repository) → repositories_from k lines ≡ Ok rs → path_at rs (number - 1) ≡ Some r.path
@@ -141,27 +141,27 @@ counted number line k [] a r e rs f = absurd (none-some r e)
 counted number line k (text ∷ rest) a r e rs f =
     elim (on_line_is text) [
       | skipped s ↦
-          let is : repositories_of text ≡ Ok [] = read_alone text a.0 ∙ ap (λ o. with_repositories 1 o (Ok [])) s in
-          let h : repository_at number (line + 1) rest ≡ Some r = sym (ap (λ o. on_line (path_alone o) number line (λ left. repository_at left (line + 1) rest)) is) ∙ e in
-          let b : IsBehind [] rs (repositories_from (k + 1) rest) = behind k [] (repositories_from (k + 1) rest) rs (sym (ap (λ o. with_repositories k o (repositories_from (k + 1) rest)) s) ∙ f) in
+          let is : repositories_of text ≡ Ok [] = read_alone text a.0 ∙ ap (λ o. with_repositories_of_line 1 o (Ok [])) s in
+          let h : repository_at number (line + 1) rest ≡ Some r = sym (ap (λ o. repository_from_line (path_alone o) number line (λ left. repository_at left (line + 1) rest)) is) ∙ e in
+          let b : IsBehind [] rs (repositories_from (k + 1) rest) = behind k [] (repositories_from (k + 1) rest) rs (sym (ap (λ o. with_repositories_of_line k o (repositories_from (k + 1) rest)) s) ∙ f) in
           counted number (line + 1) (k + 1) rest a.1 r h rs (b.are ∙ ap Ok b.joined)
       | named found s ↦
-          let is : repositories_of text ≡ Ok (found ∷ []) = read_alone text a.0 ∙ ap (λ o. with_repositories 1 o (Ok [])) s in
-          let h : on_line (Path found.path) number line (λ left. repository_at left (line + 1) rest) ≡ Some r = sym (ap (λ o. on_line (path_alone o) number line (λ left. repository_at left (line + 1) rest)) is) ∙ e in
-          let b : IsBehind (found ∷ []) rs (repositories_from (k + 1) rest) = behind k (found ∷ []) (repositories_from (k + 1) rest) rs (sym (ap (λ o. with_repositories k o (repositories_from (k + 1) rest)) s) ∙ f) in
-          ap (λ x. path_at x (number - 1)) (sym b.joined) ∙ elim (eqb number 1) as (λ t. eqb number 1 ≡ t → cond t (Some (repository_line_by line found.path)) (repository_at (number - 1) (line + 1) rest) ≡ Some r → path_at (found ∷ b.others) (number - 1) ≡ Some r.path) [
+          let is : repositories_of text ≡ Ok (found ∷ []) = read_alone text a.0 ∙ ap (λ o. with_repositories_of_line 1 o (Ok [])) s in
+          let h : repository_from_line (Path found.path) number line (λ left. repository_at left (line + 1) rest) ≡ Some r = sym (ap (λ o. repository_from_line (path_alone o) number line (λ left. repository_at left (line + 1) rest)) is) ∙ e in
+          let b : IsBehind (found ∷ []) rs (repositories_from (k + 1) rest) = behind k (found ∷ []) (repositories_from (k + 1) rest) rs (sym (ap (λ o. with_repositories_of_line k o (repositories_from (k + 1) rest)) s) ∙ f) in
+          ap (λ x. path_at x (number - 1)) (sym b.joined) ∙ elim (eqb number 1) as (λ t. eqb number 1 ≡ t → cond t (Some (repository_line_from_parts line found.path)) (repository_at (number - 1) (line + 1) rest) ≡ Some r → path_at (found ∷ b.others) (number - 1) ≡ Some r.path) [
             | true ↦ λ t y.
                 let one : number ≡ 1 = eqb-true number 1 t in
                 let none : number - 1 ≡ 0 = omega (arith, one) in
                 ap (path_at (found ∷ b.others)) none ∙ ap (option_map (λ (x : RepositoryLine). x.path)) y
             | false ↦ λ t y. one_before number line found b.others rest r t y (counted (number - 1) (line + 1) (k + 1) rest a.1 r y b.others b.are)
           ] refl h
-      | bad s ↦ absurd (has_none k (repositories_from (k + 1) rest) rs (sym (ap (λ o. with_repositories k o (repositories_from (k + 1) rest)) s) ∙ f))
+      | bad s ↦ absurd (has_none k (repositories_from (k + 1) rest) rs (sym (ap (λ o. with_repositories_of_line k o (repositories_from (k + 1) rest)) s) ∙ f))
     ]
 
 -- ---- the hints
 
-word_so : (words : List (List ℕ)) (refusal : Refusal) (found : Option (List ℕ)) (place : ℕ) (o : Option (List ℕ)) → subject_of refusal ≡ Word place → slice_get words (place - 1) ≡ o → IsSo words refusal found (word_hint place o)
+word_so : (words : List (List ℕ)) (refusal : Refusal) (found : Option (List ℕ)) (place : ℕ) (o : Option (List ℕ)) → subject_of refusal ≡ Word place → slice_get words (place - 1) ≡ o → IsTrueHint words refusal found (word_hint place o)
 word_so words refusal found place (Some word) s h = (inl s, h)
 word_so words refusal found place None s h = tt
 
@@ -170,29 +170,29 @@ past [] i h = omega arith
 past (x ∷ xs) zero h = absurd (none-some x (sym h))
 past (x ∷ xs) (suc i) h = let less = past xs i h in omega (arith, less)
 
-information_so : (words : List (List ℕ)) (refusal : Refusal) (found : Option (List ℕ)) (place : ℕ) (o : Option (List ℕ)) → subject_of refusal ≡ Information place → slice_get words (place - 1) ≡ o → IsSo words refusal found (information_hint place o)
+information_so : (words : List (List ℕ)) (refusal : Refusal) (found : Option (List ℕ)) (place : ℕ) (o : Option (List ℕ)) → subject_of refusal ≡ Information place → slice_get words (place - 1) ≡ o → IsTrueHint words refusal found (information_hint place o)
 information_so words refusal found place (Some word) s h = (inr s, h)
 information_so words refusal found place None s h = (s, past words (place - 1) h)
 
-has_path : (text : List ℕ) (number : ℕ) (r : RepositoryLine) → repository_at number 1 (lines_of text) ≡ Some r → HasPath text number r.path
+has_path : (text : List ℕ) (number : ℕ) (r : RepositoryLine) → repository_at number 1 (lines_of text) ≡ Some r → RepositoryHasPath text number r.path
 unfolding repositories_of
 has_path text number r h = λ rs f. counted number 1 1 (lines_of text) (lines_alone text) r h rs f
 
-repository_so : (words : List (List ℕ)) (refusal : Refusal) (text : List ℕ) (number : ℕ) (o : Option RepositoryLine) → subject_of refusal ≡ Subjects.Repository number → repository_at number 1 (lines_of text) ≡ o → IsSo words refusal (Some text) (found_repository number o)
+repository_so : (words : List (List ℕ)) (refusal : Refusal) (text : List ℕ) (number : ℕ) (o : Option RepositoryLine) → subject_of refusal ≡ Subjects.Repository number → repository_at number 1 (lines_of text) ≡ o → IsTrueHint words refusal (Some text) (repository_hint_if_found number o)
 repository_so words refusal text number None s h = tt
 repository_so words refusal text number (Some r) s h =
     let n = named_at number 1 (lines_of text) r h in
     (s, text, refl, has_path text number r h, (n.alone, n.found, n.more, n.at, n.named, n.path))
 
-line_so : (words : List (List ℕ)) (refusal : Refusal) (whole : List ℕ) (file : HintFile) (line : ℕ) (o : Option (List ℕ)) → subject_of refusal ≡ Line file line → slice_get (lines_of whole) (line - 1) ≡ o → IsSo words refusal (Some whole) (found_line file line o)
+line_so : (words : List (List ℕ)) (refusal : Refusal) (whole : List ℕ) (file : HintFile) (line : ℕ) (o : Option (List ℕ)) → subject_of refusal ≡ Line file line → slice_get (lines_of whole) (line - 1) ≡ o → IsTrueHint words refusal (Some whole) (line_hint_if_found file line o)
 line_so words refusal whole file line None s h = tt
 line_so words refusal whole file line (Some text) s h = (s, whole, refl, h)
 
-absent_so : (words : List (List ℕ)) (refusal : Refusal) (found : Option (List ℕ)) → subject_of refusal ≡ AbsentDatabase → IsSo words refusal found (absent_database (is_some found))
+absent_so : (words : List (List ℕ)) (refusal : Refusal) (found : Option (List ℕ)) → subject_of refusal ≡ AbsentDatabase → IsTrueHint words refusal found (absent_database_hint (is_some found))
 absent_so words refusal (Some file) s = tt
 absent_so words refusal None s = (s, refl)
 
-pub subject_so : (words : List (List ℕ)) (refusal : Refusal) (found : Option (List ℕ)) (subject : Subject) → subject_of refusal ≡ subject → IsSo words refusal found (subject_hint words found subject)
+pub subject_so : (words : List (List ℕ)) (refusal : Refusal) (found : Option (List ℕ)) (subject : Subject) → subject_of refusal ≡ subject → IsTrueHint words refusal found (subject_hint words found subject)
 subject_so words refusal found (Word place) s = word_so words refusal found place (slice_get words (place - 1)) s refl
 subject_so words refusal found (Information place) s = information_so words refusal found place (slice_get words (place - 1)) s refl
 subject_so words refusal None (Subjects.Repository number) s = tt
@@ -226,16 +226,16 @@ table_is n which h =
     (numbered n 9 Tables.Idb which _ refl
     (numbered n 10 Tables.Intent which _ refl (λ e. absurd (none-some which e))))))))))) h
 
-field_so : (words : List (List ℕ)) (refusal : Refusal) (found : Option (List ℕ)) (place : ℕ) (which : Which) (o : Option Field) → NamesPlace refusal place → table_number which ≡ place / 100 → eqb (place % 100) 0 ≡ false → slice_get (table which) (place % 100 - 1) ≡ o → IsSo words refusal found (found_field place which o)
+field_so : (words : List (List ℕ)) (refusal : Refusal) (found : Option (List ℕ)) (place : ℕ) (which : Which) (o : Option Field) → NamesFieldPlace refusal place → table_number which ≡ place / 100 → eqb (place % 100) 0 ≡ false → slice_get (table which) (place % 100 - 1) ≡ o → IsTrueHint words refusal found (field_hint_if_found place which o)
 field_so words refusal found place which None p s e h = tt
 field_so words refusal found place which (Some field) p s e h =
     let some : place % 100 ≢ 0 = λ none. false≢true (sym e ∙ eq-eqb (place % 100) 0 none) in
     (p, place % 100, omega (arith, s), omega (arith, some), (field, h, refl))
 
-table_so : (words : List (List ℕ)) (refusal : Refusal) (found : Option (List ℕ)) (place : ℕ) (o : Option Which) → NamesPlace refusal place → table_numbered (place / 100) ≡ o → IsSo words refusal found (field_hint place o)
+table_so : (words : List (List ℕ)) (refusal : Refusal) (found : Option (List ℕ)) (place : ℕ) (o : Option Which) → NamesFieldPlace refusal place → table_numbered (place / 100) ≡ o → IsTrueHint words refusal found (field_hint place o)
 table_so words refusal found place None p h = tt
 table_so words refusal found place (Some which) p h =
-    elim (eqb (place % 100) 0) as (λ b. eqb (place % 100) 0 ≡ b → IsSo words refusal found (cond b Hinted.Nothing (found_field place which (slice_get (table which) (place % 100 - 1))))) [
+    elim (eqb (place % 100) 0) as (λ b. eqb (place % 100) 0 ≡ b → IsTrueHint words refusal found (cond b Hinted.Nothing (field_hint_if_found place which (slice_get (table which) (place % 100 - 1))))) [
       | true ↦ λ e. tt
       | false ↦ λ e. field_so words refusal found place which _ p (table_is (place / 100) which h) e refl
     ] refl
@@ -249,7 +249,7 @@ with_schema n k t which rest s later h =
       | false ↦ λ e y. later y
     ] refl h
 
-schema_is : (n : ℕ) (which : Which) → root_of_schema n ≡ Some which → schema_word which ≡ Some n
+schema_is : (n : ℕ) (which : Which) → table_of_schema n ≡ Some which → schema_word which ≡ Some n
 schema_is n which h =
     with_schema n PACKAGE_WORD Tables.Package which _ refl
     (with_schema n INDEX_WORD Tables.Index which _ refl
@@ -257,10 +257,10 @@ schema_is n which h =
     (with_schema n INTENT_WORD Tables.Intent which _ refl (λ e. absurd (none-some which e))))) h
 
 -- the word of a table is the schema of no other
-not_of : (word n : ℕ) (which : Which) → root_of_schema word ≡ Some which → Some word ≡ Some n → root_of_schema n ≡ None → ⊥
-not_of word n which known same none = none-some which (sym none ∙ (ap root_of_schema (sym (same_Some _ _ same)) ∙ known))
+not_of : (word n : ℕ) (which : Which) → table_of_schema word ≡ Some which → Some word ≡ Some n → table_of_schema n ≡ None → ⊥
+not_of word n which known same none = none-some which (sym none ∙ (ap table_of_schema (sym (same_Some _ _ same)) ∙ known))
 
-no_schema : (which : Which) (n : ℕ) → schema_word which ≡ Some n → root_of_schema n ≡ None → ⊥
+no_schema : (which : Which) (n : ℕ) → schema_word which ≡ Some n → table_of_schema n ≡ None → ⊥
 no_schema Tables.Dep n is none = none-some n is
 no_schema Tables.Acl n is none = none-some n is
 no_schema Tables.PkgInfo n is none = none-some n is
@@ -272,16 +272,16 @@ no_schema Tables.Index n is none = not_of INDEX_WORD n Tables.Index refl is none
 no_schema Tables.Idb n is none = not_of IDB_WORD n Tables.Idb refl is none
 no_schema Tables.Intent n is none = not_of INTENT_WORD n Tables.Intent refl is none
 
-schema_so : (words : List (List ℕ)) (refusal : Refusal) (found : Option (List ℕ)) (schema : ℕ) (o : Option Which) → cause_of refusal ≡ Some (WrongSchema schema) → root_of_schema schema ≡ o → IsSo words refusal found (found_schema o)
+schema_so : (words : List (List ℕ)) (refusal : Refusal) (found : Option (List ℕ)) (schema : ℕ) (o : Option Which) → cause_of refusal ≡ Some (WrongSchema schema) → table_of_schema schema ≡ o → IsTrueHint words refusal found (schema_hint_if_found o)
 schema_so words refusal found schema None c h = (schema, c, λ which is. no_schema which schema is h)
 schema_so words refusal found schema (Some which) c h = (schema, c, schema_is schema which h)
 
 -- ---- the cause
 
-hint_so : (words : List (List ℕ)) (refusal : Refusal) (found : Option (List ℕ)) (cause : Cause) → cause_of refusal ≡ Some cause → IsSo words refusal found (hint_of_cause cause)
+hint_so : (words : List (List ℕ)) (refusal : Refusal) (found : Option (List ℕ)) (cause : Cause) → cause_of refusal ≡ Some cause → IsTrueHint words refusal found (hint_of_cause cause)
 hint_so words refusal found (BadText place) c = table_so words refusal found place (table_numbered (place / 100)) (BadText place, c, refl) refl
 hint_so words refusal found (Repeated place first second) c = table_so words refusal found place (table_numbered (place / 100)) (Repeated place first second, c, refl) refl
-hint_so words refusal found (WrongSchema schema) c = schema_so words refusal found schema (root_of_schema schema) c refl
+hint_so words refusal found (WrongSchema schema) c = schema_so words refusal found schema (table_of_schema schema) c refl
 hint_so words refusal found NotAdb c = tt
 hint_so words refusal found Compressed c = tt
 hint_so words refusal found (Truncated at) c = tt
@@ -295,6 +295,6 @@ hint_so words refusal found (DataSize expected other) c = tt
 hint_so words refusal found (HashDiffers expected other) c = tt
 hint_so words refusal found (TextLine line) c = tt
 
-pub cause_so : (words : List (List ℕ)) (refusal : Refusal) (found : Option (List ℕ)) (o : Option Cause) → cause_of refusal ≡ o → IsSo words refusal found (cause_hint o)
+pub cause_so : (words : List (List ℕ)) (refusal : Refusal) (found : Option (List ℕ)) (o : Option Cause) → cause_of refusal ≡ o → IsTrueHint words refusal found (cause_hint o)
 cause_so words refusal found None c = tt
 cause_so words refusal found (Some cause) c = hint_so words refusal found cause c

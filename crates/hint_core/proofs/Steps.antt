@@ -17,7 +17,7 @@ use Rattle.hint_core.specs.declared.telling.HintFault.{HintFault}
 use Rattle.hint_core.specs.declared.telling.HintFault.TheVariants.{Disk, Memory, Sink}
 use Rattle.hint_core.specs.Hints.{hints_of, is_explained}
 use Rattle.hint_core.specs.Lines.{hint_lines, printed_byte, printed_bytes}
-use Rattle.hint_core.specs.Told.{IsFoundIfNamed, IsNoDisk, Tells, lines_told}
+use Rattle.hint_core.specs.Told.{IsFoundIfNamed, IsNotDiskFault, Tells, hint_lines_after_refusal}
 
 pub printed_chain : Chains printed_bytes
 printed_chain [] b = refl
@@ -49,10 +49,10 @@ is_found_now (v ∷ earlier) (Some name) = refl
 pub tells_nothing : {T E : Type 0} (lines : List ℕ) (told : Option (List ℕ)) (before after : Counts) (fault : E) → Tells {T = T} lines (Between told before told after) (Err fault)
 tells_nothing lines told before after fault = record { ok = tt; err = record { front = []; rest = lines; whole = refl; added = Adds-none told } }
 
-pub silent : (words : List (List ℕ)) (refusal : Refusal) (found : Option (List ℕ)) → is_explained (command_of words) ≡ false → lines_told words refusal found ≡ []
+pub silent : (words : List (List ℕ)) (refusal : Refusal) (found : Option (List ℕ)) → is_explained (command_of words) ≡ false → hint_lines_after_refusal words refusal found ≡ []
 silent words refusal found own = ap (λ b. if b then hint_lines (hints_of words refusal found) else []) own
 
-pub told_all : (words : List (List ℕ)) (refusal : Refusal) (found : Option (List ℕ)) → is_explained (command_of words) ≡ true → lines_told words refusal found ≡ hint_lines (hints_of words refusal found)
+pub told_all : (words : List (List ℕ)) (refusal : Refusal) (found : Option (List ℕ)) → is_explained (command_of words) ≡ true → hint_lines_after_refusal words refusal found ≡ hint_lines (hints_of words refusal found)
 told_all words refusal found own = ap (λ b. if b then hint_lines (hints_of words refusal found) else []) own
 
 -- nothing was to be written
@@ -69,7 +69,7 @@ sink_is_no_disk : {B : Type 0} → ◌≡◌ {A = Result B HintFault} (Err Sink)
 sink_is_no_disk is = cc
 
 -- what follows a read fails for another reason than the tree
-pub behind_reading : {A B : Type 0} (old new : List TreeState) (a b : Counts) (value : A) (result : Result B HintFault) → IfErr result IsNoDisk → OnlyReads {A = A} {E = TreeFault} Trees.Disk old new a b (Ok value) → OnlyReads Disk old new a b result
+pub behind_reading : {A B : Type 0} (old new : List TreeState) (a b : Counts) (value : A) (result : Result B HintFault) → IfErr result IsNotDiskFault → OnlyReads {A = A} {E = TreeFault} Trees.Disk old new a b (Ok value) → OnlyReads Disk old new a b result
 behind_reading old new a b value (Ok done) kind h = record { same = h.same; goes_on = h.goes_on; disk = λ is. absurd cc; kept = h.kept; others = tt; proper = h.proper }
 behind_reading old new a b value (Err Disk) kind h = absurd kind
 behind_reading old new a b value (Err Memory) kind h = record { same = h.same; goes_on = h.goes_on; disk = λ is. absurd (memory_is_no_disk is); kept = tt; others = λ other. h.kept; proper = h.proper }

@@ -13,7 +13,7 @@ use Rattle.command_core.specs.declared.operands.Operand.{Operand}
 use Rattle.dep_core.specs.Repositories.{Repository, repositories_of}
 use Rattle.root_names.specs.RootNames.{repositories_name}
 use Rattle.words_core.proofs.OneMore.{left_at}
-use Rattle.hint_core.specs.Warnings.{HasFileBelow, WarnsOfFolder, WarnsOfTags, folder_line, is_tag_of, is_tagged, tag_line, tag_of, tag_warning, tag_warnings, text_of_found, warnings_by}
+use Rattle.hint_core.specs.Warnings.{HasFileBelow, WarnsOfFolder, WarnsOfTags, folder_line, is_tag_of, has_repository_with_tag, tag_line, tag_of, tag_warning, tag_warnings, text_of_found, tag_warnings_if_read}
 
 -- ---- a folder
 
@@ -36,10 +36,10 @@ silent_below (v ∷ earlier) folder lines names listed some is = inl (is, someth
 
 -- ---- tags
 
-pub tags_read : (history : List TreeState) (operands : List Operand) (found : Option (List ℕ)) (lines : List ℕ) → IfObservable history (λ v. found ≡ files_of v repositories_name) → lines ≡ warnings_by (repositories_of (text_of_found found)) operands → IfObservable history (WarnsOfTags operands lines)
+pub tags_read : (history : List TreeState) (operands : List Operand) (found : Option (List ℕ)) (lines : List ℕ) → IfObservable history (λ v. found ≡ files_of v repositories_name) → lines ≡ tag_warnings_if_read (repositories_of (text_of_found found)) operands → IfObservable history (WarnsOfTags operands lines)
 tags_read [] operands found lines same is = tt
 tags_read (v ∷ earlier) operands found lines same is =
-    is ∙ ap (λ f. warnings_by (repositories_of (text_of_found f)) operands) same
+    is ∙ ap (λ f. tag_warnings_if_read (repositories_of (text_of_found f)) operands) same
 
 pub warning_more : (rs : List Repository) (os : List Operand) (i : ℕ) (o : Operand) (lines now text : List ℕ) → slice_get os i ≡ Some o → text ≡ o.text → now ≡ lines ++ tag_warning rs (tag_of text)
     → lines ++ tag_warnings rs (drop i os) ≡ tag_warnings rs os → now ++ tag_warnings rs (drop (i + 1) os) ≡ tag_warnings rs os
@@ -61,19 +61,19 @@ tag_at rs i tag e =
       | Some r ↦ λ at some. record { repository = r; at = at; is = same_Some _ _ some }
     ] refl e
 
-tagged_from : (rs : List Repository) (i : ℕ) (tag : List ℕ) (found : Option (List ℕ)) → option_map (λ (r : Repository). r.tag) (slice_get rs i) ≡ Some found → is_tagged (drop i rs) tag ≡ (is_tag_of tag found || is_tagged (drop (i + 1) rs) tag)
+tagged_from : (rs : List Repository) (i : ℕ) (tag : List ℕ) (found : Option (List ℕ)) → option_map (λ (r : Repository). r.tag) (slice_get rs i) ≡ Some found → has_repository_with_tag (drop i rs) tag ≡ (is_tag_of tag found || has_repository_with_tag (drop (i + 1) rs) tag)
 tagged_from rs i tag found e =
     let one = tag_at rs i found e in
-    ap (λ (l : List Repository). is_tagged l tag) (left_at rs i one.repository one.at)
-    ∙ ap (λ t. is_tag_of tag t || is_tagged (drop (i + 1) rs) tag) one.is
+    ap (λ (l : List Repository). has_repository_with_tag l tag) (left_at rs i one.repository one.at)
+    ∙ ap (λ t. is_tag_of tag t || has_repository_with_tag (drop (i + 1) rs) tag) one.is
 
-pub tagged_here : (rs : List Repository) (i : ℕ) (tag : List ℕ) (found : Option (List ℕ)) → option_map (λ (r : Repository). r.tag) (slice_get rs i) ≡ Some found → is_tag_of tag found ≡ true → is_tagged rs tag ≡ is_tagged (drop i rs) tag → true ≡ is_tagged rs tag
+pub tagged_here : (rs : List Repository) (i : ℕ) (tag : List ℕ) (found : Option (List ℕ)) → option_map (λ (r : Repository). r.tag) (slice_get rs i) ≡ Some found → is_tag_of tag found ≡ true → has_repository_with_tag rs tag ≡ has_repository_with_tag (drop i rs) tag → true ≡ has_repository_with_tag rs tag
 tagged_here rs i tag found e here h =
-    sym (h ∙ (tagged_from rs i tag found e ∙ ap (λ b. b || is_tagged (drop (i + 1) rs) tag) here))
+    sym (h ∙ (tagged_from rs i tag found e ∙ ap (λ b. b || has_repository_with_tag (drop (i + 1) rs) tag) here))
 
-pub tagged_later : (rs : List Repository) (i : ℕ) (tag : List ℕ) (found : Option (List ℕ)) → option_map (λ (r : Repository). r.tag) (slice_get rs i) ≡ Some found → is_tag_of tag found ≡ false → is_tagged rs tag ≡ is_tagged (drop i rs) tag → is_tagged rs tag ≡ is_tagged (drop (i + 1) rs) tag
+pub tagged_later : (rs : List Repository) (i : ℕ) (tag : List ℕ) (found : Option (List ℕ)) → option_map (λ (r : Repository). r.tag) (slice_get rs i) ≡ Some found → is_tag_of tag found ≡ false → has_repository_with_tag rs tag ≡ has_repository_with_tag (drop i rs) tag → has_repository_with_tag rs tag ≡ has_repository_with_tag (drop (i + 1) rs) tag
 tagged_later rs i tag found e other h =
-    h ∙ (tagged_from rs i tag found e ∙ ap (λ b. b || is_tagged (drop (i + 1) rs) tag) other)
+    h ∙ (tagged_from rs i tag found e ∙ ap (λ b. b || has_repository_with_tag (drop (i + 1) rs) tag) other)
 
 -- ---- which tags are warned of
 
@@ -93,16 +93,16 @@ is_other tag (Some found) other =
 is_same : (tag : List ℕ) (found : Option (List ℕ)) → found ≡ Some tag → is_tag_of tag found ≡ true
 is_same tag found e = ap (is_tag_of tag) e ∙ (bytes_eq-Decides tag tag).1 refl
 
-untagged : (rs : List Repository) (tag : List ℕ) → ((r : Repository) → Contains rs r → r.tag ≡ Some tag → ⊥) → is_tagged rs tag ≡ false
+untagged : (rs : List Repository) (tag : List ℕ) → ((r : Repository) → Contains rs r → r.tag ≡ Some tag → ⊥) → has_repository_with_tag rs tag ≡ false
 untagged [] tag none = refl
 untagged (r ∷ rs) tag none =
-    ap (λ b. b || is_tagged rs tag) (is_other tag r.tag (none r (0, omega arith, refl)))
+    ap (λ b. b || has_repository_with_tag rs tag) (is_other tag r.tag (none r (0, omega arith, refl)))
     ∙ untagged rs tag (λ q at e. none q (suc at.0, omega (arith, at.1), at.2) e)
 
-tagged : (rs : List Repository) (tag : List ℕ) (k : ℕ) (r : Repository) → k < length rs → slice_index_or rs k r ≡ r → r.tag ≡ Some tag → is_tagged rs tag ≡ true
+tagged : (rs : List Repository) (tag : List ℕ) (k : ℕ) (r : Repository) → k < length rs → slice_index_or rs k r ≡ r → r.tag ≡ Some tag → has_repository_with_tag rs tag ≡ true
 tagged [] tag k r lt is e = absurd (omega (arith, lt))
 tagged (x ∷ rs) tag zero r lt is e =
-    ap (λ b. b || is_tagged rs tag) (is_same tag x.tag (ap (λ (y : Repository). y.tag) is ∙ e))
+    ap (λ b. b || has_repository_with_tag rs tag) (is_same tag x.tag (ap (λ (y : Repository). y.tag) is ∙ e))
 tagged (x ∷ rs) tag (suc k) r lt is e =
     ap (λ b. is_tag_of tag x.tag || b) (tagged rs tag k r (omega (arith, lt)) is e) ∙ or_true (is_tag_of tag x.tag)
 

@@ -31,13 +31,13 @@ use Rattle.hint_core.specs.Lines.{printed_text}
 -- ---- what is mixed up
 
 -- the positions that a cause names
-abbrev pub mixed_up_by : Cause → Option MixedUp
-mixed_up_by (DataOrder expected found) = Some (record { expected = expected; found = found })
-mixed_up_by cause = None
+abbrev pub mixed_up_positions_of_cause : Cause → Option MixedUp
+mixed_up_positions_of_cause (DataOrder expected found) = Some (record { expected = expected; found = found })
+mixed_up_positions_of_cause cause = None
 
 -- the positions that the cause of a refusal names
-abbrev pub mixed_up : Refusal → Option MixedUp
-mixed_up refusal = option_and_then mixed_up_by (cause_of refusal)
+abbrev pub mixed_up_positions : Refusal → Option MixedUp
+mixed_up_positions refusal = option_and_then mixed_up_positions_of_cause (cause_of refusal)
 
 -- ---- files of a package
 
@@ -129,22 +129,22 @@ ExplainsMixedUp name None history lines = lines ≡ []
 ExplainsMixedUp name (Some mixed) history lines = ExplainsFile name mixed history lines
 
 -- the name of the file that the word at a place is, if it is one
-abbrev pub word_file : List (List ℕ) → ℕ → Option (List ℕ)
-word_file words place = option_and_then file_name (slice_get words (place - 1))
+abbrev pub file_name_of_word : List (List ℕ) → ℕ → Option (List ℕ)
+file_name_of_word words place = option_and_then file_name (slice_get words (place - 1))
 
 -- the place of the word that names a file which fails a test
-abbrev pub bad_word : Refusal → Option ℕ
-bad_word (FileBad place cause) = Some place
-bad_word refusal = None
+abbrev pub place_of_bad_file : Refusal → Option ℕ
+place_of_bad_file (FileBad place cause) = Some place
+place_of_bad_file refusal = None
 
 -- the name of the file that a refusal is about: a word names it, and the command's refusals are
 -- explained
 abbrev pub refused_file : List (List ℕ) → Refusal → Option (List ℕ)
 refused_file words refusal =
     if is_explained (command_of words)
-    then option_and_then (word_file words) (bad_word refusal) else None
+    then option_and_then (file_name_of_word words) (place_of_bad_file refusal) else None
 
 -- these lines say which files the positions are that a refusal names
 abbrev pub ExplainsContents : List (List ℕ) → Refusal → List TreeState → List ℕ → Type 0
 ExplainsContents words refusal history lines =
-    ExplainsMixedUp (refused_file words refusal) (mixed_up refusal) history lines
+    ExplainsMixedUp (refused_file words refusal) (mixed_up_positions refusal) history lines

@@ -12,7 +12,7 @@ use Rattle.command_core.specs.Command.{CommandLine}
 use Rattle.command_core.specs.declared.command.Applet.{Applet}
 use Rattle.command_core.specs.declared.command.Applet.TheVariants.{Demo}
 use Rattle.dep_core.specs.World.{lines_of}
-use Rattle.pkg_core.specs.Whole.{root_of_schema}
+use Rattle.pkg_core.specs.Whole.{table_of_schema}
 use Rattle.report_core.specs.declared.refusal.Refusal.{Refusal}
 use Rattle.report_core.specs.declared.refusal.Refusal.TheVariants.{IntentBad, FileMissing, FileBad, TextBad, VersionBad, InfoBad, NoDatabase, DatabaseBad, WorldBad, RepositoriesBad, IndexMissing, IndexBad, NotInstalled, Owned, PackageBad}
 use Rattle.root_names.specs.RootNames.{database_name, repositories_name, text_database_name, world_name}
@@ -29,13 +29,13 @@ use Rattle.hint_core.specs.Repositories.{repository_at}
 -- ---- what a refusal is about
 
 -- whether the refusals of a command are about its own words: those of `demo` are not
-abbrev pub is_own : Applet → Bool
-is_own Demo = false
-is_own applet = true
+abbrev pub has_refusals_of_its_own : Applet → Bool
+has_refusals_of_its_own Demo = false
+has_refusals_of_its_own applet = true
 
 -- whether refusals are explained: those of a command that are about its own words
 abbrev pub is_explained : Result CommandLine ℕ → Bool
-is_explained (Ok command) = is_own command.applet
+is_explained (Ok command) = has_refusals_of_its_own command.applet
 is_explained (Err place) = false
 
 -- what the refusal of a database is about: a line of a text, or else the database
@@ -102,29 +102,29 @@ information_hint place (Some word) = Hinted.Word place word
 information_hint place None = Hinted.Missing place
 
 -- a repository that was found on a line
-abbrev pub found_repository : ℕ → Option RepositoryLine → Hint
-found_repository number (Some found) = Hinted.Repository number found.line found.path
-found_repository number None = Hinted.Nothing
+abbrev pub repository_hint_if_found : ℕ → Option RepositoryLine → Hint
+repository_hint_if_found number (Some found) = Hinted.Repository number found.line found.path
+repository_hint_if_found number None = Hinted.Nothing
 
 -- the index of a repository, by the text that names the repositories
 abbrev pub repository_hint : ℕ → Option (List ℕ) → Hint
-repository_hint number (Some text) = found_repository number (repository_at number 1 (lines_of text))
+repository_hint number (Some text) = repository_hint_if_found number (repository_at number 1 (lines_of text))
 repository_hint number None = Hinted.Nothing
 
 -- a line that was found in a file
-abbrev pub found_line : HintFile → ℕ → Option (List ℕ) → Hint
-found_line file line (Some text) = Hinted.Line file line text
-found_line file line None = Hinted.Nothing
+abbrev pub line_hint_if_found : HintFile → ℕ → Option (List ℕ) → Hint
+line_hint_if_found file line (Some text) = Hinted.Line file line text
+line_hint_if_found file line None = Hinted.Nothing
 
 -- a line of a file, counted from 1, by the file's text
 abbrev pub line_hint : HintFile → ℕ → Option (List ℕ) → Hint
-line_hint file line (Some text) = found_line file line (slice_get (lines_of text) (line - 1))
+line_hint file line (Some text) = line_hint_if_found file line (slice_get (lines_of text) (line - 1))
 line_hint file line None = Hinted.Nothing
 
 -- there is no database, unless one is found
-abbrev pub absent_database : Bool → Hint
-absent_database true = Hinted.Nothing
-absent_database false = Hinted.AbsentDatabase
+abbrev pub absent_database_hint : Bool → Hint
+absent_database_hint true = Hinted.Nothing
+absent_database_hint false = Hinted.AbsentDatabase
 
 -- what a refusal is about, given the words and the file that it is about
 abbrev pub subject_hint : List (List ℕ) → Option (List ℕ) → Subject → Hint
@@ -133,7 +133,7 @@ subject_hint words found (Information place) = information_hint place (slice_get
 subject_hint words found (Repository number) = repository_hint number found
 subject_hint words found (Line file line) = line_hint file line found
 subject_hint words found Database = Hinted.Database (is_some found)
-subject_hint words found AbsentDatabase = absent_database (is_some found)
+subject_hint words found AbsentDatabase = absent_database_hint (is_some found)
 subject_hint words found SharedPath = Hinted.SharedPath
 subject_hint words found Nothing = Hinted.Nothing
 
@@ -154,19 +154,19 @@ table_numbered number =
     if number == 10 then Some Tables.Intent else None
 
 -- a field that a table has at a place
-abbrev pub found_field : ℕ → Which → Option Field → Hint
-found_field place which (Some field) = Hinted.Field place which field.name
-found_field place which None = Hinted.Nothing
+abbrev pub field_hint_if_found : ℕ → Which → Option Field → Hint
+field_hint_if_found place which (Some field) = Hinted.Field place which field.name
+field_hint_if_found place which None = Hinted.Nothing
 
 -- the field of a table at a place; fields count from 1
-abbrev pub field_in : ℕ → Which → Hint
-field_in place which =
+abbrev pub field_hint_in_table : ℕ → Which → Hint
+field_hint_in_table place which =
     if place % 100 == 0 then Hinted.Nothing else
-    found_field place which (slice_get (table which) (place % 100 - 1))
+    field_hint_if_found place which (slice_get (table which) (place % 100 - 1))
 
 -- the field of a table that was found, at a place
 abbrev pub field_hint : ℕ → Option Which → Hint
-field_hint place (Some which) = field_in place which
+field_hint place (Some which) = field_hint_in_table place which
 field_hint place None = Hinted.Nothing
 
 -- the field at a place: 100 times the number of its table plus its own
@@ -176,13 +176,13 @@ place_hint place = field_hint place (table_numbered (place / 100))
 -- ---- the schema of a container
 
 -- a table that has a schema, if one has it
-abbrev pub found_schema : Option Which → Hint
-found_schema (Some which) = Hinted.Schema which
-found_schema None = Hinted.UnknownSchema
+abbrev pub schema_hint_if_found : Option Which → Hint
+schema_hint_if_found (Some which) = Hinted.Schema which
+schema_hint_if_found None = Hinted.UnknownSchema
 
 -- the table at the root of a container with a schema, if it is one of the four
 abbrev pub schema_hint : ℕ → Hint
-schema_hint schema = found_schema (root_of_schema schema)
+schema_hint schema = schema_hint_if_found (table_of_schema schema)
 
 -- ---- the number of a cause
 

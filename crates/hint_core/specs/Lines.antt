@@ -7,7 +7,7 @@ use Rattle.adb_view.specs.Schema.{field_name_text}
 use Rattle.adb_view.specs.declared.tables.Which.{Which}
 use Rattle.adb_view.specs.declared.tables.Which.TheVariants as Tables
 use Rattle.root_names.specs.RootNames.{database_name, text_database_name}
-use Rattle.words_core.specs.Usage.{longest_shown, texts_joined}
+use Rattle.words_core.specs.Usage.{most_shown_bytes, texts_joined}
 use Rattle.hint_core.specs.declared.hint.Hint.{Hint}
 use Rattle.hint_core.specs.declared.hint.Hint.TheVariants.{Word, Missing, Repository, Line, Database, AbsentDatabase, SharedPath, Field, Schema, UnknownSchema, Nothing}
 use Rattle.hint_core.specs.declared.hint.HintFile.{HintFile}
@@ -31,19 +31,19 @@ printed_bytes [] = []
 printed_bytes (byte ∷ bytes) = printed_byte byte ++ printed_bytes bytes
 
 -- what follows the bytes that are shown: two dots if there are more
-abbrev pub cut_mark : List ℕ → List ℕ
-cut_mark bytes = if nat_lt longest_shown (length bytes) then codes ".." else []
+abbrev pub dots_if_cut : List ℕ → List ℕ
+dots_if_cut bytes = if nat_lt most_shown_bytes (length bytes) then codes ".." else []
 
 -- bytes as a line shows them, of which there may be many
 abbrev pub printed_text : List ℕ → List ℕ
-printed_text bytes = printed_bytes (take longest_shown bytes) ++ cut_mark bytes
+printed_text bytes = printed_bytes (take most_shown_bytes bytes) ++ dots_if_cut bytes
 
 -- ---- what is named
 
 -- the path of the file that the database is in: a container, or else a text
-abbrev pub database_text : Bool → List ℕ
-database_text true = database_name
-database_text false = text_database_name
+abbrev pub database_file_name_of : Bool → List ℕ
+database_file_name_of true = database_name
+database_file_name_of false = text_database_name
 
 -- what the objects of a table are
 abbrev pub table_text : Which → List ℕ
@@ -66,8 +66,8 @@ word_line place word = texts_joined
     (codes "apk: word " ∷ (decimal place ∷ (codes " is " ∷ (printed_text word ∷ (codes "\n" ∷ [])))))
 
 -- the line that says that information of a package is missing
-abbrev pub missing_line : ℕ → List ℕ
-missing_line place = texts_joined
+abbrev pub missing_information_line : ℕ → List ℕ
+missing_information_line place = texts_joined
     (codes "apk: there is no word " ∷ (decimal place
     ∷ (codes ": a package needs -I name:NAME and -I version:VERSION\n" ∷ [])))
 
@@ -79,15 +79,15 @@ repository_hint_line number line path = texts_joined
     ∷ (codes " of etc/apk/repositories; apk mkndx makes an index\n" ∷ [])))))))
 
 -- the line of a line of a file
-abbrev pub line_line : HintFile → ℕ → List ℕ → List ℕ
-line_line file line text = texts_joined
+abbrev pub line_hint_line : HintFile → ℕ → List ℕ → List ℕ
+line_hint_line file line text = texts_joined
     (codes "apk: line " ∷ (decimal line ∷ (codes " of " ∷ (hint_file_name file
     ∷ (codes " is " ∷ (printed_text text ∷ (codes "\n" ∷ [])))))))
 
 -- the line of the database
 abbrev pub database_hint_line : Bool → List ℕ
 database_hint_line is_container = texts_joined
-    (codes "apk: the package database is " ∷ (database_text is_container ∷ (codes "\n" ∷ [])))
+    (codes "apk: the package database is " ∷ (database_file_name_of is_container ∷ (codes "\n" ∷ [])))
 
 -- the line that says that there is no database
 abbrev pub absent_database_line : List ℕ
@@ -119,9 +119,9 @@ shared_path_line = texts_joined
 -- the line of a hint, if it has one
 abbrev pub hint_line : Hint → List ℕ
 hint_line (Word place word) = word_line place word
-hint_line (Missing place) = missing_line place
+hint_line (Missing place) = missing_information_line place
 hint_line (Repository number line path) = repository_hint_line number line path
-hint_line (Line file line text) = line_line file line text
+hint_line (Line file line text) = line_hint_line file line text
 hint_line (Database is_container) = database_hint_line is_container
 hint_line AbsentDatabase = absent_database_line
 hint_line SharedPath = shared_path_line

@@ -4,14 +4,14 @@ use Rattle.std.specs.Prelude.{◌≡◌, ℕ, Bool, true, false, List, [], ◌�
 use Rattle.base_core.specs.Calls.{IfObservable}
 use Rattle.base_core.specs.Tree.{TreeState, files_of}
 use Rattle.dep_core.specs.Repositories.{Repository, repositories_of}
-use Rattle.report_core.specs.Reports.{name_version}
+use Rattle.report_core.specs.Reports.{name_dash_version}
 use Rattle.report_core.specs.declared.refusal.Refusal.{Refusal}
 use Rattle.report_core.specs.declared.refusal.Refusal.TheVariants.{PackageBad, PackageDiffers, PackageMissing}
 use Rattle.root_names.specs.PackagePath.{if_name, package_path}
 use Rattle.root_names.specs.RootNames.{repositories_name}
 use Rattle.words_core.specs.Grammar.{command_of}
 use Rattle.words_core.specs.Usage.{texts_joined}
-use Rattle.hint_core.specs.Contents.{ExplainsMixedUp, mixed_up}
+use Rattle.hint_core.specs.Contents.{ExplainsMixedUp, mixed_up_positions}
 use Rattle.hint_core.specs.Hints.{is_explained}
 use Rattle.hint_core.specs.Lines.{printed_bytes, printed_text}
 use Rattle.hint_core.specs.Warnings.{text_of_found}
@@ -21,7 +21,7 @@ use Rattle.hint_core.specs.Warnings.{text_of_found}
 -- the line that says where the package's file is looked for, beside an index; its path is whole
 abbrev pub package_file_line : List ℕ → List ℕ → List ℕ → List ℕ
 package_file_line name version index = texts_joined
-    (codes "apk: the file of " ∷ (printed_text (name_version name version)
+    (codes "apk: the file of " ∷ (printed_text (name_dash_version name version)
     ∷ (codes " is looked for at " ∷ (printed_bytes (package_path index name version)
     ∷ (codes ", beside " ∷ (printed_text index ∷ (codes "\n" ∷ [])))))))
 
@@ -31,7 +31,7 @@ abbrev pub ExplainsBeside :
     List ℕ → List ℕ → Refusal → List TreeState → List ℕ → List ℕ → Type 0
 ExplainsBeside name version refusal history index lines =
     (contents : List ℕ)
-    × ExplainsMixedUp (if_name (package_path index name version)) (mixed_up refusal) history contents
+    × ExplainsMixedUp (if_name (package_path index name version)) (mixed_up_positions refusal) history contents
     × (lines ≡ package_file_line name version index ++ contents)
 
 -- these lines say so beside the index of each repository, one after another
@@ -62,18 +62,18 @@ ExplainsPackage name version refusal history lines =
     × ExplainsByText name version refusal (repositories_of (text_of_found found)) history lines
 
 -- the same of a refusal, which names a package if its file is refused
-abbrev pub ExplainsIfPackage : Refusal → List TreeState → List ℕ → Type 0
-ExplainsIfPackage (PackageMissing name version) history lines =
+abbrev pub ExplainsPackageRefusal : Refusal → List TreeState → List ℕ → Type 0
+ExplainsPackageRefusal (PackageMissing name version) history lines =
     ExplainsPackage name version (PackageMissing name version) history lines
-ExplainsIfPackage (PackageBad name version cause) history lines =
+ExplainsPackageRefusal (PackageBad name version cause) history lines =
     ExplainsPackage name version (PackageBad name version cause) history lines
-ExplainsIfPackage (PackageDiffers name version field wanted found) history lines =
+ExplainsPackageRefusal (PackageDiffers name version field wanted found) history lines =
     ExplainsPackage name version (PackageDiffers name version field wanted found) history lines
-ExplainsIfPackage refusal history lines = lines ≡ []
+ExplainsPackageRefusal refusal history lines = lines ≡ []
 
 -- the same of a command line whose refusals are explained
 abbrev pub ExplainsIfExplained : Bool → Refusal → List TreeState → List ℕ → Type 0
-ExplainsIfExplained true refusal history lines = ExplainsIfPackage refusal history lines
+ExplainsIfExplained true refusal history lines = ExplainsPackageRefusal refusal history lines
 ExplainsIfExplained false refusal history lines = lines ≡ []
 
 -- these lines say where the file of the package is that a refusal of a command line names

@@ -7,8 +7,8 @@ use Rattle.hint_core.specs.declared.find.PathAlone.TheVariants.{Path, Skipped, B
 use Rattle.hint_core.specs.declared.find.RepositoryLine.{RepositoryLine}
 
 -- a line that names a repository, with the path of its index
-abbrev pub repository_line_by : ℕ → List ℕ → RepositoryLine
-repository_line_by line path = record { line = line; path = path }
+abbrev pub repository_line_from_parts : ℕ → List ℕ → RepositoryLine
+repository_line_from_parts line path = record { line = line; path = path }
 
 -- what the repositories are that a line names, read alone: it has no line end, so they are none or one
 abbrev pub path_alone : Result (List Repository) ℕ → PathAlone
@@ -18,16 +18,16 @@ path_alone (Ok (found ∷ more)) = Path found.path
 
 -- the repository of a line, if its number is wanted; else what the lines after it name, of which a
 -- lesser number is wanted
-abbrev pub on_line : PathAlone → ℕ → ℕ → (ℕ → Option RepositoryLine) → Option RepositoryLine
-on_line Bad number line behind = None
-on_line Skipped number line behind = behind number
-on_line (Path path) number line behind =
-    if number == 1 then Some (repository_line_by line path) else behind (number - 1)
+abbrev pub repository_from_line : PathAlone → ℕ → ℕ → (ℕ → Option RepositoryLine) → Option RepositoryLine
+repository_from_line Bad number line behind = None
+repository_from_line Skipped number line behind = behind number
+repository_from_line (Path path) number line behind =
+    if number == 1 then Some (repository_line_from_parts line path) else behind (number - 1)
 
 -- the repository with a number, counted from 1, among those that lines name, the first of which has
 -- this number; None if there are fewer, or a line before it is bad
 abbrev pub repository_at : ℕ → ℕ → List (List ℕ) → Option RepositoryLine
 repository_at number line [] = None
 repository_at number line (text ∷ rest) =
-    on_line (path_alone (repositories_of text)) number line
+    repository_from_line (path_alone (repositories_of text)) number line
     (λ left. repository_at left (line + 1) rest)

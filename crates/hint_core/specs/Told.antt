@@ -1,7 +1,7 @@
 -- What a call that explains a refusal writes. The rules are in `docs/commands.md`, "Hints".
 use Rattle.std.specs.Prelude.{◌≡◌, ℕ, List, [], if◌then◌else◌, Option, Some, None, Result, OnOk, OnErr}
 use Rattle.base_core.specs.Calls.{IfObservable}
-use Rattle.base_core.specs.Sink.{SinkChange, Gets, GetsSome}
+use Rattle.base_core.specs.Sink.{SinkChange, Gets, GetsPrefix}
 use Rattle.base_core.specs.Tree.{TreeState, files_of}
 use Rattle.base_core.specs.declared.tree.TreeFault.{TreeFault}
 use Rattle.base_core.specs.declared.tree.TreeFault.TheVariants as Trees
@@ -19,10 +19,10 @@ as_hint_fault Trees.Disk = Disk
 as_hint_fault Trees.Memory = Memory
 
 -- a fault is not one of a tree
-abbrev pub IsNoDisk : HintFault → Type 0
-IsNoDisk Disk = ⊥
-IsNoDisk Memory = Unit {0}
-IsNoDisk Sink = Unit {0}
+abbrev pub IsNotDiskFault : HintFault → Type 0
+IsNotDiskFault Disk = ⊥
+IsNotDiskFault Memory = Unit {0}
+IsNotDiskFault Sink = Unit {0}
 
 -- what was found is the file under a name, if there is one; nothing is found if no name is asked for
 abbrev pub IsFoundIfNamed : List TreeState → Option (List ℕ) → Option (List ℕ) → Type 0
@@ -30,12 +30,12 @@ IsFoundIfNamed history None found = found ≡ None
 IsFoundIfNamed history (Some name) found = IfObservable history (λ v. found ≡ files_of v name)
 
 -- what was found is the file that a refusal is about
-abbrev pub IsFoundFor : List TreeState → Subject → Option (List ℕ) → Type 0
-IsFoundFor history subject found = IsFoundIfNamed history (subject_file subject) found
+abbrev pub IsFoundForSubject : List TreeState → Subject → Option (List ℕ) → Type 0
+IsFoundForSubject history subject found = IsFoundIfNamed history (subject_file subject) found
 
 -- the lines that are written after a refusal, given the file that it is about
-abbrev pub lines_told : List (List ℕ) → Refusal → Option (List ℕ) → List ℕ
-lines_told words refusal found =
+abbrev pub hint_lines_after_refusal : List (List ℕ) → Refusal → Option (List ℕ) → List ℕ
+hint_lines_after_refusal words refusal found =
     if is_explained (command_of words) then hint_lines (hints_of words refusal found) else []
 
 -- a call has written these lines to a sink, or a prefix of them if it failed
@@ -44,4 +44,4 @@ pub record Tells {T E : Type 0} (lines : List ℕ) (sink : SinkChange)
   -- all lines were written
   pub ok : OnOk result (Gets sink lines)
   -- a prefix of the lines was written
-  pub err : OnErr result (GetsSome sink lines)
+  pub err : OnErr result (GetsPrefix sink lines)

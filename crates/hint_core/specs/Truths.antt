@@ -23,13 +23,13 @@ abbrev pub NamesWord : Refusal → ℕ → Type 0
 NamesWord refusal place = (subject_of refusal ≡ Word place) ⊎ (subject_of refusal ≡ Information place)
 
 -- the refusal has a cause that names the field at this place
-abbrev pub NamesPlace : Refusal → ℕ → Type 0
-NamesPlace refusal place =
+abbrev pub NamesFieldPlace : Refusal → ℕ → Type 0
+NamesFieldPlace refusal place =
     (cause : Cause) × (cause_of refusal ≡ Some cause) × (cause_place cause ≡ Some place)
 
 -- the repository with a number, counted from 1, has this path, if all lines can be read
-abbrev pub HasPath : List ℕ → ℕ → List ℕ → Type 0
-HasPath text number path =
+abbrev pub RepositoryHasPath : List ℕ → ℕ → List ℕ → Type 0
+RepositoryHasPath text number path =
     (repositories : List Repository) → repositories_of text ≡ Ok repositories
     → option_map (λ repository. repository.path) (slice_get repositories (number - 1)) ≡ Some path
 
@@ -46,40 +46,40 @@ HasField which number name =
     (field : Field) × (slice_get (table which) (number - 1) ≡ Some field) × (field.name ≡ name)
 
 -- a hint is so, of a refusal, of the words that were refused, and of the file that was found for it
-abbrev pub IsSo : List (List ℕ) → Refusal → Option (List ℕ) → Hint → Type 0
+abbrev pub IsTrueHint : List (List ℕ) → Refusal → Option (List ℕ) → Hint → Type 0
 -- the word is the one at the place that the refusal names; places count from 1
-IsSo words refusal found (Hinted.Word place word) =
+IsTrueHint words refusal found (Hinted.Word place word) =
     NamesWord refusal place × (slice_get words (place - 1) ≡ Some word)
 -- the refusal is about information of a package, and its place is behind the words
-IsSo words refusal found (Hinted.Missing place) =
+IsTrueHint words refusal found (Hinted.Missing place) =
     (subject_of refusal ≡ Information place) × (length words ≤ place - 1)
 -- the refusal names the repository, which has this path, and the line names it
-IsSo words refusal found (Hinted.Repository number line path) =
+IsTrueHint words refusal found (Hinted.Repository number line path) =
     (subject_of refusal ≡ Subjects.Repository number)
-    × (text : List ℕ) × (found ≡ Some text) × HasPath text number path × NamesPath text line path
+    × (text : List ℕ) × (found ≡ Some text) × RepositoryHasPath text number path × NamesPath text line path
 -- the refusal names the line, and it is that of the file
-IsSo words refusal found (Hinted.Line file line text) =
+IsTrueHint words refusal found (Hinted.Line file line text) =
     (subject_of refusal ≡ Line file line)
     × (whole : List ℕ) × (found ≡ Some whole) × (slice_get (lines_of whole) (line - 1) ≡ Some text)
 -- the refusal is about the database, whose container was found, or else not
-IsSo words refusal found (Hinted.Database is_container) =
+IsTrueHint words refusal found (Hinted.Database is_container) =
     (subject_of refusal ≡ Database) × (is_container ≡ is_some found)
 -- the refusal is that there is no database, and no container was found
-IsSo words refusal found Hinted.AbsentDatabase =
+IsTrueHint words refusal found Hinted.AbsentDatabase =
     (subject_of refusal ≡ AbsentDatabase) × (found ≡ None)
 -- the refusal is about a path that two packages list
-IsSo words refusal found Hinted.SharedPath = subject_of refusal ≡ SharedPath
+IsTrueHint words refusal found Hinted.SharedPath = subject_of refusal ≡ SharedPath
 -- the place is 100 times the number of the table plus that of the field
-IsSo words refusal found (Hinted.Field place which name) =
-    NamesPlace refusal place
+IsTrueHint words refusal found (Hinted.Field place which name) =
+    NamesFieldPlace refusal place
     × (number : ℕ) × (place ≡ 100 * table_number which + number) × (0 < number)
     × HasField which number name
 -- the refusal has a cause with a schema, which is the one of the table
-IsSo words refusal found (Hinted.Schema which) =
+IsTrueHint words refusal found (Hinted.Schema which) =
     (schema : ℕ) × (cause_of refusal ≡ Some (WrongSchema schema))
     × (schema_word which ≡ Some schema)
 -- the refusal has a cause with a schema, which is the one of no table
-IsSo words refusal found Hinted.UnknownSchema =
+IsTrueHint words refusal found Hinted.UnknownSchema =
     (schema : ℕ) × (cause_of refusal ≡ Some (WrongSchema schema))
     × ((which : Which) → schema_word which ≡ Some schema → ⊥)
-IsSo words refusal found Hinted.Nothing = Unit {0}
+IsTrueHint words refusal found Hinted.Nothing = Unit {0}

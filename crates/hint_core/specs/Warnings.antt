@@ -8,7 +8,7 @@ use Rattle.base_core.specs.Calls.{IfObservable}
 use Rattle.base_core.specs.Files.{IsFolderOf}
 use Rattle.base_core.specs.Tree.{TreeState, files_of}
 use Rattle.command_core.specs.Command.{CommandLine}
-use Rattle.command_core.specs.Files.{without_dot}
+use Rattle.command_core.specs.Files.{without_dot_slash}
 use Rattle.command_core.specs.Values.{first_value}
 use Rattle.command_core.specs.declared.command.Applet.{Applet}
 use Rattle.command_core.specs.declared.command.Applet.TheVariants.{Add, Mkpkg}
@@ -27,7 +27,7 @@ use Rattle.hint_core.specs.Lines.{printed_text}
 -- the folder whose files a package gets, if `-F` gives one
 abbrev pub folder_to_pack : List OptionValue → Option (List ℕ)
 folder_to_pack values =
-    option_map (λ (v : OptionValue). without_dot v.text) (first_value FILES values)
+    option_map (λ (v : OptionValue). without_dot_slash v.text) (first_value FILES values)
 
 -- the line that says that no file is below a folder
 abbrev pub folder_line : List ℕ → List ℕ
@@ -61,8 +61,8 @@ is_tag_of tag None = false
 is_tag_of tag (Some other) = bytes_eq other tag
 
 -- whether one of some repositories has a tag
-abbrev pub is_tagged : List Repository → List ℕ → Bool
-is_tagged repositories tag = list_any (λ (r : Repository). is_tag_of tag r.tag) repositories
+abbrev pub has_repository_with_tag : List Repository → List ℕ → Bool
+has_repository_with_tag repositories tag = list_any (λ (r : Repository). is_tag_of tag r.tag) repositories
 
 -- the line that says that no repository has a tag
 abbrev pub tag_line : List ℕ → List ℕ
@@ -72,7 +72,7 @@ tag_line tag = texts_joined
 -- what is printed of a tag, if there is one: the line if no repository has it
 abbrev pub tag_warning : List Repository → Option (List ℕ) → List ℕ
 tag_warning repositories None = []
-tag_warning repositories (Some tag) = if is_tagged repositories tag then [] else tag_line tag
+tag_warning repositories (Some tag) = if has_repository_with_tag repositories tag then [] else tag_line tag
 
 -- what is printed of the tags of operands
 abbrev pub tag_warnings : List Repository → List Operand → List ℕ
@@ -81,9 +81,9 @@ tag_warnings repositories (operand ∷ operands) =
     tag_warning repositories (tag_of operand.text) ++ tag_warnings repositories operands
 
 -- the same, by the repositories that were read; nothing if they cannot be
-abbrev pub warnings_by : Result (List Repository) ℕ → List Operand → List ℕ
-warnings_by (Ok repositories) operands = tag_warnings repositories operands
-warnings_by (Err line) operands = []
+abbrev pub tag_warnings_if_read : Result (List Repository) ℕ → List Operand → List ℕ
+tag_warnings_if_read (Ok repositories) operands = tag_warnings repositories operands
+tag_warnings_if_read (Err line) operands = []
 
 -- the text of a file; it is empty if there is no file
 abbrev pub text_of_found : Option (List ℕ) → List ℕ
@@ -93,17 +93,17 @@ text_of_found (Some text) = text
 -- what is printed of the tags of operands are these lines, by the file that names the repositories
 abbrev pub WarnsOfTags : List Operand → List ℕ → TreeState → Type 0
 WarnsOfTags operands lines v =
-    lines ≡ warnings_by (repositories_of (text_of_found (files_of v repositories_name))) operands
+    lines ≡ tag_warnings_if_read (repositories_of (text_of_found (files_of v repositories_name))) operands
 
 -- ---- both
 
 -- what is printed of a command with this applet
-abbrev pub WarnsBy : Applet → CommandLine → List TreeState → List ℕ → Type 0
-WarnsBy Mkpkg command history lines = WarnsIfGiven (folder_to_pack command.values) history lines
-WarnsBy Add command history lines = IfObservable history (WarnsOfTags command.operands lines)
-WarnsBy applet command history lines = lines ≡ []
+abbrev pub WarnsForApplet : Applet → CommandLine → List TreeState → List ℕ → Type 0
+WarnsForApplet Mkpkg command history lines = WarnsIfGiven (folder_to_pack command.values) history lines
+WarnsForApplet Add command history lines = IfObservable history (WarnsOfTags command.operands lines)
+WarnsForApplet applet command history lines = lines ≡ []
 
 -- what is printed of the words of a command line
 abbrev pub Warns : Result CommandLine ℕ → List TreeState → List ℕ → Type 0
-Warns (Ok command) history lines = WarnsBy command.applet command history lines
+Warns (Ok command) history lines = WarnsForApplet command.applet command history lines
 Warns (Err place) history lines = lines ≡ []

@@ -4,7 +4,7 @@ ghost use Rattle.std.specs.Prelude.{◌≡◌, ◌⊎◌, ◌++◌, [], ℕ, Lis
 ghost use Rattle.base_core.specs.Read.{OnlyReads, bytes_in};
 ghost use Rattle.base_core.specs.Sink.{sink_change};
 ghost use Rattle.base_core.specs.declared.tree.TreeFault.TheVariants.{Disk as DiskFault};
-ghost use Rattle.hint_core.specs.Contents.{AreLinesOfRead, ExplainsContents, ExplainsFile, ExplainsMixedUp, bad_word, file_line, mixed_up, mixed_up_by, package_lines, payload_lines, position_line, refused_file, word_file};
+ghost use Rattle.hint_core.specs.Contents.{AreLinesOfRead, ExplainsContents, ExplainsFile, ExplainsMixedUp, place_of_bad_file, file_line, mixed_up_positions, mixed_up_positions_of_cause, package_lines, payload_lines, position_line, refused_file, file_name_of_word};
 ghost use Rattle.hint_core.specs.Told.{Tells};
 ghost use Rattle.pkg_core.specs.Front.{front_payload};
 ghost use Rattle.pkg_core.specs.declared.front.FrontFault.TheVariants.{Disk as FrontFailed};
@@ -17,7 +17,7 @@ use crate::printed::{printed, push_texts};
 use crate::telling::{HintFault, is_explained};
 use crate::warning::say;
 use base_core::{Cause, Name, Sink, Tree, TreeFault, Words};
-use command_core::without_dot;
+use command_core::without_dot_slash;
 use itoa::Buffer;
 use pkg_core::{
     Contents, Front, FrontFault, PACKAGE_WORD, PackageFault, PackageView,
@@ -88,15 +88,15 @@ fn refused_file(alloc: Global, words: &Words, refusal: &Refusal) -> Result<Optio
     if !is_explained(alloc, words)? {
         return Ok(None);
     }
-    match bad_word(refusal) {
-        Some(place) => word_file(alloc, words, place),
+    match place_of_bad_file(refusal) {
+        Some(place) => file_name_of_word(alloc, words, place),
         None => Ok(None),
     }
 }
 
 // The place of the word that names a file which fails a test.
-fn bad_word(refusal: &Refusal) -> Option<u32>
-    ensures { result ≡ bad_word refusal.now }
+fn place_of_bad_file(refusal: &Refusal) -> Option<u32>
+    ensures { result ≡ place_of_bad_file refusal.now }
 {
     match refusal {
         Refusal::FileBad { place, cause: _ } => Some(*place),
@@ -105,11 +105,11 @@ fn bad_word(refusal: &Refusal) -> Option<u32>
 }
 
 // The name of the file that the word at a place is, if it is one.
-fn word_file(alloc: Global, words: &Words, place: u32) -> Result<Option<Name>, AllocError>
-    ensures { IfOk result (λ name. name ≡ word_file words.now place) }
+fn file_name_of_word(alloc: Global, words: &Words, place: u32) -> Result<Option<Name>, AllocError>
+    ensures { IfOk result (λ name. name ≡ file_name_of_word words.now place) }
 {
     match word_at(words, place) {
-        Some(word) => Name::read(alloc, without_dot(word)),
+        Some(word) => Name::read(alloc, without_dot_slash(word)),
         None => Ok(None),
     }
 }
@@ -123,26 +123,26 @@ pub(crate) fn lines_of_contents<T: Tree>(
     tree: &mut T,
 ) -> Result<Vec<u8>, TreeFault>
     ensures lines { IfOk result (λ lines.
-        ExplainsMixedUp name.now (mixed_up refusal.now) (T.history tree.old) lines.items) }
+        ExplainsMixedUp name.now (mixed_up_positions refusal.now) (T.history tree.old) lines.items) }
     ensures tree { OnlyReads TreeFault.Disk (T.history tree.old) (T.history tree.new)
         (T.counts tree.old) (T.counts tree.new) result }
 {
-    mixed_up_lines(alloc, name, mixed_up(refusal), tree)
+    mixed_up_lines(alloc, name, mixed_up_positions(refusal), tree)
 }
 
 // The positions that the cause of a refusal names.
-fn mixed_up(refusal: &Refusal) -> Option<MixedUp>
-    ensures { result ≡ mixed_up refusal.now }
+fn mixed_up_positions(refusal: &Refusal) -> Option<MixedUp>
+    ensures { result ≡ mixed_up_positions refusal.now }
 {
     match cause_of(refusal) {
-        Some(cause) => mixed_up_by(cause),
+        Some(cause) => mixed_up_positions_of_cause(cause),
         None => None,
     }
 }
 
 // The positions that a cause names.
-fn mixed_up_by(cause: Cause) -> Option<MixedUp>
-    ensures { result ≡ mixed_up_by cause }
+fn mixed_up_positions_of_cause(cause: Cause) -> Option<MixedUp>
+    ensures { result ≡ mixed_up_positions_of_cause cause }
 {
     match cause {
         Cause::DataOrder { expected, found } => Some(MixedUp { expected, found }),

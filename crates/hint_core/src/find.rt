@@ -3,7 +3,7 @@ ghost use Rattle.std.specs.Prelude.{◌≡◌, ◌-◌, IfOk, Ok, Some, map, sli
 ghost use Rattle.std.specs.Option.{option_copied, option_map};
 ghost use Rattle.dep_core.specs.Repositories.{repositories_of};
 ghost use Rattle.dep_core.specs.World.{lines_of};
-ghost use Rattle.hint_core.specs.Hints.{absent_database, cause_hint, hint_of_cause, hints_of, information_hint, line_hint, place_hint, repository_hint, schema_hint, subject_hint, word_hint};
+ghost use Rattle.hint_core.specs.Hints.{absent_database_hint, cause_hint, hint_of_cause, hints_of, information_hint, line_hint, place_hint, repository_hint, schema_hint, subject_hint, word_hint};
 ghost use Rattle.hint_core.specs.Repositories.{path_alone, repository_at};
 
 use crate::hint::{Hint, HintFile, Hints, Subject, cause_of, subject_of};
@@ -72,15 +72,15 @@ fn subject_hint(
         Subject::Database => Ok(Hint::Database {
             is_container: found.is_some(),
         }),
-        Subject::AbsentDatabase => Ok(absent_database(found.is_some())),
+        Subject::AbsentDatabase => Ok(absent_database_hint(found.is_some())),
         Subject::SharedPath => Ok(Hint::SharedPath),
         Subject::Nothing => Ok(Hint::Nothing),
     }
 }
 
 // There is no database, unless one is found.
-fn absent_database(is_found: bool) -> Hint
-    ensures { result ≡ absent_database is_found }
+fn absent_database_hint(is_found: bool) -> Hint
+    ensures { result ≡ absent_database_hint is_found }
 {
     if is_found {
         Hint::Nothing

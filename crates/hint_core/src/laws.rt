@@ -4,15 +4,15 @@ ghost use Rattle.std.specs.Prelude.{◌≡◌, ℕ, List, [], Contains, Option, 
 ghost use Rattle.dep_core.specs.Repositories.{Repository};
 ghost use Rattle.report_core.specs.declared.refusal.Refusal.{Refusal};
 ghost use Rattle.hint_core.specs.Hints.{hints_of};
-ghost use Rattle.hint_core.specs.Truths.{IsSo};
+ghost use Rattle.hint_core.specs.Truths.{IsTrueHint};
 ghost use Rattle.hint_core.specs.Warnings.{tag_line, tag_warning};
 
 /// Both hints of a refusal are so, of the words, and of the file that the refusal is about.
 pub fn hints_are_so()
     ensures subject { (words : List (List ℕ)) (refusal : Refusal) (found : Option (List ℕ))
-        → IsSo words refusal found (hints_of words refusal found).subject }
+        → IsTrueHint words refusal found (hints_of words refusal found).subject }
     ensures cause { (words : List (List ℕ)) (refusal : Refusal) (found : Option (List ℕ))
-        → IsSo words refusal found (hints_of words refusal found).cause }
+        → IsTrueHint words refusal found (hints_of words refusal found).cause }
 {}
 
 /// A tag is warned of if no repository has it, and not if one has it.

@@ -2,7 +2,7 @@
 ghost use Rattle.std.specs.Prelude.{◌≡◌, ◌++◌, codes, IfOk, OnOk};
 ghost use Rattle.adb_view.specs.Schema.{field_name_text};
 ghost use Rattle.hint_core.specs.Hints.{hint_file_name};
-ghost use Rattle.hint_core.specs.Lines.{database_text, field_line, hint_line, hint_lines, line_line, missing_line, repository_hint_line, table_text, word_line};
+ghost use Rattle.hint_core.specs.Lines.{database_file_name_of, field_line, hint_line, hint_lines, line_hint_line, missing_information_line, repository_hint_line, table_text, word_line};
 
 use crate::hint::{Hint, HintFile, Hints};
 use crate::printed::{printed, push_texts};
@@ -35,7 +35,7 @@ fn push_hint(alloc: Global, lines: &mut Vec<u8>, hint: &Hint) -> Result<(), Allo
             lines,
             &[
                 b"apk: the package database is ",
-                database_text(*is_container),
+                database_file_name_of(*is_container),
                 b"\n",
             ],
         ),
@@ -86,7 +86,7 @@ fn push_word(alloc: Global, lines: &mut Vec<u8>, place: u32, word: &[u8]) -> Res
 
 // Adds the line that says that information of a package is missing.
 fn push_missing(lines: &mut Vec<u8>, place: u32) -> Result<(), AllocError>
-    ensures { OnOk result (lines.new.items ≡ lines.old.items ++ missing_line place) }
+    ensures { OnOk result (lines.new.items ≡ lines.old.items ++ missing_information_line place) }
 {
     let mut digits = Buffer::new();
     push_texts(
@@ -135,7 +135,7 @@ fn push_line(
     line: u64,
     text: &[u8],
 ) -> Result<(), AllocError>
-    ensures { OnOk result (lines.new.items ≡ lines.old.items ++ line_line file line text.now) }
+    ensures { OnOk result (lines.new.items ≡ lines.old.items ++ line_hint_line file line text.now) }
 {
     let shown = printed(alloc, text)?;
     let mut digits = Buffer::new();
@@ -190,8 +190,8 @@ fn file_text(file: HintFile) -> &'static [u8]
 }
 
 // The path of the file that the database is in.
-fn database_text(is_container: bool) -> &'static [u8]
-    ensures { result.now ≡ database_text is_container }
+fn database_file_name_of(is_container: bool) -> &'static [u8]
+    ensures { result.now ≡ database_file_name_of is_container }
 {
     if is_container {
         b"lib/apk/db/installed.adb"

@@ -5,9 +5,9 @@ ghost use Rattle.std.specs.Prelude.{◌≡◌, ◌⊎◌, ◌++◌, [], ℕ, Lis
 ghost use Rattle.base_core.specs.Read.{OnlyReads};
 ghost use Rattle.base_core.specs.Sink.{sink_change};
 ghost use Rattle.dep_core.specs.Repositories.{repositories_of};
-ghost use Rattle.report_core.specs.Reports.{name_version};
+ghost use Rattle.report_core.specs.Reports.{name_dash_version};
 ghost use Rattle.root_names.specs.PackagePath.{package_path};
-ghost use Rattle.hint_core.specs.PackageFile.{ExplainsBeside, ExplainsByText, ExplainsEach, ExplainsIfPackage, ExplainsPackage, ExplainsPackageFile, package_file_line};
+ghost use Rattle.hint_core.specs.PackageFile.{ExplainsBeside, ExplainsByText, ExplainsEach, ExplainsPackageRefusal, ExplainsPackage, ExplainsPackageFile, package_file_line};
 ghost use Rattle.hint_core.specs.Lines.{printed_bytes, printed_text};
 ghost use Rattle.hint_core.specs.Told.{Tells};
 
@@ -75,7 +75,7 @@ fn lines_of_refusal<T: Tree>(
     tree: &mut T,
 ) -> Result<Vec<u8>, TreeFault>
     ensures lines { IfOk result (λ lines.
-        ExplainsIfPackage refusal.now (T.history tree.old) lines.items) }
+        ExplainsPackageRefusal refusal.now (T.history tree.old) lines.items) }
     ensures tree { OnlyReads TreeFault.Disk (T.history tree.old) (T.history tree.new)
         (T.counts tree.old) (T.counts tree.new) result }
 {
@@ -217,7 +217,7 @@ fn push_package_file_line(
 // The text that shows a package.
 fn shown_package(alloc: Global, name: &[u8], version: &[u8]) -> Result<Vec<u8>, AllocError>
     ensures { IfOk result (λ text.
-        text.items ≡ printed_text (name_version name.now version.now)) }
+        text.items ≡ printed_text (name_dash_version name.now version.now)) }
 {
     let mut package = Vec::from_slice(alloc, name)?;
     package.extend_from_slice(b"-")?;

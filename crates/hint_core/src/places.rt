@@ -1,18 +1,18 @@
 //! The field at a place of a container: 100 times the number of a table plus the number of a field;
 //! and the table of a schema. The rules are in `docs/formats.md`, "Schemas" and "Container".
 ghost use Rattle.std.specs.Prelude.{◌≡◌};
-ghost use Rattle.hint_core.specs.Hints.{field_in, place_hint, schema_hint, table_numbered};
+ghost use Rattle.hint_core.specs.Hints.{field_hint_in_table, place_hint, schema_hint, table_numbered};
 
 use crate::hint::Hint;
 use adb_view::{Which, fields_of};
-use pkg_core::root_of_schema;
+use pkg_core::table_of_schema;
 
 /// The field at a place.
 pub(crate) fn place_hint(place: u16) -> Hint
     ensures { result ≡ place_hint place }
 {
     match table_numbered(place / 100) {
-        Some(table) => field_in(place, table),
+        Some(table) => field_hint_in_table(place, table),
         None => Hint::Nothing,
     }
 }
@@ -37,8 +37,8 @@ fn table_numbered(number: u16) -> Option<Which>
 }
 
 // The field of a table at a place.
-fn field_in(place: u16, table: Which) -> Hint
-    ensures { result ≡ field_in place table }
+fn field_hint_in_table(place: u16, table: Which) -> Hint
+    ensures { result ≡ field_hint_in_table place table }
 {
     let number = usize::from(place % 100);
     if number == 0 {
@@ -58,7 +58,7 @@ fn field_in(place: u16, table: Which) -> Hint
 pub(crate) fn schema_hint(found: u32) -> Hint
     ensures { result ≡ schema_hint found }
 {
-    match root_of_schema(found) {
+    match table_of_schema(found) {
         Some(table) => Hint::Schema { table },
         None => Hint::UnknownSchema,
     }

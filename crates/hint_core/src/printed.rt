@@ -2,8 +2,8 @@
 //! "Hints".
 ghost use Rattle.std.specs.Prelude.{◌≡◌, ◌++◌, ◌∷◌, [], IfOk, OnOk, map, take};
 ghost use Rattle.hex.specs.Hex.{encode_lower};
-ghost use Rattle.words_core.specs.Usage.{longest_shown, texts_joined};
-ghost use Rattle.hint_core.specs.Lines.{cut_mark, is_printed, printed_byte, printed_bytes, printed_text};
+ghost use Rattle.words_core.specs.Usage.{most_shown_bytes, texts_joined};
+ghost use Rattle.hint_core.specs.Lines.{dots_if_cut, is_printed, printed_byte, printed_bytes, printed_text};
 
 use std::alloc::{AllocError, Global};
 
@@ -16,13 +16,13 @@ pub(crate) fn printed(alloc: Global, bytes: &[u8]) -> Result<Vec<u8>, AllocError
 {
     let mut text = Vec::new(alloc);
     push_printed(&mut text, shown_part(bytes))?;
-    text.extend_from_slice(cut_mark(bytes))?;
+    text.extend_from_slice(dots_if_cut(bytes))?;
     Ok(text)
 }
 
 // The bytes that are shown.
 fn shown_part(bytes: &[u8]) -> &[u8]
-    ensures { result.now ≡ take longest_shown bytes.now }
+    ensures { result.now ≡ take most_shown_bytes bytes.now }
 {
     if bytes.len() > LONGEST_SHOWN {
         &bytes[..LONGEST_SHOWN]
@@ -32,8 +32,8 @@ fn shown_part(bytes: &[u8]) -> &[u8]
 }
 
 // What follows the bytes that are shown, if there are more.
-fn cut_mark(bytes: &[u8]) -> &'static [u8]
-    ensures { result.now ≡ cut_mark bytes.now }
+fn dots_if_cut(bytes: &[u8]) -> &'static [u8]
+    ensures { result.now ≡ dots_if_cut bytes.now }
 {
     if bytes.len() > LONGEST_SHOWN {
         b".."

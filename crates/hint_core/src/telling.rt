@@ -7,7 +7,7 @@ ghost use Rattle.base_core.specs.Sink.{sink_change};
 ghost use Rattle.words_core.specs.Grammar.{command_of};
 ghost use Rattle.hint_core.specs.Hints.{hint_file_name, hints_of, is_explained, subject_file, subject_of};
 ghost use Rattle.hint_core.specs.Lines.{hint_lines};
-ghost use Rattle.hint_core.specs.Told.{IsFoundFor, IsNoDisk, Tells, lines_told};
+ghost use Rattle.hint_core.specs.Told.{IsFoundForSubject, IsNotDiskFault, Tells, hint_lines_after_refusal};
 
 use crate::find::hints;
 use crate::hint::{HintFile, Subject, subject_of};
@@ -85,8 +85,8 @@ pub fn explain<T: Tree, S: Sink>(
 ) -> Result<(), HintFault>
     // The lines are those of the words, and of the file as it is.
     ensures told { (found : Option (List ℕ))
-        × IsFoundFor (T.history tree.old) (subject_of refusal.now) found
-        × Tells (lines_told words.now refusal.now found)
+        × IsFoundForSubject (T.history tree.old) (subject_of refusal.now) found
+        × Tells (hint_lines_after_refusal words.now refusal.now found)
         (sink_change S.bytes S.counts sink.old sink.new) result }
     // The tree is only read.
     ensures tree { OnlyReads HintFault.Disk (T.history tree.old) (T.history tree.new)
@@ -117,7 +117,7 @@ fn read_subject<T: Tree>(
     tree: &mut T,
 ) -> Result<Option<Vec<u8>>, TreeFault>
     ensures found { IfOk result (λ found.
-        IsFoundFor (T.history tree.old) subject (bytes_in found)) }
+        IsFoundForSubject (T.history tree.old) subject (bytes_in found)) }
     ensures tree { OnlyReads TreeFault.Disk (T.history tree.old) (T.history tree.new)
         (T.counts tree.old) (T.counts tree.new) result }
 {
@@ -174,7 +174,7 @@ fn tell<S: Sink>(
     ensures told { Tells (hint_lines (hints_of words.now refusal.now (option_copied found.entry)))
         (sink_change S.bytes S.counts sink.old sink.new) result }
     // No tree failed.
-    ensures failed { IfErr result IsNoDisk }
+    ensures failed { IfErr result IsNotDiskFault }
 {
     let hints = hints(alloc, words, refusal, found)?;
     let lines = hint_lines(alloc, &hints)?;

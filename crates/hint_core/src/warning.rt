@@ -7,8 +7,8 @@ ghost use Rattle.base_core.specs.Read.{OnlyReads, bytes_in};
 ghost use Rattle.base_core.specs.Sink.{sink_change};
 ghost use Rattle.dep_core.specs.Repositories.{Repository, repositories_of};
 ghost use Rattle.words_core.specs.Grammar.{command_of};
-ghost use Rattle.hint_core.specs.Told.{IsNoDisk, Tells};
-ghost use Rattle.hint_core.specs.Warnings.{WarnsBy, WarnsIfGiven, WarnsOfFolder, WarnsOfTags, Warns, folder_line, is_tag_of, is_tagged, folder_to_pack, tag_line, tag_of, tag_warning, tag_warnings, text_of_found, warnings_by};
+ghost use Rattle.hint_core.specs.Told.{IsNotDiskFault, Tells};
+ghost use Rattle.hint_core.specs.Warnings.{WarnsForApplet, WarnsIfGiven, WarnsOfFolder, WarnsOfTags, Warns, folder_line, is_tag_of, has_repository_with_tag, folder_to_pack, tag_line, tag_of, tag_warning, tag_warnings, text_of_found, tag_warnings_if_read};
 
 use crate::printed::{printed, push_texts};
 use crate::telling::HintFault;
@@ -50,7 +50,7 @@ pub fn warn<T: Tree, S: Sink>(
 pub(crate) fn say<S: Sink>(lines: &[u8], sink: &mut S) -> Result<(), HintFault>
     ensures told { Tells lines.now (sink_change S.bytes S.counts sink.old sink.new) result }
     // No tree failed.
-    ensures failed { IfErr result IsNoDisk }
+    ensures failed { IfErr result IsNotDiskFault }
 {
     Ok(write_all(sink, lines)?)
 }
@@ -76,7 +76,7 @@ fn warnings_of<T: Tree>(
     tree: &mut T,
 ) -> Result<Vec<u8>, TreeFault>
     ensures lines { IfOk result (λ lines.
-        WarnsBy command.now.applet command.now (T.history tree.old) lines.items) }
+        WarnsForApplet command.now.applet command.now (T.history tree.old) lines.items) }
     ensures tree { OnlyReads TreeFault.Disk (T.history tree.old) (T.history tree.new)
         (T.counts tree.old) (T.counts tree.new) result }
 {
@@ -172,7 +172,7 @@ pub(crate) fn text_of_found(found: &Option<Vec<u8>>) -> &[u8]
 // The warnings of the tags of operands, given the text that names the repositories.
 fn warnings_by_text(alloc: Global, text: &[u8], operands: &Operands) -> Result<Vec<u8>, AllocError>
     ensures { IfOk result (λ lines.
-        lines.items ≡ warnings_by (repositories_of text.now) operands.now) }
+        lines.items ≡ tag_warnings_if_read (repositories_of text.now) operands.now) }
 {
     match Repos::read(alloc, text) {
         Ok(repos) => warnings_of_all(alloc, &repos, operands),
@@ -218,7 +218,7 @@ fn push_unless_tagged(
     ensures { OnOk result (lines.new.items
         ≡ lines.old.items ++ tag_warning repos.now (Some tag.now)) }
 {
-    if is_tagged(repos, tag) {
+    if has_repository_with_tag(repos, tag) {
         return Ok(());
     }
     let shown = printed(alloc, tag)?;
@@ -236,8 +236,8 @@ fn tag_of(text: &[u8]) -> Option<&[u8]>
 }
 
 // Whether one of some repositories has a tag.
-fn is_tagged(repos: &Repos, tag: &[u8]) -> bool
-    ensures { result ≡ is_tagged repos.now tag.now }
+fn has_repository_with_tag(repos: &Repos, tag: &[u8]) -> bool
+    ensures { result ≡ has_repository_with_tag repos.now tag.now }
 {
     for i in 0..repos.len() {
         if is_tag_of(tag, repos.tag(i)) {

@@ -19,6 +19,9 @@ pub const FOLDER_MODE: u32 = 0o755;
 /// and the three bits for programs and folders above them.
 const ALL_BITS: u32 = 0o7777;
 
+/// The rights to execute a file, of the owner, the group and the others.
+const EXECUTE_BITS: u32 = 0o111;
+
 /// The rights of the owner, the group and the others.
 const RIGHTS_BITS: u32 = 0o777;
 
@@ -44,6 +47,11 @@ impl Rights {
             user: data.uid(),
             group: data.gid(),
         }
+    }
+
+    /// Whether anybody may execute the file.
+    pub fn may_execute(&self) -> bool {
+        self.mode & EXECUTE_BITS != 0
     }
 
     /// Whether user and group are equal.

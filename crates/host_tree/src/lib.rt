@@ -34,6 +34,8 @@ pub struct HostTree<'a, R: Host> {
     failure: Option<Failure>,
     /// Whether the folders are noted that an earlier run may have changed and not synced.
     has_noted_earlier_changes: bool,
+    /// Whether the last list with names omitted an execute permission or an empty folder.
+    has_omitted: bool,
 }
 
 impl<'a, R: Host> HostTree<'a, R> {
@@ -48,6 +50,7 @@ impl<'a, R: Host> HostTree<'a, R> {
             faults: 0,
             failure: None,
             has_noted_earlier_changes: false,
+            has_omitted: false,
         }
     }
 
@@ -65,6 +68,16 @@ impl<'a, R: Host> HostTree<'a, R> {
     /// Whether a change is committed and not done yet: the next command completes it.
     pub fn has_unfinished_change(&self) -> bool {
         self.root.has_unfinished_change()
+    }
+
+    /// Whether a list since the last such call had names, and omitted that a file is executable or
+    /// that a folder is empty (`docs/commands.md`, "Warnings").
+    pub fn take_omitted(&mut self) -> bool
+        ensures faults { self.new.faults ≡ self.old.faults }
+    {
+        let taken = self.has_omitted;
+        self.has_omitted = false;
+        taken
     }
 
     /// Releases the lock on the root. No call follows this one.
@@ -197,8 +210,12 @@ impl<'a, R: Host> Tree for HostTree<'a, R> {
     // The files below a folder, by their names; running out of memory for the result is no fault of
     // the tree.
     fn list(&mut self, alloc: Global, folder: &Name) -> Result<Names, TreeFault> {
-        match list_below(&mut self.root, alloc, folder) {
-            Ok(names) => Ok(names),
+        let mut has_omitted = false;
+        match list_below(&mut self.root, alloc, folder, &mut has_omitted) {
+            Ok(names) => {
+                self.has_omitted = has_omitted && !names.is_empty();
+                Ok(names)
+            }
             Err(HostFault::Memory) => Err(TreeFault::Memory),
             Err(fault) => {
                 let fault = self.note_failure("list", folder.as_bytes(), b"", fault);

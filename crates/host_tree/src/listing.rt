@@ -5,18 +5,21 @@ ghost use Rattle.std.specs.Cmp.Lexicographic.{slice_cmp};
 ghost use Rattle.std.specs.List.Sorted.{IsSorted};
 ghost use Rattle.std.specs.Ordering.{nat_cmp};
 ghost use Rattle.base_core.specs.Files.{IsFolderOf};
-ghost use Rattle.base_core.specs.Listed.{AreNamesBelow, IsRising};
+ghost use Rattle.base_core.specs.Listed.{AreNamesBelow, AreSortedDistinctNames};
 
 use base_core::{Name, Names, is_folder_of};
 use host_root::{Found, Host, HostFault, Reason, Root, path_text};
 use std::alloc::{AllocError, Global};
 use std::fs;
 
-/// The names of all regular files below a folder, at any depth, in byte order, each once.
+/// The names of all regular files below a folder, at any depth, in byte order, each once. They omit
+/// which files are executable and which folders are empty: `has_omitted` is set if there is such a
+/// file or folder.
 pub fn list_below<R: Host>(
     root: &mut Root<'_, R>,
     alloc: Global,
     folder: &Name,
+    has_omitted: &mut bool,
 ) -> Result<Names, HostFault>
     ensures { IfOk result (AreNamesBelow folder.now) }
 {
@@ -35,7 +38,7 @@ pub fn list_below<R: Host>(
             break;
         };
         root.keep_known(next.as_bytes())?;
-        walk.visit(root, folder, &next)?;
+        walk.visit(root, folder, &next, has_omitted)?;
     }
     Ok(walk.into_names()?)
 }
@@ -57,13 +60,19 @@ impl Walk {
         root: &mut Root<'_, R>,
         top: &Name,
         folder: &Name,
+        has_omitted: &mut bool,
     ) -> Result<(), HostFault>
         requires { All (IsFolderOf top.now) self.old.files.items }
         ensures { All (IsFolderOf top.now) self.new.files.items }
     {
+        let mut is_empty = true;
         for entry in fs::read_dir(root.runtime(), path_text(folder.as_bytes())?)? {
             let entry = entry?;
-            self.meet(root, top, entry.path().as_str().as_bytes())?;
+            is_empty = false;
+            self.meet(root, top, entry.path().as_str().as_bytes(), has_omitted)?;
+        }
+        if is_empty {
+            *has_omitted = true;
         }
         Ok(())
     }
@@ -75,6 +84,7 @@ impl Walk {
         root: &mut Root<'_, R>,
         top: &Name,
         path: &[u8],
+        has_omitted: &mut bool,
     ) -> Result<(), HostFault>
         requires { All (IsFolderOf top.now) self.old.files.items }
         ensures { All (IsFolderOf top.now) self.new.files.items }
@@ -87,7 +97,12 @@ impl Walk {
         }
         match root.find(path)? {
             Found::Folder => Ok(keep(&mut self.folders, name)?),
-            Found::File(_) => Ok(keep(&mut self.files, name)?),
+            Found::File(file) => {
+                if file.rights.may_execute() {
+                    *has_omitted = true;
+                }
+                Ok(keep(&mut self.files, name)?)
+            }
             Found::Nothing => Ok(()),
         }
     }
@@ -108,7 +123,7 @@ impl Walk {
 /// Names in byte order, each once: of adjacent equal ones one is left.
 fn each_once(alloc: Global, sorted: Vec<Name>) -> Result<Names, AllocError>
     requires { IsSorted (slice_cmp nat_cmp) sorted.items }
-    ensures rising { IfOk result IsRising }
+    ensures rising { IfOk result AreSortedDistinctNames }
     ensures each { IfOk result (All (Contains sorted.items)) }
 {
     let mut names = Names::new(alloc);

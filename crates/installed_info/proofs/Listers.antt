@@ -5,7 +5,7 @@ use Rattle.std.specs.List.{find, list_any}
 use Rattle.std.proofs.lemmas.Slice.Eq.{bytes_eq-Decides}
 use Rattle.adb_view.specs.Plain.{Plain}
 use Rattle.candidate_core.specs.adb_fields.FirstPair.{IsIn}
-use Rattle.candidate_core.specs.adb_fields.Once.{AreApart, AreDistinctNames, IsInOneOf}
+use Rattle.candidate_core.specs.adb_fields.Once.{ShareNoName, AreDistinctNames, IsInOneOf}
 use Rattle.candidate_core.specs.adb_fields.Repeated.{package_name, paths_in}
 use Rattle.file_owners.specs.db_core.Packages.{lists_path}
 use Rattle.installed_info.specs.Packages.{package_named, path_owner}
@@ -49,7 +49,7 @@ in_one_of path pkg [] h listed = absurd h
 in_one_of path pkg (x ∷ packages) (inl e) listed = inl (subst (λ z. IsIn path (paths_in z)) e listed)
 in_one_of path pkg (x ∷ packages) (inr h) listed = inr (in_one_of path pkg packages h listed)
 
-pub lister_owns : (path : List ℕ) (pkg : Plain) (packages : List Plain) → AreApart (map paths_in packages) → IsIn pkg packages → IsIn path (paths_in pkg) → path_owner packages path ≡ Some pkg
+pub lister_owns : (path : List ℕ) (pkg : Plain) (packages : List Plain) → ShareNoName (map paths_in packages) → IsIn pkg packages → IsIn path (paths_in pkg) → path_owner packages path ≡ Some pkg
 lister_owns path pkg [] apart h in_paths = absurd h
 lister_owns path pkg (x ∷ packages) apart (inl e) in_paths =
     ap (λ t. cond t (Some x) (path_owner packages path)) (is_listed path (paths_in x) (subst (λ z. IsIn path (paths_in z)) e in_paths)) ∙ ap (λ z. Some z) (sym e)

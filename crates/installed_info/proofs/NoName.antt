@@ -7,7 +7,7 @@ use Rattle.std.proofs.lemmas.Slice.Eq.{bytes_eq-Decides}
 use Rattle.base_core.specs.Name.{is_name}
 use Rattle.adb_view.specs.Plain.{Plain}
 use Rattle.candidate_core.specs.adb_fields.Repeated.{paths_in}
-use Rattle.file_owners.specs.db_core.Packages.{lists_names}
+use Rattle.file_owners.specs.db_core.Packages.{lists_only_valid_names}
 use Rattle.installed_info.specs.Packages.{path_owner}
 
 not_among : (path : List ℕ) (paths : List (List ℕ)) → is_name path ≡ false → list_all is_name paths ≡ true → list_any (bytes_eq path) paths ≡ false
@@ -22,8 +22,8 @@ not_among path (p ∷ paths) no_name all =
     go true e rest = absurd (true≢false (sym here ∙ (ap is_name (sym ((bytes_eq-Decides path p).0 e)) ∙ no_name)))
     go false e rest = rest
 
-pub no_owner : (path : List ℕ) (packages : List Plain) → is_name path ≡ false → list_all lists_names packages ≡ true → path_owner packages path ≡ None
+pub no_owner : (path : List ℕ) (packages : List Plain) → is_name path ≡ false → list_all lists_only_valid_names packages ≡ true → path_owner packages path ≡ None
 no_owner path [] no_name all = refl
 no_owner path (pkg ∷ packages) no_name all =
-    ap (λ t. cond t (Some pkg) (path_owner packages path)) (not_among path (paths_in pkg) no_name (and_parts (lists_names pkg) (list_all lists_names packages) all).0)
-    ∙ no_owner path packages no_name (and_parts (lists_names pkg) (list_all lists_names packages) all).1
+    ap (λ t. cond t (Some pkg) (path_owner packages path)) (not_among path (paths_in pkg) no_name (and_parts (lists_only_valid_names pkg) (list_all lists_only_valid_names packages) all).0)
+    ∙ no_owner path packages no_name (and_parts (lists_only_valid_names pkg) (list_all lists_only_valid_names packages) all).1

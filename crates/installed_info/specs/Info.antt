@@ -19,7 +19,7 @@ use Rattle.report_core.specs.Reports.{contents_section, depends_section, descrip
 use Rattle.report_core.specs.declared.refusal.Refusal.{Refusal}
 use Rattle.report_core.specs.declared.refusal.Refusal.TheVariants.{NotInstalled}
 use Rattle.installed_info.specs.Form.{form_of}
-use Rattle.installed_info.specs.Packages.{package_asked}
+use Rattle.installed_info.specs.Packages.{package_meant_by}
 use Rattle.installed_info.specs.declared.telling.ReportAndRefusal.{ReportAndRefusal}
 use Rattle.installed_info.specs.declared.telling.Form.{Form}
 use Rattle.installed_info.specs.declared.telling.Form.TheVariants.{Contents, Depends, Description, Installed, Owner}
@@ -59,7 +59,7 @@ package_info Owner path pkg = owner_line (without_slash path) pkg
 -- the report on an operand: nothing if its package is not installed
 abbrev pub operand_info : Form → List Plain → Operand → List ℕ
 operand_info form packages o =
-    option_map_or (package_info form o.text) (package_asked form packages o.text) []
+    option_map_or (package_info form o.text) (package_meant_by form packages o.text) []
 
 -- the report on operands, in the order given
 abbrev pub operands_info : Form → List Plain → List Operand → List ℕ
@@ -69,7 +69,7 @@ operands_info form packages operands = flat_map (operand_info form packages) ope
 abbrev pub info_refusal : Form → List Plain → List Operand → Option Refusal
 info_refusal form packages [] = None
 info_refusal form packages (o ∷ operands) =
-    if is_some (package_asked form packages o.text) then info_refusal form packages operands else
+    if is_some (package_meant_by form packages o.text) then info_refusal form packages operands else
     Some (NotInstalled o.place)
 
 -- ---- of a database

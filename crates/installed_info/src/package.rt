@@ -6,7 +6,7 @@ ghost use Rattle.candidate_core.specs.adb_schema.Views.{package_value, dependenc
 ghost use Rattle.file_owners.specs.db_core.Seen.{packages_of};
 ghost use Rattle.file_owners.specs.Replaces.{version_text};
 ghost use Rattle.installed_info.specs.Info.{contents_text, depends_text, description_section_of, owner_line, package_info};
-ghost use Rattle.report_core.specs.Reports.{name_version, report_line, report_lines};
+ghost use Rattle.report_core.specs.Reports.{name_dash_version, report_line, report_lines};
 ghost use Rattle.std.specs.Option.{option_map_or, option_map};
 ghost use Rattle.std.specs.Prelude.{◌≡◌, ◌<◌, ◌++◌, [], length, slice_get, OnOk, map};
 ghost use Rattle.candidate_core.specs.adb_fields.ListValue.{list_value};
@@ -115,7 +115,7 @@ fn push_owner(report: &mut Vec<u8>, path: &[u8], pkg: &PackageView<'_>) -> Resul
 // rest.
 fn push_heading(report: &mut Vec<u8>, pkg: &PackageView<'_>, rest: &[u8]) -> Result<(), AllocError>
     ensures { OnOk result (report.new.items ≡ report.old.items
-        ++ report_line (name_version (package_name (package_value pkg.now))
+        ++ report_line (name_dash_version (package_name (package_value pkg.now))
         (version_text (package_value pkg.now)) ++ rest.now)) }
 {
     let info = pkg.info();

@@ -13,7 +13,7 @@ ghost use Rattle.adb_view.specs.declared.tables.Which.TheVariants.{Idb};
 ghost use Rattle.adb_view.specs.Plain.{Plain};
 ghost use Rattle.command_core.specs.Command.{CommandLine};
 ghost use Rattle.installed_info.specs.Packages.{package_named, path_owner};
-ghost use Rattle.installed_info.specs.Refusals.{IsOfAnOperand};
+ghost use Rattle.installed_info.specs.Refusals.{IsRefusalOfSomeOperand};
 ghost use Rattle.installed_info.specs.declared.telling.ReportAndRefusal.{ReportAndRefusal};
 ghost use Rattle.report_core.specs.declared.refusal.Refusal.{Refusal};
 
@@ -118,11 +118,11 @@ pub struct ReportAndRefusal {
 pub fn info_refuses_only_for_an_operand()
     // A refusal in place of the report.
     ensures refused { (c : CommandLine) (packages : List Plain) (refusal : Refusal)
-        → info_of c packages ≡ Err refusal → IsOfAnOperand c.operands refusal }
+        → info_of c packages ≡ Err refusal → IsRefusalOfSomeOperand c.operands refusal }
     // A refusal after the report.
     ensures following_refusal { (c : CommandLine) (packages : List Plain) (done : ReportAndRefusal)
         (refusal : Refusal) → info_of c packages ≡ Ok done → done.following_refusal ≡ Some refusal
-        → (c.flags.installed ≡ true) × IsOfAnOperand c.operands refusal }
+        → (c.flags.installed ≡ true) × IsRefusalOfSomeOperand c.operands refusal }
 {}
 
 /// A package that owns a path is installed and lists it; if no path is repeated, as in a database,

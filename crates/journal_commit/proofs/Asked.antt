@@ -4,10 +4,10 @@ use Rattle.std.specs.List.{list_any}
 use Rattle.std.specs.Str.{bytes_eq}
 use Rattle.base_core.specs.Crash.{Since}
 use Rattle.base_core.specs.Files.{Files}
-use Rattle.base_core.specs.Tree.{TreeState, bytes_at, files_of}
+use Rattle.base_core.specs.Tree.{TreeState, bytes_of_file_number, files_of}
 use Rattle.base_core.proofs.AtName.{other_name}
-use Rattle.journal_core.specs.Recovery.{Intent, after_actions, intent_at, intent_name, is_staged, recovered_files, recovered_files_by, stage_name}
-use Rattle.journal_core.specs.Staged.{IsEmptyStage, unstaged_files, with_staged}
+use Rattle.journal_core.specs.Recovery.{Intent, files_after_actions, intent_in_file, intent_name, is_staged, recovered_files, files_after_intent, stage_name}
+use Rattle.journal_core.specs.Staged.{IsEmptyStage, unstaged_files, files_with_staged}
 use Rattle.journal_core.specs.Targets.{AreAccepted}
 use Rattle.journal_core.proofs.Between.{staged_off}
 use Rattle.journal_core.proofs.Contents.{untouched_others}
@@ -16,7 +16,7 @@ use Rattle.journal_core.proofs.Acts.{among_index}
 use Rattle.journal_core.proofs.journal_intent.StageNames.{stage_name_staged}
 use Rattle.journal_core.specs.journal_intent.FreeNames.{AreFreeNames, HasFreeNames, IsNoneOf}
 use Rattle.journal_commit.specs.Asked.{IsAccepted, TargetsAreAccepted, HasAcceptedTargets}
-use Rattle.journal_commit.specs.StageRun.{IsReadExceptStaged, IsReadDuringChange, IsStageRun, IsStagingRun}
+use Rattle.journal_commit.specs.StageRun.{HasFilesExceptStaged, IsStateDuringChange, IsStageRun, IsStagingRun}
 use Rattle.journal_commit.proofs.Waits.{shown_off}
 
 true_false : true ≡ false → ⊥
@@ -35,28 +35,28 @@ unstaged_at : (files : Files) (q : List ℕ) (b : Bool) → is_staged q ≡ b �
 unstaged_at files q b is = ap (λ x. cond x None (recovered_files files q)) is
 
 unread_recovered : (files : Files) (q : List ℕ) → files intent_name ≡ None → recovered_files files q ≡ files q
-unread_recovered files q none = ap (λ o. recovered_files_by (intent_at o) files q) none
+unread_recovered files q none = ap (λ o. files_after_intent (intent_in_file o) files q) none
 
 module _ (accepts : Option (List ℕ) → List ℕ → Type 0) (v : TreeState) (unread : v.names intent_name ≡ None) (empty : IsEmptyStage (files_of v)) where
   none_read : files_of v intent_name ≡ None
-  none_read = ap (bytes_at v.files) unread
+  none_read = ap (bytes_of_file_number v.files) unread
 
-  same_waiting : (w : TreeState) → IsReadExceptStaged (files_of v) w → (q : List ℕ) (b : Bool) → is_staged q ≡ b → unstaged_files (files_of w) q ≡ files_of v q
+  same_waiting : (w : TreeState) → HasFilesExceptStaged (files_of v) w → (q : List ℕ) (b : Bool) → is_staged q ≡ b → unstaged_files (files_of w) q ≡ files_of v q
   same_waiting w keeps q true is = unstaged_at (files_of w) q true is ∙ sym (empty q is)
   same_waiting w keeps q false is =
       unstaged_at (files_of w) q false is ∙ unread_recovered (files_of w) q (keeps intent_name refl ∙ none_read) ∙ keeps q is
 
-  waiting_promises : (w : TreeState) → IsReadExceptStaged (files_of v) w → HasAcceptedTargets accepts (files_of v) w
+  waiting_promises : (w : TreeState) → HasFilesExceptStaged (files_of v) w → HasAcceptedTargets accepts (files_of v) w
   waiting_promises w keeps name differs = absurd (differs (same_waiting w keeps name (is_staged name) refl))
 
   pub staging_promises : (old now : History) → IsStagingRun v old now → Since (HasAcceptedTargets accepts (files_of v)) old now
-  staging_promises old now run = since_weaker (IsReadExceptStaged (files_of v)) (HasAcceptedTargets accepts (files_of v)) old now waiting_promises run.reads
+  staging_promises old now run = since_weaker (HasFilesExceptStaged (files_of v)) (HasAcceptedTargets accepts (files_of v)) old now waiting_promises run.reads
 
   module _ (intent : Intent) (contents : List (List ℕ)) (free : HasFreeNames intent) (accepted : AreAccepted accepts intent) where
     abbrev New : Files
-    New = after_actions intent (with_staged 1 contents (files_of v))
+    New = files_after_actions intent (files_with_staged 1 contents (files_of v))
 
-    shown_staged : (q : List ℕ) → is_staged q ≡ false → with_staged 1 contents (files_of v) q ≡ files_of v q
+    shown_staged : (q : List ℕ) → is_staged q ≡ false → files_with_staged 1 contents (files_of v) q ≡ files_of v q
     shown_staged q shown = staged_off contents 1 (files_of v) q (λ j from. shown_off (stage_name j) q (stage_name_staged j) shown)
 
     changed_accepted : (q : List ℕ) → is_staged q ≡ false → New q ≢ files_of v q → IsAccepted accepts q
@@ -66,14 +66,14 @@ module _ (accepts : Option (List ℕ) → List ℕ → Type 0) (v : TreeState) (
         by true w removed written = let at = among_index intent.removals q removed in (None, accepted.removals at.0 q at.1)
         by false true removed written = let at = among_index intent.writes q written in (Some (stage_name (at.0 + 1)), accepted.writes at.0 q at.1)
         by false false removed written =
-            absurd (differs (untouched_others intent (with_staged 1 contents (files_of v)) q shown removed written ∙ shown_staged q shown))
+            absurd (differs (untouched_others intent (files_with_staged 1 contents (files_of v)) q shown removed written ∙ shown_staged q shown))
 
     new_unread : New intent_name ≡ None
     new_unread =
-        untouched_others intent (with_staged 1 contents (files_of v)) intent_name refl (intent_not_among intent.removals free.removals) (intent_not_among intent.writes free.writes)
+        untouched_others intent (files_with_staged 1 contents (files_of v)) intent_name refl (intent_not_among intent.removals free.removals) (intent_not_among intent.writes free.writes)
         ∙ shown_staged intent_name refl ∙ none_read
 
-    in_change : (w : TreeState) → IsReadDuringChange New (files_of v) w → HasAcceptedTargets accepts (files_of v) w
+    in_change : (w : TreeState) → IsStateDuringChange New (files_of v) w → HasAcceptedTargets accepts (files_of v) w
     in_change w (inl keeps) name differs = waiting_promises w keeps name differs
     in_change w (inr (inl leads)) name differs = by (is_staged name) refl
       where
@@ -88,7 +88,7 @@ module _ (accepts : Option (List ℕ) → List ℕ → Type 0) (v : TreeState) (
             differs (ap (λ (files : Files). unstaged_files files name) read ∙ unstaged_at New name false is ∙ unread_recovered New name new_unread ∙ same))
 
     pub change_promises : (old now : History) → IsStageRun New v old now → Since (HasAcceptedTargets accepts (files_of v)) old now
-    change_promises old now run = since_weaker (IsReadDuringChange New (files_of v)) (HasAcceptedTargets accepts (files_of v)) old now in_change run.reads
+    change_promises old now run = since_weaker (IsStateDuringChange New (files_of v)) (HasAcceptedTargets accepts (files_of v)) old now in_change run.reads
 
 -- ---- runs that begin with reads
 

@@ -5,18 +5,18 @@ use Rattle.base_core.specs.Crash.{Since}
 use Rattle.base_core.specs.Undone.{IsDurable}
 use Rattle.base_core.specs.Files.{Files}
 use Rattle.base_core.specs.Restart.{EachMoment, SinceGivenEarlier}
-use Rattle.base_core.specs.Tree.{TreeState, File, bytes_at, files_of}
-use Rattle.journal_core.specs.Kept.{HasOldOrNewBytes, IsInNoMap, KeepsFilesExcept, KeepsMapsExcept, KeepsOldOrNewBytes, RecoversTo, ShownNamesAreDurable}
+use Rattle.base_core.specs.Tree.{TreeState, File, bytes_of_file_number, files_of}
+use Rattle.journal_core.specs.Kept.{HasOldOrNewBytes, IsRestoredByNoCrash, KeepsFilesExcept, KeepsCrashMapsExcept, KeepsOldOrNewBytes, RecoversTo, ShownNamesAreDurable}
 use Rattle.journal_core.specs.Quiet.{StateIsUnchanged}
-use Rattle.journal_core.specs.Recovery.{Intent, EachCrashLeaves, StateDependsOn, after_actions, intent_at, intent_name, stage_name}
-use Rattle.journal_core.specs.Staged.{WasCommittedFor, IsActing, IsEmptyStage, IsOldUntilCommit, IsStaged, CommittedBy, Staging}
+use Rattle.journal_core.specs.Recovery.{Intent, EachCrashLeaves, StateDependsOn, files_after_actions, intent_in_file, intent_name, stage_name}
+use Rattle.journal_core.specs.Staged.{WasCommittedFor, IsCarryingOutActions, IsEmptyStage, IsOldUntilCommit, IsStaged, CommittedBy, Staging}
 use Rattle.journal_core.proofs.Between.{no_intent_read}
 use Rattle.journal_core.proofs.Chain.{by_now, now_both}
 use Rattle.journal_core.proofs.History.{History, now_map, now_since, observable_at, observable_map, on_observable, since_on, since_weaker}
 use Rattle.journal_core.proofs.Lasting.{some_none}
 use Rattle.journal_core.proofs.OnTheWay.{way_after}
 use Rattle.journal_core.specs.journal_intent.FreeNames.{HasFreeNames}
-use Rattle.journal_commit.specs.StageRun.{IsReadDuringChange, IsStageRun, IsStageRunComplete, IsStaging, NamesAreDurableWithoutIntent}
+use Rattle.journal_commit.specs.StageRun.{IsStateDuringChange, IsStageRun, IsStageRunComplete, IsStaging, NamesAreDurableWithoutIntent}
 use Rattle.journal_commit.proofs.Empty.{change_empties}
 use Rattle.journal_commit.proofs.Joins.{now_of, since_and}
 use Rattle.journal_commit.proofs.Waits.{none_entering, shown_last}
@@ -26,7 +26,7 @@ way_now : (ignored : List ℕ → Bool) (files : Files) (u : TreeState) (added o
 way_now ignored files u [] old published each = absurd published
 way_now ignored files u (w ∷ added) old published each = (each.0.is_durable, each.0.made)
 
-names_some : (files : ℕ → File) (o : Option ℕ) (intent : Intent) → intent_at (bytes_at files o) ≡ Some intent → IsSome o
+names_some : (files : ℕ → File) (o : Option ℕ) (intent : Intent) → intent_in_file (bytes_of_file_number files o) ≡ Some intent → IsSome o
 names_some files None intent is = absurd (cc (is))
 names_some files (Some n) intent is = refl
 
@@ -40,27 +40,27 @@ module _ (stage : Staging) (contents : List (List ℕ)) (v : TreeState) (first m
   empty : (u : TreeState) → W u → IsEmptyStage H
   empty u waits = change_empties stage.intent contents (files_of v) free (waits.count ∙ all) s.empty
 
-  same : (u : TreeState) → W u → after_actions stage.intent (files_of u) ≡ H
+  same : (u : TreeState) → W u → files_after_actions stage.intent (files_of u) ≡ H
   same = same_files stage contents v first mid s
 
   -- ---- the publishing, whatever it answers
 
   module _ (now : History) where
     abbrev pub IsCommittedFor : Type 0
-    IsCommittedFor = IfObservable mid (λ u. (ignored : List ℕ → Bool) (cs : List (List ℕ)) (base : Files) → IsDurable (StateDependsOn ignored) u → IsStaged stage cs None base u → SinceGivenEarlier (IsOldUntilCommit ignored (after_actions stage.intent (files_of u)) u) mid now)
+    IsCommittedFor = IfObservable mid (λ u. (ignored : List ℕ → Bool) (cs : List (List ℕ)) (base : Files) → IsDurable (StateDependsOn ignored) u → IsStaged stage cs None base u → SinceGivenEarlier (IsOldUntilCommit ignored (files_after_actions stage.intent (files_of u)) u) mid now)
 
     publish_way : IsCommittedFor → Way stage contents v first mid s now
     publish_way moments = observable_map mid _ (λ u. (ignored : List ℕ → Bool) → IsDurable (StateDependsOn ignored) u → W u → SinceGivenEarlier (IsOldUntilCommit ignored H u) mid now) moments (λ u t ignored is_durable waits.
         subst (λ (F : Files). SinceGivenEarlier (IsOldUntilCommit ignored F u) mid now) (same u waits) (t ignored contents (files_of v) is_durable waits))
 
     abbrev pub PublishReads : Type 0
-    PublishReads = IfObservable mid (λ u. (cs : List (List ℕ)) (base : Files) → IsStaged stage cs None base u → Since (λ w. IsSome (w.names intent_name) → RecoversTo (after_actions stage.intent (files_of u)) w) mid now)
+    PublishReads = IfObservable mid (λ u. (cs : List (List ℕ)) (base : Files) → IsStaged stage cs None base u → Since (λ w. IsSome (w.names intent_name) → RecoversTo (files_after_actions stage.intent (files_of u)) w) mid now)
 
     abbrev pub PublishOthers : Type 0
     PublishOthers = IfObservable mid (λ u. Since (KeepsFilesExcept (λ q. (q ≡ intent_name) ⊎ (q ≡ stage_name 0)) u) mid now)
 
     abbrev pub PublishMaps : Type 0
-    PublishMaps = IfObservable mid (λ u. Since (KeepsMapsExcept (intent_name ∷ stage_name 0 ∷ []) u) mid now)
+    PublishMaps = IfObservable mid (λ u. Since (KeepsCrashMapsExcept (intent_name ∷ stage_name 0 ∷ []) u) mid now)
 
     both : (h : History) (A B C : TreeState → Type 0) → IfObservable h A → IfObservable h B → ((u : TreeState) → A u → B u → C u) → IfObservable h C
     both [] A B C a b f = tt
@@ -68,15 +68,15 @@ module _ (stage : Staging) (contents : List (List ℕ)) (v : TreeState) (first m
 
     publish_reads : PublishReads → PublishOthers → Reads stage contents v first mid s now
     publish_reads reads others =
-        both mid _ _ (λ u. W u → Since (IsReadDuringChange H (files_of u)) mid now) reads others (λ u read keeps waits.
+        both mid _ _ (λ u. W u → Since (IsStateDuringChange H (files_of u)) mid now) reads others (λ u read keeps waits.
         let recovers = subst (λ (F : Files). Since (λ w. IsSome (w.names intent_name) → RecoversTo F w) mid now) (same u waits) (read contents (files_of v) waits) in
-        since_weaker (λ w. KeepsFilesExcept (λ q. (q ≡ intent_name) ⊎ (q ≡ stage_name 0)) u w × (IsSome (w.names intent_name) → RecoversTo H w)) (IsReadDuringChange H (files_of u)) mid now
+        since_weaker (λ w. KeepsFilesExcept (λ q. (q ≡ intent_name) ⊎ (q ≡ stage_name 0)) u w × (IsSome (w.names intent_name) → RecoversTo H w)) (IsStateDuringChange H (files_of u)) mid now
         (λ w q. read_entering H (empty u waits) u w (no_intent_read stage contents (files_of v) u waits) q.0 q.1)
         (since_and (KeepsFilesExcept (λ q. (q ≡ intent_name) ⊎ (q ≡ stage_name 0)) u) (λ w. IsSome (w.names intent_name) → RecoversTo H w) mid now keeps recovers))
 
     publish_lasts : PublishMaps → Lasts stage contents v first mid s now
     publish_lasts maps = observable_map mid _ (λ u. W u → ShownNamesAreDurable u → Since NamesAreDurableWithoutIntent mid now) maps (λ u t waits last.
-        since_weaker (KeepsMapsExcept (intent_name ∷ stage_name 0 ∷ []) u) NamesAreDurableWithoutIntent mid now (λ w keeps none. shown_last (intent_name ∷ stage_name 0 ∷ []) none_entering u w keeps last) t)
+        since_weaker (KeepsCrashMapsExcept (intent_name ∷ stage_name 0 ∷ []) u) NamesAreDurableWithoutIntent mid now (λ w keeps none. shown_last (intent_name ∷ stage_name 0 ∷ []) none_entering u w keeps last) t)
 
     pub publish_run : IsCommittedFor → PublishReads → PublishOthers → PublishMaps → IsStageRun H v first now
     publish_run moments reads others maps = run_led stage contents v first mid s now (publish_way moments) (publish_reads reads others) (publish_lasts maps)
@@ -84,20 +84,20 @@ module _ (stage : Staging) (contents : List (List ℕ)) (v : TreeState) (first m
     -- ---- and all actions behind it
 
     module _ (next : Staging)
-        (published : IfObservable mid (λ u. (ignored : List ℕ → Bool) (cs : List (List ℕ)) (base : Files) → IsDurable (StateDependsOn ignored) u → IsStaged stage cs None base u → CommittedBy ignored (after_actions stage.intent (files_of u)) u mid now))
-        (settled : IfObservable mid (λ u. (ignored : List ℕ → Bool) (cs : List (List ℕ)) (base : Files) → IsDurable (StateDependsOn ignored) u → IsStaged stage cs None base u → HoldsNow now (EachCrashLeaves ignored (after_actions stage.intent (files_of u)))))
-        (acting : IfObservable mid (λ u. (cs : List (List ℕ)) (base : Files) → IsStaged stage cs None base u → HoldsNow now (IsActing next (after_actions stage.intent (files_of u)))))
+        (published : IfObservable mid (λ u. (ignored : List ℕ → Bool) (cs : List (List ℕ)) (base : Files) → IsDurable (StateDependsOn ignored) u → IsStaged stage cs None base u → CommittedBy ignored (files_after_actions stage.intent (files_of u)) u mid now))
+        (settled : IfObservable mid (λ u. (ignored : List ℕ → Bool) (cs : List (List ℕ)) (base : Files) → IsDurable (StateDependsOn ignored) u → IsStaged stage cs None base u → HoldsNow now (EachCrashLeaves ignored (files_after_actions stage.intent (files_of u)))))
+        (acting : IfObservable mid (λ u. (cs : List (List ℕ)) (base : Files) → IsStaged stage cs None base u → HoldsNow now (IsCarryingOutActions next (files_after_actions stage.intent (files_of u)))))
         (new : History) where
       abbrev Acts : TreeState → Type 0
-      Acts = IsActing next H
+      Acts = IsCarryingOutActions next H
 
       acts_now : HoldsNow now Acts
       acts_now =
           by_now mid W (HoldsNow now Acts) s.waiting
-          (observable_map mid _ (λ u. W u → HoldsNow now Acts) acting (λ u t waits. subst (λ (F : Files). HoldsNow now (IsActing next F)) (same u waits) (t contents (files_of v) waits)))
+          (observable_map mid _ (λ u. W u → HoldsNow now Acts) acting (λ u t waits. subst (λ (F : Files). HoldsNow now (IsCarryingOutActions next F)) (same u waits) (t contents (files_of v) waits)))
 
       abbrev pub EnactMoments : Type 0
-      EnactMoments = IfObservable now (λ x. (ignored : List ℕ → Bool) (files : Files) → IsDurable (StateDependsOn ignored) x → IsActing next files x → Since (StateIsUnchanged ignored x) now new)
+      EnactMoments = IfObservable now (λ x. (ignored : List ℕ → Bool) (files : Files) → IsDurable (StateDependsOn ignored) x → IsCarryingOutActions next files x → Since (StateIsUnchanged ignored x) now new)
 
       -- behind the publishing
       module _ (ignored : List ℕ → Bool) (u : TreeState) (waits : W u) (by_publish : CommittedBy ignored H u mid now) (here : HoldsNow now (EachCrashLeaves ignored H)) where
@@ -117,10 +117,10 @@ module _ (stage : Staging) (contents : List (List ℕ)) (v : TreeState) (first m
         durable_at : HoldsNow now (IsDurable (StateDependsOn ignored))
         durable_at = now_map now Here (IsDurable (StateDependsOn ignored)) all_here (λ x at. at.0.0)
 
-      published_at : (ignored : List ℕ → Bool) (u : TreeState) → W u → CommittedBy ignored (after_actions stage.intent (files_of u)) u mid now → CommittedBy ignored H u mid now
+      published_at : (ignored : List ℕ → Bool) (u : TreeState) → W u → CommittedBy ignored (files_after_actions stage.intent (files_of u)) u mid now → CommittedBy ignored H u mid now
       published_at ignored u waits by_publish = subst (λ (F : Files). CommittedBy ignored F u mid now) (same u waits) by_publish
 
-      settled_at : (ignored : List ℕ → Bool) (u : TreeState) → W u → HoldsNow now (EachCrashLeaves ignored (after_actions stage.intent (files_of u))) → HoldsNow now (EachCrashLeaves ignored H)
+      settled_at : (ignored : List ℕ → Bool) (u : TreeState) → W u → HoldsNow now (EachCrashLeaves ignored (files_after_actions stage.intent (files_of u))) → HoldsNow now (EachCrashLeaves ignored H)
       settled_at ignored u waits here = subst (λ (F : Files). HoldsNow now (EachCrashLeaves ignored F)) (same u waits) here
 
       enact_way : EnactMoments → Way stage contents v first mid s new
@@ -128,20 +128,20 @@ module _ (stage : Staging) (contents : List (List ℕ)) (v : TreeState) (first m
           enact_way_at ignored u waits (published_at ignored u waits (p ignored contents (files_of v) is_durable waits)) (settled_at ignored u waits (h ignored contents (files_of v) is_durable waits)) moments)
 
       abbrev pub EnactReads : Type 0
-      EnactReads = IfObservable now (λ x. (files : Files) → IsActing next files x → Since (RecoversTo files) now new)
+      EnactReads = IfObservable now (λ x. (files : Files) → IsCarryingOutActions next files x → Since (RecoversTo files) now new)
 
       abbrev pub EnactBytes : Type 0
-      EnactBytes = IfObservable now (λ x. (files : Files) → IsActing next files x → KeepsOldOrNewBytes files x now new)
+      EnactBytes = IfObservable now (λ x. (files : Files) → IsCarryingOutActions next files x → KeepsOldOrNewBytes files x now new)
 
       enact_reads : PublishReads → PublishOthers → EnactReads → EnactBytes → Reads stage contents v first mid s new
-      enact_reads reads others more bytes = on_observable mid (λ u. W u → Since (IsReadDuringChange H (files_of u)) mid new) (λ u rest is waits.
+      enact_reads reads others more bytes = on_observable mid (λ u. W u → Since (IsStateDuringChange H (files_of u)) mid new) (λ u rest is waits.
           let Keeps = KeepsFilesExcept (λ q. (q ≡ intent_name) ⊎ (q ≡ stage_name 0)) u in
           let keeps = observable_at mid u rest is (λ x. Since (KeepsFilesExcept (λ q. (q ≡ intent_name) ⊎ (q ≡ stage_name 0)) x) mid now) others in
-          since_on (IsReadDuringChange H (files_of u)) mid now new
-          (observable_at mid u rest is (λ x. W x → Since (IsReadDuringChange H (files_of x)) mid now) (publish_reads reads others) waits)
-          (by_now now (λ x. Acts x × Keeps x) (Since (IsReadDuringChange H (files_of u)) now new) (now_both now Acts Keeps acts_now (now_since Keeps mid now u rest is (λ q off. refl) keeps))
-          (both now _ _ (λ x. Acts x × Keeps x → Since (IsReadDuringChange H (files_of u)) now new) more bytes (λ x k b q.
-          since_weaker (λ w. RecoversTo H w × HasOldOrNewBytes (files_of u) H w) (IsReadDuringChange H (files_of u)) now new (λ w r. append_file_to H (files_of u) (empty u waits) w r.0 r.1)
+          since_on (IsStateDuringChange H (files_of u)) mid now new
+          (observable_at mid u rest is (λ x. W x → Since (IsStateDuringChange H (files_of x)) mid now) (publish_reads reads others) waits)
+          (by_now now (λ x. Acts x × Keeps x) (Since (IsStateDuringChange H (files_of u)) now new) (now_both now Acts Keeps acts_now (now_since Keeps mid now u rest is (λ q off. refl) keeps))
+          (both now _ _ (λ x. Acts x × Keeps x → Since (IsStateDuringChange H (files_of u)) now new) more bytes (λ x k b q.
+          since_weaker (λ w. RecoversTo H w × HasOldOrNewBytes (files_of u) H w) (IsStateDuringChange H (files_of u)) now new (λ w r. append_file_to H (files_of u) (empty u waits) w r.0 r.1)
           (since_and (RecoversTo H) (HasOldOrNewBytes (files_of u) H) now new (k H q.0) (b H q.0 (files_of u) (entered_bytes H u x q.1)))))))
 
       abbrev pub EnactLasts : Type 0
@@ -175,10 +175,10 @@ module _ (stage : Staging) (contents : List (List ℕ)) (v : TreeState) (first m
 
       module _ {T E : Type 0} where
         abbrev pub EnactFiles : Result T E → Type 0
-        EnactFiles r = IfObservable now (λ x. (files : Files) → IsActing next files x → OnOk r (HoldsNow new (λ w. (files_of w ≡ files) × (w.names intent_name ≡ None))))
+        EnactFiles r = IfObservable now (λ x. (files : Files) → IsCarryingOutActions next files x → OnOk r (HoldsNow new (λ w. (files_of w ≡ files) × (w.names intent_name ≡ None))))
 
         abbrev pub EnactSettled : Result T E → Type 0
-        EnactSettled r = IfObservable now (λ x. (ignored : List ℕ → Bool) (files : Files) → IsDurable (StateDependsOn ignored) x → IsActing next files x → OnOk r (HoldsNow new (EachCrashLeaves ignored files)))
+        EnactSettled r = IfObservable now (λ x. (ignored : List ℕ → Bool) (files : Files) → IsDurable (StateDependsOn ignored) x → IsCarryingOutActions next files x → OnOk r (HoldsNow new (EachCrashLeaves ignored files)))
 
         end_files : (r : Result T E) → EnactFiles r → OnOk r (HoldsNow new (λ w. (files_of w ≡ H) × (w.names intent_name ≡ None)))
         end_files r files = by_now now Acts (OnOk r (HoldsNow new (λ w. (files_of w ≡ H) × (w.names intent_name ≡ None)))) acts_now
@@ -195,15 +195,15 @@ module _ (stage : Staging) (contents : List (List ℕ)) (v : TreeState) (first m
                 (both mid _ _ (λ u. StateIsUnchanged ignored v u × W u → HoldsNow now (IsDurable (StateDependsOn ignored))) published settled (λ u p h q.
                 durable_at ignored u q.1 (published_at ignored u q.1 (p ignored contents (files_of v) q.0.is_durable q.1)) (settled_at ignored u q.1 (h ignored contents (files_of v) q.0.is_durable q.1))))
 
-        pub enact_done : (r : Result T E) → EnactLasts → EnactFiles r → EnactSettled r → OnOk r (IfObservable new (IsInNoMap intent_name)) → OnOk r (IsStageRunComplete H v new)
+        pub enact_done : (r : Result T E) → EnactLasts → EnactFiles r → EnactSettled r → OnOk r (IfObservable new (IsRestoredByNoCrash intent_name)) → OnOk r (IsStageRunComplete H v new)
         enact_done r lasts files ends gone = by r (end_files r files) (end_settled r ends) gone
           where
             by : (x : Result T E) → OnOk x (HoldsNow new (λ w. (files_of w ≡ H) × (w.names intent_name ≡ None))) → ((ignored : List ℕ → Bool) → IsDurable (StateDependsOn ignored) v → OnOk x (HoldsNow new (EachCrashLeaves ignored H)))
-                → OnOk x (IfObservable new (IsInNoMap intent_name)) → OnOk x (IsStageRunComplete H v new)
+                → OnOk x (IfObservable new (IsRestoredByNoCrash intent_name)) → OnOk x (IsStageRunComplete H v new)
             by (Ok x) reads settles none = record {
               reads = reads;
               settled = settles;
               last = end_lasts lasts reads;
-              gone = now_of new (λ w. (files_of w ≡ H) × (w.names intent_name ≡ None)) (IsInNoMap intent_name) reads none;
+              gone = now_of new (λ w. (files_of w ≡ H) × (w.names intent_name ≡ None)) (IsRestoredByNoCrash intent_name) reads none;
             }
             by (Err e) reads settles none = tt

@@ -5,7 +5,7 @@ use Rattle.base_core.specs.Crash.{Since}
 use Rattle.base_core.specs.Undone.{IsDurable}
 use Rattle.base_core.specs.Files.{Files}
 use Rattle.base_core.specs.Tree.{TreeState, files_of}
-use Rattle.journal_core.specs.Kept.{KeepsFilesExcept, KeepsMapsExcept, ShownNamesAreDurable}
+use Rattle.journal_core.specs.Kept.{KeepsFilesExcept, KeepsCrashMapsExcept, ShownNamesAreDurable}
 use Rattle.journal_core.specs.Quiet.{StateIsUnchanged}
 use Rattle.journal_core.specs.Recovery.{StateDependsOn, intent_name, is_staged, stage_name}
 use Rattle.journal_core.specs.Staged.{IsOnlyNameOfFile, IsStaged, Staging}
@@ -14,7 +14,7 @@ use Rattle.journal_core.proofs.Chain.{by_now}
 use Rattle.journal_core.proofs.History.{History, observable_map, since_weaker}
 use Rattle.journal_core.proofs.Waiting.{still_self}
 use Rattle.journal_core.specs.journal_intent.FreeNames.{IsNoneOf}
-use Rattle.journal_commit.specs.StageRun.{IsReadExceptStaged, IsStaging, IsStagingRun}
+use Rattle.journal_commit.specs.StageRun.{HasFilesExceptStaged, IsStaging, IsStagingRun}
 use Rattle.journal_commit.proofs.Joins.{since_more}
 use Rattle.journal_commit.proofs.Waits.{none_waiting, shown_files, shown_last}
 
@@ -27,7 +27,7 @@ module _ (stage : Staging) (contents : List (List ℕ)) (begun : Option (List �
   Stills = IfObservable mid (λ u. (ignored : List ℕ → Bool) → IsDurable (StateDependsOn ignored) u → Waits u → Since (StateIsUnchanged ignored u) mid new)
 
   abbrev pub Reads : Type 0
-  Reads = IfObservable mid (λ u. Waits u → Since (IsReadExceptStaged (files_of u)) mid new)
+  Reads = IfObservable mid (λ u. Waits u → Since (HasFilesExceptStaged (files_of u)) mid new)
 
   abbrev pub Lasts : Type 0
   Lasts = IfObservable mid (λ u. ShownNamesAreDurable u → Since ShownNamesAreDurable mid new)
@@ -39,9 +39,9 @@ module _ (stage : Staging) (contents : List (List ℕ)) (begun : Option (List �
         (observable_map mid _ (λ u. StateIsUnchanged ignored v u → Waits u → Since (StateIsUnchanged ignored v) mid new) stills (λ u t is_unchanged waits.
         since_weaker (StateIsUnchanged ignored u) (StateIsUnchanged ignored v) mid new (λ w. still_on ignored v u w is_unchanged) (t ignored is_unchanged.is_durable waits)));
     reads =
-        since_more (IsReadExceptStaged (files_of v)) Waits v first mid new s.start (λ q shown. refl) s.run.reads s.waiting
-        (observable_map mid _ (λ u. IsReadExceptStaged (files_of v) u → Waits u → Since (IsReadExceptStaged (files_of v)) mid new) reads (λ u t so_far waits.
-        since_weaker (IsReadExceptStaged (files_of u)) (IsReadExceptStaged (files_of v)) mid new (λ w more q shown. more q shown ∙ so_far q shown) (t waits)));
+        since_more (HasFilesExceptStaged (files_of v)) Waits v first mid new s.start (λ q shown. refl) s.run.reads s.waiting
+        (observable_map mid _ (λ u. HasFilesExceptStaged (files_of v) u → Waits u → Since (HasFilesExceptStaged (files_of v)) mid new) reads (λ u t so_far waits.
+        since_weaker (HasFilesExceptStaged (files_of u)) (HasFilesExceptStaged (files_of v)) mid new (λ w more q shown. more q shown ∙ so_far q shown) (t waits)));
     last = λ last.
         since_more ShownNamesAreDurable Waits v first mid new s.start last (s.run.last last) s.waiting
         (observable_map mid _ (λ u. ShownNamesAreDurable u → Waits u → Since ShownNamesAreDurable mid new) lasts (λ u t lasts waits. t lasts));
@@ -63,20 +63,20 @@ module _ (stage : Staging) (contents : List (List ℕ)) (begun : Option (List �
   abbrev pub Moments : Type 0
   Moments = IfObservable mid (λ u. (ignored : List ℕ → Bool) → IsDurable (StateDependsOn ignored) u → IsStaged stage contents begun (files_of v) u → Since (StateIsUnchanged ignored u) mid new)
 
-  lasts_by : (these : List (List ℕ)) → ((q : List ℕ) → q ≢ intent_name → is_staged q ≡ false → IsNoneOf q these) → IfObservable mid (λ u. Since (KeepsMapsExcept these u) mid new) → Lasts
+  lasts_by : (these : List (List ℕ)) → ((q : List ℕ) → q ≢ intent_name → is_staged q ≡ false → IsNoneOf q these) → IfObservable mid (λ u. Since (KeepsCrashMapsExcept these u) mid new) → Lasts
   lasts_by these none maps = observable_map mid _ (λ u. ShownNamesAreDurable u → Since ShownNamesAreDurable mid new) maps (λ u t last.
-      since_weaker (KeepsMapsExcept these u) ShownNamesAreDurable mid new (λ w keeps. shown_last these none u w keeps last) t)
+      since_weaker (KeepsCrashMapsExcept these u) ShownNamesAreDurable mid new (λ w keeps. shown_last these none u w keeps last) t)
 
-  pub begun_run : Moments → IfObservable mid (λ u. Since (KeepsFilesExcept (λ q. q ≡ Place) u) mid new) → IfObservable mid (λ u. Since (KeepsMapsExcept (Place ∷ []) u) mid new) → IsStagingRun v first new
+  pub begun_run : Moments → IfObservable mid (λ u. Since (KeepsFilesExcept (λ q. q ≡ Place) u) mid new) → IfObservable mid (λ u. Since (KeepsCrashMapsExcept (Place ∷ []) u) mid new) → IsStagingRun v first new
   begun_run moments others maps = run_more moments
-      (observable_map mid _ (λ u. Waits u → Since (IsReadExceptStaged (files_of u)) mid new) others (λ u t waits.
-      since_weaker (KeepsFilesExcept (λ q. q ≡ Place) u) (IsReadExceptStaged (files_of u)) mid new (λ w. shown_files Place refl u w) t))
+      (observable_map mid _ (λ u. Waits u → Since (HasFilesExceptStaged (files_of u)) mid new) others (λ u t waits.
+      since_weaker (KeepsFilesExcept (λ q. q ≡ Place) u) (HasFilesExceptStaged (files_of u)) mid new (λ w. shown_files Place refl u w) t))
       (lasts_by (Place ∷ []) (λ q off shown. none_waiting Place q refl shown) maps)
 
-  pub ended_run : Moments → IfObservable mid (λ u. Since (λ w. files_of w ≡ files_of u) mid new) → IfObservable mid (λ u. Since (KeepsMapsExcept [] u) mid new) → IsStagingRun v first new
+  pub ended_run : Moments → IfObservable mid (λ u. Since (λ w. files_of w ≡ files_of u) mid new) → IfObservable mid (λ u. Since (KeepsCrashMapsExcept [] u) mid new) → IsStagingRun v first new
   ended_run moments others maps = run_more moments
-      (observable_map mid _ (λ u. Waits u → Since (IsReadExceptStaged (files_of u)) mid new) others (λ u t waits.
-      since_weaker (λ w. files_of w ≡ files_of u) (IsReadExceptStaged (files_of u)) mid new (λ w same q shown. ap (λ (F : Files). F q) same) t))
+      (observable_map mid _ (λ u. Waits u → Since (HasFilesExceptStaged (files_of u)) mid new) others (λ u t waits.
+      since_weaker (λ w. files_of w ≡ files_of u) (HasFilesExceptStaged (files_of u)) mid new (λ w same q shown. ap (λ (F : Files). F q) same) t))
       (lasts_by [] (λ q off shown. refl) maps)
 
 -- a file that is begun stands alone
@@ -86,10 +86,10 @@ module _ (stage : Staging) (contents : List (List ℕ)) (so_far : List ℕ) (v :
 
   pub grown_run : Moments stage contents (Some so_far) v first mid new s
       → IfObservable mid (λ u. IsOnlyNameOfFile (stage_name (stage.staged + 1)) u → Since (KeepsFilesExcept (λ q. q ≡ stage_name (stage.staged + 1)) u) mid new)
-      → IfObservable mid (λ u. Since (KeepsMapsExcept [] u) mid new) → IsStagingRun v first new
+      → IfObservable mid (λ u. Since (KeepsCrashMapsExcept [] u) mid new) → IsStagingRun v first new
   grown_run moments others maps = run_more stage contents (Some so_far) v first mid new s moments
-      (observable_map mid _ (λ u. IsStaged stage contents (Some so_far) (files_of v) u → Since (IsReadExceptStaged (files_of u)) mid new) others (λ u t waits.
-      since_weaker (KeepsFilesExcept (λ q. q ≡ stage_name (stage.staged + 1)) u) (IsReadExceptStaged (files_of u)) mid new (λ w. shown_files (stage_name (stage.staged + 1)) refl u w) (t (alone_at u waits))))
+      (observable_map mid _ (λ u. IsStaged stage contents (Some so_far) (files_of v) u → Since (HasFilesExceptStaged (files_of u)) mid new) others (λ u t waits.
+      since_weaker (KeepsFilesExcept (λ q. q ≡ stage_name (stage.staged + 1)) u) (HasFilesExceptStaged (files_of u)) mid new (λ w. shown_files (stage_name (stage.staged + 1)) refl u w) (t (alone_at u waits))))
       (lasts_by stage contents (Some so_far) v first mid new s [] (λ q off shown. refl) maps)
 
 -- ---- the same for all contents and bases

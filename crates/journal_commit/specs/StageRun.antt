@@ -8,7 +8,7 @@ use Rattle.base_core.specs.Undone.{IsDurable}
 use Rattle.base_core.specs.Files.{Files}
 use Rattle.base_core.specs.Restart.{SinceGivenEarlier}
 use Rattle.base_core.specs.Tree.{TreeState, files_of}
-use Rattle.journal_core.specs.Kept.{HasOldOrNewBytes, IsInNoMap, ShownNamesAreDurable}
+use Rattle.journal_core.specs.Kept.{HasOldOrNewBytes, IsRestoredByNoCrash, ShownNamesAreDurable}
 use Rattle.journal_core.specs.Quiet.{StateIsUnchanged}
 use Rattle.journal_core.specs.Recovery.{EachCrashLeaves, StateDependsOn, intent_name, is_staged}
 use Rattle.journal_core.specs.Staged.{IsEmptyStage, IsOldUntilCommit, IsStaged, Staging, unstaged_files}
@@ -16,8 +16,8 @@ use Rattle.journal_core.specs.Staged.{IsEmptyStage, IsOldUntilCommit, IsStaged, 
 -- ---- what is read
 
 -- the files as read are these, except for staged files
-abbrev pub IsReadExceptStaged : Files → TreeState → Type 0
-IsReadExceptStaged files w = (q : List ℕ) → is_staged q ≡ false → files_of w q ≡ files q
+abbrev pub HasFilesExceptStaged : Files → TreeState → Type 0
+HasFilesExceptStaged files w = (q : List ℕ) → is_staged q ≡ false → files_of w q ≡ files q
 
 -- an intent is read, and recovery yields the new files; each name outside the staging area has its old
 -- bytes or its new ones
@@ -28,9 +28,9 @@ pub record RecoversByIntent (new old : Files) (w : TreeState) : Type 0 where
 
 -- the files as read are the old ones, except for staged files; or an intent that is read leads to the
 -- new ones; or they are the new ones
-abbrev pub IsReadDuringChange : Files → Files → TreeState → Type 0
-IsReadDuringChange new old w =
-    IsReadExceptStaged old w ⊎ (RecoversByIntent new old w ⊎ (files_of w ≡ new))
+abbrev pub IsStateDuringChange : Files → Files → TreeState → Type 0
+IsStateDuringChange new old w =
+    HasFilesExceptStaged old w ⊎ (RecoversByIntent new old w ⊎ (files_of w ≡ new))
 
 -- if no intent is read, a crash undoes no change of a name outside the staging area
 abbrev pub NamesAreDurableWithoutIntent : TreeState → Type 0
@@ -46,7 +46,7 @@ pub record IsStageRun (files : Files) (v : TreeState) (old now : List TreeState)
       → SinceGivenEarlier (IsOldUntilCommit ignored files v) old now
   -- the files as read are the old ones, except for staged files, or an intent leads to the new ones, or
   -- they are the new ones
-  pub reads : Since (IsReadDuringChange files (files_of v)) old now
+  pub reads : Since (IsStateDuringChange files (files_of v)) old now
   -- if no intent is read, a crash undoes no change of a name outside the staging area, if none could be
   -- undone at the start
   pub last : ShownNamesAreDurable v → Since NamesAreDurableWithoutIntent old now
@@ -58,7 +58,7 @@ pub record IsStageRunComplete (files : Files) (v : TreeState) (now : List TreeSt
   pub settled : (ignored : List ℕ → Bool) → IsDurable (StateDependsOn ignored) v
       → HoldsNow now (EachCrashLeaves ignored files)
   pub last : HoldsNow now ShownNamesAreDurable
-  pub gone : HoldsNow now (IsInNoMap intent_name)
+  pub gone : HoldsNow now (IsRestoredByNoCrash intent_name)
 
 -- ---- its first part
 
@@ -67,7 +67,7 @@ pub record IsStageRunComplete (files : Files) (v : TreeState) (now : List TreeSt
 pub record IsStagingRun (v : TreeState) (old now : List TreeState) : Type 0 where
   pub moments : (ignored : List ℕ → Bool) → IsDurable (StateDependsOn ignored) v
       → Since (StateIsUnchanged ignored v) old now
-  pub reads : Since (IsReadExceptStaged (files_of v)) old now
+  pub reads : Since (HasFilesExceptStaged (files_of v)) old now
   pub last : ShownNamesAreDurable v → Since ShownNamesAreDurable old now
 
 -- a staging run before which nothing was staged; now files with these bytes are staged, and one with

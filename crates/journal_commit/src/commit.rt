@@ -7,10 +7,10 @@ ghost use Rattle.base_core.specs.Undone.{IsDurable};
 ghost use Rattle.base_core.specs.Faults.{CountsOnlyRise, HasCause, IsNoFault};
 ghost use Rattle.base_core.specs.Files.{Files};
 ghost use Rattle.base_core.specs.Tree.{TreeState, files_of};
-ghost use Rattle.journal_core.specs.Kept.{IsInNoMap, KeepsOldOrNewBytes, RecoversTo, ShownNamesAreDurable};
+ghost use Rattle.journal_core.specs.Kept.{IsRestoredByNoCrash, KeepsOldOrNewBytes, RecoversTo, ShownNamesAreDurable};
 ghost use Rattle.journal_core.specs.Quiet.{StateIsUnchanged};
-ghost use Rattle.journal_core.specs.Recovery.{EachCrashLeaves, StateDependsOn, after_actions, intent_name};
-ghost use Rattle.journal_core.specs.Staged.{AreJournalPathsFree, IsActing, action_count, with_staged};
+ghost use Rattle.journal_core.specs.Recovery.{EachCrashLeaves, StateDependsOn, files_after_actions, intent_name};
+ghost use Rattle.journal_core.specs.Staged.{AreJournalPathsFree, IsCarryingOutActions, action_count, files_with_staged};
 ghost use Rattle.journal_commit.specs.StageRun.{IsStageRun, IsStageRunComplete, IsStaging, NamesAreDurableWithoutIntent};
 
 use base_core::{Disk, Tree};
@@ -26,12 +26,12 @@ pub fn carry_through<T: Tree>(stage: &mut Stage, tree: &mut T) -> Result<(), Dis
     // once it has returned Ok, this change is complete.
     ensures run { (contents : List (List ℕ)) (v : TreeState) (first : List TreeState)
         → IsStaging stage.old contents None v first (T.history tree.old)
-        → IsStageRun (after_actions stage.old.intent (with_staged 1 contents (files_of v)))
+        → IsStageRun (files_after_actions stage.old.intent (files_with_staged 1 contents (files_of v)))
         v first (T.history tree.new) }
     ensures done { (contents : List (List ℕ)) (v : TreeState) (first : List TreeState)
         → IsStaging stage.old contents None v first (T.history tree.old)
         → OnOk result (IsStageRunComplete
-        (after_actions stage.old.intent (with_staged 1 contents (files_of v)))
+        (files_after_actions stage.old.intent (files_with_staged 1 contents (files_of v)))
         v (T.history tree.new)) }
     // How the tree's counts explain the result: no count falls, and a fault is returned exactly if
     // a count of faults rose.
@@ -44,7 +44,7 @@ pub fn carry_through<T: Tree>(stage: &mut Stage, tree: &mut T) -> Result<(), Dis
     ensures proper { (contents : List (List ℕ)) (v : TreeState) (first : List TreeState)
         → IsStaging stage.old contents None v first (T.history tree.old)
         → AreJournalPathsFree (files_of v)
-        → AreJournalPathsFree (after_actions stage.old.intent (with_staged 1 contents (files_of v)))
+        → AreJournalPathsFree (files_after_actions stage.old.intent (files_with_staged 1 contents (files_of v)))
         → (T.counts tree.new).misuses ≡ (T.counts tree.old).misuses }
 {
     stage.names_are_free();
@@ -59,34 +59,34 @@ fn enact<T: Tree>(stage: &mut Stage, tree: &mut T) -> Result<(), Disk>
     requires within { stage.old.acted ≤ action_count stage.old.intent }
     // At each moment a crash leaves the state of the actions done.
     ensures moments { IfObservable (T.history tree.old) (λ v. (ignored : List ℕ → Bool)
-        (files : Files) → IsDurable (StateDependsOn ignored) v → IsActing stage.old files v
+        (files : Files) → IsDurable (StateDependsOn ignored) v → IsCarryingOutActions stage.old files v
         → Since (StateIsUnchanged ignored v) (T.history tree.old) (T.history tree.new)) }
     // At each moment recovery yields the files of the actions done.
     ensures reads { IfObservable (T.history tree.old) (λ v. (files : Files)
-        → IsActing stage.old files v
+        → IsCarryingOutActions stage.old files v
         → Since (RecoversTo files) (T.history tree.old) (T.history tree.new)) }
     // Each name outside the staging area has its old bytes or its new ones.
     ensures bytes { IfObservable (T.history tree.old) (λ v. (files : Files)
-        → IsActing stage.old files v
+        → IsCarryingOutActions stage.old files v
         → KeepsOldOrNewBytes files v (T.history tree.old) (T.history tree.new)) }
     // If no intent is read any more, a crash undoes no other change of a name.
     ensures last { IfObservable (T.history tree.old) (λ v. IsSome (v.names intent_name)
         → Since NamesAreDurableWithoutIntent (T.history tree.old) (T.history tree.new)) }
     // At the end each crash leaves the state of the actions done.
     ensures settled { IfObservable (T.history tree.old) (λ v. (ignored : List ℕ → Bool)
-        (files : Files) → IsDurable (StateDependsOn ignored) v → IsActing stage.old files v
+        (files : Files) → IsDurable (StateDependsOn ignored) v → IsCarryingOutActions stage.old files v
         → OnOk result (HoldsNow (T.history tree.new) (EachCrashLeaves ignored files))) }
     // And these files are read, without an intent.
     ensures files { IfObservable (T.history tree.old) (λ v. (files : Files)
-        → IsActing stage.old files v → OnOk result (HoldsNow (T.history tree.new)
+        → IsCarryingOutActions stage.old files v → OnOk result (HoldsNow (T.history tree.new)
         (λ w. (files_of w ≡ files) × (w.names intent_name ≡ None)))) }
     // No crash restores the intent.
-    ensures gone { OnOk result (IfObservable (T.history tree.new) (IsInNoMap intent_name)) }
+    ensures gone { OnOk result (IfObservable (T.history tree.new) (IsRestoredByNoCrash intent_name)) }
     ensures goes_on { CountsOnlyRise (T.counts tree.old) (T.counts tree.new) }
     ensures cause { OnErr result (HasCause (T.counts tree.old) (T.counts tree.new)) }
     ensures kept { OnOk result (IsNoFault (T.counts tree.old) (T.counts tree.new)) }
     ensures proper { IfObservable (T.history tree.old) (λ v. (files : Files)
-        → IsActing stage.old files v → AreJournalPathsFree files
+        → IsCarryingOutActions stage.old files v → AreJournalPathsFree files
         → (T.counts tree.new).misuses ≡ (T.counts tree.old).misuses) }
 {
     apply_all(stage, tree)?;

@@ -5,12 +5,12 @@
 ghost use Rattle.std.specs.Prelude.{◌≡◌, ◌<◌, ◌+◌, ◌++◌, ◌∷◌, [], ℕ, true, false, List, Some, None, length, OnOk, OnErr};
 ghost use Rattle.base_core.specs.Faults.{CountsOnlyRise, HasCause, IsNoFault};
 ghost use Rattle.base_core.specs.Tree.{TreeState, files_of};
-ghost use Rattle.journal_core.specs.Staged.{AreJournalPathsFree, IsEmptyStage, new_stage, with_staged};
+ghost use Rattle.journal_core.specs.Staged.{AreJournalPathsFree, IsEmptyStage, new_stage, files_with_staged};
 ghost use Rattle.journal_commit.specs.Asked.{TargetsAreAccepted};
 ghost use Rattle.journal_commit.specs.StageRun.{IsStaging, IsStagingRun, IsStageRun};
 ghost use Rattle.base_core.specs.Calls.{IfObservable};
 ghost use Rattle.base_core.specs.Files.{Files};
-ghost use Rattle.journal_core.specs.Recovery.{Intent, after_actions, intent_name};
+ghost use Rattle.journal_core.specs.Recovery.{Intent, files_after_actions, intent_name};
 ghost use Rattle.journal_core.specs.journal_intent.FreeNames.{HasFreeNames};
 
 use base_core::{Disk, Tree};
@@ -182,5 +182,5 @@ pub fn a_staging_run_is_a_stage_run()
 pub fn a_change_leaves_nothing_staged()
     ensures { (intent : Intent) (contents : List (List ℕ)) (files : Files)
         → HasFreeNames intent → length contents ≡ length intent.writes → IsEmptyStage files
-        → IsEmptyStage (after_actions intent (with_staged 1 contents files)) }
+        → IsEmptyStage (files_after_actions intent (files_with_staged 1 contents files)) }
 {}

@@ -5,20 +5,20 @@ use Rattle.std.specs.List.{list_any}
 use Rattle.std.specs.Str.{bytes_eq}
 use Rattle.std.proofs.lemmas.Bool.{or_right}
 use Rattle.base_core.specs.Files.{Files, NameMap, drop_name, move_name}
-use Rattle.base_core.specs.Tree.{TreeState, File, bytes_at, files_by, files_of, with_names, move_at, remove_at, after_remove, after_rename, after_sync_names}
-use Rattle.base_core.specs.Undone.{IsDurable, IsCrashImage, IsCrashMap, with_change}
+use Rattle.base_core.specs.Tree.{TreeState, File, bytes_of_file_number, files_under_map, files_of, with_names, with_file_moved, with_name_removed, after_remove, after_rename, after_sync_names}
+use Rattle.base_core.specs.Undone.{IsDurable, IsCrashImage, IsCrashMap, with_change_replayed}
 use Rattle.base_core.proofs.Undone.{change_whole, left_only, read_may_be_left}
 use Rattle.base_core.proofs.AtName.{same_name, name_cases, off_name}
-use Rattle.journal_core.specs.Recovery.{Intent, IsStagedNameOf, EachCrashLeaves, StateDependsOn, intent_name, intent_at, intent_of, is_hidden, move_if, recovered_files, stage_name, state_of, without_names}
+use Rattle.journal_core.specs.Recovery.{Intent, IsStagedNameOf, EachCrashLeaves, StateDependsOn, intent_name, intent_in_file, intent_of, is_hidden, move_if_present, recovered_files, stage_name, state_of, without_names}
 use Rattle.journal_core.specs.Quiet.{StateIsUnchanged}
-use Rattle.journal_core.specs.Staged.{Staging, AreActionsDone, IsActing, IsStillNeeded, NeededNamesLast, action_count}
+use Rattle.journal_core.specs.Staged.{Staging, AreActionsDone, IsCarryingOutActions, IsStillNeeded, NeededNamesAreDurable, action_count}
 use Rattle.journal_core.proofs.Changes.{change_dropped, change_moved, left_here, synced_left}
 use Rattle.journal_intent.proofs.AtName.{put_name-off, drop_name-at, drop_name-off}
 use Rattle.journal_core.proofs.Images.{CrashLaws, quiet_by_maps, quiet_on, settled_by_maps}
 use Rattle.journal_core.proofs.Simulate.{rests_same}
 use Rattle.journal_intent.proofs.StageNames.{stage_names_apart, stage_name_no_intent}
 use Rattle.journal_core.proofs.Waiting.{still_self}
-use Rattle.journal_core.proofs.Replayed.{IsProper, IsNumbered, here, later, moved, move_if-off, recovered-removed, recovered-moved, recovered-done, recovered-dropped}
+use Rattle.journal_core.proofs.Replayed.{IsProper, IsNumbered, here, later, moved, move_if_present-off, recovered-removed, recovered-moved, recovered-done, recovered-dropped}
 use Rattle.journal_intent.specs.FreeNames.{IsOneOf, IsNoneOf, IsFreeName, AreFreeNames, HaveNoRepeats}
 
 -- ---- one map more
@@ -28,55 +28,55 @@ state_same ignored F G same i q = cond (is_hidden ignored q) None (same i q)
 
 -- one change of names more: with it the files of each map that a crash may leave stand for the same
 pub still_more : CrashLaws → (ignored : List ℕ → Bool) (v : TreeState) (m : NameMap) → IsDurable (StateDependsOn ignored) v
-    → ((kept : NameMap) → IsCrashMap v kept → recovered_files (files_by v (with_change v.names m kept)) ≡ recovered_files (files_by v kept))
-    → ((kept : NameMap) → IsCrashMap v kept → (q : List ℕ) (n : ℕ) → StateDependsOn ignored (files_by v (with_change v.names m kept)) q → with_change v.names m kept q ≡ Some n → (v.files n).synced ≡ true)
+    → ((kept : NameMap) → IsCrashMap v kept → recovered_files (files_under_map v (with_change_replayed v.names m kept)) ≡ recovered_files (files_under_map v kept))
+    → ((kept : NameMap) → IsCrashMap v kept → (q : List ℕ) (n : ℕ) → StateDependsOn ignored (files_under_map v (with_change_replayed v.names m kept)) q → with_change_replayed v.names m kept q ≡ Some n → (v.files n).synced ≡ true)
     → StateIsUnchanged ignored v (with_names v m)
 still_more laws ignored v m was same synced =
     let is_durable : IsDurable (StateDependsOn ignored) (with_names v m) = record { each = each } in
     record {
       is_durable = is_durable;
       quiet = quiet_by_maps laws ignored v (with_names v m) is_durable states;
-      reads = state_same ignored (files_by v m) (files_of v) (ap (λ (x : NameMap). recovered_files (files_by v x)) (sym (change_whole v.names m)) ∙ same v.names (read_may_be_left v));
+      reads = state_same ignored (files_under_map v m) (files_of v) (ap (λ (x : NameMap). recovered_files (files_under_map v x)) (sym (change_whole v.names m)) ∙ same v.names (read_may_be_left v));
       made = omega arith;
     }
   where
-    each : (x : NameMap) → IsCrashMap (with_names v m) x → (q : List ℕ) (n : ℕ) → StateDependsOn ignored (files_by v x) q → x q ≡ Some n → (v.files n).synced ≡ true
-    each x (inl (kept, left, new)) q n rests at = synced kept left q n (subst (λ (y : NameMap). StateDependsOn ignored (files_by v y) q) new rests) (sym (ap (λ (y : NameMap). y q) new) ∙ at)
+    each : (x : NameMap) → IsCrashMap (with_names v m) x → (q : List ℕ) (n : ℕ) → StateDependsOn ignored (files_under_map v x) q → x q ≡ Some n → (v.files n).synced ≡ true
+    each x (inl (kept, left, new)) q n rests at = synced kept left q n (subst (λ (y : NameMap). StateDependsOn ignored (files_under_map v y) q) new rests) (sym (ap (λ (y : NameMap). y q) new) ∙ at)
     each x (inr old) q n rests at = was.each x old q n rests at
 
-    states : (x : NameMap) → IsCrashMap (with_names v m) x → (before : Files) × IsCrashImage v before × (state_of ignored (files_by v x) ≡ state_of ignored before)
+    states : (x : NameMap) → IsCrashMap (with_names v m) x → (before : Files) × IsCrashImage v before × (state_of ignored (files_under_map v x) ≡ state_of ignored before)
     states x (inl (kept, left, new)) = (
-      files_by v kept,
+      files_under_map v kept,
       laws.left v kept left,
-      ap (λ (y : NameMap). state_of ignored (files_by v y)) new ∙ state_same ignored (files_by v (with_change v.names m kept)) (files_by v kept) (same kept left),
+      ap (λ (y : NameMap). state_of ignored (files_under_map v y)) new ∙ state_same ignored (files_under_map v (with_change_replayed v.names m kept)) (files_under_map v kept) (same kept left),
     )
-    states x (inr old) = (files_by v x, laws.left v x old, refl)
+    states x (inr old) = (files_under_map v x, laws.left v x old, refl)
 
 -- the same where there was one map
-pub still_one : CrashLaws → (ignored : List ℕ → Bool) (v : TreeState) (m : NameMap) → v.older ≡ [] → IsDurable (StateDependsOn ignored) v → recovered_files (files_by v m) ≡ recovered_files (files_of v)
-    → ((q : List ℕ) (n : ℕ) → StateDependsOn ignored (files_by v m) q → m q ≡ Some n → (v.files n).synced ≡ true) → StateIsUnchanged ignored v (with_names v m)
+pub still_one : CrashLaws → (ignored : List ℕ → Bool) (v : TreeState) (m : NameMap) → v.older ≡ [] → IsDurable (StateDependsOn ignored) v → recovered_files (files_under_map v m) ≡ recovered_files (files_of v)
+    → ((q : List ℕ) (n : ℕ) → StateDependsOn ignored (files_under_map v m) q → m q ≡ Some n → (v.files n).synced ≡ true) → StateIsUnchanged ignored v (with_names v m)
 still_one laws ignored v m one was same synced =
     still_more laws ignored v m was
-    (λ kept left. ap (λ (x : NameMap). recovered_files (files_by v x)) (to kept left) ∙ same ∙ sym (ap (λ (x : NameMap). recovered_files (files_by v x)) (left_only v one kept left)))
-    (λ kept left q n rests at. synced q n (subst (λ (y : NameMap). StateDependsOn ignored (files_by v y) q) (to kept left) rests) (sym (ap (λ (f : NameMap). f q) (to kept left)) ∙ at))
+    (λ kept left. ap (λ (x : NameMap). recovered_files (files_under_map v x)) (to kept left) ∙ same ∙ sym (ap (λ (x : NameMap). recovered_files (files_under_map v x)) (left_only v one kept left)))
+    (λ kept left q n rests at. synced q n (subst (λ (y : NameMap). StateDependsOn ignored (files_under_map v y) q) (to kept left) rests) (sym (ap (λ (f : NameMap). f q) (to kept left)) ∙ at))
   where
-    to : (kept : NameMap) → IsCrashMap v kept → with_change v.names m kept ≡ m
-    to kept left = ap (with_change v.names m) (left_only v one kept left) ∙ change_whole v.names m
+    to : (kept : NameMap) → IsCrashMap v kept → with_change_replayed v.names m kept ≡ m
+    to kept left = ap (with_change_replayed v.names m) (left_only v one kept left) ∙ change_whole v.names m
 
-bytes_cond : (files : ℕ → File) (b : Bool) (o p : Option ℕ) → bytes_at files (cond b o p) ≡ cond b (bytes_at files o) (bytes_at files p)
+bytes_cond : (files : ℕ → File) (b : Bool) (o p : Option ℕ) → bytes_of_file_number files (cond b o p) ≡ cond b (bytes_of_file_number files o) (bytes_of_file_number files p)
 bytes_cond files true o p = refl
 bytes_cond files false o p = refl
 
-by-dropped : (v : TreeState) (m : NameMap) (name : List ℕ) → files_by v (drop_name m name) ≡ drop_name (files_by v m) name
+by-dropped : (v : TreeState) (m : NameMap) (name : List ℕ) → files_under_map v (drop_name m name) ≡ drop_name (files_under_map v m) name
 by-dropped v m name i q = bytes_cond v.files (bytes_eq q name) None (m q) i
 
-by-moved : (v : TreeState) (m : NameMap) (from to : List ℕ) (n : ℕ) → files_by v (move_name m from to n) ≡ move_name (files_by v m) from to (v.files n).bytes
+by-moved : (v : TreeState) (m : NameMap) (from to : List ℕ) (n : ℕ) → files_under_map v (move_name m from to n) ≡ move_name (files_under_map v m) from to (v.files n).bytes
 by-moved v m from to n i q = (bytes_cond v.files (bytes_eq q to) (Some n) (drop_name m from q) ∙ ap (cond (bytes_eq q to) (Some (v.files n).bytes)) (bytes_cond v.files (bytes_eq q from) None (m q))) i
 
-pub files-dropped : (v : TreeState) (name : List ℕ) → files_by v (drop_name v.names name) ≡ drop_name (files_of v) name
+pub files-dropped : (v : TreeState) (name : List ℕ) → files_under_map v (drop_name v.names name) ≡ drop_name (files_of v) name
 files-dropped v = by-dropped v v.names
 
-pub files-moved : (v : TreeState) (from to : List ℕ) (n : ℕ) → files_by v (move_name v.names from to n) ≡ move_name (files_of v) from to (v.files n).bytes
+pub files-moved : (v : TreeState) (from to : List ℕ) (n : ℕ) → files_under_map v (move_name v.names from to n) ≡ move_name (files_of v) from to (v.files n).bytes
 files-moved v = by-moved v v.names
 
 dropped_some : (b : Bool) (o : Option ℕ) (n : ℕ) → cond b None o ≡ Some n → o ≡ Some n
@@ -137,39 +137,39 @@ needed_fewer intent acted q (inl is) = inl is
 needed_fewer intent acted q (inr (i, from, at)) = inr (i, omega (arith, from), at)
 
 -- the intent is that of each map that a crash may leave
-intent_kept : (stage : Staging) (files : Files) (v : TreeState) → IsActing stage files v → (kept : NameMap) → IsCrashMap v kept → intent_of (files_by v kept) ≡ Some stage.intent
-intent_kept stage files v acting kept left = ap intent_at (ap (bytes_at v.files) (acting.last kept left intent_name (inl refl))) ∙ acting.located
+intent_kept : (stage : Staging) (files : Files) (v : TreeState) → IsCarryingOutActions stage files v → (kept : NameMap) → IsCrashMap v kept → intent_of (files_under_map v kept) ≡ Some stage.intent
+intent_kept stage files v acting kept left = ap intent_in_file (ap (bytes_of_file_number v.files) (acting.last kept left intent_name (inl refl))) ∙ acting.located
 
-last_as : (a b : Intent) (m n : ℕ) (w : TreeState) → b ≡ a → n ≡ m → NeededNamesLast a m w → NeededNamesLast b n w
-last_as a b m n w same more last = subst (λ k. NeededNamesLast b k w) (sym more) (subst (λ (i : Intent). NeededNamesLast i m w) (sym same) last)
+last_as : (a b : Intent) (m n : ℕ) (w : TreeState) → b ≡ a → n ≡ m → NeededNamesAreDurable a m w → NeededNamesAreDurable b n w
+last_as a b m n w same more last = subst (λ k. NeededNamesAreDurable b k w) (sym more) (subst (λ (i : Intent). NeededNamesAreDurable i m w) (sym same) last)
 
 -- ---- a removal
 
 removed_still_at : CrashLaws → (ignored : List ℕ → Bool) (intent : Intent) (v : TreeState) (r : List ℕ) (o : Option ℕ) → v.names r ≡ o → IsDurable (StateDependsOn ignored) v
-    → ((kept : NameMap) → IsCrashMap v kept → intent_of (files_by v kept) ≡ Some intent) → r ≢ intent_name → IsOneOf r intent.removals → StateIsUnchanged ignored v (remove_at r v o)
+    → ((kept : NameMap) → IsCrashMap v kept → intent_of (files_under_map v kept) ≡ Some intent) → r ≢ intent_name → IsOneOf r intent.removals → StateIsUnchanged ignored v (with_name_removed r v o)
 removed_still_at laws ignored intent v r None there is_durable has ne among = still_self ignored v is_durable
 removed_still_at laws ignored intent v r (Some n) there is_durable has ne among = still_more laws ignored v (drop_name v.names r) is_durable same synced
   where
-    is : (kept : NameMap) → files_by v (with_change v.names (drop_name v.names r) kept) ≡ drop_name (files_by v kept) r
-    is kept = ap (files_by v) (change_dropped v.names kept r n there) ∙ by-dropped v kept r
+    is : (kept : NameMap) → files_under_map v (with_change_replayed v.names (drop_name v.names r) kept) ≡ drop_name (files_under_map v kept) r
+    is kept = ap (files_under_map v) (change_dropped v.names kept r n there) ∙ by-dropped v kept r
 
-    same : (kept : NameMap) → IsCrashMap v kept → recovered_files (files_by v (with_change v.names (drop_name v.names r) kept)) ≡ recovered_files (files_by v kept)
-    same kept left = ap recovered_files (is kept) ∙ recovered-removed (files_by v kept) intent r (has kept left) ne among
+    same : (kept : NameMap) → IsCrashMap v kept → recovered_files (files_under_map v (with_change_replayed v.names (drop_name v.names r) kept)) ≡ recovered_files (files_under_map v kept)
+    same kept left = ap recovered_files (is kept) ∙ recovered-removed (files_under_map v kept) intent r (has kept left) ne among
 
-    at_intent : (kept : NameMap) → files_by v (with_change v.names (drop_name v.names r) kept) intent_name ≡ files_by v kept intent_name
-    at_intent kept = ap (λ (F : Files). F intent_name) (is kept) ∙ drop_name-off (files_by v kept) r intent_name (λ e. ne (sym e))
+    at_intent : (kept : NameMap) → files_under_map v (with_change_replayed v.names (drop_name v.names r) kept) intent_name ≡ files_under_map v kept intent_name
+    at_intent kept = ap (λ (F : Files). F intent_name) (is kept) ∙ drop_name-off (files_under_map v kept) r intent_name (λ e. ne (sym e))
 
-    synced : (kept : NameMap) → IsCrashMap v kept → (q : List ℕ) (k : ℕ) → StateDependsOn ignored (files_by v (with_change v.names (drop_name v.names r) kept)) q → with_change v.names (drop_name v.names r) kept q ≡ Some k → (v.files k).synced ≡ true
+    synced : (kept : NameMap) → IsCrashMap v kept → (q : List ℕ) (k : ℕ) → StateDependsOn ignored (files_under_map v (with_change_replayed v.names (drop_name v.names r) kept)) q → with_change_replayed v.names (drop_name v.names r) kept q ≡ Some k → (v.files k).synced ≡ true
     synced kept left q k rests at =
-        is_durable.each kept left q k (rests_same ignored (files_by v (with_change v.names (drop_name v.names r) kept)) (files_by v kept) (at_intent kept) q rests)
+        is_durable.each kept left q k (rests_same ignored (files_under_map v (with_change_replayed v.names (drop_name v.names r) kept)) (files_under_map v kept) (at_intent kept) q rests)
         (dropped_some (bytes_eq q r) (kept q) k (sym (ap (λ (f : NameMap). f q) (change_dropped v.names kept r n there)) ∙ at))
 
 -- the files as read behind it
-removed_reads_at : (v : TreeState) (r : List ℕ) (o : Option ℕ) → v.names r ≡ o → files_of (remove_at r v o) ≡ drop_name (files_of v) r
+removed_reads_at : (v : TreeState) (r : List ℕ) (o : Option ℕ) → v.names r ≡ o → files_of (with_name_removed r v o) ≡ drop_name (files_of v) r
 removed_reads_at v r None none = λ i q. at q (name_cases q r) i
   where
     at : (q : List ℕ) → (q ≡ r) ⊎ (bytes_eq q r ≡ false) → files_of v q ≡ drop_name (files_of v) r q
-    at q (inl is) = ap (files_of v) is ∙ ap (bytes_at v.files) none ∙ sym (drop_name-at (files_of v) r q is)
+    at q (inl is) = ap (files_of v) is ∙ ap (bytes_of_file_number v.files) none ∙ sym (drop_name-at (files_of v) r q is)
     at q (inr off) = sym (drop_name-off (files_of v) r q (off_name q r off))
 removed_reads_at v r (Some n) some = files-dropped v r
 
@@ -184,7 +184,7 @@ dropped_none F r q none = by (bytes_eq q r)
     by false = none
 
 -- behind the removal at its place, one action more is done
-module _ (laws : CrashLaws) (stage now : Staging) (files : Files) (v : TreeState) (r : List ℕ) (acting : IsActing stage files v) (proper : IsProper stage.intent)
+module _ (laws : CrashLaws) (stage now : Staging) (files : Files) (v : TreeState) (r : List ℕ) (acting : IsCarryingOutActions stage files v) (proper : IsProper stage.intent)
     (at : slice_get stage.intent.removals stage.acted ≡ Some r) (within : stage.acted < length stage.intent.removals) (same : now.intent ≡ stage.intent) (more : now.acted ≡ stage.acted + 1) where
   free : IsFreeName r
   free = free_at stage.intent.removals stage.acted r proper.removals at
@@ -199,7 +199,7 @@ module _ (laws : CrashLaws) (stage now : Staging) (files : Files) (v : TreeState
       true_false (sym (among_at stage.intent.removals stage.acted r at) ∙ sym (ap (λ (x : List ℕ). list_any (bytes_eq x) stage.intent.removals) e) ∙ proper.apart q (among_at stage.intent.writes i q at_i))
   not_removed acted q (inr (i, from, inr (within_i, is))) = λ e. free.no_place (i + 1) (sym e ∙ is)
 
-  remove_last : (o : Option ℕ) → NeededNamesLast stage.intent (stage.acted + 1) (remove_at r v o)
+  remove_last : (o : Option ℕ) → NeededNamesAreDurable stage.intent (stage.acted + 1) (with_name_removed r v o)
   remove_last None map left q needed = acting.last map left q (needed_fewer stage.intent stage.acted q needed)
   remove_last (Some n) map (inl (kept, left, is)) q needed = left_here v.names (drop_name v.names r) kept map is q (acting.last kept left q (needed_fewer stage.intent stage.acted q needed))
   remove_last (Some n) map (inr left) q needed =
@@ -217,11 +217,11 @@ module _ (laws : CrashLaws) (stage now : Staging) (files : Files) (v : TreeState
           split : (i : ℕ) → i < stage.acted + 1 → (i ≡ stage.acted) ⊎ (i < stage.acted)
           split i below = omega_split i stage.acted below
 
-  pub remove_acting : IsActing now files (after_remove r v)
+  pub remove_acting : IsCarryingOutActions now files (after_remove r v)
   remove_acting =
       let reads = removed_reads v r in
       record {
-        located = ap intent_of reads ∙ ap intent_at (drop_name-off (files_of v) r intent_name (λ e. free.no_intent (sym e))) ∙ acting.located ∙ ap Some (sym same);
+        located = ap intent_of reads ∙ ap intent_in_file (drop_name-off (files_of v) r intent_name (λ e. free.no_intent (sym e))) ∙ acting.located ∙ ap Some (sym same);
         reads = ap recovered_files reads ∙ recovered-removed (files_of v) stage.intent r acting.located free.no_intent (among_at stage.intent.removals stage.acted r at) ∙ acting.reads;
         done = subst (λ (F : Files). AreActionsDone now.intent now.acted F) (sym reads)
             (subst (λ n. AreActionsDone now.intent n (drop_name (files_of v) r)) (sym more) (subst (λ (i : Intent). AreActionsDone i (stage.acted + 1) (drop_name (files_of v) r)) (sym same) done_more));
@@ -231,40 +231,40 @@ module _ (laws : CrashLaws) (stage now : Staging) (files : Files) (v : TreeState
 -- ---- a waiting file moves
 
 moved_still_at : CrashLaws → (ignored : List ℕ → Bool) (intent : Intent) (v : TreeState) (k : ℕ) (name : List ℕ) (o : Option ℕ) → v.names (stage_name k) ≡ o → IsDurable (StateDependsOn ignored) v
-    → ((kept : NameMap) → IsCrashMap v kept → intent_of (files_by v kept) ≡ Some intent) → ((kept : NameMap) → IsCrashMap v kept → (kept (stage_name k) ≡ v.names (stage_name k)) × (kept name ≡ v.names name))
-    → IsProper intent → k < 2 ^ 64 → IsStagedNameOf (Some intent) (stage_name k) → IsFreeName name → IsNumbered 1 intent.writes k name → IsNoneOf name intent.removals → StateIsUnchanged ignored v (move_at (stage_name k) name v o)
+    → ((kept : NameMap) → IsCrashMap v kept → intent_of (files_under_map v kept) ≡ Some intent) → ((kept : NameMap) → IsCrashMap v kept → (kept (stage_name k) ≡ v.names (stage_name k)) × (kept name ≡ v.names name))
+    → IsProper intent → k < 2 ^ 64 → IsStagedNameOf (Some intent) (stage_name k) → IsFreeName name → IsNumbered 1 intent.writes k name → IsNoneOf name intent.removals → StateIsUnchanged ignored v (with_file_moved (stage_name k) name v o)
 moved_still_at laws ignored intent v k name None there is_durable has last proper small place free numbered out = still_self ignored v is_durable
 moved_still_at laws ignored intent v k name (Some n) there is_durable has last proper small place free numbered out = still_more laws ignored v (move_name v.names (stage_name k) name n) is_durable same synced
   where
-    map_is : (kept : NameMap) → IsCrashMap v kept → with_change v.names (move_name v.names (stage_name k) name n) kept ≡ move_name kept (stage_name k) name n
+    map_is : (kept : NameMap) → IsCrashMap v kept → with_change_replayed v.names (move_name v.names (stage_name k) name n) kept ≡ move_name kept (stage_name k) name n
     map_is kept left = change_moved v.names kept (stage_name k) name n (last kept left).0 (last kept left).1
 
     number : (kept : NameMap) → IsCrashMap v kept → kept (stage_name k) ≡ Some n
     number kept left = (last kept left).0 ∙ there
 
-    is : (kept : NameMap) → IsCrashMap v kept → files_by v (with_change v.names (move_name v.names (stage_name k) name n) kept) ≡ moved (files_by v kept) (stage_name k) name
-    is kept left = ap (files_by v) (map_is kept left) ∙ by-moved v kept (stage_name k) name n ∙ sym (ap (λ p. move_if (files_by v kept) (stage_name k) name p) (ap (bytes_at v.files) (number kept left)))
+    is : (kept : NameMap) → IsCrashMap v kept → files_under_map v (with_change_replayed v.names (move_name v.names (stage_name k) name n) kept) ≡ moved (files_under_map v kept) (stage_name k) name
+    is kept left = ap (files_under_map v) (map_is kept left) ∙ by-moved v kept (stage_name k) name n ∙ sym (ap (λ p. move_if_present (files_under_map v kept) (stage_name k) name p) (ap (bytes_of_file_number v.files) (number kept left)))
 
-    same : (kept : NameMap) → IsCrashMap v kept → recovered_files (files_by v (with_change v.names (move_name v.names (stage_name k) name n) kept)) ≡ recovered_files (files_by v kept)
-    same kept left = ap recovered_files (is kept left) ∙ recovered-moved (files_by v kept) intent k name (has kept left) proper small free numbered out
+    same : (kept : NameMap) → IsCrashMap v kept → recovered_files (files_under_map v (with_change_replayed v.names (move_name v.names (stage_name k) name n) kept)) ≡ recovered_files (files_under_map v kept)
+    same kept left = ap recovered_files (is kept left) ∙ recovered-moved (files_under_map v kept) intent k name (has kept left) proper small free numbered out
 
-    at_intent : (kept : NameMap) → IsCrashMap v kept → files_by v (with_change v.names (move_name v.names (stage_name k) name n) kept) intent_name ≡ files_by v kept intent_name
+    at_intent : (kept : NameMap) → IsCrashMap v kept → files_under_map v (with_change_replayed v.names (move_name v.names (stage_name k) name n) kept) intent_name ≡ files_under_map v kept intent_name
     at_intent kept left =
         ap (λ (F : Files). F intent_name) (is kept left)
-        ∙ move_if-off (files_by v kept) (stage_name k) name (files_by v kept (stage_name k)) intent_name (λ e. stage_name_no_intent k (sym e)) (λ e. free.no_intent (sym e))
+        ∙ move_if_present-off (files_under_map v kept) (stage_name k) name (files_under_map v kept (stage_name k)) intent_name (λ e. stage_name_no_intent k (sym e)) (λ e. free.no_intent (sym e))
 
     synced_place : (kept : NameMap) → IsCrashMap v kept → (v.files n).synced ≡ true
     synced_place kept left = is_durable.each kept left (stage_name k) n (inr (inr (subst (λ p. IsStagedNameOf p (stage_name k)) (sym (has kept left)) place))) (number kept left)
 
-    synced : (kept : NameMap) → IsCrashMap v kept → (q : List ℕ) (j : ℕ) → StateDependsOn ignored (files_by v (with_change v.names (move_name v.names (stage_name k) name n) kept)) q → with_change v.names (move_name v.names (stage_name k) name n) kept q ≡ Some j → (v.files j).synced ≡ true
+    synced : (kept : NameMap) → IsCrashMap v kept → (q : List ℕ) (j : ℕ) → StateDependsOn ignored (files_under_map v (with_change_replayed v.names (move_name v.names (stage_name k) name n) kept)) q → with_change_replayed v.names (move_name v.names (stage_name k) name n) kept q ≡ Some j → (v.files j).synced ≡ true
     synced kept left q j rests at = ⊎_elim
         (λ e. subst (λ x. (v.files x).synced ≡ true) e (synced_place kept left))
-        (λ old. is_durable.each kept left q j (rests_same ignored (files_by v (with_change v.names (move_name v.names (stage_name k) name n) kept)) (files_by v kept) (at_intent kept left) q rests) old)
+        (λ old. is_durable.each kept left q j (rests_same ignored (files_under_map v (with_change_replayed v.names (move_name v.names (stage_name k) name n) kept)) (files_under_map v kept) (at_intent kept left) q rests) old)
         (moved_some (bytes_eq q name) (bytes_eq q (stage_name k)) (kept q) n j (sym (ap (λ (f : NameMap). f q) (map_is kept left)) ∙ at))
 
-moved_reads_at : (v : TreeState) (from to : List ℕ) (o : Option ℕ) → v.names from ≡ o → files_of (move_at from to v o) ≡ moved (files_of v) from to
-moved_reads_at v from to None none = sym (ap (λ p. move_if (files_of v) from to p) (ap (bytes_at v.files) none))
-moved_reads_at v from to (Some n) there = files-moved v from to n ∙ sym (ap (λ p. move_if (files_of v) from to p) (ap (bytes_at v.files) there))
+moved_reads_at : (v : TreeState) (from to : List ℕ) (o : Option ℕ) → v.names from ≡ o → files_of (with_file_moved from to v o) ≡ moved (files_of v) from to
+moved_reads_at v from to None none = sym (ap (λ p. move_if_present (files_of v) from to p) (ap (bytes_of_file_number v.files) none))
+moved_reads_at v from to (Some n) there = files-moved v from to n ∙ sym (ap (λ p. move_if_present (files_of v) from to p) (ap (bytes_of_file_number v.files) there))
 
 pub moved_reads : (v : TreeState) (from to : List ℕ) → files_of (after_rename from to v) ≡ moved (files_of v) from to
 moved_reads v from to = moved_reads_at v from to (v.names from) refl
@@ -273,18 +273,18 @@ moved_reads v from to = moved_reads_at v from to (v.names from) refl
 moved_none : (F : Files) (a b q : List ℕ) → F q ≡ None → q ≢ b → moved F a b q ≡ None
 moved_none F a b q none ne = by (F a)
   where
-    by : (o : Option (List ℕ)) → move_if F a b o q ≡ None
+    by : (o : Option (List ℕ)) → move_if_present F a b o q ≡ None
     by None = none
     by (Some x) = put_name-off (drop_name F a) b x q ne ∙ dropped_none F a q none
 
 moved_away : (F : Files) (a b : List ℕ) → a ≢ b → moved F a b a ≡ None
 moved_away F a b ne = by (F a) refl
   where
-    by : (o : Option (List ℕ)) → F a ≡ o → move_if F a b o a ≡ None
+    by : (o : Option (List ℕ)) → F a ≡ o → move_if_present F a b o a ≡ None
     by None none = none
     by (Some x) some = put_name-off (drop_name F a) b x a ne ∙ drop_name-at F a a refl
 
-module _ (laws : CrashLaws) (stage now : Staging) (files : Files) (v : TreeState) (place name : List ℕ) (j k : ℕ) (acting : IsActing stage files v) (proper : IsProper stage.intent)
+module _ (laws : CrashLaws) (stage now : Staging) (files : Files) (v : TreeState) (place name : List ℕ) (j k : ℕ) (acting : IsCarryingOutActions stage files v) (proper : IsProper stage.intent)
     (place_is : place ≡ stage_name k) (number : k ≡ j + 1) (at : slice_get stage.intent.writes j ≡ Some name) (within : j < length stage.intent.writes)
     (behind : stage.acted ≡ length stage.intent.removals + j) (same : now.intent ≡ stage.intent) (more : now.acted ≡ stage.acted + 1) where
   open_name : IsFreeName name
@@ -324,7 +324,7 @@ module _ (laws : CrashLaws) (stage now : Staging) (files : Files) (v : TreeState
     (λ e. open_name.no_place (i + 1) (sym e ∙ is)),
   )
 
-  move_last : (o : Option ℕ) → NeededNamesLast stage.intent (stage.acted + 1) (move_at (stage_name k) name v o)
+  move_last : (o : Option ℕ) → NeededNamesAreDurable stage.intent (stage.acted + 1) (with_file_moved (stage_name k) name v o)
   move_last None map left q needed = acting.last map left q (needed_fewer stage.intent stage.acted q needed)
   move_last (Some n) map (inl (kept, left, is)) q needed =
       left_here v.names (move_name v.names (stage_name k) name n) kept map is q (acting.last kept left q (needed_fewer stage.intent stage.acted q needed))
@@ -349,11 +349,11 @@ module _ (laws : CrashLaws) (stage now : Staging) (files : Files) (v : TreeState
           (λ before. moved_none (files_of v) (stage_name k) name (stage_name i) (acting.done.moved i from (omega (arith, before, behind, number))) (λ e. open_name.no_place i (sym e)))
           (omega_split i k (omega (arith, until, behind, number)))
 
-  pub move_acting : IsActing now files (after_rename place name v)
-  move_acting = subst (λ (p : List ℕ). IsActing now files (after_rename p name v)) (sym place_is)
+  pub move_acting : IsCarryingOutActions now files (after_rename place name v)
+  move_acting = subst (λ (p : List ℕ). IsCarryingOutActions now files (after_rename p name v)) (sym place_is)
       (let reads = moved_reads v (stage_name k) name in
       record {
-        located = ap intent_of reads ∙ ap intent_at (move_if-off (files_of v) (stage_name k) name (files_of v (stage_name k)) intent_name (λ e. stage_name_no_intent k (sym e)) (λ e. open_name.no_intent (sym e))) ∙ acting.located ∙ ap Some (sym same);
+        located = ap intent_of reads ∙ ap intent_in_file (move_if_present-off (files_of v) (stage_name k) name (files_of v (stage_name k)) intent_name (λ e. stage_name_no_intent k (sym e)) (λ e. open_name.no_intent (sym e))) ∙ acting.located ∙ ap Some (sym same);
         reads = ap recovered_files reads ∙ recovered-moved (files_of v) stage.intent k name acting.located proper small open_name numbered out ∙ acting.reads;
         done = subst (λ (F : Files). AreActionsDone now.intent now.acted F) (sym reads)
             (subst (λ n. AreActionsDone now.intent n (moved (files_of v) (stage_name k) name)) (sym more) (subst (λ (i : Intent). AreActionsDone i (stage.acted + 1) (moved (files_of v) (stage_name k) name)) (sym same) done_moved));
@@ -361,9 +361,9 @@ module _ (laws : CrashLaws) (stage now : Staging) (files : Files) (v : TreeState
       })
 
   -- it was moved before
-  pub absent_acting : v.names place ≡ None → IsActing now files v
+  pub absent_acting : v.names place ≡ None → IsCarryingOutActions now files v
   absent_acting none =
-      let gone : moved (files_of v) (stage_name k) name ≡ files_of v = ap (λ o. move_if (files_of v) (stage_name k) name o) (ap (λ (p : List ℕ). files_of v p) (sym place_is) ∙ ap (bytes_at v.files) none) in
+      let gone : moved (files_of v) (stage_name k) name ≡ files_of v = ap (λ o. move_if_present (files_of v) (stage_name k) name o) (ap (λ (p : List ℕ). files_of v p) (sym place_is) ∙ ap (bytes_of_file_number v.files) none) in
       record {
         located = acting.located ∙ ap Some (sym same);
         reads = acting.reads;
@@ -380,7 +380,7 @@ among_index (n ∷ ns) q among = ⊎_elim
     (λ off. let rest = among_index ns q (sym (ap (λ b. b || list_any (bytes_eq q) ns) off) ∙ among) in (suc rest.0, rest.1))
     (name_cases q n)
 
-module _ (stage : Staging) (files : Files) (v : TreeState) (acting : IsActing stage files v) (behind : length stage.intent.removals ≤ stage.acted) where
+module _ (stage : Staging) (files : Files) (v : TreeState) (acting : IsCarryingOutActions stage files v) (behind : length stage.intent.removals ≤ stage.acted) where
   pub removal_absent : (q : List ℕ) → IsOneOf q stage.intent.removals → files_of v q ≡ None
   removal_absent q among =
       let at = among_index stage.intent.removals q among in
@@ -399,22 +399,22 @@ pub record IsGone (files : Files) (v : TreeState) : Type 0 where
   pub reads : files_of v ≡ files
   pub absent : v.names intent_name ≡ None
 
-module _ (laws : CrashLaws) (stage : Staging) (files : Files) (v : TreeState) (acting : IsActing stage files v) (all : stage.acted ≡ action_count stage.intent) where
+module _ (laws : CrashLaws) (stage : Staging) (files : Files) (v : TreeState) (acting : IsCarryingOutActions stage files v) (all : stage.acted ≡ action_count stage.intent) where
   stands_alone : recovered_files (files_of v) ≡ drop_name (files_of v) intent_name
   stands_alone = recovered-done (files_of v) stage.intent acting.located (without_same stage files v acting (omega (arith, all))) (λ i from below. acting.done.moved i from (omega (arith, all, below)))
 
-  drop_still_at : (ignored : List ℕ → Bool) (o : Option ℕ) → v.older ≡ [] → IsDurable (StateDependsOn ignored) v → StateIsUnchanged ignored v (remove_at intent_name v o)
+  drop_still_at : (ignored : List ℕ → Bool) (o : Option ℕ) → v.older ≡ [] → IsDurable (StateDependsOn ignored) v → StateIsUnchanged ignored v (with_name_removed intent_name v o)
   drop_still_at ignored None one is_durable = still_self ignored v is_durable
   drop_still_at ignored (Some n) one is_durable =
       let m : NameMap = drop_name v.names intent_name in
       let is = files-dropped v intent_name in
       still_one laws ignored v m one is_durable (ap recovered_files is ∙ recovered-dropped (files_of v) ∙ sym stands_alone) (synced m refl is)
     where
-      no_more_place : (m : NameMap) → files_by v m ≡ drop_name (files_of v) intent_name → (q : List ℕ) → IsStagedNameOf (intent_of (files_by v m)) q → ⊥
+      no_more_place : (m : NameMap) → files_under_map v m ≡ drop_name (files_of v) intent_name → (q : List ℕ) → IsStagedNameOf (intent_of (files_under_map v m)) q → ⊥
       no_more_place m is q place =
-          subst (λ o. IsStagedNameOf o q) (ap intent_of is ∙ ap intent_at (drop_name-at (files_of v) intent_name intent_name refl)) place
+          subst (λ o. IsStagedNameOf o q) (ap intent_of is ∙ ap intent_in_file (drop_name-at (files_of v) intent_name intent_name refl)) place
 
-      synced : (m : NameMap) → m ≡ drop_name v.names intent_name → files_by v m ≡ drop_name (files_of v) intent_name → (q : List ℕ) (k : ℕ) → StateDependsOn ignored (files_by v m) q → m q ≡ Some k → (v.files k).synced ≡ true
+      synced : (m : NameMap) → m ≡ drop_name v.names intent_name → files_under_map v m ≡ drop_name (files_of v) intent_name → (q : List ℕ) (k : ℕ) → StateDependsOn ignored (files_under_map v m) q → m q ≡ Some k → (v.files k).synced ≡ true
       synced m m_is is q k (inl intent) at = let none : m q ≡ None = ap (λ (f : NameMap). f q) m_is ∙ drop_name-at v.names intent_name q intent in absurd (cc (none, at))
       synced m m_is is q k (inr (inl shown)) at = is_durable.each v.names (read_may_be_left v) q k (inr (inl shown)) (dropped_some (bytes_eq q intent_name) (v.names q) k (sym (ap (λ (f : NameMap). f q) m_is) ∙ at))
       synced m m_is is q k (inr (inr place)) at = absurd (no_more_place m is q place)
@@ -422,7 +422,7 @@ module _ (laws : CrashLaws) (stage : Staging) (files : Files) (v : TreeState) (a
   pub drop_still : (ignored : List ℕ → Bool) → v.older ≡ [] → IsDurable (StateDependsOn ignored) v → StateIsUnchanged ignored v (after_remove intent_name v)
   drop_still ignored = drop_still_at ignored (v.names intent_name)
 
-  absent_at : (o : Option ℕ) → v.names intent_name ≡ o → (remove_at intent_name v o).names intent_name ≡ None
+  absent_at : (o : Option ℕ) → v.names intent_name ≡ o → (with_name_removed intent_name v o).names intent_name ≡ None
   absent_at None none = none
   absent_at (Some n) some = drop_name-at v.names intent_name intent_name refl
 
@@ -442,8 +442,8 @@ sync_still ignored v is_durable = record {
 pub sync_settled : CrashLaws → (ignored : List ℕ → Bool) (v : TreeState) → IsDurable (StateDependsOn ignored) v → EachCrashLeaves ignored (files_of v) (after_sync_names v)
 sync_settled laws ignored v is_durable = settled_by_maps laws ignored (files_of v) (after_sync_names v) (sync_still ignored v is_durable).is_durable each
   where
-    each : (m : NameMap) → IsCrashMap (after_sync_names v) m → state_of ignored (files_by v m) ≡ state_of ignored (files_of v)
-    each m is = ap (λ (x : NameMap). state_of ignored (files_by v x)) is
+    each : (m : NameMap) → IsCrashMap (after_sync_names v) m → state_of ignored (files_under_map v m) ≡ state_of ignored (files_of v)
+    each m is = ap (λ (x : NameMap). state_of ignored (files_under_map v x)) is
 
 -- what is read, whatever a crash may undo
 pub record IsReadActing (stage : Staging) (files : Files) (v : TreeState) : Type 0 where
@@ -451,13 +451,13 @@ pub record IsReadActing (stage : Staging) (files : Files) (v : TreeState) : Type
   pub reads : recovered_files (files_of v) ≡ files
   pub done : AreActionsDone stage.intent stage.acted (files_of v)
 
-pub read_acting : (stage : Staging) (files : Files) (v : TreeState) → v.older ≡ [] → IsReadActing stage files v → IsActing stage files v
+pub read_acting : (stage : Staging) (files : Files) (v : TreeState) → v.older ≡ [] → IsReadActing stage files v → IsCarryingOutActions stage files v
 read_acting stage files v one read = record { located = read.located; reads = read.reads; done = read.done; last = λ map left q needed. ap (λ (m : NameMap). m q) (left_only v one map left) }
 
-pub acting_once_synced : (stage : Staging) (files : Files) (v : TreeState) → IsReadActing stage files v → IsActing stage files (after_sync_names v)
+pub acting_once_synced : (stage : Staging) (files : Files) (v : TreeState) → IsReadActing stage files v → IsCarryingOutActions stage files (after_sync_names v)
 acting_once_synced stage files v read = read_acting stage files (after_sync_names v) refl (record { located = read.located; reads = read.reads; done = read.done })
 
-pub sync_acting : (stage : Staging) (files : Files) (v : TreeState) → IsActing stage files v → IsActing stage files (after_sync_names v)
+pub sync_acting : (stage : Staging) (files : Files) (v : TreeState) → IsCarryingOutActions stage files v → IsCarryingOutActions stage files (after_sync_names v)
 sync_acting stage files v acting = acting_once_synced stage files v (record { located = acting.located; reads = acting.reads; done = acting.done })
 
 pub sync_gone : (files : Files) (v : TreeState) → IsGone files v → IsGone files (after_sync_names v)

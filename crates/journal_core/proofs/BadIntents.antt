@@ -5,22 +5,22 @@ use Rattle.journal_intent.specs.adb_schema.Soundness.{first_fault, payload_in, r
 use Rattle.adb_view.specs.declared.tables.Which.TheVariants.{Intent as IntentTable}
 use Rattle.base_core.specs.Files.{Files}
 use Rattle.base_core.specs.declared.cause.Cause.{Cause}
-use Rattle.journal_core.specs.Recovery.{Intent, intent_at, intent_in, intent_name, is_staged, read_intent, recovered_files, recovered_files_by, state_of}
+use Rattle.journal_core.specs.Recovery.{Intent, intent_in_file, intent_of_value, intent_name, is_staged, read_intent, recovered_files, files_after_intent, state_of}
 use Rattle.journal_core.specs.Staged.{IsIntentFault}
 use Rattle.journal_core.proofs.Contents.{hidden_state, shown_state}
 
-module _ (sound : (file : List ℕ) → first_fault IntentTable file ≡ None → read_intent file ≡ Some (intent_in (root_value IntentTable (payload_in file))))
+module _ (sound : (file : List ℕ) → first_fault IntentTable file ≡ None → read_intent file ≡ Some (intent_of_value (root_value IntentTable (payload_in file))))
     (other : (file : List ℕ) (cause : Cause) → first_fault IntentTable file ≡ Some cause → read_intent file ≡ None) where
   -- a file that fails a test stays where it is
   stays : (files : Files) (file : List ℕ) (cause : Cause) → files intent_name ≡ Some file → first_fault IntentTable file ≡ Some cause → recovered_files files intent_name ≡ Some file
-  stays files file cause is bad = ap (λ (o : Option Intent). recovered_files_by o files intent_name) (ap intent_at is ∙ other file cause bad) ∙ is
+  stays files file cause is bad = ap (λ (o : Option Intent). files_after_intent o files intent_name) (ap intent_in_file is ∙ other file cause bad) ∙ is
 
   -- one that fails none is an intent, and goes
   goes : (files : Files) (file : List ℕ) → files intent_name ≡ Some file → first_fault IntentTable file ≡ None → recovered_files files intent_name ≡ None
-  goes files file is good = ap (λ (o : Option Intent). recovered_files_by o files intent_name) (ap intent_at is ∙ sound file good)
+  goes files file is good = ap (λ (o : Option Intent). files_after_intent o files intent_name) (ap intent_in_file is ∙ sound file good)
 
   absent : (files : Files) → files intent_name ≡ None → recovered_files files intent_name ≡ None
-  absent files is = ap (λ (o : Option (List ℕ)). recovered_files_by (intent_at o) files intent_name) is ∙ is
+  absent files is = ap (λ (o : Option (List ℕ)). files_after_intent (intent_in_file o) files intent_name) is ∙ is
 
   pub bad_shown : (ignored : List ℕ → Bool) (files : Files) (cause : Cause) → ignored intent_name ≡ false → IsIntentFault files cause → state_of ignored files intent_name ≡ files intent_name
   bad_shown ignored files cause shown (file, is, bad) = shown_state ignored files intent_name refl shown ∙ (stays files file cause is bad ∙ sym is)

@@ -2,33 +2,33 @@
 use Rattle.std.proofs.Common.{◌≡◌, ◌≢◌, ◌⊎◌, inl, inr, ℕ, ◌+◌, ◌≤◌, ◌<◌, ◌^◌, false, List, [], ◌∷◌, length, Option, None, Some, IsSome, refl, sym, ap, subst, ◌∙◌, arith}
 use Rattle.std.specs.Str.{bytes_eq}
 use Rattle.base_core.specs.Files.{Files, HasNoFileAsFolder, put_name}
-use Rattle.base_core.specs.Tree.{TreeState, File, bytes_at, CanCreate}
+use Rattle.base_core.specs.Tree.{TreeState, File, bytes_of_file_number, CanCreate}
 use Rattle.base_core.proofs.AtName.{name_cases, off_name}
 use Rattle.journal_core.specs.Recovery.{stage_name}
-use Rattle.journal_core.specs.Staged.{Staging, IsPresentOrOfJournal, AreJournalPathsFree, AreStagingPathsFree, IsStaged, with_staged}
+use Rattle.journal_core.specs.Staged.{Staging, IsPresentOrOfJournal, AreJournalPathsFree, AreStagingPathsFree, IsStaged, files_with_staged}
 use Rattle.journal_intent.proofs.AtName.{put_name-off}
 use Rattle.journal_intent.proofs.StageNames.{stage_names_apart}
 
--- names that are all acting_stage are folder-like
+-- names that are all stage_with_actions_done are folder-like
 pub held_like : {A : Type 0} (files : Files) → AreJournalPathsFree files → (m : List ℕ → Option A) → ((q : List ℕ) → IsSome (m q) → IsPresentOrOfJournal files q) → HasNoFileAsFolder m
-held_like files room m acting_stage p q folder has_p has_q = room.folders p q folder (acting_stage p has_p) (acting_stage q has_q)
+held_like files room m stage_with_actions_done p q folder has_p has_q = room.folders p q folder (stage_with_actions_done p has_p) (stage_with_actions_done q has_q)
 
-pub as_read : (files : ℕ → File) (n : Option ℕ) → IsSome n → IsSome (bytes_at files n)
+pub as_read : (files : ℕ → File) (n : Option ℕ) → IsSome n → IsSome (bytes_of_file_number files n)
 as_read files None some = absurd (cc (some))
 as_read files (Some n) some = refl
 
-absent_read : (files : ℕ → File) (n : Option ℕ) → bytes_at files n ≡ None → n ≡ None
+absent_read : (files : ℕ → File) (n : Option ℕ) → bytes_of_file_number files n ≡ None → n ≡ None
 absent_read files None e = refl
 absent_read files (Some n) e = absurd (cc)
 
--- what waits is acting_stage
-staged_held : (contents : List (List ℕ)) (k : ℕ) (base F : Files) → ((q : List ℕ) → IsSome (F q) → IsPresentOrOfJournal base q) → (q : List ℕ) → IsSome (with_staged k contents F q) → IsPresentOrOfJournal base q
-staged_held [] k base F acting_stage q some = acting_stage q some
-staged_held (b ∷ bs) k base F acting_stage q some = staged_held bs (k + 1) base (put_name F (stage_name k) b) (λ r has. at r has (name_cases r (stage_name k))) q some
+-- what waits is stage_with_actions_done
+staged_held : (contents : List (List ℕ)) (k : ℕ) (base F : Files) → ((q : List ℕ) → IsSome (F q) → IsPresentOrOfJournal base q) → (q : List ℕ) → IsSome (files_with_staged k contents F q) → IsPresentOrOfJournal base q
+staged_held [] k base F stage_with_actions_done q some = stage_with_actions_done q some
+staged_held (b ∷ bs) k base F stage_with_actions_done q some = staged_held bs (k + 1) base (put_name F (stage_name k) b) (λ r has. at r has (name_cases r (stage_name k))) q some
   where
     at : (r : List ℕ) → IsSome (put_name F (stage_name k) b r) → (r ≡ stage_name k) ⊎ (bytes_eq r (stage_name k) ≡ false) → IsPresentOrOfJournal base r
     at r has (inl is) = inr (inr (k, is))
-    at r has (inr off) = acting_stage r (subst IsSome (put_name-off F (stage_name k) b r (off_name r (stage_name k) off)) has)
+    at r has (inr off) = stage_with_actions_done r (subst IsSome (put_name-off F (stage_name k) b r (off_name r (stage_name k) off)) has)
 
 module _ (stage : Staging) (contents : List (List ℕ)) (base : Files) (v : TreeState) (few : 1 + length contents < 2 ^ 64) (staged : IsStaged stage contents None base v) where
   pub read_held : (q : List ℕ) → IsSome (v.names q) → IsPresentOrOfJournal base q
@@ -39,7 +39,7 @@ module _ (stage : Staging) (contents : List (List ℕ)) (base : Files) (v : Tree
   next_absent room k apart =
       absent_read v.files (v.names (stage_name k)) (ap (λ (F : Files). F (stage_name k)) staged.reads ∙ below contents 1 base (λ j from until. apart j from until) ∙ room.empty (stage_name k) refl)
     where
-      below : (cs : List (List ℕ)) (j : ℕ) (F : Files) → ((i : ℕ) → j ≤ i → i < j + length cs → stage_name k ≢ stage_name i) → with_staged j cs F (stage_name k) ≡ F (stage_name k)
+      below : (cs : List (List ℕ)) (j : ℕ) (F : Files) → ((i : ℕ) → j ≤ i → i < j + length cs → stage_name k ≢ stage_name i) → files_with_staged j cs F (stage_name k) ≡ F (stage_name k)
       below [] j F off = refl
       below (c ∷ cs) j F off = below cs (j + 1) (put_name F (stage_name j) c) (λ i from until. off i (omega (arith, from)) (omega (arith, until))) ∙ put_name-off F (stage_name j) c (stage_name k) (off j (omega arith) (omega arith))
 

@@ -3,12 +3,12 @@ use Rattle.std.proofs.Common.{◌≡◌, ◌≢◌, ◌⊎◌, inl, inr, ⊎_eli
 use Rattle.std.proofs.Math.Nat.{eq-or-lt_of_le}
 use Rattle.std.specs.Str.{bytes_eq}
 use Rattle.base_core.specs.Files.{Files, NameMap, put_name}
-use Rattle.base_core.specs.Tree.{TreeState, File, IsWellFormed, bytes_at, files_of, change_at, after_create, after_append, after_sync, after_sync_names, HasName}
+use Rattle.base_core.specs.Tree.{TreeState, File, IsWellFormed, bytes_of_file_number, files_of, with_file_changed, after_create, after_append, after_sync, after_sync_names, HasName}
 use Rattle.base_core.specs.Undone.{IsDurable}
 use Rattle.journal_core.specs.Recovery.{StateDependsOn, intent_name, stage_name}
 use Rattle.journal_core.specs.Quiet.{StateIsUnchanged}
-use Rattle.journal_core.specs.Kept.{IsInNoMap}
-use Rattle.journal_core.specs.Staged.{Staging, HasNoOtherIntent, IsStaged, with_staged}
+use Rattle.journal_core.specs.Kept.{IsRestoredByNoCrash}
+use Rattle.journal_core.specs.Staged.{Staging, HasNoOtherIntent, IsStaged, files_with_staged}
 use Rattle.base_core.proofs.Undone.{read_may_be_left}
 use Rattle.base_core.proofs.AtName.{name_cases, off_name}
 use Rattle.journal_core.proofs.Changes.{gone_created, gone_synced}
@@ -18,13 +18,13 @@ use Rattle.journal_core.proofs.Steps.{set_file-at, file_at-set_file, made_later,
 use Rattle.journal_core.proofs.Waiting.{off_gone, still_created, alone_created, still_changed, alone_changed, others_changed, read_changed}
 use Rattle.journal_core.proofs.Images.{CrashLaws}
 
-pub staged_off : (contents : List (List ℕ)) (k : ℕ) (F : Files) (q : List ℕ) → ((j : ℕ) → k ≤ j → q ≢ stage_name j) → with_staged k contents F q ≡ F q
+pub staged_off : (contents : List (List ℕ)) (k : ℕ) (F : Files) (q : List ℕ) → ((j : ℕ) → k ≤ j → q ≢ stage_name j) → files_with_staged k contents F q ≡ F q
 staged_off [] k F q off = refl
 staged_off (b ∷ bs) k F q off = staged_off bs (k + 1) (put_name F (stage_name k) b) q (λ j le. off j (omega (arith, le))) ∙ put_name-off F (stage_name k) b q (off k (omega arith))
 
-staged_more : (contents : List (List ℕ)) (k : ℕ) (b : List ℕ) (base : Files) → with_staged k (contents ++ b ∷ []) base ≡ put_name (with_staged k contents base) (stage_name (k + length contents)) b
+staged_more : (contents : List (List ℕ)) (k : ℕ) (b : List ℕ) (base : Files) → files_with_staged k (contents ++ b ∷ []) base ≡ put_name (files_with_staged k contents base) (stage_name (k + length contents)) b
 staged_more [] k b base = ap (λ n. put_name base (stage_name n) b) (omega arith)
-staged_more (c ∷ contents) k b base = staged_more contents (k + 1) b (put_name base (stage_name k) c) ∙ ap (λ n. put_name (with_staged (k + 1) contents (put_name base (stage_name k) c)) (stage_name n) b) (omega arith)
+staged_more (c ∷ contents) k b base = staged_more contents (k + 1) b (put_name base (stage_name k) c) ∙ ap (λ n. put_name (files_with_staged (k + 1) contents (put_name base (stage_name k) c)) (stage_name n) b) (omega arith)
 
 -- the name that the code uses
 pub name_of_next : (name : List ℕ) (staged count : ℕ) → name ≡ stage_name (staged + 1) → count ≡ staged → name ≡ stage_name (1 + count)
@@ -37,20 +37,20 @@ pub no_intent_read : (stage : Staging) (contents : List (List ℕ)) (base : File
 no_intent_read stage contents base v staged = ap (λ (F : Files). F intent_name) staged.reads ∙ staged_off contents 1 base intent_name (λ j le e. stage_name_no_intent j (sym e)) ∙ staged.absent
 
 -- once a file is staged, no crash restores an intent
-pub gone_once : (stage : Staging) (contents : List (List ℕ)) (base : Files) (v : TreeState) (k : ℕ) → IsStaged stage contents None base v → stage.staged ≡ suc k → IsInNoMap intent_name v
+pub gone_once : (stage : Staging) (contents : List (List ℕ)) (base : Files) (v : TreeState) (k : ℕ) → IsStaged stage contents None base v → stage.staged ≡ suc k → IsRestoredByNoCrash intent_name v
 gone_once stage [] base v k staged some = absurd (let none = staged.count in omega (arith, none, some))
 gone_once stage (bytes ∷ contents) base v k staged some = staged.gone
 
-other_more : (contents : List (List ℕ)) (bytes : List ℕ) (v : TreeState) → IsInNoMap intent_name v → HasNoOtherIntent (contents ++ bytes ∷ []) None v
+other_more : (contents : List (List ℕ)) (bytes : List ℕ) (v : TreeState) → IsRestoredByNoCrash intent_name v → HasNoOtherIntent (contents ++ bytes ∷ []) None v
 other_more [] bytes v gone = gone
 other_more (c ∷ contents) bytes v gone = gone
 
-unread : (files : ℕ → File) (o : Option ℕ) → bytes_at files o ≡ None → o ≡ None
+unread : (files : ℕ → File) (o : Option ℕ) → bytes_of_file_number files o ≡ None → o ≡ None
 unread files None is = refl
 unread files (Some n) is = absurd (cc)
 
 -- the names are synced
-pub gone_once_synced : (stage : Staging) (contents : List (List ℕ)) (base : Files) (v : TreeState) → IsStaged stage contents None base v → IsInNoMap intent_name (after_sync_names v)
+pub gone_once_synced : (stage : Staging) (contents : List (List ℕ)) (base : Files) (v : TreeState) → IsStaged stage contents None base v → IsRestoredByNoCrash intent_name (after_sync_names v)
 gone_once_synced stage contents base v staged = gone_synced intent_name v (unread v.files (v.names intent_name) (no_intent_read stage contents base v staged))
 
 pub staged_synced : (stage : Staging) (contents : List (List ℕ)) (base : Files) (v : TreeState) → IsStaged stage contents None base v → IsStaged stage contents None base (after_sync_names v)
@@ -63,13 +63,13 @@ staged_synced stage contents base v staged = record {
   gone = by contents (gone_once_synced stage contents base v staged);
 }
   where
-    by : (cs : List (List ℕ)) → IsInNoMap intent_name (after_sync_names v) → HasNoOtherIntent cs None (after_sync_names v)
+    by : (cs : List (List ℕ)) → IsRestoredByNoCrash intent_name (after_sync_names v) → HasNoOtherIntent cs None (after_sync_names v)
     by [] away = tt
     by (c ∷ cs) away = away
 
 -- ---- a file is begun
 
-module _ (laws : CrashLaws) (stage : Staging) (contents : List (List ℕ)) (base : Files) (v : TreeState) (few : 1 + length contents < 2 ^ 64) (staged : IsStaged stage contents None base v) (gone : IsInNoMap intent_name v) (whole : IsWellFormed v) where
+module _ (laws : CrashLaws) (stage : Staging) (contents : List (List ℕ)) (base : Files) (v : TreeState) (few : 1 + length contents < 2 ^ 64) (staged : IsStaged stage contents None base v) (gone : IsRestoredByNoCrash intent_name v) (whole : IsWellFormed v) where
   abbrev next : List ℕ
   next = stage_name (1 + length contents)
 
@@ -80,7 +80,7 @@ module _ (laws : CrashLaws) (stage : Staging) (contents : List (List ℕ)) (base
   created_reads q = at (name_cases q next)
     where
       at : (q ≡ next) ⊎ (bytes_eq q next ≡ false) → files_of (after_create next v) q ≡ put_name (files_of v) next [] q
-      at (inl is) = ap (bytes_at (after_create next v).files) (put_name-at v.names next v.made q is) ∙ ap (λ (f : File). Some f.bytes) (set_file-at v.files v.made _ v.made refl) ∙ sym (put_name-at (files_of v) next [] q is)
+      at (inl is) = ap (bytes_of_file_number (after_create next v).files) (put_name-at v.names next v.made q is) ∙ ap (λ (f : File). Some f.bytes) (set_file-at v.files v.made _ v.made refl) ∙ sym (put_name-at (files_of v) next [] q is)
       at (inr off) = create_others next v whole q (off_name q next off) ∙ sym (put_name-off (files_of v) next [] q (off_name q next off))
 
   kept_file : (n : ℕ) → n ≢ v.made → (after_create next v).files n ≡ v.files n
@@ -116,12 +116,12 @@ module _ (laws : CrashLaws) (stage : Staging) (contents : List (List ℕ)) (so_f
 
   bytes_now : (v.files staged.alone.number).bytes ≡ so_far
   bytes_now =
-      let e : Some (v.files staged.alone.number).bytes ≡ Some so_far = sym (ap (bytes_at v.files) staged.alone.there) ∙ ap (λ (F : Files). F place) staged.reads ∙ put_name-at (with_staged 1 contents base) place so_far place refl in
+      let e : Some (v.files staged.alone.number).bytes ≡ Some so_far = sym (ap (bytes_of_file_number v.files) staged.alone.there) ∙ ap (λ (F : Files). F place) staged.reads ∙ put_name-at (files_with_staged 1 contents base) place so_far place refl in
       cc
 
   module _ (change : File → File) where
     abbrev w : TreeState
-    w = change_at change v (v.names place)
+    w = with_file_changed change v (v.names place)
 
     pub still_grown_at : (ignored : List ℕ → Bool) → IsDurable (StateDependsOn ignored) v → StateIsUnchanged ignored v w
     still_grown_at ignored = still_changed laws place refl (stage_name_no_intent (1 + length contents)) change v staged.alone ignored
@@ -130,19 +130,19 @@ module _ (laws : CrashLaws) (stage : Staging) (contents : List (List ℕ)) (so_f
     grown_others = others_changed laws place refl (stage_name_no_intent (1 + length contents)) change v staged.alone
 
     module _ (now : Staging) (bytes : List ℕ) (same : (change (v.files staged.alone.number)).bytes ≡ bytes) where
-      grown_reads : (q : List ℕ) → files_of w q ≡ put_name (with_staged 1 contents base) place bytes q
+      grown_reads : (q : List ℕ) → files_of w q ≡ put_name (files_with_staged 1 contents base) place bytes q
       grown_reads q = at (name_cases q place)
         where
-          at : (q ≡ place) ⊎ (bytes_eq q place ≡ false) → files_of w q ≡ put_name (with_staged 1 contents base) place bytes q
+          at : (q ≡ place) ⊎ (bytes_eq q place ≡ false) → files_of w q ≡ put_name (files_with_staged 1 contents base) place bytes q
           at (inl is) =
               ap (files_of w) is ∙ read_changed laws place refl (stage_name_no_intent (1 + length contents)) change v staged.alone
-              ∙ ap Some same ∙ sym (put_name-at (with_staged 1 contents base) place bytes q is)
+              ∙ ap Some same ∙ sym (put_name-at (files_with_staged 1 contents base) place bytes q is)
           at (inr off) =
               grown_others q (off_name q place off) ∙ ap (λ (F : Files). F q) staged.reads
-              ∙ put_name-off (with_staged 1 contents base) place so_far q (off_name q place off) ∙ sym (put_name-off (with_staged 1 contents base) place bytes q (off_name q place off))
+              ∙ put_name-off (files_with_staged 1 contents base) place so_far q (off_name q place off) ∙ sym (put_name-off (files_with_staged 1 contents base) place bytes q (off_name q place off))
 
-      w_at : w ≡ change_at change v (Some staged.alone.number)
-      w_at = ap (change_at change v) staged.alone.there
+      w_at : w ≡ with_file_changed change v (Some staged.alone.number)
+      w_at = ap (with_file_changed change v) staged.alone.there
 
       other_number : (k n : ℕ) → k < 1 + length contents → v.names (stage_name k) ≡ Some n → n ≢ staged.alone.number
       other_number k n below there e =
@@ -152,14 +152,14 @@ module _ (laws : CrashLaws) (stage : Staging) (contents : List (List ℕ)) (so_f
 
       kept_number : (n : ℕ) → n ≢ staged.alone.number → w.files n ≡ v.files n
       kept_number n ne =
-          let here : Some ((change_at change v (Some staged.alone.number)).files n) ≡ Some (v.files n) = file_at-set_file v.files staged.alone.number _ (Some n) (λ e. ne (cc)) in
+          let here : Some ((with_file_changed change v (Some staged.alone.number)).files n) ≡ Some (v.files n) = file_at-set_file v.files staged.alone.number _ (Some n) (λ e. ne (cc)) in
           ap (λ (u : TreeState). u.files n) w_at ∙ cc
 
       same_names : w.names ≡ v.names
       same_names = ap (λ (u : TreeState). u.names) w_at
 
-      still_gone : IsInNoMap intent_name w
-      still_gone = subst (IsInNoMap intent_name) (sym w_at) staged.gone
+      still_gone : IsRestoredByNoCrash intent_name w
+      still_gone = subst (IsRestoredByNoCrash intent_name) (sym w_at) staged.gone
 
       synced_before : (k n : ℕ) → 1 ≤ k → k < 1 + length contents → w.names (stage_name k) ≡ Some n → (w.files n).synced ≡ true
       synced_before k n from below there =
@@ -205,11 +205,11 @@ module _ (laws : CrashLaws) (stage : Staging) (contents : List (List ℕ)) (so_f
 
   module _ (name : List ℕ) (is : name ≡ place) where
     -- more bytes, also where that failed
-    pub still_grown : (change : File → File) (ignored : List ℕ → Bool) → IsDurable (StateDependsOn ignored) v → StateIsUnchanged ignored v (change_at change v (v.names name))
-    still_grown change ignored is_durable = subst (λ (n : List ℕ). StateIsUnchanged ignored v (change_at change v (v.names n))) (sym is) (still_grown_at change ignored is_durable)
+    pub still_grown : (change : File → File) (ignored : List ℕ → Bool) → IsDurable (StateDependsOn ignored) v → StateIsUnchanged ignored v (with_file_changed change v (v.names name))
+    still_grown change ignored is_durable = subst (λ (n : List ℕ). StateIsUnchanged ignored v (with_file_changed change v (v.names n))) (sym is) (still_grown_at change ignored is_durable)
 
-    pub others_grown : (change : File → File) (q : List ℕ) → q ≢ name → files_of (change_at change v (v.names name)) q ≡ files_of v q
-    others_grown change q ne = subst (λ (n : List ℕ). files_of (change_at change v (v.names n)) q ≡ files_of v q) (sym is) (grown_others change q (λ e. ne (e ∙ sym is)))
+    pub others_grown : (change : File → File) (q : List ℕ) → q ≢ name → files_of (with_file_changed change v (v.names name)) q ≡ files_of v q
+    others_grown change q ne = subst (λ (n : List ℕ). files_of (with_file_changed change v (v.names n)) q ≡ files_of v q) (sym is) (grown_others change q (λ e. ne (e ∙ sym is)))
 
     pub staged_grown : (now : Staging) (piece : List ℕ) → now.staged ≡ stage.staged → IsStaged now contents (Some (so_far ++ piece)) base (after_append name piece v)
     staged_grown now piece kept = subst (λ (n : List ℕ). IsStaged now contents (Some (so_far ++ piece)) base (after_append n piece v)) (sym is)
@@ -220,8 +220,8 @@ module _ (laws : CrashLaws) (stage : Staging) (contents : List (List ℕ)) (so_f
         (staged_ended_at (λ f. record { bytes = f.bytes; synced = true }) now so_far bytes_now more refl)
 
     -- the bytes as read stay where only the flag changes
-    pub same_read : (flag : Bool) → files_of (change_at (λ f. record { bytes = f.bytes; synced = flag }) v (v.names name)) ≡ files_of v
-    same_read flag = subst (λ (n : List ℕ). files_of (change_at (λ f. record { bytes = f.bytes; synced = flag }) v (v.names n)) ≡ files_of v) (sym is)
+    pub same_read : (flag : Bool) → files_of (with_file_changed (λ f. record { bytes = f.bytes; synced = flag }) v (v.names name)) ≡ files_of v
+    same_read flag = subst (λ (n : List ℕ). files_of (with_file_changed (λ f. record { bytes = f.bytes; synced = flag }) v (v.names n)) ≡ files_of v) (sym is)
         (λ i q. (grown_reads (λ f. record { bytes = f.bytes; synced = flag }) stage so_far bytes_now q ∙ ap (λ (F : Files). F q) (sym staged.reads)) i)
 
     pub has_name : HasName name v

@@ -8,14 +8,14 @@ use Rattle.std.proofs.lemmas.Map.Views.{Contains-from_any, list_any-from_Contain
 use Rattle.std.specs.Cmp.{IsEquivalence}
 use Rattle.base_core.specs.Files.{Files, IsFolderOf}
 use Rattle.base_core.specs.Listed.{AreNamesBelow, IsListOf, IsNameBelow}
-use Rattle.base_core.specs.Tree.{TreeState, File, bytes_at, files_of}
+use Rattle.base_core.specs.Tree.{TreeState, File, bytes_of_file_number, files_of}
 use Rattle.base_core.specs.Calls.{IfObservable, HoldsNow}
 use Rattle.base_core.specs.Crash.{Since}
 use Rattle.base_core.specs.Undone.{IsDurable}
 use Rattle.base_core.proofs.AtName.{is_name, other_name, same_name, name_cases, off_name}
 use Rattle.journal_core.specs.Kept.{RecoversTo}
-use Rattle.journal_core.specs.Recovering.{AllStaged, HasEmptiedStage, IsReplayed, HasRemovedNames, without_staged_names}
-use Rattle.journal_core.specs.Recovery.{Intent, EachCrashLeaves, StateDependsOn, intent_name, intent_at, intent_of, is_staged, recovered_files, recovered_files_by, after_actions, stage_folder, state_of}
+use Rattle.journal_core.specs.Recovering.{AreStagedNames, HasEmptiedStage, IsReplayed, HasRemovedNames, without_staged_names}
+use Rattle.journal_core.specs.Recovery.{Intent, EachCrashLeaves, StateDependsOn, intent_name, intent_in_file, intent_of, is_staged, recovered_files, files_after_intent, files_after_actions, stage_folder, state_of}
 use Rattle.journal_core.specs.Quiet.{StateIsUnchanged}
 use Rattle.journal_core.specs.Staged.{IsEmptyStage, unstaged_files}
 use Rattle.journal_core.proofs.Acts.{state_same, still_on}
@@ -29,7 +29,7 @@ use Rattle.journal_core.proofs.Waiting.{still_self}
 
 -- ---- a name below the stage
 
-pub all_staged : (folder : List ℕ) (names : List (List ℕ)) → folder ≡ stage_folder → AreNamesBelow folder names → AllStaged names
+pub all_staged : (folder : List ℕ) (names : List (List ℕ)) → folder ≡ stage_folder → AreNamesBelow folder names → AreStagedNames names
 all_staged folder names is below = All-weaker (IsNameBelow folder) (λ name. is_staged name ≡ true) (λ name at. begins stage_folder name (subst (λ (f : List ℕ). IsFolderOf f name) is at.below)) names below.each
 
 -- ---- what is listed is what waits
@@ -77,11 +77,11 @@ module _ (names : List (List ℕ)) (folder : List ℕ) (folder_is : folder ≡ s
   back : (B : TreeState → Type 0) → IfObservable mid B → IfObservable old B
   back B told = subst (λ (l : History). IfObservable l B) same told
 
-  pub empty_moments : AreNamesBelow folder names → IfObservable mid (λ v. (ignored : List ℕ → Bool) → IsDurable (StateDependsOn ignored) v → v.names intent_name ≡ None → AllStaged names → Since (StateIsUnchanged ignored v) mid new)
+  pub empty_moments : AreNamesBelow folder names → IfObservable mid (λ v. (ignored : List ℕ → Bool) → IsDurable (StateDependsOn ignored) v → v.names intent_name ≡ None → AreStagedNames names → Since (StateIsUnchanged ignored v) mid new)
       → IfObservable old (λ v. (ignored : List ℕ → Bool) → IsDurable (StateDependsOn ignored) v → v.names intent_name ≡ None → Since (StateIsUnchanged ignored v) old new)
   empty_moments below told = observable_map old _ _ (back _ told) (λ v t ignored is_durable none. subst (λ (l : History). Since (StateIsUnchanged ignored v) l new) same (t ignored is_durable none (all_staged folder names folder_is below)))
 
-  pub empty_shown : AreNamesBelow folder names → IfObservable mid (λ v. AllStaged names → Since (KeepsShown v) mid new) → IfObservable old (λ v. Since (KeepsShown v) old new)
+  pub empty_shown : AreNamesBelow folder names → IfObservable mid (λ v. AreStagedNames names → Since (KeepsShown v) mid new) → IfObservable old (λ v. Since (KeepsShown v) old new)
   empty_shown below told = observable_map old _ _ (back _ told) (λ v t. subst (λ (l : History). Since (KeepsShown v) l new) same (t (all_staged folder names folder_is below)))
 
   both_told : (h : History) (A B C : TreeState → Type 0) → ((v : TreeState) → A v → B v → C v) → IfObservable h A → IfObservable h B → IfObservable h C
@@ -96,16 +96,16 @@ module _ (names : List (List ℕ)) (folder : List ℕ) (folder_is : folder ≡ s
 
 -- ---- all of a recovery
 
-intent_gone : (F : Files) (o : Option Intent) → intent_of F ≡ o → intent_of (recovered_files_by o F) ≡ None
+intent_gone : (F : Files) (o : Option Intent) → intent_of F ≡ o → intent_of (files_after_intent o F) ≡ None
 intent_gone F None none = none
-intent_gone F (Some intent) some = ap intent_at (drop_name-at (after_actions intent F) intent_name intent_name refl)
+intent_gone F (Some intent) some = ap intent_in_file (drop_name-at (files_after_actions intent F) intent_name intent_name refl)
 
 pub state_recovered : (ignored : List ℕ → Bool) (F : Files) → state_of ignored (recovered_files F) ≡ state_of ignored F
-state_recovered ignored F = state_same ignored (recovered_files F) F (ap (λ o. recovered_files_by o (recovered_files F)) (intent_gone F (intent_of F) refl))
+state_recovered ignored F = state_same ignored (recovered_files F) F (ap (λ o. files_after_intent o (recovered_files F)) (intent_gone F (intent_of F) refl))
 
-read_emptied : (F G : ℕ → File) (same : F ≡ G) (b : Bool) (m n : Option ℕ) → m ≡ cond b None n → bytes_at F m ≡ cond b None (bytes_at G n)
-read_emptied F G same true m n is = ap (bytes_at F) is
-read_emptied F G same false m n is = ap (bytes_at F) is ∙ ap (λ (f : ℕ → File). bytes_at f n) same
+read_emptied : (F G : ℕ → File) (same : F ≡ G) (b : Bool) (m n : Option ℕ) → m ≡ cond b None n → bytes_of_file_number F m ≡ cond b None (bytes_of_file_number G n)
+read_emptied F G same true m n is = ap (bytes_of_file_number F) is
+read_emptied F G same false m n is = ap (bytes_of_file_number F) is ∙ ap (λ (f : ℕ → File). bytes_of_file_number f n) same
 
 pub cleaned_of : (v u w : TreeState) → IsReplayed v u → HasEmptiedStage u w → (files_of w ≡ unstaged_files (files_of v)) × (w.names intent_name ≡ None)
 cleaned_of v u w replayed emptied = (
@@ -165,7 +165,7 @@ empty_shown_none old new same = on_observable old _ (λ v rest is. no_more (Keep
 -- ---- what the files as read stand for
 
 pub none_recovered : (v : TreeState) → v.names intent_name ≡ None → recovered_files (files_of v) ≡ files_of v
-none_recovered v none = ap (λ o. recovered_files_by o (files_of v)) (ap intent_at (ap (bytes_at v.files) none))
+none_recovered v none = ap (λ o. files_after_intent o (files_of v)) (ap intent_in_file (ap (bytes_of_file_number v.files) none))
 
 same_unstaged : (F G : Files) → recovered_files F ≡ recovered_files G → unstaged_files F ≡ unstaged_files G
 same_unstaged F G same i q = cond (is_staged q) None (same i q)
@@ -174,13 +174,13 @@ shown_unstaged : (u w : TreeState) → u.names intent_name ≡ None → KeepsSho
 shown_unstaged u w none keeps i q = by (is_staged q) refl i
   where
     read_none : intent_of (files_of w) ≡ None
-    read_none = ap intent_at (keeps intent_name (λ e. true_false (sym e)) ∙ ap (bytes_at u.files) none)
+    read_none = ap intent_in_file (keeps intent_name (λ e. true_false (sym e)) ∙ ap (bytes_of_file_number u.files) none)
 
     by : (b : Bool) → is_staged q ≡ b → unstaged_files (files_of w) q ≡ unstaged_files (files_of u) q
     by true is = ap (λ b. cond b None (recovered_files (files_of w) q)) is ∙ sym (ap (λ b. cond b None (recovered_files (files_of u) q)) is)
     by false is =
         ap (λ b. cond b None (recovered_files (files_of w) q)) is
-        ∙ (ap (λ o. recovered_files_by o (files_of w) q) read_none ∙ keeps q (λ e. true_false (sym e ∙ is)) ∙ sym (ap (λ (F : Files). F q) (none_recovered u none)))
+        ∙ (ap (λ o. files_after_intent o (files_of w) q) read_none ∙ keeps q (λ e. true_false (sym e ∙ is)) ∙ sym (ap (λ (F : Files). F q) (none_recovered u none)))
         ∙ sym (ap (λ b. cond b None (recovered_files (files_of u) q)) is)
 
 module _ (old mid new : History) where

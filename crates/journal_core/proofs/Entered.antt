@@ -3,16 +3,16 @@ use Rattle.std.proofs.Common.{◌≡◌, ◌≢◌, ◌⊎◌, ◌||◌, inl, in
 use Rattle.std.specs.List.{list_any}
 use Rattle.std.specs.Str.{bytes_eq}
 use Rattle.base_core.specs.Files.{Files, NameMap, put_name, drop_name, move_name}
-use Rattle.base_core.specs.Tree.{TreeState, File, bytes_at, files_by, files_of, with_names, after_rename, move_at, after_sync_names, after_failed_call, IsAlwaysAllowed, CanRename}
+use Rattle.base_core.specs.Tree.{TreeState, File, bytes_of_file_number, files_under_map, files_of, with_names, after_rename, with_file_moved, after_sync_names, after_failed_call, IsAlwaysAllowed, CanRename}
 use Rattle.base_core.specs.Calls.{HoldsNow, ChangesHistory}
 use Rattle.base_core.specs.Crash.{Since}
 use Rattle.base_core.specs.Undone.{IsDurable, IsCrashImage, IsCrashMap}
 use Rattle.journal_core.specs.Committing.{HasCommittedIntent, IsCommitting, IsReadyToPublish}
-use Rattle.journal_core.specs.Acting.{acting_stage}
-use Rattle.journal_core.specs.Recovery.{Intent, IsStagedNameOf, StateDependsOn, after_actions, intent_name, intent_at, intent_of, is_staged, read_intent, recovered_files, recovered_files_by, stage_name, state_of, after_moves, without_names}
+use Rattle.journal_core.specs.Acting.{stage_with_actions_done}
+use Rattle.journal_core.specs.Recovery.{Intent, IsStagedNameOf, StateDependsOn, files_after_actions, intent_name, intent_in_file, intent_of, is_staged, read_intent, recovered_files, files_after_intent, stage_name, state_of, files_after_moves, without_names}
 use Rattle.journal_core.specs.Kept.{RecoversTo}
 use Rattle.journal_core.specs.Quiet.{StateIsUnchanged}
-use Rattle.journal_core.specs.Staged.{IsActing, IsCommittedFor}
+use Rattle.journal_core.specs.Staged.{IsCarryingOutActions, IsCommittedFor}
 use Rattle.journal_core.proofs.Agree.{agree-without, agree-unstaged}
 use Rattle.journal_intent.proofs.AtName.{put_name-at, put_name-off, drop_name-at, drop_name-off}
 use Rattle.base_core.proofs.Undone.{read_may_be_left}
@@ -25,45 +25,45 @@ use Rattle.journal_core.proofs.Images.{CrashLaws, old_or_new_by_maps, old_or_new
 use Rattle.journal_core.proofs.Lasting.{some_none}
 use Rattle.journal_core.proofs.OneCall.{now_is}
 use Rattle.journal_intent.specs.FreeNames.{AreFreeNames}
-use Rattle.journal_core.proofs.Replayed.{IsProper, proper_of, move_if-off}
+use Rattle.journal_core.proofs.Replayed.{IsProper, proper_of, move_if_present-off}
 use Rattle.journal_intent.proofs.StageNames.{stage_names_apart, stage_name_no_intent}
 use Rattle.journal_core.proofs.Waiting.{still_self}
 
 -- ---- the state once an intent stands is that of its actions done
 
-unstaged_intent : (names : List (List ℕ)) (k : ℕ) (F : Files) → AreFreeNames names → after_moves k names F intent_name ≡ F intent_name
+unstaged_intent : (names : List (List ℕ)) (k : ℕ) (F : Files) → AreFreeNames names → files_after_moves k names F intent_name ≡ F intent_name
 unstaged_intent [] k F free = refl
 unstaged_intent (name ∷ names) k F free =
-    unstaged_intent names (k + 1) _ free.1 ∙ move_if-off F (stage_name k) name (F (stage_name k)) intent_name (λ e. stage_name_no_intent k (sym e)) (λ e. free.0.no_intent (sym e))
+    unstaged_intent names (k + 1) _ free.1 ∙ move_if_present-off F (stage_name k) name (F (stage_name k)) intent_name (λ e. stage_name_no_intent k (sym e)) (λ e. free.0.no_intent (sym e))
 
 module _ (F : Files) (intent : Intent) (bytes : List ℕ) (spells : read_intent bytes ≡ Some intent) (proper : IsProper intent) (absent : F intent_name ≡ None) where
   none_both : (b : Bool) (o : Option (List ℕ)) → o ≡ None → cond b None o ≡ None
   none_both true o none = refl
   none_both false o none = none
 
-  gone : after_actions intent F intent_name ≡ None
+  gone : files_after_actions intent F intent_name ≡ None
   gone = unstaged_intent intent.writes 1 (without_names intent.removals F) proper.writes ∙ none_both (list_any (bytes_eq intent_name) intent.removals) (F intent_name) absent
 
   has : intent_of (put_name F intent_name bytes) ≡ Some intent
-  has = ap intent_at (put_name-at F intent_name bytes intent_name refl) ∙ spells
+  has = ap intent_in_file (put_name-at F intent_name bytes intent_name refl) ∙ spells
 
   abbrev Off : List ℕ → Type 0
   Off q = q ≢ intent_name
 
-  agrees : (q : List ℕ) → q ≢ intent_name → after_actions intent (put_name F intent_name bytes) q ≡ after_actions intent F q
+  agrees : (q : List ℕ) → q ≢ intent_name → files_after_actions intent (put_name F intent_name bytes) q ≡ files_after_actions intent F q
   agrees q ne =
       agree-unstaged Off intent.writes 1 (without_names intent.removals (put_name F intent_name bytes)) (without_names intent.removals F) (λ j from below. stage_name_no_intent j)
       (agree-without Off intent.removals (put_name F intent_name bytes) F (λ r off. put_name-off F intent_name bytes r off)) q ne
 
-  pub recovered_published : recovered_files (put_name F intent_name bytes) ≡ after_actions intent F
-  recovered_published i q = (ap (λ o. recovered_files_by o (put_name F intent_name bytes) q) has ∙ by (name_cases q intent_name)) i
+  pub recovered_published : recovered_files (put_name F intent_name bytes) ≡ files_after_actions intent F
+  recovered_published i q = (ap (λ o. files_after_intent o (put_name F intent_name bytes) q) has ∙ by (name_cases q intent_name)) i
     where
-      by : (q ≡ intent_name) ⊎ (bytes_eq q intent_name ≡ false) → drop_name (after_actions intent (put_name F intent_name bytes)) intent_name q ≡ after_actions intent F q
-      by (inl is) = drop_name-at (after_actions intent (put_name F intent_name bytes)) intent_name q is ∙ sym (ap (after_actions intent F) is ∙ gone)
-      by (inr off) = drop_name-off (after_actions intent (put_name F intent_name bytes)) intent_name q (off_name q intent_name off) ∙ agrees q (off_name q intent_name off)
+      by : (q ≡ intent_name) ⊎ (bytes_eq q intent_name ≡ false) → drop_name (files_after_actions intent (put_name F intent_name bytes)) intent_name q ≡ files_after_actions intent F q
+      by (inl is) = drop_name-at (files_after_actions intent (put_name F intent_name bytes)) intent_name q is ∙ sym (ap (files_after_actions intent F) is ∙ gone)
+      by (inr off) = drop_name-off (files_after_actions intent (put_name F intent_name bytes)) intent_name q (off_name q intent_name off) ∙ agrees q (off_name q intent_name off)
 
-  pub state_published : (ignored : List ℕ → Bool) → state_of ignored (put_name F intent_name bytes) ≡ state_of ignored (after_actions intent F)
-  state_published ignored = state_same ignored (put_name F intent_name bytes) (after_actions intent F) (recovered_published ∙ sym (ap (λ o. recovered_files_by o (after_actions intent F)) (ap intent_at gone)))
+  pub state_published : (ignored : List ℕ → Bool) → state_of ignored (put_name F intent_name bytes) ≡ state_of ignored (files_after_actions intent F)
+  state_published ignored = state_same ignored (put_name F intent_name bytes) (files_after_actions intent F) (recovered_published ∙ sym (ap (λ o. files_after_intent o (files_after_actions intent F)) (ap intent_in_file gone)))
 
 -- ---- the rename
 
@@ -82,9 +82,9 @@ module _ (intent : Intent) (base : Files) (made : ℕ) (v : TreeState) (ready : 
   proper = proper_of intent ready.free ready.few
 
   none : base intent_name ≡ None
-  none = sym (ready.reads intent_name (λ e. stage_name_no_intent 0 (sym e))) ∙ ap (bytes_at v.files) ready.absent
+  none = sym (ready.reads intent_name (λ e. stage_name_no_intent 0 (sym e))) ∙ ap (bytes_of_file_number v.files) ready.absent
 
-  files : files_by v entered_map ≡ put_name base intent_name ready.bytes
+  files : files_under_map v entered_map ≡ put_name base intent_name ready.bytes
   files i q = (ap (λ (F : Files). F q) (files-moved v (stage_name 0) intent_name ready.number) ∙ ap (λ (f : File). move_name (files_of v) (stage_name 0) intent_name f.bytes q) ready.holds
       ∙ ap (cond (bytes_eq q intent_name) (Some ready.bytes)) (by (name_cases q (stage_name 0)))) i
     where
@@ -92,11 +92,11 @@ module _ (intent : Intent) (base : Files) (made : ℕ) (v : TreeState) (ready : 
       by (inl is) = drop_name-at (files_of v) (stage_name 0) q is ∙ sym (ap base is ∙ ready.no_staged_intent)
       by (inr off) = drop_name-off (files_of v) (stage_name 0) q (off_name q (stage_name 0) off) ∙ ready.reads q (off_name q (stage_name 0) off)
 
-  located : intent_of (files_by v entered_map) ≡ Some intent
+  located : intent_of (files_under_map v entered_map) ≡ Some intent
   located = ap intent_of files ∙ has base intent ready.bytes ready.spells proper none
 
   -- all actions are left
-  acting_at : IsReadActing (acting_stage intent 0) (after_actions intent base) (with_names v entered_map)
+  acting_at : IsReadActing (stage_with_actions_done intent 0) (files_after_actions intent base) (with_names v entered_map)
   acting_at = record {
     located = located;
     reads = ap recovered_files files ∙ recovered_published base intent ready.bytes ready.spells proper none;
@@ -107,7 +107,7 @@ module _ (intent : Intent) (base : Files) (made : ℕ) (v : TreeState) (ready : 
   entered_at = (ready.number, put_name-at (drop_name v.names (stage_name 0)) intent_name ready.number intent_name refl, ready.later)
 
   module _ (ignored : List ℕ → Bool) (one : v.older ≡ []) (is_durable : IsDurable (StateDependsOn ignored) v) where
-    state_new : state_of ignored (files_by v entered_map) ≡ state_of ignored (after_actions intent base)
+    state_new : state_of ignored (files_under_map v entered_map) ≡ state_of ignored (files_after_actions intent base)
     state_new = ap (state_of ignored) files ∙ state_published base intent ready.bytes ready.spells proper none ignored
 
     synced_number : (v.files ready.number).synced ≡ true
@@ -131,7 +131,7 @@ module _ (intent : Intent) (base : Files) (made : ℕ) (v : TreeState) (ready : 
     shown_synced q n shown off is =
         is_durable.each v.names (read_may_be_left v) q n (inr (inl shown)) (off_intent q n (off_name q intent_name off) (λ e. staged_shown (is_staged q) (ignored q) (ap is_staged e) shown) is)
 
-    synced : (q : List ℕ) (n : ℕ) → StateDependsOn ignored (files_by v entered_map) q → entered_map q ≡ Some n → (v.files n).synced ≡ true
+    synced : (q : List ℕ) (n : ℕ) → StateDependsOn ignored (files_under_map v entered_map) q → entered_map q ≡ Some n → (v.files n).synced ≡ true
     synced q n (inl at) is = at_intent q n at is
     synced q n (inr (inl shown)) is = ⊎_elim (λ at. at_intent q n at is) (λ off. shown_synced q n shown off is) (name_cases q intent_name)
     synced q n (inr (inr place)) is = place_synced q n (subst (λ o. IsStagedNameOf o q) located place) is
@@ -139,9 +139,9 @@ module _ (intent : Intent) (base : Files) (made : ℕ) (v : TreeState) (ready : 
     durable_at : IsDurable (StateDependsOn ignored) (with_names v entered_map)
     durable_at = record { each = each }
       where
-        each : (x : NameMap) → IsCrashMap (with_names v entered_map) x → (q : List ℕ) (n : ℕ) → StateDependsOn ignored (files_by v x) q → x q ≡ Some n → (v.files n).synced ≡ true
+        each : (x : NameMap) → IsCrashMap (with_names v entered_map) x → (q : List ℕ) (n : ℕ) → StateDependsOn ignored (files_under_map v x) q → x q ≡ Some n → (v.files n).synced ≡ true
         each x left q n rests at = ⊎_elim
-            (λ new. synced q n (subst (λ (y : NameMap). StateDependsOn ignored (files_by v y) q) new rests) (sym (ap (λ (y : NameMap). y q) new) ∙ at))
+            (λ new. synced q n (subst (λ (y : NameMap). StateDependsOn ignored (files_under_map v y) q) new rests) (sym (ap (λ (y : NameMap). y q) new) ∙ at))
             (λ old. is_durable.each x (subst (IsCrashMap v) (sym old) (read_may_be_left v)) q n rests at)
             (one_change v entered_map one x left)
 
@@ -149,7 +149,7 @@ module _ (intent : Intent) (base : Files) (made : ℕ) (v : TreeState) (ready : 
 
 module _ (laws : CrashLaws) (ignored : List ℕ → Bool) (intent : Intent) (base : Files) (made : ℕ) (start : TreeState) where
   abbrev G : Files
-  G = after_actions intent base
+  G = files_after_actions intent base
 
   abbrev P : TreeState → Type 0
   P = IsCommitting ignored G made start
@@ -209,15 +209,15 @@ module _ (laws : CrashLaws) (ignored : List ℕ → Bool) (intent : Intent) (bas
         publishes = publishes;
       }
     where
-      states : state_of ignored (files_by v (entered_map intent base made v b.ready)) ≡ state_of ignored G → (x : NameMap) → IsCrashMap (with_names v (entered_map intent base made v b.ready)) x
-          → ((was : Files) × IsCrashImage start was × (state_of ignored (files_by v x) ≡ state_of ignored was)) ⊎ (state_of ignored (files_by v x) ≡ state_of ignored G)
+      states : state_of ignored (files_under_map v (entered_map intent base made v b.ready)) ≡ state_of ignored G → (x : NameMap) → IsCrashMap (with_names v (entered_map intent base made v b.ready)) x
+          → ((was : Files) × IsCrashImage start was × (state_of ignored (files_under_map v x) ≡ state_of ignored was)) ⊎ (state_of ignored (files_under_map v x) ≡ state_of ignored G)
       states is x left = ⊎_elim
-          (λ new. inr (ap (λ (y : NameMap). state_of ignored (files_by v y)) new ∙ is))
-          (λ old. inl (b.is_unchanged.quiet (files_by v x) (laws.left v x (subst (IsCrashMap v) (sym old) (read_may_be_left v)))))
+          (λ new. inr (ap (λ (y : NameMap). state_of ignored (files_under_map v y)) new ∙ is))
+          (λ old. inl (b.is_unchanged.quiet (files_under_map v x) (laws.left v x (subst (IsCrashMap v) (sym old) (read_may_be_left v)))))
           (one_change v (entered_map intent base made v b.ready) one x left)
 
   after_renamed_at : (v : TreeState) → Once v → Behind (after_rename (stage_name 0) intent_name v)
-  after_renamed_at v b = subst (λ o. Behind (move_at (stage_name 0) intent_name v o)) (sym b.before.ready.there) (behind_at v b.before b.one)
+  after_renamed_at v b = subst (λ o. Behind (with_file_moved (stage_name 0) intent_name v o)) (sym b.before.ready.there) (behind_at v b.before b.one)
 
   after_renamed : (place name : List ℕ) → place ≡ stage_name 0 → name ≡ intent_name → (v : TreeState) → Once v → Behind (after_rename place name v)
   after_renamed place name place_is name_is v b =
@@ -241,8 +241,8 @@ module _ (laws : CrashLaws) (ignored : List ℕ → Bool) (intent : Intent) (bas
   entered : (w : TreeState) → Behind w → HasCommittedIntent ignored G made (after_sync_names w)
   entered w b = record { settled = settled_by_maps laws ignored G (after_sync_names w) (after_synced w b).is_durable only; publishes = b.publishes }
     where
-      only : (m : NameMap) → IsCrashMap (after_sync_names w) m → state_of ignored (files_by w m) ≡ state_of ignored G
-      only m is = ap (λ (y : NameMap). state_of ignored (files_by w y)) is ∙ b.state
+      only : (m : NameMap) → IsCrashMap (after_sync_names w) m → state_of ignored (files_under_map w m) ≡ state_of ignored G
+      only m is = ap (λ (y : NameMap). state_of ignored (files_under_map w y)) is ∙ b.state
 
   module _ (old rest : History) (is : old ≡ start ∷ rest) (is_durable : IsDurable (StateDependsOn ignored) start) (ready : IsReadyToPublish intent base made start) where
     pub begun : Runs P Before old old
@@ -288,25 +288,25 @@ module _ (intent : Intent) (base : Files) (made : ℕ) (start : TreeState) (read
   }
 
   abbrev After : TreeState → Type 0
-  After = IsReadActing (acting_stage intent 0) (after_actions intent base)
+  After = IsReadActing (stage_with_actions_done intent 0) (files_after_actions intent base)
 
   acting_renamed : (place name : List ℕ) → place ≡ stage_name 0 → name ≡ intent_name → (v : TreeState) → IsReadyToPublish intent base made v → After (after_rename place name v)
   acting_renamed place name place_is name_is v b =
       subst (λ (p : List ℕ). After (after_rename p name v)) (sym place_is) (subst (λ (n : List ℕ). After (after_rename (stage_name 0) n v)) (sym name_is)
-      (subst (λ o. After (move_at (stage_name 0) intent_name v o)) (sym b.there) (acting_at intent base made v b)))
+      (subst (λ o. After (with_file_moved (stage_name 0) intent_name v o)) (sym b.there) (acting_at intent base made v b)))
 
   pub last_acting : {T E : Type 0} (place name : List ℕ) → place ≡ stage_name 0 → name ≡ intent_name → (old rest h k new : History) → old ≡ start ∷ rest → (x y : T) (r : Result T E)
       → ChangesHistory {E = E} IsAlwaysAllowed after_sync_names after_failed_call old h (Ok x) → ChangesHistory {E = E} (CanRename place name) (after_rename place name) (after_rename place name) h k (Ok y) → ChangesHistory IsAlwaysAllowed after_sync_names after_failed_call k new r
-      → OnOk r (HoldsNow new (IsActing (acting_stage intent 0) (after_actions intent base)))
+      → OnOk r (HoldsNow new (IsCarryingOutActions (stage_with_actions_done intent 0) (files_after_actions intent base)))
   last_acting place name place_is name_is old rest h k new is x y r first second last =
       let a = step_now (IsReadyToPublish intent base made) (IsReadyToPublish intent base made) h x old (now_is old start rest (IsReadyToPublish intent base made) is ready) first ready_synced in
       let b = step_now (IsReadyToPublish intent base made) After k y h a second (acting_renamed place name place_is name_is) in
-      step_called After (IsActing (acting_stage intent 0) (after_actions intent base)) new r k b last (acting_once_synced (acting_stage intent 0) (after_actions intent base))
+      step_called After (IsCarryingOutActions (stage_with_actions_done intent 0) (files_after_actions intent base)) new r k b last (acting_once_synced (stage_with_actions_done intent 0) (files_after_actions intent base))
 
   -- ---- at each moment at which the intent is read
 
   abbrev R : TreeState → Type 0
-  R w = IsSome (w.names intent_name) → RecoversTo (after_actions intent base) w
+  R w = IsSome (w.names intent_name) → RecoversTo (files_after_actions intent base) w
 
   unread_moment : (v : TreeState) → IsReadyToPublish intent base made v → R v
   unread_moment v b some = absurd (some_none (v.names intent_name) b.absent some)

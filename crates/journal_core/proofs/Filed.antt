@@ -7,11 +7,11 @@ use Rattle.base_core.specs.Calls.{IfObservable, HoldsNow, ChangesHistory, IsCoun
 use Rattle.base_core.specs.Faults.{Counts}
 use Rattle.base_core.specs.Crash.{Since}
 use Rattle.base_core.specs.Undone.{IsDurable}
-use Rattle.journal_core.specs.Kept.{IsInNoMap, KeepsFilesExcept}
+use Rattle.journal_core.specs.Kept.{IsRestoredByNoCrash, KeepsFilesExcept}
 use Rattle.journal_core.specs.Recovery.{Intent, StateDependsOn, intent_name, stage_name}
 use Rattle.journal_core.specs.Quiet.{StateIsUnchanged}
 use Rattle.journal_core.specs.Staged.{Staging, IsStaged, AreStagingPathsFree}
-use Rattle.journal_core.specs.Acting.{IsNextName}
+use Rattle.journal_core.specs.Acting.{IsNextStagedName}
 use Rattle.journal_core.proofs.Acts.{still_on, sync_still}
 use Rattle.journal_core.proofs.Chain.{by_now, now_both}
 use Rattle.journal_core.proofs.History.{History, none_since, now_since, observable_at, observable_map, on_observable, since_on, since_weaker}
@@ -24,12 +24,12 @@ use Rattle.journal_core.proofs.Images.{CrashLaws}
 
 -- as its parts give it
 pub next_name : (name : List ℕ) (intent : Intent) (staged acted : ℕ) (is_open published : Bool) (stage : Staging) → record { intent = intent; staged = staged; is_open = is_open; published = published; acted = acted } ≡ stage
-    → staged < length intent.writes → length intent.removals + length intent.writes < 2 ^ 63 → name ≡ stage_name (staged + 1) → IsNextName name stage
+    → staged < length intent.writes → length intent.removals + length intent.writes < 2 ^ 63 → name ≡ stage_name (staged + 1) → IsNextStagedName name stage
 next_name name intent staged acted is_open published stage view below few is =
-    let here : IsNextName name (record { intent = intent; staged = staged; is_open = is_open; published = published; acted = acted }) = record { is = is; few = omega (arith, below, few) } in
-    subst (IsNextName name) view here
+    let here : IsNextStagedName name (record { intent = intent; staged = staged; is_open = is_open; published = published; acted = acted }) = record { is = is; few = omega (arith, below, few) } in
+    subst (IsNextStagedName name) view here
 
-module _ (name : List ℕ) (stage : Staging) (next : IsNextName name stage) (contents : List (List ℕ)) (count : length contents ≡ stage.staged) where
+module _ (name : List ℕ) (stage : Staging) (next : IsNextStagedName name stage) (contents : List (List ℕ)) (count : length contents ≡ stage.staged) where
   name_is : name ≡ stage_name (1 + length contents)
   name_is = name_of_next name stage.staged (length contents) next.is count
 
@@ -38,9 +38,9 @@ module _ (name : List ℕ) (stage : Staging) (next : IsNextName name stage) (con
 
 -- a file may be begun: no crash restores an intent
 abbrev pub IsToBegin : Staging → List (List ℕ) → Files → TreeState → Type 0
-IsToBegin stage contents base v = IsStaged stage contents None base v × IsInNoMap intent_name v
+IsToBegin stage contents base v = IsStaged stage contents None base v × IsRestoredByNoCrash intent_name v
 
-module _ (laws : CrashLaws) {T E : Type 0} (old new : History) (name : List ℕ) (stage : Staging) (next : IsNextName name stage) (r : Result T E) where
+module _ (laws : CrashLaws) {T E : Type 0} (old new : History) (name : List ℕ) (stage : Staging) (next : IsNextStagedName name stage) (r : Result T E) where
   module _ (moves : ChangesHistory (CanCreate name) (after_create name) (after_create name) old new r) (whole : All IsWellFormed old) where
     pub begin_moments : IfObservable old (λ v. (ignored : List ℕ → Bool) (contents : List (List ℕ)) (base : Files) → IsDurable (StateDependsOn ignored) v → IsToBegin stage contents base v → Since (StateIsUnchanged ignored v) old new)
     begin_moments = on_observable old _ (λ v rest is ignored contents base is_durable (staged, gone).
@@ -74,7 +74,7 @@ module _ (laws : CrashLaws) {T E : Type 0} (old new : History) (name : List ℕ)
         (λ may. still_self ignored v is_durable))
 
 -- what an Ok tells
-module _ (laws : CrashLaws) {T E : Type 0} (old new : History) (name : List ℕ) (stage now : Staging) (next : IsNextName name stage) (x : T) where
+module _ (laws : CrashLaws) {T E : Type 0} (old new : History) (name : List ℕ) (stage now : Staging) (next : IsNextStagedName name stage) (x : T) where
   pub begin_staged : ChangesHistory {E = E} (CanCreate name) (after_create name) (after_create name) old new (Ok x) → All IsWellFormed old → now.staged ≡ stage.staged
       → IfObservable old (λ v. (contents : List (List ℕ)) (base : Files) → IsToBegin stage contents base v → HoldsNow new (IsStaged now contents (Some []) base))
   begin_staged moves whole same = on_observable old _ (λ v rest is contents base (staged, gone).
@@ -93,7 +93,7 @@ module _ (laws : CrashLaws) {T E : Type 0} (old new : History) (name : List ℕ)
       now_done old new v rest is (IsStaged now (contents ++ so_far ∷ []) None base) x moves
       (staged_ended laws stage contents so_far base v (few_is name stage next contents staged.count) staged name (name_is name stage next contents staged.count) now more))
 
-module _ (laws : CrashLaws) {T E : Type 0} (old new : History) (name : List ℕ) (stage : Staging) (next : IsNextName name stage) where
+module _ (laws : CrashLaws) {T E : Type 0} (old new : History) (name : List ℕ) (stage : Staging) (next : IsNextStagedName name stage) where
   pub append_staged_called : (piece : List ℕ) (r : Result T E) → ChangesHistory (HasName name) (after_append name piece) (after_failed_append name) old new r
       → IfObservable old (λ v. (contents : List (List ℕ)) (so_far : List ℕ) (base : Files) → IsStaged stage contents (Some so_far) base v → OnOk r (HoldsNow new (IsStaged stage contents (Some (so_far ++ piece)) base)))
   append_staged_called piece (Ok x) moves = append_staged laws {E = E} old new name stage stage next x piece moves refl
@@ -130,7 +130,7 @@ later_reads old = on_observable old _ (λ v rest is. none_since (λ w. files_of 
 pub later_staged : (stage : Staging) (old : History) → (stage.staged ≡ 0 → ⊥) → IsBegunLater stage old old
 later_staged stage old some = on_observable old _ (λ v rest is contents base staged. now_is old v rest (IsToBegin stage contents base) is (staged, at stage.staged refl contents base v staged))
   where
-    at : (n : ℕ) → stage.staged ≡ n → (contents : List (List ℕ)) (base : Files) (v : TreeState) → IsStaged stage contents None base v → IsInNoMap intent_name v
+    at : (n : ℕ) → stage.staged ≡ n → (contents : List (List ℕ)) (base : Files) (v : TreeState) → IsStaged stage contents None base v → IsRestoredByNoCrash intent_name v
     at zero none contents base v staged = absurd (some none)
     at (suc k) more contents base v staged = gone_once stage contents base v k staged more
 

@@ -1,14 +1,14 @@
 -- The end of a stage, call by call.
 use Rattle.std.proofs.Common.{◌≡◌, ℕ, Bool, List, [], ◌∷◌, refl, None, Result, Ok, Err, OnOk, sym, ap, subst, ◌∙◌}
 use Rattle.base_core.specs.Files.{Files}
-use Rattle.base_core.specs.Tree.{TreeState, bytes_at, files_of, after_remove, after_sync_names, after_failed_call, IsAlwaysAllowed}
+use Rattle.base_core.specs.Tree.{TreeState, bytes_of_file_number, files_of, after_remove, after_sync_names, after_failed_call, IsAlwaysAllowed}
 use Rattle.base_core.specs.Calls.{HoldsNow, ChangesHistory}
 use Rattle.base_core.specs.Crash.{Since}
 use Rattle.base_core.specs.Undone.{IsDurable}
-use Rattle.journal_core.specs.Recovery.{EachCrashLeaves, StateDependsOn, intent_at, intent_name, recovered_files_by}
+use Rattle.journal_core.specs.Recovery.{EachCrashLeaves, StateDependsOn, intent_in_file, intent_name, files_after_intent}
 use Rattle.journal_core.specs.Kept.{RecoversTo}
 use Rattle.journal_core.specs.Quiet.{StateIsUnchanged}
-use Rattle.journal_core.specs.Staged.{Staging, IsActing, action_count}
+use Rattle.journal_core.specs.Staged.{Staging, IsCarryingOutActions, action_count}
 use Rattle.journal_core.proofs.History.{History}
 use Rattle.journal_core.proofs.OneCall.{now_is}
 use Rattle.journal_core.proofs.Chain.{Runs, run_begun, run_failed, run_called, run_done, step_now, step_called}
@@ -16,13 +16,13 @@ use Rattle.journal_core.proofs.Waiting.{still_self}
 use Rattle.journal_core.proofs.Acts.{IsGone, drop_gone, drop_still, still_on, sync_acting, sync_settled, sync_still}
 use Rattle.journal_core.proofs.Images.{CrashLaws}
 
-module _ (laws : CrashLaws) (stage : Staging) (all : stage.acted ≡ action_count stage.intent) (name : List ℕ) (name_is : name ≡ intent_name) (ignored : List ℕ → Bool) (files : Files) (start : TreeState) (old rest : History) (is : old ≡ start ∷ rest) (is_durable : IsDurable (StateDependsOn ignored) start) (acting : IsActing stage files start) where
+module _ (laws : CrashLaws) (stage : Staging) (all : stage.acted ≡ action_count stage.intent) (name : List ℕ) (name_is : name ≡ intent_name) (ignored : List ℕ → Bool) (files : Files) (start : TreeState) (old rest : History) (is : old ≡ start ∷ rest) (is_durable : IsDurable (StateDependsOn ignored) start) (acting : IsCarryingOutActions stage files start) where
   abbrev P : TreeState → Type 0
   P = StateIsUnchanged ignored start
 
   pub record Acting (v : TreeState) : Type 0 where
     is_unchanged : P v
-    acts : IsActing stage files v
+    acts : IsCarryingOutActions stage files v
 
   -- and no crash undoes a change of names
   pub record Once (v : TreeState) : Type 0 where
@@ -65,23 +65,23 @@ module _ (laws : CrashLaws) (stage : Staging) (all : stage.acted ≡ action_coun
     last_settled r runs moves = step_called Gone (EachCrashLeaves ignored files) new r h runs.now moves (λ v q. subst (λ (F : Files). EachCrashLeaves ignored F (after_sync_names v)) q.gone.reads (sync_settled laws ignored v q.is_unchanged.is_durable))
 
 -- what is read, whatever the order
-module _ (laws : CrashLaws) (stage : Staging) (all : stage.acted ≡ action_count stage.intent) (name : List ℕ) (name_is : name ≡ intent_name) (files : Files) (start : TreeState) (old rest : History) (is : old ≡ start ∷ rest) (acting : IsActing stage files start) where
+module _ (laws : CrashLaws) (stage : Staging) (all : stage.acted ≡ action_count stage.intent) (name : List ℕ) (name_is : name ≡ intent_name) (files : Files) (start : TreeState) (old rest : History) (is : old ≡ start ∷ rest) (acting : IsCarryingOutActions stage files start) where
   module _ {T E : Type 0} (h k new : History) where
     pub last_files : (x y : T) (r : Result T E) → ChangesHistory {E = E} IsAlwaysAllowed after_sync_names after_failed_call old h (Ok x) → ChangesHistory {E = E} IsAlwaysAllowed (after_remove name) (after_remove name) h k (Ok y) → ChangesHistory IsAlwaysAllowed after_sync_names after_failed_call k new r
         → OnOk r (HoldsNow new (λ w. (files_of w ≡ files) × (w.names intent_name ≡ None)))
     last_files x y r first second last =
-        let a = step_now (IsActing stage files) (IsActing stage files) h x old (now_is old start rest (IsActing stage files) is acting) first (sync_acting stage files) in
-        let b = step_now (IsActing stage files) (IsGone files) k y h a second (λ v q. subst (λ (n : List ℕ). IsGone files (after_remove n v)) (sym name_is) (drop_gone laws stage files v q all)) in
+        let a = step_now (IsCarryingOutActions stage files) (IsCarryingOutActions stage files) h x old (now_is old start rest (IsCarryingOutActions stage files) is acting) first (sync_acting stage files) in
+        let b = step_now (IsCarryingOutActions stage files) (IsGone files) k y h a second (λ v q. subst (λ (n : List ℕ). IsGone files (after_remove n v)) (sym name_is) (drop_gone laws stage files v q all)) in
         step_called (IsGone files) (λ w. (files_of w ≡ files) × (w.names intent_name ≡ None)) new r k b last (λ v q. (q.reads, q.absent))
 
   abbrev S : TreeState → Type 0
   S = RecoversTo files
 
   abbrev A : TreeState → Type 0
-  A = IsActing stage files
+  A = IsCarryingOutActions stage files
 
   gone_stands : (v : TreeState) → IsGone files v → S v
-  gone_stands v gone = ap (λ o. recovered_files_by o (files_of v)) (ap intent_at (ap (bytes_at v.files) gone.absent)) ∙ gone.reads
+  gone_stands v gone = ap (λ o. files_after_intent o (files_of v)) (ap intent_in_file (ap (bytes_of_file_number v.files) gone.absent)) ∙ gone.reads
 
   gone_at : (v : TreeState) → A v → IsGone files (after_remove name v)
   gone_at v q = subst (λ (n : List ℕ). IsGone files (after_remove n v)) (sym name_is) (drop_gone laws stage files v q all)

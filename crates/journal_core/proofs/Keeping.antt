@@ -5,16 +5,16 @@ use Rattle.std.proofs.lemmas.Bool.{eqb-true}
 use Rattle.base_core.specs.Calls.{IfObservable, HoldsNow, ChangesHistory}
 use Rattle.base_core.specs.Crash.{Since}
 use Rattle.base_core.specs.Files.{drop_name}
-use Rattle.base_core.specs.Tree.{TreeState, File, IsWellFormed, after_append, after_create, after_failed_append, after_remove, after_rename, after_sync, after_sync_names, bytes_at, change_at, files_of, move_at, after_failed_call, set_file, IsAlwaysAllowed, CanCreate, HasName}
+use Rattle.base_core.specs.Tree.{TreeState, File, IsWellFormed, after_append, after_create, after_failed_append, after_remove, after_rename, after_sync, after_sync_names, bytes_of_file_number, with_file_changed, files_of, with_file_moved, after_failed_call, set_file, IsAlwaysAllowed, CanCreate, HasName}
 use Rattle.base_core.proofs.Undone.{read_may_be_left}
 use Rattle.journal_core.specs.Acting.{MovesIfPresent}
-use Rattle.journal_core.specs.Kept.{IsOfAction, KeepsFilesExcept}
+use Rattle.journal_core.specs.Kept.{IsNameOfNextAction, KeepsFilesExcept}
 use Rattle.journal_core.specs.Recovery.{Intent, stage_name}
 use Rattle.journal_core.specs.Staged.{IsOnlyNameOfFile}
 use Rattle.journal_core.proofs.Chain.{Runs, run_called, run_done, run_failed}
 use Rattle.journal_core.proofs.History.{History, observable_at, on_observable}
 use Rattle.journal_core.proofs.OneCall.{now_done, now_is, one_called, one_done, whole_now}
-use Rattle.journal_core.proofs.Steps.{bytes_at-set_file, create_alone, create_others, remove_others, set_file-at}
+use Rattle.journal_core.proofs.Steps.{bytes_of_file_number-set_file, create_alone, create_others, remove_others, set_file-at}
 use Rattle.journal_intent.proofs.AtName.{put_name-at, put_name-off, drop_name-off}
 
 -- ---- the newest state behind a call, whatever it answers
@@ -37,21 +37,21 @@ sync_one files n k = by (eqb k n) refl
     by true is = ap (λ (f : File). f.bytes) (set_file-at files n file k (eqb-true k n is)) ∙ ap (λ j. (files j).bytes) (sym (eqb-true k n is))
     by false is = ap (λ b. (cond b file (files k)).bytes) is
 
-sync_bytes : (files : ℕ → File) (n : ℕ) (o : Option ℕ) → bytes_at (set_file files n (record { bytes = (files n).bytes; synced = true })) o ≡ bytes_at files o
+sync_bytes : (files : ℕ → File) (n : ℕ) (o : Option ℕ) → bytes_of_file_number (set_file files n (record { bytes = (files n).bytes; synced = true })) o ≡ bytes_of_file_number files o
 sync_bytes files n None = refl
 sync_bytes files n (Some k) = ap Some (sync_one files n k)
 
-sync_reads_at : (v : TreeState) (o : Option ℕ) (q : List ℕ) → files_of (change_at (λ f. record { bytes = f.bytes; synced = true }) v o) q ≡ files_of v q
+sync_reads_at : (v : TreeState) (o : Option ℕ) (q : List ℕ) → files_of (with_file_changed (λ f. record { bytes = f.bytes; synced = true }) v o) q ≡ files_of v q
 sync_reads_at v None q = refl
 sync_reads_at v (Some n) q = sync_bytes v.files n (v.names q)
 
-pub moved_others : (from to : List ℕ) (v : TreeState) (o : Option ℕ) (q : List ℕ) → q ≢ from → q ≢ to → files_of (move_at from to v o) q ≡ files_of v q
+pub moved_others : (from to : List ℕ) (v : TreeState) (o : Option ℕ) (q : List ℕ) → q ≢ from → q ≢ to → files_of (with_file_moved from to v o) q ≡ files_of v q
 moved_others from to v None q nf nt = refl
-moved_others from to v (Some n) q nf nt = ap (bytes_at v.files) (put_name-off (drop_name v.names from) to n q nt ∙ drop_name-off v.names from q nf)
+moved_others from to v (Some n) q nf nt = ap (bytes_of_file_number v.files) (put_name-off (drop_name v.names from) to n q nt ∙ drop_name-off v.names from q nf)
 
-change_others : (change : File → File) (name : List ℕ) (v : TreeState) (n : ℕ) → v.names name ≡ Some n → ((q : List ℕ) → v.names q ≡ Some n → q ≡ name) → KeepsFilesExcept (λ q. q ≡ name) v (change_at change v (v.names name))
+change_others : (change : File → File) (name : List ℕ) (v : TreeState) (n : ℕ) → v.names name ≡ Some n → ((q : List ℕ) → v.names q ≡ Some n → q ≡ name) → KeepsFilesExcept (λ q. q ≡ name) v (with_file_changed change v (v.names name))
 change_others change name v n there alone q off =
-    subst (λ o. files_of (change_at change v o) q ≡ files_of v q) (sym there) (bytes_at-set_file v.files n (change (v.files n)) (v.names q) (λ is. off (alone q is)))
+    subst (λ o. files_of (with_file_changed change v o) q ≡ files_of v q) (sym there) (bytes_of_file_number-set_file v.files n (change (v.files n)) (v.names q) (λ is. off (alone q is)))
 
 -- ---- one call
 
@@ -88,9 +88,9 @@ begun_created name v whole = record {
   alone = λ q is. create_alone name v whole (after_create name v).names (read_may_be_left (after_create name v)) q is;
 }
 
-begun_changed : (change : File → File) (name : List ℕ) (start v : TreeState) → Begun name start v → Begun name start (change_at change v (v.names name))
-begun_changed change name start v b = subst (λ o. Begun name start (change_at change v o)) (sym b.there) (record {
-  kept = λ q off. bytes_at-set_file v.files b.number (change (v.files b.number)) (v.names q) (λ is. off (b.alone q is)) ∙ b.kept q off;
+begun_changed : (change : File → File) (name : List ℕ) (start v : TreeState) → Begun name start v → Begun name start (with_file_changed change v (v.names name))
+begun_changed change name start v b = subst (λ o. Begun name start (with_file_changed change v o)) (sym b.there) (record {
+  kept = λ q off. bytes_of_file_number-set_file v.files b.number (change (v.files b.number)) (v.names q) (λ is. off (b.alone q is)) ∙ b.kept q off;
   number = b.number;
   there = b.there;
   alone = b.alone;
@@ -134,12 +134,12 @@ module _ {T E : Type 0} (these : List ℕ → Type 0) (start : TreeState) (h new
 -- ---- an action
 
 module _ {T E : Type 0} (intent : Intent) (old new : History) (r : Result T E) where
-  pub removal_keeps : (i : ℕ) (name : List ℕ) → slice_get intent.removals i ≡ Some name → ChangesHistory IsAlwaysAllowed (after_remove name) (after_remove name) old new r → IfObservable old (λ v. HoldsNow new (KeepsFilesExcept (IsOfAction intent i) v))
-  removal_keeps i name at moves = on_observable old _ (λ v rest is. keeps_removed (IsOfAction intent i) v old new r (keeps_now (IsOfAction intent i) old v rest is) name (inl at) moves)
+  pub removal_keeps : (i : ℕ) (name : List ℕ) → slice_get intent.removals i ≡ Some name → ChangesHistory IsAlwaysAllowed (after_remove name) (after_remove name) old new r → IfObservable old (λ v. HoldsNow new (KeepsFilesExcept (IsNameOfNextAction intent i) v))
+  removal_keeps i name at moves = on_observable old _ (λ v rest is. keeps_removed (IsNameOfNextAction intent i) v old new r (keeps_now (IsNameOfNextAction intent i) old v rest is) name (inl at) moves)
 
 module _ (intent : Intent) (old new : History) (i acted : ℕ) (behind : acted ≡ length intent.removals + i) (place name : List ℕ) (place_is : place ≡ stage_name (i + 1)) (at : slice_get intent.writes i ≡ Some name) where
   abbrev Keeps : TreeState → TreeState → Type 0
-  Keeps = KeepsFilesExcept (IsOfAction intent acted)
+  Keeps = KeepsFilesExcept (IsNameOfNextAction intent acted)
 
   step : (v : TreeState) → Keeps v (after_rename place name v)
   step v q off = moved_others place name v (v.names place) q (λ e. off (inr (i, behind, inr (e ∙ place_is)))) (λ e. off (inr (i, behind, inl (at ∙ ap Some (sym e)))))
@@ -157,6 +157,6 @@ module _ (intent : Intent) (old new : History) (i acted : ℕ) (behind : acted �
 pub same_keeps : (these : List ℕ → Type 0) (old : History) → IfObservable old (λ v. HoldsNow old (KeepsFilesExcept these v))
 same_keeps these old = on_observable old _ (λ v rest is. keeps_now these old v rest is)
 
-pub action_keeps_as : (i j : Intent) (a b : ℕ) (old new : History) → i ≡ j → a ≡ b → IfObservable old (λ v. HoldsNow new (KeepsFilesExcept (IsOfAction i a) v)) → IfObservable old (λ v. HoldsNow new (KeepsFilesExcept (IsOfAction j b) v))
+pub action_keeps_as : (i j : Intent) (a b : ℕ) (old new : History) → i ≡ j → a ≡ b → IfObservable old (λ v. HoldsNow new (KeepsFilesExcept (IsNameOfNextAction i a) v)) → IfObservable old (λ v. HoldsNow new (KeepsFilesExcept (IsNameOfNextAction j b) v))
 action_keeps_as i j a b old new intent acted told =
-    subst (λ (x : Intent). IfObservable old (λ v. HoldsNow new (KeepsFilesExcept (IsOfAction x b) v))) intent (subst (λ n. IfObservable old (λ v. HoldsNow new (KeepsFilesExcept (IsOfAction i n) v))) acted told)
+    subst (λ (x : Intent). IfObservable old (λ v. HoldsNow new (KeepsFilesExcept (IsNameOfNextAction x b) v))) intent (subst (λ n. IfObservable old (λ v. HoldsNow new (KeepsFilesExcept (IsNameOfNextAction i n) v))) acted told)

@@ -6,11 +6,11 @@ use Rattle.base_core.specs.Calls.{IfObservable, HoldsNow, ChangesHistory}
 use Rattle.base_core.specs.Crash.{Since}
 use Rattle.base_core.specs.Files.{drop_name}
 use Rattle.base_core.specs.Listed.{AreNamesBelow}
-use Rattle.base_core.specs.Tree.{TreeState, after_remove, after_rename, after_sync_names, bytes_at, files_of, move_at, remove_at, after_failed_call, IsAlwaysAllowed}
+use Rattle.base_core.specs.Tree.{TreeState, after_remove, after_rename, after_sync_names, bytes_of_file_number, files_of, with_file_moved, with_name_removed, after_failed_call, IsAlwaysAllowed}
 use Rattle.base_core.proofs.AtName.{other_name, name_cases, off_name}
 use Rattle.journal_core.specs.Acting.{MovesIfPresent}
 use Rattle.journal_core.specs.Kept.{JournalOnlyShrinks, IsJournalName, KeepsIntent, NamesAreDurableExcept, ShownNamesAreDurable}
-use Rattle.journal_core.specs.Recovering.{AllStaged, IsReplayed}
+use Rattle.journal_core.specs.Recovering.{AreStagedNames, IsReplayed}
 use Rattle.journal_core.specs.Recovery.{Intent, intent_name, is_staged, stage_folder, stage_name}
 use Rattle.journal_core.proofs.Acts.{free_at}
 use Rattle.journal_core.proofs.Changes.{left_here}
@@ -58,9 +58,9 @@ keeps_same v = record { intent = refl; waiting = less_same v }
 pub keeps_on : (a b c : TreeState) → KeepsIntent a b → KeepsIntent b c → KeepsIntent a c
 keeps_on a b c first then = record { intent = then.intent ∙ first.intent; waiting = less_on a b c first.waiting then.waiting }
 
-less_removed_at : (name : List ℕ) (v : TreeState) (o : Option ℕ) → v.names name ≡ o → JournalOnlyShrinks v (remove_at name v o)
+less_removed_at : (name : List ℕ) (v : TreeState) (o : Option ℕ) → v.names name ≡ o → JournalOnlyShrinks v (with_name_removed name v o)
 less_removed_at name v o is q waits = ⊎_elim
-    (λ at. inl (ap (files_of (remove_at name v o)) at ∙ ap (bytes_at (remove_at name v o).files) (removed_absent name v o is)))
+    (λ at. inl (ap (files_of (with_name_removed name v o)) at ∙ ap (bytes_of_file_number (with_name_removed name v o).files) (removed_absent name v o is)))
     (λ off. inr (remove_others name v o q (off_name q name off)))
     (name_cases q name)
 
@@ -73,11 +73,11 @@ true_false e = cc
 waiting_off : (name : List ℕ) → IsFreeName name → (q : List ℕ) → IsJournalName q → q ≢ name
 waiting_off name free q waits e = ⊎_elim (λ is. free.no_intent (sym e ∙ is)) (λ staged. true_false (sym staged ∙ ap is_staged e ∙ free.unstaged)) waits
 
-names_removed : (name : List ℕ) (v : TreeState) (o : Option ℕ) (q : List ℕ) → q ≢ name → (remove_at name v o).names q ≡ v.names q
+names_removed : (name : List ℕ) (v : TreeState) (o : Option ℕ) (q : List ℕ) → q ≢ name → (with_name_removed name v o).names q ≡ v.names q
 names_removed name v None q off = refl
 names_removed name v (Some n) q off = drop_name-off v.names name q off
 
-names_moved : (from to : List ℕ) (v : TreeState) (o : Option ℕ) (q : List ℕ) → q ≢ from → q ≢ to → (move_at from to v o).names q ≡ v.names q
+names_moved : (from to : List ℕ) (v : TreeState) (o : Option ℕ) (q : List ℕ) → q ≢ from → q ≢ to → (with_file_moved from to v o).names q ≡ v.names q
 names_moved from to v None q nf nt = refl
 names_moved from to v (Some n) q nf nt = put_name-off (drop_name v.names from) to n q nt ∙ drop_name-off v.names from q nf
 
@@ -87,9 +87,9 @@ keeps_removed_free name free v = record {
   waiting = less_removed name v;
 }
 
-less_moved_at : (k : ℕ) (from to : List ℕ) → from ≡ stage_name k → IsFreeName to → (v : TreeState) (o : Option ℕ) → v.names from ≡ o → JournalOnlyShrinks v (move_at from to v o)
+less_moved_at : (k : ℕ) (from to : List ℕ) → from ≡ stage_name k → IsFreeName to → (v : TreeState) (o : Option ℕ) → v.names from ≡ o → JournalOnlyShrinks v (with_file_moved from to v o)
 less_moved_at k from to from_is free v o is q waits = ⊎_elim
-    (λ at. inl (ap (files_of (move_at from to v o)) at ∙ ap (bytes_at (move_at from to v o).files) (moved_absent from to v o is (waiting_off to free from (inr (ap is_staged from_is))))))
+    (λ at. inl (ap (files_of (with_file_moved from to v o)) at ∙ ap (bytes_of_file_number (with_file_moved from to v o).files) (moved_absent from to v o is (waiting_off to free from (inr (ap is_staged from_is))))))
     (λ off. inr (moved_others from to v o q (off_name q from off) (waiting_off to free q waits)))
     (name_cases q from)
 
@@ -182,35 +182,35 @@ pub lasts_none : (old new : History) → new ≡ old → Lasts old new
 lasts_none old new same = on_observable old _ (λ v rest is some. no_more NamesAreDurableWithoutIntent old old new (none_since NamesAreDurableWithoutIntent old) same)
 
 -- what waits is taken away behind it
-shown_removed_at : (name : List ℕ) → is_staged name ≡ true → (v : TreeState) (o : Option ℕ) → ShownNamesAreDurable v → ShownNamesAreDurable (remove_at name v o)
+shown_removed_at : (name : List ℕ) → is_staged name ≡ true → (v : TreeState) (o : Option ℕ) → ShownNamesAreDurable v → ShownNamesAreDurable (with_name_removed name v o)
 shown_removed_at name waits v None last map among q off unstaged = last map among q off unstaged
 shown_removed_at name waits v (Some n) last map (inl (kept, left, is)) q off unstaged = left_here v.names (drop_name v.names name) kept map is q (last kept left q off unstaged)
 shown_removed_at name waits v (Some n) last map (inr among) q off unstaged =
     last map among q off unstaged ∙ sym (drop_name-off v.names name q (λ e. true_false (sym waits ∙ sym (ap is_staged e) ∙ unstaged)))
 
 abbrev pub Lasting : List (List ℕ) → History → History → Type 0
-Lasting all old h = IfObservable old (λ v. AllStaged all → ShownNamesAreDurable v → Runs ShownNamesAreDurable ShownNamesAreDurable old h)
+Lasting all old h = IfObservable old (λ v. AreStagedNames all → ShownNamesAreDurable v → Runs ShownNamesAreDurable ShownNamesAreDurable old h)
 
 pub lasting_start : (all : List (List ℕ)) (old : History) → Lasting all old old
 lasting_start all old = on_observable old _ (λ v rest is staged last. run_begun ShownNamesAreDurable ShownNamesAreDurable old v rest is last)
 
 module _ (all : List (List ℕ)) (old h new : History) (i : ℕ) (name : List ℕ) (at : slice_get all i ≡ Some name) where
-  lasting_step : AllStaged all → (v : TreeState) → ShownNamesAreDurable v → ShownNamesAreDurable (after_remove name v)
+  lasting_step : AreStagedNames all → (v : TreeState) → ShownNamesAreDurable v → ShownNamesAreDurable (after_remove name v)
   lasting_step staged v last = shown_removed_at name (staged_at all i name staged at) v (v.names name) last
 
-  pub lasting_failed : {T E : Type 0} (e : E) → Lasting all old h → ChangesHistory {T = T} IsAlwaysAllowed (after_remove name) (after_remove name) h new (Err e) → IfObservable old (λ v. AllStaged all → ShownNamesAreDurable v → Since ShownNamesAreDurable old new)
+  pub lasting_failed : {T E : Type 0} (e : E) → Lasting all old h → ChangesHistory {T = T} IsAlwaysAllowed (after_remove name) (after_remove name) h new (Err e) → IfObservable old (λ v. AreStagedNames all → ShownNamesAreDurable v → Since ShownNamesAreDurable old new)
   lasting_failed e lasting moves = observable_map old _ _ lasting (λ v runs staged last. run_failed ShownNamesAreDurable ShownNamesAreDurable old h new e (runs staged last) moves (λ w may k. lasting_step staged w k))
 
   pub lasting_done : {T E : Type 0} (x : T) → Lasting all old h → ChangesHistory {E = E} IsAlwaysAllowed (after_remove name) (after_remove name) h new (Ok x) → Lasting all old new
   lasting_done x lasting moves = observable_map old _ _ lasting (λ v runs staged last. run_done ShownNamesAreDurable ShownNamesAreDurable ShownNamesAreDurable old h new x (runs staged last) moves (λ w k. k) (lasting_step staged))
 
-pub lasting_ends : (all : List (List ℕ)) (old h : History) → Lasting all old h → IfObservable old (λ v. AllStaged all → ShownNamesAreDurable v → Since ShownNamesAreDurable old h)
+pub lasting_ends : (all : List (List ℕ)) (old h : History) → Lasting all old h → IfObservable old (λ v. AreStagedNames all → ShownNamesAreDurable v → Since ShownNamesAreDurable old h)
 lasting_ends all old h lasting = observable_map old _ _ lasting (λ v runs staged last. (runs staged last).since)
 
 abbrev pub EmptyLasts : History → History → Type 0
 EmptyLasts old new = IfObservable old (λ v. ShownNamesAreDurable v → Since ShownNamesAreDurable old new)
 
-pub empty_lasts : (names : List (List ℕ)) (folder : List ℕ) → folder ≡ stage_folder → (old mid new : History) → mid ≡ old → AreNamesBelow folder names → IfObservable mid (λ v. AllStaged names → ShownNamesAreDurable v → Since ShownNamesAreDurable mid new) → EmptyLasts old new
+pub empty_lasts : (names : List (List ℕ)) (folder : List ℕ) → folder ≡ stage_folder → (old mid new : History) → mid ≡ old → AreNamesBelow folder names → IfObservable mid (λ v. AreStagedNames names → ShownNamesAreDurable v → Since ShownNamesAreDurable mid new) → EmptyLasts old new
 empty_lasts names folder folder_is old mid new same below told =
     subst (λ (l : History). EmptyLasts l new) same (observable_map mid _ (λ v. ShownNamesAreDurable v → Since ShownNamesAreDurable mid new) told (λ v t. t (all_staged folder names folder_is below)))
 

@@ -5,10 +5,10 @@ use Rattle.base_core.specs.Crash.{Since}
 use Rattle.base_core.specs.Files.{Files, drop_name}
 use Rattle.base_core.specs.Tree.{TreeState, after_remove, after_rename, after_sync_names, files_of, after_failed_call, IsAlwaysAllowed}
 use Rattle.base_core.proofs.AtName.{name_cases, off_name}
-use Rattle.journal_core.specs.Acting.{MovesIfPresent, acting_stage}
+use Rattle.journal_core.specs.Acting.{MovesIfPresent, stage_with_actions_done}
 use Rattle.journal_core.specs.Kept.{HasOldOrNewBytes, IsJournalName, KeepsFilesExcept, KeepsOldOrNewBytes}
-use Rattle.journal_core.specs.Recovery.{Intent, after_actions, intent_name, intent_of, is_staged, move_if, read_intent, recovered_files, recovered_files_by, stage_name, without_names}
-use Rattle.journal_core.specs.Staged.{IsActing, Staging, unstaged_files}
+use Rattle.journal_core.specs.Recovery.{Intent, files_after_actions, intent_name, intent_of, is_staged, move_if_present, read_intent, recovered_files, files_after_intent, stage_name, without_names}
+use Rattle.journal_core.specs.Staged.{IsCarryingOutActions, Staging, unstaged_files}
 use Rattle.journal_core.proofs.Acts.{among_at, moved_reads, removed_reads}
 use Rattle.journal_core.proofs.Carried.{acting_found}
 use Rattle.journal_core.proofs.Chain.{by_now, now_both}
@@ -17,7 +17,7 @@ use Rattle.journal_core.proofs.Emptied.{KeepsShown}
 use Rattle.journal_core.proofs.History.{History, no_more, none_since, now_since, observable_at, observable_map, on_observable, one_more, since_on, since_weaker}
 use Rattle.journal_core.proofs.Leaving.{told_called, told_on}
 use Rattle.journal_core.proofs.OneCall.{one_called}
-use Rattle.journal_core.proofs.Replayed.{move_if-off, place_not_among}
+use Rattle.journal_core.proofs.Replayed.{move_if_present-off, place_not_among}
 use Rattle.journal_core.proofs.Rowing.{ActsOn}
 use Rattle.journal_intent.proofs.AtName.{drop_name-at, drop_name-off, put_name-at}
 use Rattle.journal_intent.proofs.StageNames.{stage_name_staged}
@@ -33,33 +33,33 @@ module _ (intent : Intent) (free : HasFreeNames intent) (few : length intent.rem
   abbrev P : TreeState → Type 0
   P = HasOldOrNewBytes base files
 
-  recovered_at : (F : Files) (q : List ℕ) → intent_of F ≡ Some intent → recovered_files F ≡ files → q ≢ intent_name → files q ≡ after_actions intent F q
-  recovered_at F q has reads off = sym (ap (λ (G : Files). G q) reads) ∙ ap (λ o. recovered_files_by o F q) has ∙ drop_name-off (after_actions intent F) intent_name q off
+  recovered_at : (F : Files) (q : List ℕ) → intent_of F ≡ Some intent → recovered_files F ≡ files → q ≢ intent_name → files q ≡ files_after_actions intent F q
+  recovered_at F q has reads off = sym (ap (λ (G : Files). G q) reads) ∙ ap (λ o. files_after_intent o F q) has ∙ drop_name-off (files_after_actions intent F) intent_name q off
 
-  either_removed : (acted : ℕ) (v : TreeState) (i : ℕ) (name : List ℕ) → slice_get intent.removals i ≡ Some name → IsActing (acting_stage intent acted) files v → P v → P (after_remove name v)
+  either_removed : (acted : ℕ) (v : TreeState) (i : ℕ) (name : List ℕ) → slice_get intent.removals i ≡ Some name → IsCarryingOutActions (stage_with_actions_done intent acted) files v → P v → P (after_remove name v)
   either_removed acted v i name at acting so_far q shown = ⊎_elim
       (λ is. inr (ap (λ (F : Files). F q) (removed_reads v name) ∙ drop_name-at (files_of v) name q is
       ∙ sym (recovered_at (files_of v) q acting.located acting.reads (λ e. shown (inl e)) ∙ removed_absent intent (files_of v) q free (subst (λ (x : List ℕ). IsOneOf x intent.removals) (sym is) (among_at intent.removals i name at)))))
       (λ off. as_before base files v (after_remove name v) q (ap (λ (F : Files). F q) (removed_reads v name) ∙ drop_name-off (files_of v) name q (off_name q name off)) (so_far q shown))
       (name_cases q name)
 
-  module _ (acted : ℕ) (v : TreeState) (j : ℕ) (place name : List ℕ) (within : j < length intent.writes) (place_is : place ≡ stage_name (j + 1)) (at : slice_get intent.writes j ≡ Some name) (acting : IsActing (acting_stage intent acted) files v) where
+  module _ (acted : ℕ) (v : TreeState) (j : ℕ) (place name : List ℕ) (within : j < length intent.writes) (place_is : place ≡ stage_name (j + 1)) (at : slice_get intent.writes j ≡ Some name) (acting : IsCarryingOutActions (stage_with_actions_done intent acted) files v) where
     F : Files
     F = files_of v
 
-    lands : (bytes : List ℕ) → files_of v place ≡ Some bytes → after_actions intent (files_of v) name ≡ Some bytes
+    lands : (bytes : List ℕ) → files_of v place ≡ Some bytes → files_after_actions intent (files_of v) name ≡ Some bytes
     lands bytes waits = moved_at intent.writes 1 j (without_names intent.removals (files_of v)) name bytes free.writes free.once (omega (arith, few)) at
         (ap (λ b. cond b None (files_of v (stage_name (1 + j)))) (place_not_among intent.removals (1 + j) free.removals)
         ∙ ap (λ n. files_of v (stage_name n)) (omega arith) ∙ sym (ap (files_of v) place_is) ∙ waits)
 
     moved_either : (q : List ℕ) → (IsJournalName q → ⊥) → (o : Option (List ℕ)) → files_of v place ≡ o → (files_of v q ≡ base q) ⊎ (files_of v q ≡ files q)
-        → (move_if (files_of v) place name o q ≡ base q) ⊎ (move_if (files_of v) place name o q ≡ files q)
+        → (move_if_present (files_of v) place name o q ≡ base q) ⊎ (move_if_present (files_of v) place name o q ≡ files q)
     moved_either q shown None none so_far = so_far
     moved_either q shown (Some bytes) waits so_far = ⊎_elim
         (λ is. inr (put_name-at (drop_name (files_of v) place) name bytes q is
-        ∙ sym (recovered_at (files_of v) q acting.located acting.reads (λ e. shown (inl e)) ∙ ap (after_actions intent (files_of v)) is ∙ lands bytes waits)))
+        ∙ sym (recovered_at (files_of v) q acting.located acting.reads (λ e. shown (inl e)) ∙ ap (files_after_actions intent (files_of v)) is ∙ lands bytes waits)))
         (λ off.
-        let same = move_if-off (files_of v) place name (Some bytes) q (λ e. shown (inr (ap is_staged (e ∙ place_is) ∙ stage_name_staged (j + 1)))) (off_name q name off) in
+        let same = move_if_present-off (files_of v) place name (Some bytes) q (λ e. shown (inr (ap is_staged (e ∙ place_is) ∙ stage_name_staged (j + 1)))) (off_name q name off) in
         ⊎_elim (λ old. inl (same ∙ old)) (λ new. inr (same ∙ new)) so_far)
         (name_cases q name)
 
@@ -70,37 +70,37 @@ module _ (intent : Intent) (free : HasFreeNames intent) (few : length intent.rem
 
 module _ (intent : Intent) (free : HasFreeNames intent) (few : length intent.removals + length intent.writes < 2 ^ 63) (old new : History) where
   pub removal_bytes : {T E : Type 0} (i : ℕ) (name : List ℕ) → slice_get intent.removals i ≡ Some name → (r : Result T E) → ChangesHistory IsAlwaysAllowed (after_remove name) (after_remove name) old new r
-      → IfObservable old (λ v. (files : Files) → IsActing (acting_stage intent i) files v → KeepsOldOrNewBytes files v old new)
+      → IfObservable old (λ v. (files : Files) → IsCarryingOutActions (stage_with_actions_done intent i) files v → KeepsOldOrNewBytes files v old new)
   removal_bytes i name at r moves = on_observable old _ (λ v rest is files acting base so_far.
       let next = either_removed intent free few base files i v i name at acting so_far in
       one_called old new v rest is (HasOldOrNewBytes base files) r moves next (λ may. next))
 
   module _ (j acted : ℕ) (within : j < length intent.writes) (place name : List ℕ) (place_is : place ≡ stage_name (j + 1)) (at : slice_get intent.writes j ≡ Some name) where
-    by_case : (v : TreeState) (files : Files) → IsActing (acting_stage intent acted) files v → (new ≡ old) ⊎ (new ≡ after_rename place name v ∷ old) → KeepsOldOrNewBytes files v old new
+    by_case : (v : TreeState) (files : Files) → IsCarryingOutActions (stage_with_actions_done intent acted) files v → (new ≡ old) ⊎ (new ≡ after_rename place name v ∷ old) → KeepsOldOrNewBytes files v old new
     by_case v files acting case base so_far = ⊎_elim
         (λ none. no_more (HasOldOrNewBytes base files) old old new (none_since (HasOldOrNewBytes base files) old) none)
         (λ more. one_more (HasOldOrNewBytes base files) old old new (after_rename place name v) (none_since (HasOldOrNewBytes base files) old) more (either_moved intent free few base files acted v j place name within place_is at acting so_far))
         case
 
-    pub move_bytes : {T E : Type 0} (r : Result T E) → MovesIfPresent place name old new r → IfObservable old (λ v. (files : Files) → IsActing (acting_stage intent acted) files v → KeepsOldOrNewBytes files v old new)
+    pub move_bytes : {T E : Type 0} (r : Result T E) → MovesIfPresent place name old new r → IfObservable old (λ v. (files : Files) → IsCarryingOutActions (stage_with_actions_done intent acted) files v → KeepsOldOrNewBytes files v old new)
     move_bytes (Ok x) moves = observable_map old _ _ moves.ok (λ v told files acting. by_case v files acting (⊎_elim (λ none. inl none.1) (λ more. inr more) told))
     move_bytes (Err e) moves = observable_map old _ _ moves.err (λ v told files acting. by_case v files acting told)
 
 -- ---- the actions, one after another
 
 abbrev pub BytesOn : Staging → History → History → Type 0
-BytesOn first old h = IfObservable old (λ v. (files : Files) → IsActing first files v → KeepsOldOrNewBytes files v old h)
+BytesOn first old h = IfObservable old (λ v. (files : Files) → IsCarryingOutActions first files v → KeepsOldOrNewBytes files v old h)
 
 pub bytes_start : (s : Staging) (old : History) → BytesOn s old old
 bytes_start s old = on_observable old _ (λ v rest is files acting base so_far. none_since (HasOldOrNewBytes base files) old)
 
 pub bytes_called : (first now : Staging) (old h new : History) → ActsOn first now old h → BytesOn first old h → BytesOn now h new → BytesOn first old new
 bytes_called first now old h new acts bytes more = on_observable old _ (λ v rest is files acting base so_far.
-    let since = observable_at old v rest is (λ u. (F : Files) → IsActing first F u → KeepsOldOrNewBytes F u old h) bytes files acting base so_far in
+    let since = observable_at old v rest is (λ u. (F : Files) → IsCarryingOutActions first F u → KeepsOldOrNewBytes F u old h) bytes files acting base so_far in
     since_on (HasOldOrNewBytes base files) old h new since
-    (by_now h (λ u. IsActing now files u × HasOldOrNewBytes base files u) (Since (HasOldOrNewBytes base files) h new)
-    (now_both h (IsActing now files) (HasOldOrNewBytes base files) (observable_at old v rest is (λ u. (F : Files) → IsActing first F u → HoldsNow h (IsActing now F)) acts files acting) (now_since (HasOldOrNewBytes base files) old h v rest is so_far since))
-    (observable_map h _ (λ u. IsActing now files u × HasOldOrNewBytes base files u → Since (HasOldOrNewBytes base files) h new) more (λ u t q. t files q.0 base q.1))))
+    (by_now h (λ u. IsCarryingOutActions now files u × HasOldOrNewBytes base files u) (Since (HasOldOrNewBytes base files) h new)
+    (now_both h (IsCarryingOutActions now files) (HasOldOrNewBytes base files) (observable_at old v rest is (λ u. (F : Files) → IsCarryingOutActions first F u → HoldsNow h (IsCarryingOutActions now F)) acts files acting) (now_since (HasOldOrNewBytes base files) old h v rest is so_far since))
+    (observable_map h _ (λ u. IsCarryingOutActions now files u × HasOldOrNewBytes base files u → Since (HasOldOrNewBytes base files) h new) more (λ u t q. t files q.0 base q.1))))
 
 -- ---- the end of a stage
 
@@ -131,7 +131,7 @@ kept_bytes base files u w so_far keeps q shown = as_before base files u w q (kee
 -- all actions, and then the end
 pub bytes_end : (first : Staging) (old h new : History) → BytesOn first old h → IfObservable h (λ u. Since (KeepsButIntent u) h new) → BytesOn first old new
 bytes_end first old h new bytes last = on_observable old _ (λ v rest is files acting base so_far.
-    let since = observable_at old v rest is (λ u. (F : Files) → IsActing first F u → KeepsOldOrNewBytes F u old h) bytes files acting base so_far in
+    let since = observable_at old v rest is (λ u. (F : Files) → IsCarryingOutActions first F u → KeepsOldOrNewBytes F u old h) bytes files acting base so_far in
     since_on (HasOldOrNewBytes base files) old h new since
     (by_now h (HasOldOrNewBytes base files) (Since (HasOldOrNewBytes base files) h new) (now_since (HasOldOrNewBytes base files) old h v rest is so_far since)
     (observable_map h _ (λ u. HasOldOrNewBytes base files u → Since (HasOldOrNewBytes base files) h new) last (λ u t p. since_weaker (KeepsButIntent u) (HasOldOrNewBytes base files) h new (λ w k. kept_bytes base files u w p k) t))))

@@ -4,20 +4,20 @@ use Rattle.std.specs.List.{All}
 use Rattle.std.specs.Str.{bytes_eq}
 use Rattle.std.proofs.lemmas.List.Elements.{All-head, All-tail}
 use Rattle.base_core.specs.Files.{Files, put_name, drop_name}
-use Rattle.base_core.specs.Tree.{TreeState, File, bytes_at, files_of, CanCreate, CanRename}
+use Rattle.base_core.specs.Tree.{TreeState, File, bytes_of_file_number, files_of, CanCreate, CanRename}
 use Rattle.base_core.specs.Calls.{IfObservable, HoldsNow}
 use Rattle.base_core.specs.Crash.{Since}
 use Rattle.base_core.specs.Undone.{IsDurable}
 use Rattle.base_core.specs.Restart.{EachMoment, SinceGivenEarlier}
 use Rattle.base_core.proofs.AtName.{name_cases, off_name}
-use Rattle.journal_core.specs.Committing.{HasCommittedIntent, IsCommitting, IsReadyToPublish, IsWritten}
+use Rattle.journal_core.specs.Committing.{HasCommittedIntent, IsCommitting, IsReadyToPublish, HasOnlyAddedFile}
 use Rattle.journal_core.specs.Filling.{synced_file}
-use Rattle.journal_core.specs.Acting.{acting_stage}
-use Rattle.journal_core.specs.Recovery.{Intent, EachCrashLeaves, StateDependsOn, after_actions, intent_name, read_intent, stage_name}
+use Rattle.journal_core.specs.Acting.{stage_with_actions_done}
+use Rattle.journal_core.specs.Recovery.{Intent, EachCrashLeaves, StateDependsOn, files_after_actions, intent_name, read_intent, stage_name}
 use Rattle.journal_core.specs.Kept.{RecoversTo}
 use Rattle.journal_core.specs.Quiet.{StateIsUnchanged}
 use Rattle.journal_intent.specs.FreeNames.{HasFreeNames}
-use Rattle.journal_core.specs.Staged.{Staging, WasCommittedFor, AreStagingPathsFree, IsActing, IsPresentOrOfJournal, IsOldUntilCommit, IsStaged, CommittedBy, IsCommittedFor}
+use Rattle.journal_core.specs.Staged.{Staging, WasCommittedFor, AreStagingPathsFree, IsCarryingOutActions, IsPresentOrOfJournal, IsOldUntilCommit, IsStaged, CommittedBy, IsCommittedFor}
 use Rattle.journal_core.proofs.Again.{acting_as}
 use Rattle.journal_intent.proofs.AtName.{put_name-off, drop_name-off}
 use Rattle.journal_core.proofs.Beside.{can_make, held_like, read_held}
@@ -52,11 +52,11 @@ entering_on_the_way ignored G v u w is_unchanged entering earlier = record {
 
 -- ---- all waits
 
-absent_read : (files : ℕ → File) (n : Option ℕ) → bytes_at files n ≡ None → n ≡ None
+absent_read : (files : ℕ → File) (n : Option ℕ) → bytes_of_file_number files n ≡ None → n ≡ None
 absent_read files None e = refl
 absent_read files (Some n) e = absurd (cc)
 
-same_read : (a b : ℕ → File) (m n : Option ℕ) → m ≡ n → ((k : ℕ) → m ≡ Some k → a k ≡ b k) → bytes_at a m ≡ bytes_at b n
+same_read : (a b : ℕ → File) (m n : Option ℕ) → m ≡ n → ((k : ℕ) → m ≡ Some k → a k ≡ b k) → bytes_of_file_number a m ≡ bytes_of_file_number b n
 same_read a b None None e same = refl
 same_read a b None (Some n) e same = absurd (cc)
 same_read a b (Some m) None e same = absurd (cc)
@@ -69,10 +69,10 @@ module _ (stage : Staging) (contents : List (List ℕ)) (base : Files) (v : Tree
   none_read : files_of v intent_name ≡ None
   none_read = no_intent_read stage contents base v staged
 
-  pub ready_of : (w : TreeState) → IsWritten place (synced_file file) v w → IsReadyToPublish stage.intent (files_of v) v.made w
+  pub ready_of : (w : TreeState) → HasOnlyAddedFile place (synced_file file) v w → IsReadyToPublish stage.intent (files_of v) v.made w
   ready_of w written = record {
     absent = written.names intent_name (λ e. stage_name_no_intent 0 (sym (e ∙ place_is))) ∙ absent_read v.files (v.names intent_name) none_read;
-    no_staged_intent = ap (λ (n : List ℕ). bytes_at v.files (v.names n)) (sym place_is) ∙ ap (bytes_at v.files) written.absent;
+    no_staged_intent = ap (λ (n : List ℕ). bytes_of_file_number v.files (v.names n)) (sym place_is) ∙ ap (bytes_of_file_number v.files) written.absent;
     reads = λ q ne. same_read w.files v.files (w.names q) (v.names q) (written.names q (λ e. ne (e ∙ place_is))) (λ n at. written.kept q n (λ e. ne (e ∙ place_is)) at);
     bytes = file;
     spells = spells;
@@ -91,16 +91,16 @@ module _ (stage : Staging) (contents : List (List ℕ)) (base : Files) (v : Tree
   -- ---- its clauses
   module _ (old rest mid new : History) (is : old ≡ v ∷ rest) where
     abbrev G : Files
-    G = after_actions stage.intent (files_of v)
+    G = files_after_actions stage.intent (files_of v)
 
     abbrev Wrote : Type 0
     Wrote = IfObservable old (λ u. (ignored : List ℕ → Bool) → IsDurable (StateDependsOn ignored) u → files_of u intent_name ≡ None → Since (StateIsUnchanged ignored u) old mid)
 
     abbrev Written : Type 0
-    Written = IfObservable old (λ u. files_of u intent_name ≡ None → HoldsNow mid (IsWritten place (synced_file file) u))
+    Written = IfObservable old (λ u. files_of u intent_name ≡ None → HoldsNow mid (HasOnlyAddedFile place (synced_file file) u))
 
     ready_now : Written → HoldsNow mid (IsReadyToPublish stage.intent (files_of v) v.made)
-    ready_now written = now_map mid (IsWritten place (synced_file file) v) (IsReadyToPublish stage.intent (files_of v) v.made) (observable_at old v rest is (λ u. files_of u intent_name ≡ None → HoldsNow mid (IsWritten place (synced_file file) u)) written none_read) ready_of
+    ready_now written = now_map mid (HasOnlyAddedFile place (synced_file file) v) (IsReadyToPublish stage.intent (files_of v) v.made) (observable_at old v rest is (λ u. files_of u intent_name ≡ None → HoldsNow mid (HasOnlyAddedFile place (synced_file file) u)) written none_read) ready_of
 
     module _ (ignored : List ℕ → Bool) (is_durable : IsDurable (StateDependsOn ignored) v) (wrote : Wrote) where
       still_since : Since (StateIsUnchanged ignored v) old mid
@@ -119,7 +119,7 @@ module _ (stage : Staging) (contents : List (List ℕ)) (base : Files) (v : Tree
       waits_now written = now_both mid (StateIsUnchanged ignored v) (IsReadyToPublish stage.intent (files_of v) v.made) (now_since (StateIsUnchanged ignored v) old mid v rest is (still_self ignored v is_durable) still_since) (ready_now written)
 
       abbrev Enters : Type 0
-      Enters = IfObservable mid (λ u. (Y : List ℕ → Bool) (intent : Intent) (files : Files) (made : ℕ) → IsDurable (StateDependsOn Y) u → IsReadyToPublish intent files made u → Since (IsCommitting Y (after_actions intent files) made u) mid new)
+      Enters = IfObservable mid (λ u. (Y : List ℕ → Bool) (intent : Intent) (files : Files) (made : ℕ) → IsDurable (StateDependsOn Y) u → IsReadyToPublish intent files made u → Since (IsCommitting Y (files_after_actions intent files) made u) mid new)
 
       enter_way : Written → Enters → Since (λ w. (earlier : List TreeState) → IsOldUntilCommit ignored G v earlier w) old new
       enter_way written enters =
@@ -132,7 +132,7 @@ module _ (stage : Staging) (contents : List (List ℕ)) (base : Files) (v : Tree
       enter_moments written enters = since_by (IsOldUntilCommit ignored G v) old new (enter_way written enters)
 
       abbrev Entered : {T E : Type 0} → Result T E → Type 0
-      Entered r = IfObservable mid (λ u. (Y : List ℕ → Bool) (intent : Intent) (files : Files) (made : ℕ) → IsDurable (StateDependsOn Y) u → IsReadyToPublish intent files made u → OnOk r (HoldsNow new (HasCommittedIntent Y (after_actions intent files) made)))
+      Entered r = IfObservable mid (λ u. (Y : List ℕ → Bool) (intent : Intent) (files : Files) (made : ℕ) → IsDurable (StateDependsOn Y) u → IsReadyToPublish intent files made u → OnOk r (HoldsNow new (HasCommittedIntent Y (files_after_actions intent files) made)))
 
       entered_now : {T E : Type 0} (r : Result T E) → Written → Entered r → OnOk r (HoldsNow new (HasCommittedIntent ignored G v.made))
       entered_now r written entered =
@@ -165,14 +165,14 @@ module _ (stage : Staging) (contents : List (List ℕ)) (base : Files) (v : Tree
 
     -- what is read
     pub enter_acting : {T E : Type 0} (now : Staging) (r : Result T E) → now.intent ≡ stage.intent → now.acted ≡ 0 → Written
-        → IfObservable mid (λ u. (intent : Intent) (files : Files) (made : ℕ) → IsReadyToPublish intent files made u → OnOk r (HoldsNow new (IsActing (acting_stage intent 0) (after_actions intent files))))
-        → OnOk r (HoldsNow new (IsActing now G))
+        → IfObservable mid (λ u. (intent : Intent) (files : Files) (made : ℕ) → IsReadyToPublish intent files made u → OnOk r (HoldsNow new (IsCarryingOutActions (stage_with_actions_done intent 0) (files_after_actions intent files))))
+        → OnOk r (HoldsNow new (IsCarryingOutActions now G))
     enter_acting {T = T} {E = E} now r same acted_none written acting =
-        by r (by_now mid (IsReadyToPublish stage.intent (files_of v) v.made) (OnOk r (HoldsNow new (IsActing (acting_stage stage.intent 0) G))) (ready_now written)
-        (observable_map mid _ (λ u. IsReadyToPublish stage.intent (files_of v) v.made u → OnOk r (HoldsNow new (IsActing (acting_stage stage.intent 0) G))) acting (λ u t ready. t stage.intent (files_of v) v.made ready)))
+        by r (by_now mid (IsReadyToPublish stage.intent (files_of v) v.made) (OnOk r (HoldsNow new (IsCarryingOutActions (stage_with_actions_done stage.intent 0) G))) (ready_now written)
+        (observable_map mid _ (λ u. IsReadyToPublish stage.intent (files_of v) v.made u → OnOk r (HoldsNow new (IsCarryingOutActions (stage_with_actions_done stage.intent 0) G))) acting (λ u t ready. t stage.intent (files_of v) v.made ready)))
       where
-        by : (s : Result T E) → OnOk s (HoldsNow new (IsActing (acting_stage stage.intent 0) G)) → OnOk s (HoldsNow new (IsActing now G))
-        by (Ok x) at = now_map new (IsActing (acting_stage stage.intent 0) G) (IsActing now G) at (λ w. acting_as (acting_stage stage.intent 0) now G w (sym same) (sym acted_none))
+        by : (s : Result T E) → OnOk s (HoldsNow new (IsCarryingOutActions (stage_with_actions_done stage.intent 0) G)) → OnOk s (HoldsNow new (IsCarryingOutActions now G))
+        by (Ok x) at = now_map new (IsCarryingOutActions (stage_with_actions_done stage.intent 0) G) (IsCarryingOutActions now G) at (λ w. acting_as (stage_with_actions_done stage.intent 0) now G w (sym same) (sym acted_none))
         by (Err e) at = tt
 
     -- ---- at each moment at which the intent is read
@@ -192,7 +192,7 @@ module _ (stage : Staging) (contents : List (List ℕ)) (base : Files) (v : Tree
         (observable_at old v rest is (λ u. Unread u → Since Unread old mid) unread (absent_read v.files (v.names intent_name) none_read))
 
     pub enter_reads : Unreads → Written
-        → IfObservable mid (λ u. (intent : Intent) (files : Files) (made : ℕ) → IsReadyToPublish intent files made u → Since (λ w. IsSome (w.names intent_name) → RecoversTo (after_actions intent files) w) mid new)
+        → IfObservable mid (λ u. (intent : Intent) (files : Files) (made : ℕ) → IsReadyToPublish intent files made u → Since (λ w. IsSome (w.names intent_name) → RecoversTo (files_after_actions intent files) w) mid new)
         → Since R old new
     enter_reads unread written reads =
         since_on R old mid new (write_reads unread)
@@ -206,7 +206,7 @@ module _ (stage : Staging) (contents : List (List ℕ)) (base : Files) (v : Tree
           (can_make stage contents base v (let count = staged.count in omega (arith, count, all, few)) staged room 0
           (λ j from until e. absurd (let count = staged.count in let same = stage_names_apart 0 j (omega arith) (omega (arith, until, count, all, few)) e in omega (arith, from, same))))
 
-      pub enter_may : (name : List ℕ) → name ≡ intent_name → (w : TreeState) → IsWritten place (synced_file file) v w → CanRename place name w
+      pub enter_may : (name : List ℕ) → name ≡ intent_name → (w : TreeState) → HasOnlyAddedFile place (synced_file file) v w → CanRename place name w
       enter_may name name_is w written = record {
         present = subst IsSome (sym written.there) refl;
         apart = λ e. stage_name_no_intent 0 (sym place_is ∙ e ∙ name_is);
@@ -226,8 +226,8 @@ module _ (stage : Staging) (contents : List (List ℕ)) (base : Files) (v : Tree
 
       pub enter_proper : (from name : List ℕ) → from ≡ stage_name 0 → name ≡ intent_name → (a b : ℕ) → Written → IfObservable mid (λ u. CanRename from name u → b ≡ a) → b ≡ a
       enter_proper from name from_is name_is a b written told =
-          by_now mid (IsWritten place (synced_file file) v) (b ≡ a) (observable_at old v rest is (λ u. files_of u intent_name ≡ None → HoldsNow mid (IsWritten place (synced_file file) u)) written none_read)
-          (observable_map mid (λ u. CanRename from name u → b ≡ a) (λ u. IsWritten place (synced_file file) v u → b ≡ a) told (λ u t w. t (subst (λ (n : List ℕ). CanRename n name u) (place_is ∙ sym from_is) (enter_may name name_is u w))))
+          by_now mid (HasOnlyAddedFile place (synced_file file) v) (b ≡ a) (observable_at old v rest is (λ u. files_of u intent_name ≡ None → HoldsNow mid (HasOnlyAddedFile place (synced_file file) u)) written none_read)
+          (observable_map mid (λ u. CanRename from name u → b ≡ a) (λ u. HasOnlyAddedFile place (synced_file file) v u → b ≡ a) told (λ u t w. t (subst (λ (n : List ℕ). CanRename n name u) (place_is ∙ sym from_is) (enter_may name name_is u w))))
 
 pub few_writes : (removals writes : List (List ℕ)) → length removals + length writes < 2 ^ 63 → length writes < 2 ^ 63
 few_writes removals writes few = omega (arith, few)

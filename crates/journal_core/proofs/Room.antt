@@ -5,35 +5,35 @@ use Rattle.std.specs.Str.{bytes_eq}
 use Rattle.base_core.specs.Files.{Files, put_name, drop_name}
 use Rattle.base_core.specs.Tree.{TreeState, files_of, CanRename}
 use Rattle.base_core.proofs.AtName.{name_cases, off_name}
-use Rattle.journal_core.specs.Recovery.{Intent, intent_name, intent_at, intent_of, move_if, recovered_files, recovered_files_by, stage_name, after_moves, without_names}
-use Rattle.journal_core.specs.Staged.{Staging, IsActing, IsPresentOrOfJournal, AreJournalPathsFree}
+use Rattle.journal_core.specs.Recovery.{Intent, intent_name, intent_in_file, intent_of, move_if_present, recovered_files, files_after_intent, stage_name, files_after_moves, without_names}
+use Rattle.journal_core.specs.Staged.{Staging, IsCarryingOutActions, IsPresentOrOfJournal, AreJournalPathsFree}
 use Rattle.journal_intent.proofs.AtName.{put_name-at, put_name-off, drop_name-off}
 use Rattle.journal_intent.proofs.StageNames.{stage_name_no_intent}
 use Rattle.journal_core.proofs.Beside.{held_like, as_read}
-use Rattle.journal_core.proofs.Replayed.{IsNumbered, IsProper, moved, move_if-off, recovered-moved}
+use Rattle.journal_core.proofs.Replayed.{IsNumbered, IsProper, moved, move_if_present-off, recovered-moved}
 use Rattle.journal_intent.specs.FreeNames.{IsNoneOf, IsFreeName}
 use Rattle.journal_core.proofs.Acts.{among_at, free_at, numbered_at, removal_absent}
 
 true_false : true ≡ false → ⊥
 true_false e = cc
 
--- a name is acting_stage, or it is one of those that wait
+-- a name is stage_with_actions_done, or it is one of those that wait
 abbrev Kept : Files → List ℕ → Type 0
 Kept F q = IsSome (F q) ⊎ ((k : ℕ) × (q ≡ stage_name k))
 
-moved_kept : (F : Files) (k : ℕ) (name q : List ℕ) → q ≢ stage_name k → IsSome (F q) → IsSome (move_if F (stage_name k) name (F (stage_name k)) q)
+moved_kept : (F : Files) (k : ℕ) (name q : List ℕ) → q ≢ stage_name k → IsSome (F q) → IsSome (move_if_present F (stage_name k) name (F (stage_name k)) q)
 moved_kept F k name q ne some = by (F (stage_name k)) (name_cases q name)
   where
-    by : (o : Option (List ℕ)) → (q ≡ name) ⊎ (bytes_eq q name ≡ false) → IsSome (move_if F (stage_name k) name o q)
+    by : (o : Option (List ℕ)) → (q ≡ name) ⊎ (bytes_eq q name ≡ false) → IsSome (move_if_present F (stage_name k) name o q)
     by None at = some
     by (Some b) (inl is) = subst IsSome (sym (put_name-at (drop_name F (stage_name k)) name b q is)) refl
     by (Some b) (inr off) = subst IsSome (sym (put_name-off (drop_name F (stage_name k)) name b q (off_name q name off) ∙ drop_name-off F (stage_name k) q ne)) some
 
-unstaged_kept : (names : List (List ℕ)) (k : ℕ) (F : Files) (q : List ℕ) → IsSome (F q) → Kept (after_moves k names F) q
+unstaged_kept : (names : List (List ℕ)) (k : ℕ) (F : Files) (q : List ℕ) → IsSome (F q) → Kept (files_after_moves k names F) q
 unstaged_kept [] k F q some = inl some
 unstaged_kept (name ∷ names) k F q some = ⊎_elim
     (λ is. inr (k, is))
-    (λ off. unstaged_kept names (k + 1) (move_if F (stage_name k) name (F (stage_name k))) q (moved_kept F k name q (off_name q (stage_name k) off) some))
+    (λ off. unstaged_kept names (k + 1) (move_if_present F (stage_name k) name (F (stage_name k))) q (moved_kept F k name q (off_name q (stage_name k) off) some))
     (name_cases q (stage_name k))
 
 -- what is there, and is not removed, stays there
@@ -41,12 +41,12 @@ pub recovered_held : (F : Files) (intent : Intent) (q : List ℕ) → intent_of 
 recovered_held F intent q has out some = ⊎_elim
     (λ is. inr (inl is))
     (λ off. ⊎_elim
-    (λ kept. inl (subst IsSome (sym (ap (λ o. recovered_files_by o F q) has ∙ drop_name-off (after_moves 1 intent.writes (without_names intent.removals F)) intent_name q (off_name q intent_name off))) kept))
+    (λ kept. inl (subst IsSome (sym (ap (λ o. files_after_intent o F q) has ∙ drop_name-off (files_after_moves 1 intent.writes (without_names intent.removals F)) intent_name q (off_name q intent_name off))) kept))
     (λ place. inr (inr place))
     (unstaged_kept intent.writes 1 (without_names intent.removals F) q (subst IsSome (sym (ap (λ b. cond b None (F q)) out)) some)))
     (name_cases q intent_name)
 
-module _ (stage : Staging) (files : Files) (v : TreeState) (place name : List ℕ) (j k : ℕ) (acting : IsActing stage files v) (proper : IsProper stage.intent)
+module _ (stage : Staging) (files : Files) (v : TreeState) (place name : List ℕ) (j k : ℕ) (acting : IsCarryingOutActions stage files v) (proper : IsProper stage.intent)
     (place_is : place ≡ stage_name k) (number : k ≡ j + 1) (at : slice_get stage.intent.writes j ≡ Some name) (within : j < length stage.intent.writes)
     (behind : stage.acted ≡ length stage.intent.removals + j) (room : AreJournalPathsFree files) (there : IsSome (v.names place)) where
   open_name : IsFreeName name
@@ -55,7 +55,7 @@ module _ (stage : Staging) (files : Files) (v : TreeState) (place name : List �
   out : IsNoneOf name stage.intent.removals
   out = proper.apart name (among_at stage.intent.writes j name at)
 
-  -- every name that is there is acting_stage
+  -- every name that is there is stage_with_actions_done
   name_held : (q : List ℕ) → IsSome (v.names q) → IsPresentOrOfJournal files q
   name_held q some = by (list_any (bytes_eq q) stage.intent.removals) refl
     where
@@ -74,10 +74,10 @@ module _ (stage : Staging) (files : Files) (v : TreeState) (place name : List �
       let waits : IsSome (files_of v (stage_name k)) = subst (λ (p : List ℕ). IsSome (files_of v p)) place_is (as_read v.files (v.names place) there) in
       subst (λ (F : Files). IsPresentOrOfJournal F name) (same ∙ acting.reads)
       (recovered_held (moved (files_of v) (stage_name k) name) stage.intent name
-      (ap intent_at (move_if-off (files_of v) (stage_name k) name (files_of v (stage_name k)) intent_name (λ e. stage_name_no_intent k (sym e)) (λ e. open_name.no_intent (sym e))) ∙ acting.located)
+      (ap intent_in_file (move_if_present-off (files_of v) (stage_name k) name (files_of v (stage_name k)) intent_name (λ e. stage_name_no_intent k (sym e)) (λ e. open_name.no_intent (sym e))) ∙ acting.located)
       out (there_now (files_of v (stage_name k)) waits))
     where
-      there_now : (o : Option (List ℕ)) → IsSome o → IsSome (move_if (files_of v) (stage_name k) name o name)
+      there_now : (o : Option (List ℕ)) → IsSome o → IsSome (move_if_present (files_of v) (stage_name k) name o name)
       there_now None some = absurd (cc (some))
       there_now (Some b) some = subst IsSome (sym (put_name-at (drop_name (files_of v) (stage_name k)) name b name refl)) refl
 

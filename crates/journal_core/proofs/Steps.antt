@@ -2,7 +2,7 @@
 use Rattle.std.proofs.Common.{◌≡◌, ◌≢◌, inl, inr, ⊎_elim, ℕ, ◌<◌, ◌≤◌, Bool, false, cond, List, [], Option, None, Some, refl, sym, ap, subst, ◌∙◌, arith}
 use Rattle.std.proofs.lemmas.Bool.{ne_eqb, eq-eqb}
 use Rattle.base_core.specs.Files.{NameMap, drop_name, put_name}
-use Rattle.base_core.specs.Tree.{File, TreeState, bytes_at, files_by, files_of, set_file, change_at, after_create, remove_at, after_remove, IsWellFormed}
+use Rattle.base_core.specs.Tree.{File, TreeState, bytes_of_file_number, files_under_map, files_of, set_file, with_file_changed, after_create, with_name_removed, after_remove, IsWellFormed}
 use Rattle.base_core.specs.Undone.{IsCrashMap}
 use Rattle.journal_core.specs.Quiet.{StateIsUnchanged}
 use Rattle.journal_core.specs.Recovery.{state_of}
@@ -33,19 +33,19 @@ untouched_on laws name start v w was simulates more others = record {
 
 -- ---- remove
 
-remove_simulates : (ignored : List ℕ → Bool) (name : List ℕ) → IsOutsideState ignored name → (v : TreeState) (n : Option ℕ) → Simulates ignored v (remove_at name v n)
+remove_simulates : (ignored : List ℕ → Bool) (name : List ℕ) → IsOutsideState ignored name → (v : TreeState) (n : Option ℕ) → Simulates ignored v (with_name_removed name v n)
 remove_simulates ignored name private v None m among = (m, among, λ q rests. refl)
 remove_simulates ignored name private v (Some n) m (inl (kept, left, is)) =
-    (kept, left, λ q rests. ap (file_at v.files) (sym (left_off v.names (drop_name v.names name) kept m is q (drop_name-off v.names name q (rests_off ignored name private (files_by v kept) q rests)))))
+    (kept, left, λ q rests. ap (file_at v.files) (sym (left_off v.names (drop_name v.names name) kept m is q (drop_name-off v.names name q (rests_off ignored name private (files_under_map v kept) q rests)))))
 remove_simulates ignored name private v (Some n) m (inr old) = (m, old, λ q rests. refl)
 
-remove_made : (name : List ℕ) (v : TreeState) (n : Option ℕ) → v.made ≤ (remove_at name v n).made
+remove_made : (name : List ℕ) (v : TreeState) (n : Option ℕ) → v.made ≤ (with_name_removed name v n).made
 remove_made name v None = omega arith
 remove_made name v (Some n) = omega arith
 
-pub remove_others : (name : List ℕ) (v : TreeState) (n : Option ℕ) (q : List ℕ) → q ≢ name → files_of (remove_at name v n) q ≡ files_of v q
+pub remove_others : (name : List ℕ) (v : TreeState) (n : Option ℕ) (q : List ℕ) → q ≢ name → files_of (with_name_removed name v n) q ≡ files_of v q
 remove_others name v None q ne = refl
-remove_others name v (Some n) q ne = ap (bytes_at v.files) (drop_name-off v.names name q ne)
+remove_others name v (Some n) q ne = ap (bytes_of_file_number v.files) (drop_name-off v.names name q ne)
 
 pub untouched-removed : CrashLaws → (name : List ℕ) (start v : TreeState) → HasChangedOnly name start v → HasChangedOnly name start (after_remove name v)
 untouched-removed laws name start v was = untouched_on laws name start v _ was (λ ignored private. remove_simulates ignored name private v (v.names name)) (remove_made name v (v.names name)) (remove_others name v (v.names name))
@@ -62,8 +62,8 @@ pub file_at-set_file : (files : ℕ → File) (n : ℕ) (f : File) (k : Option �
 file_at-set_file files n f None ne = refl
 file_at-set_file files n f (Some k) ne = ap Some (set_file-off files n f k (λ is. ne (ap Some is)))
 
-pub bytes_at-set_file : (files : ℕ → File) (n : ℕ) (f : File) (k : Option ℕ) → k ≢ Some n → bytes_at (set_file files n f) k ≡ bytes_at files k
-bytes_at-set_file files n f k ne = bytes_of_same _ _ k k (file_at-set_file files n f k ne)
+pub bytes_of_file_number-set_file : (files : ℕ → File) (n : ℕ) (f : File) (k : Option ℕ) → k ≢ Some n → bytes_of_file_number (set_file files n f) k ≡ bytes_of_file_number files k
+bytes_of_file_number-set_file files n f k ne = bytes_of_same _ _ k k (file_at-set_file files n f k ne)
 
 pub made_later : (v : TreeState) → IsWellFormed v → (m : NameMap) → IsCrashMap v m → (q : List ℕ) → m q ≢ Some v.made
 made_later v whole m left q is =
@@ -76,13 +76,13 @@ create_simulates ignored name private v whole m (inl (kept, left, is)) = (
   kept,
   left,
   λ q rests.
-      sym (ap (file_at (after_create name v).files) (left_off v.names (put_name v.names name v.made) kept m is q (put_name-off v.names name v.made q (rests_off ignored name private (files_by v kept) q rests)))
+      sym (ap (file_at (after_create name v).files) (left_off v.names (put_name v.names name v.made) kept m is q (put_name-off v.names name v.made q (rests_off ignored name private (files_under_map v kept) q rests)))
       ∙ file_at-set_file v.files v.made _ (kept q) (made_later v whole kept left q)),
 )
 create_simulates ignored name private v whole m (inr old) = (m, old, λ q rests. sym (file_at-set_file v.files v.made _ (m q) (made_later v whole m old q)))
 
 pub create_others : (name : List ℕ) (v : TreeState) → IsWellFormed v → (q : List ℕ) → q ≢ name → files_of (after_create name v) q ≡ files_of v q
-create_others name v whole q ne = ap (bytes_at (after_create name v).files) (put_name-off v.names name v.made q ne) ∙ bytes_at-set_file v.files v.made _ (v.names q) (made_later v whole v.names (read_may_be_left v) q)
+create_others name v whole q ne = ap (bytes_of_file_number (after_create name v).files) (put_name-off v.names name v.made q ne) ∙ bytes_of_file_number-set_file v.files v.made _ (v.names q) (made_later v whole v.names (read_may_be_left v) q)
 
 pub untouched-created : CrashLaws → (name : List ℕ) (start v : TreeState) → IsWellFormed v → HasChangedOnly name start v → HasChangedOnly name start (after_create name v)
 untouched-created laws name start v whole was = untouched_on laws name start v _ was (λ ignored private. create_simulates ignored name private v whole) (omega arith) (create_others name v whole)
@@ -104,20 +104,20 @@ filling-created laws name start v whole was = record {
 
 -- ---- append and sync
 
-change_simulates : (ignored : List ℕ → Bool) (name : List ℕ) → IsOutsideState ignored name → (change : File → File) (v : TreeState) (n : ℕ) → ((m : NameMap) → IsCrashMap v m → (q : List ℕ) → m q ≡ Some n → q ≡ name) → Simulates ignored v (change_at change v (Some n))
+change_simulates : (ignored : List ℕ → Bool) (name : List ℕ) → IsOutsideState ignored name → (change : File → File) (v : TreeState) (n : ℕ) → ((m : NameMap) → IsCrashMap v m → (q : List ℕ) → m q ≡ Some n → q ≡ name) → Simulates ignored v (with_file_changed change v (Some n))
 change_simulates ignored name private change v n alone m among =
-    (m, among, λ q rests. sym (file_at-set_file v.files n _ (m q) (λ is. rests_off ignored name private (files_by v m) q rests (alone m among q is))))
+    (m, among, λ q rests. sym (file_at-set_file v.files n _ (m q) (λ is. rests_off ignored name private (files_under_map v m) q rests (alone m among q is))))
 
-filling_at : CrashLaws → (name : List ℕ) (change : File → File) (file : File) (start v : TreeState) → (was : HasNewFileAt name file start v) → HasNewFileAt name (change file) start (change_at change v (Some was.number))
+filling_at : CrashLaws → (name : List ℕ) (change : File → File) (file : File) (start v : TreeState) → (was : HasNewFileAt name file start v) → HasNewFileAt name (change file) start (with_file_changed change v (Some was.number))
 filling_at laws name change file start v was = record {
   untouched = untouched_on laws name start v _ was.untouched (λ ignored private. change_simulates ignored name private change v was.number was.alone) (omega arith)
-      (λ q ne. bytes_at-set_file v.files was.number _ (v.names q) (λ is. ne (was.alone v.names (read_may_be_left v) q is)));
+      (λ q ne. bytes_of_file_number-set_file v.files was.number _ (v.names q) (λ is. ne (was.alone v.names (read_may_be_left v) q is)));
   number = was.number;
   there = was.there;
   holds = set_file-at v.files was.number _ was.number refl ∙ ap change was.holds;
   alone = was.alone;
 }
 
-pub filling_on : CrashLaws → (name : List ℕ) (change : File → File) (file : File) (start v : TreeState) → HasNewFileAt name file start v → HasNewFileAt name (change file) start (change_at change v (v.names name))
+pub filling_on : CrashLaws → (name : List ℕ) (change : File → File) (file : File) (start v : TreeState) → HasNewFileAt name file start v → HasNewFileAt name (change file) start (with_file_changed change v (v.names name))
 filling_on laws name change file start v was =
-    subst (λ n. HasNewFileAt name (change file) start (change_at change v n)) (sym was.there) (filling_at laws name change file start v was)
+    subst (λ n. HasNewFileAt name (change file) start (with_file_changed change v n)) (sym was.there) (filling_at laws name change file start v was)

@@ -2,7 +2,7 @@
 use Rattle.std.proofs.Common.{◌≡◌, ◌⊎◌, inl, inr, ⊎_elim, ℕ, List, ◌∷◌, [], None, Result, Ok, Err, OnOk, refl, sym, ap, subst, ◌∙◌}
 use Rattle.base_core.specs.Calls.{IfObservable, HoldsNow, ChangesHistory}
 use Rattle.base_core.specs.Crash.{Since}
-use Rattle.base_core.specs.Tree.{TreeState, after_rename, after_sync_names, bytes_at, files_of, after_failed_call, IsAlwaysAllowed, CanRename}
+use Rattle.base_core.specs.Tree.{TreeState, after_rename, after_sync_names, bytes_of_file_number, files_of, after_failed_call, IsAlwaysAllowed, CanRename}
 use Rattle.base_core.proofs.AtName.{name_cases, off_name}
 use Rattle.journal_core.specs.Kept.{KeepsFilesExcept}
 use Rattle.journal_core.specs.Recovery.{intent_name, stage_name}
@@ -46,7 +46,7 @@ free_written place place_is old mid told = observable_map old _ _ told (λ v t.
 
 absent_both : (v w : TreeState) → v.names (stage_name 0) ≡ None → w.names (stage_name 0) ≡ None → KeepsFree v w → KeepsFilesExcept (λ q. q ≡ intent_name) v w
 absent_both v w none_v none_w k q off = ⊎_elim
-    (λ is. ap (files_of w) is ∙ ap (bytes_at w.files) none_w ∙ sym (ap (files_of v) is ∙ ap (bytes_at v.files) none_v))
+    (λ is. ap (files_of w) is ∙ ap (bytes_of_file_number w.files) none_w ∙ sym (ap (files_of v) is ∙ ap (bytes_of_file_number v.files) none_v))
     (λ away. k q (λ either. ⊎_elim off (off_name q (stage_name 0) away) either))
     (name_cases q (stage_name 0))
 

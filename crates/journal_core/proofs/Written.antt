@@ -1,10 +1,10 @@
 -- A waiting file is made, filled and synced.
 use Rattle.std.proofs.Common.{◌≡◌, ◌≢◌, inl, ℕ, Bool, true, false, List, [], ◌∷◌, ◌++◌, Option, None, Some, IsSome, Result, Ok, Err, OnOk, refl, sym, ap, subst, ◌∙◌, arith}
-use Rattle.base_core.specs.Tree.{TreeState, File, IsWellFormed, files_by, change_at, after_create, after_append, after_failed_append, after_sync, after_failed_call, CanCreate, HasName}
+use Rattle.base_core.specs.Tree.{TreeState, File, IsWellFormed, files_under_map, with_file_changed, after_create, after_append, after_failed_append, after_sync, after_failed_call, CanCreate, HasName}
 use Rattle.base_core.specs.Calls.{HoldsNow, ChangesHistory}
 use Rattle.base_core.specs.Crash.{Since}
 use Rattle.base_core.specs.Undone.{IsDurable}
-use Rattle.journal_core.specs.Committing.{IsWritten}
+use Rattle.journal_core.specs.Committing.{HasOnlyAddedFile}
 use Rattle.journal_core.specs.Filling.{synced_file}
 use Rattle.base_core.proofs.Undone.{read_may_be_left}
 use Rattle.journal_core.specs.Recovery.{IsStagedNameOf, StateDependsOn, intent_name, intent_of, is_staged, stage_name}
@@ -43,14 +43,14 @@ module _ (laws : CrashLaws) (place : List ℕ) (place_is : place ≡ stage_name 
   waiting = ap is_staged place_is
 
   off : (v : TreeState) → IsOffIn v place
-  off v m left = record { waiting = waiting; no_intent = no_intent; no_place = λ at. no_place_first (intent_of (files_by v m)) (subst (IsStagedNameOf (intent_of (files_by v m))) place_is at) }
+  off v m left = record { waiting = waiting; no_intent = no_intent; no_place = λ at. no_place_first (intent_of (files_under_map v m)) (subst (IsStagedNameOf (intent_of (files_under_map v m))) place_is at) }
 
   created : (v : TreeState) → Open v → Made (after_create place v)
   created v q = record { is_unchanged = still_on ignored start v (after_create place v) q.is_unchanged (still_created laws ignored place v q.off q.entire q.is_unchanged.is_durable); alone = alone_created place v q.off q.entire }
 
-  changed : (change : File → File) (v : TreeState) → Made v → Made (change_at change v (v.names place))
+  changed : (change : File → File) (v : TreeState) → Made v → Made (with_file_changed change v (v.names place))
   changed change v q = record {
-    is_unchanged = still_on ignored start v (change_at change v (v.names place)) q.is_unchanged (still_changed laws place waiting no_intent change v q.alone ignored q.is_unchanged.is_durable);
+    is_unchanged = still_on ignored start v (with_file_changed change v (v.names place)) q.is_unchanged (still_changed laws place waiting no_intent change v q.alone ignored q.is_unchanged.is_durable);
     alone = alone_changed laws place waiting no_intent change v q.alone;
   }
 
@@ -76,7 +76,7 @@ module _ (laws : CrashLaws) (place : List ℕ) (place_is : place ≡ stage_name 
 -- ---- what it holds
 
 module _ (place : List ℕ) (start : TreeState) (whole : IsWellFormed start) where
-  written_created : start.names place ≡ None → IsWritten place (record { bytes = []; synced = false }) start (after_create place start)
+  written_created : start.names place ≡ None → HasOnlyAddedFile place (record { bytes = []; synced = false }) start (after_create place start)
   written_created absent = record {
     absent = absent;
     number = start.made;
@@ -90,7 +90,7 @@ module _ (place : List ℕ) (start : TreeState) (whole : IsWellFormed start) whe
         cc;
   }
 
-  written_at : (change : File → File) (file : File) (v : TreeState) → (was : IsWritten place file start v) → IsWritten place (change file) start (change_at change v (Some was.number))
+  written_at : (change : File → File) (file : File) (v : TreeState) → (was : HasOnlyAddedFile place file start v) → HasOnlyAddedFile place (change file) start (with_file_changed change v (Some was.number))
   written_at change file v was = record {
     absent = was.absent;
     number = was.number;
@@ -102,23 +102,23 @@ module _ (place : List ℕ) (start : TreeState) (whole : IsWellFormed start) whe
         let here : start.names q ≡ Some n = sym (was.names q ne) ∙ at in
         let below = whole.made start.names (inl refl) q n here in
         let late = was.later in
-        let same : Some ((change_at change v (Some was.number)).files n) ≡ Some (v.files n) = file_at-set_file v.files was.number _ (Some n) (λ e. let equal : n ≡ was.number = cc in absurd (omega (arith, below, late, equal))) in
-        let first : (change_at change v (Some was.number)).files n ≡ v.files n = cc in
+        let same : Some ((with_file_changed change v (Some was.number)).files n) ≡ Some (v.files n) = file_at-set_file v.files was.number _ (Some n) (λ e. let equal : n ≡ was.number = cc in absurd (omega (arith, below, late, equal))) in
+        let first : (with_file_changed change v (Some was.number)).files n ≡ v.files n = cc in
         first ∙ was.kept q n ne at;
   }
 
-  written_on : (change : File → File) (file : File) (v : TreeState) → IsWritten place file start v → IsWritten place (change file) start (change_at change v (v.names place))
-  written_on change file v was = subst (λ o. IsWritten place (change file) start (change_at change v o)) (sym was.there) (written_at change file v was)
+  written_on : (change : File → File) (file : File) (v : TreeState) → HasOnlyAddedFile place file start v → HasOnlyAddedFile place (change file) start (with_file_changed change v (v.names place))
+  written_on change file v was = subst (λ o. HasOnlyAddedFile place (change file) start (with_file_changed change v o)) (sym was.there) (written_at change file v was)
 
   pub last_written : {T E : Type 0} (bytes : List ℕ) (old rest h k new : History) → old ≡ start ∷ rest → start.names place ≡ None → (x y : T) (r : Result T E)
       → ChangesHistory {E = E} (CanCreate place) (after_create place) (after_create place) old h (Ok x) → ChangesHistory {E = E} (HasName place) (after_append place bytes) (after_failed_append place) h k (Ok y) → ChangesHistory (HasName place) (after_sync place) after_failed_call k new r
-      → OnOk r (HoldsNow new (IsWritten place (synced_file bytes) start))
+      → OnOk r (HoldsNow new (HasOnlyAddedFile place (synced_file bytes) start))
   last_written bytes old rest h k new is absent x y r first second last =
-      let a = step_now (λ w. w ≡ start) (IsWritten place (record { bytes = []; synced = false }) start) h x old (now_is old start rest (λ w. w ≡ start) is refl) first
-      (λ v e. subst (λ (u : TreeState). IsWritten place (record { bytes = []; synced = false }) start (after_create place u)) (sym e) (written_created absent)) in
-      let b = step_now (IsWritten place (record { bytes = []; synced = false }) start) (IsWritten place (record { bytes = bytes; synced = false }) start) k y h a second
+      let a = step_now (λ w. w ≡ start) (HasOnlyAddedFile place (record { bytes = []; synced = false }) start) h x old (now_is old start rest (λ w. w ≡ start) is refl) first
+      (λ v e. subst (λ (u : TreeState). HasOnlyAddedFile place (record { bytes = []; synced = false }) start (after_create place u)) (sym e) (written_created absent)) in
+      let b = step_now (HasOnlyAddedFile place (record { bytes = []; synced = false }) start) (HasOnlyAddedFile place (record { bytes = bytes; synced = false }) start) k y h a second
       (written_on (λ f. record { bytes = f.bytes ++ bytes; synced = false }) (record { bytes = []; synced = false })) in
-      step_called (IsWritten place (record { bytes = bytes; synced = false }) start) (IsWritten place (synced_file bytes) start) new r k b last
+      step_called (HasOnlyAddedFile place (record { bytes = bytes; synced = false }) start) (HasOnlyAddedFile place (synced_file bytes) start) new r k b last
       (written_on (λ f. record { bytes = f.bytes; synced = true }) (record { bytes = bytes; synced = false }))
 
 -- ---- it is there
@@ -126,9 +126,9 @@ module _ (place : List ℕ) (start : TreeState) (whole : IsWellFormed start) whe
 pub some_created : (place : List ℕ) (v : TreeState) → HasName place (after_create place v)
 some_created place v = subst IsSome (sym (put_name-at v.names place v.made place refl)) refl
 
-pub some_changed : (change : File → File) (place : List ℕ) (v : TreeState) → HasName place v → HasName place (change_at change v (v.names place))
+pub some_changed : (change : File → File) (place : List ℕ) (v : TreeState) → HasName place v → HasName place (with_file_changed change v (v.names place))
 some_changed change place v some = by (v.names place)
   where
-    by : (o : Option ℕ) → IsSome ((change_at change v o).names place)
+    by : (o : Option ℕ) → IsSome ((with_file_changed change v o).names place)
     by None = some
     by (Some n) = some

@@ -7,11 +7,11 @@ use Rattle.base_core.specs.Files.{Files}
 use Rattle.base_core.specs.Tree.{TreeState, after_rename}
 use Rattle.journal_core.specs.Quiet.{StateIsUnchanged}
 use Rattle.journal_core.specs.Recovery.{Intent, stage_name}
-use Rattle.journal_core.specs.Staged.{Staging, IsActing}
+use Rattle.journal_core.specs.Staged.{Staging, IsCarryingOutActions}
 
 -- a stage with this intent, this many of whose actions are done
-abbrev pub acting_stage : Intent → ℕ → Staging
-acting_stage intent acted = record {
+abbrev pub stage_with_actions_done : Intent → ℕ → Staging
+stage_with_actions_done intent acted = record {
   intent = intent;
   staged = 0;
   is_open = false;
@@ -20,8 +20,8 @@ acting_stage intent acted = record {
 }
 
 -- a stage with this intent, all of whose files are staged
-abbrev pub full_stage : Intent → Staging
-full_stage intent = record {
+abbrev pub fully_staged_stage : Intent → Staging
+fully_staged_stage intent = record {
   intent = intent;
   staged = length intent.writes;
   is_open = false;
@@ -39,7 +39,7 @@ pub record MovesIfPresent {T E : Type 0} (place name : List ℕ) (old new : List
       (new ≡ old) ⊎ (new ≡ after_rename place name v ∷ old)))
 
 -- the name of the next write's staged file; its number has at most 64 bits
-pub record IsNextName (name : List ℕ) (stage : Staging) : Type 0 where
+pub record IsNextStagedName (name : List ℕ) (stage : Staging) : Type 0 where
   pub is : name ≡ stage_name (stage.staged + 1)
   pub few : stage.staged + 1 < 2 ^ 64
 
@@ -48,4 +48,4 @@ pub record IsNextName (name : List ℕ) (stage : Staging) : Type 0 where
 pub record IsDuringActions (ignored : List ℕ → Bool) (files : Files) (stage : Staging)
     (start v : TreeState) : Type 0 where
   pub is_unchanged : StateIsUnchanged ignored start v
-  pub acting : IsActing stage files v
+  pub acting : IsCarryingOutActions stage files v

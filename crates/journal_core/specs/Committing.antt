@@ -13,7 +13,7 @@ use Rattle.journal_core.specs.Staged.{IsCommittedFor}
 
 -- a moment at which a new file is under a name that was absent at the start, and nothing else has
 -- changed
-pub record IsWritten (place : List ℕ) (file : File) (start v : TreeState) : Type 0 where
+pub record HasOnlyAddedFile (place : List ℕ) (file : File) (start v : TreeState) : Type 0 where
   pub absent : start.names place ≡ None
   pub number : ℕ
   pub later : start.made ≤ number

@@ -17,8 +17,8 @@ KeepsFilesExcept these start v = (q : List ℕ) → (these q → ⊥) → files_
 
 -- the names of the next action, if this many are done: the name that is removed, or the name that is
 -- written and that of its staged file
-abbrev pub IsOfAction : Intent → ℕ → List ℕ → Type 0
-IsOfAction intent acted q =
+abbrev pub IsNameOfNextAction : Intent → ℕ → List ℕ → Type 0
+IsNameOfNextAction intent acted q =
     (slice_get intent.removals acted ≡ Some q)
     ⊎ ((i : ℕ) × (acted ≡ length intent.removals + i)
     × ((slice_get intent.writes i ≡ Some q) ⊎ (q ≡ stage_name (i + 1))))
@@ -73,13 +73,13 @@ ShownNamesAreDurableExcept these v = (map : NameMap) → IsCrashMap v map → (q
     → q ≢ intent_name → is_staged q ≡ false → map q ≡ v.names q
 
 -- no crash restores the name
-abbrev pub IsInNoMap : List ℕ → TreeState → Type 0
-IsInNoMap name v = (map : NameMap) → IsCrashMap v map → map name ≡ None
+abbrev pub IsRestoredByNoCrash : List ℕ → TreeState → Type 0
+IsRestoredByNoCrash name v = (map : NameMap) → IsCrashMap v map → map name ≡ None
 
 -- each map is one from before, except for these names: so a crash leaves each other name as it might
 -- have left it before
-abbrev pub KeepsMapsExcept : List (List ℕ) → TreeState → TreeState → Type 0
-KeepsMapsExcept these start v = (map : NameMap) → IsCrashMap v map
+abbrev pub KeepsCrashMapsExcept : List (List ℕ) → TreeState → TreeState → Type 0
+KeepsCrashMapsExcept these start v = (map : NameMap) → IsCrashMap v map
     → (was : NameMap) × IsCrashMap start was × ((q : List ℕ) → IsNoneOf q these → map q ≡ was q)
 
 -- there is one map of names, so no crash undoes a change of them; and the file under this name is

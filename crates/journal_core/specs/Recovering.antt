@@ -33,8 +33,8 @@ abbrev pub without_staged_names : {X : Type 0} → (List ℕ → Option X) → L
 without_staged_names map q = if is_staged q then None else map q
 
 -- each of these names is in the staging area
-abbrev pub AllStaged : List (List ℕ) → Type 0
-AllStaged names = All (λ name. is_staged name ≡ true) names
+abbrev pub AreStagedNames : List (List ℕ) → Type 0
+AreStagedNames names = All (λ name. is_staged name ≡ true) names
 
 -- a moment without some names of the start: these lead nowhere, and the others to the same files; no
 -- file has changed

@@ -7,19 +7,19 @@ use Rattle.std.specs.List.{list_any}
 use Rattle.base_core.specs.Files.{Files, drop_name, move_name}
 use Rattle.base_core.specs.Tree.{TreeState}
 use Rattle.base_core.specs.Undone.{IsCrashImage}
-pub use Rattle.journal_intent.specs.Intent.{Intent, intent_name, intent_in, intent_unless, is_staged, stage_folder, stage_name}
+pub use Rattle.journal_intent.specs.Intent.{Intent, intent_name, intent_of_value, intent_unless_fault, is_staged, stage_folder, stage_name}
 unfoldable pub use Rattle.journal_intent.specs.Intent.{read_intent}
 
 -- ---- the intent
 
 -- the intent that a file under the intent's name encodes, if the file is there and encodes one
-abbrev pub intent_at : Option (List ℕ) → Option Intent
-intent_at None = None
-intent_at (Some file) = read_intent file
+abbrev pub intent_in_file : Option (List ℕ) → Option Intent
+intent_in_file None = None
+intent_in_file (Some file) = read_intent file
 
 -- the intent among the files, if there is one
 abbrev pub intent_of : Files → Option Intent
-intent_of files = intent_at (files intent_name)
+intent_of files = intent_in_file (files intent_name)
 
 -- ---- its actions
 
@@ -28,32 +28,32 @@ abbrev pub without_names : List (List ℕ) → Files → Files
 without_names names files q = if list_any (bytes_eq q) names then None else files q
 
 -- the file at a name, if there is one, is moved to another name
-abbrev pub move_if : Files → List ℕ → List ℕ → Option (List ℕ) → Files
-move_if files from to None = files
-move_if files from to (Some bytes) = move_name files from to bytes
+abbrev pub move_if_present : Files → List ℕ → List ℕ → Option (List ℕ) → Files
+move_if_present files from to None = files
+move_if_present files from to (Some bytes) = move_name files from to bytes
 
 -- the staged files from number k on are moved to their names; one that is absent was moved before
-abbrev pub after_moves : ℕ → List (List ℕ) → Files → Files
-after_moves k [] files = files
-after_moves k (name ∷ names) files =
-    after_moves (k + 1) names (move_if files (stage_name k) name (files (stage_name k)))
+abbrev pub files_after_moves : ℕ → List (List ℕ) → Files → Files
+files_after_moves k [] files = files
+files_after_moves k (name ∷ names) files =
+    files_after_moves (k + 1) names (move_if_present files (stage_name k) name (files (stage_name k)))
 
 -- the files once all actions of an intent are done: first the removals, then the moves, from the staged
 -- file 1 on
-abbrev pub after_actions : Intent → Files → Files
-after_actions intent files = after_moves 1 intent.writes (without_names intent.removals files)
+abbrev pub files_after_actions : Intent → Files → Files
+files_after_actions intent files = files_after_moves 1 intent.writes (without_names intent.removals files)
 
 -- ---- what recovery yields
 
 -- the files once this intent is done and removed; unchanged without an intent
-abbrev pub recovered_files_by : Option Intent → Files → Files
-recovered_files_by None files = files
-recovered_files_by (Some intent) files = drop_name (after_actions intent files) intent_name
+abbrev pub files_after_intent : Option Intent → Files → Files
+files_after_intent None files = files
+files_after_intent (Some intent) files = drop_name (files_after_actions intent files) intent_name
 
 -- the files that recovery yields: their intent is done and removed; unchanged if there is none or it is
 -- no intent container
 abbrev pub recovered_files : Files → Files
-recovered_files files = recovered_files_by (intent_of files) files
+recovered_files files = files_after_intent (intent_of files) files
 
 -- the names that are no part of a state: those of the staged files, and further names ignored
 abbrev pub is_hidden : (List ℕ → Bool) → List ℕ → Bool

@@ -4,14 +4,14 @@
 -- in "Recovery".
 use Rattle.std.specs.Prelude.{◌≡◌, ◌⊎◌, ◌≤◌, ◌<◌, ℕ, ◌+◌, Bool, true, false, if◌then◌else◌, List, [], ◌∷◌, ◌++◌, length, Option, Some, None, IsSome, slice_get}
 use Rattle.base_core.specs.Files.{Files, NameMap, IsFolderOf, put_name}
-use Rattle.base_core.specs.Tree.{TreeState, files_by, files_of}
+use Rattle.base_core.specs.Tree.{TreeState, files_under_map, files_of}
 use Rattle.base_core.specs.Undone.{IsDurable, IsCrashMap}
 use Rattle.base_core.specs.Restart.{EachMoment}
 use Rattle.base_core.specs.declared.cause.Cause.{Cause}
 use Rattle.journal_intent.specs.adb_schema.Soundness.{first_fault}
 use Rattle.adb_view.specs.declared.tables.Which.TheVariants.{Intent as IntentTable}
 use Rattle.journal_core.specs.Recovery.{Intent, EachCrashLeavesOldOrNew, IsStagedNameOf, StateDependsOn, intent_name, intent_of, is_staged, recovered_files, stage_name, state_of}
-use Rattle.journal_core.specs.Kept.{IsInNoMap}
+use Rattle.journal_core.specs.Kept.{IsRestoredByNoCrash}
 use Rattle.journal_core.specs.Quiet.{EachCrashLeavesOld}
 
 -- a stage for its calls: its actions, how many of its writes have their staged files, whether the next
@@ -45,15 +45,15 @@ IsIntentFault files cause = (file : List ℕ) × (files intent_name ≡ Some fil
 -- ---- staging
 
 -- the files with more staged files, which have these bytes, the first of them as number k
-abbrev pub with_staged : ℕ → List (List ℕ) → Files → Files
-with_staged k [] files = files
-with_staged k (bytes ∷ contents) files =
-    with_staged (k + 1) contents (put_name files (stage_name k) bytes)
+abbrev pub files_with_staged : ℕ → List (List ℕ) → Files → Files
+files_with_staged k [] files = files
+files_with_staged k (bytes ∷ contents) files =
+    files_with_staged (k + 1) contents (put_name files (stage_name k) bytes)
 
 -- the files with one more staged file, number k, if there are bytes for it: the file that is begun
-abbrev pub with_begun_file : ℕ → Option (List ℕ) → Files → Files
-with_begun_file k None files = files
-with_begun_file k (Some bytes) files = put_name files (stage_name k) bytes
+abbrev pub files_with_begun_file : ℕ → Option (List ℕ) → Files → Files
+files_with_begun_file k None files = files
+files_with_begun_file k (Some bytes) files = put_name files (stage_name k) bytes
 
 -- a file is under the name, and under no other name in any map; and in none of these maps an action of
 -- the intent uses it
@@ -62,18 +62,18 @@ pub record IsOnlyNameOfFile (name : List ℕ) (v : TreeState) : Type 0 where
   pub there : v.names name ≡ Some number
   pub alone : (map : NameMap) → IsCrashMap v map → (q : List ℕ) → map q ≡ Some number → q ≡ name
   pub no_place : (map : NameMap) → IsCrashMap v map → map name ≡ Some number
-      → IsStagedNameOf (intent_of (files_by v map)) name → ⊥
+      → IsStagedNameOf (intent_of (files_under_map v map)) name → ⊥
 
 -- the staged file number k was begun, if there are bytes for it
-abbrev pub IsBegun : ℕ → Option (List ℕ) → TreeState → Type 0
-IsBegun k None v = Unit {0}
-IsBegun k (Some bytes) v = IsOnlyNameOfFile (stage_name k) v
+abbrev pub IsStagedFileBegun : ℕ → Option (List ℕ) → TreeState → Type 0
+IsStagedFileBegun k None v = Unit {0}
+IsStagedFileBegun k (Some bytes) v = IsOnlyNameOfFile (stage_name k) v
 
 -- once a file of a stage is begun, no crash restores an intent, by which it would be a staged file of
 -- another change
 abbrev pub HasNoOtherIntent : List (List ℕ) → Option (List ℕ) → TreeState → Type 0
-HasNoOtherIntent contents (Some bytes) v = IsInNoMap intent_name v
-HasNoOtherIntent (bytes ∷ contents) None v = IsInNoMap intent_name v
+HasNoOtherIntent contents (Some bytes) v = IsRestoredByNoCrash intent_name v
+HasNoOtherIntent (bytes ∷ contents) None v = IsRestoredByNoCrash intent_name v
 HasNoOtherIntent [] None v = Unit {0}
 
 -- Only a stage's calls have written the tree since the files as read were `base`, without an intent.
@@ -83,10 +83,10 @@ pub record IsStaged (stage : Staging) (contents : List (List ℕ)) (begun : Opti
     (base : Files) (v : TreeState) : Type 0 where
   pub count : length contents ≡ stage.staged
   pub absent : base intent_name ≡ None
-  pub reads : files_of v ≡ with_begun_file (1 + length contents) begun (with_staged 1 contents base)
+  pub reads : files_of v ≡ files_with_begun_file (1 + length contents) begun (files_with_staged 1 contents base)
   pub synced : (k n : ℕ) → 1 ≤ k → k < 1 + length contents → v.names (stage_name k) ≡ Some n
       → (v.files n).synced ≡ true
-  pub alone : IsBegun (1 + length contents) begun v
+  pub alone : IsStagedFileBegun (1 + length contents) begun v
   pub gone : HasNoOtherIntent contents begun v
 
 -- ---- the actions
@@ -100,8 +100,8 @@ IsStillNeeded intent acted q =
     × ((slice_get intent.writes i ≡ Some q) ⊎ ((i < length intent.writes) × (q ≡ stage_name (i + 1)))))
 
 -- no crash undoes a change of a name that is still needed
-abbrev pub NeededNamesLast : Intent → ℕ → TreeState → Type 0
-NeededNamesLast intent acted v =
+abbrev pub NeededNamesAreDurable : Intent → ℕ → TreeState → Type 0
+NeededNamesAreDurable intent acted v =
     (map : NameMap) → IsCrashMap v map → (q : List ℕ) → IsStillNeeded intent acted q → map q ≡ v.names q
 
 -- the first so many actions are done in these files
@@ -112,11 +112,11 @@ pub record AreActionsDone (intent : Intent) (acted : ℕ) (files : Files) : Type
 
 -- from the publishing on: the intent is read, recovery of the files as read yields these files, and the
 -- stage's actions so far are done; a crash undoes the publishing no more
-pub record IsActing (stage : Staging) (files : Files) (v : TreeState) : Type 0 where
+pub record IsCarryingOutActions (stage : Staging) (files : Files) (v : TreeState) : Type 0 where
   pub located : intent_of (files_of v) ≡ Some stage.intent
   pub reads : recovered_files (files_of v) ≡ files
   pub done : AreActionsDone stage.intent stage.acted (files_of v)
-  pub last : NeededNamesLast stage.intent stage.acted v
+  pub last : NeededNamesAreDurable stage.intent stage.acted v
 
 -- ---- recovery
 

@@ -8,11 +8,11 @@ ghost use Rattle.base_core.specs.Undone.{IsDurable};
 ghost use Rattle.base_core.specs.Faults.{CountsOnlyRise, HasCause, IsNoFault};
 ghost use Rattle.base_core.specs.Files.{Files};
 ghost use Rattle.base_core.specs.Tree.{CanRename};
-ghost use Rattle.journal_core.specs.Acting.{MovesIfPresent, acting_stage};
-ghost use Rattle.journal_core.specs.Kept.{IsOfAction, KeepsFilesExcept, KeepsIntent, KeepsOldOrNewBytes, RecoversTo};
+ghost use Rattle.journal_core.specs.Acting.{MovesIfPresent, stage_with_actions_done};
+ghost use Rattle.journal_core.specs.Kept.{IsNameOfNextAction, KeepsFilesExcept, KeepsIntent, KeepsOldOrNewBytes, RecoversTo};
 ghost use Rattle.journal_core.specs.Quiet.{StateIsUnchanged};
 ghost use Rattle.journal_core.specs.Recovery.{StateDependsOn};
-ghost use Rattle.journal_core.specs.Staged.{AreJournalPathsFree, IsActing, action_count};
+ghost use Rattle.journal_core.specs.Staged.{AreJournalPathsFree, IsCarryingOutActions, action_count};
 
 use crate::calls::{remove, rename};
 use base_core::{Disk, Name, Tree};
@@ -27,22 +27,22 @@ pub(crate) fn act<T: Tree>(
 ) -> Result<usize, Disk>
     ensures moments { IfObservable (T.history tree.old) (λ v. (ignored : List ℕ → Bool)
         (files : Files) → IsDurable (StateDependsOn ignored) v
-        → IsActing (acting_stage intent.now acted) files v
+        → IsCarryingOutActions (stage_with_actions_done intent.now acted) files v
         → Since (StateIsUnchanged ignored v) (T.history tree.old) (T.history tree.new)) }
     ensures acting { IfObservable (T.history tree.old) (λ v. (files : Files)
-        → IsActing (acting_stage intent.now acted) files v
+        → IsCarryingOutActions (stage_with_actions_done intent.now acted) files v
         → IfOk result (λ next. HoldsNow (T.history tree.new)
-        (IsActing (acting_stage intent.now next) files))) }
+        (IsCarryingOutActions (stage_with_actions_done intent.now next) files))) }
     ensures reads { IfObservable (T.history tree.old) (λ v. (files : Files)
-        → IsActing (acting_stage intent.now acted) files v
+        → IsCarryingOutActions (stage_with_actions_done intent.now acted) files v
         → Since (RecoversTo files) (T.history tree.old) (T.history tree.new)) }
     ensures bytes { IfObservable (T.history tree.old) (λ v. (files : Files)
-        → IsActing (acting_stage intent.now acted) files v
+        → IsCarryingOutActions (stage_with_actions_done intent.now acted) files v
         → KeepsOldOrNewBytes files v (T.history tree.old) (T.history tree.new)) }
     ensures waiting { IfObservable (T.history tree.old) (λ v.
         Since (KeepsIntent v) (T.history tree.old) (T.history tree.new)) }
     ensures others { IfObservable (T.history tree.old) (λ v.
-        HoldsNow (T.history tree.new) (KeepsFilesExcept (IsOfAction intent.now acted) v)) }
+        HoldsNow (T.history tree.new) (KeepsFilesExcept (IsNameOfNextAction intent.now acted) v)) }
     ensures more { acted < action_count intent.now → IfOk result (λ next. next ≡ acted + 1) }
     ensures none_left { action_count intent.now ≤ acted
         → IfOk result (λ next. next ≡ acted) × (tree.new ≡ tree.old) }
@@ -56,7 +56,7 @@ pub(crate) fn act<T: Tree>(
     // If the intent and the staged files have free paths beside the files of the actions done, no
     // call is a misuse.
     ensures proper { IfObservable (T.history tree.old) (λ v. (files : Files)
-        → IsActing (acting_stage intent.now acted) files v → AreJournalPathsFree files
+        → IsCarryingOutActions (stage_with_actions_done intent.now acted) files v → AreJournalPathsFree files
         → (T.counts tree.new).misuses ≡ (T.counts tree.old).misuses) }
 {
     // A law that the proof needs; it computes nothing.
@@ -79,22 +79,22 @@ fn remove_one<T: Tree>(intent: &PreparedIntent, i: usize, tree: &mut T) -> Resul
     requires { i < length intent.now.removals }
     ensures moments { IfObservable (T.history tree.old) (λ v. (ignored : List ℕ → Bool)
         (files : Files) → IsDurable (StateDependsOn ignored) v
-        → IsActing (acting_stage intent.now i) files v
+        → IsCarryingOutActions (stage_with_actions_done intent.now i) files v
         → Since (StateIsUnchanged ignored v) (T.history tree.old) (T.history tree.new)) }
     ensures acting { IfObservable (T.history tree.old) (λ v. (files : Files)
-        → IsActing (acting_stage intent.now i) files v
+        → IsCarryingOutActions (stage_with_actions_done intent.now i) files v
         → OnOk result (HoldsNow (T.history tree.new)
-        (IsActing (acting_stage intent.now (i + 1)) files))) }
+        (IsCarryingOutActions (stage_with_actions_done intent.now (i + 1)) files))) }
     ensures reads { IfObservable (T.history tree.old) (λ v. (files : Files)
-        → IsActing (acting_stage intent.now i) files v
+        → IsCarryingOutActions (stage_with_actions_done intent.now i) files v
         → Since (RecoversTo files) (T.history tree.old) (T.history tree.new)) }
     ensures bytes { IfObservable (T.history tree.old) (λ v. (files : Files)
-        → IsActing (acting_stage intent.now i) files v
+        → IsCarryingOutActions (stage_with_actions_done intent.now i) files v
         → KeepsOldOrNewBytes files v (T.history tree.old) (T.history tree.new)) }
     ensures waiting { IfObservable (T.history tree.old) (λ v.
         Since (KeepsIntent v) (T.history tree.old) (T.history tree.new)) }
     ensures others { IfObservable (T.history tree.old) (λ v.
-        HoldsNow (T.history tree.new) (KeepsFilesExcept (IsOfAction intent.now i) v)) }
+        HoldsNow (T.history tree.new) (KeepsFilesExcept (IsNameOfNextAction intent.now i) v)) }
 
     // No count of faults falls; a fault of the tree is returned only if that count rose, and Ok
     // only if it did not.
@@ -122,22 +122,22 @@ fn move_one<T: Tree>(
     requires behind { acted ≡ length intent.now.removals + j }
     ensures moments { IfObservable (T.history tree.old) (λ v. (ignored : List ℕ → Bool)
         (files : Files) → IsDurable (StateDependsOn ignored) v
-        → IsActing (acting_stage intent.now acted) files v
+        → IsCarryingOutActions (stage_with_actions_done intent.now acted) files v
         → Since (StateIsUnchanged ignored v) (T.history tree.old) (T.history tree.new)) }
     ensures acting { IfObservable (T.history tree.old) (λ v. (files : Files)
-        → IsActing (acting_stage intent.now acted) files v
+        → IsCarryingOutActions (stage_with_actions_done intent.now acted) files v
         → OnOk result (HoldsNow (T.history tree.new)
-        (IsActing (acting_stage intent.now (acted + 1)) files))) }
+        (IsCarryingOutActions (stage_with_actions_done intent.now (acted + 1)) files))) }
     ensures reads { IfObservable (T.history tree.old) (λ v. (files : Files)
-        → IsActing (acting_stage intent.now acted) files v
+        → IsCarryingOutActions (stage_with_actions_done intent.now acted) files v
         → Since (RecoversTo files) (T.history tree.old) (T.history tree.new)) }
     ensures bytes { IfObservable (T.history tree.old) (λ v. (files : Files)
-        → IsActing (acting_stage intent.now acted) files v
+        → IsCarryingOutActions (stage_with_actions_done intent.now acted) files v
         → KeepsOldOrNewBytes files v (T.history tree.old) (T.history tree.new)) }
     ensures waiting { IfObservable (T.history tree.old) (λ v.
         Since (KeepsIntent v) (T.history tree.old) (T.history tree.new)) }
     ensures others { IfObservable (T.history tree.old) (λ v.
-        HoldsNow (T.history tree.new) (KeepsFilesExcept (IsOfAction intent.now acted) v)) }
+        HoldsNow (T.history tree.new) (KeepsFilesExcept (IsNameOfNextAction intent.now acted) v)) }
 
     // No count of faults falls; a fault of the tree is returned only if that count rose, and Ok
     // only if it did not.
@@ -148,7 +148,7 @@ fn move_one<T: Tree>(
     // If the intent and the staged files have free paths beside the files of the actions done, no
     // call is a misuse.
     ensures proper { IfObservable (T.history tree.old) (λ v. (files : Files)
-        → IsActing (acting_stage intent.now acted) files v → AreJournalPathsFree files
+        → IsCarryingOutActions (stage_with_actions_done intent.now acted) files v → AreJournalPathsFree files
         → (T.counts tree.new).misuses ≡ (T.counts tree.old).misuses) }
 {
     intent.names_are_free();

@@ -9,13 +9,13 @@ ghost use Rattle.base_core.specs.Faults.{CountsOnlyRise, HasCause, IsNoFault};
 ghost use Rattle.base_core.specs.Files.{Files};
 ghost use Rattle.base_core.specs.Restart.{SinceGivenEarlier};
 ghost use Rattle.base_core.specs.Tree.{CanCreate, CanRename, files_of};
-ghost use Rattle.journal_core.specs.Acting.{acting_stage, full_stage};
-ghost use Rattle.journal_core.specs.Committing.{HasCommittedIntent, IsCommitting, IsReadyToPublish, IsWritten};
+ghost use Rattle.journal_core.specs.Acting.{stage_with_actions_done, fully_staged_stage};
+ghost use Rattle.journal_core.specs.Committing.{HasCommittedIntent, IsCommitting, IsReadyToPublish, HasOnlyAddedFile};
 ghost use Rattle.journal_core.specs.Filling.{synced_file};
-ghost use Rattle.journal_core.specs.Kept.{KeepsFilesExcept, KeepsMapsExcept, NamesAreDurableExcept, RecoversTo};
+ghost use Rattle.journal_core.specs.Kept.{KeepsFilesExcept, KeepsCrashMapsExcept, NamesAreDurableExcept, RecoversTo};
 ghost use Rattle.journal_core.specs.Quiet.{StateIsUnchanged};
-ghost use Rattle.journal_core.specs.Recovery.{Intent, EachCrashLeaves, StateDependsOn, after_actions, intent_name, stage_name};
-ghost use Rattle.journal_core.specs.Staged.{AreStagingPathsFree, IsActing, IsOldUntilCommit, IsStaged, CommittedBy};
+ghost use Rattle.journal_core.specs.Recovery.{Intent, EachCrashLeaves, StateDependsOn, files_after_actions, intent_name, stage_name};
+ghost use Rattle.journal_core.specs.Staged.{AreStagingPathsFree, IsCarryingOutActions, IsOldUntilCommit, IsStaged, CommittedBy};
 
 use crate::calls::{append, create, rename, sync_all_names, sync_file};
 use base_core::{Disk, Name, Tree};
@@ -27,37 +27,37 @@ use journal_intent::PreparedIntent;
 pub(crate) fn publish_intent<T: Tree>(tree: &mut T, intent: &PreparedIntent) -> Result<(), Disk>
     ensures moments { IfObservable (T.history tree.old) (λ v. (ignored : List ℕ → Bool)
         (contents : List (List ℕ)) (base : Files) → IsDurable (StateDependsOn ignored) v
-        → IsStaged (full_stage intent.now) contents None base v
-        → SinceGivenEarlier (IsOldUntilCommit ignored (after_actions intent.now (files_of v)) v)
+        → IsStaged (fully_staged_stage intent.now) contents None base v
+        → SinceGivenEarlier (IsOldUntilCommit ignored (files_after_actions intent.now (files_of v)) v)
         (T.history tree.old) (T.history tree.new)) }
     ensures published { IfObservable (T.history tree.old) (λ v. (ignored : List ℕ → Bool)
         (contents : List (List ℕ)) (base : Files) → IsDurable (StateDependsOn ignored) v
-        → IsStaged (full_stage intent.now) contents None base v → OnOk result
-        (CommittedBy ignored (after_actions intent.now (files_of v)) v (T.history tree.old)
+        → IsStaged (fully_staged_stage intent.now) contents None base v → OnOk result
+        (CommittedBy ignored (files_after_actions intent.now (files_of v)) v (T.history tree.old)
         (T.history tree.new))) }
     ensures settled { IfObservable (T.history tree.old) (λ v. (ignored : List ℕ → Bool)
         (contents : List (List ℕ)) (base : Files) → IsDurable (StateDependsOn ignored) v
-        → IsStaged (full_stage intent.now) contents None base v
+        → IsStaged (fully_staged_stage intent.now) contents None base v
         → OnOk result (HoldsNow (T.history tree.new)
-        (EachCrashLeaves ignored (after_actions intent.now (files_of v))))) }
+        (EachCrashLeaves ignored (files_after_actions intent.now (files_of v))))) }
     ensures acting { IfObservable (T.history tree.old) (λ v. (contents : List (List ℕ))
-        (base : Files) → IsStaged (full_stage intent.now) contents None base v
+        (base : Files) → IsStaged (fully_staged_stage intent.now) contents None base v
         → OnOk result (HoldsNow (T.history tree.new)
-        (IsActing (acting_stage intent.now 0) (after_actions intent.now (files_of v))))) }
+        (IsCarryingOutActions (stage_with_actions_done intent.now 0) (files_after_actions intent.now (files_of v))))) }
     ensures last { IfObservable (T.history tree.old) (λ v. v.names intent_name ≡ None
         → Since (λ w. IsSome (w.names intent_name)
         → NamesAreDurableExcept (intent_name ∷ stage_name 0 ∷ []) w)
         (T.history tree.old) (T.history tree.new)) }
     ensures reads { IfObservable (T.history tree.old) (λ v. (contents : List (List ℕ))
-        (base : Files) → IsStaged (full_stage intent.now) contents None base v
+        (base : Files) → IsStaged (fully_staged_stage intent.now) contents None base v
         → Since (λ w. IsSome (w.names intent_name)
-        → RecoversTo (after_actions intent.now (files_of v)) w)
+        → RecoversTo (files_after_actions intent.now (files_of v)) w)
         (T.history tree.old) (T.history tree.new)) }
     ensures others { IfObservable (T.history tree.old) (λ v.
         Since (KeepsFilesExcept (λ q. (q ≡ intent_name) ⊎ (q ≡ stage_name 0)) v)
         (T.history tree.old) (T.history tree.new)) }
     ensures maps { IfObservable (T.history tree.old) (λ v.
-        Since (KeepsMapsExcept (intent_name ∷ stage_name 0 ∷ []) v)
+        Since (KeepsCrashMapsExcept (intent_name ∷ stage_name 0 ∷ []) v)
         (T.history tree.old) (T.history tree.new)) }
     ensures only_intent { IfObservable (T.history tree.old) (λ v. OnOk result
         (HoldsNow (T.history tree.new) (KeepsFilesExcept (λ q. q ≡ intent_name) v))) }
@@ -70,7 +70,7 @@ pub(crate) fn publish_intent<T: Tree>(tree: &mut T, intent: &PreparedIntent) -> 
 
     // If the paths of the stage are free, no call is a misuse.
     ensures proper { IfObservable (T.history tree.old) (λ v. (contents : List (List ℕ))
-        (base : Files) → IsStaged (full_stage intent.now) contents None base v
+        (base : Files) → IsStaged (fully_staged_stage intent.now) contents None base v
         → AreStagingPathsFree base → (T.counts tree.new).misuses ≡ (T.counts tree.old).misuses) }
 {
     // A law that the proof needs; it computes nothing.
@@ -88,13 +88,13 @@ fn write_waiting<T: Tree>(tree: &mut T, place: &Name, bytes: &[u8]) -> Result<()
         → Since (StateIsUnchanged ignored v) (T.history tree.old) (T.history tree.new)) }
     ensures written { IfObservable (T.history tree.old) (λ v. files_of v intent_name ≡ None
         → OnOk result (HoldsNow (T.history tree.new)
-        (IsWritten place.now (synced_file bytes.now) v))) }
+        (HasOnlyAddedFile place.now (synced_file bytes.now) v))) }
     ensures unread { IfObservable (T.history tree.old) (λ v. v.names intent_name ≡ None
         → Since (λ w. w.names intent_name ≡ None) (T.history tree.old) (T.history tree.new)) }
     ensures others { IfObservable (T.history tree.old) (λ v.
         Since (KeepsFilesExcept (λ q. q ≡ place.now) v) (T.history tree.old) (T.history tree.new)) }
     ensures maps { IfObservable (T.history tree.old) (λ v.
-        Since (KeepsMapsExcept (stage_name 0 ∷ []) v) (T.history tree.old) (T.history tree.new)) }
+        Since (KeepsCrashMapsExcept (stage_name 0 ∷ []) v) (T.history tree.old) (T.history tree.new)) }
     ensures absent { OnOk result
         (IfObservable (T.history tree.old) (λ v. v.names place.now ≡ None)) }
 
@@ -122,27 +122,27 @@ fn enter<T: Tree>(tree: &mut T, place: &Name, name: &Name) -> Result<(), Disk>
     ensures moments { IfObservable (T.history tree.old) (λ v. (ignored : List ℕ → Bool)
         (intent : Intent) (base : Files) (made : ℕ) → IsDurable (StateDependsOn ignored) v
         → IsReadyToPublish intent base made v
-        → Since (IsCommitting ignored (after_actions intent base) made v) (T.history tree.old)
+        → Since (IsCommitting ignored (files_after_actions intent base) made v) (T.history tree.old)
         (T.history tree.new)) }
     ensures entered { IfObservable (T.history tree.old) (λ v. (ignored : List ℕ → Bool)
         (intent : Intent) (base : Files) (made : ℕ) → IsDurable (StateDependsOn ignored) v
         → IsReadyToPublish intent base made v → OnOk result (HoldsNow (T.history tree.new)
-        (HasCommittedIntent ignored (after_actions intent base) made))) }
+        (HasCommittedIntent ignored (files_after_actions intent base) made))) }
     ensures acting { IfObservable (T.history tree.old) (λ v. (intent : Intent) (base : Files)
         (made : ℕ) → IsReadyToPublish intent base made v → OnOk result (HoldsNow (T.history tree.new)
-        (IsActing (acting_stage intent 0) (after_actions intent base)))) }
+        (IsCarryingOutActions (stage_with_actions_done intent 0) (files_after_actions intent base)))) }
     ensures last { IfObservable (T.history tree.old) (λ v. v.names intent_name ≡ None
         → Since (λ w. IsSome (w.names intent_name)
         → NamesAreDurableExcept (intent_name ∷ stage_name 0 ∷ []) w)
         (T.history tree.old) (T.history tree.new)) }
     ensures reads { IfObservable (T.history tree.old) (λ v. (intent : Intent) (base : Files)
         (made : ℕ) → IsReadyToPublish intent base made v → Since (λ w. IsSome (w.names intent_name)
-        → RecoversTo (after_actions intent base) w) (T.history tree.old) (T.history tree.new)) }
+        → RecoversTo (files_after_actions intent base) w) (T.history tree.old) (T.history tree.new)) }
     ensures others { IfObservable (T.history tree.old) (λ v.
         Since (KeepsFilesExcept (λ q. (q ≡ intent_name) ⊎ (q ≡ stage_name 0)) v)
         (T.history tree.old) (T.history tree.new)) }
     ensures maps { IfObservable (T.history tree.old) (λ v.
-        Since (KeepsMapsExcept (intent_name ∷ stage_name 0 ∷ []) v)
+        Since (KeepsCrashMapsExcept (intent_name ∷ stage_name 0 ∷ []) v)
         (T.history tree.old) (T.history tree.new)) }
     ensures moved { OnOk result
         (IfObservable (T.history tree.new) (λ w. w.names (stage_name 0) ≡ None)) }

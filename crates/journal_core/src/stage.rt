@@ -12,11 +12,11 @@ ghost use Rattle.base_core.specs.Files.{Files};
 ghost use Rattle.base_core.specs.Restart.{SinceGivenEarlier};
 ghost use Rattle.base_core.specs.Tree.{files_of};
 ghost use Rattle.base_core.specs.declared.cause.Cause.{Cause};
-ghost use Rattle.journal_core.specs.Acting.{IsNextName};
-ghost use Rattle.journal_core.specs.Kept.{IsInNoMap, JournalOnlyShrinks, IsOfAction, KeepsFilesExcept, KeepsIntent, KeepsMapsExcept, KeepsOldOrNewBytes, NamesAreDurableExcept, RecoversTo};
+ghost use Rattle.journal_core.specs.Acting.{IsNextStagedName};
+ghost use Rattle.journal_core.specs.Kept.{IsRestoredByNoCrash, JournalOnlyShrinks, IsNameOfNextAction, KeepsFilesExcept, KeepsIntent, KeepsCrashMapsExcept, KeepsOldOrNewBytes, NamesAreDurableExcept, RecoversTo};
 ghost use Rattle.journal_core.specs.Quiet.{StateIsUnchanged};
-ghost use Rattle.journal_core.specs.Recovery.{EachCrashLeaves, StateDependsOn, after_actions, intent_name, read_intent, stage_name};
-ghost use Rattle.journal_core.specs.Staged.{Staging, AreJournalPathsFree, AreStagingPathsFree, IsActing, IsOnlyNameOfFile, IsOldUntilCommit, IsStaged, CommittedBy, action_count, new_stage};
+ghost use Rattle.journal_core.specs.Recovery.{EachCrashLeaves, StateDependsOn, files_after_actions, intent_name, read_intent, stage_name};
+ghost use Rattle.journal_core.specs.Staged.{Staging, AreJournalPathsFree, AreStagingPathsFree, IsCarryingOutActions, IsOnlyNameOfFile, IsOldUntilCommit, IsStaged, CommittedBy, action_count, new_stage};
 ghost use Rattle.journal_intent.specs.FreeNames.{HasFreeNames};
 ghost use Rattle.journal_intent.specs.Intent.{AreChangeNames};
 ghost use Rattle.journal_intent.specs.IntentValue.{intent_of_lists, value_of_intent};
@@ -158,7 +158,7 @@ impl Stage {
     /// The name of the next write's staged file: the writes are numbered from 1.
     fn next_name(&self) -> &Name
         requires { self.now.staged < length self.now.intent.writes }
-        ensures { IsNextName result.now self.now }
+        ensures { IsNextStagedName result.now self.now }
     {
         // A law that the proof needs; it computes nothing.
         self.intent.names_are_free();
@@ -168,7 +168,7 @@ impl Stage {
     /// The name of the staged file that is begun.
     fn open_name(&self) -> &Name
         requires { self.now.is_open ≡ true }
-        ensures { IsNextName result.now self.now }
+        ensures { IsNextStagedName result.now self.now }
     {
         // A law that the proof needs; it computes nothing.
         self.intent.names_are_free();
@@ -184,11 +184,11 @@ impl Stage {
         ensures staged { IfObservable (T.history tree.old) (λ v. (contents : List (List ℕ))
             (base : Files) → IsStaged self.now contents None base v
             → OnOk result (HoldsNow (T.history tree.new)
-            (λ w. IsStaged self.now contents None base w × IsInNoMap intent_name w))) }
+            (λ w. IsStaged self.now contents None base w × IsRestoredByNoCrash intent_name w))) }
         ensures reads { IfObservable (T.history tree.old) (λ v.
             Since (λ w. files_of w ≡ files_of v) (T.history tree.old) (T.history tree.new)) }
         ensures maps { IfObservable (T.history tree.old) (λ v.
-            Since (KeepsMapsExcept [] v) (T.history tree.old) (T.history tree.new)) }
+            Since (KeepsCrashMapsExcept [] v) (T.history tree.old) (T.history tree.new)) }
 
         // No count of faults falls; a fault of the tree is returned only if that count rose, and
         // Ok only if it did not.
@@ -228,7 +228,7 @@ impl Stage {
             Since (KeepsFilesExcept (λ q. q ≡ stage_name (self.old.staged + 1)) v)
             (T.history tree.old) (T.history tree.new)) }
         ensures maps { IfObservable (T.history tree.old) (λ v.
-            Since (KeepsMapsExcept (stage_name (self.old.staged + 1) ∷ []) v)
+            Since (KeepsCrashMapsExcept (stage_name (self.old.staged + 1) ∷ []) v)
             (T.history tree.old) (T.history tree.new)) }
         ensures view { OnOk result (self.new ≡ record self.old { is_open = true }) }
         ensures err { OnErr result (self.new ≡ self.old) }
@@ -272,7 +272,7 @@ impl Stage {
             → Since (KeepsFilesExcept (λ q. q ≡ stage_name (self.old.staged + 1)) v)
             (T.history tree.old) (T.history tree.new)) }
         ensures maps { IfObservable (T.history tree.old) (λ v.
-            Since (KeepsMapsExcept [] v) (T.history tree.old) (T.history tree.new)) }
+            Since (KeepsCrashMapsExcept [] v) (T.history tree.old) (T.history tree.new)) }
         ensures view { OnOk result (self.new ≡ self.old) }
         ensures err { OnErr result (self.new ≡ self.old) }
 
@@ -310,7 +310,7 @@ impl Stage {
         ensures others { IfObservable (T.history tree.old) (λ v.
             Since (λ w. files_of w ≡ files_of v) (T.history tree.old) (T.history tree.new)) }
         ensures maps { IfObservable (T.history tree.old) (λ v.
-            Since (KeepsMapsExcept [] v) (T.history tree.old) (T.history tree.new)) }
+            Since (KeepsCrashMapsExcept [] v) (T.history tree.old) (T.history tree.new)) }
         ensures view { OnOk result
             (self.new ≡ record self.old { staged = self.old.staged + 1; is_open = false }) }
         ensures err { OnErr result (self.new ≡ self.old) }
@@ -344,23 +344,23 @@ impl Stage {
             (contents : List (List ℕ)) (base : Files) → IsDurable (StateDependsOn ignored) v
             → IsStaged self.old contents None base v
             → SinceGivenEarlier
-            (IsOldUntilCommit ignored (after_actions self.old.intent (files_of v)) v)
+            (IsOldUntilCommit ignored (files_after_actions self.old.intent (files_of v)) v)
             (T.history tree.old) (T.history tree.new)) }
         ensures published { IfObservable (T.history tree.old) (λ v. (ignored : List ℕ → Bool)
             (contents : List (List ℕ)) (base : Files) → IsDurable (StateDependsOn ignored) v
             → IsStaged self.old contents None base v → OnOk result (CommittedBy ignored
-            (after_actions self.old.intent (files_of v)) v
+            (files_after_actions self.old.intent (files_of v)) v
             (T.history tree.old) (T.history tree.new))) }
 
         // Once it has returned Ok, each crash leaves the state of the actions done.
         ensures settled { IfObservable (T.history tree.old) (λ v. (ignored : List ℕ → Bool)
             (contents : List (List ℕ)) (base : Files) → IsDurable (StateDependsOn ignored) v
             → IsStaged self.old contents None base v → OnOk result (HoldsNow (T.history tree.new)
-            (EachCrashLeaves ignored (after_actions self.old.intent (files_of v))))) }
+            (EachCrashLeaves ignored (files_after_actions self.old.intent (files_of v))))) }
         ensures acting { IfObservable (T.history tree.old) (λ v. (contents : List (List ℕ))
             (base : Files) → IsStaged self.old contents None base v
             → OnOk result (HoldsNow (T.history tree.new)
-            (IsActing self.new (after_actions self.old.intent (files_of v))))) }
+            (IsCarryingOutActions self.new (files_after_actions self.old.intent (files_of v))))) }
 
         // As soon as the intent is read, every other change of names is durable.
         ensures last { IfObservable (T.history tree.old) (λ v. v.names intent_name ≡ None
@@ -373,7 +373,7 @@ impl Stage {
         ensures reads { IfObservable (T.history tree.old) (λ v. (contents : List (List ℕ))
             (base : Files) → IsStaged self.old contents None base v
             → Since (λ w. IsSome (w.names intent_name)
-            → RecoversTo (after_actions self.old.intent (files_of v)) w)
+            → RecoversTo (files_after_actions self.old.intent (files_of v)) w)
             (T.history tree.old) (T.history tree.new)) }
 
         // At each moment, whatever it returns, the files as read are unchanged under every name
@@ -383,7 +383,7 @@ impl Stage {
             Since (KeepsFilesExcept (λ q. (q ≡ intent_name) ⊎ (q ≡ stage_name 0)) v)
             (T.history tree.old) (T.history tree.new)) }
         ensures maps { IfObservable (T.history tree.old) (λ v.
-            Since (KeepsMapsExcept (intent_name ∷ stage_name 0 ∷ []) v)
+            Since (KeepsCrashMapsExcept (intent_name ∷ stage_name 0 ∷ []) v)
             (T.history tree.old) (T.history tree.new)) }
         ensures only_intent { IfObservable (T.history tree.old) (λ v. OnOk result
             (HoldsNow (T.history tree.new) (KeepsFilesExcept (λ q. q ≡ intent_name) v))) }
@@ -414,21 +414,21 @@ impl Stage {
         // From a durable tree on, each moment is durable, and the state is unchanged. Once it has
         // returned Ok, the stage's count of actions done is true of the tree.
         ensures moments { IfObservable (T.history tree.old) (λ v. (ignored : List ℕ → Bool)
-            (files : Files) → IsDurable (StateDependsOn ignored) v → IsActing self.old files v
+            (files : Files) → IsDurable (StateDependsOn ignored) v → IsCarryingOutActions self.old files v
             → Since (StateIsUnchanged ignored v) (T.history tree.old) (T.history tree.new)) }
         ensures acting { IfObservable (T.history tree.old) (λ v. (files : Files)
-            → IsActing self.old files v
-            → OnOk result (HoldsNow (T.history tree.new) (IsActing self.new files))) }
+            → IsCarryingOutActions self.old files v
+            → OnOk result (HoldsNow (T.history tree.new) (IsCarryingOutActions self.new files))) }
 
         // Whether the tree is durable or not, recovery of the files as read yields the same at each
         // moment.
         ensures reads { IfObservable (T.history tree.old) (λ v. (files : Files)
-            → IsActing self.old files v
+            → IsCarryingOutActions self.old files v
             → Since (RecoversTo files) (T.history tree.old) (T.history tree.new)) }
 
         // At each moment a name outside the staging area has its old bytes or its new ones.
         ensures bytes { IfObservable (T.history tree.old) (λ v. (files : Files)
-            → IsActing self.old files v
+            → IsCarryingOutActions self.old files v
             → KeepsOldOrNewBytes files v (T.history tree.old) (T.history tree.new)) }
 
         // At each moment the intent is unchanged, and each staged file is unchanged or gone.
@@ -437,7 +437,7 @@ impl Stage {
 
         // Whatever it returns, it changes only the names of its action.
         ensures others { IfObservable (T.history tree.old) (λ v. HoldsNow (T.history tree.new)
-            (KeepsFilesExcept (IsOfAction self.old.intent self.old.acted) v)) }
+            (KeepsFilesExcept (IsNameOfNextAction self.old.intent self.old.acted) v)) }
 
         // True is returned exactly if an action was left, which then counts as done; if none was
         // left, no call is made. A call that fails leaves the stage as it was.
@@ -458,7 +458,7 @@ impl Stage {
         // If the intent and the staged files have free paths beside the files of the actions done,
         // no call is a misuse.
         ensures proper { IfObservable (T.history tree.old) (λ v. (files : Files)
-            → IsActing self.old files v → AreJournalPathsFree files
+            → IsCarryingOutActions self.old files v → AreJournalPathsFree files
             → (T.counts tree.new).misuses ≡ (T.counts tree.old).misuses) }
     {
         let acted = act(&self.intent, self.acted, tree)?;
@@ -476,19 +476,19 @@ impl Stage {
         // returned Ok, each crash leaves the state of the actions done, the files as read are
         // these, and no intent is read.
         ensures moments { IfObservable (T.history tree.old) (λ v. (ignored : List ℕ → Bool)
-            (files : Files) → IsDurable (StateDependsOn ignored) v → IsActing self.old files v
+            (files : Files) → IsDurable (StateDependsOn ignored) v → IsCarryingOutActions self.old files v
             → Since (StateIsUnchanged ignored v) (T.history tree.old) (T.history tree.new)) }
         ensures settled { IfObservable (T.history tree.old) (λ v. (ignored : List ℕ → Bool)
-            (files : Files) → IsDurable (StateDependsOn ignored) v → IsActing self.old files v
+            (files : Files) → IsDurable (StateDependsOn ignored) v → IsCarryingOutActions self.old files v
             → OnOk result (HoldsNow (T.history tree.new) (EachCrashLeaves ignored files))) }
         ensures files { IfObservable (T.history tree.old) (λ v. (files : Files)
-            → IsActing self.old files v → OnOk result (HoldsNow (T.history tree.new)
+            → IsCarryingOutActions self.old files v → OnOk result (HoldsNow (T.history tree.new)
             (λ w. (files_of w ≡ files) × (w.names intent_name ≡ None)))) }
 
         // Whether the tree is durable or not, recovery of the files as read yields the same at each
         // moment.
         ensures reads { IfObservable (T.history tree.old) (λ v. (files : Files)
-            → IsActing self.old files v
+            → IsCarryingOutActions self.old files v
             → Since (RecoversTo files) (T.history tree.old) (T.history tree.new)) }
 
         // As soon as no intent is read, every other change of names is durable; and once it has
@@ -496,7 +496,7 @@ impl Stage {
         ensures last { IfObservable (T.history tree.old) (λ v. IsSome (v.names intent_name)
             → Since (λ w. w.names intent_name ≡ None → NamesAreDurableExcept (intent_name ∷ []) w)
             (T.history tree.old) (T.history tree.new)) }
-        ensures gone { OnOk result (IfObservable (T.history tree.new) (IsInNoMap intent_name)) }
+        ensures gone { OnOk result (IfObservable (T.history tree.new) (IsRestoredByNoCrash intent_name)) }
 
         // At each moment the intent and the staged files are unchanged or gone, and no other name
         // has changed; the stage is unchanged, whatever it returns.
@@ -531,16 +531,16 @@ pub fn apply_all<T: Tree>(stage: &mut Stage, tree: &mut T) -> Result<(), Disk>
     requires published { stage.old.published ≡ true }
     requires within { stage.old.acted ≤ action_count stage.old.intent }
     ensures moments { IfObservable (T.history tree.old) (λ v. (ignored : List ℕ
-        → Bool) (files : Files) → IsDurable (StateDependsOn ignored) v → IsActing stage.old files v
+        → Bool) (files : Files) → IsDurable (StateDependsOn ignored) v → IsCarryingOutActions stage.old files v
         → Since (StateIsUnchanged ignored v) (T.history tree.old) (T.history tree.new)) }
     ensures acting { IfObservable (T.history tree.old) (λ v. (files : Files)
-        → IsActing stage.old files v
-        → OnOk result (HoldsNow (T.history tree.new) (IsActing stage.new files))) }
+        → IsCarryingOutActions stage.old files v
+        → OnOk result (HoldsNow (T.history tree.new) (IsCarryingOutActions stage.new files))) }
     ensures reads { IfObservable (T.history tree.old) (λ v. (files : Files)
-        → IsActing stage.old files v
+        → IsCarryingOutActions stage.old files v
         → Since (RecoversTo files) (T.history tree.old) (T.history tree.new)) }
     ensures bytes { IfObservable (T.history tree.old) (λ v. (files : Files)
-        → IsActing stage.old files v
+        → IsCarryingOutActions stage.old files v
         → KeepsOldOrNewBytes files v (T.history tree.old) (T.history tree.new)) }
     ensures waiting { IfObservable (T.history tree.old) (λ v.
         Since (KeepsIntent v) (T.history tree.old) (T.history tree.new)) }
@@ -556,7 +556,7 @@ pub fn apply_all<T: Tree>(stage: &mut Stage, tree: &mut T) -> Result<(), Disk>
     // If the intent and the staged files have free paths beside the files of the actions done, no
     // call is a misuse.
     ensures proper { IfObservable (T.history tree.old) (λ v. (files : Files)
-        → IsActing stage.old files v → AreJournalPathsFree files
+        → IsCarryingOutActions stage.old files v → AreJournalPathsFree files
         → (T.counts tree.new).misuses ≡ (T.counts tree.old).misuses) }
 {
     while stage.has_more() {

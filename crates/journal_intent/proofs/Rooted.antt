@@ -4,7 +4,7 @@ use Rattle.adb_view.specs.Plain.{Plain, none, more, arr_value, obj_value, text_p
 use Rattle.adb_values.specs.Drafts.{DraftState, empty_draft, draft_with_open_list, draft_with}
 use Rattle.adb_values.specs.Written.{IsWrittenAs}
 use Rattle.adb_values.proofs.Lists.{Closes}
-use Rattle.adb_sound.specs.adb_write.Canonical.{PayloadCounts, canonical, overflow_of, or_overflow, written_of}
+use Rattle.adb_sound.specs.adb_write.Canonical.{PayloadCounts, canonical, overflow_of, or_overflow, payload_or_overflow}
 use Rattle.adb_sound.specs.adb_write.declared.writer.WriteFault.{WriteFault}
 use Rattle.adb_sound.specs.adb_write.declared.writer.WriteFault.TheVariants.{TooLarge}
 use Rattle.journal_intent.specs.Intent.{Intent}
@@ -17,16 +17,16 @@ intent_given intent a b c d e start opened first second last =
     let chain : d ≡ draft_with (arr_value (text_plains intent.writes)) (draft_with (arr_value (text_plains intent.removals)) (draft_with_open_list a)) = cc in
     last (more (arr_value (text_plains intent.removals)) (more (arr_value (text_plains intent.writes)) none)) a chain ∙ ap (λ (x : DraftState). draft_with (value_of_intent intent) x) start
 
-pub payload_fits : (v : Plain) (payload : List ℕ) → written_of v ≡ Ok payload → (overflow_of v ≡ None) × (payload ≡ canonical v)
-unfolding written_of
+pub payload_fits : (v : Plain) (payload : List ℕ) → payload_or_overflow v ≡ Ok payload → (overflow_of v ≡ None) × (payload ≡ canonical v)
+unfolding payload_or_overflow
 payload_fits v payload is = by (overflow_of v) refl
   where
     by : (o : Option PayloadCounts) → overflow_of v ≡ o → (overflow_of v ≡ None) × (payload ≡ canonical v)
     by None e = (e, let same = sym is ∙ ap (or_overflow (canonical v)) e in cc)
     by (Some counts) e = absurd (let other = sym is ∙ ap (or_overflow (canonical v)) e in cc)
 
-pub payload_large : (v : Plain) (counts : PayloadCounts) → written_of v ≡ Err counts → overflow_of v ≡ Some counts
-unfolding written_of
+pub payload_large : (v : Plain) (counts : PayloadCounts) → payload_or_overflow v ≡ Err counts → overflow_of v ≡ Some counts
+unfolding payload_or_overflow
 payload_large v counts is = by (overflow_of v) refl
   where
     by : (o : Option PayloadCounts) → overflow_of v ≡ o → overflow_of v ≡ Some counts

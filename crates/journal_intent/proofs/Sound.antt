@@ -12,16 +12,16 @@ use Rattle.adb_view.specs.declared.tables.Which.TheVariants.{Intent as Table, Pa
 use Rattle.adb_sound.specs.adb_write.Canonical.{canonical, empty_layout, write, MOST_BYTES}
 use Rattle.adb_sound.specs.adb_write.File.{adb_piece, file_of}
 use Rattle.adb_sound.specs.adb_write.Size.{size_of}
-use Rattle.adb_sound.specs.pkg_core.Whole.{container_fault, fault_by_header, whole_fault}
-use Rattle.journal_intent.specs.Intent.{intent_in, intent_unless, read_intent}
+use Rattle.adb_sound.specs.pkg_core.Whole.{container_fault, container_fault_after_header, container_fault_of_table}
+use Rattle.journal_intent.specs.Intent.{intent_of_value, intent_unless_fault, read_intent}
 
 pub not_package : Table ≢ Package
 not_package e = cc
 
 -- with the schema of an intent all tests of a container are those of one
 whole_is_first : (file : List ℕ) → header_of file ≡ Ok INTENT_WORD → container_fault file ≡ None → first_fault Table file ≡ None
-unfolding container_fault whole_fault first_fault
-whole_is_first file header sound = sym (ap (fault_by_header file) header) ∙ sound
+unfolding container_fault container_fault_of_table first_fault
+whole_is_first file header sound = sym (ap (container_fault_after_header file) header) ∙ sound
 
 pub header_is : ((schema : ℕ) (payload : List ℕ) → schema < 2 ^ 32 → 8 ≤ length payload → length payload ≤ MOST_BYTES → Spells (file_of schema payload) schema (adb_piece payload ∷ []))
     → ((file : List ℕ) (schema : ℕ) (pieces : List Piece) → Spells file schema pieces → (header_of file ≡ Ok schema) × (blocks_of file ≡ Ok pieces))
@@ -31,8 +31,8 @@ header_is spelled read v fits =
     (spelled INTENT_WORD (canonical v) (lit< tt) (payload_long (write v empty_layout).0 (write v empty_layout).1) fits)).0
 
 pub intent_read : (v : Plain) → header_of (file_of INTENT_WORD (canonical v)) ≡ Ok INTENT_WORD → container_fault (file_of INTENT_WORD (canonical v)) ≡ None
-    → root_value Table (payload_in (file_of INTENT_WORD (canonical v))) ≡ v → read_intent (file_of INTENT_WORD (canonical v)) ≡ Some (intent_in v)
+    → root_value Table (payload_in (file_of INTENT_WORD (canonical v))) ≡ v → read_intent (file_of INTENT_WORD (canonical v)) ≡ Some (intent_of_value v)
 unfolding read_intent
 intent_read v header sound back =
-    ap (λ o. intent_unless o (root_value Table (payload_in (file_of INTENT_WORD (canonical v))))) (whole_is_first (file_of INTENT_WORD (canonical v)) header sound)
-    ∙ ap (λ (u : Plain). Some (intent_in u)) back
+    ap (λ o. intent_unless_fault o (root_value Table (payload_in (file_of INTENT_WORD (canonical v))))) (whole_is_first (file_of INTENT_WORD (canonical v)) header sound)
+    ∙ ap (λ (u : Plain). Some (intent_of_value u)) back

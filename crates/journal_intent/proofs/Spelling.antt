@@ -10,8 +10,8 @@ use Rattle.adb_view.specs.Shaped.{Each, IsBlob, HasShape}
 use Rattle.adb_sound.specs.adb_fields.FirstPair.{IsIn}
 use Rattle.adb_sound.specs.adb_fields.Once.{AreDistinctNames, HasNoRepeatedName}
 use Rattle.adb_sound.specs.adb_fields.Repeated.{list_of}
-use Rattle.adb_sound.specs.adb_schema.Rules.{is_change_name}
-use Rattle.adb_sound.specs.adb_schema.SoundValues.{IsChangeName, KeepsRules}
+use Rattle.adb_sound.specs.adb_schema.Rules.{is_changeable_name}
+use Rattle.adb_sound.specs.adb_schema.SoundValues.{IsChangeableName, KeepsRules}
 use Rattle.adb_view.specs.Schema.{shape_of}
 use Rattle.adb_view.specs.Values.{text_in}
 use Rattle.adb_view.specs.declared.tables.Which.TheVariants as Tables
@@ -19,7 +19,7 @@ use Rattle.adb_view.specs.declared.tables.Kind.TheVariants as Kinds
 use Rattle.adb_view.proofs.ValueEntries.{text_blob}
 use Rattle.adb_view.proofs.Normal.{blob_value_normal}
 use Rattle.adb_sound.specs.adb_write.Size.{entries_of, value_count}
-use Rattle.journal_intent.specs.Intent.{AreChangeNames, Intent, intent_in}
+use Rattle.journal_intent.specs.Intent.{AreChangeNames, Intent, intent_of_value}
 use Rattle.journal_intent.specs.IntentValue.{intent_of_lists, value_of_intent}
 
 -- ---- it is read back
@@ -28,7 +28,7 @@ texts_back : (names : List (List ℕ)) → map text_in (list_of (text_plains nam
 texts_back [] = refl
 texts_back (n ∷ ns) = (λ i. text_blob n i ∷ map text_in (list_of (text_plains ns))) ∙ ap (λ (l : List (List ℕ)). n ∷ l) (texts_back ns)
 
-pub value_back : (removals writes : List (List ℕ)) → intent_in (value_of_intent (intent_of_lists removals writes)) ≡ intent_of_lists removals writes
+pub value_back : (removals writes : List (List ℕ)) → intent_of_value (value_of_intent (intent_of_lists removals writes)) ≡ intent_of_lists removals writes
 value_back [] [] = refl
 value_back (r ∷ rs) [] = λ i. record { removals = texts_back (r ∷ rs) i; writes = [] }
 value_back [] (w ∷ ws) = λ i. record { removals = []; writes = texts_back (w ∷ ws) i }
@@ -75,17 +75,17 @@ value_shape (r ∷ rs) (w ∷ ws) = (texts_shape (r ∷ rs), (texts_shape (w ∷
 
 -- ---- its texts keep their rules
 
-each_change : (names : List (List ℕ)) → All (λ name. is_change_name name ≡ true) names → Each IsChangeName (text_plains names)
+each_change : (names : List (List ℕ)) → All (λ name. is_changeable_name name ≡ true) names → Each IsChangeableName (text_plains names)
 each_change [] all = tt
-each_change (n ∷ ns) all = (ap is_change_name (text_blob n) ∙ All-head (λ name. is_change_name name ≡ true) n ns all, each_change ns (All-tail (λ name. is_change_name name ≡ true) n ns all))
+each_change (n ∷ ns) all = (ap is_changeable_name (text_blob n) ∙ All-head (λ name. is_changeable_name name ≡ true) n ns all, each_change ns (All-tail (λ name. is_changeable_name name ≡ true) n ns all))
 
-each_left : (xs ys : List (List ℕ)) → All (λ name. is_change_name name ≡ true) (xs ++ ys) → Each IsChangeName (text_plains xs)
+each_left : (xs ys : List (List ℕ)) → All (λ name. is_changeable_name name ≡ true) (xs ++ ys) → Each IsChangeableName (text_plains xs)
 each_left [] ys all = tt
-each_left (x ∷ xs) ys all = (ap is_change_name (text_blob x) ∙ All-head (λ name. is_change_name name ≡ true) x (xs ++ ys) all, each_left xs ys (All-tail (λ name. is_change_name name ≡ true) x (xs ++ ys) all))
+each_left (x ∷ xs) ys all = (ap is_changeable_name (text_blob x) ∙ All-head (λ name. is_changeable_name name ≡ true) x (xs ++ ys) all, each_left xs ys (All-tail (λ name. is_changeable_name name ≡ true) x (xs ++ ys) all))
 
-each_right : (xs ys : List (List ℕ)) → All (λ name. is_change_name name ≡ true) (xs ++ ys) → Each IsChangeName (text_plains ys)
+each_right : (xs ys : List (List ℕ)) → All (λ name. is_changeable_name name ≡ true) (xs ++ ys) → Each IsChangeableName (text_plains ys)
 each_right [] ys all = each_change ys all
-each_right (x ∷ xs) ys all = each_right xs ys (All-tail (λ name. is_change_name name ≡ true) x (xs ++ ys) all)
+each_right (x ∷ xs) ys all = each_right xs ys (All-tail (λ name. is_changeable_name name ≡ true) x (xs ++ ys) all)
 
 pub value_rules : (removals writes : List (List ℕ)) → AreChangeNames (removals ++ writes) → KeepsRules Tables.Intent (value_of_intent (intent_of_lists removals writes))
 value_rules [] [] names = record { removals = tt; writes = tt }

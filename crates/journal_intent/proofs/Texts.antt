@@ -6,14 +6,14 @@ use Rattle.adb_view.specs.Plain.{Plain, Plains, none, more, blob_or_null}
 use Rattle.adb_sound.specs.adb_fields.Repeated.{list_of}
 use Rattle.adb_view.specs.Values.{count_of, nth, text_in}
 use Rattle.adb_view.proofs.ValueEntries.{text_blob}
-use Rattle.journal_intent.specs.FreeNames.{AllNamed}
+use Rattle.journal_intent.specs.FreeNames.{AllAreNames}
 
-named_at : (vs : Plains) (i : ℕ) → i < count_of vs → AllNamed vs → is_name (text_in (nth vs i)) ≡ true
+named_at : (vs : Plains) (i : ℕ) → i < count_of vs → AllAreNames vs → is_name (text_in (nth vs i)) ≡ true
 named_at none i below all = absurd (omega (arith, below))
 named_at (more v vs) zero below all = all.0
 named_at (more v vs) (suc i) below all = named_at vs i (omega (arith, below)) all.1
 
-pub text_named : (vs : Plains) (i : ℕ) (bytes : List ℕ) → i < count_of vs → AllNamed vs → blob_or_null bytes ≡ nth vs i → is_name bytes ≡ true
+pub text_named : (vs : Plains) (i : ℕ) (bytes : List ℕ) → i < count_of vs → AllAreNames vs → blob_or_null bytes ≡ nth vs i → is_name bytes ≡ true
 text_named vs i bytes below all is = subst (λ (b : List ℕ). is_name b ≡ true) (sym (ap text_in is) ∙ text_blob bytes) (named_at vs i below all)
 
 take_texts : (vs : Plains) (i : ℕ) → i < count_of vs → take (i + 1) (map text_in (list_of vs)) ≡ take i (map text_in (list_of vs)) ++ text_in (nth vs i) ∷ []

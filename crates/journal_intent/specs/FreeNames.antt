@@ -51,6 +51,6 @@ stage_names_from k zero = []
 stage_names_from k (suc n) = stage_name k ∷ stage_names_from (k + 1) n
 
 -- each of these values is a text that is a name
-abbrev pub AllNamed : Plains → Type 0
-AllNamed none = Unit {0}
-AllNamed (more v vs) = IsName (text_in v) × AllNamed vs
+abbrev pub AllAreNames : Plains → Type 0
+AllAreNames none = Unit {0}
+AllAreNames (more v vs) = IsName (text_in v) × AllAreNames vs

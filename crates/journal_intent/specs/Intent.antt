@@ -8,7 +8,7 @@ use Rattle.std.specs.List.{starts_with, All}
 use Rattle.base_core.specs.declared.cause.Cause.{Cause}
 use Rattle.adb_view.specs.Plain.{Plain}
 use Rattle.adb_sound.specs.adb_fields.Repeated.{entries_at}
-use Rattle.adb_sound.specs.adb_schema.Rules.{is_change_name}
+use Rattle.adb_sound.specs.adb_schema.Rules.{is_changeable_name}
 use Rattle.adb_sound.specs.adb_schema.Soundness.{first_fault, payload_in, root_value}
 use Rattle.adb_view.specs.FieldIndexes.{INTENT_REMOVALS, INTENT_WRITES}
 use Rattle.adb_view.specs.Values.{text_in}
@@ -41,24 +41,24 @@ pub record Intent : Type 0 where
   pub writes : List (List ℕ)
 
 -- the two lists of an intent container's plain value
-abbrev pub intent_in : Plain → Intent
-intent_in v = record {
+abbrev pub intent_of_value : Plain → Intent
+intent_of_value v = record {
   removals = map text_in (entries_at INTENT_REMOVALS v);
   writes = map text_in (entries_at INTENT_WRITES v);
 }
 
 -- the intent of a value, unless a test failed
-abbrev pub intent_unless : Option Cause → Plain → Option Intent
-intent_unless None v = Some (intent_in v)
-intent_unless (Some cause) v = None
+abbrev pub intent_unless_fault : Option Cause → Plain → Option Intent
+intent_unless_fault None v = Some (intent_of_value v)
+intent_unless_fault (Some cause) v = None
 
 -- the intent that a file's bytes encode, or none if they are no intent container
 unfoldable pub read_intent : List ℕ → Option Intent
-read_intent file = intent_unless (first_fault IntentTable file)
+read_intent file = intent_unless_fault (first_fault IntentTable file)
     (root_value IntentTable (payload_in file))
 
 -- the names of a change: each is one that a change may have, which excludes the intent's and those in
 -- the staging area, and none is repeated
 pub record AreChangeNames (names : List (List ℕ)) : Type 0 where
-  pub each : All (λ name. is_change_name name ≡ true) names
+  pub each : All (λ name. is_changeable_name name ≡ true) names
   pub once : AllPairs (λ a b. bytes_eq a b ≡ false) names

@@ -7,7 +7,7 @@ ghost use Rattle.adb_sound.specs.adb_schema.ReadFaults.{IsReadFault};
 ghost use Rattle.adb_sound.specs.adb_schema.Soundness.{first_fault};
 ghost use Rattle.adb_view.specs.Values.{entries_in, text_in};
 ghost use Rattle.adb_view.specs.declared.tables.Which.TheVariants.{Intent as IntentTable};
-ghost use Rattle.journal_intent.specs.FreeNames.{AllNamed};
+ghost use Rattle.journal_intent.specs.FreeNames.{AllAreNames};
 ghost use Rattle.journal_intent.specs.Intent.{read_intent};
 ghost use Rattle.journal_intent.specs.IntentValue.{intent_of_lists};
 
@@ -48,7 +48,7 @@ pub(crate) fn read_lists(alloc: Global, file: &[u8]) -> Result<IntentLists, Read
 
 /// The names in a list of texts, each of which is a name.
 fn names_in<'a>(alloc: Global, list: List<'a, &'a [u8]>) -> Result<Names, AllocError>
-    requires { AllNamed (entries_in (list_value list)) }
+    requires { AllAreNames (entries_in (list_value list)) }
     ensures value { IfOk result
         (λ names. names ≡ map text_in (list_of (entries_in (list_value list.entry)))) }
     // A list of a payload counts its entries in 32 bits.

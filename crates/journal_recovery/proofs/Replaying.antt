@@ -1,7 +1,7 @@
 -- The intent that is found is done, and nothing is if none is found.
 use Rattle.std.proofs.Common.{◌≡◌, ℕ, Bool, List, [], ◌∷◌, Option, Some, None, IsSome, Result, Ok, Err, OnOk, refl, sym, ap, subst, ◌∙◌}
 use Rattle.base_core.specs.declared.cause.Cause.{Cause}
-use Rattle.base_core.specs.Tree.{TreeState, File, bytes_at, files_of}
+use Rattle.base_core.specs.Tree.{TreeState, File, bytes_of_file_number, files_of}
 use Rattle.std.specs.Prelude.{Vec}
 use Rattle.std.specs.declared.alloc.Global.{Global}
 use Rattle.base_core.specs.Read.{bytes_in}
@@ -12,7 +12,7 @@ use Rattle.journal_core.specs.adb_schema.Soundness.{first_fault}
 use Rattle.adb_view.specs.declared.tables.Which.TheVariants.{Intent as IntentTable}
 use Rattle.journal_core.specs.Kept.{HasOldOrNewBytes, RecoversTo}
 use Rattle.journal_core.specs.Recovering.{IsReplayed}
-use Rattle.journal_core.specs.Recovery.{EachCrashLeaves, StateDependsOn, intent_name, intent_at, intent_of, recovered_files, recovered_files_by}
+use Rattle.journal_core.specs.Recovery.{EachCrashLeaves, StateDependsOn, intent_name, intent_in_file, intent_of, recovered_files, files_after_intent}
 use Rattle.journal_core.specs.Quiet.{StateIsUnchanged}
 use Rattle.journal_core.specs.Staged.{AreReplayPathsFree, IsIntentFault}
 use Rattle.journal_core.proofs.History.{History, no_more, none_since, on_observable, observable_map}
@@ -71,7 +71,7 @@ module _ (old mid new : History) (same : mid ≡ old) (name file : List ℕ) (na
       (both_told old (λ v. b ≡ a) (λ v. There v → AreReplayPathsFree (files_of v) → c ≡ b) _ (λ v x y. (x, y)) first (back _ told)) there
 
   pub found_idle : (B : Type 0) → IfObservable old (λ v. v.names intent_name ≡ None → B)
-  found_idle B = observable_map old There _ there (λ v at none. absurd (let here : files_of v intent_name ≡ None = ap (bytes_at v.files) none in cc (here, at)))
+  found_idle B = observable_map old There _ there (λ v at none. absurd (let here : files_of v intent_name ≡ None = ap (bytes_of_file_number v.files) none in cc (here, at)))
 
   pub found_bad : (cause : Cause) → (new ≡ mid) × (first_fault IntentTable file ≡ Some cause) → (new ≡ old) × IfObservable old (λ v. IsIntentFault (files_of v) cause)
   found_bad cause bad = (bad.0 ∙ same, observable_map old There _ there (λ v at. (file, at, bad.1)))
@@ -99,17 +99,17 @@ module _ (old new : History) (same : new ≡ old) (name : List ℕ) (name_is : n
   absent : IfObservable old Absent
   absent = observable_map old _ Absent found (λ v is. ap (files_of v) (sym name_is) ∙ sym is)
 
-  names_none : (files : ℕ → File) (n : Option ℕ) → bytes_at files n ≡ None → n ≡ None
+  names_none : (files : ℕ → File) (n : Option ℕ) → bytes_of_file_number files n ≡ None → n ≡ None
   names_none files None e = refl
   names_none files (Some n) e = absurd (cc)
 
   pub absent_replayed : IfObservable old (λ v. HoldsNow new (IsReplayed v))
   absent_replayed = on_observable old _ (λ v rest is.
       let none = subst (λ (l : History). IfObservable l Absent) is absent in
-      now_is new v rest (IsReplayed v) (same ∙ is) (record { reads = sym (ap (λ o. recovered_files_by o (files_of v)) (ap intent_at none)); absent = names_none v.files (v.names intent_name) none }))
+      now_is new v rest (IsReplayed v) (same ∙ is) (record { reads = sym (ap (λ o. files_after_intent o (files_of v)) (ap intent_in_file none)); absent = names_none v.files (v.names intent_name) none }))
 
   pub absent_settled : IfObservable old (λ v. (ignored : List ℕ → Bool) → IsDurable (StateDependsOn ignored) v → IsSome (intent_of (files_of v)) → HoldsNow new (EachCrashLeaves ignored (recovered_files (files_of v))))
-  absent_settled = observable_map old Absent _ absent (λ v none ignored is_durable some. absurd (let gone : intent_of (files_of v) ≡ None = ap intent_at none in cc (gone, some)))
+  absent_settled = observable_map old Absent _ absent (λ v none ignored is_durable some. absurd (let gone : intent_of (files_of v) ≡ None = ap intent_in_file none in cc (gone, some)))
 
   pub absent_good : IfObservable old (λ v. (cause : Cause) → IsIntentFault (files_of v) cause → ⊥)
   absent_good = observable_map old Absent _ absent (λ v none cause fault. absurd (let there = fault.1 in cc (none, there)))

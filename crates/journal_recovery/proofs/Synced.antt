@@ -7,9 +7,9 @@ use Rattle.base_core.specs.Files.{NameMap}
 use Rattle.base_core.proofs.Undone.{read_may_be_left}
 use Rattle.base_core.specs.Tree.{TreeState, IsAlwaysAllowed, after_sync_names, files_of, after_failed_call}
 use Rattle.base_core.specs.Undone.{IsDurable}
-use Rattle.journal_core.specs.Kept.{HasOldOrNewBytes, IsInNoMap, KeepsFilesExcept, RecoversTo, ShownNamesAreDurable}
+use Rattle.journal_core.specs.Kept.{HasOldOrNewBytes, IsRestoredByNoCrash, KeepsFilesExcept, RecoversTo, ShownNamesAreDurable}
 use Rattle.journal_core.specs.Quiet.{StateIsUnchanged}
-use Rattle.journal_core.specs.Recovering.{AllStaged, IsReplayed, HasRemovedNames}
+use Rattle.journal_core.specs.Recovering.{AreStagedNames, IsReplayed, HasRemovedNames}
 use Rattle.journal_core.specs.Recovery.{EachCrashLeaves, StateDependsOn, intent_name, is_staged, recovered_files}
 use Rattle.journal_core.specs.Staged.{AreReplayPathsFree}
 use Rattle.journal_core.proofs.Acts.{still_on, sync_still}
@@ -113,60 +113,60 @@ module _ (file : List ℕ) where
 -- ---- names are removed
 
 module _ {T E : Type 0} (names : List (List ℕ)) (old mid new : History) (x : T) (moves : ChangesHistory {E = E} IsAlwaysAllowed after_sync_names after_failed_call old mid (Ok x)) where
-  pub clear_moments : IfObservable mid (λ u. (ignored : List ℕ → Bool) → IsDurable (StateDependsOn ignored) u → IsInNoMap intent_name u → AllStaged names → Since (StateIsUnchanged ignored u) mid new)
-      → IfObservable old (λ v. (ignored : List ℕ → Bool) → IsDurable (StateDependsOn ignored) v → v.names intent_name ≡ None → AllStaged names → Since (StateIsUnchanged ignored v) old new)
+  pub clear_moments : IfObservable mid (λ u. (ignored : List ℕ → Bool) → IsDurable (StateDependsOn ignored) u → IsRestoredByNoCrash intent_name u → AreStagedNames names → Since (StateIsUnchanged ignored u) mid new)
+      → IfObservable old (λ v. (ignored : List ℕ → Bool) → IsDurable (StateDependsOn ignored) v → v.names intent_name ≡ None → AreStagedNames names → Since (StateIsUnchanged ignored v) old new)
   clear_moments told = on_observable old _ (λ v rest is ignored is_durable none staged.
       let still = sync_still ignored v is_durable in
-      let since = at_mid old mid new x moves v rest is (λ u. (Y : List ℕ → Bool) → IsDurable (StateDependsOn Y) u → IsInNoMap intent_name u → AllStaged names → Since (StateIsUnchanged Y u) mid new) told ignored still.is_durable (gone_synced intent_name v none) staged in
+      let since = at_mid old mid new x moves v rest is (λ u. (Y : List ℕ → Bool) → IsDurable (StateDependsOn Y) u → IsRestoredByNoCrash intent_name u → AreStagedNames names → Since (StateIsUnchanged Y u) mid new) told ignored still.is_durable (gone_synced intent_name v none) staged in
       after old mid new x moves (StateIsUnchanged ignored v) v rest is still (since_weaker (StateIsUnchanged ignored (after_sync_names v)) (StateIsUnchanged ignored v) mid new (λ w. still_on ignored v (after_sync_names v) w still) since))
 
-  pub clear_shown : IfObservable mid (λ u. AllStaged names → Since (KeepsFilesExcept (λ q. is_staged q ≡ true) u) mid new) → IfObservable old (λ v. AllStaged names → Since (KeepsFilesExcept (λ q. is_staged q ≡ true) v) old new)
+  pub clear_shown : IfObservable mid (λ u. AreStagedNames names → Since (KeepsFilesExcept (λ q. is_staged q ≡ true) u) mid new) → IfObservable old (λ v. AreStagedNames names → Since (KeepsFilesExcept (λ q. is_staged q ≡ true) v) old new)
   clear_shown told = on_observable old _ (λ v rest is staged.
       after old mid new x moves (KeepsFilesExcept (λ q. is_staged q ≡ true) v) v rest is (λ q off. refl)
-      (at_mid old mid new x moves v rest is (λ u. AllStaged names → Since (KeepsFilesExcept (λ q. is_staged q ≡ true) u) mid new) told staged))
+      (at_mid old mid new x moves v rest is (λ u. AreStagedNames names → Since (KeepsFilesExcept (λ q. is_staged q ≡ true) u) mid new) told staged))
 
   synced_last : (v : TreeState) → ShownNamesAreDurable (after_sync_names v)
   synced_last v map left q off shown = ap (λ (m : NameMap). m q) left
 
-  pub clear_last : IfObservable mid (λ u. AllStaged names → ShownNamesAreDurable u → Since ShownNamesAreDurable mid new) → IfObservable old (λ v. AllStaged names → ShownNamesAreDurable v → Since ShownNamesAreDurable old new)
+  pub clear_last : IfObservable mid (λ u. AreStagedNames names → ShownNamesAreDurable u → Since ShownNamesAreDurable mid new) → IfObservable old (λ v. AreStagedNames names → ShownNamesAreDurable v → Since ShownNamesAreDurable old new)
   clear_last told = on_observable old _ (λ v rest is staged last.
       after old mid new x moves ShownNamesAreDurable v rest is (synced_last v)
-      (at_mid old mid new x moves v rest is (λ u. AllStaged names → ShownNamesAreDurable u → Since ShownNamesAreDurable mid new) told staged (synced_last v)))
+      (at_mid old mid new x moves v rest is (λ u. AreStagedNames names → ShownNamesAreDurable u → Since ShownNamesAreDurable mid new) told staged (synced_last v)))
 
   pub clear_cleared : {A B : Type 0} (r : Result A B) → IfObservable mid (λ u. OnOk r (HoldsNow new (HasRemovedNames names u))) → IfObservable old (λ v. OnOk r (HoldsNow new (HasRemovedNames names v)))
   clear_cleared (Err e) told = on_observable old _ (λ v rest is. tt)
   clear_cleared (Ok y) told = on_observable old _ (λ v rest is.
       now_map new (HasRemovedNames names (after_sync_names v)) (HasRemovedNames names v) (at_mid old mid new x moves v rest is (λ u. HoldsNow new (HasRemovedNames names u)) told) (λ w r. record { map = r.map; files = r.files }))
 
-  pub clear_gone : {A B : Type 0} (r : Result A B) → IfObservable mid (λ u. OnOk r (IsInNoMap intent_name u → HoldsNow new (IsInNoMap intent_name))) → IfObservable old (λ v. OnOk r (IsInNoMap intent_name v → HoldsNow new (IsInNoMap intent_name)))
+  pub clear_gone : {A B : Type 0} (r : Result A B) → IfObservable mid (λ u. OnOk r (IsRestoredByNoCrash intent_name u → HoldsNow new (IsRestoredByNoCrash intent_name))) → IfObservable old (λ v. OnOk r (IsRestoredByNoCrash intent_name v → HoldsNow new (IsRestoredByNoCrash intent_name)))
   clear_gone (Err e) told = on_observable old _ (λ v rest is. tt)
   clear_gone (Ok y) told = on_observable old _ (λ v rest is away.
-      at_mid old mid new x moves v rest is (λ u. IsInNoMap intent_name u → HoldsNow new (IsInNoMap intent_name)) told (gone_synced intent_name v (away v.names (read_may_be_left v))))
+      at_mid old mid new x moves v rest is (λ u. IsRestoredByNoCrash intent_name u → HoldsNow new (IsRestoredByNoCrash intent_name)) told (gone_synced intent_name v (away v.names (read_may_be_left v))))
 
   pub clear_proper : (a b c : ℕ) → IfObservable old (λ v. b ≡ a) → IfObservable mid (λ u. c ≡ b) → IfObservable old (λ v. c ≡ a)
   clear_proper a b c first told = on_observable old _ (λ v rest is. at_mid old mid new x moves v rest is (λ u. c ≡ b) told ∙ observable_at old v rest is (λ u. b ≡ a) first)
 
 -- there are none
 module _ (names : List (List ℕ)) (old : History) where
-  pub none_moments : IfObservable old (λ v. (ignored : List ℕ → Bool) → IsDurable (StateDependsOn ignored) v → v.names intent_name ≡ None → AllStaged names → Since (StateIsUnchanged ignored v) old old)
+  pub none_moments : IfObservable old (λ v. (ignored : List ℕ → Bool) → IsDurable (StateDependsOn ignored) v → v.names intent_name ≡ None → AreStagedNames names → Since (StateIsUnchanged ignored v) old old)
   none_moments = on_observable old _ (λ v rest is ignored is_durable none staged. none_since (StateIsUnchanged ignored v) old)
 
-  pub none_shown : IfObservable old (λ v. AllStaged names → Since (KeepsFilesExcept (λ q. is_staged q ≡ true) v) old old)
+  pub none_shown : IfObservable old (λ v. AreStagedNames names → Since (KeepsFilesExcept (λ q. is_staged q ≡ true) v) old old)
   none_shown = on_observable old _ (λ v rest is staged. none_since (KeepsFilesExcept (λ q. is_staged q ≡ true) v) old)
 
-  pub none_last : IfObservable old (λ v. AllStaged names → ShownNamesAreDurable v → Since ShownNamesAreDurable old old)
+  pub none_last : IfObservable old (λ v. AreStagedNames names → ShownNamesAreDurable v → Since ShownNamesAreDurable old old)
   none_last = on_observable old _ (λ v rest is staged last. none_since ShownNamesAreDurable old)
 
 -- some were to be removed
 module _ (names : List (List ℕ)) (old mid : History) where
   pub begun_moments : IfObservable old (λ v. (ignored : List ℕ → Bool) → IsDurable (StateDependsOn ignored) v → Since (StateIsUnchanged ignored v) old mid)
-      → IfObservable old (λ v. (ignored : List ℕ → Bool) → IsDurable (StateDependsOn ignored) v → v.names intent_name ≡ None → AllStaged names → Since (StateIsUnchanged ignored v) old mid)
+      → IfObservable old (λ v. (ignored : List ℕ → Bool) → IsDurable (StateDependsOn ignored) v → v.names intent_name ≡ None → AreStagedNames names → Since (StateIsUnchanged ignored v) old mid)
   begun_moments told = observable_map old _ _ told (λ v t ignored is_durable none staged. t ignored is_durable)
 
-  pub begun_shown : IfObservable old (λ v. Since (KeepsFilesExcept (λ q. is_staged q ≡ true) v) old mid) → IfObservable old (λ v. AllStaged names → Since (KeepsFilesExcept (λ q. is_staged q ≡ true) v) old mid)
+  pub begun_shown : IfObservable old (λ v. Since (KeepsFilesExcept (λ q. is_staged q ≡ true) v) old mid) → IfObservable old (λ v. AreStagedNames names → Since (KeepsFilesExcept (λ q. is_staged q ≡ true) v) old mid)
   begun_shown told = observable_map old _ _ told (λ v t staged. t)
 
-  pub begun_last : IfObservable old (λ v. ShownNamesAreDurable v → Since ShownNamesAreDurable old mid) → IfObservable old (λ v. AllStaged names → ShownNamesAreDurable v → Since ShownNamesAreDurable old mid)
+  pub begun_last : IfObservable old (λ v. ShownNamesAreDurable v → Since ShownNamesAreDurable old mid) → IfObservable old (λ v. AreStagedNames names → ShownNamesAreDurable v → Since ShownNamesAreDurable old mid)
   begun_last told = observable_map old _ _ told (λ v t staged. t)
 
 pub names_none : (names : List (List ℕ)) → length names ≡ 0 → names ≡ []

@@ -10,9 +10,9 @@ ghost use Rattle.base_core.specs.Undone.{IsDurable};
 ghost use Rattle.base_core.specs.Faults.{CountsOnlyRise, HasCause, IsNoFault};
 ghost use Rattle.base_core.specs.Tree.{files_of};
 ghost use Rattle.base_core.specs.declared.cause.Cause.{Cause};
-ghost use Rattle.journal_core.specs.Kept.{HasOldOrNewBytes, IsInNoMap, JournalOnlyShrinks, KeepsFilesExcept, RecoversTo, ShownNamesAreDurable};
+ghost use Rattle.journal_core.specs.Kept.{HasOldOrNewBytes, IsRestoredByNoCrash, JournalOnlyShrinks, KeepsFilesExcept, RecoversTo, ShownNamesAreDurable};
 ghost use Rattle.journal_core.specs.Quiet.{StateIsUnchanged};
-ghost use Rattle.journal_core.specs.Recovering.{AllStaged, HasEmptiedStage, IsReplayed, HasRemovedNames};
+ghost use Rattle.journal_core.specs.Recovering.{AreStagedNames, HasEmptiedStage, IsReplayed, HasRemovedNames};
 ghost use Rattle.journal_core.specs.Recovery.{EachCrashLeaves, StateDependsOn, intent_name, intent_of, is_staged, recovered_files};
 ghost use Rattle.journal_core.specs.Staged.{AreReplayPathsFree, IsEmptyStage, IsIntentFault, unstaged_files};
 
@@ -68,7 +68,7 @@ pub fn recover<T: Tree>(alloc: Global, tree: &mut T) -> Result<(), RecoverFault>
 
     // Once it has returned Ok, no crash restores an intent that it found.
     ensures gone { IfObservable (T.history tree.old) (λ v. IsSome (v.names intent_name)
-        → OnOk result (HoldsNow (T.history tree.new) (IsInNoMap intent_name))) }
+        → OnOk result (HoldsNow (T.history tree.new) (IsRestoredByNoCrash intent_name))) }
 
     // If there is nothing to do, no writing call is made.
     ensures idle { IfObservable (T.history tree.old) (λ v. v.names intent_name ≡ None
@@ -130,7 +130,7 @@ fn replay<T: Tree>(alloc: Global, tree: &mut T) -> Result<(), RecoverFault>
         → Since (λ w. w.names intent_name ≡ None → ShownNamesAreDurable w)
         (T.history tree.old) (T.history tree.new)) }
     ensures gone { IfObservable (T.history tree.old) (λ v. IsSome (v.names intent_name)
-        → OnOk result (IfObservable (T.history tree.new) (IsInNoMap intent_name))) }
+        → OnOk result (IfObservable (T.history tree.new) (IsRestoredByNoCrash intent_name))) }
     ensures idle { IfObservable (T.history tree.old) (λ v. v.names intent_name ≡ None
         → T.history tree.new ≡ T.history tree.old) }
     ensures bad { (cause : Cause) → IsErrOf result (RecoverFault.IntentBad cause)
@@ -191,7 +191,7 @@ fn replay_file<T: Tree>(alloc: Global, tree: &mut T, file: Vec<u8>) -> Result<()
     ensures last { IfObservable (T.history tree.old) (λ v. IsSome (v.names intent_name)
         → Since (λ w. w.names intent_name ≡ None → ShownNamesAreDurable w)
         (T.history tree.old) (T.history tree.new)) }
-    ensures gone { OnOk result (IfObservable (T.history tree.new) (IsInNoMap intent_name)) }
+    ensures gone { OnOk result (IfObservable (T.history tree.new) (IsRestoredByNoCrash intent_name)) }
     ensures bad { (cause : Cause) → IsErrOf result (RecoverFault.IntentBad cause)
         → (T.history tree.new ≡ T.history tree.old)
         × (first_fault IntentTable file.items ≡ Some cause) }
@@ -237,8 +237,8 @@ fn empty_stage<T: Tree>(alloc: Global, tree: &mut T) -> Result<(), TreeFault>
         → Since ShownNamesAreDurable (T.history tree.old) (T.history tree.new)) }
     ensures emptied { IfObservable (T.history tree.old) (λ v.
         OnOk result (HoldsNow (T.history tree.new) (HasEmptiedStage v))) }
-    ensures gone { IfObservable (T.history tree.old) (λ v. OnOk result (IsInNoMap intent_name v
-        → HoldsNow (T.history tree.new) (IsInNoMap intent_name))) }
+    ensures gone { IfObservable (T.history tree.old) (λ v. OnOk result (IsRestoredByNoCrash intent_name v
+        → HoldsNow (T.history tree.new) (IsRestoredByNoCrash intent_name))) }
     ensures idle { IfObservable (T.history tree.old) (λ v. IsEmptyStage v.names
         → T.history tree.new ≡ T.history tree.old) }
 
@@ -267,20 +267,20 @@ fn empty_stage<T: Tree>(alloc: Global, tree: &mut T) -> Result<(), TreeFault>
 /// are those of `empty_stage`.
 fn clear_all<T: Tree>(tree: &mut T, names: &Names) -> Result<(), Disk>
     ensures moments { IfObservable (T.history tree.old) (λ v. (ignored : List ℕ → Bool)
-        → IsDurable (StateDependsOn ignored) v → v.names intent_name ≡ None → AllStaged names.now
+        → IsDurable (StateDependsOn ignored) v → v.names intent_name ≡ None → AreStagedNames names.now
         → Since (StateIsUnchanged ignored v) (T.history tree.old) (T.history tree.new)) }
-    ensures shown { IfObservable (T.history tree.old) (λ v. AllStaged names.now
+    ensures shown { IfObservable (T.history tree.old) (λ v. AreStagedNames names.now
         → Since (KeepsFilesExcept (λ q. is_staged q ≡ true) v)
         (T.history tree.old) (T.history tree.new)) }
     ensures waiting { IfObservable (T.history tree.old) (λ v.
         Since (JournalOnlyShrinks v) (T.history tree.old) (T.history tree.new)) }
-    ensures last { IfObservable (T.history tree.old) (λ v. AllStaged names.now
+    ensures last { IfObservable (T.history tree.old) (λ v. AreStagedNames names.now
         → ShownNamesAreDurable v
         → Since ShownNamesAreDurable (T.history tree.old) (T.history tree.new)) }
     ensures cleared { IfObservable (T.history tree.old) (λ v.
         OnOk result (HoldsNow (T.history tree.new) (HasRemovedNames names.now v))) }
-    ensures gone { IfObservable (T.history tree.old) (λ v. OnOk result (IsInNoMap intent_name v
-        → HoldsNow (T.history tree.new) (IsInNoMap intent_name))) }
+    ensures gone { IfObservable (T.history tree.old) (λ v. OnOk result (IsRestoredByNoCrash intent_name v
+        → HoldsNow (T.history tree.new) (IsRestoredByNoCrash intent_name))) }
     ensures none { names.now ≡ [] → T.history tree.new ≡ T.history tree.old }
 
     // No count of faults falls; a fault of the tree is returned only if that count rose, and Ok
@@ -304,20 +304,20 @@ fn clear_all<T: Tree>(tree: &mut T, names: &Names) -> Result<(), Disk>
 /// clauses are those of `clear_all`.
 fn remove_all<T: Tree>(tree: &mut T, names: &Names) -> Result<(), Disk>
     ensures moments { IfObservable (T.history tree.old) (λ v. (ignored : List ℕ → Bool)
-        → IsDurable (StateDependsOn ignored) v → IsInNoMap intent_name v → AllStaged names.now
+        → IsDurable (StateDependsOn ignored) v → IsRestoredByNoCrash intent_name v → AreStagedNames names.now
         → Since (StateIsUnchanged ignored v) (T.history tree.old) (T.history tree.new)) }
-    ensures shown { IfObservable (T.history tree.old) (λ v. AllStaged names.now
+    ensures shown { IfObservable (T.history tree.old) (λ v. AreStagedNames names.now
         → Since (KeepsFilesExcept (λ q. is_staged q ≡ true) v)
         (T.history tree.old) (T.history tree.new)) }
     ensures waiting { IfObservable (T.history tree.old) (λ v.
         Since (JournalOnlyShrinks v) (T.history tree.old) (T.history tree.new)) }
-    ensures last { IfObservable (T.history tree.old) (λ v. AllStaged names.now
+    ensures last { IfObservable (T.history tree.old) (λ v. AreStagedNames names.now
         → ShownNamesAreDurable v
         → Since ShownNamesAreDurable (T.history tree.old) (T.history tree.new)) }
     ensures cleared { IfObservable (T.history tree.old) (λ v.
         OnOk result (HoldsNow (T.history tree.new) (HasRemovedNames names.now v))) }
-    ensures gone { IfObservable (T.history tree.old) (λ v. OnOk result (IsInNoMap intent_name v
-        → HoldsNow (T.history tree.new) (IsInNoMap intent_name))) }
+    ensures gone { IfObservable (T.history tree.old) (λ v. OnOk result (IsRestoredByNoCrash intent_name v
+        → HoldsNow (T.history tree.new) (IsRestoredByNoCrash intent_name))) }
     ensures none { names.now ≡ [] → T.history tree.new ≡ T.history tree.old }
 
     // No count of faults falls; a fault of the tree is returned only if that count rose, and Ok

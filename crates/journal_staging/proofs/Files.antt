@@ -7,22 +7,22 @@ use Rattle.adb_view.specs.Plain.{Plain}
 use Rattle.base_core.specs.Files.{Files}
 use Rattle.base_core.specs.declared.cause.Cause.{Cause}
 use Rattle.package_verifier.specs.Tested.{IsTestedOf, tested_len, tested_name, tested_value}
-use Rattle.package_verifier.specs.package_reader.FileReading.{HasUnreadBytes, HaveOtherDigest, expected_file_of, kept_fault, len_around_file, package_name_of_file}
+use Rattle.package_verifier.specs.package_reader.FileReading.{HasUnreadBytes, HaveOtherDigest, expected_file_of, remembered_fault, package_len_of_file, package_name_of_file}
 use Rattle.package_verifier.specs.package_reader.declared.one_file.FilePieces.{FilePieces}
 use Rattle.file_guard.specs.pkg_core.Contents.{Expected, bytes_of_file, contents_in, expected_contents}
 use Rattle.file_guard.specs.pkg_core.Opened.{expected_file_at}
 use Rattle.file_guard.specs.pkg_core.Whole.{files_in_file, package_fault}
 use Rattle.journal_staging.specs.Reading.{IsReadingIn}
-use Rattle.journal_staging.specs.Sources.{AreListedFor, IsFileSource, MayDenote, DenotesBytes}
+use Rattle.journal_staging.specs.Sources.{AreListedContentsOf, IsFileSource, MayDenote, DenotesBytes}
 use Rattle.journal_staging.specs.Spoiled.{IsSpoiledFile, IsSpoiledForEachTested}
 use Rattle.journal_staging.specs.declared.writes.PackagedFile.{PackagedFile}
 use Rattle.journal_staging.specs.declared.writes.Source.{Source}
 use Rattle.journal_staging.specs.declared.writes.Source.TheVariants.{Bytes, File, Link}
-use Rattle.file_guard.specs.AsListed.{link_to}
+use Rattle.file_guard.specs.AsListed.{link_bytes_to}
 use Rattle.journal_staging.proofs.OtherContents.{spoiled}
 
 pub source_reading : (files : Files) (f : PackagedFile) (bytes : List ℕ) (file : FilePieces)
-    → package_name_of_file file ≡ tested_name f.package.now → len_around_file file ≡ tested_len f.package.now
+    → package_name_of_file file ≡ tested_name f.package.now → package_len_of_file file ≡ tested_len f.package.now
     → ((name pkg : List ℕ) → IsTestedOf name pkg f.package.now → HasUnreadBytes file pkg (bytes_of_file f.folder f.file (contents_in (files_in_file pkg))))
     → IsFileSource files f bytes → IsReadingIn files file bytes
 source_reading files f bytes file name len reading s = record {
@@ -37,11 +37,11 @@ source_reading files f bytes file name len reading s = record {
 pub given_stands : (files : Files) (source : Source) (own : Bor (List ℕ)) (bytes : List ℕ) → source ≡ Bytes own → DenotesBytes files source bytes → bytes ≡ own.now
 given_stands files source own bytes is s = subst (λ (x : Source). DenotesBytes files x bytes) is s
 
-pub link_stands : (files : Files) (source : Source) (target : Bor (List ℕ)) (bytes : List ℕ) → source ≡ Link target → DenotesBytes files source bytes → bytes ≡ link_to target.now
+pub link_stands : (files : Files) (source : Source) (target : Bor (List ℕ)) (bytes : List ℕ) → source ≡ Link target → DenotesBytes files source bytes → bytes ≡ link_bytes_to target.now
 link_stands files source target bytes is s = subst (λ (x : Source). DenotesBytes files x bytes) is s
 
 pub link_waits : (text target : List ℕ) (Waits : List ℕ → Type 0) → text ≡ drop 2 target
-    → Waits (33 ∷ 60 ∷ 115 ∷ 121 ∷ 109 ∷ 108 ∷ 105 ∷ 110 ∷ 107 ∷ 62 ∷ text) → Waits (link_to target)
+    → Waits (33 ∷ 60 ∷ 115 ∷ 121 ∷ 109 ∷ 108 ∷ 105 ∷ 110 ∷ 107 ∷ 62 ∷ text) → Waits (link_bytes_to target)
 link_waits text target Waits is waits = subst (λ (t : List ℕ). Waits (33 ∷ 60 ∷ 115 ∷ 121 ∷ 109 ∷ 108 ∷ 105 ∷ 110 ∷ 107 ∷ 62 ∷ t)) is waits
 
 pub file_stands : (files : Files) (source : Source) (f : PackagedFile) (bytes : List ℕ) → source ≡ File f → DenotesBytes files source bytes → IsFileSource files f bytes
@@ -52,10 +52,10 @@ file_stands files source f bytes is s = subst (λ (x : Source). DenotesBytes fil
 pub given_listed : (source : Source) (own : Bor (List ℕ)) (Waits : List ℕ → Type 0) → source ≡ Bytes own → Waits own.now → (bytes : List ℕ) × MayDenote source bytes × Waits bytes
 given_listed source own Waits is waits = (own.now, subst (λ (x : Source). MayDenote x own.now) (sym is) refl, waits)
 
-pub link_listed : (source : Source) (target : Bor (List ℕ)) (Waits : List ℕ → Type 0) → source ≡ Link target → Waits (link_to target.now) → (bytes : List ℕ) × MayDenote source bytes × Waits bytes
-link_listed source target Waits is waits = (link_to target.now, subst (λ (x : Source). MayDenote x (link_to target.now)) (sym is) refl, waits)
+pub link_listed : (source : Source) (target : Bor (List ℕ)) (Waits : List ℕ → Type 0) → source ≡ Link target → Waits (link_bytes_to target.now) → (bytes : List ℕ) × MayDenote source bytes × Waits bytes
+link_listed source target Waits is waits = (link_bytes_to target.now, subst (λ (x : Source). MayDenote x (link_bytes_to target.now)) (sym is) refl, waits)
 
-pub file_listed : {A E : Type 0} (r : Result A E) (source : Source) (f : PackagedFile) (Waits : List ℕ → Type 0) → source ≡ File f → OnOk r ((bytes : List ℕ) × AreListedFor f bytes × Waits bytes) → OnOk r ((bytes : List ℕ) × MayDenote source bytes × Waits bytes)
+pub file_listed : {A E : Type 0} (r : Result A E) (source : Source) (f : PackagedFile) (Waits : List ℕ → Type 0) → source ≡ File f → OnOk r ((bytes : List ℕ) × AreListedContentsOf f bytes × Waits bytes) → OnOk r ((bytes : List ℕ) × MayDenote source bytes × Waits bytes)
 file_listed (Ok x) source f Waits is found = (found.0, subst (λ (s : Source). MayDenote s found.0) (sym is) found.1, found.2)
 file_listed (Err e) source f Waits is found = tt
 
@@ -68,7 +68,7 @@ spoiled_by_due tested f cause bytes (Some e) sound due other = spoiled tested f.
 
 pub spoiled_since : (f : PackagedFile) (file : FilePieces) (cause : Cause) → expected_file_of file ≡ expected_file_at f.folder f.file (expected_contents (tested_value f.package.now))
     → ((name pkg : List ℕ) → IsTestedOf name pkg f.package.now → HasUnreadBytes file pkg (bytes_of_file f.folder f.file (contents_in (files_in_file pkg))))
-    → (kept_fault file ≡ None → (bytes : List ℕ) × HaveOtherDigest (expected_file_of file) bytes cause) → IsSpoiledForEachTested f cause
+    → (remembered_fault file ≡ None → (bytes : List ℕ) × HaveOtherDigest (expected_file_of file) bytes cause) → IsSpoiledForEachTested f cause
 spoiled_since f file cause due reading bad name tested is =
     let (bytes, other) = bad (reading name tested is).0 in
     spoiled_by_due tested f cause bytes (expected_file_of file) is.sound

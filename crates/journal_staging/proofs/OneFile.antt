@@ -11,22 +11,22 @@ use Rattle.journal_commit.specs.journal_core.Recovery.{is_staged}
 use Rattle.journal_commit.specs.journal_core.Staged.{AreJournalPathsFree, IsEmptyStage, Staging}
 use Rattle.journal_commit.proofs.journal_core.Chain.{by_now}
 use Rattle.journal_commit.proofs.journal_core.History.{History, now_map, now_since}
-use Rattle.package_verifier.specs.package_reader.FileReading.{AreAsExpected, IsTestedReturn, GivesBytes, HaveBeenReturned, HaveOtherDigest, HasUnreadBytes, expected_file_of, kept_fault, len_around_file, package_name_of_file}
+use Rattle.package_verifier.specs.package_reader.FileReading.{AreAsExpected, IsTestedReturn, ReturnsNextBytes, HaveBeenReturned, HaveOtherDigest, HasUnreadBytes, expected_file_of, remembered_fault, package_len_of_file, package_name_of_file}
 use Rattle.package_verifier.specs.package_reader.declared.piece.PieceFault.{PieceFault}
 use Rattle.package_verifier.specs.package_reader.declared.piece.PieceFault.TheVariants.{Bad, Disk}
 use Rattle.package_verifier.specs.package_reader.declared.one_file.FilePieces.{FilePieces}
 use Rattle.file_guard.specs.pkg_core.Contents.{Expected}
-use Rattle.file_guard.specs.pkg_core.Seen.{IsSoLong}
-use Rattle.journal_commit.specs.StageRun.{IsReadExceptStaged, IsStaging, IsStagingRun}
+use Rattle.file_guard.specs.pkg_core.Seen.{IsFileOfLength}
+use Rattle.journal_commit.specs.StageRun.{HasFilesExceptStaged, IsStaging, IsStagingRun}
 use Rattle.journal_commit.proofs.Joins.{start_is}
 use Rattle.journal_staging.specs.Reading.{IsReadingIn}
 
 -- ---- what is read while files come to wait
 
-pub shown_now : (stage : Staging) (contents : List (List ℕ)) (begun : Option (List ℕ)) (v : TreeState) (first now : History) → IsStaging stage contents begun v first now → HoldsNow now (IsReadExceptStaged (files_of v))
+pub shown_now : (stage : Staging) (contents : List (List ℕ)) (begun : Option (List ℕ)) (v : TreeState) (first now : History) → IsStaging stage contents begun v first now → HoldsNow now (HasFilesExceptStaged (files_of v))
 shown_now stage contents begun v first now staging =
     let (rest, is) = start_is first v staging.start in
-    now_since (IsReadExceptStaged (files_of v)) first now v rest is (λ q off. refl) staging.run.reads
+    now_since (HasFilesExceptStaged (files_of v)) first now v rest is (λ q off. refl) staging.run.reads
 
 -- a file that stood there before is none that waits
 pub no_waiting : (files : Files) (name pkg : List ℕ) → IsEmptyStage files → files name ≡ Some pkg → is_staged name ≡ false
@@ -39,7 +39,7 @@ no_waiting files name pkg empty there = by (is_staged name) refl
 pub package_now : (stage : Staging) (contents : List (List ℕ)) (begun : Option (List ℕ)) (v : TreeState) (first now : History) (name pkg : List ℕ) → IsStaging stage contents begun v first now → files_of v name ≡ Some pkg
     → HoldsNow now (λ w. files_of w name ≡ Some pkg)
 package_now stage contents begun v first now name pkg staging there =
-    now_map now (IsReadExceptStaged (files_of v)) (λ w. files_of w name ≡ Some pkg) (shown_now stage contents begun v first now staging)
+    now_map now (HasFilesExceptStaged (files_of v)) (λ w. files_of w name ≡ Some pkg) (shown_now stage contents begun v first now staging)
     (λ w shown. shown name (no_waiting (files_of v) name pkg staging.empty there) ∙ there)
 
 -- ---- whatever the tree shows
@@ -92,24 +92,24 @@ IsProperOn start whole old before now =
 
 -- ---- a piece is read
 
-only_disk : (A : List ℕ → Type 0) (left piece : List ℕ) (fault : PieceFault) → GivesBytes A left piece (Err fault) → fault ≡ Disk
+only_disk : (A : List ℕ → Type 0) (left piece : List ℕ) (fault : PieceFault) → ReturnsNextBytes A left piece (Err fault) → fault ≡ Disk
 only_disk A left piece (Bad cause) g = absurd g
 only_disk A left piece Disk g = refl
 
 abbrev Gives : FilePieces → FilePieces → List ℕ → History → Result Bool PieceFault → Type 0
 Gives file next piece now result =
-    IfObservable now (λ w. (pkg left : List ℕ) → files_of w (package_name_of_file file) ≡ Some pkg → HasUnreadBytes file pkg left → GivesBytes (HasUnreadBytes next pkg) left piece result)
+    IfObservable now (λ w. (pkg left : List ℕ) → files_of w (package_name_of_file file) ≡ Some pkg → HasUnreadBytes file pkg left → ReturnsNextBytes (HasUnreadBytes next pkg) left piece result)
 
 module _ (start stage : Staging) (whole file next : FilePieces) (piece : List ℕ) (old now later : History) (result : Result Bool PieceFault)
     (read : IsReadOn start stage whole file old now) (gives : Gives file next piece now result) where
   given : (contents : List (List ℕ)) (v : TreeState) (first : List TreeState) (bytes : List ℕ) (half : IsHalfway stage file contents bytes v first now)
-      → GivesBytes (HasUnreadBytes next half.reading.pkg) half.left piece result
+      → ReturnsNextBytes (HasUnreadBytes next half.reading.pkg) half.left piece result
   given contents v first bytes half =
-      by_now now (λ w. files_of w (package_name_of_file file) ≡ Some half.reading.pkg) (GivesBytes (HasUnreadBytes next half.reading.pkg) half.left piece result)
+      by_now now (λ w. files_of w (package_name_of_file file) ≡ Some half.reading.pkg) (ReturnsNextBytes (HasUnreadBytes next half.reading.pkg) half.left piece result)
       (package_now stage contents (Some half.so_far) v first now (package_name_of_file file) half.reading.pkg half.staging half.reading.there)
       (observed now gives)
     where
-      observed : (h : History) → Gives file next piece h result → IfObservable h (λ w. files_of w (package_name_of_file file) ≡ Some half.reading.pkg → GivesBytes (HasUnreadBytes next half.reading.pkg) half.left piece result)
+      observed : (h : History) → Gives file next piece h result → IfObservable h (λ w. files_of w (package_name_of_file file) ≡ Some half.reading.pkg → ReturnsNextBytes (HasUnreadBytes next half.reading.pkg) half.left piece result)
       observed [] g = tt
       observed (w ∷ earlier) g = λ there. g half.reading.pkg half.left there half.reading.reading
 
@@ -118,9 +118,9 @@ module _ (start stage : Staging) (whole file next : FilePieces) (piece : List �
       → (fault : PieceFault) → result ≡ Err fault → fault ≡ Disk
   read_fails contents v first bytes staging reading fault is =
       let half = read contents v first bytes staging reading in
-      only_disk (HasUnreadBytes next half.reading.pkg) half.left piece fault (subst (GivesBytes (HasUnreadBytes next half.reading.pkg) half.left piece) is (given contents v first bytes half))
+      only_disk (HasUnreadBytes next half.reading.pkg) half.left piece fault (subst (ReturnsNextBytes (HasUnreadBytes next half.reading.pkg) half.left piece) is (given contents v first bytes half))
 
-  module _ (name : package_name_of_file next ≡ package_name_of_file file) (len : len_around_file next ≡ len_around_file file) where
+  module _ (name : package_name_of_file next ≡ package_name_of_file file) (len : package_len_of_file next ≡ package_len_of_file file) where
     next_reading : (v : TreeState) (left rest : List ℕ) (reading : IsReadingIn (files_of v) file left) → HasUnreadBytes next reading.pkg rest → IsReadingIn (files_of v) next rest
     next_reading v left rest reading is = record {
       pkg = reading.pkg;
@@ -135,7 +135,7 @@ module _ (start stage : Staging) (whole file next : FilePieces) (piece : List �
         → IsReadOn start grown whole next old later
     read_more grown is appended contents v first bytes staging reading =
         let half = read contents v first bytes staging reading in
-        let came = subst (GivesBytes (HasUnreadBytes next half.reading.pkg) half.left piece) is (given contents v first bytes half) in
+        let came = subst (ReturnsNextBytes (HasUnreadBytes next half.reading.pkg) half.left piece) is (given contents v first bytes half) in
         record {
           so_far = half.so_far ++ piece;
           left = came.0;
@@ -149,7 +149,7 @@ module _ (start stage : Staging) (whole file next : FilePieces) (piece : List �
         → IsStaging stage contents (Some bytes) v first now
     read_whole is contents v first bytes staging reading =
         let half = read contents v first bytes staging reading in
-        let ended = subst (GivesBytes (HasUnreadBytes next half.reading.pkg) half.left piece) is (given contents v first bytes half) in
+        let ended = subst (ReturnsNextBytes (HasUnreadBytes next half.reading.pkg) half.left piece) is (given contents v first bytes half) in
         let all : bytes ≡ half.so_far = half.parts ∙ ap (λ l. half.so_far ++ l) ended.0 ∙ append-nil half.so_far in
         subst (λ (b : List ℕ). IsStaging stage contents (Some b) v first now) (sym all) half.staging
 
@@ -187,7 +187,7 @@ module _ (start stage : Staging) (whole file next : FilePieces) (piece : List �
 
 -- no test failed, and just some bytes came
 abbrev pub HasComeOn : FilePieces → FilePieces → Type 0
-HasComeOn whole file = HaveBeenReturned whole [] → kept_fault whole ≡ None → (so_far : List ℕ) × HaveBeenReturned file so_far × (kept_fault file ≡ None)
+HasComeOn whole file = HaveBeenReturned whole [] → remembered_fault whole ≡ None → (so_far : List ℕ) × HaveBeenReturned file so_far × (remembered_fault file ≡ None)
 
 pub come_first : (whole : FilePieces) → HasComeOn whole whole
 come_first whole come none = ([], come, none)
@@ -199,12 +199,12 @@ module _ (whole file next : FilePieces) (piece : List ℕ) (result : Result Bool
       let behind = subst (λ (r : Result Bool PieceFault). IsTestedReturn file so_far piece r next) is (tested so_far came) in
       (so_far ++ piece, behind.1, behind.0)
 
-  pub come_bad : expected_file_of file ≡ expected_file_of whole → HaveBeenReturned whole [] → kept_fault whole ≡ None → (cause : Cause) → result ≡ Err (Bad cause) → (bytes : List ℕ) × HaveOtherDigest (expected_file_of whole) bytes cause
+  pub come_bad : expected_file_of file ≡ expected_file_of whole → HaveBeenReturned whole [] → remembered_fault whole ≡ None → (cause : Cause) → result ≡ Err (Bad cause) → (bytes : List ℕ) × HaveOtherDigest (expected_file_of whole) bytes cause
   come_bad due come none cause is =
       let (so_far, came, kept) = has come none in
       by so_far kept (subst (λ (r : Result Bool PieceFault). IsTestedReturn file so_far piece r next) is (tested so_far came))
     where
-      by : (so_far : List ℕ) → kept_fault file ≡ None → (kept_fault file ≡ Some cause) ⊎ HaveOtherDigest (expected_file_of file) (so_far ++ piece) cause → (bytes : List ℕ) × HaveOtherDigest (expected_file_of whole) bytes cause
+      by : (so_far : List ℕ) → remembered_fault file ≡ None → (remembered_fault file ≡ Some cause) ⊎ HaveOtherDigest (expected_file_of file) (so_far ++ piece) cause → (bytes : List ℕ) × HaveOtherDigest (expected_file_of whole) bytes cause
       by so_far kept (inl before) = absurd (let e : None ≡ Some cause = sym kept ∙ before in cc (e))
       by so_far kept (inr other) = (so_far ++ piece, subst (λ (d : Option Expected). HaveOtherDigest d (so_far ++ piece) cause) due other)
 
@@ -231,7 +231,7 @@ module _ (start stage : Staging) (whole file : FilePieces) (old now later : Hist
       one contents half.so_far v first half.staging ∙ proper contents v first bytes staging reading room
 
   pub read_proper : (before between after : ℕ) → IsProperOn start whole old before between
-      → IfObservable now (λ w. IsSoLong (package_name_of_file file) (len_around_file file) w → after ≡ between) → IsProperOn start whole old before after
+      → IfObservable now (λ w. IsFileOfLength (package_name_of_file file) (package_len_of_file file) w → after ≡ between) → IsProperOn start whole old before after
   read_proper before between after proper one contents v first bytes staging reading room =
       let half = read contents v first bytes staging reading in
       by_now now (λ w. files_of w (package_name_of_file file) ≡ Some half.reading.pkg) (after ≡ between)
@@ -239,7 +239,7 @@ module _ (start stage : Staging) (whole file : FilePieces) (old now later : Hist
       (long now one half)
       ∙ proper contents v first bytes staging reading room
     where
-      long : {contents : List (List ℕ)} {bytes : List ℕ} {v : TreeState} {first : List TreeState} (h : History) → IfObservable h (λ w. IsSoLong (package_name_of_file file) (len_around_file file) w → after ≡ between)
+      long : {contents : List (List ℕ)} {bytes : List ℕ} {v : TreeState} {first : List TreeState} (h : History) → IfObservable h (λ w. IsFileOfLength (package_name_of_file file) (package_len_of_file file) w → after ≡ between)
           → (half : IsHalfway stage file contents bytes v first now) → IfObservable h (λ w. files_of w (package_name_of_file file) ≡ Some half.reading.pkg → after ≡ between)
       long [] p half = tt
       long (w ∷ earlier) p half = λ there. p (record { file = half.reading.pkg; present = there; long = half.reading.long })

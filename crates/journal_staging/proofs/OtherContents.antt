@@ -8,16 +8,16 @@ use Rattle.std.proofs.lemmas.Option.{same_Some}
 use Rattle.sha1.specs.Sha1.{sha1}
 use Rattle.sha2.specs.Sha256.{sha256}
 use Rattle.sha2.specs.Sha512.{sha512}
-use Rattle.adb_block.specs.AllBlocks.{blocks_of, pieces_of, rest_of, with_block}
+use Rattle.adb_block.specs.AllBlocks.{blocks_of, blocks_of_stream, blocks_from_position, with_block}
 use Rattle.adb_block.specs.Container.{IsHead, IsPadding, Spells, SpellsBlocks}
 use Rattle.adb_block.specs.Header.{header_of}
 use Rattle.adb_block.specs.Piece.{Piece, least_payload}
-use Rattle.adb_block.specs.Reading.{Reading, done, fault, more, reading_of}
-use Rattle.adb_block.specs.ReaderPosition.{start_of}
+use Rattle.adb_block.specs.Reading.{Reading, done, fault, more, block_stream_from}
+use Rattle.adb_block.specs.ReaderPosition.{first_block_position}
 use Rattle.adb_block.specs.declared.block.BlockKind.{BlockKind}
 use Rattle.adb_block.specs.declared.block.BlockKind.TheVariants as Kinds
 use Rattle.adb_block.proofs.WholeFiles.{read_is_spelled, spelled_is_read, whole_from}
-use Rattle.file_guard.specs.adb_schema.Soundness.{blocks_fault, file_fault, file_pair, first_payload, payload_after_header, payload_fault, payload_in, root_value, schema_fault}
+use Rattle.file_guard.specs.adb_schema.Soundness.{blocks_fault, file_fault_after_header, contents_positions, first_block_payload, payload_after_header, payload_fault, payload_in, root_value, schema_fault}
 use Rattle.std.specs.Option.{option_or}
 use Rattle.adb_view.specs.declared.tables.Which.TheVariants.{Package}
 use Rattle.base_core.specs.declared.cause.Cause.{Cause}
@@ -26,9 +26,9 @@ use Rattle.base_core.specs.declared.cause.Digest.{Digest}
 use Rattle.base_core.specs.declared.cause.Digest.TheVariants.{Sha1, Sha256, Sha512}
 use Rattle.base_core.proofs.Causes.{both_none}
 use Rattle.file_guard.proofs.pkg_core.Opened.{pair_alike}
-use Rattle.file_guard.specs.pkg_core.Contents.{Expected, FilesRead, contents_block_fault, contents_bytes, contents_by, contents_fault, digest_fault, expected_contents, fault_in, files_at_block, files_by_blocks, given, has_positions_of, hash_fault, next_fault, no_more, unless_fault}
-use Rattle.file_guard.specs.pkg_core.Opened.{expected_file_at, has_positions}
-use Rattle.file_guard.specs.pkg_core.Whole.{fault_after_first, package_fault, whole_fault}
+use Rattle.file_guard.specs.pkg_core.Contents.{Expected, FilesRead, contents_block_fault, contents_bytes, contents_of_expected, contents_fault, digest_fault, expected_contents, fault_of_files_read, files_at_block, files_read_from_blocks, given, has_positions_of, hash_fault, next_contents_fault, no_more, unless_fault}
+use Rattle.file_guard.specs.pkg_core.Opened.{expected_file_at, is_expected_at}
+use Rattle.file_guard.specs.pkg_core.Whole.{fault_of_further_blocks, package_fault, container_fault_of_table}
 use Rattle.file_guard.proofs.pkg_core.Given.{nothing_expected, size_right}
 use Rattle.journal_staging.specs.Spoiled.{IsSpoiledFile}
 
@@ -126,14 +126,14 @@ record BeginsWith (b : Piece) (bs : List Piece) (r : Reading) : Type 0 where
   at : ℕ
   further : Reading
   is : r ≡ more b at further
-  behind : pieces_of further ≡ Ok bs
+  behind : blocks_of_stream further ≡ Ok bs
 
-begins_with : (b : Piece) (bs : List Piece) (r : Reading) → pieces_of r ≡ Ok (b ∷ bs) → BeginsWith b bs r
+begins_with : (b : Piece) (bs : List Piece) (r : Reading) → blocks_of_stream r ≡ Ok (b ∷ bs) → BeginsWith b bs r
 begins_with b bs done e = absurd (cc (e))
 begins_with b bs (fault c) e = absurd (cc (e))
-begins_with b bs (more a at r) e = by (pieces_of r) refl e
+begins_with b bs (more a at r) e = by (blocks_of_stream r) refl e
   where
-    by : (o : Result (List Piece) Cause) → pieces_of r ≡ o → with_block a o ≡ Ok (b ∷ bs) → BeginsWith b bs (more a at r)
+    by : (o : Result (List Piece) Cause) → blocks_of_stream r ≡ o → with_block a o ≡ Ok (b ∷ bs) → BeginsWith b bs (more a at r)
     by (Ok others) is e = record {
       at = at;
       further = r;
@@ -144,7 +144,7 @@ begins_with b bs (more a at r) e = by (pieces_of r) refl e
 
 -- ---- tests that pass
 
-second_passes : (o : Option Cause) (files : FilesRead) → fault_in (unless_fault o files) ≡ None → (o ≡ None) × (fault_in files ≡ None)
+second_passes : (o : Option Cause) (files : FilesRead) → fault_of_files_read (unless_fault o files) ≡ None → (o ≡ None) × (fault_of_files_read files ≡ None)
 second_passes None files h = (refl, h)
 second_passes (Some c) files h = absurd (cc (h))
 
@@ -162,15 +162,15 @@ record PassesBlock (payload : List ℕ) (e : Expected) : Type 0 where
 passes_block : (payload : List ℕ) (at : ℕ) (e : Expected) (es : List Expected) → contents_block_fault payload at (e ∷ es) ≡ None → PassesBlock payload e
 passes_block payload at e es h =
     let (enough, first) = is_enough (nat_lt (length payload) 8) (Truncated at) _ h in
-    let (positions, second) = size_right (has_positions_of payload e) (DataOrder (e.folder, e.file) (file_pair payload)) _ first in
+    let (positions, second) = size_right (has_positions_of payload e) (DataOrder (e.folder, e.file) (contents_positions payload)) _ first in
     let (size, digest) = size_right (length (contents_bytes payload) == e.size) (DataSize e.size (length (contents_bytes payload))) _ second in
     record { enough = enough; positions = positions; size = eqb-true (length (contents_bytes payload)) e.size size; digest = digest }
 
 -- and what such a block comes to, wherever it stands
 block_comes_to : (payload : List ℕ) (at : ℕ) (e : Expected) (es : List Expected) → nat_lt (length payload) 8 ≡ false → has_positions_of payload e ≡ true → length (contents_bytes payload) ≡ e.size → contents_block_fault payload at (e ∷ es) ≡ hash_fault e.hash (contents_bytes payload)
 block_comes_to payload at e es enough positions size =
-    ap (λ (few : Bool). if few then Some (Truncated at) else next_fault payload (e ∷ es)) enough
-    ∙ (ap (λ (b : Bool). if not b then Some (DataOrder (e.folder, e.file) (file_pair payload)) else if not (length (contents_bytes payload) == e.size) then Some (DataSize e.size (length (contents_bytes payload))) else hash_fault e.hash (contents_bytes payload)) positions
+    ap (λ (few : Bool). if few then Some (Truncated at) else next_contents_fault payload (e ∷ es)) enough
+    ∙ (ap (λ (b : Bool). if not b then Some (DataOrder (e.folder, e.file) (contents_positions payload)) else if not (length (contents_bytes payload) == e.size) then Some (DataSize e.size (length (contents_bytes payload))) else hash_fault e.hash (contents_bytes payload)) positions
     ∙ ap (λ (b : Bool). if not b then Some (DataSize e.size (length (contents_bytes payload))) else hash_fault e.hash (contents_bytes payload)) (eq-eqb (length (contents_bytes payload)) e.size size))
 
 -- ---- the block with the contents of a file
@@ -180,10 +180,10 @@ record HasContents (e : Expected) (es : List Expected) (r : Reading) : Type 0 wh
   before : List Piece
   block : Piece
   behind : List Piece
-  are : pieces_of r ≡ Ok (before ++ block ∷ behind)
+  are : blocks_of_stream r ≡ Ok (before ++ block ∷ behind)
   long : length block.payload ≡ 8 + e.size
   fails : (bytes : List ℕ) (c : Cause) → length bytes ≡ e.size → hash_fault e.hash bytes ≡ Some c
-      → (other : Reading) → pieces_of other ≡ Ok (before ++ with_payload block (take 8 block.payload ++ bytes) ∷ behind) → contents_fault es other ≡ Some c
+      → (other : Reading) → blocks_of_stream other ≡ Ok (before ++ with_payload block (take 8 block.payload ++ bytes) ∷ behind) → contents_fault es other ≡ Some c
 
 one_before : (e : Expected) (es left : List Expected) (b : Piece) (at : ℕ) (r : Reading) → ((at : ℕ) (r : Reading) → contents_fault es (more b at r) ≡ contents_fault left r) → HasContents e left r → HasContents e es (more b at r)
 one_before e es left b at r same h = record {
@@ -199,27 +199,27 @@ one_before e es left b at r same h = record {
 
 -- of blocks that pass all tests
 abbrev HasPieces : Reading → Type 0
-HasPieces r = (bs : List Piece) × (pieces_of r ≡ Ok bs)
+HasPieces r = (bs : List Piece) × (blocks_of_stream r ≡ Ok bs)
 
 pieces_after : (b : Piece) (at : ℕ) (r : Reading) → HasPieces r → HasPieces (more b at r)
 pieces_after b at r (bs, is) = (b ∷ bs, ap (with_block b) is)
 
-pieces_at_kind : (kind : BlockKind) (payload : List ℕ) (at : ℕ) (r : Reading) → ((left : List Expected) → contents_fault left r ≡ None → HasPieces r) → (es : List Expected) → fault_in (files_at_block kind payload at (λ left. files_by_blocks left r) es) ≡ None → HasPieces r
+pieces_at_kind : (kind : BlockKind) (payload : List ℕ) (at : ℕ) (r : Reading) → ((left : List Expected) → contents_fault left r ≡ None → HasPieces r) → (es : List Expected) → fault_of_files_read (files_at_block kind payload at (λ left. files_read_from_blocks left r) es) ≡ None → HasPieces r
 pieces_at_kind Kinds.Adb payload at r ih es h = ih es h
 pieces_at_kind Kinds.Signature payload at r ih es h = ih es h
 pieces_at_kind Kinds.Contents payload at r ih [] h =
     absurd (let first = (is_enough (nat_lt (length payload) 8) (Truncated at) _ (second_passes (contents_block_fault payload at []) no_more h).0).1 in cc (first))
-pieces_at_kind Kinds.Contents payload at r ih (e ∷ es) h = ih es (second_passes (contents_block_fault payload at (e ∷ es)) (given (contents_by payload e) (files_by_blocks es r)) h).1
+pieces_at_kind Kinds.Contents payload at r ih (e ∷ es) h = ih es (second_passes (contents_block_fault payload at (e ∷ es)) (given (contents_of_expected payload e) (files_read_from_blocks es r)) h).1
 
 has_pieces : (es : List Expected) (r : Reading) → contents_fault es r ≡ None → HasPieces r
-unfolding files_by_blocks
+unfolding files_read_from_blocks
 has_pieces es done h = ([], refl)
 has_pieces es (fault c) h = absurd (cc (h))
 has_pieces es (more b at r) h = pieces_after b at r (pieces_at_kind b.kind b.payload at r (λ left. has_pieces left r) es h)
 
 -- the block at hand is the one
 this_block : (e : Expected) (es : List Expected) (payload : List ℕ) (at : ℕ) (r : Reading) → PassesBlock payload e → HasPieces r → HasContents e (e ∷ es) (more (record { kind = Kinds.Contents; payload = payload }) at r)
-unfolding files_by_blocks
+unfolding files_read_from_blocks
 this_block e es payload at r passes (behind, are) =
     let b : Piece = record { kind = Kinds.Contents; payload = payload } in
     let enough = ltb-false (length payload) 8 passes.enough in
@@ -243,34 +243,34 @@ this_block e es payload at r passes (behind, are) =
           let told : contents_block_fault own begins.at (e ∷ es) ≡ Some c =
           block_comes_to own begins.at e es (le-ltb _ _ (omega (arith, all, eight))) positions (ap length bytes_are ∙ same) ∙ (ap (hash_fault e.hash) bytes_are ∙ bad) in
           ap (contents_fault (e ∷ es)) begins.is
-          ∙ ap (λ (o : Option Cause). fault_in (unless_fault o (given (contents_by own e) (files_by_blocks es begins.further)))) told;
+          ∙ ap (λ (o : Option Cause). fault_of_files_read (unless_fault o (given (contents_of_expected own e) (files_read_from_blocks es begins.further)))) told;
     }
 
 -- a block of contents of another file
 passed_block : (x : Expected) (xs : List Expected) (payload : List ℕ) → PassesBlock payload x → (at : ℕ) (r : Reading) → contents_fault (x ∷ xs) (more (record { kind = Kinds.Contents; payload = payload }) at r) ≡ contents_fault xs r
-unfolding files_by_blocks
+unfolding files_read_from_blocks
 passed_block x xs payload passes at r =
-    ap (λ (o : Option Cause). fault_in (unless_fault o (given (contents_by payload x) (files_by_blocks xs r)))) (block_comes_to payload at x xs passes.enough passes.positions passes.size ∙ passes.digest)
+    ap (λ (o : Option Cause). fault_of_files_read (unless_fault o (given (contents_of_expected payload x) (files_read_from_blocks xs r)))) (block_comes_to payload at x xs passes.enough passes.positions passes.size ∙ passes.digest)
 
 abbrev Finds : ℕ → ℕ → Expected → Reading → Type 0
 Finds folder file e r = (left : List Expected) → contents_fault left r ≡ None → expected_file_at folder file left ≡ Some e → HasContents e left r
 
 at_adb : (folder file : ℕ) (e : Expected) (payload : List ℕ) (at : ℕ) (r : Reading) → Finds folder file e r → Finds folder file e (more (record { kind = Kinds.Adb; payload = payload }) at r)
-unfolding files_by_blocks
+unfolding files_read_from_blocks
 at_adb folder file e payload at r ih es h found = one_before e es es (record { kind = Kinds.Adb; payload = payload }) at r (λ at r. refl) (ih es h found)
 
 at_signature : (folder file : ℕ) (e : Expected) (payload : List ℕ) (at : ℕ) (r : Reading) → Finds folder file e r → Finds folder file e (more (record { kind = Kinds.Signature; payload = payload }) at r)
-unfolding files_by_blocks
+unfolding files_read_from_blocks
 at_signature folder file e payload at r ih es h found = one_before e es es (record { kind = Kinds.Signature; payload = payload }) at r (λ at r. refl) (ih es h found)
 
 at_contents : (folder file : ℕ) (e : Expected) (payload : List ℕ) (at : ℕ) (r : Reading) → Finds folder file e r → Finds folder file e (more (record { kind = Kinds.Contents; payload = payload }) at r)
-unfolding files_by_blocks
+unfolding files_read_from_blocks
 at_contents folder file e payload at r ih [] h found = absurd (cc (found))
 at_contents folder file e payload at r ih (x ∷ xs) h found =
-    let (first, further) = second_passes (contents_block_fault payload at (x ∷ xs)) (given (contents_by payload x) (files_by_blocks xs r)) h in
-    by_test (has_positions folder file x) (passes_block payload at x xs first) further found
+    let (first, further) = second_passes (contents_block_fault payload at (x ∷ xs)) (given (contents_of_expected payload x) (files_read_from_blocks xs r)) h in
+    by_test (is_expected_at folder file x) (passes_block payload at x xs first) further found
   where
-    by_test : (b : Bool) → PassesBlock payload x → contents_fault xs r ≡ None → cond b (Some x) (find (has_positions folder file) xs) ≡ Some e → HasContents e (x ∷ xs) (more (record { kind = Kinds.Contents; payload = payload }) at r)
+    by_test : (b : Bool) → PassesBlock payload x → contents_fault xs r ≡ None → cond b (Some x) (find (is_expected_at folder file) xs) ≡ Some e → HasContents e (x ∷ xs) (more (record { kind = Kinds.Contents; payload = payload }) at r)
     by_test true passes further is =
         subst (λ (y : Expected). HasContents y (x ∷ xs) (more (record { kind = Kinds.Contents; payload = payload }) at r)) (same_Some x e is)
         (this_block x xs payload at r passes (has_pieces xs r further))
@@ -282,12 +282,12 @@ at_kind folder file e Kinds.Signature payload at r ih = at_signature folder file
 at_kind folder file e Kinds.Contents payload at r ih = at_contents folder file e payload at r ih
 
 at_end : (folder file : ℕ) (e : Expected) → Finds folder file e done
-unfolding files_by_blocks
+unfolding files_read_from_blocks
 at_end folder file e [] h found = absurd (cc (found))
 at_end folder file e (x ∷ xs) h found = absurd (cc (h))
 
 at_fault : (folder file : ℕ) (e : Expected) (c : Cause) → Finds folder file e (fault c)
-unfolding files_by_blocks
+unfolding files_read_from_blocks
 at_fault folder file e c es h found = absurd (cc (h))
 
 finds : (folder file : ℕ) (e : Expected) (r : Reading) → Finds folder file e r
@@ -324,7 +324,7 @@ record IsGoodPackage (file : List ℕ) : Type 0 where
   block : Piece
   at : ℕ
   further : Reading
-  reading : reading_of (start_of schema file) ≡ more block at further
+  reading : block_stream_from (first_block_position schema file) ≡ more block at further
   values : payload_fault Package block.payload ≡ None
   contents : contents_fault (expected_contents (root_value Package block.payload)) further ≡ None
 
@@ -332,11 +332,11 @@ record IsGoodPackage (file : List ℕ) : Type 0 where
 abbrev IsGood : List ℕ → Type 0
 IsGood file = IsGoodPackage file ⊎ (expected_contents (root_value Package (payload_in file)) ≡ [])
 
-payload_by : (file : List ℕ) (schema : ℕ) (r : Reading) → header_of file ≡ Ok schema → reading_of (start_of schema file) ≡ r → payload_in file ≡ first_payload r
+payload_by : (file : List ℕ) (schema : ℕ) (r : Reading) → header_of file ≡ Ok schema → block_stream_from (first_block_position schema file) ≡ r → payload_in file ≡ first_block_payload r
 unfolding payload_in
-payload_by file schema r header reading = ap (payload_after_header file) header ∙ ap first_payload reading
+payload_by file schema r header reading = ap (payload_after_header file) header ∙ ap first_block_payload reading
 
-good_by_reading : (file : List ℕ) (schema : ℕ) (r : Reading) → header_of file ≡ Ok schema → schema_fault Package schema ≡ None → reading_of (start_of schema file) ≡ r → blocks_fault (fault_after_first Package) Package r ≡ None → IsGood file
+good_by_reading : (file : List ℕ) (schema : ℕ) (r : Reading) → header_of file ≡ Ok schema → schema_fault Package schema ≡ None → block_stream_from (first_block_position schema file) ≡ r → blocks_fault (fault_of_further_blocks Package) Package r ≡ None → IsGood file
 good_by_reading file schema done header wanted reading h =
     inr (ap (λ (p : List ℕ). expected_contents (root_value Package p)) (payload_by file schema done header reading) ∙ nothing_expected)
 good_by_reading file schema (fault c) header wanted reading h = absurd (cc (h))
@@ -344,31 +344,31 @@ good_by_reading file schema (more b at r) header wanted reading h =
     let (values, contents) = both_none (payload_fault Package b.payload) _ h in
     inl (record { schema = schema; header = header; wanted = wanted; block = b; at = at; further = r; reading = reading; values = values; contents = contents })
 
-good_by_header : (file : List ℕ) (header : Result ℕ Cause) → header_of file ≡ header → file_fault (fault_after_first Package) Package file header ≡ None → IsGood file
+good_by_header : (file : List ℕ) (header : Result ℕ Cause) → header_of file ≡ header → file_fault_after_header (fault_of_further_blocks Package) Package file header ≡ None → IsGood file
 good_by_header file (Err c) is h = absurd (cc (h))
 good_by_header file (Ok schema) is h =
     let (wanted, blocks) = both_none (schema_fault Package schema) _ h in
-    good_by_reading file schema (reading_of (start_of schema file)) is wanted refl blocks
+    good_by_reading file schema (block_stream_from (first_block_position schema file)) is wanted refl blocks
 
 good : (file : List ℕ) → package_fault file ≡ None → IsGood file
-unfolding whole_fault
+unfolding container_fault_of_table
 good file h = good_by_header file (header_of file) refl h
 
 -- a package is refused for its contents where its header and its first block are good
-refused_for : (file : List ℕ) (schema : ℕ) (b : Piece) (at : ℕ) (r : Reading) (c : Cause) → header_of file ≡ Ok schema → schema_fault Package schema ≡ None → reading_of (start_of schema file) ≡ more b at r → payload_fault Package b.payload ≡ None
+refused_for : (file : List ℕ) (schema : ℕ) (b : Piece) (at : ℕ) (r : Reading) (c : Cause) → header_of file ≡ Ok schema → schema_fault Package schema ≡ None → block_stream_from (first_block_position schema file) ≡ more b at r → payload_fault Package b.payload ≡ None
     → contents_fault (expected_contents (root_value Package b.payload)) r ≡ Some c → package_fault file ≡ Some c
-unfolding whole_fault
+unfolding container_fault_of_table
 refused_for file schema b at r c header wanted reading values bad =
-    ap (file_fault (fault_after_first Package) Package file) header
+    ap (file_fault_after_header (fault_of_further_blocks Package) Package file) header
     ∙ first_then (schema_fault Package schema) _ c wanted
-    (ap (blocks_fault (fault_after_first Package) Package) reading ∙ first_then (payload_fault Package b.payload) _ c values bad)
+    (ap (blocks_fault (fault_of_further_blocks Package) Package) reading ∙ first_then (payload_fault Package b.payload) _ c values bad)
 
-pieces_from_start : (file : List ℕ) (schema : ℕ) (bs : List Piece) → header_of file ≡ Ok schema → blocks_of file ≡ Ok bs → pieces_of (reading_of (start_of schema file)) ≡ Ok bs
-unfolding rest_of
+pieces_from_start : (file : List ℕ) (schema : ℕ) (bs : List Piece) → header_of file ≡ Ok schema → blocks_of file ≡ Ok bs → blocks_of_stream (block_stream_from (first_block_position schema file)) ≡ Ok bs
+unfolding blocks_from_position
 pieces_from_start file schema bs header are = sym (whole_from file schema header) ∙ are
 
-blocks_from_start : (file : List ℕ) (schema : ℕ) (bs : List Piece) → header_of file ≡ Ok schema → pieces_of (reading_of (start_of schema file)) ≡ Ok bs → blocks_of file ≡ Ok bs
-unfolding rest_of
+blocks_from_start : (file : List ℕ) (schema : ℕ) (bs : List Piece) → header_of file ≡ Ok schema → blocks_of_stream (block_stream_from (first_block_position schema file)) ≡ Ok bs → blocks_of file ≡ Ok bs
+unfolding blocks_from_position
 blocks_from_start file schema bs header are = whole_from file schema header ∙ are
 
 spoiled_by : (tested : List ℕ) (folder file : ℕ) (e : Expected) (bytes : List ℕ) (c : Cause) → IsGoodPackage tested → expected_file_at folder file (expected_contents (root_value Package (payload_in tested))) ≡ Some e → length bytes ≡ e.size → hash_fault e.hash bytes ≡ Some c
@@ -381,11 +381,11 @@ spoiled_by tested folder file e bytes c g found size bad =
     let all = length-append (take 8 h.block.payload) bytes in
     let long = h.long in
     let same : length own ≡ length h.block.payload = omega (arith, all, length-take 8 h.block.payload, long, size) in
-    let pieces : pieces_of (reading_of (start_of g.schema tested)) ≡ Ok (g.block ∷ (h.before ++ h.block ∷ h.behind)) = ap pieces_of g.reading ∙ ap (with_block g.block) h.are in
+    let pieces : blocks_of_stream (block_stream_from (first_block_position g.schema tested)) ≡ Ok (g.block ∷ (h.before ++ h.block ∷ h.behind)) = ap blocks_of_stream g.reading ∙ ap (with_block g.block) h.are in
     let spelled = read_is_spelled tested g.schema (g.block ∷ (h.before ++ h.block ∷ h.behind)) g.header (blocks_from_start tested g.schema _ g.header pieces) in
     let there = replaced_in_file tested g.schema (g.block ∷ h.before) h.behind h.block own same spelled in
     let read = spelled_is_read there.other g.schema (g.block ∷ (h.before ++ with_payload h.block own ∷ h.behind)) there.spells in
-    let begins = begins_with g.block (h.before ++ with_payload h.block own ∷ h.behind) (reading_of (start_of g.schema there.other)) (pieces_from_start there.other g.schema _ read.0 read.1) in
+    let begins = begins_with g.block (h.before ++ with_payload h.block own ∷ h.behind) (block_stream_from (first_block_position g.schema there.other)) (pieces_from_start there.other g.schema _ read.0 read.1) in
     let (wanted, is, digest) = differs e.hash bytes c bad in (
       there.other,
       record {

@@ -2,12 +2,12 @@
 -- `src/file.rt`; how pieces are tested is in `docs/formats.md`, "The other blocks".
 use Rattle.std.specs.Prelude.{◌≡◌, ℕ, List, Some, length}
 use Rattle.base_core.specs.Files.{Files}
-use Rattle.package_verifier.specs.package_reader.FileReading.{HasUnreadBytes, len_around_file, package_name_of_file}
+use Rattle.package_verifier.specs.package_reader.FileReading.{HasUnreadBytes, package_len_of_file, package_name_of_file}
 use Rattle.package_verifier.specs.package_reader.declared.one_file.FilePieces.{FilePieces}
 
 -- these files have a package, and these bytes of one of its files are still to be read
 pub record IsReadingIn (files : Files) (file : FilePieces) (bytes : List ℕ) : Type 0 where
   pub pkg : List ℕ
   pub there : files (package_name_of_file file) ≡ Some pkg
-  pub long : length pkg ≡ len_around_file file
+  pub long : length pkg ≡ package_len_of_file file
   pub reading : HasUnreadBytes file pkg bytes

@@ -2,7 +2,7 @@
 -- with files"; the digests in `docs/formats.md`, "The other blocks".
 use Rattle.std.specs.Prelude.{◌≡◌, ℕ, List, [], ◌∷◌, Some, length, slice_get}
 use Rattle.base_core.specs.Files.{Files}
-use Rattle.file_guard.specs.AsListed.{link_to}
+use Rattle.file_guard.specs.AsListed.{link_bytes_to}
 use Rattle.package_verifier.specs.Tested.{IsTestedOf, tested_value}
 use Rattle.package_verifier.specs.package_reader.FileReading.{AreAsExpected}
 use Rattle.file_guard.specs.pkg_core.Contents.{bytes_of_file, contents_in, expected_contents}
@@ -26,13 +26,13 @@ pub record IsFileSource (files : Files) (f : PackagedFile) (bytes : List ℕ) : 
 -- over these files a source denotes these bytes
 abbrev pub DenotesBytes : Files → Source → List ℕ → Type 0
 DenotesBytes files (Bytes own) bytes = bytes ≡ own.now
-DenotesBytes files (Link target) bytes = bytes ≡ link_to target.now
+DenotesBytes files (Link target) bytes = bytes ≡ link_bytes_to target.now
 DenotesBytes files (File f) bytes = IsFileSource files f bytes
 
 -- bytes have the size and the digest that the package's value lists for a file of it; none if it lists
 -- no contents
-abbrev pub AreListedFor : PackagedFile → List ℕ → Type 0
-AreListedFor f bytes =
+abbrev pub AreListedContentsOf : PackagedFile → List ℕ → Type 0
+AreListedContentsOf f bytes =
     AreAsExpected (expected_file_at f.folder f.file (expected_contents (tested_value
     f.package.now)))
     bytes
@@ -40,8 +40,8 @@ AreListedFor f bytes =
 -- over some files, a source may denote these bytes
 abbrev pub MayDenote : Source → List ℕ → Type 0
 MayDenote (Bytes own) bytes = bytes ≡ own.now
-MayDenote (Link target) bytes = bytes ≡ link_to target.now
-MayDenote (File f) bytes = AreListedFor f bytes
+MayDenote (Link target) bytes = bytes ≡ link_bytes_to target.now
+MayDenote (File f) bytes = AreListedContentsOf f bytes
 
 -- ---- those of several writes
 

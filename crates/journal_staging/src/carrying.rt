@@ -5,8 +5,8 @@ ghost use Rattle.base_core.specs.Calls.{IfObservable};
 ghost use Rattle.base_core.specs.Faults.{CountsOnlyRise, HasCause, IsNoFault};
 ghost use Rattle.base_core.specs.Tree.{TreeState, files_of};
 ghost use Rattle.base_core.specs.declared.cause.Cause.{Cause};
-ghost use Rattle.journal_commit.specs.journal_core.Recovery.{after_actions, intent_name};
-ghost use Rattle.journal_commit.specs.journal_core.Staged.{AreJournalPathsFree, IsEmptyStage, new_stage, with_staged};
+ghost use Rattle.journal_commit.specs.journal_core.Recovery.{files_after_actions, intent_name};
+ghost use Rattle.journal_commit.specs.journal_core.Staged.{AreJournalPathsFree, IsEmptyStage, new_stage, files_with_staged};
 ghost use Rattle.journal_commit.specs.journal_core.Targets.{AreAccepted};
 ghost use Rattle.journal_staging.specs.Carried.{IsCarriedTo};
 ghost use Rattle.journal_staging.specs.Sources.{EachMayDenote, EachDenotes};
@@ -89,14 +89,14 @@ pub fn carry_out<T: Tree>(
     ensures run { IfObservable (T.history tree.old) (λ v. (contents : List (List ℕ))
         → v.names intent_name ≡ None → IsEmptyStage (files_of v)
         → EachDenotes (files_of v) writes.now contents
-        → IsCarriedTo (after_actions stage.old.intent (with_staged 1 contents (files_of v)))
+        → IsCarriedTo (files_after_actions stage.old.intent (files_with_staged 1 contents (files_of v)))
         v (T.history tree.old) (T.history tree.new) result) }
     // Whatever else the tree returns: the result are files with bytes that the sources may denote,
     // so those of a package have the size and the digest that its value lists.
     ensures listed { IfObservable (T.history tree.old) (λ v.
         v.names intent_name ≡ None → IsEmptyStage (files_of v)
         → OnOk result ((contents : List (List ℕ)) × EachMayDenote writes.now contents
-        × IsStageRunComplete (after_actions stage.old.intent (with_staged 1 contents (files_of v)))
+        × IsStageRunComplete (files_after_actions stage.old.intent (files_with_staged 1 contents (files_of v)))
         v (T.history tree.new))) }
     // Nor is it half done after an error: if a package is bad, only staged files have changed.
     ensures unpublished { IfObservable (T.history tree.old) (λ v.
@@ -109,7 +109,7 @@ pub fn carry_out<T: Tree>(
         v.names intent_name ≡ None → IsEmptyStage (files_of v)
         → OnErr result (IsStagingRun v (T.history tree.old) (T.history tree.new)
         ⊎ ((contents : List (List ℕ)) × EachMayDenote writes.now contents
-        × IsStageRun (after_actions stage.old.intent (with_staged 1 contents (files_of v)))
+        × IsStageRun (files_after_actions stage.old.intent (files_with_staged 1 contents (files_of v)))
         v (T.history tree.old) (T.history tree.new)))) }
     // All targets are asked for first: either nothing has happened, or the tree accepts each. Ok is
     // returned only if it accepts them.
@@ -133,7 +133,7 @@ pub fn carry_out<T: Tree>(
     ensures proper { IfObservable (T.history tree.old) (λ v. (contents : List (List ℕ))
         → v.names intent_name ≡ None → IsEmptyStage (files_of v)
         → EachDenotes (files_of v) writes.now contents → AreJournalPathsFree (files_of v)
-        → AreJournalPathsFree (after_actions stage.old.intent (with_staged 1 contents (files_of v)))
+        → AreJournalPathsFree (files_after_actions stage.old.intent (files_with_staged 1 contents (files_of v)))
         → (T.counts tree.new).misuses ≡ (T.counts tree.old).misuses) }
 {
     // Laws that the proof needs; they compute nothing.

@@ -5,7 +5,7 @@ ghost use Rattle.base_core.specs.Faults.{CountsOnlyRise, HasCause, IsNoFault};
 ghost use Rattle.base_core.specs.Tree.{TreeState, files_of};
 ghost use Rattle.journal_commit.specs.journal_core.Staged.{AreJournalPathsFree};
 ghost use Rattle.base_core.specs.declared.cause.Cause.{Cause};
-ghost use Rattle.package_verifier.specs.package_reader.FileReading.{AreAsExpected, HaveBeenReturned, HaveOtherDigest, expected_file_of, kept_fault};
+ghost use Rattle.package_verifier.specs.package_reader.FileReading.{AreAsExpected, HaveBeenReturned, HaveOtherDigest, expected_file_of, remembered_fault};
 ghost use Rattle.package_verifier.specs.package_reader.declared.piece.PieceFault.TheVariants.{Bad, Disk as DiskFault};
 ghost use Rattle.journal_staging.specs.Reading.{IsReadingIn};
 ghost use Rattle.journal_commit.specs.StageRun.{IsStaging, IsStagingRun};
@@ -51,7 +51,7 @@ pub(crate) fn stage_file<T: Tree>(
         × IsStaging stage.new (contents ++ bytes ∷ []) None v first (T.history tree.new)) }
     // If it was not refused from the start: a test fails only for bytes that have the expected
     // size, and another digest.
-    ensures bad { HaveBeenReturned file.entry [] → kept_fault file.entry ≡ None → (cause : Cause)
+    ensures bad { HaveBeenReturned file.entry [] → remembered_fault file.entry ≡ None → (cause : Cause)
         → IsErrOf result (Bad cause)
         → (bytes : List ℕ) × HaveOtherDigest (expected_file_of file.entry) bytes cause }
     // The next write of the stage has its file then.

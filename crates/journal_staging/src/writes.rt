@@ -8,14 +8,14 @@ ghost use Rattle.base_core.specs.Files.{Files};
 ghost use Rattle.base_core.specs.Tree.{TreeState, files_of};
 ghost use Rattle.base_core.specs.declared.cause.Cause.{Cause};
 ghost use Rattle.journal_commit.specs.journal_core.Staged.{AreJournalPathsFree};
-ghost use Rattle.journal_staging.specs.Sources.{AreListedFor, IsFileSource, MayDenote, DenotesBytes};
+ghost use Rattle.journal_staging.specs.Sources.{AreListedContentsOf, IsFileSource, MayDenote, DenotesBytes};
 ghost use Rattle.journal_staging.specs.Spoiled.{IsSpoiledAt, IsSpoiledForEachTested};
 ghost use Rattle.journal_staging.specs.declared.writes.StageFault.TheVariants.{Bad, Disk as DiskFault};
 ghost use Rattle.journal_commit.specs.StageRun.{IsStaging, IsStagingRun};
 
 use crate::file::stage_file;
 use base_core::{Cause, Disk, Name, Tree};
-use file_guard::{LINK_MARK, target_text};
+use file_guard::{LINK_MARK, link_text_of_target};
 use journal_commit::{Stage, stage_bytes, stage_pieces};
 use package_verifier::{Piece, PieceFault, TestedPackage};
 
@@ -46,7 +46,7 @@ fn stage_packaged<T: Tree>(
         → IsFileSource (files_of v) f.now bytes → IfErr result (λ fault. fault ≡ DiskFault) }
     ensures listed { (contents : List (List ℕ)) (v : TreeState) (first : List TreeState)
         → IsStaging stage.old contents None v first (T.history tree.old)
-        → OnOk result ((bytes : List ℕ) × AreListedFor f.now bytes
+        → OnOk result ((bytes : List ℕ) × AreListedContentsOf f.now bytes
         × IsStaging stage.new (contents ++ bytes ∷ []) None v first (T.history tree.new)) }
     // The cause is that of a file with the values of the tested one.
     ensures bad { (member : ℕ) (cause : Cause) → IsErrOf result (Bad member cause)
@@ -126,7 +126,12 @@ pub(crate) fn stage_write<T: Tree>(
 {
     match source {
         Source::Bytes(bytes) => Ok(stage_bytes(stage, tree, bytes)?),
-        Source::Link(target) => Ok(stage_pieces(stage, tree, LINK_MARK, target_text(target))?),
+        Source::Link(target) => Ok(stage_pieces(
+            stage,
+            tree,
+            LINK_MARK,
+            link_text_of_target(target),
+        )?),
         Source::File(f) => stage_packaged(stage, tree, f, piece),
     }
 }

@@ -12,13 +12,13 @@ use Rattle.base_core.proofs.Listed.{at_index}
 use Rattle.base_core.proofs.Rising.{not_itself}
 use Rattle.adb_view.specs.Plain.{Plain}
 use Rattle.make_index.specs.adb_fields.Pairs.{NameWithPosition}
-use Rattle.make_index.specs.adb_fields.FirstPair.{IsFirstOf}
-use Rattle.make_index.specs.adb_fields.FirstPair.{IsPair}
+use Rattle.make_index.specs.adb_fields.FirstPair.{IsLeastPairIfAny}
+use Rattle.make_index.specs.adb_fields.FirstPair.{IsPairOfEqualNames}
 use Rattle.make_index.specs.adb_fields.FirstPair.{IsIn}
-use Rattle.make_index.specs.adb_fields.Repeated.{file_twice, files_in, folder_twice, folders_in, name_of, numbered_from, repeated_fault, twice_in_one}
+use Rattle.make_index.specs.adb_fields.Repeated.{file_twice, files_in, folder_twice, folders_in, name_of, numbered_from, repeated_fault, repeated_pair_in_one_list}
 use Rattle.make_index.specs.adb_fields.FirstPair.{IsPairInOne}
 use Rattle.adb_view.specs.declared.tables.Which.TheVariants.{Package}
-use Rattle.make_package.specs.package_files.Folders.{with_folders, sorted_names, with_folder, with_folder_by}
+use Rattle.make_package.specs.package_files.Folders.{with_folders_inserted, sorted_names, with_folder_inserted, with_folder_by}
 use Rattle.make_package.specs.package_files.Package.{Script, Source, SourceFolder, value_of_file, value_of_folder, value_of_package, kind_of_file}
 use Rattle.make_core.proofs.PackageFiles.{files_stand, folder_name_stands, folders_stand, name_stands}
 
@@ -51,11 +51,11 @@ rises_from_pairs (x ∷ xs) pairs = (
 
 -- ---- placed one by one
 
-placed_in : (q name : List ℕ) (xs : List (List ℕ)) → IsIn q (with_folder name xs) → (q ≡ name) ⊎ IsIn q xs
+placed_in : (q name : List ℕ) (xs : List (List ℕ)) → IsIn q (with_folder_inserted name xs) → (q ≡ name) ⊎ IsIn q xs
 placed_in q name [] h = h
 placed_in q name (x ∷ xs) h = by_order (cmp name x) (placed_in q name xs) h
   where
-    by_order : (o : Ordering) → (IsIn q (with_folder name xs) → (q ≡ name) ⊎ IsIn q xs) → IsIn q (with_folder_by o name x xs (with_folder name xs)) → (q ≡ name) ⊎ IsIn q (x ∷ xs)
+    by_order : (o : Ordering) → (IsIn q (with_folder_inserted name xs) → (q ≡ name) ⊎ IsIn q xs) → IsIn q (with_folder_by o name x xs (with_folder_inserted name xs)) → (q ≡ name) ⊎ IsIn q (x ∷ xs)
     by_order Less further h = h
     by_order Equal further h = inr h
     by_order Greater further (inl is) = inr (inl is)
@@ -73,23 +73,23 @@ all_behind : (name x : List ℕ) (xs : List (List ℕ)) → cmp name x ≡ Less 
 all_behind name x xs less all q (inl is) = subst (λ (z : List ℕ). cmp name z ≡ Less) (sym is) less
 all_behind name x xs less all q (inr here) = nat_list_cmp_total.trans name x q less (all q here)
 
-placed_rises : (name : List ℕ) (xs : List (List ℕ)) → Rises xs → Rises (with_folder name xs)
+placed_rises : (name : List ℕ) (xs : List (List ℕ)) → Rises xs → Rises (with_folder_inserted name xs)
 placed_rises name [] r = (λ q h. absurd h, tt)
 placed_rises name (x ∷ xs) r = by_order (cmp name x) refl (placed_rises name xs r.1)
   where
-    by_order : (o : Ordering) → cmp name x ≡ o → Rises (with_folder name xs) → Rises (with_folder_by o name x xs (with_folder name xs))
+    by_order : (o : Ordering) → cmp name x ≡ o → Rises (with_folder_inserted name xs) → Rises (with_folder_by o name x xs (with_folder_inserted name xs))
     by_order Less e further = (all_behind name x xs e r.0, r)
     by_order Equal e further = r
     by_order Greater e further = (λ q here. below_placed x name xs (nat_list_cmp_total.antisymm x name ∙ ap ordering_reverse e) r.0 q (placed_in q name xs here), further)
 
-all_placed_rises : (so_far names : List (List ℕ)) → Rises so_far → Rises (with_folders so_far names)
+all_placed_rises : (so_far names : List (List ℕ)) → Rises so_far → Rises (with_folders_inserted so_far names)
 all_placed_rises so_far [] r = r
-all_placed_rises so_far (name ∷ names) r = all_placed_rises (with_folder name so_far) names (placed_rises name so_far r)
+all_placed_rises so_far (name ∷ names) r = all_placed_rises (with_folder_inserted name so_far) names (placed_rises name so_far r)
 
 pub in_order_rises : (names : List (List ℕ)) → Rises (sorted_names names)
 in_order_rises names = all_placed_rises [] names tt
 
-either_in : (q name : List ℕ) (so_far names : List (List ℕ)) → IsIn q (with_folder name so_far) ⊎ IsIn q names → IsIn q so_far ⊎ IsIn q (name ∷ names)
+either_in : (q name : List ℕ) (so_far names : List (List ℕ)) → IsIn q (with_folder_inserted name so_far) ⊎ IsIn q names → IsIn q so_far ⊎ IsIn q (name ∷ names)
 either_in q name so_far names (inr here) = inr (inr here)
 either_in q name so_far names (inl here) = shift (placed_in q name so_far here)
   where
@@ -97,9 +97,9 @@ either_in q name so_far names (inl here) = shift (placed_in q name so_far here)
     shift (inl is) = inr (inl is)
     shift (inr more) = inl more
 
-all_placed_in : (q : List ℕ) (so_far names : List (List ℕ)) → IsIn q (with_folders so_far names) → IsIn q so_far ⊎ IsIn q names
+all_placed_in : (q : List ℕ) (so_far names : List (List ℕ)) → IsIn q (with_folders_inserted so_far names) → IsIn q so_far ⊎ IsIn q names
 all_placed_in q so_far [] h = inl h
-all_placed_in q so_far (name ∷ names) h = either_in q name so_far names (all_placed_in q (with_folder name so_far) names h)
+all_placed_in q so_far (name ∷ names) h = either_in q name so_far names (all_placed_in q (with_folder_inserted name so_far) names h)
 
 right_in : (q : List ℕ) (names : List (List ℕ)) → IsIn q [] ⊎ IsIn q names → IsIn q names
 right_in q names (inl h) = absurd h
@@ -122,7 +122,7 @@ one_position n (x ∷ xs) a b apart (inl h) (inr k) e = absurd (apart.0 b.name (
 one_position n (x ∷ xs) a b apart (inr h) (inl k) e = absurd (apart.0 a.name (numbered_in (n + 1) xs a h) (sym (ap (λ (m : NameWithPosition). m.name) k) ∙ sym e))
 one_position n (x ∷ xs) a b apart (inr h) (inr k) e = one_position (n + 1) xs a b apart.1 h k e
 
-no_pair : (names : List (List ℕ)) (p : _) → IsApart names → IsPair (numbered_from 1 names) p → ⊥
+no_pair : (names : List (List ℕ)) (p : _) → IsApart names → IsPairOfEqualNames (numbered_from 1 names) p → ⊥
 no_pair names p apart pair =
     let same = one_position 1 names pair.one pair.other apart pair.one_in pair.other_in pair.alike in
     let first = pair.first in
@@ -131,14 +131,14 @@ no_pair names p apart pair =
     omega arith
 
 abbrev pub Tells : Type 0
-Tells = (lists : List (List (List ℕ))) → IsFirstOf (IsPairInOne lists) (twice_in_one lists)
+Tells = (lists : List (List (List ℕ))) → IsLeastPairIfAny (IsPairInOne lists) (repeated_pair_in_one_list lists)
 
-none_by : (lists : List (List (List ℕ))) (o : Option _) → ((names : List (List ℕ)) → IsIn names lists → IsApart names) → IsFirstOf (IsPairInOne lists) o → o ≡ None
+none_by : (lists : List (List (List ℕ))) (o : Option _) → ((names : List (List ℕ)) → IsIn names lists → IsApart names) → IsLeastPairIfAny (IsPairInOne lists) o → o ≡ None
 none_by lists None apart told = refl
 none_by lists (Some p) apart told = let one = told.is_one in absurd (no_pair one.names p (apart one.names one.names_in) one.is_pair)
 
-none_twice : Tells → (lists : List (List (List ℕ))) → ((names : List (List ℕ)) → IsIn names lists → IsApart names) → twice_in_one lists ≡ None
-none_twice tells lists apart = none_by lists (twice_in_one lists) apart (tells lists)
+none_twice : Tells → (lists : List (List (List ℕ))) → ((names : List (List ℕ)) → IsIn names lists → IsApart names) → repeated_pair_in_one_list lists ≡ None
+none_twice tells lists apart = none_by lists (repeated_pair_in_one_list lists) apart (tells lists)
 
 -- ---- in a package
 
@@ -186,7 +186,7 @@ module _ (info : Plain) (folders : List SourceFolder) (scripts : List Script) (t
       let same : flat_map (λ (pkg : Plain). names_by_folder (folders_in pkg)) (value ∷ []) ≡ lists =
       flat_map-cons (λ (pkg : Plain). names_by_folder (folders_in pkg)) value []
       ∙ (append-nil (names_by_folder (folders_in value)) ∙ ap names_by_folder (folders_stand info folders scripts triggers priority)) in
-      ap twice_in_one same ∙ none_twice tells lists (apart_by_folder folders apart)
+      ap repeated_pair_in_one_list same ∙ none_twice tells lists (apart_by_folder folders apart)
 
   pub package_once : Tells → IsApart (folder_names_of folders) → AreApartFiles folders → repeated_fault Package value ≡ None
   unfolding repeated_fault

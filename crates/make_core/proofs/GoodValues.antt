@@ -4,7 +4,7 @@ use Rattle.base_core.specs.declared.cause.Cause.{Cause}
 use Rattle.base_core.specs.declared.cause.Cause.TheVariants.{BadText}
 use Rattle.adb_view.specs.Plain.{Plain, null, int, blob, arr, obj, Plains, none, more, Shape, number, text, hash, array, object, Fields, no_fields, field, blob_or_null, arr_value, obj_value, put_first_without_last_null, without_last_nulls, IsNormal, AreNormal}
 use Rattle.adb_view.specs.Shaped.{Each, HasShape, HaveShapes}
-use Rattle.make_index.specs.adb_schema.Texts.{Surroundings, Leaf, number_leaf, text_leaf, keeps_rule, number_of_leaf, leaves, field_leaves, each_leaf, surroundings_of_fields, first_bad, number_rule, text_rule}
+use Rattle.make_index.specs.adb_schema.Texts.{Surroundings, Leaf, number_leaf, text_leaf, keeps_rule, number_of_leaf, leaves, field_leaves, each_leaf, surroundings_of_fields, first_bad_leaf, number_rule, text_rule}
 use Rattle.adb_view.specs.Values.{text_in}
 use Rattle.adb_view.proofs.FoundShapes.{arr_value_shape, blob_value_hash, blob_value_text, obj_value_shape}
 use Rattle.adb_view.proofs.Normal.{arr_normal, blob_value_normal, obj_normal}
@@ -47,19 +47,19 @@ behind_front : (t : Bool) (c : Cause) (a b : Option Cause) → (a ≡ None → b
 behind_front true c a b h e = h e
 behind_front false c a b h e = (cc)
 
-pub good_append : (xs ys : List Leaf) → first_bad xs ≡ None → first_bad ys ≡ None → first_bad (xs ++ ys) ≡ None
+pub good_append : (xs ys : List Leaf) → first_bad_leaf xs ≡ None → first_bad_leaf ys ≡ None → first_bad_leaf (xs ++ ys) ≡ None
 good_append [] ys a b = b
-good_append (x ∷ xs) ys a b = in_front (keeps_rule x) (BadText (number_of_leaf x)) (first_bad xs) (first_bad (xs ++ ys)) (λ e. good_append xs ys e b) a
+good_append (x ∷ xs) ys a b = in_front (keeps_rule x) (BadText (number_of_leaf x)) (first_bad_leaf xs) (first_bad_leaf (xs ++ ys)) (λ e. good_append xs ys e b) a
 
-pub good_front : (xs ys : List Leaf) → first_bad (xs ++ ys) ≡ None → first_bad xs ≡ None
+pub good_front : (xs ys : List Leaf) → first_bad_leaf (xs ++ ys) ≡ None → first_bad_leaf xs ≡ None
 good_front [] ys a = refl
-good_front (x ∷ xs) ys a = in_front (keeps_rule x) (BadText (number_of_leaf x)) (first_bad (xs ++ ys)) (first_bad xs) (good_front xs ys) a
+good_front (x ∷ xs) ys a = in_front (keeps_rule x) (BadText (number_of_leaf x)) (first_bad_leaf (xs ++ ys)) (first_bad_leaf xs) (good_front xs ys) a
 
-pub good_back : (xs ys : List Leaf) → first_bad (xs ++ ys) ≡ None → first_bad ys ≡ None
+pub good_back : (xs ys : List Leaf) → first_bad_leaf (xs ++ ys) ≡ None → first_bad_leaf ys ≡ None
 good_back [] ys a = a
-good_back (x ∷ xs) ys a = behind_front (keeps_rule x) (BadText (number_of_leaf x)) (first_bad (xs ++ ys)) (first_bad ys) (good_back xs ys) a
+good_back (x ∷ xs) ys a = behind_front (keeps_rule x) (BadText (number_of_leaf x)) (first_bad_leaf (xs ++ ys)) (first_bad_leaf ys) (good_back xs ys) a
 
-pub good_leaf : (x : Leaf) → keeps_rule x ≡ true → first_bad (x ∷ []) ≡ None
+pub good_leaf : (x : Leaf) → keeps_rule x ≡ true → first_bad_leaf (x ∷ []) ≡ None
 good_leaf x e = rw e refl
 
 -- ---- good values
@@ -68,7 +68,7 @@ good_leaf x e = rw e refl
 pub record IsGood (s : Shape) (place : ℕ) (around : Surroundings) (v : Plain) : Type 0 where
   pub normal : IsNormal v
   pub shaped : HasShape s v
-  pub kept : first_bad (leaves s place around v) ≡ None
+  pub kept : first_bad_leaf (leaves s place around v) ≡ None
 
 -- the values of an object's fields; those that are missing are Null
 abbrev pub AreGood : Fields → ℕ → Surroundings → Plains → Type 0
@@ -91,7 +91,7 @@ all_shaped no_fields place around (more v vs) g = absurd g
 all_shaped (field name s fs) place around none g = tt
 all_shaped (field name s fs) place around (more v vs) g = (g.0.shaped, all_shaped fs (place + 1) around vs g.1)
 
-all_kept : (fs : Fields) (place : ℕ) (around : Surroundings) (vs : Plains) → AreGood fs place around vs → first_bad (field_leaves fs place around vs) ≡ None
+all_kept : (fs : Fields) (place : ℕ) (around : Surroundings) (vs : Plains) → AreGood fs place around vs → first_bad_leaf (field_leaves fs place around vs) ≡ None
 unfolding field_leaves
 all_kept no_fields place around none g = refl
 all_kept no_fields place around (more v vs) g = absurd g
@@ -103,7 +103,7 @@ pub obj_good : (schema : ℕ) (fs : Fields) (place : ℕ) (around inside : Surro
 obj_good schema fs place around inside vs e g = record {
   normal = obj_normal vs (all_normal fs (100 * schema + 1) inside vs g);
   shaped = obj_value_shape schema fs vs (all_shaped fs (100 * schema + 1) inside vs g);
-  kept = ap first_bad (obj_value-leaves schema fs place around vs) ∙ (ap (λ (a : Surroundings). first_bad (field_leaves fs (100 * schema + 1) a vs)) e ∙ all_kept fs (100 * schema + 1) inside vs g);
+  kept = ap first_bad_leaf (obj_value-leaves schema fs place around vs) ∙ (ap (λ (a : Surroundings). first_bad_leaf (field_leaves fs (100 * schema + 1) a vs)) e ∙ all_kept fs (100 * schema + 1) inside vs g);
 }
 
 each_normal : (s : Shape) (place : ℕ) (around : Surroundings) (vs : Plains) → Each (IsGood s place around) vs → AreNormal vs
@@ -115,7 +115,7 @@ each_shaped : (s : Shape) (place : ℕ) (around : Surroundings) (vs : Plains) �
 each_shaped s place around none g = tt
 each_shaped s place around (more v vs) g = (g.0.shaped, each_shaped s place around vs g.1)
 
-each_kept : (s : Shape) (place : ℕ) (around : Surroundings) (vs : Plains) → Each (IsGood s place around) vs → first_bad (each_leaf (leaves s place around) vs) ≡ None
+each_kept : (s : Shape) (place : ℕ) (around : Surroundings) (vs : Plains) → Each (IsGood s place around) vs → first_bad_leaf (each_leaf (leaves s place around) vs) ≡ None
 each_kept s place around none g = refl
 each_kept s place around (more v vs) g = good_append (leaves s place around v) (each_leaf (leaves s place around) vs) g.0.kept (each_kept s place around vs g.1)
 
@@ -124,7 +124,7 @@ unfolding leaves
 arr_good s place around vs g = record {
   normal = arr_normal vs (each_normal s place around vs g);
   shaped = arr_value_shape s vs (each_shaped s place around vs g);
-  kept = ap (λ (us : Plains). first_bad (each_leaf (leaves s place around) us)) (entries_arr vs) ∙ each_kept s place around vs g;
+  kept = ap (λ (us : Plains). first_bad_leaf (each_leaf (leaves s place around) us)) (entries_arr vs) ∙ each_kept s place around vs g;
 }
 
 pub text_good : (place : ℕ) (around : Surroundings) (b : List ℕ) → text_rule place around b ≡ true → IsGood text place around (blob_or_null b)

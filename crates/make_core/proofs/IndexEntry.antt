@@ -5,7 +5,7 @@ use Rattle.sha2.proofs.Facts256.{length-sha256}
 use Rattle.adb_view.specs.Plain.{Plain, int, blob, obj, Plains, Shape, number, hash, object, Fields}
 use Rattle.adb_view.specs.Shaped.{HasShape, HaveShapes}
 use Rattle.adb_view.specs.Schema.{shape_of, shapes_of, table}
-use Rattle.make_index.specs.adb_schema.Texts.{Surroundings, number_leaf, text_leaf, surroundings_of_root, surroundings_of_fields, leaves, field_leaves, first_bad, is_package_hash, text_rule}
+use Rattle.make_index.specs.adb_schema.Texts.{Surroundings, number_leaf, text_leaf, surroundings_of_root, surroundings_of_fields, leaves, field_leaves, first_bad_leaf, is_package_hash, text_rule}
 use Rattle.adb_view.specs.Values.{nth, entries_in, entry_in}
 use Rattle.make_index.specs.adb_schema.Soundness.{payload_in}
 use Rattle.adb_view.specs.declared.tables.Which.{Which}
@@ -13,7 +13,7 @@ use Rattle.adb_view.specs.declared.tables.Which.TheVariants.{Dep, Package, PkgIn
 use Rattle.adb_view.specs.declared.tables.Kind.TheVariants.{Obj}
 use Rattle.make_index.specs.pkg_core.Whole.{package_fault, package_id, package_with_contents}
 use Rattle.make_index.specs.Entries.{entry_of_package}
-use Rattle.make_index.specs.adb_copy.Zeros.{info_with, with_at}
+use Rattle.make_index.specs.adb_copy.Zeros.{info_with_id_and_size, with_value_at_index}
 use Rattle.make_core.proofs.Blind.{AreBlind, AreBlindBut, IsBlind, turned_but}
 use Rattle.make_core.proofs.OpenedPackage.{IsOpened, Values, opened}
 use Rattle.make_core.proofs.ValueParts.{part_kept, part_shaped, placed_kept, placed_later, placed_shaped}
@@ -50,21 +50,21 @@ info_shaped v o =
 abbrev around_info : Plain → Surroundings
 around_info v = surroundings_of_fields 3 (surroundings_of_fields 7 (surroundings_of_root Package) v) (entry_in v 0)
 
-info_kept : (v : Plain) → IsOpened v → first_bad (field_leaves infos 301 (around_info v) (entries_in (entry_in v 0))) ≡ None
+info_kept : (v : Plain) → IsOpened v → first_bad_leaf (field_leaves infos 301 (around_info v) (entries_in (entry_in v 0))) ≡ None
 unfolding shape_of leaves
 info_kept v o = part_kept (shapes_of (table Package)) 0 (shape_of (Obj PkgInfo)) 701 (surroundings_of_fields 7 (surroundings_of_root Package) v) (entries_in v) refl o.kept
 
 -- ---- its hash and its length
 
-id_here : (a : Surroundings) (id : List ℕ) → length id ≡ 32 → a.root ≡ Package → first_bad (leaves hash 303 a (blob id)) ≡ None
+id_here : (a : Surroundings) (id : List ℕ) → length id ≡ 32 → a.root ≡ Package → first_bad_leaf (leaves hash 303 a (blob id)) ≡ None
 unfolding leaves text_rule
 id_here a id len root = good_leaf (text_leaf 303 a id) (ap (λ (w : Which). is_package_hash w (length id)) root ∙ ap (is_package_hash Package) len)
 
-id_there : (a : Surroundings) (id : List ℕ) → length id ≡ 32 → a.root ≡ Index → first_bad (leaves hash 303 a (blob id)) ≡ None
+id_there : (a : Surroundings) (id : List ℕ) → length id ≡ 32 → a.root ≡ Index → first_bad_leaf (leaves hash 303 a (blob id)) ≡ None
 unfolding leaves text_rule
 id_there a id len root = good_leaf (text_leaf 303 a id) (ap (λ (w : Which). is_package_hash w (length id)) root ∙ ap (is_package_hash Index) len)
 
-len_here : (a : Surroundings) (n : ℕ) → first_bad (leaves number 313 a (int n)) ≡ None
+len_here : (a : Surroundings) (n : ℕ) → first_bad_leaf (leaves number 313 a (int n)) ≡ None
 unfolding leaves
 len_here a n = good_leaf (number_leaf 313 n) refl
 
@@ -93,33 +93,33 @@ unfolding HasShape
 obj_shaped schema fs vs h = h
 
 abbrev with_both : Plains → List ℕ → ℕ → Plains
-with_both vs id len = with_at 12 (int len) (with_at 2 (blob id) vs)
+with_both vs id len = with_value_at_index 12 (int len) (with_value_at_index 2 (blob id) vs)
 
 both_shaped : (vs : Plains) (id : List ℕ) (len : ℕ) → HaveShapes infos vs → HaveShapes infos (with_both vs id len)
 unfolding shape_of
 both_shaped vs id len h =
-    placed_shaped infos 12 number (int len) (with_at 2 (blob id) vs) refl (int_shaped len) (placed_shaped infos 2 hash (blob id) vs refl (blob_shaped id) h)
+    placed_shaped infos 12 number (int len) (with_value_at_index 2 (blob id) vs) refl (int_shaped len) (placed_shaped infos 2 hash (blob id) vs refl (blob_shaped id) h)
 
 both_ints : (vs : Plains) (id : List ℕ) (len : ℕ) → len < 2 ^ 64 → HaveInts vs → HaveInts (with_both vs id len)
-both_ints vs id len small h = placed_ints 12 (int len) (with_at 2 (blob id) vs) (int_ints len small) (placed_ints 2 (blob id) vs (blob_ints id) h)
+both_ints vs id len small h = placed_ints 12 (int len) (with_value_at_index 2 (blob id) vs) (int_ints len small) (placed_ints 2 (blob id) vs (blob_ints id) h)
 
 id_stands : (vs : Plains) (id : List ℕ) (len : ℕ) → nth (with_both vs id len) 2 ≡ blob id
-id_stands vs id len = placed_later 2 12 (int len) (with_at 2 (blob id) vs) (lit< tt) ∙ at_same 2 (blob id) vs
+id_stands vs id len = placed_later 2 12 (int len) (with_value_at_index 2 (blob id) vs) (lit< tt) ∙ at_same 2 (blob id) vs
 
 both_kept : (a b : Surroundings) (vs : Plains) (id : List ℕ) (len : ℕ) → length id ≡ 32 → a.root ≡ Package → b.root ≡ Index
-    → first_bad (field_leaves infos 301 a vs) ≡ None → first_bad (field_leaves infos 301 b (with_both vs id len)) ≡ None
+    → first_bad_leaf (field_leaves infos 301 a vs) ≡ None → first_bad_leaf (field_leaves infos 301 b (with_both vs id len)) ≡ None
 unfolding shape_of
 both_kept a b vs id len long here there h =
     let one = placed_kept infos 2 hash 301 a (blob id) vs refl (id_here a id long here) h in
-    let two = placed_kept infos 12 number 301 a (int len) (with_at 2 (blob id) vs) refl (len_here a len) one in
-    let id_good = ap (λ (u : Plain). first_bad (leaves hash 303 b u)) (id_stands vs id len) ∙ id_there b id long there in
+    let two = placed_kept infos 12 number 301 a (int len) (with_value_at_index 2 (blob id) vs) refl (len_here a len) one in
+    let id_good = ap (λ (u : Plain). first_bad_leaf (leaves hash 303 b u)) (id_stands vs id len) ∙ id_there b id long there in
     turned_but 2 infos hash 301 a b (with_both vs id len) refl blind_info id_good two
 
 -- ---- the entry
 
 entry_by : (v : Plain) (id : List ℕ) (len place : ℕ) (around : Surroundings) → IsOpened v → length id ≡ 32 → len < 2 ^ 64 → around.root ≡ Index
-    → IsGood (shape_of (Obj PkgInfo)) place around (info_with (entry_in v 0) id len)
-unfolding shape_of leaves info_with
+    → IsGood (shape_of (Obj PkgInfo)) place around (info_with_id_and_size (entry_in v 0) id len)
+unfolding shape_of leaves info_with_id_and_size
 entry_by v id len place around o long small root =
     let vs = entries_in (entry_in v 0) in
     let us = with_both vs id len in
@@ -129,7 +129,7 @@ entry_by v id len place around o long small root =
     record {
       normal = zeros_normal (obj us) ints;
       shaped = zeros_shape (object 3 infos) (obj us) shaped;
-      kept = ap first_bad (zeros_leaves (object 3 infos) place around (obj us) shaped) ∙ kept;
+      kept = ap first_bad_leaf (zeros_leaves (object 3 infos) place around (obj us) shaped) ∙ kept;
     }
 
 pub entry_good : Values → (file : List ℕ) (place : ℕ) (around : Surroundings) → All (λ b. b < 256) file → length file < 2 ^ 64 → around.root ≡ Index → package_fault file ≡ None

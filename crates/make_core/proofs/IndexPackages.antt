@@ -9,7 +9,7 @@ use Rattle.adb_view.specs.declared.tables.Which.TheVariants.{Index}
 use Rattle.adb_view.proofs.ValueEntries.{entries_arr, nth_obj}
 use Rattle.adb_view.specs.Plain.{Plain, none, more, arr_value, blob_or_null}
 use Rattle.command_core.specs.Command.{CommandLine}
-use Rattle.command_core.specs.Files.{without_dot}
+use Rattle.command_core.specs.Files.{without_dot_slash}
 use Rattle.command_core.specs.declared.operands.Operand.{Operand}
 use Rattle.base_core.specs.Sorted.{sorted_by}
 use Rattle.make_index.specs.Entries.{entry_of_package}
@@ -21,7 +21,7 @@ use Rattle.make_index.specs.make_info.Values.{plains_of_list}
 use Rattle.make_index.specs.make_info.declared.fault.MakeFault.{MakeFault}
 use Rattle.make_index.specs.pkg_core.Whole.{package_fault}
 use Rattle.make_core.specs.IndexOrder.{AreSoundPackages, HasPackagesInOrder, packages_in}
-use Rattle.make_core.specs.ReadBack.{index_value_of}
+use Rattle.make_core.specs.ReadBack.{index_value_of_entries}
 use Rattle.make_core.proofs.OpenedPackage.{Values}
 use Rattle.make_core.proofs.PackageFiles.{list-plains}
 use Rattle.make_core.proofs.Roots.{Exact}
@@ -50,7 +50,7 @@ record AreSoundEntries (read : Reads) (n : ℕ) (operands : List Operand) (entri
   same : map entry_of_package files ≡ entries
 
 one_more : (read : Reads) (n : ℕ) (o : Operand) (operands : List Operand) (entries : List Plain) (r : Result Plain MakeFault) (rs : Result (List Plain) MakeFault)
-    → ((entry : Plain) → r ≡ Ok entry → IsSoundEntry (read n (without_dot o.text)) entry) → ((others : List Plain) → rs ≡ Ok others → AreSoundEntries read (n + 1) operands others)
+    → ((entry : Plain) → r ≡ Ok entry → IsSoundEntry (read n (without_dot_slash o.text)) entry) → ((others : List Plain) → rs ≡ Ok others → AreSoundEntries read (n + 1) operands others)
     → and_entries r rs ≡ Ok entries → AreSoundEntries read n (o ∷ operands) entries
 one_more read n o operands entries (Err fault) rs one further e = absurd (cc (e))
 one_more read n o operands entries (Ok entry) (Err fault) one further e = absurd (cc (e))
@@ -69,8 +69,8 @@ entries_sound read n [] entries e =
     let none_left : [] ≡ entries = cc (e) in
     record { files = []; sound = tt; same = none_left }
 entries_sound read n (o ∷ operands) entries e =
-    one_more read n o operands entries (found_entry o.place (read n (without_dot o.text))) (found_entries read (n + 1) operands)
-    (found_sound o.place (read n (without_dot o.text))) (entries_sound read (n + 1) operands) e
+    one_more read n o operands entries (found_entry o.place (read n (without_dot_slash o.text))) (found_entries read (n + 1) operands)
+    (found_sound o.place (read n (without_dot_slash o.text))) (entries_sound read (n + 1) operands) e
 
 -- ---- in the index
 
@@ -88,7 +88,7 @@ abbrev pub Sorted : Type 0
 Sorted = (entries : List Plain) → IsSorted entry_cmp (sorted_by entry_cmp entries)
 
 in_order : Same → Sorted → (read : Reads) (operands : List Operand) (description : List ℕ) (index : Plain) (found : Result (List Plain) MakeFault) → found_entries read 0 operands ≡ found
-    → index_value_of description found ≡ Ok index → HasPackagesInOrder read operands index
+    → index_value_of_entries description found ≡ Ok index → HasPackagesInOrder read operands index
 in_order same sorted read operands description index (Err fault) is e = absurd (cc (e))
 in_order same sorted read operands description index (Ok entries) is e =
     let are = entries_sound read 0 operands entries is in

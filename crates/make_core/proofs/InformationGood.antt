@@ -10,7 +10,7 @@ use Rattle.dep_core.specs.Dependency.{Dependency, is_dep_name, is_package_name}
 use Rattle.dep_core.specs.DependencyText.{IsDependency}
 use Rattle.dep_core.specs.Reading.{dependency_of}
 use Rattle.dep_core.specs.Spelling.{SpellsDependency}
-use Rattle.dep_core.specs.Value.{DepValue, dep_value, is_matching, is_version_or_empty}
+use Rattle.dep_core.specs.Value.{DepValue, dep_value, is_match_number, is_version_or_empty}
 use Rattle.dep_core.specs.ValueReading.{dependency_of_value}
 use Rattle.command_core.specs.declared.values.OptionValue.{OptionValue}
 use Rattle.adb_view.specs.Plain.{Plain, null, Plains, none, more, text as text_shape, hash, number as number_shape, array, blob_or_null, obj_value}
@@ -23,9 +23,9 @@ use Rattle.make_index.specs.make_info.declared.field.Field.{Field}
 use Rattle.make_index.specs.make_info.declared.field.Field.TheVariants as Fields
 use Rattle.make_index.specs.make_info.declared.field.Kind.{Kind}
 use Rattle.make_index.specs.make_info.declared.field.Kind.TheVariants as Kinds
-use Rattle.make_index.specs.make_info.Fields.{FieldValue, text, number, need, kind_of_field, values_by_kind, text_if, if_untagged}
-use Rattle.make_index.specs.make_info.FieldTexts.{FieldText, field_text_in, values_of_info, is_for, is_text_for, is_same, is_too_long}
-use Rattle.make_index.specs.make_info.Information.{FieldWithValue, all_items, first_offence, information_fields, information_value, information_of, is_item_for, info_item, item_value, items_of_text, items_of_option, lacks_name_or_version, value_of_list, need_value, number_in, offends, replaces_priority, plain_value, value_of_single, unless_offence, plains_for, with_values}
+use Rattle.make_index.specs.make_info.Fields.{FieldValue, text, number, need, kind_of_field, values_by_kind, text_value_if, if_untagged}
+use Rattle.make_index.specs.make_info.FieldTexts.{FieldText, field_text_in, values_of_info, is_option_for_field, is_text_for_field, is_same_field, is_default_output_too_long}
+use Rattle.make_index.specs.make_info.Information.{FieldWithValue, items_of_valid_options, first_offence, information_fields, information_value, information_of, is_item_for, field_with_value, item_value, items_of_text, items_of_option, lacks_name_or_version, value_of_list, dependency_object, number_in, offends, replaces_priority, plain_value, value_of_single, unless_offence, plain_values_of_field, with_values}
 use Rattle.make_index.specs.make_info.Values.{number_value}
 use Rattle.make_index.proofs.make_info.OutputFacts.{no_offence}
 use Rattle.make_core.proofs.GoodValues.{IsGood, arr_good, hash_good, null_number, number_good, obj_good, text_good}
@@ -47,13 +47,13 @@ items_append : (xs ys : List FieldWithValue) → AreItems xs → AreItems ys →
 items_append [] ys a b = b
 items_append (x ∷ xs) ys a b = (a.0, items_append xs ys a.1 b)
 
-items_said : (f : Field) (ss : List FieldValue) → AreSaidAs (kind_of_field f) ss → AreItems (map (info_item f) ss)
+items_said : (f : Field) (ss : List FieldValue) → AreSaidAs (kind_of_field f) ss → AreItems (map (field_with_value f) ss)
 items_said f [] h = tt
 items_said f (s ∷ ss) h = (h.0, items_said f ss h.1)
 
 with_good : (f : Field) (o : Option (List FieldValue)) (items : List FieldWithValue) → ((ss : List FieldValue) → o ≡ Some ss → AreSaidAs (kind_of_field f) ss) → with_values [] f o ≡ Some items → AreItems items
 with_good f None items h e = absurd (cc (e))
-with_good f (Some ss) items h e = let same : map (info_item f) ss ≡ items = cc (e) in subst AreItems same (items_said f ss (h ss refl))
+with_good f (Some ss) items h e = let same : map (field_with_value f) ss ≡ items = cc (e) in subst AreItems same (items_said f ss (h ss refl))
 
 given_good : (o : Option FieldText) (items : List FieldWithValue) → option_and_then items_of_text o ≡ Some items → AreItems items
 given_good None items e = absurd (cc (e))
@@ -66,10 +66,10 @@ or_none_good (Some items) h = h items refl
 abbrev said_by : OptionValue → List FieldWithValue
 said_by v = unwrap_or (items_of_option v) []
 
-all_good : (told : List OptionValue) → AreItems (all_items told)
+all_good : (told : List OptionValue) → AreItems (items_of_valid_options told)
 all_good [] = tt
 all_good (v ∷ vs) =
-    subst AreItems (sym (flat_map-cons said_by v vs)) (items_append (said_by v) (all_items vs) (or_none_good (items_of_option v) (λ items is. given_good (field_text_in v.text) items is)) (all_good vs))
+    subst AreItems (sym (flat_map-cons said_by v vs)) (items_append (said_by v) (items_of_valid_options vs) (or_none_good (items_of_option v) (λ items is. given_good (field_text_in v.text) items is)) (all_good vs))
 
 -- ---- the name and the version are among them
 
@@ -90,7 +90,7 @@ allowed too_long before (v ∷ vs) e = by_offence (offends too_long before v) re
 abbrev SaysOne : Kind → Type 0
 SaysOne k = (value : List ℕ) (ss : List FieldValue) → values_by_kind k value ≡ Some ss → (s : FieldValue) × (ts : List FieldValue) × (ss ≡ s ∷ ts)
 
-if_one : (b : Bool) (value : List ℕ) (ss : List FieldValue) → text_if b value ≡ Some ss → (s : FieldValue) × (ts : List FieldValue) × (ss ≡ s ∷ ts)
+if_one : (b : Bool) (value : List ℕ) (ss : List FieldValue) → text_value_if b value ≡ Some ss → (s : FieldValue) × (ts : List FieldValue) × (ss ≡ s ∷ ts)
 if_one true value ss e = (text value, [], cc (e))
 if_one false value ss e = absurd (cc (e))
 
@@ -100,27 +100,27 @@ name_says value ss e = if_one (is_package_name value) value ss e
 version_says : SaysOne Kinds.PackageVersion
 version_says value ss e = if_one (is_version value) value ss e
 
-among_first : (f : Field) (g : FieldText) (ss : List FieldValue) → is_same g.field f ≡ true → (s : FieldValue) × (ts : List FieldValue) × (ss ≡ s ∷ ts) → list_any (is_item_for f) (map (info_item g.field) ss) ≡ true
-among_first f g ss is (s, ts, e) = ap (λ (xs : List FieldValue). list_any (is_item_for f) (map (info_item g.field) xs)) e ∙ ap (λ b. b || list_any (is_item_for f) (map (info_item g.field) ts)) is
+among_first : (f : Field) (g : FieldText) (ss : List FieldValue) → is_same_field g.field f ≡ true → (s : FieldValue) × (ts : List FieldValue) × (ss ≡ s ∷ ts) → list_any (is_item_for f) (map (field_with_value g.field) ss) ≡ true
+among_first f g ss is (s, ts, e) = ap (λ (xs : List FieldValue). list_any (is_item_for f) (map (field_with_value g.field) xs)) e ∙ ap (λ b. b || list_any (is_item_for f) (map (field_with_value g.field) ts)) is
 
-among_given : (f : Field) (g : FieldText) (o : Option (List FieldValue)) → is_same g.field f ≡ true → ((ss : List FieldValue) → o ≡ Some ss → (s : FieldValue) × (ts : List FieldValue) × (ss ≡ s ∷ ts))
+among_given : (f : Field) (g : FieldText) (o : Option (List FieldValue)) → is_same_field g.field f ≡ true → ((ss : List FieldValue) → o ≡ Some ss → (s : FieldValue) × (ts : List FieldValue) × (ss ≡ s ∷ ts))
     → is_some (with_values [] g.field o) ≡ true → list_any (is_item_for f) (unwrap_or (with_values [] g.field o) []) ≡ true
 among_given f g None is says some = absurd (cc (some))
 among_given f g (Some ss) is says some = among_first f g ss is (says ss refl)
 
-among_by : (f : Field) (o : Option FieldText) → SaysOne (kind_of_field f) → is_text_for f o ≡ true → is_some (option_and_then items_of_text o) ≡ true → list_any (is_item_for f) (unwrap_or (option_and_then items_of_text o) []) ≡ true
+among_by : (f : Field) (o : Option FieldText) → SaysOne (kind_of_field f) → is_text_for_field f o ≡ true → is_some (option_and_then items_of_text o) ≡ true → list_any (is_item_for f) (unwrap_or (option_and_then items_of_text o) []) ≡ true
 among_by f None says is some = absurd (cc (is))
 among_by f (Some g) says is some =
     let kind = same_kind g.field f is in
     among_given f g (values_by_kind (kind_of_field g.field) g.value) is (λ ss e. says g.value ss (ap (λ (k : Kind). values_by_kind k g.value) (sym kind) ∙ e)) some
 
-among : (f : Field) (told : List OptionValue) → SaysOne (kind_of_field f) → AreAllowed told → list_any (is_for f) told ≡ true → list_any (is_item_for f) (all_items told) ≡ true
+among : (f : Field) (told : List OptionValue) → SaysOne (kind_of_field f) → AreAllowed told → list_any (is_option_for_field f) told ≡ true → list_any (is_item_for f) (items_of_valid_options told) ≡ true
 among f [] says ok e = absurd (cc (e))
 among f (v ∷ vs) says ok e =
     ap (list_any (is_item_for f)) (flat_map-cons said_by v vs)
-    ∙ (list_any-append (is_item_for f) (said_by v) (all_items vs) ∙ by_side (or_cases (is_for f v) (list_any (is_for f) vs) e) (among f vs says ok.1))
+    ∙ (list_any-append (is_item_for f) (said_by v) (items_of_valid_options vs) ∙ by_side (or_cases (is_option_for_field f v) (list_any (is_option_for_field f) vs) e) (among f vs says ok.1))
   where
-    by_side : (is_for f v ≡ true) ⊎ (list_any (is_for f) vs ≡ true) → (list_any (is_for f) vs ≡ true → list_any (is_item_for f) (all_items vs) ≡ true) → (list_any (is_item_for f) (said_by v) || list_any (is_item_for f) (all_items vs)) ≡ true
+    by_side : (is_option_for_field f v ≡ true) ⊎ (list_any (is_option_for_field f) vs ≡ true) → (list_any (is_option_for_field f) vs ≡ true → list_any (is_item_for f) (items_of_valid_options vs) ≡ true) → (list_any (is_item_for f) (said_by v) || list_any (is_item_for f) (items_of_valid_options vs)) ≡ true
     by_side (inl here) further = or_left _ _ (among_by f (field_text_in v.text) says here ok.0)
     by_side (inr there) further = or_right (list_any (is_item_for f) (said_by v)) _ (further there)
 
@@ -135,12 +135,12 @@ neither_lacks true false e = absurd (cc (e))
 neither_lacks false b e = absurd (cc (e))
 
 information_by : (told : List OptionValue) (o : Option ℕ) (b : Bool) (behind : ℕ) (items : List FieldWithValue) → (o ≡ None → AreAllowed told) → lacks_name_or_version told ≡ b
-    → unless_offence o (if b then Err behind else Ok (all_items told)) ≡ Ok items → IsInformation items
+    → unless_offence o (if b then Err behind else Ok (items_of_valid_options told)) ≡ Ok items → IsInformation items
 information_by told (Some place) b behind items ok is e = absurd (cc (e))
 information_by told None true behind items ok is e = absurd (cc (e))
 information_by told None false behind items ok is e =
-    let same : all_items told ≡ items = cc (e) in
-    let both = neither_lacks (list_any (is_for Fields.Name) told) (list_any (is_for Fields.Version) told) is in
+    let same : items_of_valid_options told ≡ items = cc (e) in
+    let both = neither_lacks (list_any (is_option_for_field Fields.Name) told) (list_any (is_option_for_field Fields.Version) told) is in
     subst IsInformation same (record {
       good = all_good told;
       name = among Fields.Name told name_says (ok refl) both.0;
@@ -150,7 +150,7 @@ information_by told None false behind items ok is e =
 pub information_good : (values : List OptionValue) (behind : ℕ) (items : List FieldWithValue) → information_of values behind ≡ Ok items → IsInformation items
 unfolding information_of
 information_good values behind items e =
-    information_by (values_of_info values) (first_offence (is_too_long values) [] (values_of_info values)) (lacks_name_or_version (values_of_info values)) behind items (λ k. allowed (is_too_long values) [] (values_of_info values) k) refl e
+    information_by (values_of_info values) (first_offence (is_default_output_too_long values) [] (values_of_info values)) (lacks_name_or_version (values_of_info values)) behind items (λ k. allowed (is_default_output_too_long values) [] (values_of_info values) k) refl e
 
 -- ---- what is found of a field
 
@@ -188,11 +188,11 @@ given_by_some P f (Some item) h some good = good item.value h
 given_single : (P : Plain → Type 0) (f : Field) (items : List FieldWithValue) → AreItems items → list_any (is_item_for f) items ≡ true → ((s : FieldValue) → IsSaidAs (kind_of_field f) s → P (plain_value s)) → P (value_of_single f items)
 given_single P f items h any good = given_by_some P f (find (is_item_for f) items) (found f items h) (there f items any) good
 
-values_good : (P : Plain → Type 0) (f : Field) (items : List FieldWithValue) → AreItems items → ((s : FieldValue) → IsSaidAs (kind_of_field f) s → P (plain_value s)) → Each P (plains_for f items)
+values_good : (P : Plain → Type 0) (f : Field) (items : List FieldWithValue) → AreItems items → ((s : FieldValue) → IsSaidAs (kind_of_field f) s → P (plain_value s)) → Each P (plain_values_of_field f items)
 values_good P f [] h good = tt
 values_good P f (item ∷ items) h good = by_field (is_item_for f item) refl (values_good P f items h.1 good)
   where
-    by_field : (b : Bool) → is_item_for f item ≡ b → Each P (plains_for f items) → Each P (if b then more (plain_value item.value) (plains_for f items) else plains_for f items)
+    by_field : (b : Bool) → is_item_for f item ≡ b → Each P (plain_values_of_field f items) → Each P (if b then more (plain_value item.value) (plain_values_of_field f items) else plain_values_of_field f items)
     by_field true is further = (good item.value (subst (λ (k : Kind). IsSaidAs k item.value) (same_kind item.field f is) h.0), further)
     by_field false is further = further
 
@@ -233,10 +233,10 @@ any_number place a free (text b) h = absurd h
 any_number place a free (number n) h = number_good place a n h (free n)
 any_number place a free (need d) h = absurd h
 
-small_matching : (n : ℕ) → is_matching n ≡ true → n < 2 ^ 64
+small_matching : (n : ℕ) → is_match_number n ≡ true → n < 2 ^ 64
 small_matching n e = let lt = ltb-true n 32 (and_parts (nat_lt n 32) _ e).0 in omega arith
 
-matching_good : (a : Surroundings) (o : Option ℕ) → is_matching (unwrap_or o 0) ≡ true → IsGood number_shape 103 a (number_value o)
+matching_good : (a : Surroundings) (o : Option ℕ) → is_match_number (unwrap_or o 0) ≡ true → IsGood number_shape 103 a (number_value o)
 matching_good a None e = null_number 103 a e
 matching_good a (Some n) e = number_good 103 a n (small_matching n e) e
 
@@ -244,16 +244,16 @@ if_some : (b : Bool) (x y : Dependency) → (if b then Some x else None) ≡ Som
 if_some true x y e = refl
 if_some false x y e = absurd (cc (e))
 
-need_parts : (name version : List ℕ) (m : ℕ) (d : Dependency) → dependency_of_value name version m ≡ Some d → (is_dep_name name && (is_version_or_empty version && is_matching m)) ≡ true
+need_parts : (name version : List ℕ) (m : ℕ) (d : Dependency) → dependency_of_value name version m ≡ Some d → (is_dep_name name && (is_version_or_empty version && is_match_number m)) ≡ true
 unfolding dependency_of_value
 need_parts name version m d e = if_some _ _ d e
 
-need_good : Needs → (place : ℕ) (a : Surroundings) (d : Dependency) → IsNeed d → IsGood (shape_of (Obj Dep)) place a (need_value (dep_value d))
+need_good : Needs → (place : ℕ) (a : Surroundings) (d : Dependency) → IsNeed d → IsGood (shape_of (Obj Dep)) place a (dependency_object (dep_value d))
 unfolding shape_of text_rule
 need_good needs place a d (part, is, if_untagged) =
     let v : DepValue = dep_value d in
-    let all = and_parts (is_dep_name v.name) (is_version_or_empty v.version && is_matching (unwrap_or v.matching 0)) (need_parts v.name v.version (unwrap_or v.matching 0) d (needs.back d (needs.spelled part d is).0 if_untagged)) in
-    let both = and_parts (is_version_or_empty v.version) (is_matching (unwrap_or v.matching 0)) all.1 in
+    let all = and_parts (is_dep_name v.name) (is_version_or_empty v.version && is_match_number (unwrap_or v.matching 0)) (need_parts v.name v.version (unwrap_or v.matching 0) d (needs.back d (needs.spelled part d is).0 if_untagged)) in
+    let both = and_parts (is_version_or_empty v.version) (is_match_number (unwrap_or v.matching 0)) all.1 in
     let vs : Plains = more (blob_or_null v.name) (more (blob_or_null v.version) (more (number_value v.matching) none)) in
     let inside : Surroundings = surroundings_of_fields 1 a (obj_value vs) in
     obj_good 1 (shapes_of (table Dep)) place a inside vs refl (text_good 101 inside v.name all.0, (text_good 102 inside v.version both.0, (matching_good inside v.matching both.1, tt)))
@@ -276,7 +276,7 @@ module _ (needs : Needs) (items : List FieldWithValue) (is : IsInformation items
 
   needs_at : (place : ℕ) (a : Surroundings) (f : Field) → kind_of_field f ≡ Kinds.Dependencies → IsGood (array (shape_of (Obj Dep))) place a (value_of_list f items)
   needs_at place a f k =
-      arr_good (shape_of (Obj Dep)) place a (plains_for f items)
+      arr_good (shape_of (Obj Dep)) place a (plain_values_of_field f items)
       (values_good (IsGood (shape_of (Obj Dep)) place a) f items is.good (λ s h. a_need needs place a s (subst (λ (kind : Kind). IsSaidAs kind s) k h)))
 
   pub info_good : (size : ℕ) → size < 2 ^ 64 → IsGood (shape_of (Obj PkgInfo)) 701 around_folder (information_value items size)
@@ -324,7 +324,7 @@ module _ (needs : Needs) (items : List FieldWithValue) (is : IsInformation items
                                             (
                                               null_number 320 a refl,
                                               (
-                                                arr_good text_shape 321 a (plains_for Fields.Tags items) (values_good (IsGood text_shape 321 a) Fields.Tags items is.good (tag_text 321 a (λ b x. refl))),
+                                                arr_good text_shape 321 a (plain_values_of_field Fields.Tags items) (values_good (IsGood text_shape 321 a) Fields.Tags items is.good (tag_text 321 a (λ b x. refl))),
                                                 (null_number 322 a refl, tt),
                                               ),
                                             ),

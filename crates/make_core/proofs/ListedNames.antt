@@ -11,9 +11,9 @@ use Rattle.make_index.specs.adb_fields.FirstPair.{IsIn}
 use Rattle.make_index.proofs.adb_fields.Members.{from-flat_map, from-map}
 use Rattle.make_index.specs.adb_fields.Paths.{path_of}
 use Rattle.make_index.specs.adb_schema.Rules.{is_file_name, is_folder_name}
-use Rattle.make_package.specs.package_files.Folders.{FolderListing, before_slashes, path_below, names_in_folder, all_folders_above, folder_of, folders_of, folders_above, is_slash, listing_of, last_part_of}
+use Rattle.make_package.specs.package_files.Folders.{FolderListing, prefixes_before_slashes, path_below, names_in_folder, all_folders_above, folder_of, folder_listings_of, folders_above, is_slash, folder_listing_of, last_part_of}
 use Rattle.make_package.specs.package_files.Package.{Source, SourceFolder, kind_of_file, installed_size, size_of_folder, size_of_kind}
-use Rattle.make_package.specs.package_files.Sources.{and_then, each_from, file_at, sources_from, folder_at, source_folders_from, found_at}
+use Rattle.make_package.specs.package_files.Sources.{and_then, each_from, source_file_read_at, sources_from, source_folder_read_at, source_folders_from, found_bytes_or_missing}
 use Rattle.make_index.specs.make_info.Reads.{Reads}
 use Rattle.make_index.specs.make_info.declared.fault.MakeFault.{MakeFault}
 use Rattle.make_core.proofs.Apart.{AreApartFiles, IsApart, Rises, folder_names_of, in_order_in, in_order_rises, rises_apart, source_names}
@@ -53,19 +53,19 @@ listed_in dir (x ∷ xs) name all (inr h) = listed_in dir xs name all.1 h
 abbrev IsBefore : List ℕ → List ℕ → Type 0
 IsBefore path f = (rest : List ℕ) × (path ≡ f ++ 47 ∷ rest)
 
-one_more : (b : ℕ) (bs : List ℕ) → ((f : List ℕ) → IsIn f (before_slashes bs) → IsBefore bs f) → (f : List ℕ) → IsIn f (map (λ folder. b ∷ folder) (before_slashes bs)) → IsBefore (b ∷ bs) f
+one_more : (b : ℕ) (bs : List ℕ) → ((f : List ℕ) → IsIn f (prefixes_before_slashes bs) → IsBefore bs f) → (f : List ℕ) → IsIn f (map (λ folder. b ∷ folder) (prefixes_before_slashes bs)) → IsBefore (b ∷ bs) f
 one_more b bs further f h =
-    let (x, here, is) = from-map (λ folder. b ∷ folder) f (before_slashes bs) h in
+    let (x, here, is) = from-map (λ folder. b ∷ folder) f (prefixes_before_slashes bs) h in
     let (rest, e) = further x here in
     (rest, ap (λ (xs : List ℕ). b ∷ xs) e ∙ ap (λ (xs : List ℕ). xs ++ 47 ∷ rest) (sym is))
 
-at_byte : (b : ℕ) (bs : List ℕ) (c : Bool) → is_slash b ≡ c → ((f : List ℕ) → IsIn f (before_slashes bs) → IsBefore bs f)
-    → (f : List ℕ) → IsIn f (if c then [] ∷ map (λ folder. b ∷ folder) (before_slashes bs) else map (λ folder. b ∷ folder) (before_slashes bs)) → IsBefore (b ∷ bs) f
+at_byte : (b : ℕ) (bs : List ℕ) (c : Bool) → is_slash b ≡ c → ((f : List ℕ) → IsIn f (prefixes_before_slashes bs) → IsBefore bs f)
+    → (f : List ℕ) → IsIn f (if c then [] ∷ map (λ folder. b ∷ folder) (prefixes_before_slashes bs) else map (λ folder. b ∷ folder) (prefixes_before_slashes bs)) → IsBefore (b ∷ bs) f
 at_byte b bs false e further f h = one_more b bs further f h
 at_byte b bs true e further f (inl is) = (bs, ap (λ (n : ℕ). n ∷ bs) (eqb-true b 47 e) ∙ ap (λ (xs : List ℕ). xs ++ 47 ∷ bs) (sym is))
 at_byte b bs true e further f (inr h) = one_more b bs further f h
 
-before_slash : (path f : List ℕ) → IsIn f (before_slashes path) → IsBefore path f
+before_slash : (path f : List ℕ) → IsIn f (prefixes_before_slashes path) → IsBefore path f
 before_slash [] f h = absurd h
 before_slash (b ∷ bs) f h = at_byte b bs (is_slash b) refl (before_slash bs) f h
 
@@ -172,9 +172,9 @@ each_read R count of h n (x ∷ xs) ys e =
 abbrev IsFileOf : List ℕ → Source → Type 0
 IsFileOf name file = file.name ≡ last_part_of name
 
-file_read : (place : ℕ) (read : Reads) (n : ℕ) (name : List ℕ) (file : Source) → file_at place read n name ≡ Ok file → IsFileOf name file
+file_read : (place : ℕ) (read : Reads) (n : ℕ) (name : List ℕ) (file : Source) → source_file_read_at place read n name ≡ Ok file → IsFileOf name file
 file_read place read n name file e =
-    let one = after_ok (found_at place (read n name)) (λ bytes. Ok (record { name = last_part_of name; bytes = bytes })) file e in
+    let one = after_ok (found_bytes_or_missing place (read n name)) (λ bytes. Ok (record { name = last_part_of name; bytes = bytes })) file e in
     let gives = one.gives in
     let same : record { name = last_part_of name; bytes = one.x } ≡ file = cc (gives) in
     ap (λ (f : Source). f.name) (sym same)
@@ -189,12 +189,12 @@ names_read (name ∷ names) (file ∷ files) h = λ k. h.0 k ∷ (names_read nam
 abbrev IsFolderOf : FolderListing → SourceFolder → Type 0
 IsFolderOf l s = (s.name ≡ l.name) × (source_names s.files ≡ map last_part_of l.files)
 
-folder_read : (place : ℕ) (read : Reads) (n : ℕ) (folder : FolderListing) (source : SourceFolder) → folder_at place read n folder ≡ Ok source → IsFolderOf folder source
+folder_read : (place : ℕ) (read : Reads) (n : ℕ) (folder : FolderListing) (source : SourceFolder) → source_folder_read_at place read n folder ≡ Ok source → IsFolderOf folder source
 folder_read place read n folder source e =
     let one = after_ok (sources_from place read n folder.files) (λ files. Ok (record { name = folder.name; files = files })) source e in
     let gives = one.gives in
     let same : record { name = folder.name; files = one.x } ≡ source = cc (gives) in
-    let names = names_read folder.files one.x (each_read IsFileOf (λ name. 1) (file_at place read) (file_read place read) n folder.files one.x one.is) in
+    let names = names_read folder.files one.x (each_read IsFileOf (λ name. 1) (source_file_read_at place read) (file_read place read) n folder.files one.x one.is) in
     subst (IsFolderOf folder) same (refl, names)
 
 abbrev AreOf : List FolderListing → List SourceFolder → Type 0
@@ -202,7 +202,7 @@ AreOf folders sources = AllOf IsFolderOf folders sources
 
 folders_read : (place : ℕ) (read : Reads) (n : ℕ) (folders : List FolderListing) (sources : List SourceFolder) → source_folders_from place read n folders ≡ Ok sources → AreOf folders sources
 folders_read place read n folders sources e =
-    each_read IsFolderOf (λ (folder : FolderListing). length folder.files) (folder_at place read) (folder_read place read) n folders sources e
+    each_read IsFolderOf (λ (folder : FolderListing). length folder.files) (source_folder_read_at place read) (folder_read place read) n folders sources e
 
 -- ---- so they may stand in a package
 
@@ -216,7 +216,7 @@ pub record AreSources (sources : List SourceFolder) : Type 0 where
   pub files_apart : AreApartFiles sources
 
 module _ (dir : List ℕ) (names : List (List ℕ)) where
-  all_named : (fs : List (List ℕ)) (sources : List SourceFolder) → AreListed dir names → ((f : List ℕ) → IsIn f fs → is_folder_name f ≡ true) → AreOf (map (listing_of dir names) fs) sources → AreNamedFolders sources
+  all_named : (fs : List (List ℕ)) (sources : List SourceFolder) → AreListed dir names → ((f : List ℕ) → IsIn f fs → is_folder_name f ≡ true) → AreOf (map (folder_listing_of dir names) fs) sources → AreNamedFolders sources
   all_named [] [] all named are = tt
   all_named [] (s ∷ ss) all named are = absurd are
   all_named (f ∷ fs) [] all named are = absurd are
@@ -226,23 +226,23 @@ module _ (dir : List ℕ) (names : List (List ℕ)) where
     all_named fs ss all (λ g here. named g (inr here)) are.1,
   )
 
-  all_apart : (fs : List (List ℕ)) (sources : List SourceFolder) → AreListed dir names → IsApart names → AreOf (map (listing_of dir names) fs) sources → AreApartFiles sources
+  all_apart : (fs : List (List ℕ)) (sources : List SourceFolder) → AreListed dir names → IsApart names → AreOf (map (folder_listing_of dir names) fs) sources → AreApartFiles sources
   all_apart [] [] all apart are = tt
   all_apart [] (s ∷ ss) all apart are = absurd are
   all_apart (f ∷ fs) [] all apart are = absurd are
   all_apart (f ∷ fs) (s ∷ ss) all apart are = (subst IsApart (sym are.0.1) (files_apart dir f names all apart), all_apart fs ss all apart are.1)
 
-  names_are : (fs : List (List ℕ)) (sources : List SourceFolder) → AreOf (map (listing_of dir names) fs) sources → folder_names_of sources ≡ fs
+  names_are : (fs : List (List ℕ)) (sources : List SourceFolder) → AreOf (map (folder_listing_of dir names) fs) sources → folder_names_of sources ≡ fs
   names_are [] [] are = refl
   names_are [] (s ∷ ss) are = absurd are
   names_are (f ∷ fs) [] are = absurd are
   names_are (f ∷ fs) (s ∷ ss) are = λ k. are.0.0 k ∷ (names_are fs ss are.1) k
 
-  pub sources_good : (place : ℕ) (read : Reads) (n : ℕ) (sources : List SourceFolder) → AreListed dir names → Rises names → source_folders_from place read n (folders_of dir names) ≡ Ok sources → AreSources sources
-  unfolding folders_of
+  pub sources_good : (place : ℕ) (read : Reads) (n : ℕ) (sources : List SourceFolder) → AreListed dir names → Rises names → source_folders_from place read n (folder_listings_of dir names) ≡ Ok sources → AreSources sources
+  unfolding folder_listings_of
   sources_good place read n sources all rises e =
       let fs : List (List ℕ) = all_folders_above (map (path_below dir) names) in
-      let are = folders_read place read n (map (listing_of dir names) fs) sources e in
+      let are = folders_read place read n (map (folder_listing_of dir names) fs) sources e in
       record {
         named = all_named fs sources all (λ f here. folder_named dir names f all here) are;
         apart = subst IsApart (sym (names_are fs sources are)) (rises_apart fs (in_order_rises (flat_map folders_above (map (path_below dir) names))));

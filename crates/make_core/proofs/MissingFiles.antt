@@ -6,17 +6,17 @@ use Rattle.make_index.proofs.adb_fields.Members.{contains-from_in, from-map}
 use Rattle.adb_view.specs.Plain.{Plain}
 use Rattle.make_index.specs.adb_write.Canonical.{PayloadCounts}
 use Rattle.command_core.specs.Command.{CommandLine}
-use Rattle.command_core.specs.Files.{without_dot}
+use Rattle.command_core.specs.Files.{without_dot_slash}
 use Rattle.command_core.specs.Values.{script_file, script_type}
 use Rattle.command_core.specs.declared.values.OptionValue.{OptionValue}
 use Rattle.make_index.specs.make_info.Information.{FieldWithValue, information}
 use Rattle.make_index.specs.make_info.Reads.{Reads}
 use Rattle.make_index.specs.make_info.declared.fault.MakeFault.{MakeFault}
 use Rattle.make_index.specs.make_info.declared.fault.MakeFault.TheVariants.{FileMissing}
-use Rattle.make_package.specs.package_files.Folders.{FolderListing, all_folders_above, folders_of, last_part_of, listing_of, names_in_folder, path_below}
+use Rattle.make_package.specs.package_files.Folders.{FolderListing, all_folders_above, folder_listings_of, last_part_of, folder_listing_of, names_in_folder, path_below}
 use Rattle.make_package.specs.Making.{container_unless, made_package, or_info_bad, package_container, package_of_parts}
 use Rattle.make_package.specs.package_files.Package.{Script, Source, SourceFolder}
-use Rattle.make_package.specs.package_files.Sources.{each_from, file_at, folder_at, folders_below, found_at, and_then, script_at, scripts_from, source_folders_from, sources_from, values_with}
+use Rattle.make_package.specs.package_files.Sources.{each_from, source_file_read_at, source_folder_read_at, folders_below, found_bytes_or_missing, and_then, script_at, scripts_from, source_folders_from, sources_from, values_of_letter}
 use Rattle.make_index.specs.pkg_core.Contents.{Contents}
 use Rattle.make_core.specs.Missing.{IsAbsent, IsMissingFile, IsMissingScript}
 use Rattle.make_core.proofs.ListedNames.{filter_in, stands_in}
@@ -65,18 +65,18 @@ abbrev IsMissingAt : Reads → ℕ → List ℕ → MakeFault → Type 0
 IsMissingAt read place name fault = (fault ≡ FileMissing place) × IsAbsent read name
 
 missing_by : {A : Type 0} (read : Reads) (place n : ℕ) (name : List ℕ) (found : Option (List ℕ)) (next : List ℕ → Result A MakeFault) (fault : MakeFault) → read n name ≡ found → ((bytes : List ℕ) → next bytes ≡ Err fault → ⊥)
-    → and_then (found_at place found) next ≡ Err fault → IsMissingAt read place name fault
+    → and_then (found_bytes_or_missing place found) next ≡ Err fault → IsMissingAt read place name fault
 missing_by read place n name None next fault is never e = let same : fault ≡ FileMissing place = cc (e) in (same, (n, is))
 missing_by read place n name (Some bytes) next fault is never e = absurd (never bytes e)
 
 abbrev script_name : OptionValue → List ℕ
-script_name v = without_dot (script_file v.text)
+script_name v = without_dot_slash (script_file v.text)
 
 script_fails : (read : Reads) (n : ℕ) (v : OptionValue) (fault : MakeFault) → script_at read n v ≡ Err fault → IsMissingAt read v.place (script_name v) fault
 script_fails read n v fault e =
     missing_by read v.place n (script_name v) (read n (script_name v)) (λ bytes. let script : Script = record { field = script_type v.text; bytes = bytes } in Ok script) fault refl (λ bytes f. cc (f)) e
 
-file_fails : (place : ℕ) (read : Reads) (n : ℕ) (name : List ℕ) (fault : MakeFault) → file_at place read n name ≡ Err fault → IsMissingAt read place name fault
+file_fails : (place : ℕ) (read : Reads) (n : ℕ) (name : List ℕ) (fault : MakeFault) → source_file_read_at place read n name ≡ Err fault → IsMissingAt read place name fault
 file_fails place read n name fault e =
     missing_by read place n name (read n name) (λ bytes. let file : Source = record { name = last_part_of name; bytes = bytes } in Ok file) fault refl (λ bytes f. cc (f)) e
 
@@ -87,10 +87,10 @@ IsMissingIn read place folder fault = IsFaultOfOne (IsMissingAt read place) fold
 
 files_fail : (place : ℕ) (read : Reads) (n : ℕ) (folder : FolderListing) (fault : MakeFault)
     → Fails (sources_from place read n folder.files) (λ files. let source : SourceFolder = record { name = folder.name; files = files } in Ok source) fault → IsMissingIn read place folder fault
-files_fail place read n folder fault (at_first e) = each_fails (IsMissingAt read place) (λ name. 1) (file_at place read) (file_fails place read) n folder.files fault e
+files_fail place read n folder fault (at_first e) = each_fails (IsMissingAt read place) (λ name. 1) (source_file_read_at place read) (file_fails place read) n folder.files fault e
 files_fail place read n folder fault (behind files e f) = absurd (cc (f))
 
-folder_fails : (place : ℕ) (read : Reads) (n : ℕ) (folder : FolderListing) (fault : MakeFault) → folder_at place read n folder ≡ Err fault → IsMissingIn read place folder fault
+folder_fails : (place : ℕ) (read : Reads) (n : ℕ) (folder : FolderListing) (fault : MakeFault) → source_folder_read_at place read n folder ≡ Err fault → IsMissingIn read place folder fault
 folder_fails place read n folder fault e =
     files_fail place read n folder fault (fails_by (sources_from place read n folder.files) (λ files. let source : SourceFolder = record { name = folder.name; files = files } in Ok source) fault e)
 
@@ -100,11 +100,11 @@ record IsMissingBelow (read : Reads) (place : ℕ) (names : List (List ℕ)) (fa
   listed : IsIn name names
   is : IsMissingAt read place name fault
 
-below_fails : (read : Reads) (place n : ℕ) (dir : List ℕ) (names : List (List ℕ)) (fault : MakeFault) → source_folders_from place read n (folders_of dir names) ≡ Err fault → IsMissingBelow read place names fault
-unfolding folders_of
+below_fails : (read : Reads) (place n : ℕ) (dir : List ℕ) (names : List (List ℕ)) (fault : MakeFault) → source_folders_from place read n (folder_listings_of dir names) ≡ Err fault → IsMissingBelow read place names fault
+unfolding folder_listings_of
 below_fails read place n dir names fault e =
-    let one = each_fails (IsMissingIn read place) (λ (folder : FolderListing). length folder.files) (folder_at place read) (folder_fails place read) n (map (listing_of dir names) (all_folders_above (map (path_below dir) names))) fault e in
-    let listing = from-map (listing_of dir names) one.x (all_folders_above (map (path_below dir) names)) one.is_in in
+    let one = each_fails (IsMissingIn read place) (λ (folder : FolderListing). length folder.files) (source_folder_read_at place read) (folder_fails place read) n (map (folder_listing_of dir names) (all_folders_above (map (path_below dir) names))) fault e in
+    let listing = from-map (folder_listing_of dir names) one.x (all_folders_above (map (path_below dir) names)) one.is_in in
     let file = one.is in
     let here : IsIn file.x (names_in_folder dir names listing.0) = subst (λ (l : FolderListing). IsIn file.x l.files) listing.2 file.is_in in
     record { name = file.x; listed = (filter_in (stands_in dir listing.0) file.x names here).0; is = file.is }
@@ -122,12 +122,12 @@ script_is_missing read scripts place e =
 file_is_missing : (read : Reads) (n : ℕ) (folders : List OptionValue) (names : List (List ℕ)) (place : ℕ) → folders_below read n folders names ≡ Err (FileMissing place) → IsMissingFile read folders names place
 file_is_missing read n [] names place e = absurd (cc (e))
 file_is_missing read n (folder ∷ others) names place e =
-    let one = below_fails read folder.place n (without_dot folder.text) names (FileMissing place) e in
+    let one = below_fails read folder.place n (without_dot_slash folder.text) names (FileMissing place) e in
     record { folder = folder; others = others; given = refl; at = missing_place place folder.place one.is.0; name = one.name; listed = contains-from_in one.name names one.listed; absent = one.is.1 }
 
 abbrev IsMissing : Reads → CommandLine → List (List ℕ) → ℕ → Type 0
 IsMissing read command names place =
-    IsMissingScript read (values_with SCRIPT command.values) place ⊎ IsMissingFile read (values_with FILES command.values) names place
+    IsMissingScript read (values_of_letter SCRIPT command.values) place ⊎ IsMissingFile read (values_of_letter FILES command.values) names place
 
 container_by : (o : Option PayloadCounts) (v : Plain) (contents : List Contents) (place : ℕ) → container_unless o v contents ≡ Err (FileMissing place) → ⊥
 container_by None v contents place e = cc (e)
@@ -142,23 +142,23 @@ info_never (Ok items) place e = cc (e)
 info_never (Err at) place e = cc (e)
 
 module _ (command : CommandLine) (names : List (List ℕ)) (read : Reads) (place : ℕ) where
-  at_files : (scripts : List Script) (items : List FieldWithValue) → Fails (folders_below read (length scripts) (values_with FILES command.values) names) (package_of_parts command scripts items) (FileMissing place) → IsMissing read command names place
-  at_files scripts items (at_first e) = inr (file_is_missing read (length scripts) (values_with FILES command.values) names place e)
+  at_files : (scripts : List Script) (items : List FieldWithValue) → Fails (folders_below read (length scripts) (values_of_letter FILES command.values) names) (package_of_parts command scripts items) (FileMissing place) → IsMissing read command names place
+  at_files scripts items (at_first e) = inr (file_is_missing read (length scripts) (values_of_letter FILES command.values) names place e)
   at_files scripts items (behind sources e f) = absurd (packed_never command scripts items sources place f)
 
   at_information : (scripts : List Script)
-      → Fails (or_info_bad (information command)) (λ about. and_then (folders_below read (length scripts) (values_with FILES command.values) names) (package_of_parts command scripts about)) (FileMissing place) → IsMissing read command names place
+      → Fails (or_info_bad (information command)) (λ about. and_then (folders_below read (length scripts) (values_of_letter FILES command.values) names) (package_of_parts command scripts about)) (FileMissing place) → IsMissing read command names place
   at_information scripts (at_first e) = absurd (info_never (information command) place e)
-  at_information scripts (behind items e f) = at_files scripts items (fails_by (folders_below read (length scripts) (values_with FILES command.values) names) (package_of_parts command scripts items) (FileMissing place) f)
+  at_information scripts (behind items e f) = at_files scripts items (fails_by (folders_below read (length scripts) (values_of_letter FILES command.values) names) (package_of_parts command scripts items) (FileMissing place) f)
 
-  at_scripts : Fails (scripts_from read 0 (values_with SCRIPT command.values)) (λ scripts.
-      and_then (or_info_bad (information command)) (λ about. and_then (folders_below read (length scripts) (values_with FILES command.values) names) (package_of_parts command scripts about))) (FileMissing place) → IsMissing read command names place
-  at_scripts (at_first e) = inl (script_is_missing read (values_with SCRIPT command.values) place e)
+  at_scripts : Fails (scripts_from read 0 (values_of_letter SCRIPT command.values)) (λ scripts.
+      and_then (or_info_bad (information command)) (λ about. and_then (folders_below read (length scripts) (values_of_letter FILES command.values) names) (package_of_parts command scripts about))) (FileMissing place) → IsMissing read command names place
+  at_scripts (at_first e) = inl (script_is_missing read (values_of_letter SCRIPT command.values) place e)
   at_scripts (behind scripts e f) =
-      at_information scripts (fails_by (or_info_bad (information command)) (λ about. and_then (folders_below read (length scripts) (values_with FILES command.values) names) (package_of_parts command scripts about)) (FileMissing place) f)
+      at_information scripts (fails_by (or_info_bad (information command)) (λ about. and_then (folders_below read (length scripts) (values_of_letter FILES command.values) names) (package_of_parts command scripts about)) (FileMissing place) f)
 
 pub made_missing : (command : CommandLine) (names : List (List ℕ)) (read : Reads) (place : ℕ) → made_package command names read ≡ Err (FileMissing place) → IsMissing read command names place
 unfolding made_package
 made_missing command names read place e =
-    at_scripts command names read place (fails_by (scripts_from read 0 (values_with SCRIPT command.values)) (λ scripts.
-    and_then (or_info_bad (information command)) (λ about. and_then (folders_below read (length scripts) (values_with FILES command.values) names) (package_of_parts command scripts about))) (FileMissing place) e)
+    at_scripts command names read place (fails_by (scripts_from read 0 (values_of_letter SCRIPT command.values)) (λ scripts.
+    and_then (or_info_bad (information command)) (λ about. and_then (folders_below read (length scripts) (values_of_letter FILES command.values) names) (package_of_parts command scripts about))) (FileMissing place) e)

@@ -8,7 +8,7 @@ use Rattle.base_core.proofs.Causes.{first_none, second_none}
 use Rattle.adb_block.specs.Piece.{Piece, may_be_next_kind}
 use Rattle.adb_block.specs.Framing.{HeadFields, Step, ended, failed, block, head_of, step_by_head, kind_of_number, step_by_order, step_by_size, next_step}
 use Rattle.adb_block.specs.Header.{header_of}
-use Rattle.adb_block.specs.Reading.{Reading, reading_from, reading_of, reading_by_step}
+use Rattle.adb_block.specs.Reading.{Reading, block_stream_from_offset, block_stream_from, block_stream_after_step}
 use Rattle.adb_block.specs.declared.block.BlockKind.{BlockKind}
 use Rattle.adb_view.specs.Head.{head_fault, root_of}
 use Rattle.adb_view.specs.Plain.{Plain, null, IsNormal, Shape, plain_of}
@@ -18,10 +18,10 @@ use Rattle.adb_view.specs.Schema.{shape_of}
 use Rattle.adb_view.specs.Values.{value_at}
 use Rattle.adb_view.specs.Walk.{shape_fault}
 use Rattle.make_index.specs.adb_schema.Texts.{text_fault}
-use Rattle.make_index.specs.adb_schema.Soundness.{blocks_fault, file_fault, first_payload, payload_after_header, payload_fault, payload_in, root_value, schema_fault}
+use Rattle.make_index.specs.adb_schema.Soundness.{blocks_fault, file_fault_after_header, first_block_payload, payload_after_header, payload_fault, payload_in, root_value, schema_fault}
 use Rattle.adb_view.specs.declared.tables.Which.TheVariants.{Package}
 use Rattle.adb_view.specs.declared.tables.Kind.TheVariants.{Obj}
-use Rattle.make_index.specs.pkg_core.Whole.{fault_after_first, package_fault, package_with_contents, whole_fault}
+use Rattle.make_index.specs.pkg_core.Whole.{fault_of_further_blocks, package_fault, package_with_contents, container_fault_of_table}
 
 -- what the layers below say of values that are found
 pub record Values : Type 0 where
@@ -73,20 +73,20 @@ step_first at bytes h = either _ _ _ (failed_first (Truncated at)) (headed_first
 abbrev IsPayload : List ℕ → Type 0
 IsPayload payload = AreBytes payload × (payload_fault Package payload ≡ None)
 
-first_passed : (at : ℕ) (further : Piece → ℕ → Reading) (s : Step) → IsFirst s → blocks_fault (fault_after_first Package) Package (reading_by_step at further s) ≡ None → IsPayload (first_payload (reading_by_step at further s))
+first_passed : (at : ℕ) (further : Piece → ℕ → Reading) (s : Step) → IsFirst s → blocks_fault (fault_of_further_blocks Package) Package (block_stream_after_step at further s) ≡ None → IsPayload (first_block_payload (block_stream_after_step at further s))
 unfolding IsFirst
 first_passed at further ended f h = absurd f
 first_passed at further (failed c) f h = absurd cc
 first_passed at further (block b size) f h = (f, first_none (payload_fault Package b.payload) _ h)
 
-header_passed : (file : List ℕ) (h : Result ℕ Cause) → AreBytes file → file_fault (fault_after_first Package) Package file h ≡ None → IsPayload (payload_after_header file h)
-unfolding reading_of reading_from
+header_passed : (file : List ℕ) (h : Result ℕ Cause) → AreBytes file → file_fault_after_header (fault_of_further_blocks Package) Package file h ≡ None → IsPayload (payload_after_header file h)
+unfolding block_stream_from block_stream_from_offset
 header_passed file (Ok schema) bytes e =
     first_passed 8 _ (next_step None 8 (drop 8 file)) (step_first 8 (drop 8 file) (All-drop (λ b. b < 256) 8 file bytes)) (second_none (schema_fault Package schema) _ e)
 header_passed file (Err c) bytes e = absurd cc
 
 passed : (file : List ℕ) → AreBytes file → package_fault file ≡ None → IsPayload (payload_in file)
-unfolding whole_fault payload_in
+unfolding container_fault_of_table payload_in
 passed file bytes e = header_passed file (header_of file) bytes e
 
 -- ---- and its value

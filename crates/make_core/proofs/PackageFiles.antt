@@ -9,7 +9,7 @@ use Rattle.sha2.proofs.Facts256.{length-sha256}
 use Rattle.adb_view.specs.Plain.{Plain, null, int, Plains, none, more, number, text, blob_or_null, arr_value, obj_value}
 use Rattle.adb_view.specs.Shaped.{Each}
 use Rattle.make_index.specs.adb_fields.Repeated.{files_in, folders_in, list_of}
-use Rattle.make_index.specs.adb_schema.Rules.{is_digest_length, is_digest_length_or_none, is_file_name, is_folder_name, is_target}
+use Rattle.make_index.specs.adb_schema.Rules.{is_digest_length, is_digest_length_or_none, is_file_name, is_folder_name, is_link_target_or_none}
 use Rattle.adb_view.specs.Schema.{shape_of, shapes_of, table}
 use Rattle.make_index.specs.adb_schema.Texts.{Surroundings, is_file_hash, number_rule, surroundings_of_fields, surroundings_of_root, text_rule}
 use Rattle.adb_view.specs.Values.{entries_in, entry_in, int_in, text_in}
@@ -28,7 +28,7 @@ use Rattle.make_core.proofs.Zeros.{inside_same}
 
 -- a link leads to a text, and a regular file is smaller than 2 ^ 64 and has a SHA-256
 abbrev pub IsGoodKind : FileKind → Type 0
-IsGoodKind (Link target) = (rest : List ℕ) × (target ≡ 0 ∷ 160 ∷ rest) × (is_target (0 ∷ 160 ∷ rest) ≡ true)
+IsGoodKind (Link target) = (rest : List ℕ) × (target ≡ 0 ∷ 160 ∷ rest) × (is_link_target_or_none (0 ∷ 160 ∷ rest) ≡ true)
 IsGoodKind (Regular size digest) = (size < 2 ^ 64) × (length digest ≡ 32)
 
 after_mark : (bytes : List ℕ) → take 10 bytes ≡ codes "!<symlink>" → (length bytes == 10) ≡ false → 0 < length (link_text bytes)
@@ -46,7 +46,7 @@ after_mark bytes mark other = by_length (ltb (length bytes) 11) refl
         let rest : length (link_text bytes) ≡ length bytes - 10 = length-drop 10 bytes in
         omega (arith, long, rest)
 
-link_target : (bytes : List ℕ) → is_link_file bytes ≡ true → is_target (0 ∷ 160 ∷ link_text bytes) ≡ true
+link_target : (bytes : List ℕ) → is_link_file bytes ≡ true → is_link_target_or_none (0 ∷ 160 ∷ link_text bytes) ≡ true
 unfolding is_link_file
 link_target bytes e =
     let a = and_parts (bytes_eq (take 10 bytes) (codes "!<symlink>") && not (length bytes == 10)) (is_utf8 (link_text bytes)) e in
@@ -134,8 +134,8 @@ hash_kept folder (Link target) good =
 hash_kept folder (Regular size digest) good =
     ap (λ n. if (0 == 0) && nat_lt 0 size then is_digest_length n else is_digest_length_or_none n) good.1 ∙ digest_by (nat_lt 0 size)
 
-target_kept : (kind : FileKind) → IsGoodKind kind → is_target (target_of_kind kind) ≡ true
-target_kept (Link target) good = ap is_target good.1 ∙ good.2
+target_kept : (kind : FileKind) → IsGoodKind kind → is_link_target_or_none (target_of_kind kind) ≡ true
+target_kept (Link target) good = ap is_link_target_or_none good.1 ∙ good.2
 target_kept (Regular size digest) good = refl
 
 size_small : (kind : FileKind) → IsGoodKind kind → size_of_kind kind < 2 ^ 64

@@ -17,13 +17,13 @@ use Rattle.make_index.specs.adb_schema.Soundness.{payload_in, root_value}
 use Rattle.adb_view.specs.declared.tables.Which.TheVariants.{Package}
 use Rattle.adb_view.specs.Plain.{Plain}
 use Rattle.command_core.specs.Command.{CommandLine}
-use Rattle.command_core.specs.Files.{without_dot}
+use Rattle.command_core.specs.Files.{without_dot_slash}
 use Rattle.command_core.specs.declared.values.OptionValue.{OptionValue}
 use Rattle.make_index.specs.make_info.Information.{replaces_priority}
-use Rattle.make_package.specs.package_files.Folders.{FolderListing, all_folders_above, folders_of, last_part_of, listing_of, names_in_folder, path_below}
+use Rattle.make_package.specs.package_files.Folders.{FolderListing, all_folders_above, folder_listings_of, last_part_of, folder_listing_of, names_in_folder, path_below}
 use Rattle.make_package.specs.Making.{made_package}
 use Rattle.make_package.specs.package_files.Package.{Source, SourceFolder, value_of_file, value_of_folder, kind_of_file}
-use Rattle.make_package.specs.package_files.Sources.{AreNamesBelowFirst, file_at, folder_at, folders_below, found_at, source_folders_from, sources_from, texts_of, values_with}
+use Rattle.make_package.specs.package_files.Sources.{AreNamesBelowFirst, source_file_read_at, source_folder_read_at, folders_below, found_bytes_or_missing, source_folders_from, sources_from, texts_of, values_of_letter}
 use Rattle.make_index.specs.pkg_core.Whole.{Packed}
 use Rattle.make_core.specs.FilesBelow.{HasFilesBelow, IsFileBelow, name_below}
 use Rattle.make_core.proofs.Apart.{Tells}
@@ -35,7 +35,7 @@ use Rattle.make_core.proofs.SoundPackage.{Holds, IsReadBack, Sizes, are_listed, 
 
 -- ---- what was read
 
-pub found_is : (place : ℕ) (o : Option (List ℕ)) (bytes : List ℕ) → found_at place o ≡ Ok bytes → o ≡ Some bytes
+pub found_is : (place : ℕ) (o : Option (List ℕ)) (bytes : List ℕ) → found_bytes_or_missing place o ≡ Ok bytes → o ≡ Some bytes
 found_is place None bytes e = absurd (cc (e))
 found_is place (Some b) bytes e = let same : b ≡ bytes = cc (e) in ap Some same
 
@@ -44,9 +44,9 @@ module _ (files : Files) where
   abbrev IsRead : List ℕ → Source → Type 0
   IsRead name file = (file.name ≡ last_part_of name) × (files name ≡ Some file.bytes)
 
-  file_is_read : (place n : ℕ) (name : List ℕ) (file : Source) → file_at place (λ n name. files name) n name ≡ Ok file → IsRead name file
+  file_is_read : (place n : ℕ) (name : List ℕ) (file : Source) → source_file_read_at place (λ n name. files name) n name ≡ Ok file → IsRead name file
   file_is_read place n name file e =
-      let one = after_ok (found_at place (files name)) (λ bytes. Ok (record { name = last_part_of name; bytes = bytes })) file e in
+      let one = after_ok (found_bytes_or_missing place (files name)) (λ bytes. Ok (record { name = last_part_of name; bytes = bytes })) file e in
       let gives = one.gives in
       let same : record { name = last_part_of name; bytes = one.x } ≡ file = cc (gives) in
       (ap (λ (f : Source). f.name) (sym same), found_is place (files name) one.x one.is ∙ ap (λ (f : Source). Some f.bytes) same)
@@ -54,12 +54,12 @@ module _ (files : Files) where
   abbrev IsFolderRead : FolderListing → SourceFolder → Type 0
   IsFolderRead l s = (s.name ≡ l.name) × AllOf IsRead l.files s.files
 
-  folder_is_read : (place n : ℕ) (folder : FolderListing) (source : SourceFolder) → folder_at place (λ n name. files name) n folder ≡ Ok source → IsFolderRead folder source
+  folder_is_read : (place n : ℕ) (folder : FolderListing) (source : SourceFolder) → source_folder_read_at place (λ n name. files name) n folder ≡ Ok source → IsFolderRead folder source
   folder_is_read place n folder source e =
       let one = after_ok (sources_from place (λ n name. files name) n folder.files) (λ fs. Ok (record { name = folder.name; files = fs })) source e in
       let gives = one.gives in
       let same : record { name = folder.name; files = one.x } ≡ source = cc (gives) in
-      subst (IsFolderRead folder) same (refl, each_read IsRead (λ name. 1) (file_at place (λ n name. files name)) (file_is_read place) n folder.files one.x one.is)
+      subst (IsFolderRead folder) same (refl, each_read IsRead (λ name. 1) (source_file_read_at place (λ n name. files name)) (file_is_read place) n folder.files one.x one.is)
 
   -- ---- where they stand
 
@@ -90,8 +90,8 @@ module _ (files : Files) where
   AreFoldersAt dir [] = Unit {0}
   AreFoldersAt dir (s ∷ ss) = AreFilesAt dir s.name s.files × AreFoldersAt dir ss
 
-  folders_at : (dir : List ℕ) (names fs : List (List ℕ)) (sources : List SourceFolder) → AreListed dir names → AllOf IsFolderRead (map (listing_of dir names) fs) sources
-      → (flat_map paths_of sources ≡ map (path_below dir) (flat_map (λ (l : FolderListing). l.files) (map (listing_of dir names) fs))) × AreFoldersAt dir sources
+  folders_at : (dir : List ℕ) (names fs : List (List ℕ)) (sources : List SourceFolder) → AreListed dir names → AllOf IsFolderRead (map (folder_listing_of dir names) fs) sources
+      → (flat_map paths_of sources ≡ map (path_below dir) (flat_map (λ (l : FolderListing). l.files) (map (folder_listing_of dir names) fs))) × AreFoldersAt dir sources
   folders_at dir names [] [] all h = (refl, tt)
   folders_at dir names [] (s ∷ ss) all h = absurd h
   folders_at dir names (f ∷ fs) [] all h = absurd h
@@ -100,8 +100,8 @@ module _ (files : Files) where
       let at = files_at dir f here s.files (λ name is. let both = filter_in (stands_in dir f) name names is in recovered dir f name (listed_in dir names name all both.0) both.1) h.0.1 in
       let one = subst (λ (g : List ℕ). AreAt dir g here s.files) (sym h.0.0) at in
       let further = folders_at dir names fs ss all h.1 in
-      let listings : List FolderListing = map (listing_of dir names) fs in
-      let l : FolderListing = listing_of dir names f in (
+      let listings : List FolderListing = map (folder_listing_of dir names) fs in
+      let l : FolderListing = folder_listing_of dir names f in (
         flat_map-cons paths_of s ss ∙ (λ k. one.0 k ++ further.0 k)
             ∙ sym (map-append (path_below dir) here (flat_map (λ (m : FolderListing). m.files) listings))
             ∙ ap (map (path_below dir)) (sym (flat_map-cons (λ (m : FolderListing). m.files) l listings)),
@@ -153,15 +153,15 @@ module _ (files : Files) where
 
 -- each name stands in one folder
 abbrev pub OneFolder : Type 0
-OneFolder = (dir : List ℕ) (names : List (List ℕ)) → IsPermutation names (flat_map (λ (folder : FolderListing). folder.files) (folders_of dir names))
+OneFolder = (dir : List ℕ) (names : List (List ℕ)) → IsPermutation names (flat_map (λ (folder : FolderListing). folder.files) (folder_listings_of dir names))
 
 read_below : OneFolder → (files : Files) (place n : ℕ) (dir : List ℕ) (names : List (List ℕ)) (sources : List SourceFolder) (pkg : Plain) → AreListed dir names
-    → source_folders_from place (λ n name. files name) n (folders_of dir names) ≡ Ok sources → folders_in pkg ≡ map value_of_folder sources → HasFilesBelow files dir names pkg
-unfolding folders_of
+    → source_folders_from place (λ n name. files name) n (folder_listings_of dir names) ≡ Ok sources → folders_in pkg ≡ map value_of_folder sources → HasFilesBelow files dir names pkg
+unfolding folder_listings_of
 read_below law files place n dir names sources pkg all e is =
     let fs : List (List ℕ) = all_folders_above (map (path_below dir) names) in
-    let listings : List FolderListing = map (listing_of dir names) fs in
-    let are = each_read (IsFolderRead files) (λ (folder : FolderListing). length folder.files) (folder_at place (λ n name. files name)) (folder_is_read files place) n listings sources e in
+    let listings : List FolderListing = map (folder_listing_of dir names) fs in
+    let are = each_read (IsFolderRead files) (λ (folder : FolderListing). length folder.files) (source_folder_read_at place (λ n name. files name)) (folder_is_read files place) n listings sources e in
     let at = folders_at files dir names fs sources all are in
     record {
       paths = subst (IsPermutation (map (path_below dir) names)) (sym (ap (flat_map paths_under) is ∙ paths_stand files sources ∙ at.0)) (IsPermutation-map (path_below dir) names (flat_map (λ (folder : FolderListing). folder.files) listings) (law dir names));
@@ -169,13 +169,13 @@ read_below law files place n dir names sources pkg all e is =
     }
 
 pub made_below : OneFolder → Holds IsReadBack → Sizes → Exact → Needs → Tells → (command : CommandLine) (names : List (List ℕ)) (files : Files) (bytes : List ℕ) (folder : OptionValue) (others : List OptionValue)
-    → values_with FILES command.values ≡ folder ∷ others → AreNamesBelow (without_dot folder.text) names → made_package command names (λ n name. files name) ≡ Ok bytes → length bytes < 2 ^ 64
-    → HasFilesBelow files (without_dot folder.text) names (root_value Package (payload_in bytes))
+    → values_of_letter FILES command.values ≡ folder ∷ others → AreNamesBelow (without_dot_slash folder.text) names → made_package command names (λ n name. files name) ≡ Ok bytes → length bytes < 2 ^ 64
+    → HasFilesBelow files (without_dot_slash folder.text) names (root_value Package (payload_in bytes))
 made_below law holds sizes exact needs tells command names files bytes folder others given below e short =
-    let named : AreNamesBelowFirst (values_with FILES command.values) names = subst (λ (l : List OptionValue). AreNamesBelowFirst l names) (sym given) below in
+    let named : AreNamesBelowFirst (values_of_letter FILES command.values) names = subst (λ (l : List OptionValue). AreNamesBelowFirst l names) (sym given) below in
     let made = made_of IsReadBack holds sizes exact needs tells command names (λ n name. files name) bytes named e short in
     let read : folders_below (λ n name. files name) (length made.scripts) (folder ∷ others) names ≡ Ok made.sources =
     ap (λ (l : List OptionValue). folders_below (λ n name. files name) (length made.scripts) l names) (sym given) ∙ made.sources_read in
     let value = ap (λ (p : Packed). p.value) made.holds in
-    read_below law files folder.place (length made.scripts) (without_dot folder.text) names made.sources (root_value Package (payload_in bytes)) (are_listed (without_dot folder.text) names below.each) read
-    (ap folders_in value ∙ folders_stand _ made.sources made.scripts (texts_of (values_with TRIGGER command.values)) (replaces_priority made.items))
+    read_below law files folder.place (length made.scripts) (without_dot_slash folder.text) names made.sources (root_value Package (payload_in bytes)) (are_listed (without_dot_slash folder.text) names below.each) read
+    (ap folders_in value ∙ folders_stand _ made.sources made.scripts (texts_of (values_of_letter TRIGGER command.values)) (replaces_priority made.items))

@@ -8,7 +8,7 @@ use Rattle.make_index.specs.adb_schema.Texts.{surroundings_of_root}
 use Rattle.make_index.specs.adb_fields.Repeated.{repeated_fault}
 use Rattle.adb_view.specs.declared.tables.Which.{Which}
 use Rattle.adb_view.specs.declared.tables.Kind.TheVariants.{Obj}
-use Rattle.make_index.specs.adb_write.Canonical.{PayloadCounts, canonical, or_overflow, overflow_of, exceeds_a_limit, written_of, MOST_BYTES, MOST_VALUES}
+use Rattle.make_index.specs.adb_write.Canonical.{PayloadCounts, canonical, or_overflow, overflow_of, exceeds_a_limit, payload_or_overflow, MOST_BYTES, MOST_VALUES}
 use Rattle.make_index.specs.adb_write.Size.{size_of, value_count}
 use Rattle.make_package.specs.adb_sound.Root.{IsRootOf}
 use Rattle.make_core.proofs.GoodValues.{IsGood}
@@ -21,8 +21,8 @@ written_by : (v : Plain) (payload : List ℕ) (o : Option PayloadCounts) → ove
 written_by v payload None e h = record { none = e; is = cc (h) }
 written_by v payload (Some c) e h = absurd (cc (h))
 
-pub written : (v : Plain) (payload : List ℕ) → written_of v ≡ Ok payload → IsWritten v payload
-unfolding written_of
+pub written : (v : Plain) (payload : List ℕ) → payload_or_overflow v ≡ Ok payload → IsWritten v payload
+unfolding payload_or_overflow
 written v payload h = written_by v payload (overflow_of v) refl h
 
 -- a normal value overflows exactly past a limit

@@ -13,9 +13,9 @@ use Rattle.make_index.specs.make_info.declared.field.Field.{Field}
 use Rattle.make_index.specs.make_info.declared.field.Field.TheVariants as Fields
 use Rattle.make_index.specs.make_info.declared.field.Kind.{Kind}
 use Rattle.make_index.specs.make_info.declared.field.Kind.TheVariants as Kinds
-use Rattle.make_index.specs.make_info.Fields.{FieldValue, text, number, need, value_of_digits, field_word, fields, kind_of_field, field_among, untagged_dependency_in, needs_in, decimal_number, nonempty_parts, values_by_kind, text_if, text_values, and_needs, if_untagged}
+use Rattle.make_index.specs.make_info.Fields.{FieldValue, text, number, need, value_of_digits, field_word, fields, kind_of_field, field_among, untagged_dependency_in, dependency_values_in, decimal_number, nonempty_parts, values_by_kind, text_value_if, text_values, dependency_value_and_others, if_untagged}
 use Rattle.command_core.specs.Operands.{is_decimal}
-use Rattle.make_index.specs.make_info.FieldTexts.{is_same}
+use Rattle.make_index.specs.make_info.FieldTexts.{is_same_field}
 
 -- ---- the kind of a field is that of its word
 
@@ -45,7 +45,7 @@ kind_by_word Fields.Tags = refl
 some_same : {A : Type 0} (x y : A) → Some x ≡ Some y → x ≡ y
 some_same x y e = cc (e)
 
-pub same_kind : (g f : Field) → is_same g f ≡ true → kind_of_field g ≡ kind_of_field f
+pub same_kind : (g f : Field) → is_same_field g f ≡ true → kind_of_field g ≡ kind_of_field f
 same_kind g f e =
     let word : field_word g ≡ field_word f = (bytes_eq-Decides (field_word g) (field_word f)).0 e in
     some_same (kind_of_field g) (kind_of_field f) (sym (kind_by_word g) ∙ (ap kind_by word ∙ kind_by_word f))
@@ -82,7 +82,7 @@ abbrev pub AreSaidAs : Kind → List FieldValue → Type 0
 AreSaidAs k [] = Unit {0}
 AreSaidAs k (s ∷ ss) = IsSaidAs k s × AreSaidAs k ss
 
-text_said : (k : Kind) (b : Bool) (value : List ℕ) (ss : List FieldValue) → (b ≡ true → IsSaidAs k (text value)) → text_if b value ≡ Some ss → AreSaidAs k ss
+text_said : (k : Kind) (b : Bool) (value : List ℕ) (ss : List FieldValue) → (b ≡ true → IsSaidAs k (text value)) → text_value_if b value ≡ Some ss → AreSaidAs k ss
 text_said k true value ss h e = let same : text value ∷ [] ≡ ss = cc (e) in subst (AreSaidAs k) same (h refl, tt)
 text_said k false value ss h e = absurd (cc (e))
 
@@ -113,16 +113,16 @@ need_by : (part : List ℕ) (o : Option Dependency) (d : Dependency) → depende
 need_by part None d is e = absurd (cc (e))
 need_by part (Some x) d is e = let both = untagged_is x d e in (part, is ∙ ap Some both.0, both.1)
 
-needs_by : (part : List ℕ) (o : Option Dependency) (os : Option (List FieldValue)) (ss : List FieldValue) → untagged_dependency_in part ≡ o → ((ts : List FieldValue) → os ≡ Some ts → AreSaidAs Kinds.Dependencies ts) → and_needs o os ≡ Some ss → AreSaidAs Kinds.Dependencies ss
+needs_by : (part : List ℕ) (o : Option Dependency) (os : Option (List FieldValue)) (ss : List FieldValue) → untagged_dependency_in part ≡ o → ((ts : List FieldValue) → os ≡ Some ts → AreSaidAs Kinds.Dependencies ts) → dependency_value_and_others o os ≡ Some ss → AreSaidAs Kinds.Dependencies ss
 needs_by part None os ss is further e = absurd (cc (e))
 needs_by part (Some d) None ss is further e = absurd (cc (e))
 needs_by part (Some d) (Some ts) ss is further e =
     let same : need d ∷ ts ≡ ss = cc (e) in
     subst (AreSaidAs Kinds.Dependencies) same (need_by part (dependency_of part) d refl is, further ts refl)
 
-needs_said : (parts : List (List ℕ)) (ss : List FieldValue) → needs_in parts ≡ Some ss → AreSaidAs Kinds.Dependencies ss
+needs_said : (parts : List (List ℕ)) (ss : List FieldValue) → dependency_values_in parts ≡ Some ss → AreSaidAs Kinds.Dependencies ss
 needs_said [] ss e = let same : [] ≡ ss = cc (e) in subst (AreSaidAs Kinds.Dependencies) same tt
-needs_said (part ∷ parts) ss e = needs_by part (untagged_dependency_in part) (needs_in parts) ss refl (λ ts is. needs_said parts ts is) e
+needs_said (part ∷ parts) ss e = needs_by part (untagged_dependency_in part) (dependency_values_in parts) ss refl (λ ts is. needs_said parts ts is) e
 
 texts_said : (parts : List (List ℕ)) → AreSaidAs Kinds.Texts (text_values parts)
 texts_said [] = tt

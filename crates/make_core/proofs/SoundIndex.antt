@@ -14,10 +14,10 @@ use Rattle.make_index.specs.adb_schema.Soundness.{payload_in, root_value, schema
 use Rattle.adb_view.specs.declared.tables.Which.TheVariants.{Package, PkgInfo, Index}
 use Rattle.adb_view.specs.declared.tables.Kind.TheVariants.{Obj}
 use Rattle.make_index.specs.adb_schema.declared.read.TheConstants.{INDEX_WORD}
-use Rattle.make_index.specs.adb_write.Canonical.{PayloadCounts, written_of, canonical}
+use Rattle.make_index.specs.adb_write.Canonical.{PayloadCounts, payload_or_overflow, canonical}
 use Rattle.make_index.specs.adb_write.File.{file_of}
 use Rattle.make_index.specs.pkg_core.Whole.{container_fault, package_fault}
-use Rattle.command_core.specs.Files.{without_dot}
+use Rattle.command_core.specs.Files.{without_dot_slash}
 use Rattle.command_core.specs.declared.operands.Operand.{Operand}
 use Rattle.make_index.specs.Index.{and_entries, found_entries, found_entry, index_container, index_of, index_of_found, value_of_index, entry_unless, description_in, made_index}
 use Rattle.make_index.specs.make_info.Values.{plains_of_list}
@@ -29,7 +29,7 @@ use Rattle.base_core.specs.Files.{IsFile}
 use Rattle.make_index.specs.Files.{FindOnlyFiles}
 use Rattle.make_package.specs.adb_sound.Root.{IsRootOf}
 use Rattle.make_index.specs.make_info.declared.fault.MakeFault.{MakeFault}
-use Rattle.make_core.specs.ReadBack.{index_value_by, index_value_of}
+use Rattle.make_core.specs.ReadBack.{index_value_of_command, index_value_of_entries}
 use Rattle.make_core.proofs.IndexEntry.{entry_good}
 use Rattle.make_core.proofs.OpenedPackage.{Values}
 use Rattle.make_core.proofs.Roots.{Exact, root_good, written}
@@ -83,7 +83,7 @@ entries_good laws around read n [] entries files root e =
     let same : [] ≡ entries = cc (e) in
     subst (λ us. Each (IsEntry around) (plains_of_list us)) same tt
 entries_good laws around read n (o ∷ operands) entries files root e =
-    entries_by around _ _ entries e (λ v is. found_good laws o.place n (without_dot o.text) around read v (read n (without_dot o.text)) files.0 root refl is)
+    entries_by around _ _ entries e (λ v is. found_good laws o.place n (without_dot_slash o.text) around read v (read n (without_dot_slash o.text)) files.0 root refl is)
     (λ vs is. entries_good laws around read (n + 1) operands vs files.1 root is)
 
 -- ---- the index
@@ -114,7 +114,7 @@ module _ (P : Plain → List ℕ → Type 0) where
   abbrev pub Holds : Type 0
   Holds = (v : Plain) → IsRootOf Index v → P v (file_of INDEX_WORD (canonical v))
 
-  file_holds : Holds → Exact → (v : Plain) (r : Result (List ℕ) PayloadCounts) (bytes : List ℕ) → IsGood (shape_of (Obj Index)) 0 (surroundings_of_root Index) v → written_of v ≡ r → index_container r ≡ Ok bytes → P v bytes
+  file_holds : Holds → Exact → (v : Plain) (r : Result (List ℕ) PayloadCounts) (bytes : List ℕ) → IsGood (shape_of (Obj Index)) 0 (surroundings_of_root Index) v → payload_or_overflow v ≡ r → index_container r ≡ Ok bytes → P v bytes
   file_holds holds exact v (Err c) bytes g w e = absurd (cc (e))
   file_holds holds exact v (Ok payload) bytes g w e =
       let is = written v payload w in
@@ -123,16 +123,16 @@ module _ (P : Plain → List ℕ → Type 0) where
       subst (P v) same (subst (λ (p : List ℕ). P v (file_of INDEX_WORD p)) is.is good)
 
   found_holds : Holds → Exact → (description : List ℕ) (r : Result (List Plain) MakeFault) (bytes : List ℕ) → ((entries : List Plain) (around : Surroundings) → r ≡ Ok entries → around.root ≡ Index → Each (IsEntry around) (plains_of_list entries))
-      → index_of_found description r ≡ Ok bytes → (v : Plain) × (index_value_of description r ≡ Ok v) × P v bytes
+      → index_of_found description r ≡ Ok bytes → (v : Plain) × (index_value_of_entries description r ≡ Ok v) × P v bytes
   unfolding index_of
   found_holds holds exact description (Err f) bytes each e = absurd (cc (e))
   found_holds holds exact description (Ok entries) bytes each e =
       let v : Plain = value_of_index description (sorted_by entry_cmp entries) in
-      (v, refl, file_holds holds exact v (written_of v) bytes (index_good description (sorted_by entry_cmp entries) (λ around root. each_in_order (IsEntry around) entry_cmp entries (each entries around refl root))) refl e)
+      (v, refl, file_holds holds exact v (payload_or_overflow v) bytes (index_good description (sorted_by entry_cmp entries) (λ around root. each_in_order (IsEntry around) entry_cmp entries (each entries around refl root))) refl e)
 
   -- of a command
   made_holds : Holds → Exact → Values → (command : CommandLine) (read : ℕ → List ℕ → Option (List ℕ)) (bytes : List ℕ) → FindOnlyFiles read 0 command.operands → made_index command read ≡ Ok bytes
-      → (v : Plain) × (index_value_by command read ≡ Ok v) × P v bytes
+      → (v : Plain) × (index_value_of_command command read ≡ Ok v) × P v bytes
   unfolding made_index
   made_holds holds exact values command read bytes files e =
       found_holds holds exact (description_in command.values) (found_entries read 0 command.operands) bytes (λ entries around is root. entries_good values around read 0 command.operands entries files root is) e
@@ -149,7 +149,7 @@ made_sound sound exact values command read bytes files e =
 abbrev pub Back : Type 0
 Back = (which : Which) (schema : ℕ) (v : Plain) → schema_word which ≡ Some schema → IsRootOf which v → root_value which (payload_in (file_of schema (canonical v))) ≡ v
 
-pub made_back : Back → Exact → Values → (command : CommandLine) (read : ℕ → List ℕ → Option (List ℕ)) (bytes : List ℕ) → FindOnlyFiles read 0 command.operands → made_index command read ≡ Ok bytes → index_value_by command read ≡ Ok (root_value Index (payload_in bytes))
+pub made_back : Back → Exact → Values → (command : CommandLine) (read : ℕ → List ℕ → Option (List ℕ)) (bytes : List ℕ) → FindOnlyFiles read 0 command.operands → made_index command read ≡ Ok bytes → index_value_of_command command read ≡ Ok (root_value Index (payload_in bytes))
 made_back back exact values command read bytes files e =
     let made = made_holds (λ v file. root_value Index (payload_in file) ≡ v) (λ v root. back Index INDEX_WORD v refl root) exact values command read bytes files e in
     made.1 ∙ ap Ok (sym made.2)

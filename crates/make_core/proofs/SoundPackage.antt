@@ -12,14 +12,14 @@ use Rattle.make_index.specs.pkg_core.Contents.{Contents, expected_contents}
 use Rattle.make_index.specs.pkg_core.GoodContents.{AreContentsOf}
 use Rattle.make_index.specs.pkg_core.Whole.{container_fault, package_with_contents}
 use Rattle.command_core.specs.Command.{CommandLine}
-use Rattle.command_core.specs.Files.{without_dot}
+use Rattle.command_core.specs.Files.{without_dot_slash}
 use Rattle.command_core.specs.declared.values.OptionValue.{OptionValue}
 use Rattle.make_index.specs.make_info.Information.{FieldWithValue, information_value, information, replaces_priority}
 use Rattle.make_package.specs.adb_sound.Contents.{contents_size}
-use Rattle.make_package.specs.adb_sound.Container.{container_of, package_by}
+use Rattle.make_package.specs.adb_sound.Container.{container_of, packed_from_parts}
 use Rattle.make_package.specs.Making.{container_unless, made_package, or_info_bad, package_container, package_of_parts}
 use Rattle.make_package.specs.package_files.Package.{Script, SourceFolder, contents_of_folders, installed_size, value_of_package}
-use Rattle.make_package.specs.package_files.Sources.{AreNamesBelowFirst, and_then, folders_below, values_with, scripts_from, texts_of}
+use Rattle.make_package.specs.package_files.Sources.{AreNamesBelowFirst, and_then, folders_below, values_of_letter, scripts_from, texts_of}
 use Rattle.make_package.specs.adb_sound.Root.{IsRootOf}
 use Rattle.make_index.specs.make_info.Reads.{Reads}
 use Rattle.make_core.proofs.Apart.{Tells, package_once, rises_from_pairs}
@@ -68,10 +68,10 @@ module _ (P : Plain → List Contents → List ℕ → Type 0) where
 
   package_holds : Holds → Sizes → Exact → Needs → Tells → (command : CommandLine) (scripts : List Script) (items : List FieldWithValue) (sources : List SourceFolder) (bytes : List ℕ) → IsInformation items → AreSources sources
       → length bytes < 2 ^ 64 → package_of_parts command scripts items sources ≡ Ok bytes
-      → P (value_of_package (information_value items (installed_size sources)) sources scripts (texts_of (values_with TRIGGER command.values)) (replaces_priority items)) (contents_of_folders 1 sources) bytes
+      → P (value_of_package (information_value items (installed_size sources)) sources scripts (texts_of (values_of_letter TRIGGER command.values)) (replaces_priority items)) (contents_of_folders 1 sources) bytes
   unfolding package_container
   package_holds holds sizes exact needs tells command scripts items sources bytes about are short e =
-      let triggers : List (List ℕ) = texts_of (values_with TRIGGER command.values) in
+      let triggers : List (List ℕ) = texts_of (values_of_letter TRIGGER command.values) in
       let v : Plain = value_of_package (information_value items (installed_size sources)) sources scripts triggers (replaces_priority items) in
       file_holds v (contents_of_folders 1 sources) (overflow_of v) bytes refl short (value_holds holds sizes exact needs tells items sources scripts triggers about are v refl) e
 
@@ -88,7 +88,7 @@ sources_are read n [] names sources below e =
     let same : [] ≡ sources = cc (e) in
     subst AreSources same (record { named = tt; apart = tt; files_apart = tt })
 sources_are read n (v ∷ vs) names sources below e =
-    sources_good (without_dot v.text) names v.place read n sources (are_listed (without_dot v.text) names below.each) (rises_from_pairs names below.rising) e
+    sources_good (without_dot_slash v.text) names v.place read n sources (are_listed (without_dot_slash v.text) names below.each) (rises_from_pairs names below.rising) e
 
 pub info_ok : (r : Result (List FieldWithValue) ℕ) (items : List FieldWithValue) → or_info_bad r ≡ Ok items → r ≡ Ok items
 info_ok (Ok x) items e = let same : x ≡ items = cc (e) in ap Ok same
@@ -99,21 +99,21 @@ pub record IsMadeOf (P : Plain → List Contents → List ℕ → Type 0) (comma
   pub scripts : List Script
   pub items : List FieldWithValue
   pub sources : List SourceFolder
-  pub scripts_read : scripts_from read 0 (values_with SCRIPT command.values) ≡ Ok scripts
+  pub scripts_read : scripts_from read 0 (values_of_letter SCRIPT command.values) ≡ Ok scripts
   pub items_read : or_info_bad (information command) ≡ Ok items
-  pub sources_read : folders_below read (length scripts) (values_with FILES command.values) names ≡ Ok sources
-  pub holds : P (value_of_package (information_value items (installed_size sources)) sources scripts (texts_of (values_with TRIGGER command.values)) (replaces_priority items)) (contents_of_folders 1 sources) bytes
+  pub sources_read : folders_below read (length scripts) (values_of_letter FILES command.values) names ≡ Ok sources
+  pub holds : P (value_of_package (information_value items (installed_size sources)) sources scripts (texts_of (values_of_letter TRIGGER command.values)) (replaces_priority items)) (contents_of_folders 1 sources) bytes
 
-pub made_of : (P : Plain → List Contents → List ℕ → Type 0) → Holds P → Sizes → Exact → Needs → Tells → (command : CommandLine) (names : List (List ℕ)) (read : Reads) (bytes : List ℕ) → AreNamesBelowFirst (values_with FILES command.values) names
+pub made_of : (P : Plain → List Contents → List ℕ → Type 0) → Holds P → Sizes → Exact → Needs → Tells → (command : CommandLine) (names : List (List ℕ)) (read : Reads) (bytes : List ℕ) → AreNamesBelowFirst (values_of_letter FILES command.values) names
     → made_package command names read ≡ Ok bytes → length bytes < 2 ^ 64 → IsMadeOf P command names read bytes
 unfolding made_package
 made_of P holds sizes exact needs tells command names read bytes below e short =
-    let one = after_ok (scripts_from read 0 (values_with SCRIPT command.values)) (λ scripts.
+    let one = after_ok (scripts_from read 0 (values_of_letter SCRIPT command.values)) (λ scripts.
     and_then (or_info_bad (information command)) (λ about.
-    and_then (folders_below read (length scripts) (values_with FILES command.values) names) (package_of_parts command scripts about))) bytes e in
+    and_then (folders_below read (length scripts) (values_of_letter FILES command.values) names) (package_of_parts command scripts about))) bytes e in
     let two = after_ok (or_info_bad (information command)) (λ about.
-    and_then (folders_below read (length one.x) (values_with FILES command.values) names) (package_of_parts command one.x about)) bytes one.gives in
-    let three = after_ok (folders_below read (length one.x) (values_with FILES command.values) names) (package_of_parts command one.x two.x) bytes two.gives in
+    and_then (folders_below read (length one.x) (values_of_letter FILES command.values) names) (package_of_parts command one.x about)) bytes one.gives in
+    let three = after_ok (folders_below read (length one.x) (values_of_letter FILES command.values) names) (package_of_parts command one.x two.x) bytes two.gives in
     record {
       scripts = one.x;
       items = two.x;
@@ -124,30 +124,30 @@ made_of P holds sizes exact needs tells command names read bytes below e short =
       holds =
           package_holds P holds sizes exact needs tells command one.x two.x three.x bytes
           (information_good command.values command.behind two.x (info_ok (information command) two.x two.is))
-          (sources_are read (length one.x) (values_with FILES command.values) names three.x below three.is) short three.gives;
+          (sources_are read (length one.x) (values_of_letter FILES command.values) names three.x below three.is) short three.gives;
     }
 
 -- a package of a good value and its contents is sound, and so is one that is made
 abbrev pub IsSoundFile : Plain → List Contents → List ℕ → Type 0
 IsSoundFile v contents bytes = container_fault bytes ≡ None
 
-pub made_sound : Holds IsSoundFile → Sizes → Exact → Needs → Tells → (command : CommandLine) (names : List (List ℕ)) (read : Reads) (bytes : List ℕ) → AreNamesBelowFirst (values_with FILES command.values) names
+pub made_sound : Holds IsSoundFile → Sizes → Exact → Needs → Tells → (command : CommandLine) (names : List (List ℕ)) (read : Reads) (bytes : List ℕ) → AreNamesBelowFirst (values_of_letter FILES command.values) names
     → made_package command names read ≡ Ok bytes → length bytes < 2 ^ 64 → container_fault bytes ≡ None
 made_sound holds sizes exact needs tells command names read bytes below e short =
     (made_of IsSoundFile holds sizes exact needs tells command names read bytes below e short).holds
 
 -- its parts are read back, and so are those of one that is made
 abbrev pub IsReadBack : Plain → List Contents → List ℕ → Type 0
-IsReadBack v contents bytes = package_with_contents bytes ≡ package_by v contents
+IsReadBack v contents bytes = package_with_contents bytes ≡ packed_from_parts v contents
 
-pub made_back : Holds IsReadBack → Sizes → Exact → Needs → Tells → (command : CommandLine) (names : List (List ℕ)) (read : Reads) (bytes : List ℕ) → AreNamesBelowFirst (values_with FILES command.values) names
+pub made_back : Holds IsReadBack → Sizes → Exact → Needs → Tells → (command : CommandLine) (names : List (List ℕ)) (read : Reads) (bytes : List ℕ) → AreNamesBelowFirst (values_of_letter FILES command.values) names
     → made_package command names read ≡ Ok bytes → length bytes < 2 ^ 64 → packed_package command names read ≡ Ok (package_with_contents bytes)
 made_back holds sizes exact needs tells command names read bytes below e short =
     let made = made_of IsReadBack holds sizes exact needs tells command names read bytes below e short in
     ap (λ r. and_then r (λ scripts.
     and_then (or_info_bad (information command)) (λ about.
-    and_then (folders_below read (length scripts) (values_with FILES command.values) names) (packed_of_parts command scripts about)))) made.scripts_read
+    and_then (folders_below read (length scripts) (values_of_letter FILES command.values) names) (packed_of_parts command scripts about)))) made.scripts_read
     ∙ ap (λ r. and_then r (λ about.
-    and_then (folders_below read (length made.scripts) (values_with FILES command.values) names) (packed_of_parts command made.scripts about))) made.items_read
+    and_then (folders_below read (length made.scripts) (values_of_letter FILES command.values) names) (packed_of_parts command made.scripts about))) made.items_read
     ∙ ap (λ r. and_then r (packed_of_parts command made.scripts made.items)) made.sources_read
     ∙ ap Ok (sym made.holds)

@@ -5,7 +5,7 @@ use Rattle.std.specs.Prelude.{◌≡◌, ℕ, ◌+◌, List, [], ◌∷◌, map,
 use Rattle.std.specs.List.Sorted.{IsPermutation, IsSorted}
 use Rattle.adb_view.specs.Plain.{Plain}
 use Rattle.make_index.specs.adb_fields.Repeated.{entries_at}
-use Rattle.command_core.specs.Files.{without_dot}
+use Rattle.command_core.specs.Files.{without_dot_slash}
 use Rattle.command_core.specs.declared.operands.Operand.{Operand}
 use Rattle.make_index.specs.Entries.{entry_of_package}
 use Rattle.make_index.specs.EntryOrder.{entry_cmp}
@@ -24,7 +24,7 @@ AreSoundPackages read n [] [] = Unit {0}
 AreSoundPackages read n [] (file ∷ files) = ⊥
 AreSoundPackages read n (o ∷ operands) [] = ⊥
 AreSoundPackages read n (o ∷ operands) (file ∷ files) =
-    (read n (without_dot o.text) ≡ Some file) × (package_fault file ≡ None)
+    (read n (without_dot_slash o.text) ≡ Some file) × (package_fault file ≡ None)
     × AreSoundPackages read (n + 1) operands files
 
 -- an index has the entries of exactly the packages that operands name, in order (*entry_cmp*); the

@@ -3,7 +3,7 @@
 -- "Making" (a file that was listed below the folder of `-F` and is then not found). It serves the law
 -- `a_missing_file_is_reported_at_its_option`.
 use Rattle.std.specs.Prelude.{◌≡◌, ℕ, List, ◌∷◌, None, Contains}
-use Rattle.command_core.specs.Files.{without_dot}
+use Rattle.command_core.specs.Files.{without_dot_slash}
 use Rattle.command_core.specs.Values.{script_file}
 use Rattle.command_core.specs.declared.values.OptionValue.{OptionValue}
 use Rattle.make_index.specs.make_info.Reads.{Reads}
@@ -17,7 +17,7 @@ pub record IsMissingScript (read : Reads) (scripts : List OptionValue) (place : 
   pub script : OptionValue
   pub given : Contains scripts script
   pub at : script.place ≡ place
-  pub absent : IsAbsent read (without_dot (script_file script.text))
+  pub absent : IsAbsent read (without_dot_slash (script_file script.text))
 
 -- the place is that of `-F`, and one of the names that were listed below its folder is absent
 pub record IsMissingFile (read : Reads) (folders : List OptionValue) (names : List (List ℕ))

@@ -4,7 +4,7 @@
 -- `a_made_package_is_read_back` and `a_made_index_is_read_back`.
 use Rattle.command_core.specs.declared.values.TheConstants.{FILES, SCRIPT, TRIGGER}
 use Rattle.std.specs.Prelude.{ℕ, List, length, Result, Ok, Err}
-use Rattle.make_package.specs.adb_sound.Container.{package_by}
+use Rattle.make_package.specs.adb_sound.Container.{packed_from_parts}
 use Rattle.adb_view.specs.Plain.{Plain}
 use Rattle.command_core.specs.Command.{CommandLine}
 use Rattle.make_index.specs.EntryOrder.{entry_cmp}
@@ -15,7 +15,7 @@ use Rattle.make_index.specs.make_info.Reads.{Reads}
 use Rattle.make_index.specs.make_info.declared.fault.MakeFault.{MakeFault}
 use Rattle.make_package.specs.Making.{or_info_bad}
 use Rattle.make_package.specs.package_files.Package.{Script, SourceFolder, contents_of_folders, installed_size, value_of_package}
-use Rattle.make_package.specs.package_files.Sources.{folders_below, and_then, scripts_from, texts_of, values_with}
+use Rattle.make_package.specs.package_files.Sources.{folders_below, and_then, scripts_from, texts_of, values_of_letter}
 use Rattle.make_index.specs.pkg_core.Whole.{Packed}
 
 -- the value and the contents of a package, given what was read of each part, in the order in which the
@@ -23,26 +23,26 @@ use Rattle.make_index.specs.pkg_core.Whole.{Packed}
 abbrev pub packed_of_parts :
     CommandLine → List Script → List FieldWithValue → List SourceFolder → Result Packed MakeFault
 packed_of_parts command scripts about folders =
-    Ok (package_by
+    Ok (packed_from_parts
     (value_of_package (information_value about (installed_size folders)) folders scripts
-    (texts_of (values_with TRIGGER command.values)) (replaces_priority about))
+    (texts_of (values_of_letter TRIGGER command.values)) (replaces_priority about))
     (contents_of_folders 1 folders))
 
 -- the value and the contents of the package that a command describes
 abbrev pub packed_package : CommandLine → List (List ℕ) → Reads → Result Packed MakeFault
 packed_package command names read =
-    and_then (scripts_from read 0 (values_with SCRIPT command.values)) (λ scripts.
+    and_then (scripts_from read 0 (values_of_letter SCRIPT command.values)) (λ scripts.
     and_then (or_info_bad (information command)) (λ about.
-    and_then (folders_below read (length scripts) (values_with FILES command.values) names)
+    and_then (folders_below read (length scripts) (values_of_letter FILES command.values) names)
     (packed_of_parts command scripts about)))
 
 -- the value of an index with these entries, sorted; or the fault of the first operand without one
-abbrev pub index_value_of : List ℕ → Result (List Plain) MakeFault → Result Plain MakeFault
-index_value_of description (Ok entries) =
+abbrev pub index_value_of_entries : List ℕ → Result (List Plain) MakeFault → Result Plain MakeFault
+index_value_of_entries description (Ok entries) =
     Ok (value_of_index description (sorted_by entry_cmp entries))
-index_value_of description (Err fault) = Err fault
+index_value_of_entries description (Err fault) = Err fault
 
 -- the value of the index that a command describes
-abbrev pub index_value_by : CommandLine → Reads → Result Plain MakeFault
-index_value_by command read =
-    index_value_of (description_in command.values) (found_entries read 0 command.operands)
+abbrev pub index_value_of_command : CommandLine → Reads → Result Plain MakeFault
+index_value_of_command command read =
+    index_value_of_entries (description_in command.values) (found_entries read 0 command.operands)

@@ -7,7 +7,7 @@ ghost use Rattle.make_index.specs.Files.{FindOnlyFiles, reads_of};
 ghost use Rattle.make_index.specs.Index.{made_index};
 ghost use Rattle.make_index.specs.Kept.{AgreesUnlessStopped};
 ghost use Rattle.make_index.specs.make_info.Reads.{Reads};
-ghost use Rattle.make_package.specs.Answers.{IsMadeBySome, IsMadeIn, OnRefusal};
+ghost use Rattle.make_package.specs.Answers.{IsMadeBySome, IsMadeIn, UnlessDiskOrMemory};
 ghost use Rattle.make_index.specs.pkg_core.Whole.{container_fault};
 ghost use Rattle.std.specs.Prelude.{◌≡◌, Ok, None, IfOk, IfErr};
 
@@ -31,11 +31,11 @@ pub fn mkpkg<T: Tree>(alloc: Global, command: &Command, tree: &mut T) -> Result<
     // If the tree's files are observable: the package is theirs, or the refusal.
     ensures ok { IfOk result (λ file. IfObservable (T.history tree.old) (λ v.
         IsMadeIn command.now v (Ok file.items))) }
-    ensures err { IfErr result (λ fault. OnRefusal fault (λ made.
+    ensures err { IfErr result (λ fault. UnlessDiskOrMemory fault (λ made.
         IfObservable (T.history tree.old) (λ v. IsMadeIn command.now v made))) }
     // Over every tree: by some names below the folder and some reads.
     ensures found { IfOk result (λ file. IsMadeBySome command.now (Ok file.items)) }
-    ensures found_err { IfErr result (λ fault. OnRefusal fault (IsMadeBySome command.now)) }
+    ensures found_err { IfErr result (λ fault. UnlessDiskOrMemory fault (IsMadeBySome command.now)) }
     // What is made passes all tests of a container.
     ensures sound { IfOk result (λ file. container_fault file.items ≡ None) }
     // The tree is only read, and `Disk` has a fault of the tree as its cause.

@@ -9,14 +9,14 @@ ghost use Rattle.make_index.specs.Files.{FindOnlyFiles};
 ghost use Rattle.make_index.specs.Index.{made_index};
 ghost use Rattle.make_index.specs.make_info.Reads.{Reads};
 ghost use Rattle.make_package.specs.Making.{made_package};
-ghost use Rattle.make_package.specs.package_files.Sources.{AreNamesBelowFirst, values_with};
-ghost use Rattle.make_core.specs.ReadBack.{index_value_by, packed_package};
+ghost use Rattle.make_package.specs.package_files.Sources.{AreNamesBelowFirst, values_of_letter};
+ghost use Rattle.make_core.specs.ReadBack.{index_value_of_command, packed_package};
 ghost use Rattle.make_index.specs.pkg_core.Whole.{container_fault, package_with_contents};
 ghost use Rattle.std.specs.Prelude.{◌≡◌, ◌<◌, ◌^◌, ◌∷◌, ◌⊎◌, ℕ, List, length, None, Ok, Err};
 ghost use Rattle.base_core.specs.Files.{Files};
 ghost use Rattle.base_core.specs.Listed.{AreNamesBelow};
 ghost use Rattle.command_core.specs.Command.{CommandLine};
-ghost use Rattle.command_core.specs.Files.{without_dot};
+ghost use Rattle.command_core.specs.Files.{without_dot_slash};
 ghost use Rattle.command_core.specs.declared.values.OptionValue.{OptionValue};
 ghost use Rattle.make_core.specs.FilesBelow.{HasFilesBelow};
 ghost use Rattle.make_core.specs.IndexOrder.{HasPackagesInOrder};
@@ -53,7 +53,7 @@ pub fn a_made_index_is_sound()
 /// than 2^64 bytes and is made from names below its folder, in byte order and each once.
 pub fn a_made_package_is_sound()
     ensures { (command : CommandLine) (names : List (List ℕ)) (read : Reads) (bytes : List ℕ)
-        → AreNamesBelowFirst (values_with FILES command.values) names
+        → AreNamesBelowFirst (values_of_letter FILES command.values) names
         → made_package command names read ≡ Ok bytes → length bytes < 2 ^ 64
         → container_fault bytes ≡ None }
 {
@@ -71,7 +71,7 @@ pub fn a_made_package_is_sound()
 pub fn a_made_index_is_read_back()
     ensures { (command : CommandLine) (read : Reads) (bytes : List ℕ)
         → FindOnlyFiles read 0 command.operands → made_index command read ≡ Ok bytes
-        → index_value_by command read ≡ Ok (root_value Index (payload_in bytes)) }
+        → index_value_of_command command read ≡ Ok (root_value Index (payload_in bytes)) }
 {
     what_a_container_is_made_of_is_read_back();
     a_value_overflows_exactly_past_a_limit();
@@ -84,7 +84,7 @@ pub fn a_made_index_is_read_back()
 /// if it has fewer than 2^64 bytes.
 pub fn a_made_package_is_read_back()
     ensures { (command : CommandLine) (names : List (List ℕ)) (read : Reads) (bytes : List ℕ)
-        → AreNamesBelowFirst (values_with FILES command.values) names
+        → AreNamesBelowFirst (values_of_letter FILES command.values) names
         → made_package command names read ≡ Ok bytes → length bytes < 2 ^ 64
         → packed_package command names read ≡ Ok (package_with_contents bytes) }
 {
@@ -117,10 +117,10 @@ pub fn a_made_index_has_its_packages_in_order()
 pub fn a_made_package_has_the_files_below_its_folder()
     ensures { (command : CommandLine) (names : List (List ℕ)) (files : Files) (bytes : List ℕ)
         (folder : OptionValue) (others : List OptionValue)
-        → values_with FILES command.values ≡ folder ∷ others
-        → AreNamesBelow (without_dot folder.text) names
+        → values_of_letter FILES command.values ≡ folder ∷ others
+        → AreNamesBelow (without_dot_slash folder.text) names
         → made_package command names (λ n name. files name) ≡ Ok bytes → length bytes < 2 ^ 64
-        → HasFilesBelow files (without_dot folder.text) names
+        → HasFilesBelow files (without_dot_slash folder.text) names
         (root_value Package (payload_in bytes)) }
 {
     each_name_is_in_one_folder();
@@ -138,6 +138,6 @@ pub fn a_made_package_has_the_files_below_its_folder()
 pub fn a_missing_file_is_reported_at_its_option()
     ensures { (command : CommandLine) (names : List (List ℕ)) (read : Reads) (place : ℕ)
         → made_package command names read ≡ Err (FileMissing place)
-        → IsMissingScript read (values_with SCRIPT command.values) place
-        ⊎ IsMissingFile read (values_with FILES command.values) names place }
+        → IsMissingScript read (values_of_letter SCRIPT command.values) place
+        ⊎ IsMissingFile read (values_of_letter FILES command.values) names place }
 {}

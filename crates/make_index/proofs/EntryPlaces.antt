@@ -9,7 +9,7 @@ use Rattle.adb_view.specs.declared.tables.Which.TheVariants.{PkgInfo}
 use Rattle.adb_view.proofs.ValueEntries.{nth_obj}
 use Rattle.adb_view.specs.Plain.{Plain, Plains, none, more, obj_value}
 use Rattle.base_core.specs.ByteOrder.{bytes_cmp}
-use Rattle.make_index.specs.EntryOrder.{entry_cmp, id_in, name_in, version_in}
+use Rattle.make_index.specs.EntryOrder.{entry_cmp, id_of_index_entry, name_of_index_entry, version_of_index_entry}
 use Rattle.make_info.specs.Named.{value_by_name}
 use Rattle.version_core.specs.Order.{version_cmp}
 
@@ -17,39 +17,39 @@ use Rattle.version_core.specs.Order.{version_cmp}
 abbrev all : Ordering → Ordering → Ordering → Ordering → Ordering
 all name version text id = ordering_then name (ordering_then version (ordering_then text id))
 
-pub by_name : (a b : Plain) → bytes_cmp (name_in a) (name_in b) ≡ Less → entry_cmp a b ≡ Less
+pub by_name : (a b : Plain) → bytes_cmp (name_of_index_entry a) (name_of_index_entry b) ≡ Less → entry_cmp a b ≡ Less
 unfolding entry_cmp
-by_name a b e = ap (λ (o : Ordering). all o (version_cmp (version_in a) (version_in b)) (bytes_cmp (version_in a) (version_in b)) (bytes_cmp (id_in a) (id_in b))) e
+by_name a b e = ap (λ (o : Ordering). all o (version_cmp (version_of_index_entry a) (version_of_index_entry b)) (bytes_cmp (version_of_index_entry a) (version_of_index_entry b)) (bytes_cmp (id_of_index_entry a) (id_of_index_entry b))) e
 
-pub by_version : (a b : Plain) → bytes_cmp (name_in a) (name_in b) ≡ Equal → version_cmp (version_in a) (version_in b) ≡ Less → entry_cmp a b ≡ Less
+pub by_version : (a b : Plain) → bytes_cmp (name_of_index_entry a) (name_of_index_entry b) ≡ Equal → version_cmp (version_of_index_entry a) (version_of_index_entry b) ≡ Less → entry_cmp a b ≡ Less
 unfolding entry_cmp
-by_version a b e f = λ k. all (e k) (f k) (bytes_cmp (version_in a) (version_in b)) (bytes_cmp (id_in a) (id_in b))
+by_version a b e f = λ k. all (e k) (f k) (bytes_cmp (version_of_index_entry a) (version_of_index_entry b)) (bytes_cmp (id_of_index_entry a) (id_of_index_entry b))
 
-pub by_text : (a b : Plain) → bytes_cmp (name_in a) (name_in b) ≡ Equal → version_cmp (version_in a) (version_in b) ≡ Equal → bytes_cmp (version_in a) (version_in b) ≡ Less → entry_cmp a b ≡ Less
+pub by_text : (a b : Plain) → bytes_cmp (name_of_index_entry a) (name_of_index_entry b) ≡ Equal → version_cmp (version_of_index_entry a) (version_of_index_entry b) ≡ Equal → bytes_cmp (version_of_index_entry a) (version_of_index_entry b) ≡ Less → entry_cmp a b ≡ Less
 unfolding entry_cmp
-by_text a b e f g = λ k. all (e k) (f k) (g k) (bytes_cmp (id_in a) (id_in b))
+by_text a b e f g = λ k. all (e k) (f k) (g k) (bytes_cmp (id_of_index_entry a) (id_of_index_entry b))
 
-pub by_id : (a b : Plain) → bytes_cmp (name_in a) (name_in b) ≡ Equal → version_cmp (version_in a) (version_in b) ≡ Equal → bytes_cmp (version_in a) (version_in b) ≡ Equal → bytes_cmp (id_in a) (id_in b) ≡ Less
+pub by_id : (a b : Plain) → bytes_cmp (name_of_index_entry a) (name_of_index_entry b) ≡ Equal → version_cmp (version_of_index_entry a) (version_of_index_entry b) ≡ Equal → bytes_cmp (version_of_index_entry a) (version_of_index_entry b) ≡ Equal → bytes_cmp (id_of_index_entry a) (id_of_index_entry b) ≡ Less
     → entry_cmp a b ≡ Less
 unfolding entry_cmp
 by_id a b e f g h = λ k. all (e k) (f k) (g k) (h k)
 
 -- ---- the fields by which they are ordered
 
-pub name_field : (fields : Plains) (v : Plain) → value_by_name (codes "name") (table PkgInfo) fields ≡ Some v → name_in (obj_value fields) ≡ text_in v
+pub name_field : (fields : Plains) (v : Plain) → value_by_name (codes "name") (table PkgInfo) fields ≡ Some v → name_of_index_entry (obj_value fields) ≡ text_in v
 name_field none v e = absurd (cc (e))
 name_field (more name fields) v e =
     let same : name ≡ v = cc (e) in
     ap text_in (nth_obj (more name fields) 0 ∙ same)
 
-pub version_field : (fields : Plains) (v : Plain) → value_by_name (codes "version") (table PkgInfo) fields ≡ Some v → version_in (obj_value fields) ≡ text_in v
+pub version_field : (fields : Plains) (v : Plain) → value_by_name (codes "version") (table PkgInfo) fields ≡ Some v → version_of_index_entry (obj_value fields) ≡ text_in v
 version_field none v e = absurd (cc (e))
 version_field (more name none) v e = absurd (cc (e))
 version_field (more name (more version fields)) v e =
     let same : version ≡ v = cc (e) in
     ap text_in (nth_obj (more name (more version fields)) 1 ∙ same)
 
-pub id_field : (fields : Plains) (v : Plain) → value_by_name (codes "hashes") (table PkgInfo) fields ≡ Some v → id_in (obj_value fields) ≡ text_in v
+pub id_field : (fields : Plains) (v : Plain) → value_by_name (codes "hashes") (table PkgInfo) fields ≡ Some v → id_of_index_entry (obj_value fields) ≡ text_in v
 id_field none v e = absurd (cc (e))
 id_field (more name none) v e = absurd (cc (e))
 id_field (more name (more version none)) v e = absurd (cc (e))

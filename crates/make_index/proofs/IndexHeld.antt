@@ -7,11 +7,11 @@ use Rattle.std.specs.Int.{w32, to_le_bytes}
 use Rattle.adb_view.specs.Head.{head_fault, root_of}
 use Rattle.adb_view.specs.Plain.{Plain, null, int, blob, arr, obj, Plains, none, more, Shape, plain_of, value_of, IsNormal, AreNormal}
 use Rattle.adb_view.specs.Shaped.{HasShape}
-use Rattle.adb_copy.specs.adb_write.Canonical.{Layout, write, empty_layout, payload_with_root, canonical, exceeds_a_limit, overflow_of, or_overflow, written_of, PayloadCounts, MOST_BYTES}
+use Rattle.adb_copy.specs.adb_write.Canonical.{Layout, write, empty_layout, payload_with_root, canonical, exceeds_a_limit, overflow_of, or_overflow, payload_or_overflow, PayloadCounts, MOST_BYTES}
 use Rattle.adb_copy.specs.adb_write.Size.{size_of, value_count}
 use Rattle.adb_view.specs.Schema.{shape_of}
 use Rattle.adb_view.specs.Values.{is_sound, value_at, nth, entry_in, text_in}
-use Rattle.pkg_core.specs.adb_schema.SoundValues.{IsPackage}
+use Rattle.pkg_core.specs.adb_schema.SoundValues.{IsSoundPackage}
 use Rattle.pkg_core.specs.adb_schema.Soundness.{root_value, payload_in, first_fault}
 use Rattle.pkg_core.specs.adb_schema.SoundContainers.{IsSoundValue}
 use Rattle.adb_view.specs.declared.tables.Which.{Which}
@@ -20,8 +20,8 @@ use Rattle.adb_view.specs.declared.tables.Kind.{Kind}
 use Rattle.adb_view.specs.declared.tables.Kind.TheVariants as Kinds
 use Rattle.pkg_core.specs.Whole.{package_id}
 use Rattle.make_index.specs.Entries.{entry_of_package}
-use Rattle.adb_copy.specs.Zeros.{info_with}
-use Rattle.make_index.specs.Kept.{HoldsEntry, IsKeyed, copy_of_entry}
+use Rattle.adb_copy.specs.Zeros.{info_with_id_and_size}
+use Rattle.make_index.specs.Kept.{HoldsEntry, IsEntryWithKeys, copy_of_entry}
 use Rattle.version_core.specs.Order.{is_version}
 use Rattle.std.proofs.lemmas.List.{get_or_default}
 use Rattle.make_index.proofs.IndexAgain.{entry_again, entry_id, entry_name, entry_normal, entry_shape, entry_version}
@@ -44,8 +44,8 @@ ok_in : List ℕ → Result (List ℕ) PayloadCounts → List ℕ
 ok_in d (Ok x) = x
 ok_in d (Err c) = d
 
-pub written_is : (v : Plain) (p : List ℕ) → written_of v ≡ Ok p → (p ≡ canonical v) × (overflow_of v ≡ None)
-unfolding written_of ok_in
+pub written_is : (v : Plain) (p : List ℕ) → payload_or_overflow v ≡ Ok p → (p ≡ canonical v) × (overflow_of v ≡ None)
+unfolding payload_or_overflow ok_in
 written_is v p h = go (overflow_of v) refl
   where
     go : (o : Option PayloadCounts) → overflow_of v ≡ o → (p ≡ canonical v) × (overflow_of v ≡ None)
@@ -97,9 +97,9 @@ module _
   entry_in_normal (arr vs) i h = nth_normal vs i h.1
   entry_in_normal (obj vs) i h = nth_normal vs i h.2
 
-  pub holds : (info : Plain) (id : List ℕ) (len : ℕ) (p : List ℕ) → IsNormal info → HasShape (shape_of (Kinds.Obj Tables.PkgInfo)) info → len < 2 ^ 64 → written_of (info_with info id len) ≡ Ok p → HoldsEntry p (info_with info id len)
+  pub holds : (info : Plain) (id : List ℕ) (len : ℕ) (p : List ℕ) → IsNormal info → HasShape (shape_of (Kinds.Obj Tables.PkgInfo)) info → len < 2 ^ 64 → payload_or_overflow (info_with_id_and_size info id len) ≡ Ok p → HoldsEntry p (info_with_id_and_size info id len)
   holds info id len p good shaped small made =
-      let e : Plain = info_with info id len in
+      let e : Plain = info_with_id_and_size info id len in
       let n : IsNormal e = entry_normal info id len good small in
       let is : p ≡ canonical e = (written_is e p made).0 in
       let back : value_of (canonical e) (shape_of (Kinds.Obj Tables.PkgInfo)) ≡ Some e = read_back (shape_of (Kinds.Obj Tables.PkgInfo)) e n (entry_shape info id len shaped) (within e (overflows e n) (written_is e p made).1) in
@@ -119,13 +119,13 @@ SoundContainers = (which : Which) (file : List ℕ) → first_fault which file �
 
 package_version : SoundContainers → (file : List ℕ) → first_fault Tables.Package file ≡ None → is_version (text_in (entry_in (entry_in (root_value Tables.Package (payload_in file)) 0) 1)) ≡ true
 package_version containers file sound =
-    let held : IsPackage Tables.Package (root_value Tables.Package (payload_in file)) = (containers Tables.Package file sound).rules in
+    let held : IsSoundPackage Tables.Package (root_value Tables.Package (payload_in file)) = (containers Tables.Package file sound).rules in
     let info = held.info in
     info.version
 
 -- ---- what an entry is ordered by
 
-pub keyed_of : SoundContainers → (file name version id : List ℕ) (info : Plain) → info ≡ entry_in (root_value Tables.Package (payload_in file)) 0 → name ≡ text_in (entry_in info 0) → version ≡ text_in (entry_in info 1) → id ≡ package_id file → first_fault Tables.Package file ≡ None → IsKeyed name version id (entry_of_package file)
+pub keyed_of : SoundContainers → (file name version id : List ℕ) (info : Plain) → info ≡ entry_in (root_value Tables.Package (payload_in file)) 0 → name ≡ text_in (entry_in info 0) → version ≡ text_in (entry_in info 1) → id ≡ package_id file → first_fault Tables.Package file ≡ None → IsEntryWithKeys name version id (entry_of_package file)
 keyed_of containers file name version id info is e0 e1 e2 sound =
     let here : Plain = entry_in (root_value Tables.Package (payload_in file)) 0 in
     let v : version ≡ text_in (entry_in here 1) = e1 ∙ ap (λ i. text_in (entry_in i 1)) is in
@@ -148,14 +148,14 @@ pub holds_found : FoundShapes →
     → ((v : Plain) → IsNormal v → is_some (overflow_of v) ≡ exceeds_a_limit (size_of v, value_count v))
     → ((payload : List ℕ) → All (λ b. b < 256) payload → (shape : Shape) (word : ℕ) → IfSome (plain_of payload shape word) IsNormal)
     → (file : List ℕ) (value : Plain) (payload : List ℕ) → value ≡ root_value Tables.Package (payload_in file) → payload ≡ payload_in file → All (λ b. b < 256) file → length file < 2 ^ 64
-    → (found : Option (Vec ℕ Global)) → IfSome found (λ own. written_of (info_with (entry_in value 0) (sha256 payload) (length file)) ≡ Ok own.items) → IfSome found (λ own. HoldsEntry own.items (entry_of_package file))
+    → (found : Option (Vec ℕ Global)) → IfSome found (λ own. payload_or_overflow (info_with_id_and_size (entry_in value 0) (sha256 payload) (length file)) ≡ Ok own.items) → IfSome found (λ own. HoldsEntry own.items (entry_of_package file))
 holds_found shapes read_back overflows normal file value payload is_value is_payload bytes small found h =
     let info : Plain = entry_in (root_value Tables.Package (payload_in file)) 0 in
     let value_is_normal : IsNormal (root_value Tables.Package (payload_in file)) = value_normal read_back overflows normal (payload_in file) (Kinds.Obj Tables.Package) (root_of (payload_in file)) (payload_all (λ b. b < 256) file bytes) in
     if_some _ _ found (λ own made. holds read_back overflows normal info (package_id file) (length file) own.items
     (entry_in_normal read_back overflows normal (root_value Tables.Package (payload_in file)) 0 value_is_normal)
     (package_info_shape shapes (payload_in file)) small
-    ((λ j. written_of (info_with (entry_in (sym is_value j) 0) (sha256 (sym is_payload j)) (length file))) ∙ made)) h
+    ((λ j. payload_or_overflow (info_with_id_and_size (entry_in (sym is_value j) 0) (sha256 (sym is_payload j)) (length file))) ∙ made)) h
 
 -- ---- the entry of any package
 

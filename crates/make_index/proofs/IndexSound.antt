@@ -7,8 +7,8 @@ use Rattle.adb_block.specs.declared.block.BlockKind.{BlockKind}
 use Rattle.adb_block.specs.Framing.{HeadFields, Step, ended, failed, block, step_by_size, step_by_order, step_by_head, step_at_end, next_step, head_of, kind_of_number}
 use Rattle.adb_block.specs.Piece.{Piece, may_be_next_kind, least_payload, padding_of}
 use Rattle.adb_block.specs.Header.{header_of}
-use Rattle.adb_block.specs.Reading.{Reading, reading_by_step, reading_from, reading_of}
-use Rattle.pkg_core.specs.adb_schema.Soundness.{first_payload, payload_after_header, payload_in}
+use Rattle.adb_block.specs.Reading.{Reading, block_stream_after_step, block_stream_from_offset, block_stream_from}
+use Rattle.pkg_core.specs.adb_schema.Soundness.{first_block_payload, payload_after_header, payload_in}
 
 -- ---- the payload is a part of the file
 
@@ -47,13 +47,13 @@ module _ (P : ℕ → Type 0) where
   nothing : All P []
   nothing = λ k d h. absurd (omega arith)
 
-  stepped_all : (at : ℕ) (f : Piece → ℕ → Reading) (s : Step) → PieceAll P s → All P (first_payload (reading_by_step at f s))
+  stepped_all : (at : ℕ) (f : Piece → ℕ → Reading) (s : Step) → PieceAll P s → All P (first_block_payload (block_stream_after_step at f s))
   stepped_all at f ended h = nothing
   stepped_all at f (failed c) h = nothing
   stepped_all at f (block b size) h = h
 
   after_all : (file : List ℕ) (header : Result ℕ Cause) → All P file → All P (payload_after_header file header)
-  unfolding reading_of reading_from
+  unfolding block_stream_from block_stream_from_offset
   after_all file (Ok schema) h = stepped_all _ _ _ (step_all None 8 (drop 8 file) (All-drop P 8 file h))
   after_all file (Err c) h = nothing
 

@@ -11,19 +11,19 @@ use Rattle.adb_view.specs.FieldIndexes.{INFO_HASHES, INFO_NAME, INFO_VERSION}
 use Rattle.adb_view.specs.Values.{entry_in, text_in}
 
 -- the name of the package of an entry
-abbrev pub name_in : Plain → List ℕ
-name_in entry = text_in (entry_in entry INFO_NAME)
+abbrev pub name_of_index_entry : Plain → List ℕ
+name_of_index_entry entry = text_in (entry_in entry INFO_NAME)
 
 -- the version of the package of an entry, as text
-abbrev pub version_in : Plain → List ℕ
-version_in entry = text_in (entry_in entry INFO_VERSION)
+abbrev pub version_of_index_entry : Plain → List ℕ
+version_of_index_entry entry = text_in (entry_in entry INFO_VERSION)
 
 -- the id of the package of an entry, which an index has as its hash
-abbrev pub id_in : Plain → List ℕ
-id_in entry = text_in (entry_in entry INFO_HASHES)
+abbrev pub id_of_index_entry : Plain → List ℕ
+id_of_index_entry entry = text_in (entry_in entry INFO_HASHES)
 
 -- the order of entries: by name, then by version, then by the version's text, then by id
 unfoldable pub entry_cmp : Plain → Plain → Ordering
 entry_cmp =
-    then_cmp (on name_in bytes_cmp)
-    (then_cmp (on version_in version_cmp) (then_cmp (on version_in bytes_cmp) (on id_in bytes_cmp)))
+    then_cmp (on name_of_index_entry bytes_cmp)
+    (then_cmp (on version_of_index_entry version_cmp) (then_cmp (on version_of_index_entry bytes_cmp) (on id_of_index_entry bytes_cmp)))

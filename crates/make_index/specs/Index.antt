@@ -7,11 +7,11 @@ use Rattle.std.specs.List.{find}
 use Rattle.base_core.specs.declared.cause.Cause.{Cause}
 use Rattle.adb_view.specs.Plain.{Plain, none, more, blob_or_null, arr_value, obj_value}
 use Rattle.pkg_core.specs.adb_schema.declared.read.TheConstants.{INDEX_WORD}
-use Rattle.adb_copy.specs.adb_write.Canonical.{PayloadCounts, written_of}
+use Rattle.adb_copy.specs.adb_write.Canonical.{PayloadCounts, payload_or_overflow}
 use Rattle.adb_copy.specs.adb_write.File.{file_of}
 use Rattle.pkg_core.specs.Whole.{package_fault}
 use Rattle.command_core.specs.Command.{CommandLine}
-use Rattle.command_core.specs.Files.{without_dot}
+use Rattle.command_core.specs.Files.{without_dot_slash}
 use Rattle.command_core.specs.declared.operands.Operand.{Operand}
 use Rattle.command_core.specs.declared.values.OptionValue.{OptionValue}
 use Rattle.make_info.specs.Reads.{Reads}
@@ -55,7 +55,7 @@ and_entries (Ok entry) (Ok entries) = Ok (entry ∷ entries)
 abbrev pub found_entries : Reads → ℕ → List Operand → Result (List Plain) MakeFault
 found_entries read n [] = Ok []
 found_entries read n (o ∷ operands) =
-    and_entries (found_entry o.place (read n (without_dot o.text)))
+    and_entries (found_entry o.place (read n (without_dot_slash o.text)))
     (found_entries read (n + 1) operands)
 
 -- ---- the file
@@ -68,7 +68,7 @@ index_container (Err counts) = Err (TooLarge counts.0 counts.1)
 -- the index of these entries, sorted, or the refusal if it exceeds a limit
 unfoldable pub index_of : List ℕ → List Plain → Result (List ℕ) MakeFault
 index_of description entries =
-    index_container (written_of (value_of_index description (sorted_by entry_cmp entries)))
+    index_container (payload_or_overflow (value_of_index description (sorted_by entry_cmp entries)))
 
 -- the index of the entries of packages that were found, or the first fault
 abbrev pub index_of_found : List ℕ → Result (List Plain) MakeFault → Result (List ℕ) MakeFault
@@ -76,8 +76,8 @@ index_of_found description (Ok entries) = index_of description entries
 index_of_found description (Err fault) = Err fault
 
 -- the index of the packages that operands name, given what each read finds
-abbrev pub index_by : List ℕ → List Operand → Reads → Result (List ℕ) MakeFault
-index_by description operands read = index_of_found description (found_entries read 0 operands)
+abbrev pub index_of_operands : List ℕ → List Operand → Reads → Result (List ℕ) MakeFault
+index_of_operands description operands read = index_of_found description (found_entries read 0 operands)
 
 -- ---- of a command
 
@@ -93,4 +93,4 @@ description_in values = text_or_empty (find (λ (v : OptionValue). v.letter == D
 -- the index of a command: the container's bytes, or the first refusal, given what each read finds under
 -- a name; reads are numbered from 0
 unfoldable pub made_index : CommandLine → Reads → Result (List ℕ) MakeFault
-made_index command read = index_by (description_in command.values) command.operands read
+made_index command read = index_of_operands (description_in command.values) command.operands read

@@ -15,8 +15,8 @@ use Rattle.version_core.specs.Order.{is_version}
 use Rattle.make_info.specs.declared.fault.MakeFault.{MakeFault}
 use Rattle.make_info.specs.declared.fault.MakeFault.TheVariants.{FileBad, Disk, Memory}
 use Rattle.make_index.specs.Entries.{entry_of_package}
-use Rattle.adb_copy.specs.Zeros.{info_with}
-use Rattle.make_index.specs.EntryOrder.{id_in, name_in, version_in}
+use Rattle.adb_copy.specs.Zeros.{info_with_id_and_size}
+use Rattle.make_index.specs.EntryOrder.{id_of_index_entry, name_of_index_entry, version_of_index_entry}
 use Rattle.make_index.specs.declared.source.EntrySource.{EntrySource}
 use Rattle.make_index.specs.declared.source.EntrySource.TheVariants.{Payload, File}
 
@@ -24,13 +24,13 @@ use Rattle.make_index.specs.declared.source.EntrySource.TheVariants.{Payload, Fi
 
 -- an entry, rebuilt from its own fields: nothing is lost by writing it into another payload
 abbrev pub copy_of_entry : Plain → Plain
-copy_of_entry entry = info_with entry (text_in (entry_in entry INFO_HASHES))
+copy_of_entry entry = info_with_id_and_size entry (text_in (entry_in entry INFO_HASHES))
     (int_in (entry_in entry INFO_FILE_SIZE))
 
 -- the entry that is written from what is kept
-abbrev pub kept_value : EntrySource → Plain
-kept_value (Payload own) = copy_of_entry (root_value PkgInfo own.payload.items)
-kept_value (File own) = entry_of_package own.file.items
+abbrev pub entry_of_source : EntrySource → Plain
+entry_of_source (Payload own) = copy_of_entry (root_value PkgInfo own.payload.items)
+entry_of_source (File own) = entry_of_package own.file.items
 
 -- a payload of its own can be read, and its root is this entry
 pub record HoldsEntry (payload : List ℕ) (entry : Plain) : Type 0 where
@@ -39,10 +39,10 @@ pub record HoldsEntry (payload : List ℕ) (entry : Plain) : Type 0 where
   pub value : copy_of_entry (root_value PkgInfo payload) ≡ entry
 
 -- the name, version and id are those of the entry, by which it is ordered, and the version is one
-pub record IsKeyed (name version id : List ℕ) (entry : Plain) : Type 0 where
-  pub by_name : name ≡ name_in entry
-  pub by_version : version ≡ version_in entry
-  pub by_id : id ≡ id_in entry
+pub record IsEntryWithKeys (name version id : List ℕ) (entry : Plain) : Type 0 where
+  pub by_name : name ≡ name_of_index_entry entry
+  pub by_version : version ≡ version_of_index_entry entry
+  pub by_id : id ≡ id_of_index_entry entry
   pub sound : IsTrue (is_version version)
 
 -- ---- results

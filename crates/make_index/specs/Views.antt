@@ -3,12 +3,12 @@
 use Rattle.std.specs.Prelude.{List, Vec, map}
 use Rattle.std.specs.declared.alloc.Global.{Global}
 use Rattle.adb_view.specs.Plain.{Plain}
-use Rattle.make_index.specs.Kept.{kept_value}
+use Rattle.make_index.specs.Kept.{entry_of_source}
 use Rattle.make_index.specs.declared.entry.Entry.{Entry}
 
 -- the plain value of an entry, as it is written
 abbrev pub entry_view : Entry → Plain
-entry_view entry = kept_value entry.source
+entry_view entry = entry_of_source entry.source
 
 -- the plain values of entries, in their order
 abbrev pub entries_view : Vec Entry Global → List Plain

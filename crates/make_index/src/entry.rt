@@ -7,8 +7,8 @@ ghost use Rattle.base_core.specs.declared.cause.Cause.{Cause};
 ghost use Rattle.make_index.specs.Entries.{entry_of_package};
 ghost use Rattle.make_index.specs.EntryOrder.{entry_cmp};
 ghost use Rattle.make_index.specs.Index.{found_entry};
-ghost use Rattle.make_index.specs.Kept.{kept_value, HoldsEntry, IsKeyed, AgreesUnlessMemory, IsRefusedAt};
-ghost use Rattle.pkg_core.specs.Contents.{fault_in};
+ghost use Rattle.make_index.specs.Kept.{entry_of_source, HoldsEntry, IsEntryWithKeys, AgreesUnlessMemory, IsRefusedAt};
+ghost use Rattle.pkg_core.specs.Contents.{fault_of_files_read};
 ghost use Rattle.pkg_core.specs.Opened.{opened_files, opened_payload, opened_value};
 ghost use Rattle.pkg_core.specs.Whole.{package_fault};
 ghost use Rattle.pkg_core.specs.Refusals.{IsFaultOf};
@@ -42,7 +42,7 @@ pub(crate) struct Entry {
     /// The source from which the entry is written.
     source: EntrySource,
     // The three are those of the entry, and the version is one.
-    ghost keyed: { IsKeyed name.items version.items id (kept_value source) },
+    ghost keyed: { IsEntryWithKeys name.items version.items id (entry_of_source source) },
 }
 
 impl Entry {
@@ -132,7 +132,7 @@ fn read_parts(alloc: Global, place: u32, file: &[u8]) -> Result<Parts, MakeFault
     ensures sound { IfOk result (λ _. package_fault file.now ≡ None) }
     ensures opened { IfOk result (λ _. first_fault Tables.Package file.now ≡ None) }
     ensures keys { IfOk result (λ parts.
-        IsKeyed parts.name.items parts.version.items parts.id (entry_of_package file.now)) }
+        IsEntryWithKeys parts.name.items parts.version.items parts.id (entry_of_package file.now)) }
     // A payload that is kept has the entry.
     ensures payload { IfOk result (λ parts.
         IfSome parts.payload (λ payload. HoldsEntry payload.items (entry_of_package file.now))) }
@@ -187,7 +187,7 @@ pub(crate) fn open_tested<'a>(
 
 /// Reads the files of a package to the last, which tests their contents.
 fn test_files(pkg: &mut Package<'_>) -> Result<(), Cause>
-    ensures files { result_err result ≡ fault_in (opened_files pkg.old) }
+    ensures files { result_err result ≡ fault_of_files_read (opened_files pkg.old) }
     ensures value { opened_value pkg.new ≡ opened_value pkg.old }
     ensures payload { opened_payload pkg.new ≡ opened_payload pkg.old }
 {

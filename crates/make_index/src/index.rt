@@ -10,19 +10,19 @@ ghost use Rattle.adb_view.specs.declared.tables.Which.TheVariants as Tables;
 ghost use Rattle.adb_view.specs.Plain.{Plain, arr_value, IsNormal, Plains, obj_value};
 ghost use Rattle.adb_view.specs.Shaped.{HasShape};
 ghost use Rattle.adb_copy.specs.adb_values.Drafts.{draft_with};
-ghost use Rattle.adb_copy.specs.adb_write.Canonical.{written_of, MOST_BYTES};
+ghost use Rattle.adb_copy.specs.adb_write.Canonical.{payload_or_overflow, MOST_BYTES};
 ghost use Rattle.base_core.specs.Calls.{IfObservable};
 ghost use Rattle.base_core.specs.Read.{OnlyReads, bytes_in};
 ghost use Rattle.base_core.specs.Tree.{files_of};
 ghost use Rattle.make_index.specs.Entries.{entry_of_package};
-ghost use Rattle.make_index.specs.EntryOrder.{entry_cmp, version_in, id_in, name_in};
+ghost use Rattle.make_index.specs.EntryOrder.{entry_cmp, version_of_index_entry, id_of_index_entry, name_of_index_entry};
 ghost use Rattle.base_core.specs.Sorted.{sorted_by};
 ghost use Rattle.base_core.specs.Files.{IsFile};
 ghost use Rattle.make_index.specs.Files.{FindOnlyFiles, reads_of};
 ghost use Rattle.make_index.specs.Index.{description_in, index_of, value_of_index, found_entries, found_entry, made_index};
 ghost use Rattle.make_index.specs.Kept.{AgreesUnlessMemory, AgreesUnlessStopped};
 ghost use Rattle.make_index.specs.Views.{entries_view, entry_view};
-ghost use Rattle.make_info.specs.Faults.{IsOverflow};
+ghost use Rattle.make_info.specs.Faults.{IsOverflowFault};
 ghost use Rattle.make_info.specs.Reads.{Reads};
 ghost use Rattle.make_info.specs.Values.{plains_of_list};
 ghost use Rattle.std.specs.List.Sorted.{IsPermutation, IsSorted, IsStable};
@@ -174,11 +174,11 @@ fn sort_entries(entries: &mut Vec<Entry>) -> Result<(), AllocError>
 /// The payload of an index with this description and these entries, in their order.
 fn index_payload(alloc: Global, description: &[u8], entries: &[Entry]) -> Result<Vec<u8>, MakeFault>
     ensures made { IfOk result (λ payload.
-        written_of (value_of_index description.now (map entry_view entries.now))
+        payload_or_overflow (value_of_index description.now (map entry_view entries.now))
         ≡ Ok payload.items) }
     ensures small { IfOk result (λ payload. length payload.items ≤ MOST_BYTES) }
-    ensures err { IfErr result (λ fault. IsOverflow fault
-        (written_of (value_of_index description.now (map entry_view entries.now)))) }
+    ensures err { IfErr result (λ fault. IsOverflowFault fault
+        (payload_or_overflow (value_of_index description.now (map entry_view entries.now)))) }
 {
     let mut draft = Draft::new(alloc);
     write_index(alloc, &mut draft, description, entries)?;
@@ -225,7 +225,7 @@ pub fn an_entry_is_an_info()
         → IsNormal (entry_of_package file) }
     // It has a version if the package is sound.
     ensures version { (file : List ℕ) → first_fault Tables.Package file ≡ None
-        → is_version (version_in (entry_of_package file)) ≡ true }
+        → is_version (version_of_index_entry (entry_of_package file)) ≡ true }
 {
     sound_containers_hold_sound_values();
     values_are_normal();
@@ -247,17 +247,17 @@ pub fn an_index_is_in_order()
 /// one with the smaller version; of equal versions, the one whose version is the smaller text; of
 /// equal texts, the one with the smaller id.
 pub fn entries_stand_by_name_version_and_id()
-    ensures name { (a b : Plain) → bytes_cmp (name_in a) (name_in b) ≡ Less
+    ensures name { (a b : Plain) → bytes_cmp (name_of_index_entry a) (name_of_index_entry b) ≡ Less
         → entry_cmp a b ≡ Less }
-    ensures version { (a b : Plain) → bytes_cmp (name_in a) (name_in b) ≡ Equal
-        → version_cmp (version_in a) (version_in b) ≡ Less → entry_cmp a b ≡ Less }
-    ensures text { (a b : Plain) → bytes_cmp (name_in a) (name_in b) ≡ Equal
-        → version_cmp (version_in a) (version_in b) ≡ Equal
-        → bytes_cmp (version_in a) (version_in b) ≡ Less → entry_cmp a b ≡ Less }
-    ensures id { (a b : Plain) → bytes_cmp (name_in a) (name_in b) ≡ Equal
-        → version_cmp (version_in a) (version_in b) ≡ Equal
-        → bytes_cmp (version_in a) (version_in b) ≡ Equal
-        → bytes_cmp (id_in a) (id_in b) ≡ Less → entry_cmp a b ≡ Less }
+    ensures version { (a b : Plain) → bytes_cmp (name_of_index_entry a) (name_of_index_entry b) ≡ Equal
+        → version_cmp (version_of_index_entry a) (version_of_index_entry b) ≡ Less → entry_cmp a b ≡ Less }
+    ensures text { (a b : Plain) → bytes_cmp (name_of_index_entry a) (name_of_index_entry b) ≡ Equal
+        → version_cmp (version_of_index_entry a) (version_of_index_entry b) ≡ Equal
+        → bytes_cmp (version_of_index_entry a) (version_of_index_entry b) ≡ Less → entry_cmp a b ≡ Less }
+    ensures id { (a b : Plain) → bytes_cmp (name_of_index_entry a) (name_of_index_entry b) ≡ Equal
+        → version_cmp (version_of_index_entry a) (version_of_index_entry b) ≡ Equal
+        → bytes_cmp (version_of_index_entry a) (version_of_index_entry b) ≡ Equal
+        → bytes_cmp (id_of_index_entry a) (id_of_index_entry b) ≡ Less → entry_cmp a b ≡ Less }
 {}
 
 /// The name, the version and the id by which an entry is ordered are its fields of these names in
@@ -265,11 +265,11 @@ pub fn entries_stand_by_name_version_and_id()
 pub fn an_entry_is_ordered_by_its_named_fields()
     ensures name { (fields : Plains) (v : Plain)
         → value_by_name (codes "name") (table PkgInfo) fields ≡ Some v
-        → name_in (obj_value fields) ≡ text_in v }
+        → name_of_index_entry (obj_value fields) ≡ text_in v }
     ensures version { (fields : Plains) (v : Plain)
         → value_by_name (codes "version") (table PkgInfo) fields ≡ Some v
-        → version_in (obj_value fields) ≡ text_in v }
+        → version_of_index_entry (obj_value fields) ≡ text_in v }
     ensures id { (fields : Plains) (v : Plain)
         → value_by_name (codes "hashes") (table PkgInfo) fields ≡ Some v
-        → id_in (obj_value fields) ≡ text_in v }
+        → id_of_index_entry (obj_value fields) ≡ text_in v }
 {}

@@ -8,9 +8,9 @@ ghost use Rattle.adb_view.specs.Values.{entry_in, is_sound, value_at};
 ghost use Rattle.adb_view.specs.Adb.{payload_of};
 ghost use Rattle.adb_view.specs.Head.{head_fault, root_of};
 ghost use Rattle.adb_copy.specs.adb_values.Drafts.{draft_with};
-ghost use Rattle.adb_copy.specs.adb_write.Canonical.{written_of};
+ghost use Rattle.adb_copy.specs.adb_write.Canonical.{payload_or_overflow};
 ghost use Rattle.make_index.specs.Entries.{entry_of_package};
-ghost use Rattle.adb_copy.specs.Zeros.{info_with};
+ghost use Rattle.adb_copy.specs.Zeros.{info_with_id_and_size};
 ghost use Rattle.pkg_core.specs.Opened.{opened_payload, opened_value};
 ghost use Rattle.sha2.specs.Sha256.{sha256};
 ghost use Rattle.std.specs.Prelude.{◌≡◌, true, is_none, ◌<◌, ◌^◌, Ok, IfOk, IfSome, OnOk};
@@ -54,11 +54,11 @@ pub(crate) enum EntrySource {
 }
 
 impl EntrySource {
-    ghost use Rattle.make_index.specs.Kept.{kept_value};
+    ghost use Rattle.make_index.specs.Kept.{entry_of_source};
 
     /// Writes the entry into a draft.
     pub(crate) fn write(&self, alloc: Global, draft: &mut Draft) -> Result<(), AllocError>
-        ensures { OnOk result (draft.new ≡ draft_with (kept_value self.now) draft.old) }
+        ensures { OnOk result (draft.new ≡ draft_with (entry_of_source self.now) draft.old) }
     {
         match self {
             EntrySource::Payload(own) => own.write(alloc, draft),
@@ -110,7 +110,7 @@ fn write_package(
 ) -> Result<(), AllocError>
     requires { id.now ≡ sha256 (opened_payload pkg.now) }
     ensures { OnOk result (draft.new ≡ draft_with
-        (info_with (entry_in (opened_value pkg.now) PACKAGE_INFO) (sha256 (opened_payload pkg.now))
+        (info_with_id_and_size (entry_in (opened_value pkg.now) PACKAGE_INFO) (sha256 (opened_payload pkg.now))
         len) draft.old) }
 {
     let info = pkg.view().info();
@@ -128,7 +128,7 @@ fn write_entry_info(
     len: u64,
 ) -> Result<(), AllocError>
     requires { is_sound (payload_of adb) (Kinds.Obj Tables.PkgInfo) info ≡ true }
-    ensures { OnOk result (draft.new ≡ draft_with (info_with
+    ensures { OnOk result (draft.new ≡ draft_with (info_with_id_and_size
         (value_at (payload_of adb.entry) (Kinds.Obj Tables.PkgInfo) info) id.now len) draft.old) }
 {
     let mut known = KnownTexts::new(alloc);
@@ -145,8 +145,8 @@ pub(crate) fn entry_payload(
 ) -> Result<Option<Vec<u8>>, AllocError>
     requires { id.now ≡ sha256 (opened_payload pkg.now) }
     ensures small { len < 2 ^ 64 }
-    ensures payload { IfOk result (λ found. IfSome found (λ payload. written_of
-        (info_with (entry_in (opened_value pkg.now) PACKAGE_INFO) (sha256 (opened_payload pkg.now))
+    ensures payload { IfOk result (λ found. IfSome found (λ payload. payload_or_overflow
+        (info_with_id_and_size (entry_in (opened_value pkg.now) PACKAGE_INFO) (sha256 (opened_payload pkg.now))
         len) ≡ Ok payload.items)) }
 {
     let mut draft = Draft::new(alloc);

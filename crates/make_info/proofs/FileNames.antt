@@ -9,7 +9,7 @@ use Rattle.std.proofs.lemmas.Bool.{and_parts, and_from, lt-ltb, ltb-true, not-tr
 use Rattle.std.proofs.lemmas.Bool.Decides.{nat_tests}
 use Rattle.std.proofs.lemmas.Str.{IsUtf8-from_ascii, is_utf8-from_IsUtf8}
 use Rattle.base_core.specs.Name.{is_name, is_part, parts_of}
-use Rattle.dep_core.specs.Dependency.{begins_with_punctuation, is_dep_name, is_mark, is_name_byte, is_package_name}
+use Rattle.dep_core.specs.Dependency.{begins_with_punctuation, is_dep_name, is_name_end_mark, is_name_byte, is_package_name}
 use Rattle.version_core.specs.Grammar.{is_version_byte}
 use Rattle.version_core.specs.Order.{is_version}
 use Rattle.version_core.proofs.VersionBytes.{all-imp, all-append}
@@ -30,7 +30,7 @@ version_byte b h = grind (arith, nat_tests)
 
 name_byte : (b : ℕ) → is_name_byte b ≡ true → eqb b 47 ≡ false → is_file_byte b ≡ true
 name_byte b h k =
-    let all = and_parts (nat_lt 32 b && nat_lt b 127) (not (is_mark b)) h in
+    let all = and_parts (nat_lt 32 b && nat_lt b 127) (not (is_name_end_mark b)) h in
     let both = and_parts (nat_lt 32 b) (nat_lt b 127) all.0 in
     and_from (nat_lt 32 b) (nat_lt b 127 && not (eqb b 47)) both.0 (and_from (nat_lt b 127) (not (eqb b 47)) both.1 (ap not k))
 

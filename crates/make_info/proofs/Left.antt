@@ -5,7 +5,7 @@ use Rattle.std.specs.List.{slice_get}
 use Rattle.std.specs.Option.{option_map, option_or}
 use Rattle.command_core.specs.declared.values.OptionValue.{OptionValue}
 use Rattle.make_info.specs.declared.field.Field.{Field}
-use Rattle.make_info.specs.FieldTexts.{first_text_for, values_of_info, is_info_option, text_for}
+use Rattle.make_info.specs.FieldTexts.{first_text_for, values_of_info, is_info_option, option_text_for_field}
 
 -- what is left of a list where an element stands
 pub left_at : {X : Type 0} (xs : List X) (i : ℕ) (x : X) → slice_get xs i ≡ Some x → drop i xs ≡ x ∷ drop (i + 1) xs
@@ -28,13 +28,13 @@ some_now : (r : Option (Bor (List ℕ))) → is_some (option_map (λ (x : Bor (L
 some_now None = refl
 some_now (Some x) = refl
 
-pub value_here : (f : Field) (vs : List OptionValue) (i : ℕ) (v : OptionValue) (found : Option (Bor (List ℕ))) (r : Option (List ℕ)) → slice_get vs i ≡ Some v → option_map (λ (x : Bor (List ℕ)). x.now) found ≡ text_for f v → true ≡ is_some found → first_text_for f (drop i vs) ≡ r → option_map (λ (x : Bor (List ℕ)). x.now) found ≡ r
+pub value_here : (f : Field) (vs : List OptionValue) (i : ℕ) (v : OptionValue) (found : Option (Bor (List ℕ))) (r : Option (List ℕ)) → slice_get vs i ≡ Some v → option_map (λ (x : Bor (List ℕ)). x.now) found ≡ option_text_for_field f v → true ≡ is_some found → first_text_for f (drop i vs) ≡ r → option_map (λ (x : Bor (List ℕ)). x.now) found ≡ r
 value_here f vs i v found r at is some h =
     let later = first_text_for f (drop (i + 1) vs) in
     sym (first_some (option_map (λ (x : Bor (List ℕ)). x.now) found) later (some_now found ∙ sym some))
     ∙ (ap (λ o. option_or o later) is ∙ (ap (first_text_for f) (sym (left_at vs i v at)) ∙ h))
 
-pub value_not_here : (f : Field) (vs : List OptionValue) (i : ℕ) (v : OptionValue) (found : Option (Bor (List ℕ))) (r : Option (List ℕ)) → slice_get vs i ≡ Some v → option_map (λ (x : Bor (List ℕ)). x.now) found ≡ text_for f v → false ≡ is_some found → first_text_for f (drop i vs) ≡ r → first_text_for f (drop (i + 1) vs) ≡ r
+pub value_not_here : (f : Field) (vs : List OptionValue) (i : ℕ) (v : OptionValue) (found : Option (Bor (List ℕ))) (r : Option (List ℕ)) → slice_get vs i ≡ Some v → option_map (λ (x : Bor (List ℕ)). x.now) found ≡ option_text_for_field f v → false ≡ is_some found → first_text_for f (drop i vs) ≡ r → first_text_for f (drop (i + 1) vs) ≡ r
 value_not_here f vs i v found r at is some h =
     let later = first_text_for f (drop (i + 1) vs) in
     sym (first_none (option_map (λ (x : Bor (List ℕ)). x.now) found) later (some_now found ∙ sym some))

@@ -16,10 +16,10 @@ use Rattle.make_info.specs.declared.field.Field.{Field}
 use Rattle.make_info.specs.declared.field.Field.TheVariants as Fields
 use Rattle.make_info.specs.declared.field.Kind.{Kind}
 use Rattle.make_info.specs.declared.field.Kind.TheVariants as Kinds
-use Rattle.make_info.specs.Fields.{FieldValue, text, number, value_of_digits, field_word, fields, may_repeat, kind_of_field, field_among, decimal_number, values_by_kind, text_if}
-use Rattle.make_info.specs.FieldTexts.{FieldText, field_text_in, values_of_info, is_for, is_text_for, is_same, is_too_long}
-use Rattle.make_info.specs.Information.{FieldWithValue, all_items, first_offence, information_of, is_item_for, repeats_field, info_item, items_of_text, items_of_option, lacks_name_or_version, offends, unless_offence, with_values}
-use Rattle.make_info.specs.Reading.{has_no_name_or_version, items_with, items_with_text}
+use Rattle.make_info.specs.Fields.{FieldValue, text, number, value_of_digits, field_word, fields, may_repeat, kind_of_field, field_among, decimal_number, values_by_kind, text_value_if}
+use Rattle.make_info.specs.FieldTexts.{FieldText, field_text_in, values_of_info, is_option_for_field, is_text_for_field, is_same_field, is_default_output_too_long}
+use Rattle.make_info.specs.Information.{FieldWithValue, items_of_valid_options, first_offence, information_of, is_item_for, repeats_field, field_with_value, items_of_text, items_of_option, lacks_name_or_version, offends, unless_offence, with_values}
+use Rattle.make_info.specs.Reading.{has_no_name_or_version, items_with_option_text, items_with_text}
 
 -- ---- fields are told apart by their words
 
@@ -46,7 +46,7 @@ named Fields.Tags = refl
 some_same : (f g : Field) → Some f ≡ Some g → f ≡ g
 some_same f g h = cc
 
-pub same_field : (f g : Field) → is_same f g ≡ true → f ≡ g
+pub same_field : (f g : Field) → is_same_field f g ≡ true → f ≡ g
 same_field f g h =
     some_same f g (sym (named f) ∙ (ap (field_among fields) ((bytes_decides (field_word f) (field_word g)).0 h) ∙ named g))
 
@@ -55,7 +55,7 @@ same_field f g h =
 abbrev IsOne : List FieldValue → Type 0
 IsOne said = (x : FieldValue) × (said ≡ x ∷ [])
 
-one_text : (b : Bool) (value : List ℕ) (said : List FieldValue) → text_if b value ≡ Some said → IsOne said
+one_text : (b : Bool) (value : List ℕ) (said : List FieldValue) → text_value_if b value ≡ Some said → IsOne said
 one_text true value said h = (text value, cc)
 one_text false value said h = cc
 
@@ -76,17 +76,17 @@ one_said Kinds.Number value said k h = one_number (decimal_number value) said h
 one_said Kinds.Dependencies value said k h = cc
 one_said Kinds.Texts value said k h = cc
 
-not_found : (f g : Field) (said : List FieldValue) → is_same g f ≡ false → is_some (find (is_item_for f) (map (info_item g) said)) ≡ false
+not_found : (f g : Field) (said : List FieldValue) → is_same_field g f ≡ false → is_some (find (is_item_for f) (map (field_with_value g) said)) ≡ false
 not_found f g [] h = refl
 not_found f g (x ∷ said) h =
-    ap (λ b. is_some (cond b (Some (info_item g x)) (find (is_item_for f) (map (info_item g) said)))) h ∙ not_found f g said h
+    ap (λ b. is_some (cond b (Some (field_with_value g x)) (find (is_item_for f) (map (field_with_value g) said)))) h ∙ not_found f g said h
 
-found_one : (f g : Field) (said : List FieldValue) → IsOne said → is_same g f ≡ true → is_some (find (is_item_for f) (map (info_item g) said)) ≡ true
+found_one : (f g : Field) (said : List FieldValue) → IsOne said → is_same_field g f ≡ true → is_some (find (is_item_for f) (map (field_with_value g) said)) ≡ true
 found_one f g said one h =
-    ap (λ s. is_some (find (is_item_for f) (map (info_item g) s))) one.1 ∙ ap (λ b. is_some (cond b (Some (info_item g one.0)) None)) h
+    ap (λ s. is_some (find (is_item_for f) (map (field_with_value g) s))) one.1 ∙ ap (λ b. is_some (cond b (Some (field_with_value g one.0)) None)) h
 
 -- whether a field is among what one value of a field says
-among : (f g : Field) (value : List ℕ) (said : List FieldValue) (b : Bool) → is_same g f ≡ b → may_repeat (kind_of_field f) ≡ false → values_by_kind (kind_of_field g) value ≡ Some said → is_some (find (is_item_for f) (map (info_item g) said)) ≡ b
+among : (f g : Field) (value : List ℕ) (said : List FieldValue) (b : Bool) → is_same_field g f ≡ b → may_repeat (kind_of_field f) ≡ false → values_by_kind (kind_of_field g) value ≡ Some said → is_some (find (is_item_for f) (map (field_with_value g) said)) ≡ b
 among f g value said true h k s =
     found_one f g said (one_said (kind_of_field g) value said (ap (λ x. may_repeat (kind_of_field x)) (same_field g f h) ∙ k) s) h
 among f g value said false h k s = not_found f g said h
@@ -94,11 +94,11 @@ among f g value said false h k s = not_found f g said h
 -- ---- a value offends exactly when it is not taken
 
 abbrev pub IsFresh : List OptionValue → List FieldWithValue → Type 0
-IsFresh done said = (f : Field) → may_repeat (kind_of_field f) ≡ false → is_some (find (is_item_for f) said) ≡ list_any (is_for f) done
+IsFresh done said = (f : Field) → may_repeat (kind_of_field f) ≡ false → is_some (find (is_item_for f) said) ≡ list_any (is_option_for_field f) done
 
 abbrev offends_given : Bool → List OptionValue → Option FieldText → Bool
 offends_given too_long done given =
-    not (is_some (option_and_then items_of_text given)) || (repeats_field done given || (too_long && is_text_for Fields.Version given))
+    not (is_some (option_and_then items_of_text given)) || (repeats_field done given || (too_long && is_text_for_field Fields.Version given))
 
 by_parts : (x l d h : Bool) (s : Option (List FieldValue)) (f : Field) (before : List FieldWithValue) → (l ≡ false → h ≡ d) → (not (is_some (with_values [] f s)) || ((not l && d) || x)) ≡ not (is_some (cond x None (cond (not l && h) None (with_values before f s))))
 by_parts true l d h None f before same = refl
@@ -117,10 +117,10 @@ by_parts false false false h (Some s) f before same =
 judged_given : (too_long : Bool) (done : List OptionValue) (said : List FieldWithValue) (given : Option FieldText) → IsFresh done said → offends_given too_long done given ≡ not (is_some (items_with_text too_long said given))
 judged_given too_long done said None fresh = refl
 judged_given too_long done said (Some g) fresh =
-    by_parts (too_long && is_same g.field Fields.Version) (may_repeat (kind_of_field g.field)) (list_any (is_for g.field) done) (is_some (find (is_item_for g.field) said)) (values_by_kind (kind_of_field g.field) g.value) g.field said (fresh g.field)
+    by_parts (too_long && is_same_field g.field Fields.Version) (may_repeat (kind_of_field g.field)) (list_any (is_option_for_field g.field) done) (is_some (find (is_item_for g.field) said)) (values_by_kind (kind_of_field g.field) g.value) g.field said (fresh g.field)
 
-judged : (too_long : Bool) (done : List OptionValue) (said : List FieldWithValue) (v : OptionValue) → IsFresh done said → offends too_long done v ≡ not (is_some (items_with too_long said v.text))
-unfolding items_with
+judged : (too_long : Bool) (done : List OptionValue) (said : List FieldWithValue) (v : OptionValue) → IsFresh done said → offends too_long done v ≡ not (is_some (items_with_option_text too_long said v.text))
+unfolding items_with_option_text
 judged too_long done said v fresh = judged_given too_long done said (field_text_in v.text) fresh
 
 -- ---- what a value that is taken says
@@ -128,22 +128,22 @@ judged too_long done said v fresh = judged_given too_long done said (field_text_
 abbrev SaysAs : List FieldWithValue → List FieldWithValue → List OptionValue → Option FieldText → Type 0
 SaysAs said new done given =
     (new ≡ said ++ unwrap_or (option_and_then items_of_text given) [])
-    × ((f : Field) → may_repeat (kind_of_field f) ≡ false → is_some (find (is_item_for f) (unwrap_or (option_and_then items_of_text given) [])) ≡ is_text_for f given)
+    × ((f : Field) → may_repeat (kind_of_field f) ≡ false → is_some (find (is_item_for f) (unwrap_or (option_and_then items_of_text given) [])) ≡ is_text_for_field f given)
 
-by_taking : (x y : Bool) (g : FieldText) (s : Option (List FieldValue)) (said new : List FieldWithValue) (done : List OptionValue) → values_by_kind (kind_of_field g.field) g.value ≡ s → Some new ≡ cond x None (cond y None (with_values said g.field s)) → (new ≡ said ++ unwrap_or (with_values [] g.field s) []) × ((f : Field) → may_repeat (kind_of_field f) ≡ false → is_some (find (is_item_for f) (unwrap_or (with_values [] g.field s) [])) ≡ is_same g.field f)
+by_taking : (x y : Bool) (g : FieldText) (s : Option (List FieldValue)) (said new : List FieldWithValue) (done : List OptionValue) → values_by_kind (kind_of_field g.field) g.value ≡ s → Some new ≡ cond x None (cond y None (with_values said g.field s)) → (new ≡ said ++ unwrap_or (with_values [] g.field s) []) × ((f : Field) → may_repeat (kind_of_field f) ≡ false → is_some (find (is_item_for f) (unwrap_or (with_values [] g.field s) [])) ≡ is_same_field g.field f)
 by_taking true y g s said new done e h = cc
 by_taking false true g s said new done e h = cc
 by_taking false false g None said new done e h = cc
 by_taking false false g (Some xs) said new done e h =
-    (cc, λ f k. among f g.field g.value xs (is_same g.field f) refl k e)
+    (cc, λ f k. among f g.field g.value xs (is_same_field g.field f) refl k e)
 
 says_given : (too_long : Bool) (done : List OptionValue) (said new : List FieldWithValue) (given : Option FieldText) → Some new ≡ items_with_text too_long said given → SaysAs said new done given
 says_given too_long done said new None h = cc
 says_given too_long done said new (Some g) h =
-    by_taking (too_long && is_same g.field Fields.Version) (not (may_repeat (kind_of_field g.field)) && is_some (find (is_item_for g.field) said)) g (values_by_kind (kind_of_field g.field) g.value) said new done refl h
+    by_taking (too_long && is_same_field g.field Fields.Version) (not (may_repeat (kind_of_field g.field)) && is_some (find (is_item_for g.field) said)) g (values_by_kind (kind_of_field g.field) g.value) said new done refl h
 
-says : (too_long : Bool) (done : List OptionValue) (said new : List FieldWithValue) (v : OptionValue) → Some new ≡ items_with too_long said v.text → SaysAs said new done (field_text_in v.text)
-unfolding items_with
+says : (too_long : Bool) (done : List OptionValue) (said new : List FieldWithValue) (v : OptionValue) → Some new ≡ items_with_option_text too_long said v.text → SaysAs said new done (field_text_in v.text)
+unfolding items_with_option_text
 says too_long done said new v h = says_given too_long done said new (field_text_in v.text) h
 
 -- ---- the values one after the other
@@ -153,7 +153,7 @@ pub record IsReadTo (too_long : Bool) (told rest : List OptionValue) (said : Lis
   pub done : List OptionValue
   pub whole : done ++ rest ≡ told
   pub first : first_offence too_long done rest ≡ first_offence too_long [] told
-  pub all : said ≡ all_items done
+  pub all : said ≡ items_of_valid_options done
   pub fresh : IsFresh done said
 
 pub nothing_read : (too_long : Bool) (told : List OptionValue) → IsReadTo too_long told told []
@@ -163,7 +163,7 @@ some_or : (a b : Option FieldWithValue) → is_some (option_or a b) ≡ (is_some
 some_or (Some x) b = refl
 some_or None b = refl
 
-pub one_taken : (too_long : Bool) (told rest : List OptionValue) (v : OptionValue) (said new : List FieldWithValue) → IsReadTo too_long told (v ∷ rest) said → Some new ≡ items_with too_long said v.text → IsReadTo too_long told rest new
+pub one_taken : (too_long : Bool) (told rest : List OptionValue) (v : OptionValue) (said new : List FieldWithValue) → IsReadTo too_long told (v ∷ rest) said → Some new ≡ items_with_option_text too_long said v.text → IsReadTo too_long told rest new
 one_taken too_long told rest v said new r h =
     let more : SaysAs said new r.done (field_text_in v.text) = says too_long r.done said new v h in
     let items : List FieldWithValue = unwrap_or (items_of_option v) [] in
@@ -172,47 +172,47 @@ one_taken too_long told rest v said new r h =
       done = r.done ++ v ∷ [];
       whole = append_assoc r.done (v ∷ []) rest ∙ r.whole;
       first = sym (ap (λ b. cond b (Some v.place) (first_offence too_long (r.done ++ v ∷ []) rest)) good) ∙ r.first;
-      all = more.0 ∙ (ap (λ s. s ++ items) r.all ∙ (ap (λ s. all_items r.done ++ s) (sym (append-nil items)) ∙ sym (flat_map-append (λ (v : OptionValue). unwrap_or (items_of_option v) []) r.done (v ∷ []))));
+      all = more.0 ∙ (ap (λ s. s ++ items) r.all ∙ (ap (λ s. items_of_valid_options r.done ++ s) (sym (append-nil items)) ∙ sym (flat_map-append (λ (v : OptionValue). unwrap_or (items_of_option v) []) r.done (v ∷ []))));
       fresh = λ f k.
           ap (λ s. is_some (find (is_item_for f) s)) more.0
           ∙ (ap is_some (find-append (is_item_for f) said items)
           ∙ (some_or (find (is_item_for f) said) (find (is_item_for f) items)
           ∙ (ap (λ b. b || is_some (find (is_item_for f) items)) (r.fresh f k)
-          ∙ (ap (λ b. list_any (is_for f) r.done || b) (more.1 f k ∙ sym (or-false (is_for f v)))
-          ∙ sym (list_any-append (is_for f) r.done (v ∷ []))))));
+          ∙ (ap (λ b. list_any (is_option_for_field f) r.done || b) (more.1 f k ∙ sym (or-false (is_option_for_field f v)))
+          ∙ sym (list_any-append (is_option_for_field f) r.done (v ∷ []))))));
     }
 
-pub one_refused : (too_long : Bool) (told rest : List OptionValue) (v : OptionValue) (said : List FieldWithValue) → IsReadTo too_long told (v ∷ rest) said → None ≡ items_with too_long said v.text → first_offence too_long [] told ≡ Some v.place
+pub one_refused : (too_long : Bool) (told rest : List OptionValue) (v : OptionValue) (said : List FieldWithValue) → IsReadTo too_long told (v ∷ rest) said → None ≡ items_with_option_text too_long said v.text → first_offence too_long [] told ≡ Some v.place
 one_refused too_long told rest v said r h =
     let bad : offends too_long r.done v ≡ true = judged too_long r.done said v r.fresh ∙ ap (λ o. not (is_some o)) (sym h) in
     sym r.first ∙ ap (λ b. cond b (Some v.place) (first_offence too_long (r.done ++ v ∷ []) rest)) bad
 
 -- ---- the information of all values
 
-pub refused_at : (values : List OptionValue) (behind : ℕ) (too_long : Bool) (place : ℕ) → too_long ≡ is_too_long values → first_offence too_long [] (values_of_info values) ≡ Some place → information_of values behind ≡ Err place
+pub refused_at : (values : List OptionValue) (behind : ℕ) (too_long : Bool) (place : ℕ) → too_long ≡ is_default_output_too_long values → first_offence too_long [] (values_of_info values) ≡ Some place → information_of values behind ≡ Err place
 unfolding information_of
 refused_at values behind too_long place e h =
     let told = values_of_info values in
-    ap (λ t. unless_offence (first_offence t [] told) (cond (lacks_name_or_version told) (Err behind) (Ok (all_items told)))) (sym e)
-    ∙ ap (λ o. unless_offence o (cond (lacks_name_or_version told) (Err behind) (Ok (all_items told)))) h
+    ap (λ t. unless_offence (first_offence t [] told) (cond (lacks_name_or_version told) (Err behind) (Ok (items_of_valid_options told)))) (sym e)
+    ∙ ap (λ o. unless_offence o (cond (lacks_name_or_version told) (Err behind) (Ok (items_of_valid_options told)))) h
 
-all_read : (values : List OptionValue) (behind : ℕ) (too_long : Bool) (said : List FieldWithValue) → too_long ≡ is_too_long values → IsReadTo too_long (values_of_info values) [] said → information_of values behind ≡ cond (has_no_name_or_version said) (Err behind) (Ok said)
+all_read : (values : List OptionValue) (behind : ℕ) (too_long : Bool) (said : List FieldWithValue) → too_long ≡ is_default_output_too_long values → IsReadTo too_long (values_of_info values) [] said → information_of values behind ≡ cond (has_no_name_or_version said) (Err behind) (Ok said)
 unfolding information_of
 all_read values behind too_long said e r =
     let told = values_of_info values in
     let done : r.done ≡ told = sym (append-nil r.done) ∙ r.whole in
-    let named : is_some (find (is_item_for Fields.Name) said) ≡ list_any (is_for Fields.Name) told = r.fresh Fields.Name refl ∙ ap (list_any (is_for Fields.Name)) done in
-    let versioned : is_some (find (is_item_for Fields.Version) said) ≡ list_any (is_for Fields.Version) told = r.fresh Fields.Version refl ∙ ap (list_any (is_for Fields.Version)) done in
-    let lacking : lacks_name_or_version told ≡ has_no_name_or_version said = ap (λ b. not b || not (list_any (is_for Fields.Version) told)) (sym named) ∙ ap (λ b. not (is_some (find (is_item_for Fields.Name) said)) || not b) (sym versioned) in
-    ap (λ t. unless_offence (first_offence t [] told) (cond (lacks_name_or_version told) (Err behind) (Ok (all_items told)))) (sym e)
-    ∙ (ap (λ o. unless_offence o (cond (lacks_name_or_version told) (Err behind) (Ok (all_items told)))) (sym r.first)
-    ∙ (ap (λ b. cond b (Err behind) (Ok (all_items told))) lacking
-    ∙ ap (λ s. cond (has_no_name_or_version said) (Err behind) (Ok s)) (ap all_items (sym done) ∙ sym r.all)))
+    let named : is_some (find (is_item_for Fields.Name) said) ≡ list_any (is_option_for_field Fields.Name) told = r.fresh Fields.Name refl ∙ ap (list_any (is_option_for_field Fields.Name)) done in
+    let versioned : is_some (find (is_item_for Fields.Version) said) ≡ list_any (is_option_for_field Fields.Version) told = r.fresh Fields.Version refl ∙ ap (list_any (is_option_for_field Fields.Version)) done in
+    let lacking : lacks_name_or_version told ≡ has_no_name_or_version said = ap (λ b. not b || not (list_any (is_option_for_field Fields.Version) told)) (sym named) ∙ ap (λ b. not (is_some (find (is_item_for Fields.Name) said)) || not b) (sym versioned) in
+    ap (λ t. unless_offence (first_offence t [] told) (cond (lacks_name_or_version told) (Err behind) (Ok (items_of_valid_options told)))) (sym e)
+    ∙ (ap (λ o. unless_offence o (cond (lacks_name_or_version told) (Err behind) (Ok (items_of_valid_options told)))) (sym r.first)
+    ∙ (ap (λ b. cond b (Err behind) (Ok (items_of_valid_options told))) lacking
+    ∙ ap (λ s. cond (has_no_name_or_version said) (Err behind) (Ok s)) (ap items_of_valid_options (sym done) ∙ sym r.all)))
 
-pub lacking_at : (values : List OptionValue) (behind : ℕ) (too_long : Bool) (said : List FieldWithValue) → too_long ≡ is_too_long values → IsReadTo too_long (values_of_info values) [] said → has_no_name_or_version said ≡ true → information_of values behind ≡ Err behind
+pub lacking_at : (values : List OptionValue) (behind : ℕ) (too_long : Bool) (said : List FieldWithValue) → too_long ≡ is_default_output_too_long values → IsReadTo too_long (values_of_info values) [] said → has_no_name_or_version said ≡ true → information_of values behind ≡ Err behind
 lacking_at values behind too_long said e r l =
     all_read values behind too_long said e r ∙ ap (λ b. cond b (Err behind) (Ok said)) l
 
-pub read_whole : (values : List OptionValue) (behind : ℕ) (too_long : Bool) (said : List FieldWithValue) → too_long ≡ is_too_long values → IsReadTo too_long (values_of_info values) [] said → has_no_name_or_version said ≡ false → information_of values behind ≡ Ok said
+pub read_whole : (values : List OptionValue) (behind : ℕ) (too_long : Bool) (said : List FieldWithValue) → too_long ≡ is_default_output_too_long values → IsReadTo too_long (values_of_info values) [] said → has_no_name_or_version said ≡ false → information_of values behind ≡ Ok said
 read_whole values behind too_long said e r l =
     all_read values behind too_long said e r ∙ ap (λ b. cond b (Err behind) (Ok said)) l

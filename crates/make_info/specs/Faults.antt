@@ -15,9 +15,9 @@ IsMakeFaultOf Trees.Disk fault = fault ≡ Disk
 IsMakeFaultOf Trees.Memory fault = fault ≡ Memory
 
 -- the `MakeFault` for a fault of the writer
-abbrev pub IsMakeFaultBy : WriteFault → MakeFault → Type 0
-IsMakeFaultBy (Writes.TooLarge bytes values) fault = fault ≡ TooLarge bytes values
-IsMakeFaultBy Writes.Memory fault = fault ≡ Memory
+abbrev pub IsMakeFaultOfWriter : WriteFault → MakeFault → Type 0
+IsMakeFaultOfWriter (Writes.TooLarge bytes values) fault = fault ≡ TooLarge bytes values
+IsMakeFaultOfWriter Writes.Memory fault = fault ≡ Memory
 
 -- a fault of the information is at the first place that offends; out of memory says nothing about the
 -- values
@@ -30,12 +30,12 @@ IsInfoFault Disk answer = ⊥
 IsInfoFault Memory answer = Unit {0}
 
 -- a fault of writing has the counts at which the writer stops; out of memory says nothing about them
-abbrev pub IsOverflow : MakeFault → Result (List ℕ) PayloadCounts → Type 0
-IsOverflow (TooLarge bytes values) written = written ≡ Err (bytes, values)
-IsOverflow Memory written = Unit {0}
-IsOverflow fault written = ⊥
+abbrev pub IsOverflowFault : MakeFault → Result (List ℕ) PayloadCounts → Type 0
+IsOverflowFault (TooLarge bytes values) written = written ≡ Err (bytes, values)
+IsOverflowFault Memory written = Unit {0}
+IsOverflowFault fault written = ⊥
 
 -- P holds whatever is returned, unless it is that the tree failed
-abbrev pub UnlessDisk : {A : Type 0} → Result A MakeFault → Type 0 → Type 0
-UnlessDisk (Err Disk) P = Unit {0}
-UnlessDisk result P = P
+abbrev pub UnlessDiskFault : {A : Type 0} → Result A MakeFault → Type 0 → Type 0
+UnlessDiskFault (Err Disk) P = Unit {0}
+UnlessDiskFault result P = P

@@ -12,7 +12,7 @@ use Rattle.dep_core.specs.Dependency.{is_package_name}
 use Rattle.command_core.specs.Values.{first_value}
 use Rattle.make_info.specs.declared.information.TheConstants.{COLON}
 use Rattle.make_info.specs.declared.output.TheConstants.{HYPHEN}
-use Rattle.command_core.specs.Files.{longest_output, without_dot}
+use Rattle.command_core.specs.Files.{longest_output, without_dot_slash}
 use Rattle.command_core.specs.declared.values.OptionValue.{OptionValue}
 use Rattle.make_info.specs.declared.field.Field.{Field}
 use Rattle.make_info.specs.declared.field.Field.TheVariants as Fields
@@ -35,17 +35,17 @@ abbrev pub field_text_in : List ℕ → Option FieldText
 field_text_in text = field_text_from text (position (λ b. b == COLON) text)
 
 -- whether two fields are one: they are distinguished by the words that name them
-abbrev pub is_same : Field → Field → Bool
-is_same f g = bytes_eq (field_word f) (field_word g)
+abbrev pub is_same_field : Field → Field → Bool
+is_same_field f g = bytes_eq (field_word f) (field_word g)
 
 -- whether a text FIELD:VALUE is for this field; false if it is no such text
-abbrev pub is_text_for : Field → Option FieldText → Bool
-is_text_for f None = false
-is_text_for f (Some given) = is_same given.field f
+abbrev pub is_text_for_field : Field → Option FieldText → Bool
+is_text_for_field f None = false
+is_text_for_field f (Some given) = is_same_field given.field f
 
 -- whether a value of `-I` is for a field
-abbrev pub is_for : Field → OptionValue → Bool
-is_for f v = is_text_for f (field_text_in v.text)
+abbrev pub is_option_for_field : Field → OptionValue → Bool
+is_option_for_field f v = is_text_for_field f (field_text_in v.text)
 
 -- whether a value is one of `-I`; other options with a value, such as `-o`, do not describe the package
 abbrev pub is_info_option : OptionValue → Bool
@@ -56,18 +56,18 @@ abbrev pub values_of_info : List OptionValue → List OptionValue
 values_of_info values = filter is_info_option values
 
 -- the value of a text FIELD:VALUE, if it is for this field
-abbrev pub text_when_for : Field → Option FieldText → Option (List ℕ)
-text_when_for f None = None
-text_when_for f (Some given) = if is_same given.field f then Some given.value else None
+abbrev pub value_if_for_field : Field → Option FieldText → Option (List ℕ)
+value_if_for_field f None = None
+value_if_for_field f (Some given) = if is_same_field given.field f then Some given.value else None
 
 -- the value of an option for a field, if it is one of `-I` and for that field
-abbrev pub text_for : Field → OptionValue → Option (List ℕ)
-text_for f v = if is_info_option v then text_when_for f (field_text_in v.text) else None
+abbrev pub option_text_for_field : Field → OptionValue → Option (List ℕ)
+option_text_for_field f v = if is_info_option v then value_if_for_field f (field_text_in v.text) else None
 
 -- the first value for a field, valid or not
 abbrev pub first_text_for : Field → List OptionValue → Option (List ℕ)
 first_text_for f [] = None
-first_text_for f (v ∷ vs) = option_or (text_for f v) (first_text_for f vs)
+first_text_for f (v ∷ vs) = option_or (option_text_for_field f v) (first_text_for f vs)
 
 -- this value, if its rule allows it
 abbrev pub if_passes : (List ℕ → Bool) → List ℕ → Option (List ℕ)
@@ -98,7 +98,7 @@ default_output values = package_file_name_of (package_name_in values) (package_v
 
 -- the file of a value of `-o`, without a leading `./`
 abbrev pub file_name_in : OptionValue → List ℕ
-file_name_in v = without_dot v.text
+file_name_in v = without_dot_slash v.text
 
 -- the file that `-o` names, if it was given
 abbrev pub named_output : List OptionValue → Option (List ℕ)
@@ -106,10 +106,10 @@ named_output values = option_map file_name_in (first_value OUTPUT values)
 
 -- whether a file's name is too long: its scratch name, eight bytes longer, would be no name; if no
 -- output is known, nothing is too long
-abbrev pub is_long_name : Option (List ℕ) → Bool
-is_long_name None = false
-is_long_name (Some file) = nat_lt longest_output (length file)
+abbrev pub is_output_name_too_long : Option (List ℕ) → Bool
+is_output_name_too_long None = false
+is_output_name_too_long (Some file) = nat_lt longest_output (length file)
 
 -- whether the output is NAME-VERSION.apk, and that is too long
-abbrev pub is_too_long : List OptionValue → Bool
-is_too_long values = not (is_some (named_output values)) && is_long_name (default_output values)
+abbrev pub is_default_output_too_long : List OptionValue → Bool
+is_default_output_too_long values = not (is_some (named_output values)) && is_output_name_too_long (default_output values)

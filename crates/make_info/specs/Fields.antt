@@ -93,9 +93,9 @@ pub data FieldValue : Type 0 where
 -- ---- the values of a text under a kind; None if it is not in the kind's grammar
 
 -- the values of a field that has one text, if its rule allows it
-abbrev pub text_if : Bool → List ℕ → Option (List FieldValue)
-text_if true value = Some (text value ∷ [])
-text_if false value = None
+abbrev pub text_value_if : Bool → List ℕ → Option (List FieldValue)
+text_value_if true value = Some (text value ∷ [])
+text_value_if false value = None
 
 -- the values of a field of hexadecimal digits: the decoded bytes; None if the text is not hexadecimal
 abbrev pub value_of_digits : Result (List ℕ) FromHexError → Option (List FieldValue)
@@ -129,22 +129,22 @@ abbrev pub untagged_dependency_in : List ℕ → Option Dependency
 untagged_dependency_in part = option_and_then if_untagged (dependency_of part)
 
 -- the values of a dependency followed by others; None if one of them is no dependency
-abbrev pub and_needs : Option Dependency → Option (List FieldValue) → Option (List FieldValue)
-and_needs d others =
+abbrev pub dependency_value_and_others : Option Dependency → Option (List FieldValue) → Option (List FieldValue)
+dependency_value_and_others d others =
     option_and_then (λ d. option_map (λ others. need d ∷ others) others) d
 
 -- the values of a list of dependencies, one for each part; None if a part is no dependency
-abbrev pub needs_in : List (List ℕ) → Option (List FieldValue)
-needs_in [] = Some []
-needs_in (part ∷ parts) = and_needs (untagged_dependency_in part) (needs_in parts)
+abbrev pub dependency_values_in : List (List ℕ) → Option (List FieldValue)
+dependency_values_in [] = Some []
+dependency_values_in (part ∷ parts) = dependency_value_and_others (untagged_dependency_in part) (dependency_values_in parts)
 
 -- the values of a text under a kind: several or none for a list, one for another kind; None if the text
 -- is not allowed
 abbrev pub values_by_kind : Kind → List ℕ → Option (List FieldValue)
-values_by_kind Kinds.PackageName value = text_if (is_package_name value) value
-values_by_kind Kinds.PackageVersion value = text_if (is_version value) value
-values_by_kind Kinds.AnyText value = text_if true value
+values_by_kind Kinds.PackageName value = text_value_if (is_package_name value) value
+values_by_kind Kinds.PackageVersion value = text_value_if (is_version value) value
+values_by_kind Kinds.AnyText value = text_value_if true value
 values_by_kind Kinds.HexDigits value = value_of_digits (decode_of value)
 values_by_kind Kinds.Number value = option_map (λ n. number n ∷ []) (decimal_number value)
-values_by_kind Kinds.Dependencies value = needs_in (nonempty_parts value)
+values_by_kind Kinds.Dependencies value = dependency_values_in (nonempty_parts value)
 values_by_kind Kinds.Texts value = Some (text_values (nonempty_parts value))

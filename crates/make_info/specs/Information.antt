@@ -10,7 +10,7 @@ use Rattle.dep_core.specs.Value.{DepValue, dep_value}
 use Rattle.make_info.specs.declared.field.Field.{Field}
 use Rattle.make_info.specs.declared.field.Field.TheVariants as Fields
 use Rattle.make_info.specs.Fields.{FieldValue, text, number, need, may_repeat, kind_of_field, values_by_kind}
-use Rattle.make_info.specs.FieldTexts.{FieldText, field_text_in, values_of_info, is_for, is_same, is_too_long}
+use Rattle.make_info.specs.FieldTexts.{FieldText, field_text_in, values_of_info, is_option_for_field, is_same_field, is_default_output_too_long}
 use Rattle.make_info.specs.Values.{number_value, size_value}
 
 -- An item of an information: a field with a value. An information is the list of all of them, in the
@@ -20,14 +20,14 @@ pub record FieldWithValue : Type 0 where
   pub value : FieldValue
 
 -- an item by its parts
-abbrev pub info_item : Field → FieldValue → FieldWithValue
-info_item f value = record { field = f; value = value }
+abbrev pub field_with_value : Field → FieldValue → FieldWithValue
+field_with_value f value = record { field = f; value = value }
 
 -- the items so far, followed by one for each of these values of a field; None if there are no values,
 -- since the text is not allowed
 abbrev pub with_values :
     List FieldWithValue → Field → Option (List FieldValue) → Option (List FieldWithValue)
-with_values before f values = option_map (λ values. before ++ map (info_item f) values) values
+with_values before f values = option_map (λ values. before ++ map (field_with_value f) values) values
 
 -- the items of a field with a text; None if the text is not allowed
 abbrev pub items_of_text : FieldText → Option (List FieldWithValue)
@@ -43,7 +43,7 @@ items_of_option v = option_and_then items_of_text (field_text_in v.text)
 abbrev pub repeats_field : List OptionValue → Option FieldText → Bool
 repeats_field before None = false
 repeats_field before (Some given) =
-    not (may_repeat (kind_of_field given.field)) && list_any (is_for given.field) before
+    not (may_repeat (kind_of_field given.field)) && list_any (is_option_for_field given.field) before
 
 -- whether a value is for a field that is given once, and another one for it is before it
 abbrev pub repeats_single_field : List OptionValue → OptionValue → Bool
@@ -54,7 +54,7 @@ repeats_single_field before v = repeats_field before (field_text_in v.text)
 abbrev pub offends : Bool → List OptionValue → OptionValue → Bool
 offends too_long before v =
     not (is_some (items_of_option v))
-    || (repeats_single_field before v || (too_long && is_for Fields.Version v))
+    || (repeats_single_field before v || (too_long && is_option_for_field Fields.Version v))
 
 -- the place of the first of these values that offends after those before it
 abbrev pub first_offence : Bool → List OptionValue → List OptionValue → Option ℕ
@@ -66,11 +66,11 @@ first_offence too_long before (v ∷ vs) =
 -- whether no value is for the package's name, or none for its version
 abbrev pub lacks_name_or_version : List OptionValue → Bool
 lacks_name_or_version values =
-    not (list_any (is_for Fields.Name) values) || not (list_any (is_for Fields.Version) values)
+    not (list_any (is_option_for_field Fields.Name) values) || not (list_any (is_option_for_field Fields.Version) values)
 
 -- the items of values that do not offend
-abbrev pub all_items : List OptionValue → List FieldWithValue
-all_items values = flat_map (λ v. unwrap_or (items_of_option v) []) values
+abbrev pub items_of_valid_options : List OptionValue → List FieldWithValue
+items_of_valid_options values = flat_map (λ v. unwrap_or (items_of_option v) []) values
 
 -- a refusal at the place that offends, if there is one, and otherwise the given information
 abbrev pub unless_offence :
@@ -83,8 +83,8 @@ unless_offence (Some place) otherwise = Err place
 unfoldable pub information_of : List OptionValue → ℕ → Result (List FieldWithValue) ℕ
 information_of values behind =
     let own = values_of_info values in
-    unless_offence (first_offence (is_too_long values) [] own)
-    (if lacks_name_or_version own then Err behind else Ok (all_items own))
+    unless_offence (first_offence (is_default_output_too_long values) [] own)
+    (if lacks_name_or_version own then Err behind else Ok (items_of_valid_options own))
 
 -- the information of a command line, or the first place that offends; a missing name or version is
 -- reported at the place after its last argument
@@ -94,8 +94,8 @@ information command = information_of command.values command.behind
 -- ---- the value of an information
 
 -- the object of a dependency (table 1): name, version, match
-abbrev pub need_value : DepValue → Plain
-need_value v =
+abbrev pub dependency_object : DepValue → Plain
+dependency_object v =
     obj_value
     (more (blob_or_null v.name) (more (blob_or_null v.version) (more (number_value v.matching) none)))
 
@@ -103,11 +103,11 @@ need_value v =
 abbrev pub plain_value : FieldValue → Plain
 plain_value (text bytes) = blob_or_null bytes
 plain_value (number n) = int n
-plain_value (need d) = need_value (dep_value d)
+plain_value (need d) = dependency_object (dep_value d)
 
 -- whether an item is one of this field
 abbrev pub is_item_for : Field → FieldWithValue → Bool
-is_item_for f item = is_same item.field f
+is_item_for f item = is_same_field item.field f
 
 -- the plain value of an item; Null if nothing is given for the field
 abbrev pub item_value : Option FieldWithValue → Plain
@@ -119,15 +119,15 @@ abbrev pub value_of_single : Field → List FieldWithValue → Plain
 value_of_single f info = item_value (find (is_item_for f) info)
 
 -- the plain values of all items of a field, in their order
-abbrev pub plains_for : Field → List FieldWithValue → Plains
-plains_for f [] = none
-plains_for f (item ∷ items) =
-    if is_item_for f item then more (plain_value item.value) (plains_for f items)
-    else plains_for f items
+abbrev pub plain_values_of_field : Field → List FieldWithValue → Plains
+plain_values_of_field f [] = none
+plain_values_of_field f (item ∷ items) =
+    if is_item_for f item then more (plain_value item.value) (plain_values_of_field f items)
+    else plain_values_of_field f items
 
 -- the value of a field to which each value adds: an array
 abbrev pub value_of_list : Field → List FieldWithValue → Plain
-value_of_list f info = arr_value (plains_for f info)
+value_of_list f info = arr_value (plain_values_of_field f info)
 
 -- the 22 fields of table 3 in order, with the size of the files; hashes (3), file-size (13), layer (20)
 -- and the unused one (22) are Null

@@ -15,15 +15,15 @@ is_mkpkg Mkpkg = true
 is_mkpkg applet = false
 
 -- this name, if the information is allowed; otherwise there is no output, even if `-o` names one
-abbrev pub if_allowed : Result (List FieldWithValue) ℕ → Option (List ℕ) → Option (List ℕ)
-if_allowed (Ok info) name = name
-if_allowed (Err place) name = None
+abbrev pub output_if_information_valid : Result (List FieldWithValue) ℕ → Option (List ℕ) → Option (List ℕ)
+output_if_information_valid (Ok info) name = name
+output_if_information_valid (Err place) name = None
 
 -- the output of `mkpkg`, if its information is allowed: the file of `-o`, or by default
 -- NAME-VERSION.apk
 abbrev pub package_output : CommandLine → Option (List ℕ)
 package_output command =
-    if_allowed (information command)
+    output_if_information_valid (information command)
     (option_or (named_output command.values) (default_output command.values))
 
 -- the output of a command that makes a container: for `mkndx` the file of `-o`

@@ -5,7 +5,7 @@ use Rattle.std.specs.Prelude.{ℕ, Bool, not, ◌&&◌, ◌||◌, if◌then◌el
 use Rattle.std.specs.List.{find}
 use Rattle.make_info.specs.declared.field.Field.TheVariants as Fields
 use Rattle.make_info.specs.Fields.{is_nonempty, kind_of_field, may_repeat, values_by_kind}
-use Rattle.make_info.specs.FieldTexts.{FieldText, field_text_in, is_same}
+use Rattle.make_info.specs.FieldTexts.{FieldText, field_text_in, is_same_field}
 use Rattle.make_info.specs.Information.{FieldWithValue, is_item_for, with_values}
 
 -- the list of a part between spaces, unless it is empty
@@ -22,13 +22,13 @@ abbrev pub items_with_text :
     Bool → List FieldWithValue → Option FieldText → Option (List FieldWithValue)
 items_with_text too_long before None = None
 items_with_text too_long before (Some given) =
-    if too_long && is_same given.field Fields.Version then None else
+    if too_long && is_same_field given.field Fields.Version then None else
     if not (may_repeat (kind_of_field given.field)) && has_item_for given before then None else
     with_values before given.field (values_by_kind (kind_of_field given.field) given.value)
 
 -- the items so far, with those of the text of a value; None if the value offends
-unfoldable pub items_with : Bool → List FieldWithValue → List ℕ → Option (List FieldWithValue)
-items_with too_long before text = items_with_text too_long before (field_text_in text)
+unfoldable pub items_with_option_text : Bool → List FieldWithValue → List ℕ → Option (List FieldWithValue)
+items_with_option_text too_long before text = items_with_text too_long before (field_text_in text)
 
 -- whether there is no item for the name or for the version
 abbrev pub has_no_name_or_version : List FieldWithValue → Bool

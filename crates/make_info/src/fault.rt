@@ -62,9 +62,9 @@ impl From<TreeFault> for MakeFault {
 }
 
 impl From<WriteFault> for MakeFault {
-    ghost use Rattle.make_info.specs.Faults.{IsMakeFaultBy};
+    ghost use Rattle.make_info.specs.Faults.{IsMakeFaultOfWriter};
 
-    ghost from_gives = { λ write fault. IsMakeFaultBy write fault };
+    ghost from_gives = { λ write fault. IsMakeFaultOfWriter write fault };
 
     /// A failed write of a payload as such a fault: it exceeds a limit, or out of memory.
     fn from(fault: WriteFault) -> MakeFault {

@@ -6,9 +6,9 @@ ghost use Rattle.dep_core.specs.Meets.{dependency};
 ghost use Rattle.hex.specs.Hex.{decode_of};
 ghost use Rattle.make_info.specs.Faults.{IsInfoFault};
 ghost use Rattle.make_info.specs.FieldTexts.{field_text_in};
-ghost use Rattle.make_info.specs.Fields.{value_of_digits, kind_of_field, untagged_dependency_in, needs_in, number, decimal_number, nonempty_parts, values_by_kind, text_if, text_values, field_word};
-ghost use Rattle.make_info.specs.Reading.{nonempty_part, has_no_name_or_version, items_with};
-ghost use Rattle.make_info.specs.Information.{information, information_of, is_item_for, info_item, with_values, FieldWithValue, first_offence, information_fields};
+ghost use Rattle.make_info.specs.Fields.{value_of_digits, kind_of_field, untagged_dependency_in, dependency_values_in, number, decimal_number, nonempty_parts, values_by_kind, text_value_if, text_values, field_word};
+ghost use Rattle.make_info.specs.Reading.{nonempty_part, has_no_name_or_version, items_with_option_text};
+ghost use Rattle.make_info.specs.Information.{information, information_of, is_item_for, field_with_value, with_values, FieldWithValue, first_offence, information_fields};
 ghost use Rattle.make_info.specs.Views.{field_text_view, item_view, value_view};
 ghost use Rattle.std.specs.List.{find};
 ghost use Rattle.std.specs.Option.{option_map};
@@ -22,7 +22,7 @@ ghost use Rattle.make_info.specs.Named.{value_by_name, value_of_field};
 
 use crate::fault::MakeFault;
 use crate::field::{Field, Kind, read_number};
-use crate::output::is_too_long;
+use crate::output::is_default_output_too_long;
 use command_core::{Command, INFO, Values};
 use dep_core::{Dep, is_package_name, read_dep};
 use hex::FromHexError;
@@ -105,7 +105,7 @@ fn read_values<'a>(
     ensures err { IfErr result (λ fault. IsInfoFault fault
         (information_of values.entry.now behind)) }
 {
-    let too_long = is_too_long(values);
+    let too_long = is_default_output_too_long(values);
     let mut entries = Items::new(alloc);
     for i in 0..values.len() {
         let value = values.get(i);
@@ -123,14 +123,14 @@ fn read_values<'a>(
 }
 
 // Adds the items of a value of `-I`. False: the value is not allowed.
-#[tactic(auto, unfolding(crate::specs::Reading::items_with))]
+#[tactic(auto, unfolding(crate::specs::Reading::items_with_option_text))]
 fn add_value<'a>(
     entries: &mut Items<'a>,
     text: &'a [u8],
     too_long: bool,
 ) -> Result<bool, AllocError>
     ensures { IfOk result (λ good. (if good then Some entries.new else None)
-        ≡ items_with too_long entries.old text.entry.now) }
+        ≡ items_with_option_text too_long entries.old text.entry.now) }
 {
     let Some(given) = FieldText::of(text) else {
         return Ok(false);
@@ -211,7 +211,7 @@ impl<'a> Items<'a> {
 
     // Adds an item at the end.
     fn push(&mut self, field: Field, value: Value<'a>) -> Result<(), AllocError>
-        ensures { OnOk result (self.new ≡ self.old ++ info_item field
+        ensures { OnOk result (self.new ≡ self.old ++ field_with_value field
             (value_view value.entry) ∷ []) }
     {
         self.entries.push(Item { field, value })?;
@@ -239,7 +239,7 @@ impl<'a> Items<'a> {
     // Adds a text that its rule allows. False: the rule does not.
     fn add_text(&mut self, field: Field, text: &'a [u8], is_good: bool) -> Result<bool, AllocError>
         ensures { IfOk result (λ good. (if good then Some self.new else None)
-            ≡ with_values self.old field (text_if is_good text.entry.now)) }
+            ≡ with_values self.old field (text_value_if is_good text.entry.now)) }
     {
         if !is_good {
             return Ok(false);
@@ -279,7 +279,7 @@ impl<'a> Items<'a> {
     // Adds dependencies, with spaces between them. False: one of them is no dependency without tag.
     fn add_needs(&mut self, field: Field, texts: &'a [u8]) -> Result<bool, AllocError>
         ensures { IfOk result (λ good. (if good then Some self.new else None)
-            ≡ with_values self.old field (needs_in (nonempty_parts texts.entry.now))) }
+            ≡ with_values self.old field (dependency_values_in (nonempty_parts texts.entry.now))) }
     {
         for part in texts.split(|byte| *byte == b' ') {
             if !self.add_need(field, part)? {
@@ -293,7 +293,7 @@ impl<'a> Items<'a> {
     // tag.
     fn add_need(&mut self, field: Field, part: &'a [u8]) -> Result<bool, AllocError>
         ensures { IfOk result (λ good. (if good then Some self.new else None)
-            ≡ with_values self.old field (needs_in (nonempty_part part.entry.now))) }
+            ≡ with_values self.old field (dependency_values_in (nonempty_part part.entry.now))) }
     {
         if part.is_empty() {
             return Ok(true);

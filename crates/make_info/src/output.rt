@@ -1,14 +1,14 @@
 //! The name under which a container is written (apk(8)): the file of `-o`, or NAME-VERSION.apk.
 //! The rules are in `docs/commands.md`, "`mkpkg`" and "`mkndx PACKAGE..`", and in "Words", the
 //! row of `-o`.
-ghost use Rattle.make_info.specs.FieldTexts.{first_text_for, is_too_long, package_name_in, named_output, default_output, text_for, package_version_in};
+ghost use Rattle.make_info.specs.FieldTexts.{first_text_for, is_default_output_too_long, package_name_in, named_output, default_output, option_text_for_field, package_version_in};
 ghost use Rattle.make_info.specs.Information.{information};
 ghost use Rattle.make_info.specs.Output.{is_mkpkg, output_name, package_output};
 ghost use Rattle.std.specs.Option.{option_map};
 ghost use Rattle.std.specs.Prelude.{is_some, ◌≡◌, ◌||◌, IfOk, is_ok, ◌≤◌, List, ℕ, Some, IsSome, IsTrue, length};
 ghost use Rattle.command_core.specs.Command.{CommandLine};
 ghost use Rattle.command_core.specs.Files.{longest_output};
-ghost use Rattle.command_core.specs.Sound.{IsCommand};
+ghost use Rattle.command_core.specs.Sound.{IsValidCommand};
 ghost use Rattle.command_core.specs.declared.command.Applet.TheVariants.{Mkndx, Mkpkg};
 
 use crate::fault::MakeFault;
@@ -45,8 +45,8 @@ pub(crate) fn default_output(alloc: Global, values: &Values) -> Result<Option<Ve
 }
 
 /// Whether the output is NAME-VERSION.apk, and that is too long.
-pub(crate) fn is_too_long(values: &Values) -> bool
-    ensures { result ≡ is_too_long values.now }
+pub(crate) fn is_default_output_too_long(values: &Values) -> bool
+    ensures { result ≡ is_default_output_too_long values.now }
 {
     if is_output_named(values) {
         return false;
@@ -94,7 +94,7 @@ fn first_text_for(values: &Values, field: Field) -> Option<&[u8]>
     ensures { option_map (λ text. text.now) result ≡ first_text_for field values.entry.now }
 {
     for i in 0..values.len() {
-        let found = text_for(values.get(i), field);
+        let found = option_text_for_field(values.get(i), field);
         if found.is_some() {
             return found;
         }
@@ -103,8 +103,8 @@ fn first_text_for(values: &Values, field: Field) -> Option<&[u8]>
 }
 
 // The value of an option for a field, if it is one of `-I` and for that field.
-fn text_for(value: &OptionValue, field: Field) -> Option<&[u8]>
-    ensures { option_map (λ text. text.now) result ≡ text_for field value.entry.now }
+fn option_text_for_field(value: &OptionValue, field: Field) -> Option<&[u8]>
+    ensures { option_map (λ text. text.now) result ≡ option_text_for_field field value.entry.now }
 {
     if value.letter != INFO {
         return None;
@@ -181,7 +181,7 @@ fn is_allowed(alloc: Global, command: &Command) -> Result<bool, AllocError>
 
 /// An output's name is short enough for its scratch name, which has eight more bytes.
 pub fn an_output_is_short()
-    ensures { (command : CommandLine) (name : List ℕ) → IsCommand command
+    ensures { (command : CommandLine) (name : List ℕ) → IsValidCommand command
         → output_name command ≡ Some name → length name ≤ longest_output }
 {
     // A law that the proof needs; it computes nothing.
@@ -196,7 +196,7 @@ pub fn a_package_with_information_has_an_output()
 
 /// `mkndx` requires `-o`, so an index has an output.
 pub fn an_index_has_an_output()
-    ensures { (command : CommandLine) → IsCommand command → command.applet ≡ Mkndx
+    ensures { (command : CommandLine) → IsValidCommand command → command.applet ≡ Mkndx
         → IsSome (output_name command) }
 {
     // A law that the proof needs; it computes nothing.

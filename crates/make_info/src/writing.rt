@@ -4,9 +4,9 @@
 ghost use Rattle.adb_values.specs.Drafts.{draft_with, draft_with_all};
 ghost use Rattle.adb_view.specs.Plain.{blob_or_null};
 ghost use Rattle.dep_core.specs.Meets.{dependency};
-ghost use Rattle.dep_core.specs.Value.{dep_value, matching_of};
+ghost use Rattle.dep_core.specs.Value.{dep_value, match_number_of};
 ghost use Rattle.make_info.specs.Columns.{column_value, column_values};
-ghost use Rattle.make_info.specs.Information.{information_value, value_of_list, need_value, number_in, replaces_priority, plain_value, value_of_single};
+ghost use Rattle.make_info.specs.Information.{information_value, value_of_list, dependency_object, number_in, replaces_priority, plain_value, value_of_single};
 ghost use Rattle.make_info.specs.Values.{number_value, size_value};
 ghost use Rattle.make_info.specs.Views.{value_view};
 ghost use Rattle.std.specs.Prelude.{◌≡◌, OnOk};
@@ -174,12 +174,12 @@ pub fn write_size(draft: &mut Draft, size: u64) -> Result<(), AllocError>
 /// Writes a dependency: its name, version and match number (apk-v3(5)).
 pub fn write_need(draft: &mut Draft, dep: &Dep<'_>) -> Result<(), AllocError>
     ensures { OnOk result
-        (draft.new ≡ draft_with (need_value (dep_value (dependency dep.now))) draft.old) }
+        (draft.new ≡ draft_with (dependency_object (dep_value (dependency dep.now))) draft.old) }
 {
     draft.open_list()?;
     draft.blob(dep.name)?;
     write_version(draft, dep)?;
-    write_number(draft, matching_of(dep))?;
+    write_number(draft, match_number_of(dep))?;
     draft.close_object()
 }
 
@@ -207,7 +207,7 @@ pub fn write_number(draft: &mut Draft, number: Option<u64>) -> Result<(), AllocE
 // The match number of a dependency: its operator's, plus 16 for a conflict, and 23 (7 and 16) for a
 // conflict without version. None if there is no conflict, and any version is allowed or only the
 // named one (`=`, which is 1).
-fn matching_of(dep: &Dep<'_>) -> Option<u64>
+fn match_number_of(dep: &Dep<'_>) -> Option<u64>
     ensures { result ≡ (dep_value (dependency dep.now)).matching }
 {
     let bits = dep.op.bits() as u64;

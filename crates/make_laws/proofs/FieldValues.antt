@@ -19,17 +19,17 @@ use Rattle.dep_core.specs.Spelling.{SpellsDependency}
 use Rattle.version_core.specs.Order.{is_version}
 use Rattle.make_core.specs.make_info.declared.field.Field.{Field}
 use Rattle.make_core.specs.make_info.declared.field.Field.TheVariants as Fields
-use Rattle.make_core.specs.make_info.Fields.{FieldValue, text, number, need, and_needs, decimal_number, if_untagged, is_nonempty, kind_of_field, untagged_dependency_in, needs_in, nonempty_parts, text_if, text_values, value_of_digits, values_by_kind}
-use Rattle.make_laws.specs.OptionGrammar.{SaysNeeds, SaysNumber, SaysOfField, SaysText, SpellNeeds, SpellsBytes, SpellsNumber, spaced_parts}
+use Rattle.make_core.specs.make_info.Fields.{FieldValue, text, number, need, dependency_value_and_others, decimal_number, if_untagged, is_nonempty, kind_of_field, untagged_dependency_in, dependency_values_in, nonempty_parts, text_value_if, text_values, value_of_digits, values_by_kind}
+use Rattle.make_laws.specs.OptionGrammar.{SaysNeeds, SaysNumber, FieldTextGivesValues, SaysText, SpellDependencies, SpellsBytes, SpellsNumber, spaced_parts}
 
 -- ---- texts
 
-text_to : (b : Bool) (value : List ℕ) (said : List FieldValue) → text_if b value ≡ Some said → (b ≡ true) × SaysText value said
+text_to : (b : Bool) (value : List ℕ) (said : List FieldValue) → text_value_if b value ≡ Some said → (b ≡ true) × SaysText value said
 text_to true value said e = let same : text value ∷ [] ≡ said = cc (e) in (refl, sym same)
 text_to false value said e = absurd (cc (e))
 
-text_from : (b : Bool) (value : List ℕ) (said : List FieldValue) → b ≡ true → SaysText value said → text_if b value ≡ Some said
-text_from b value said is e = ap (λ (c : Bool). text_if c value) is ∙ ap Some (sym e)
+text_from : (b : Bool) (value : List ℕ) (said : List FieldValue) → b ≡ true → SaysText value said → text_value_if b value ≡ Some said
+text_from b value said is e = ap (λ (c : Bool). text_value_if c value) is ∙ ap Some (sym e)
 
 -- ---- pairs of digits
 
@@ -173,20 +173,20 @@ module _ (spelled : (t : List ℕ) (d : Dependency) → dependency_of t ≡ Some
   need_by None d e = absurd (cc (e))
   need_by (Some x) d e = let both = untagged_by x d x.tag refl e in (ap Some both.0, both.1)
 
-  needs_to : (parts : List (List ℕ)) (said : List FieldValue) → needs_in parts ≡ Some said → SpellNeeds parts said
-  needs_to [] said e = let same : [] ≡ said = cc (e) in subst (SpellNeeds []) same tt
-  needs_to (part ∷ parts) said e = by_both (untagged_dependency_in part) (needs_in parts) refl (needs_to parts) e
+  needs_to : (parts : List (List ℕ)) (said : List FieldValue) → dependency_values_in parts ≡ Some said → SpellDependencies parts said
+  needs_to [] said e = let same : [] ≡ said = cc (e) in subst (SpellDependencies []) same tt
+  needs_to (part ∷ parts) said e = by_both (untagged_dependency_in part) (dependency_values_in parts) refl (needs_to parts) e
     where
-      by_both : (od : Option Dependency) (os : Option (List FieldValue)) → untagged_dependency_in part ≡ od → ((more : List FieldValue) → os ≡ Some more → SpellNeeds parts more)
-          → and_needs od os ≡ Some said → SpellNeeds (part ∷ parts) said
+      by_both : (od : Option Dependency) (os : Option (List FieldValue)) → untagged_dependency_in part ≡ od → ((more : List FieldValue) → os ≡ Some more → SpellDependencies parts more)
+          → dependency_value_and_others od os ≡ Some said → SpellDependencies (part ∷ parts) said
       by_both (Some d) (Some more) is further e =
           let same : need d ∷ more ≡ said = cc (e) in
           let one = need_by (dependency_of part) d is in
-          subst (SpellNeeds (part ∷ parts)) same ((spelled part d one.0, one.1), further more refl)
+          subst (SpellDependencies (part ∷ parts)) same ((spelled part d one.0, one.1), further more refl)
       by_both (Some d) None is further e = absurd (cc (e))
       by_both None os is further e = absurd (cc (e))
 
-  needs_from : (parts : List (List ℕ)) (said : List FieldValue) → SpellNeeds parts said → needs_in parts ≡ Some said
+  needs_from : (parts : List (List ℕ)) (said : List FieldValue) → SpellDependencies parts said → dependency_values_in parts ≡ Some said
   needs_from [] [] s = refl
   needs_from [] (x ∷ xs) s = absurd s
   needs_from (part ∷ parts) [] s = absurd s
@@ -195,13 +195,13 @@ module _ (spelled : (t : List ℕ) (d : Dependency) → dependency_of t ≡ Some
   needs_from (part ∷ parts) (need d ∷ xs) s =
       let one : untagged_dependency_in part ≡ Some d = ap (option_and_then if_untagged) (read part d s.0.0) ∙ ap (λ (o : Option (List ℕ)). if is_some o then None else Some d) s.0.1 in
       let more = needs_from parts xs s.1 in
-      λ k. and_needs (one k) (more k)
+      λ k. dependency_value_and_others (one k) (more k)
 
-  says_needs_to : (value : List ℕ) (said : List FieldValue) → needs_in (nonempty_parts value) ≡ Some said → SaysNeeds value said
-  says_needs_to value said e = needs_to (spaced_parts value) said (ap needs_in (sym (same_parts value)) ∙ e)
+  says_needs_to : (value : List ℕ) (said : List FieldValue) → dependency_values_in (nonempty_parts value) ≡ Some said → SaysNeeds value said
+  says_needs_to value said e = needs_to (spaced_parts value) said (ap dependency_values_in (sym (same_parts value)) ∙ e)
 
-  says_needs_from : (value : List ℕ) (said : List FieldValue) → SaysNeeds value said → needs_in (nonempty_parts value) ≡ Some said
-  says_needs_from value said s = ap needs_in (same_parts value) ∙ needs_from (spaced_parts value) said s
+  says_needs_from : (value : List ℕ) (said : List FieldValue) → SaysNeeds value said → dependency_values_in (nonempty_parts value) ≡ Some said
+  says_needs_from value said s = ap dependency_values_in (same_parts value) ∙ needs_from (spaced_parts value) said s
 
   -- ---- field by field
 
@@ -219,7 +219,7 @@ module _ (spelled : (t : List ℕ) (d : Dependency) → dependency_of t ≡ Some
   hex_said_from : (value : List ℕ) (said : List FieldValue) → (bytes : List ℕ) × SpellsBytes value bytes × (said ≡ text bytes ∷ []) → value_of_digits (decode_of value) ≡ Some said
   hex_said_from value said (bytes, spells, says) = ap value_of_digits (decoded_from value bytes spells) ∙ ap Some (sym says)
 
-  pub says_to : (f : Field) (value : List ℕ) (said : List FieldValue) → values_by_kind (kind_of_field f) value ≡ Some said → SaysOfField f value said
+  pub says_to : (f : Field) (value : List ℕ) (said : List FieldValue) → values_by_kind (kind_of_field f) value ≡ Some said → FieldTextGivesValues f value said
   says_to Fields.Name value said e = text_to (is_package_name value) value said e
   says_to Fields.Version value said e = text_to (is_version value) value said e
   says_to Fields.Description value said e = (text_to true value said e).1
@@ -239,7 +239,7 @@ module _ (spelled : (t : List ℕ) (d : Dependency) → dependency_of t ≡ Some
   says_to Fields.Recommends value said e = says_needs_to value said e
   says_to Fields.Tags value said e = tags_to value said e
 
-  pub says_from : (f : Field) (value : List ℕ) (said : List FieldValue) → SaysOfField f value said → values_by_kind (kind_of_field f) value ≡ Some said
+  pub says_from : (f : Field) (value : List ℕ) (said : List FieldValue) → FieldTextGivesValues f value said → values_by_kind (kind_of_field f) value ≡ Some said
   says_from Fields.Name value said s = text_from (is_package_name value) value said s.0 s.1
   says_from Fields.Version value said s = text_from (is_version value) value said s.0 s.1
   says_from Fields.Description value said s = text_from true value said refl s

@@ -9,12 +9,12 @@ use Rattle.make_core.specs.adb_fields.Repeated.{folders_in, name_of}
 use Rattle.adb_view.specs.Plain.{Plain}
 use Rattle.base_core.specs.Files.{IsFolderOf}
 use Rattle.command_core.specs.Command.{CommandLine}
-use Rattle.command_core.specs.Files.{without_dot}
+use Rattle.command_core.specs.Files.{without_dot_slash}
 use Rattle.command_core.specs.declared.values.OptionValue.{OptionValue}
 use Rattle.make_core.specs.make_info.Reads.{Reads}
-use Rattle.make_core.specs.package_files.Folders.{before_slashes, all_folders_above, folders_of, folders_above, is_slash, listing_of, path_below}
+use Rattle.make_core.specs.package_files.Folders.{prefixes_before_slashes, all_folders_above, folder_listings_of, folders_above, is_slash, folder_listing_of, path_below}
 use Rattle.make_core.specs.package_files.Package.{SourceFolder}
-use Rattle.make_core.specs.package_files.Sources.{AreNamesBelowFirst, folders_below, values_with}
+use Rattle.make_core.specs.package_files.Sources.{AreNamesBelowFirst, folders_below, values_of_letter}
 use Rattle.make_core.specs.FilesBelow.{name_below}
 use Rattle.make_core.proofs.ListedNames.{AreListed, below_is, listed_in}
 use Rattle.make_core.proofs.SoundPackage.{are_listed}
@@ -24,19 +24,19 @@ use Rattle.make_laws.proofs.NamesRising.{folder_names_stand, folders_named, list
 
 -- ---- what stands before a slash
 
-one_more : (b : ℕ) (bs : List ℕ) → ((f : List ℕ) → IsIn f (before_slashes bs) → IsFolderOf f bs) → (f : List ℕ) → IsIn f (map (λ folder. b ∷ folder) (before_slashes bs)) → IsFolderOf f (b ∷ bs)
+one_more : (b : ℕ) (bs : List ℕ) → ((f : List ℕ) → IsIn f (prefixes_before_slashes bs) → IsFolderOf f bs) → (f : List ℕ) → IsIn f (map (λ folder. b ∷ folder) (prefixes_before_slashes bs)) → IsFolderOf f (b ∷ bs)
 one_more b bs further f h =
-    let (x, here, is) = from-map (λ folder. b ∷ folder) f (before_slashes bs) h in
+    let (x, here, is) = from-map (λ folder. b ∷ folder) f (prefixes_before_slashes bs) h in
     let (rest, e) = further x here in
     (rest, ap (λ (xs : List ℕ). b ∷ xs) e ∙ ap (λ (xs : List ℕ). xs ++ 47 ∷ rest) (sym is))
 
-at_byte : (b : ℕ) (bs : List ℕ) (c : Bool) → is_slash b ≡ c → ((f : List ℕ) → IsIn f (before_slashes bs) → IsFolderOf f bs)
-    → (f : List ℕ) → IsIn f (if c then [] ∷ map (λ folder. b ∷ folder) (before_slashes bs) else map (λ folder. b ∷ folder) (before_slashes bs)) → IsFolderOf f (b ∷ bs)
+at_byte : (b : ℕ) (bs : List ℕ) (c : Bool) → is_slash b ≡ c → ((f : List ℕ) → IsIn f (prefixes_before_slashes bs) → IsFolderOf f bs)
+    → (f : List ℕ) → IsIn f (if c then [] ∷ map (λ folder. b ∷ folder) (prefixes_before_slashes bs) else map (λ folder. b ∷ folder) (prefixes_before_slashes bs)) → IsFolderOf f (b ∷ bs)
 at_byte b bs false e further f h = one_more b bs further f h
 at_byte b bs true e further f (inl is) = (bs, ap (λ (n : ℕ). n ∷ bs) (eqb-true b 47 e) ∙ ap (λ (xs : List ℕ). xs ++ 47 ∷ bs) (sym is))
 at_byte b bs true e further f (inr h) = one_more b bs further f h
 
-before_one : (path f : List ℕ) → IsIn f (before_slashes path) → IsFolderOf f path
+before_one : (path f : List ℕ) → IsIn f (prefixes_before_slashes path) → IsFolderOf f path
 before_one [] f h = absurd h
 before_one (b ∷ bs) f h = at_byte b bs (is_slash b) refl (before_one bs) f h
 
@@ -48,13 +48,13 @@ after_byte : (b : ℕ) (c : Bool) (f : List ℕ) (folders : List (List ℕ)) →
 after_byte b true f folders h = inr (in-map (λ folder. b ∷ folder) f folders h)
 after_byte b false f folders h = in-map (λ folder. b ∷ folder) f folders h
 
-before_there : (f rest : List ℕ) → IsIn f (before_slashes (f ++ 47 ∷ rest))
+before_there : (f rest : List ℕ) → IsIn f (prefixes_before_slashes (f ++ 47 ∷ rest))
 before_there [] rest = inl refl
-before_there (b ∷ f) rest = after_byte b (is_slash b) f (before_slashes (f ++ 47 ∷ rest)) (before_there f rest)
+before_there (b ∷ f) rest = after_byte b (is_slash b) f (prefixes_before_slashes (f ++ 47 ∷ rest)) (before_there f rest)
 
 over_there : (path f : List ℕ) → IsAbovePath f path → IsIn f (folders_above path)
 over_there path f (inl is) = inl is
-over_there path f (inr (rest, e)) = inr (subst (λ (p : List ℕ). IsIn f (before_slashes p)) (sym e) (before_there f rest))
+over_there path f (inr (rest, e)) = inr (subst (λ (p : List ℕ). IsIn f (prefixes_before_slashes p)) (sym e) (before_there f rest))
 
 -- ---- the names of the folders
 
@@ -90,16 +90,16 @@ module _ (dir : List ℕ) (names : List (List ℕ)) (all : AreListed dir names) 
       (λ h. over_one f (subst (IsIn f) e h), λ h. subst (IsIn f) (sym e) (one_over f h))
 
 names_read : (read : Reads) (n place : ℕ) (dir : List ℕ) (names : List (List ℕ)) (sources : List SourceFolder) (v : OptionValue) (vs : List OptionValue) → folders_below read n (v ∷ vs) names ≡ Ok sources
-    → map (λ (s : SourceFolder). s.name) sources ≡ all_folders_above (map (path_below (without_dot v.text)) names)
-unfolding folders_of
+    → map (λ (s : SourceFolder). s.name) sources ≡ all_folders_above (map (path_below (without_dot_slash v.text)) names)
+unfolding folder_listings_of
 names_read read n place dir names sources v vs e =
-    let fs : List (List ℕ) = all_folders_above (map (path_below (without_dot v.text)) names) in
-    listed_names (without_dot v.text) names fs sources (folders_named v.place read n (map (listing_of (without_dot v.text) names) fs) sources e)
+    let fs : List (List ℕ) = all_folders_above (map (path_below (without_dot_slash v.text)) names) in
+    listed_names (without_dot_slash v.text) names fs sources (folders_named v.place read n (map (folder_listing_of (without_dot_slash v.text) names) fs) sources e)
 
-pub folders_over_paths : AreFolderNames → (command : CommandLine) (names : List (List ℕ)) (read : Reads) (pkg : Plain) (v : OptionValue) (vs : List OptionValue) → AreNamesBelowFirst (values_with FILES command.values) names
-    → values_with FILES command.values ≡ v ∷ vs → IsMadeFrom command names read pkg → HasJustFoldersAbove (without_dot v.text) names pkg
+pub folders_over_paths : AreFolderNames → (command : CommandLine) (names : List (List ℕ)) (read : Reads) (pkg : Plain) (v : OptionValue) (vs : List OptionValue) → AreNamesBelowFirst (values_of_letter FILES command.values) names
+    → values_of_letter FILES command.values ≡ v ∷ vs → IsMadeFrom command names read pkg → HasJustFoldersAbove (without_dot_slash v.text) names pkg
 folders_over_paths law command names read pkg v vs below given m =
-    let dir : List ℕ = without_dot v.text in
+    let dir : List ℕ = without_dot_slash v.text in
     let named : AreNamesBelowFirst (v ∷ vs) names = subst (λ (l : List OptionValue). AreNamesBelowFirst l names) given below in
     let read_of : folders_below read (length m.scripts) (v ∷ vs) names ≡ Ok m.sources =
     ap (λ (l : List OptionValue). folders_below read (length m.scripts) l names) (sym given) ∙ m.sources_read in

@@ -2,7 +2,7 @@
 use Rattle.command_core.specs.declared.values.TheConstants.{FILES, SCRIPT, TRIGGER}
 use Rattle.std.proofs.Common.{◌≡◌, ℕ, ◌^◌, ◌<◌, List, [], ◌∷◌, length, map, Ok, refl, ap, sym, ◌∙◌}
 use Rattle.make_core.specs.adb_fields.Repeated.{folders_in, list_of}
-use Rattle.make_core.specs.adb_sound.Container.{package_by}
+use Rattle.make_core.specs.adb_sound.Container.{packed_from_parts}
 use Rattle.adb_view.specs.Values.{entries_in, entry_in, text_in}
 use Rattle.adb_view.proofs.ValueEntries.{entries_arr, nth_obj, text_blob}
 use Rattle.adb_view.specs.Plain.{Plain, blob_or_null}
@@ -12,39 +12,39 @@ use Rattle.make_core.specs.make_info.Reads.{Reads}
 use Rattle.make_core.specs.make_info.Values.{number_value, plains_of_list}
 use Rattle.make_core.specs.make_package.Making.{made_package, or_info_bad}
 use Rattle.make_core.specs.package_files.Package.{Script, SourceFolder, contents_of_folders, installed_size, package_fields, value_of_folder, value_of_package, value_of_scripts}
-use Rattle.make_core.specs.package_files.Sources.{AreNamesBelowFirst, folders_below, and_then, scripts_from, texts_of, values_with}
+use Rattle.make_core.specs.package_files.Sources.{AreNamesBelowFirst, folders_below, and_then, scripts_from, texts_of, values_of_letter}
 use Rattle.make_core.specs.ReadBack.{packed_of_parts, packed_package}
 use Rattle.make_core.proofs.ListedNames.{after_ok}
 use Rattle.make_core.proofs.PackageFiles.{folders_stand, list-plains}
 use Rattle.make_core.specs.pkg_core.Whole.{Packed, package_with_contents}
-use Rattle.make_laws.specs.MadePackages.{HasTriggersInOrder, IsMadePackage, contained_package}
+use Rattle.make_laws.specs.MadePackages.{HasTriggersInOrder, IsMadePackage, package_in_container}
 
 -- what a package that is made is read back as
 abbrev pub ReadsBack : Type 0
-ReadsBack = (command : CommandLine) (names : List (List ℕ)) (read : Reads) (bytes : List ℕ) → AreNamesBelowFirst (values_with FILES command.values) names → made_package command names read ≡ Ok bytes → length bytes < 2 ^ 64
+ReadsBack = (command : CommandLine) (names : List (List ℕ)) (read : Reads) (bytes : List ℕ) → AreNamesBelowFirst (values_of_letter FILES command.values) names → made_package command names read ≡ Ok bytes → length bytes < 2 ^ 64
     → packed_package command names read ≡ Ok (package_with_contents bytes)
 
 pub record IsMadeFrom (command : CommandLine) (names : List (List ℕ)) (read : Reads) (pkg : Plain) : Type 0 where
   pub scripts : List Script
   pub items : List FieldWithValue
   pub sources : List SourceFolder
-  pub scripts_read : scripts_from read 0 (values_with SCRIPT command.values) ≡ Ok scripts
+  pub scripts_read : scripts_from read 0 (values_of_letter SCRIPT command.values) ≡ Ok scripts
   pub items_read : or_info_bad (information command) ≡ Ok items
-  pub sources_read : folders_below read (length scripts) (values_with FILES command.values) names ≡ Ok sources
-  pub value : pkg ≡ value_of_package (information_value items (installed_size sources)) sources scripts (texts_of (values_with TRIGGER command.values)) (replaces_priority items)
+  pub sources_read : folders_below read (length scripts) (values_of_letter FILES command.values) names ≡ Ok sources
+  pub value : pkg ≡ value_of_package (information_value items (installed_size sources)) sources scripts (texts_of (values_of_letter TRIGGER command.values)) (replaces_priority items)
 
-pub made_from : ReadsBack → (command : CommandLine) (names : List (List ℕ)) (read : Reads) (bytes : List ℕ) → IsMadePackage command names read bytes → IsMadeFrom command names read (contained_package bytes)
+pub made_from : ReadsBack → (command : CommandLine) (names : List (List ℕ)) (read : Reads) (bytes : List ℕ) → IsMadePackage command names read bytes → IsMadeFrom command names read (package_in_container bytes)
 made_from back command names read bytes made =
     let whole : Packed = package_with_contents bytes in
-    let one = after_ok (scripts_from read 0 (values_with SCRIPT command.values)) (λ scripts.
+    let one = after_ok (scripts_from read 0 (values_of_letter SCRIPT command.values)) (λ scripts.
     and_then (or_info_bad (information command)) (λ about.
-    and_then (folders_below read (length scripts) (values_with FILES command.values) names) (packed_of_parts command scripts about))) whole (back command names read bytes made.below made.made made.short) in
+    and_then (folders_below read (length scripts) (values_of_letter FILES command.values) names) (packed_of_parts command scripts about))) whole (back command names read bytes made.below made.made made.short) in
     let two = after_ok (or_info_bad (information command)) (λ about.
-    and_then (folders_below read (length one.x) (values_with FILES command.values) names) (packed_of_parts command one.x about)) whole one.gives in
-    let three = after_ok (folders_below read (length one.x) (values_with FILES command.values) names) (packed_of_parts command one.x two.x) whole two.gives in
+    and_then (folders_below read (length one.x) (values_of_letter FILES command.values) names) (packed_of_parts command one.x about)) whole one.gives in
+    let three = after_ok (folders_below read (length one.x) (values_of_letter FILES command.values) names) (packed_of_parts command one.x two.x) whole two.gives in
     let gives = three.gives in
-    let v : Plain = value_of_package (information_value two.x (installed_size three.x)) three.x one.x (texts_of (values_with TRIGGER command.values)) (replaces_priority two.x) in
-    let same : package_by v (contents_of_folders 1 three.x) ≡ whole = cc (gives) in
+    let v : Plain = value_of_package (information_value two.x (installed_size three.x)) three.x one.x (texts_of (values_of_letter TRIGGER command.values)) (replaces_priority two.x) in
+    let same : packed_from_parts v (contents_of_folders 1 three.x) ≡ whole = cc (gives) in
     record {
       scripts = one.x;
       items = two.x;
@@ -64,7 +64,7 @@ module _ (command : CommandLine) (names : List (List ℕ)) (read : Reads) (pkg :
   info = information_value m.items (installed_size m.sources)
 
   abbrev triggers : List (List ℕ)
-  triggers = texts_of (values_with TRIGGER command.values)
+  triggers = texts_of (values_of_letter TRIGGER command.values)
 
   part : (i : ℕ) → entry_in pkg i ≡ entry_in (value_of_package info m.sources m.scripts triggers (replaces_priority m.items)) i
   part i = ap (λ (v : Plain). entry_in v i) m.value

@@ -14,14 +14,14 @@ use Rattle.make_core.proofs.adb_fields.Members.{from-map}
 use Rattle.make_core.specs.adb_fields.Paths.{path_of}
 use Rattle.make_core.specs.adb_fields.Repeated.{files_in, name_of}
 use Rattle.adb_view.specs.Plain.{Plain}
-use Rattle.base_core.specs.Listed.{IsRising}
+use Rattle.base_core.specs.Listed.{AreSortedDistinctNames}
 use Rattle.command_core.specs.Command.{CommandLine}
-use Rattle.command_core.specs.Files.{without_dot}
+use Rattle.command_core.specs.Files.{without_dot_slash}
 use Rattle.command_core.specs.declared.values.OptionValue.{OptionValue}
 use Rattle.make_core.specs.make_info.Reads.{Reads}
-use Rattle.make_core.specs.package_files.Folders.{FolderListing, all_folders_above, folders_of, folders_above, last_part_of, listing_of, names_in_folder, path_below}
+use Rattle.make_core.specs.package_files.Folders.{FolderListing, all_folders_above, folder_listings_of, folders_above, last_part_of, folder_listing_of, names_in_folder, path_below}
 use Rattle.make_core.specs.package_files.Package.{Source, SourceFolder, kind_of_file, value_of_file, value_of_folder}
-use Rattle.make_core.specs.package_files.Sources.{AreNamesBelowFirst, file_at, folder_at, folders_below, found_at, source_folders_from, sources_from, values_with}
+use Rattle.make_core.specs.package_files.Sources.{AreNamesBelowFirst, source_file_read_at, source_folder_read_at, folders_below, found_bytes_or_missing, source_folders_from, sources_from, values_of_letter}
 use Rattle.make_core.proofs.Apart.{Rises, cmp, in_order_rises, rises_from_pairs}
 use Rattle.make_core.proofs.ListedNames.{AllOf, AreListed, after_ok, each_read, filter_in, listed_in, recovered, stands_in}
 use Rattle.make_core.proofs.PackageFiles.{files_stand, folder_name_stands, name_stands}
@@ -35,7 +35,7 @@ all_from_in : {A : Type 0} (P : A → Type 0) (xs : List A) → ((q : A) → IsI
 all_from_in P [] h = All-nil P
 all_from_in P (x ∷ xs) h = All-cons P x xs (h x (inl refl)) (all_from_in P xs (λ q here. h q (inr here)))
 
-pub pairs_rise : (xs : List (List ℕ)) → Rises xs → IsRising xs
+pub pairs_rise : (xs : List (List ℕ)) → Rises xs → AreSortedDistinctNames xs
 pairs_rise [] r = λ i j d lt below. absurd (omega arith)
 pairs_rise (x ∷ xs) r = AllPairs-cons (λ a b. cmp a b ≡ Less) x xs (all_from_in (λ q. cmp x q ≡ Less) xs r.0) (pairs_rise xs r.1)
 
@@ -91,9 +91,9 @@ abbrev IsFolderNamed : FolderListing → SourceFolder → Type 0
 IsFolderNamed l s = (s.name ≡ l.name) × (file_names s.files ≡ map last_part_of l.files)
 
 module _ (place : ℕ) (read : Reads) where
-  file_named : (n : ℕ) (name : List ℕ) (file : Source) → file_at place read n name ≡ Ok file → IsFileNamed name file
+  file_named : (n : ℕ) (name : List ℕ) (file : Source) → source_file_read_at place read n name ≡ Ok file → IsFileNamed name file
   file_named n name file e =
-      let one = after_ok (found_at place (read n name)) (λ bytes. Ok (record { name = last_part_of name; bytes = bytes })) file e in
+      let one = after_ok (found_bytes_or_missing place (read n name)) (λ bytes. Ok (record { name = last_part_of name; bytes = bytes })) file e in
       let gives = one.gives in
       let same : record { name = last_part_of name; bytes = one.x } ≡ file = cc (gives) in
       ap (λ (f : Source). f.name) (sym same)
@@ -104,16 +104,16 @@ module _ (place : ℕ) (read : Reads) where
   names_are (name ∷ names) [] h = absurd h
   names_are (name ∷ names) (file ∷ files) h = λ k. h.0 k ∷ (names_are names files h.1) k
 
-  folder_named : (n : ℕ) (folder : FolderListing) (source : SourceFolder) → folder_at place read n folder ≡ Ok source → IsFolderNamed folder source
+  folder_named : (n : ℕ) (folder : FolderListing) (source : SourceFolder) → source_folder_read_at place read n folder ≡ Ok source → IsFolderNamed folder source
   folder_named n folder source e =
       let one = after_ok (sources_from place read n folder.files) (λ files. Ok (record { name = folder.name; files = files })) source e in
       let gives = one.gives in
       let same : record { name = folder.name; files = one.x } ≡ source = cc (gives) in
-      subst (IsFolderNamed folder) same (refl, names_are folder.files one.x (each_read IsFileNamed (λ name. 1) (file_at place read) file_named n folder.files one.x one.is))
+      subst (IsFolderNamed folder) same (refl, names_are folder.files one.x (each_read IsFileNamed (λ name. 1) (source_file_read_at place read) file_named n folder.files one.x one.is))
 
   pub folders_named : (n : ℕ) (folders : List FolderListing) (sources : List SourceFolder) → source_folders_from place read n folders ≡ Ok sources → AllOf IsFolderNamed folders sources
   folders_named n folders sources e =
-      each_read IsFolderNamed (λ (folder : FolderListing). length folder.files) (folder_at place read) folder_named n folders sources e
+      each_read IsFolderNamed (λ (folder : FolderListing). length folder.files) (source_folder_read_at place read) folder_named n folders sources e
 
 -- ---- in the package's value
 
@@ -128,45 +128,45 @@ file_names_stand : (files : List Source) → map name_of (map value_of_file file
 file_names_stand [] = refl
 file_names_stand (file ∷ files) = λ k. name_stands file.name (kind_of_file file.bytes) k ∷ file_names_stand files k
 
-pub listed_names : (dir : List ℕ) (names fs : List (List ℕ)) (sources : List SourceFolder) → AllOf IsFolderNamed (map (listing_of dir names) fs) sources → names_of sources ≡ fs
+pub listed_names : (dir : List ℕ) (names fs : List (List ℕ)) (sources : List SourceFolder) → AllOf IsFolderNamed (map (folder_listing_of dir names) fs) sources → names_of sources ≡ fs
 listed_names dir names [] [] h = refl
 listed_names dir names [] (s ∷ ss) h = absurd h
 listed_names dir names (f ∷ fs) [] h = absurd h
 listed_names dir names (f ∷ fs) (s ∷ ss) h = λ k. h.0.0 k ∷ listed_names dir names fs ss h.1 k
 
 abbrev HasFilesRising : Plain → Type 0
-HasFilesRising folder = IsRising (map name_of (files_in folder))
+HasFilesRising folder = AreSortedDistinctNames (map name_of (files_in folder))
 
-files_rise : (dir : List ℕ) (names fs : List (List ℕ)) (sources : List SourceFolder) → AreListed dir names → Rises names → AllOf IsFolderNamed (map (listing_of dir names) fs) sources → All HasFilesRising (map value_of_folder sources)
+files_rise : (dir : List ℕ) (names fs : List (List ℕ)) (sources : List SourceFolder) → AreListed dir names → Rises names → AllOf IsFolderNamed (map (folder_listing_of dir names) fs) sources → All HasFilesRising (map value_of_folder sources)
 files_rise dir names [] [] all rises h = All-nil HasFilesRising
 files_rise dir names [] (s ∷ ss) all rises h = absurd h
 files_rise dir names (f ∷ fs) [] all rises h = absurd h
 files_rise dir names (f ∷ fs) (s ∷ ss) all rises h =
     All-cons HasFilesRising (value_of_folder s) (map value_of_folder ss)
-    (subst IsRising (sym (ap (map name_of) (files_stand s) ∙ (file_names_stand s.files ∙ h.0.1))) (pairs_rise _ (parts_rise dir f names all rises)))
+    (subst AreSortedDistinctNames (sym (ap (map name_of) (files_stand s) ∙ (file_names_stand s.files ∙ h.0.1))) (pairs_rise _ (parts_rise dir f names all rises)))
     (files_rise dir names fs ss all rises h.1)
 
 abbrev AreInOrder : List SourceFolder → Type 0
-AreInOrder sources = IsRising (names_of sources) × All HasFilesRising (map value_of_folder sources)
+AreInOrder sources = AreSortedDistinctNames (names_of sources) × All HasFilesRising (map value_of_folder sources)
 
 sources_in_order : (read : Reads) (n : ℕ) (values : List OptionValue) (names : List (List ℕ)) (sources : List SourceFolder) → AreNamesBelowFirst values names → folders_below read n values names ≡ Ok sources → AreInOrder sources
-unfolding folders_of
+unfolding folder_listings_of
 sources_in_order read n [] names sources below e =
     let same : [] ≡ sources = cc (e) in
     subst AreInOrder same (pairs_rise [] tt, All-nil HasFilesRising)
 sources_in_order read n (v ∷ vs) names sources below e =
-    let dir : List ℕ = without_dot v.text in
+    let dir : List ℕ = without_dot_slash v.text in
     let fs : List (List ℕ) = all_folders_above (map (path_below dir) names) in
-    let are = folders_named v.place read n (map (listing_of dir names) fs) sources e in (
-      subst IsRising (sym (listed_names dir names fs sources are)) (pairs_rise fs (in_order_rises (flat_map folders_above (map (path_below dir) names)))),
+    let are = folders_named v.place read n (map (folder_listing_of dir names) fs) sources e in (
+      subst AreSortedDistinctNames (sym (listed_names dir names fs sources are)) (pairs_rise fs (in_order_rises (flat_map folders_above (map (path_below dir) names)))),
       files_rise dir names fs sources (are_listed dir names below.each) (rises_from_pairs names below.rising) are,
     )
 
-pub in_byte_order : (command : CommandLine) (names : List (List ℕ)) (read : Reads) (pkg : Plain) → AreNamesBelowFirst (values_with FILES command.values) names → IsMadeFrom command names read pkg → IsInByteOrder pkg
+pub in_byte_order : (command : CommandLine) (names : List (List ℕ)) (read : Reads) (pkg : Plain) → AreNamesBelowFirst (values_of_letter FILES command.values) names → IsMadeFrom command names read pkg → IsInByteOrder pkg
 in_byte_order command names read pkg below m =
     let are = folders_are command names read pkg m in
-    let order = sources_in_order read (length m.scripts) (values_with FILES command.values) names m.sources below m.sources_read in
+    let order = sources_in_order read (length m.scripts) (values_of_letter FILES command.values) names m.sources below m.sources_read in
     record {
-      folders = subst IsRising (sym (ap (map name_of) are ∙ folder_names_stand m.sources)) order.0;
+      folders = subst AreSortedDistinctNames (sym (ap (map name_of) are ∙ folder_names_stand m.sources)) order.0;
       files = subst (All HasFilesRising) (sym are) order.1;
     }

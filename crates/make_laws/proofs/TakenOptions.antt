@@ -12,7 +12,7 @@ use Rattle.dep_core.specs.Spelling.{SpellsDependency}
 use Rattle.make_core.specs.make_info.declared.field.Field.{Field}
 use Rattle.make_core.specs.make_info.declared.field.Field.TheVariants as Fields
 use Rattle.make_core.specs.make_info.Fields.{FieldValue, field_word, kind_of_field, may_repeat, values_by_kind}
-use Rattle.make_core.specs.make_info.FieldTexts.{FieldText, field_text_in, is_for, is_same, is_text_for}
+use Rattle.make_core.specs.make_info.FieldTexts.{FieldText, field_text_in, is_option_for_field, is_same_field, is_text_for_field}
 use Rattle.make_core.specs.make_info.Information.{items_of_text, offends, repeats_field, with_values}
 use Rattle.make_core.proofs.make_info.Reading.{same_field}
 use Rattle.make_laws.specs.OptionGrammar.{IsGivenFor, IsTakenOption, is_list_field, option_text}
@@ -41,30 +41,30 @@ list_is Fields.Tags = refl
 
 -- ---- whether an option is for a field
 
-for_is : (f : Field) (v : OptionValue) → is_for f v ≡ true → IsGivenFor f v
+for_is : (f : Field) (v : OptionValue) → is_option_for_field f v ≡ true → IsGivenFor f v
 for_is f v e = by_text (field_text_in v.text) refl e
   where
-    by_text : (o : Option FieldText) → field_text_in v.text ≡ o → is_text_for f o ≡ true → IsGivenFor f v
+    by_text : (o : Option FieldText) → field_text_in v.text ≡ o → is_text_for_field f o ≡ true → IsGivenFor f v
     by_text None is e = absurd (cc (e))
     by_text (Some g) is e = (g.value, text_is v.text g is ∙ ap (λ (h : Field). option_text h g.value) (same_field g.field f e))
 
-for_given : (f : Field) (v : OptionValue) → IsGivenFor f v → is_for f v ≡ true
+for_given : (f : Field) (v : OptionValue) → IsGivenFor f v → is_option_for_field f v ≡ true
 for_given f v (value, e) =
-    ap (is_text_for f) (ap field_text_in e ∙ given f value) ∙ (bytes_eq-Decides (field_word f) (field_word f)).1 refl
+    ap (is_text_for_field f) (ap field_text_in e ∙ given f value) ∙ (bytes_eq-Decides (field_word f) (field_word f)).1 refl
 
-none_before : (f : Field) (before : List OptionValue) → list_any (is_for f) before ≡ false → (other : OptionValue) → IsIn other before → IsGivenFor f other → ⊥
+none_before : (f : Field) (before : List OptionValue) → list_any (is_option_for_field f) before ≡ false → (other : OptionValue) → IsIn other before → IsGivenFor f other → ⊥
 none_before f [] e other h g = h
 none_before f (v ∷ vs) e other (inl is) g =
-    let no = (or_parts (is_for f v) (list_any (is_for f) vs) e).0 in
-    let yes = ap (is_for f) (sym is) ∙ for_given f other g in
+    let no = (or_parts (is_option_for_field f v) (list_any (is_option_for_field f) vs) e).0 in
+    let yes = ap (is_option_for_field f) (sym is) ∙ for_given f other g in
     cc (no, yes)
-none_before f (v ∷ vs) e other (inr h) g = none_before f vs (or_parts (is_for f v) (list_any (is_for f) vs) e).1 other h g
+none_before f (v ∷ vs) e other (inr h) g = none_before f vs (or_parts (is_option_for_field f v) (list_any (is_option_for_field f) vs) e).1 other h g
 
-none_given : (f : Field) (before : List OptionValue) → ((other : OptionValue) → IsIn other before → IsGivenFor f other → ⊥) → list_any (is_for f) before ≡ false
+none_given : (f : Field) (before : List OptionValue) → ((other : OptionValue) → IsIn other before → IsGivenFor f other → ⊥) → list_any (is_option_for_field f) before ≡ false
 none_given f [] none = refl
-none_given f (v ∷ vs) none = by_test (is_for f v) refl (none_given f vs (λ o h g. none o (inr h) g))
+none_given f (v ∷ vs) none = by_test (is_option_for_field f v) refl (none_given f vs (λ o h g. none o (inr h) g))
   where
-    by_test : (b : Bool) → is_for f v ≡ b → list_any (is_for f) vs ≡ false → (b || list_any (is_for f) vs) ≡ false
+    by_test : (b : Bool) → is_option_for_field f v ≡ b → list_any (is_option_for_field f) vs ≡ false → (b || list_any (is_option_for_field f) vs) ≡ false
     by_test true e further = absurd (none v (inl refl) (for_is f v e))
     by_test false e further = further
 
@@ -72,7 +72,7 @@ none_given f (v ∷ vs) none = by_test (is_for f v) refl (none_given f vs (λ o 
 
 abbrev offends_given : Bool → List OptionValue → Option FieldText → Bool
 offends_given too_long before o =
-    not (is_some (option_and_then items_of_text o)) || (repeats_field before o || (too_long && is_text_for Fields.Version o))
+    not (is_some (option_and_then items_of_text o)) || (repeats_field before o || (too_long && is_text_for_field Fields.Version o))
 
 some_said : (f : Field) (o : Option (List FieldValue)) → not (is_some (with_values [] f o)) ≡ false → (said : List FieldValue) × (o ≡ Some said)
 some_said f None e = absurd (cc (e))
@@ -89,17 +89,17 @@ any_single : (l a : Bool) → (l ≡ false → a ≡ false) → (not l && a) ≡
 any_single true a h = refl
 any_single false a h = h refl
 
-version_apart : (t : Bool) (f : Field) → (t && is_same f Fields.Version) ≡ false → t ≡ true → f ≢ Fields.Version
+version_apart : (t : Bool) (f : Field) → (t && is_same_field f Fields.Version) ≡ false → t ≡ true → f ≢ Fields.Version
 version_apart true f e is same =
-    let yes : is_same f Fields.Version ≡ true = ap (λ (g : Field). is_same g Fields.Version) same in
+    let yes : is_same_field f Fields.Version ≡ true = ap (λ (g : Field). is_same_field g Fields.Version) same in
     cc (e, yes)
 version_apart false f e is same = absurd (cc (is))
 
-apart_version : (t : Bool) (f : Field) → (t ≡ true → f ≢ Fields.Version) → (t && is_same f Fields.Version) ≡ false
+apart_version : (t : Bool) (f : Field) → (t ≡ true → f ≢ Fields.Version) → (t && is_same_field f Fields.Version) ≡ false
 apart_version false f h = refl
-apart_version true f h = by_test (is_same f Fields.Version) refl
+apart_version true f h = by_test (is_same_field f Fields.Version) refl
   where
-    by_test : (b : Bool) → is_same f Fields.Version ≡ b → b ≡ false
+    by_test : (b : Bool) → is_same_field f Fields.Version ≡ b → b ≡ false
     by_test true e = absurd (h refl (same_field f Fields.Version e))
     by_test false e = refl
 
@@ -111,8 +111,8 @@ module _ (spelled : (t : List ℕ) (d : Dependency) → dependency_of t ≡ Some
   taken_by too_long before v None is e = absurd (cc (e))
   taken_by too_long before v (Some g) is e =
       let f : Field = g.field in
-      let one = or_parts (not (is_some (items_of_text g))) (repeats_field before (Some g) || (too_long && is_same f Fields.Version)) e in
-      let two = or_parts (repeats_field before (Some g)) (too_long && is_same f Fields.Version) one.1 in
+      let one = or_parts (not (is_some (items_of_text g))) (repeats_field before (Some g) || (too_long && is_same_field f Fields.Version)) e in
+      let two = or_parts (repeats_field before (Some g)) (too_long && is_same_field f Fields.Version) one.1 in
       let said = some_said f (values_by_kind (kind_of_field f) g.value) one.0 in
       record {
         field = f;
@@ -120,7 +120,7 @@ module _ (spelled : (t : List ℕ) (d : Dependency) → dependency_of t ≡ Some
         given = text_is v.text g is;
         said = said.0;
         allowed = says_to spelled read f g.value said.0 said.1;
-        first = λ single other h for. none_before f before (single_any (may_repeat (kind_of_field f)) (list_any (is_for f) before) two.0 (list_is f ∙ single)) other h for;
+        first = λ single other h for. none_before f before (single_any (may_repeat (kind_of_field f)) (list_any (is_option_for_field f) before) two.0 (list_is f ∙ single)) other h for;
         short = version_apart too_long f two.1;
       }
 
@@ -133,7 +133,7 @@ module _ (spelled : (t : List ℕ) (d : Dependency) → dependency_of t ≡ Some
       let g : Option FieldText = Some (record { field = f; value = t.value }) in
       let is : field_text_in v.text ≡ g = ap field_text_in t.given ∙ given f t.value in
       ap (offends_given too_long before) is
-      ∙ all_false (not (is_some (with_values [] f (values_by_kind (kind_of_field f) t.value)))) (not (may_repeat (kind_of_field f)) && list_any (is_for f) before) (too_long && is_same f Fields.Version)
+      ∙ all_false (not (is_some (with_values [] f (values_by_kind (kind_of_field f) t.value)))) (not (may_repeat (kind_of_field f)) && list_any (is_option_for_field f) before) (too_long && is_same_field f Fields.Version)
       (said_some f (values_by_kind (kind_of_field f) t.value) t.said (says_from spelled read f t.value t.said t.allowed))
-      (any_single (may_repeat (kind_of_field f)) (list_any (is_for f) before) (λ single. none_given f before (t.first (sym (list_is f) ∙ single))))
+      (any_single (may_repeat (kind_of_field f)) (list_any (is_option_for_field f) before) (λ single. none_given f before (t.first (sym (list_is f) ∙ single))))
       (apart_version too_long f t.short)

@@ -16,13 +16,13 @@ use Rattle.dep_core.specs.Spelling.{SpellsDependency}
 use Rattle.make_core.specs.make_info.declared.field.Field.{Field}
 use Rattle.make_core.specs.make_info.declared.field.Field.TheVariants as Fields
 use Rattle.make_core.specs.make_info.Fields.{FieldValue, text, number, need, field_word, kind_of_field, values_by_kind}
-use Rattle.make_core.specs.make_info.FieldTexts.{FieldText, field_text_in, is_same, is_too_long, values_of_info}
-use Rattle.make_core.specs.make_info.Information.{FieldWithValue, all_items, first_offence, info_item, information_fields, information_of, information_value, is_item_for, item_value, items_of_option, items_of_text, lacks_name_or_version, number_in, offends, plain_value, plains_for, replaces_priority, unless_offence, value_of_list, value_of_single, with_values}
+use Rattle.make_core.specs.make_info.FieldTexts.{FieldText, field_text_in, is_same_field, is_default_output_too_long, values_of_info}
+use Rattle.make_core.specs.make_info.Information.{FieldWithValue, items_of_valid_options, first_offence, field_with_value, information_fields, information_of, information_value, is_item_for, item_value, items_of_option, items_of_text, lacks_name_or_version, number_in, offends, plain_value, plain_values_of_field, replaces_priority, unless_offence, value_of_list, value_of_single, with_values}
 use Rattle.make_core.specs.make_info.Values.{number_value}
 use Rattle.make_core.proofs.make_info.Reading.{same_field}
 use Rattle.make_laws.specs.NamedFields.{field_named}
-use Rattle.make_laws.specs.OptionGrammar.{IsGivenFor, SaysOfField, option_text}
-use Rattle.make_laws.specs.SaidOfFields.{SayOfField, SaysOfOne, HasAllValues, HasFirstValue, HasValuesOfField}
+use Rattle.make_laws.specs.OptionGrammar.{IsGivenFor, FieldTextGivesValues, option_text}
+use Rattle.make_laws.specs.SaidOfFields.{OptionsGiveFieldValues, OptionGivesFieldValues, HasAllValues, HasFirstValue, HasValuesOfField}
 use Rattle.make_laws.proofs.FieldValues.{says_to}
 use Rattle.make_laws.proofs.OptionTexts.{given, text_is}
 
@@ -41,35 +41,35 @@ values_append f (x ∷ xs) ys = by_test (is_item_for f x) (values_append f xs ys
     by_test true e = ap (λ (l : List FieldValue). x.value ∷ l) e
     by_test false e = e
 
-own_values : (f g : Field) (said : List FieldValue) → is_same g f ≡ true → values_for f (map (info_item g) said) ≡ said
+own_values : (f g : Field) (said : List FieldValue) → is_same_field g f ≡ true → values_for f (map (field_with_value g) said) ≡ said
 own_values f g [] e = refl
 own_values f g (x ∷ xs) e =
-    ap (λ (b : Bool). map (λ (i : FieldWithValue). i.value) (cond b (info_item g x ∷ filter (is_item_for f) (map (info_item g) xs)) (filter (is_item_for f) (map (info_item g) xs)))) e
+    ap (λ (b : Bool). map (λ (i : FieldWithValue). i.value) (cond b (field_with_value g x ∷ filter (is_item_for f) (map (field_with_value g) xs)) (filter (is_item_for f) (map (field_with_value g) xs)))) e
     ∙ ap (λ (l : List FieldValue). x ∷ l) (own_values f g xs e)
 
-other_values : (f g : Field) (said : List FieldValue) → is_same g f ≡ false → values_for f (map (info_item g) said) ≡ []
+other_values : (f g : Field) (said : List FieldValue) → is_same_field g f ≡ false → values_for f (map (field_with_value g) said) ≡ []
 other_values f g [] e = refl
 other_values f g (x ∷ xs) e =
-    ap (λ (b : Bool). map (λ (i : FieldWithValue). i.value) (cond b (info_item g x ∷ filter (is_item_for f) (map (info_item g) xs)) (filter (is_item_for f) (map (info_item g) xs)))) e
+    ap (λ (b : Bool). map (λ (i : FieldWithValue). i.value) (cond b (field_with_value g x ∷ filter (is_item_for f) (map (field_with_value g) xs)) (filter (is_item_for f) (map (field_with_value g) xs)))) e
     ∙ other_values f g xs e
 
 -- ---- what the options say
 
 module _ (spelled : (t : List ℕ) (d : Dependency) → dependency_of t ≡ Some d → SpellsDependency t d) (read : (t : List ℕ) (d : Dependency) → SpellsDependency t d → dependency_of t ≡ Some d) where
   said_by_text : (f : Field) (v : OptionValue) (g : FieldText) (o : Option (List FieldValue)) (items : List FieldWithValue) → field_text_in v.text ≡ Some g → values_by_kind (kind_of_field g.field) g.value ≡ o
-      → with_values [] g.field o ≡ Some items → SaysOfOne f v (values_for f items)
+      → with_values [] g.field o ≡ Some items → OptionGivesFieldValues f v (values_for f items)
   said_by_text f v g None items is kind e = absurd (cc (e))
-  said_by_text f v g (Some said) items is kind e = by_field (is_same g.field f) refl
+  said_by_text f v g (Some said) items is kind e = by_field (is_same_field g.field f) refl
     where
-      by_field : (b : Bool) → is_same g.field f ≡ b → SaysOfOne f v (values_for f items)
+      by_field : (b : Bool) → is_same_field g.field f ≡ b → OptionGivesFieldValues f v (values_for f items)
       by_field true s =
-          let same : map (info_item g.field) said ≡ items = cc (e) in
+          let same : map (field_with_value g.field) said ≡ items = cc (e) in
           let field : g.field ≡ f = same_field g.field f s in
-          let says : SaysOfField f g.value said = subst (λ (h : Field). SaysOfField h g.value said) field (says_to spelled read g.field g.value said kind) in
+          let says : FieldTextGivesValues f g.value said = subst (λ (h : Field). FieldTextGivesValues h g.value said) field (says_to spelled read g.field g.value said kind) in
           let all : said ≡ values_for f items = sym (own_values f g.field said s) ∙ ap (values_for f) same in
-          inl (g.value, text_is v.text g is ∙ ap (λ (h : Field). option_text h g.value) field, subst (SaysOfField f g.value) all says)
+          inl (g.value, text_is v.text g is ∙ ap (λ (h : Field). option_text h g.value) field, subst (FieldTextGivesValues f g.value) all says)
       by_field false s =
-          let same : map (info_item g.field) said ≡ items = cc (e) in
+          let same : map (field_with_value g.field) said ≡ items = cc (e) in
           inr (other, ap (values_for f) (sym same) ∙ other_values f g.field said s)
         where
           some_field : (a b : FieldText) → Some a ≡ Some b → a.field ≡ b.field
@@ -79,10 +79,10 @@ module _ (spelled : (t : List ℕ) (d : Dependency) → dependency_of t ≡ Some
           other (value, t) =
               let again : Some g ≡ Some (record { field = f; value = value }) = sym is ∙ (ap field_text_in t ∙ given f value) in
               let field : g.field ≡ f = some_field g (record { field = f; value = value }) again in
-              let yes : is_same g.field f ≡ true = ap (λ (h : Field). is_same h f) field ∙ (bytes_eq-Decides (field_word f) (field_word f)).1 refl in
+              let yes : is_same_field g.field f ≡ true = ap (λ (h : Field). is_same_field h f) field ∙ (bytes_eq-Decides (field_word f) (field_word f)).1 refl in
               cc (s, yes)
 
-  said_by_option : (f : Field) (v : OptionValue) (o : Option FieldText) (items : List FieldWithValue) → field_text_in v.text ≡ o → option_and_then items_of_text o ≡ Some items → SaysOfOne f v (values_for f items)
+  said_by_option : (f : Field) (v : OptionValue) (o : Option FieldText) (items : List FieldWithValue) → field_text_in v.text ≡ o → option_and_then items_of_text o ≡ Some items → OptionGivesFieldValues f v (values_for f items)
   said_by_option f v None items is e = absurd (cc (e))
   said_by_option f v (Some g) items is e = said_by_text f v g (values_by_kind (kind_of_field g.field) g.value) items is refl e
 
@@ -94,34 +94,34 @@ module _ (spelled : (t : List ℕ) (d : Dependency) → dependency_of t ≡ Some
   allowed_first true b e = refl
   allowed_first false b e = absurd (cc (e))
 
-  pub say_of_field : (f : Field) (too_long : Bool) (before told : List OptionValue) → first_offence too_long before told ≡ None → SayOfField f told (values_for f (all_items told))
+  pub say_of_field : (f : Field) (too_long : Bool) (before told : List OptionValue) → first_offence too_long before told ≡ None → OptionsGiveFieldValues f told (values_for f (items_of_valid_options told))
   say_of_field f too_long before [] e = refl
   say_of_field f too_long before (v ∷ vs) e = by_offence (offends too_long before v) refl e (say_of_field f too_long (before ++ v ∷ []) vs)
     where
       by_offence : (b : Bool) → offends too_long before v ≡ b → (if b then Some v.place else first_offence too_long (before ++ v ∷ []) vs) ≡ None
-          → (first_offence too_long (before ++ v ∷ []) vs ≡ None → SayOfField f vs (values_for f (all_items vs))) → SayOfField f (v ∷ vs) (values_for f (all_items (v ∷ vs)))
+          → (first_offence too_long (before ++ v ∷ []) vs ≡ None → OptionsGiveFieldValues f vs (values_for f (items_of_valid_options vs))) → OptionsGiveFieldValues f (v ∷ vs) (values_for f (items_of_valid_options (v ∷ vs)))
       by_offence true o e further = absurd (cc (e))
       by_offence false o e further =
           let one = some_items (items_of_option v) (allowed_first (is_some (items_of_option v)) _ o) in
           let here : unwrap_or (items_of_option v) [] ≡ one.0 = ap (λ (x : Option (List FieldWithValue)). unwrap_or x []) one.1 in
-          let whole : all_items (v ∷ vs) ≡ one.0 ++ all_items vs = flat_map-cons (λ (u : OptionValue). unwrap_or (items_of_option u) []) v vs ∙ ap (λ (l : List FieldWithValue). l ++ all_items vs) here in
-          (values_for f one.0, values_for f (all_items vs), said_by_option f v (field_text_in v.text) one.0 refl one.1, further e, ap (values_for f) whole ∙ values_append f one.0 (all_items vs))
+          let whole : items_of_valid_options (v ∷ vs) ≡ one.0 ++ items_of_valid_options vs = flat_map-cons (λ (u : OptionValue). unwrap_or (items_of_option u) []) v vs ∙ ap (λ (l : List FieldWithValue). l ++ items_of_valid_options vs) here in
+          (values_for f one.0, values_for f (items_of_valid_options vs), said_by_option f v (field_text_in v.text) one.0 refl one.1, further e, ap (values_for f) whole ∙ values_append f one.0 (items_of_valid_options vs))
 
 -- ---- how an information tells it
 
-told_list : (f : Field) (items : List FieldWithValue) → list_of (plains_for f items) ≡ map plain_value (values_for f items)
+told_list : (f : Field) (items : List FieldWithValue) → list_of (plain_values_of_field f items) ≡ map plain_value (values_for f items)
 told_list f [] = refl
 told_list f (x ∷ xs) = by_test (is_item_for f x) (told_list f xs)
   where
-    by_test : (b : Bool) → list_of (plains_for f xs) ≡ map plain_value (values_for f xs)
-        → list_of (if b then more (plain_value x.value) (plains_for f xs) else plains_for f xs)
+    by_test : (b : Bool) → list_of (plain_values_of_field f xs) ≡ map plain_value (values_for f xs)
+        → list_of (if b then more (plain_value x.value) (plain_values_of_field f xs) else plain_values_of_field f xs)
         ≡ map plain_value (map (λ (i : FieldWithValue). i.value) (cond b (x ∷ filter (is_item_for f) xs) (filter (is_item_for f) xs)))
     by_test true e = ap (λ (l : List Plain). plain_value x.value ∷ l) e
     by_test false e = e
 
 tells_all : (f : Field) (items : List FieldWithValue) (v : Plain) → v ≡ value_of_list f items → HasAllValues (values_for f items) v
 tells_all f items v e =
-    ap (λ (u : Plain). list_of (entries_in u)) e ∙ (ap list_of (entries_arr (plains_for f items)) ∙ told_list f items)
+    ap (λ (u : Plain). list_of (entries_in u)) e ∙ (ap list_of (entries_arr (plain_values_of_field f items)) ∙ told_list f items)
 
 told_first : (f : Field) (items : List FieldWithValue) → HasFirstValue (values_for f items) (item_value (find (is_item_for f) items))
 told_first f [] = refl
@@ -174,11 +174,11 @@ numbers_append (text bytes ∷ xs) ys a b = absurd a
 numbers_append (number n ∷ xs) ys a b = numbers_append xs ys a b
 numbers_append (need d ∷ xs) ys a b = absurd a
 
-one_number : (v : OptionValue) (said : List FieldValue) → SaysOfOne Fields.ReplacesPriority v said → AreNumbers said
+one_number : (v : OptionValue) (said : List FieldValue) → OptionGivesFieldValues Fields.ReplacesPriority v said → AreNumbers said
 one_number v said (inl (value, t, (n, spells, e))) = subst AreNumbers (sym e) tt
 one_number v said (inr (other, e)) = subst AreNumbers (sym e) tt
 
-all_numbers : (told : List OptionValue) (said : List FieldValue) → SayOfField Fields.ReplacesPriority told said → AreNumbers said
+all_numbers : (told : List OptionValue) (said : List FieldValue) → OptionsGiveFieldValues Fields.ReplacesPriority told said → AreNumbers said
 all_numbers [] said e = subst AreNumbers (sym e) tt
 all_numbers (v ∷ vs) said (here, further, one, rest, e) =
     subst AreNumbers (sym e) (numbers_append here further (one_number v here one) (all_numbers vs further rest))
@@ -198,7 +198,7 @@ first_number f (x ∷ xs) all = by_test (is_item_for f x) all (first_number f xs
     by_test true a further = own x.value (values_for f xs) a
     by_test false a further = further a
 
-pub told_priority : (told : List OptionValue) (items : List FieldWithValue) → SayOfField Fields.ReplacesPriority told (values_for Fields.ReplacesPriority items) → (v : Plain) → v ≡ number_value (replaces_priority items)
+pub told_priority : (told : List OptionValue) (items : List FieldWithValue) → OptionsGiveFieldValues Fields.ReplacesPriority told (values_for Fields.ReplacesPriority items) → (v : Plain) → v ≡ number_value (replaces_priority items)
     → HasValuesOfField Fields.ReplacesPriority (values_for Fields.ReplacesPriority items) v
 told_priority told items say v e =
     tells_first Fields.ReplacesPriority items v (e ∙ first_number Fields.ReplacesPriority items (all_numbers told (values_for Fields.ReplacesPriority items) say))
@@ -207,15 +207,15 @@ told_priority told items say v e =
 
 pub record AreItemsOf (too_long : Bool) (told : List OptionValue) (items : List FieldWithValue) : Type 0 where
   pub none : first_offence too_long [] told ≡ None
-  pub all : items ≡ all_items told
+  pub all : items ≡ items_of_valid_options told
 
 items_by : (too_long : Bool) (told : List OptionValue) (behind : ℕ) (items : List FieldWithValue) (o : Option ℕ) (lacks : Bool) → first_offence too_long [] told ≡ o
-    → unless_offence o (if lacks then Err behind else Ok (all_items told)) ≡ Ok items → AreItemsOf too_long told items
+    → unless_offence o (if lacks then Err behind else Ok (items_of_valid_options told)) ≡ Ok items → AreItemsOf too_long told items
 items_by too_long told behind items (Some place) lacks is e = absurd (cc (e))
 items_by too_long told behind items None true is e = absurd (cc (e))
-items_by too_long told behind items None false is e = let same : all_items told ≡ items = cc (e) in record { none = is; all = sym same }
+items_by too_long told behind items None false is e = let same : items_of_valid_options told ≡ items = cc (e) in record { none = is; all = sym same }
 
-pub items_of : (values : List OptionValue) (behind : ℕ) (items : List FieldWithValue) → information_of values behind ≡ Ok items → AreItemsOf (is_too_long values) (values_of_info values) items
+pub items_of : (values : List OptionValue) (behind : ℕ) (items : List FieldWithValue) → information_of values behind ≡ Ok items → AreItemsOf (is_default_output_too_long values) (values_of_info values) items
 unfolding information_of
 items_of values behind items e =
-    items_by (is_too_long values) (values_of_info values) behind items (first_offence (is_too_long values) [] (values_of_info values)) (lacks_name_or_version (values_of_info values)) refl e
+    items_by (is_default_output_too_long values) (values_of_info values) behind items (first_offence (is_default_output_too_long values) [] (values_of_info values)) (lacks_name_or_version (values_of_info values)) refl e

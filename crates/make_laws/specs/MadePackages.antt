@@ -11,32 +11,32 @@ use Rattle.adb_view.specs.Values.{int_in, text_in}
 use Rattle.adb_view.specs.declared.tables.Which.TheVariants.{Dir, File, Package, PkgInfo}
 use Rattle.adb_view.specs.Plain.{Plain}
 use Rattle.base_core.specs.Files.{IsFolderOf}
-use Rattle.base_core.specs.Listed.{IsRising}
+use Rattle.base_core.specs.Listed.{AreSortedDistinctNames}
 use Rattle.command_core.specs.Command.{CommandLine}
 use Rattle.command_core.specs.declared.values.OptionValue.{OptionValue}
 use Rattle.make_core.specs.FilesBelow.{name_below}
 use Rattle.make_core.specs.make_info.Reads.{Reads}
 use Rattle.make_core.specs.make_package.Making.{made_package}
-use Rattle.make_core.specs.package_files.Sources.{AreNamesBelowFirst, values_with}
+use Rattle.make_core.specs.package_files.Sources.{AreNamesBelowFirst, values_of_letter}
 use Rattle.make_laws.specs.NamedFields.{IsAccessOfRoot, entries_named, field_named}
 
 -- `mkpkg` makes these bytes, fewer than 2^64, from names below the given folder
 pub record IsMadePackage (command : CommandLine) (names : List (List ℕ)) (read : Reads)
     (bytes : List ℕ) : Type 0 where
-  pub below : AreNamesBelowFirst (values_with FILES command.values) names
+  pub below : AreNamesBelowFirst (values_of_letter FILES command.values) names
   pub made : made_package command names read ≡ Ok bytes
   pub short : length bytes < 2 ^ 64
 
 -- the value of the package in a container
-abbrev pub contained_package : List ℕ → Plain
-contained_package bytes = root_value Package (payload_in bytes)
+abbrev pub package_in_container : List ℕ → Plain
+package_in_container bytes = root_value Package (payload_in bytes)
 
 -- ---- folders and files
 
 -- the folders of a package are in byte order of their names, each once, and so are the files of each
 pub record IsInByteOrder (pkg : Plain) : Type 0 where
-  pub folders : IsRising (map name_of (folders_in pkg))
-  pub files : All (λ folder. IsRising (map name_of (files_in folder))) (folders_in pkg)
+  pub folders : AreSortedDistinctNames (map name_of (folders_in pkg))
+  pub files : All (λ folder. AreSortedDistinctNames (map name_of (files_in folder))) (folders_in pkg)
 
 -- the folder is above the path: it is the root, or the path is below it, at any depth
 abbrev pub IsAbovePath : List ℕ → List ℕ → Type 0
@@ -67,16 +67,16 @@ abbrev pub MAY_ENTER : ℕ
 MAY_ENTER = 1
 
 -- the mode from the rights of the user, the group and all others, each an octal digit
-abbrev pub mode_of : ℕ → ℕ → ℕ → ℕ
-mode_of user group others = 64 * user + 8 * group + others
+abbrev pub mode_of_rights : ℕ → ℕ → ℕ → ℕ
+mode_of_rights user group others = 64 * user + 8 * group + others
 
 -- the mode of a file that all may read and its user may write: octal 644
 abbrev pub readable : ℕ
-readable = mode_of (MAY_READ + MAY_WRITE) MAY_READ MAY_READ
+readable = mode_of_rights (MAY_READ + MAY_WRITE) MAY_READ MAY_READ
 
 -- the mode of a folder that all may read and enter, and its user may write: octal 755
 abbrev pub enterable : ℕ
-enterable = mode_of (MAY_READ + MAY_WRITE + MAY_ENTER) (MAY_READ + MAY_ENTER) (MAY_READ + MAY_ENTER)
+enterable = mode_of_rights (MAY_READ + MAY_WRITE + MAY_ENTER) (MAY_READ + MAY_ENTER) (MAY_READ + MAY_ENTER)
 
 -- the access list of a file says that all may read it and root may write it
 abbrev pub IsReadableFile : Plain → Type 0

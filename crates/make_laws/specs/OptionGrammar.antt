@@ -40,14 +40,14 @@ abbrev pub spaced_parts : List ℕ → List (List ℕ)
 spaced_parts value = filter (λ part. not (length part == 0)) (slice_split (λ b. b == 32) value)
 
 -- each part encodes a dependency without tag, in their order
-abbrev pub SpellNeeds : List (List ℕ) → List FieldValue → Type 0
-SpellNeeds [] [] = Unit {0}
-SpellNeeds [] (value ∷ values) = ⊥
-SpellNeeds (part ∷ parts) [] = ⊥
-SpellNeeds (part ∷ parts) (text bytes ∷ values) = ⊥
-SpellNeeds (part ∷ parts) (number n ∷ values) = ⊥
-SpellNeeds (part ∷ parts) (need d ∷ values) =
-    (SpellsDependency part d × (d.tag ≡ None)) × SpellNeeds parts values
+abbrev pub SpellDependencies : List (List ℕ) → List FieldValue → Type 0
+SpellDependencies [] [] = Unit {0}
+SpellDependencies [] (value ∷ values) = ⊥
+SpellDependencies (part ∷ parts) [] = ⊥
+SpellDependencies (part ∷ parts) (text bytes ∷ values) = ⊥
+SpellDependencies (part ∷ parts) (number n ∷ values) = ⊥
+SpellDependencies (part ∷ parts) (need d ∷ values) =
+    (SpellsDependency part d × (d.tag ≡ None)) × SpellDependencies parts values
 
 -- ---- field by field
 
@@ -61,29 +61,29 @@ SaysNumber value said = (n : ℕ) × SpellsNumber value n × (said ≡ number n 
 
 -- a value of a list of dependencies means a dependency for each part
 abbrev pub SaysNeeds : List ℕ → List FieldValue → Type 0
-SaysNeeds value said = SpellNeeds (spaced_parts value) said
+SaysNeeds value said = SpellDependencies (spaced_parts value) said
 
 -- a value is allowed for the field, and means this
-abbrev pub SaysOfField : Field → List ℕ → List FieldValue → Type 0
-SaysOfField Fields.Name value said = (is_package_name value ≡ true) × SaysText value said
-SaysOfField Fields.Version value said = (is_version value ≡ true) × SaysText value said
-SaysOfField Fields.Description value said = SaysText value said
-SaysOfField Fields.Arch value said = SaysText value said
-SaysOfField Fields.License value said = SaysText value said
-SaysOfField Fields.Origin value said = SaysText value said
-SaysOfField Fields.Maintainer value said = SaysText value said
-SaysOfField Fields.Url value said = SaysText value said
-SaysOfField Fields.RepoCommit value said =
+abbrev pub FieldTextGivesValues : Field → List ℕ → List FieldValue → Type 0
+FieldTextGivesValues Fields.Name value said = (is_package_name value ≡ true) × SaysText value said
+FieldTextGivesValues Fields.Version value said = (is_version value ≡ true) × SaysText value said
+FieldTextGivesValues Fields.Description value said = SaysText value said
+FieldTextGivesValues Fields.Arch value said = SaysText value said
+FieldTextGivesValues Fields.License value said = SaysText value said
+FieldTextGivesValues Fields.Origin value said = SaysText value said
+FieldTextGivesValues Fields.Maintainer value said = SaysText value said
+FieldTextGivesValues Fields.Url value said = SaysText value said
+FieldTextGivesValues Fields.RepoCommit value said =
     (bytes : List ℕ) × SpellsBytes value bytes × (said ≡ text bytes ∷ [])
-SaysOfField Fields.BuildTime value said = SaysNumber value said
-SaysOfField Fields.ProviderPriority value said = SaysNumber value said
-SaysOfField Fields.ReplacesPriority value said = SaysNumber value said
-SaysOfField Fields.Depends value said = SaysNeeds value said
-SaysOfField Fields.Provides value said = SaysNeeds value said
-SaysOfField Fields.Replaces value said = SaysNeeds value said
-SaysOfField Fields.InstallIf value said = SaysNeeds value said
-SaysOfField Fields.Recommends value said = SaysNeeds value said
-SaysOfField Fields.Tags value said = said ≡ map text (spaced_parts value)
+FieldTextGivesValues Fields.BuildTime value said = SaysNumber value said
+FieldTextGivesValues Fields.ProviderPriority value said = SaysNumber value said
+FieldTextGivesValues Fields.ReplacesPriority value said = SaysNumber value said
+FieldTextGivesValues Fields.Depends value said = SaysNeeds value said
+FieldTextGivesValues Fields.Provides value said = SaysNeeds value said
+FieldTextGivesValues Fields.Replaces value said = SaysNeeds value said
+FieldTextGivesValues Fields.InstallIf value said = SaysNeeds value said
+FieldTextGivesValues Fields.Recommends value said = SaysNeeds value said
+FieldTextGivesValues Fields.Tags value said = said ≡ map text (spaced_parts value)
 
 -- ---- a value of `-I` among others
 
@@ -109,7 +109,7 @@ pub record IsTakenOption (too_long : Bool) (before : List OptionValue) (option :
   pub value : List ℕ
   pub given : option.text ≡ option_text field value
   pub said : List FieldValue
-  pub allowed : SaysOfField field value said
+  pub allowed : FieldTextGivesValues field value said
   pub first : is_list_field field ≡ false → (other : OptionValue) → IsIn other before
       → IsGivenFor field other → ⊥
   pub short : too_long ≡ true → field ≢ Fields.Version

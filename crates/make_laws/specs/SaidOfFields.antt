@@ -15,21 +15,21 @@ use Rattle.make_core.specs.make_info.declared.field.Field.TheVariants as Fields
 use Rattle.make_core.specs.make_info.Fields.{FieldValue, field_word}
 use Rattle.make_core.specs.make_info.Information.{plain_value}
 use Rattle.make_laws.specs.NamedFields.{field_named}
-use Rattle.make_laws.specs.OptionGrammar.{IsGivenFor, SaysOfField, is_list_field, option_text}
+use Rattle.make_laws.specs.OptionGrammar.{IsGivenFor, FieldTextGivesValues, is_list_field, option_text}
 use Rattle.std.specs.Prelude.{ℕ, codes}
 
 -- an option gives these values for the field; an option of another field gives none
-abbrev pub SaysOfOne : Field → OptionValue → List FieldValue → Type 0
-SaysOfOne f option said =
-    ((value : List ℕ) × (option.text ≡ option_text f value) × SaysOfField f value said)
+abbrev pub OptionGivesFieldValues : Field → OptionValue → List FieldValue → Type 0
+OptionGivesFieldValues f option said =
+    ((value : List ℕ) × (option.text ≡ option_text f value) × FieldTextGivesValues f value said)
     ⊎ ((IsGivenFor f option → ⊥) × (said ≡ []))
 
 -- options give these values for the field, one after the other
-abbrev pub SayOfField : Field → List OptionValue → List FieldValue → Type 0
-SayOfField f [] said = said ≡ []
-SayOfField f (option ∷ options) said =
+abbrev pub OptionsGiveFieldValues : Field → List OptionValue → List FieldValue → Type 0
+OptionsGiveFieldValues f [] said = said ≡ []
+OptionsGiveFieldValues f (option ∷ options) said =
     (here : List FieldValue) × (further : List FieldValue)
-    × SaysOfOne f option here × SayOfField f options further × (said ≡ here ++ further)
+    × OptionGivesFieldValues f option here × OptionsGiveFieldValues f options further × (said ≡ here ++ further)
 
 -- a value has all given values, in this order
 abbrev pub HasAllValues : List FieldValue → Plain → Type 0
@@ -60,5 +60,5 @@ field_value_in_package f pkg =
 -- the package has what the options `-I` of a command give for the field
 pub record HasValuesOfOptions (f : Field) (values : List OptionValue) (pkg : Plain) : Type 0 where
   pub said : List FieldValue
-  pub say : SayOfField f (filter (λ (v : OptionValue). v.letter == INFO) values) said
+  pub say : OptionsGiveFieldValues f (filter (λ (v : OptionValue). v.letter == INFO) values) said
   pub tells : HasValuesOfField f said (field_value_in_package f pkg)

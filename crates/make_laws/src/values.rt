@@ -18,9 +18,9 @@ ghost use Rattle.make_core.specs.make_info.Fields.{FieldValue, kind_of_field, va
 ghost use Rattle.make_core.specs.make_info.Information.{offends, plain_value};
 ghost use Rattle.make_core.specs.make_info.Values.{number_value, plains_of_list};
 ghost use Rattle.make_core.specs.make_info.declared.field.Field.{Field};
-ghost use Rattle.make_laws.specs.MadePackages.{contained_package};
+ghost use Rattle.make_laws.specs.MadePackages.{package_in_container};
 ghost use Rattle.make_laws.specs.NamedFields.{field_named};
-ghost use Rattle.make_laws.specs.OptionGrammar.{IsTakenOption, SaysOfField, option_text};
+ghost use Rattle.make_laws.specs.OptionGrammar.{IsTakenOption, FieldTextGivesValues, option_text};
 ghost use Rattle.make_laws.specs.SourceBytes.{IsLinkTo, IsNoLink};
 ghost use Rattle.make_core.specs.package_files.Package.{value_of_file};
 ghost use Rattle.make_core.specs.pkg_core.Whole.{package_id};
@@ -40,7 +40,7 @@ pub fn a_text_gives_a_value_to_a_field()
 /// A value is one of a field exactly if it is in the field's grammar, which also gives its meaning.
 pub fn a_value_is_taken_by_the_grammar_of_its_field()
     ensures { (f : Field) (value : List ℕ) (said : List FieldValue)
-        → values_by_kind (kind_of_field f) value ≡ Some said ↔ SaysOfField f value said }
+        → values_by_kind (kind_of_field f) value ≡ Some said ↔ FieldTextGivesValues f value said }
 {
     read_texts_are_spelled();
     spelled_texts_are_read();
@@ -100,7 +100,7 @@ pub fn an_entry_has_the_values_of_its_package()
         → int_in (field_named PkgInfo (codes "file-size") (entry_of_package file)) ≡ length file }
     ensures others { (file name : List ℕ) → name ≢ codes "hashes" → name ≢ codes "file-size"
         → field_named PkgInfo name (entry_of_package file) ≡ without_zeros
-        (field_named PkgInfo name (field_named Package (codes "info") (contained_package file))) }
+        (field_named PkgInfo name (field_named Package (codes "info") (package_in_container file))) }
 {}
 
 /// A value without zeros is read the same: it has the same number, the same text, and the same

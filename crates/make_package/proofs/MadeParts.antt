@@ -15,20 +15,20 @@ use Rattle.adb_block.specs.Piece.{Piece}
 use Rattle.adb_block.specs.Written.{block_bytes}
 use Rattle.adb_view.specs.Plain.{Plain}
 use Rattle.package_files.specs.adb_schema.declared.read.TheConstants.{PACKAGE_WORD}
-use Rattle.package_files.specs.adb_write.Canonical.{PayloadCounts, canonical, or_overflow, overflow_of, written_of}
+use Rattle.package_files.specs.adb_write.Canonical.{PayloadCounts, canonical, or_overflow, overflow_of, payload_or_overflow}
 use Rattle.package_files.specs.adb_write.File.{adb_piece, file_of}
 use Rattle.package_files.specs.pkg_core.Contents.{Contents}
-use Rattle.command_core.specs.Sound.{value_rules, IsCommand, may_both_be_given, rule_for, is_value_by, are_values}
+use Rattle.command_core.specs.Sound.{value_rules, IsValidCommand, may_both_be_given, rule_for, is_allowed_value, are_allowed_values}
 use Rattle.command_core.specs.declared.values.ValueRule.{ValueRule}
 use Rattle.command_core.specs.Command.{CommandLine}
 use Rattle.command_core.specs.Values.{first_value, script_file, script_type, script_types}
-use Rattle.command_core.specs.Files.{is_file, without_dot}
+use Rattle.command_core.specs.Files.{is_file, without_dot_slash}
 use Rattle.command_core.specs.declared.command.Applet.{Applet}
 use Rattle.command_core.specs.declared.command.Applet.TheVariants.{Mkpkg}
 use Rattle.command_core.specs.declared.values.OptionValue.{OptionValue}
 use Rattle.command_core.proofs.Parts.{value_at}
 use Rattle.package_files.specs.Blocks.{contents_block, contents_blocks}
-use Rattle.package_files.specs.make_info.Faults.{IsOverflow}
+use Rattle.package_files.specs.make_info.Faults.{IsOverflowFault}
 use Rattle.package_files.specs.make_info.Information.{FieldWithValue, information_value, replaces_priority}
 use Rattle.package_files.specs.adb_sound.Contents.{contents_size}
 use Rattle.package_files.specs.adb_sound.Container.{contents_piece, container_of}
@@ -37,7 +37,7 @@ use Rattle.make_package.specs.Making.{container_unless, package_container}
 use Rattle.package_files.specs.Package.{Script, Source, SourceFolder, contents_of_folders, value_of_file, value_of_folder, folder_with, installed_size, kind_of_file, value_of_kind, value_of_package, package_with, size_of_folder, size_of_kind}
 use Rattle.package_files.specs.Packed.{AreFilesFrom, AreFoldersFrom, ArePackedFolders, packed_file, packed_folder, files_size, packed_size}
 use Rattle.package_files.specs.Runs.{AgreesOrIsFault}
-use Rattle.package_files.specs.Sources.{values_with, texts_of}
+use Rattle.package_files.specs.Sources.{values_of_letter, texts_of}
 use Rattle.package_files.specs.make_info.declared.fault.MakeFault.{MakeFault}
 use Rattle.package_files.specs.make_info.declared.fault.MakeFault.TheVariants.{FileMissing, FileBad, InfoBad, TooLarge, Disk, Memory}
 use Rattle.package_files.specs.declared.file.File.{File}
@@ -55,46 +55,46 @@ left_at (y ∷ xs) (suc i) x e =
 
 -- what the layer of commands says of the values of a command
 abbrev pub AreAllowed : Type 0
-AreAllowed = (c : CommandLine) → IsCommand c → are_values (value_rules c.applet) c.values ≡ true
+AreAllowed = (c : CommandLine) → IsValidCommand c → are_allowed_values (value_rules c.applet) c.values ≡ true
 
-pub values_allowed : AreAllowed → (command : CommandLine) (values : List OptionValue) → IsCommand command → command.applet ≡ Mkpkg → values ≡ command.values → are_values (value_rules Mkpkg) values ≡ true
+pub values_allowed : AreAllowed → (command : CommandLine) (values : List OptionValue) → IsValidCommand command → command.applet ≡ Mkpkg → values ≡ command.values → are_allowed_values (value_rules Mkpkg) values ≡ true
 values_allowed law command values h e is =
-    let own : are_values (value_rules Mkpkg) command.values ≡ true = subst (λ (a : Applet). are_values (value_rules a) command.values ≡ true) e (law command h) in
-    ap (are_values (value_rules Mkpkg)) is ∙ own
+    let own : are_allowed_values (value_rules Mkpkg) command.values ≡ true = subst (λ (a : Applet). are_allowed_values (value_rules a) command.values ≡ true) e (law command h) in
+    ap (are_allowed_values (value_rules Mkpkg)) is ∙ own
 
-first_two : (options : List ValueRule) (v : OptionValue) (vs : List OptionValue) → are_values options (v ∷ vs) ≡ true → (is_value_by (rule_for options v.letter) v.text ≡ true) × (are_values options vs ≡ true)
+first_two : (options : List ValueRule) (v : OptionValue) (vs : List OptionValue) → are_allowed_values options (v ∷ vs) ≡ true → (is_allowed_value (rule_for options v.letter) v.text ≡ true) × (are_allowed_values options vs ≡ true)
 first_two options v vs h =
-    let parts = and_parts (is_value_by (rule_for options v.letter) v.text && list_all (may_both_be_given options v) vs) (are_values options vs) h in
-    ((and_parts (is_value_by (rule_for options v.letter) v.text) (list_all (may_both_be_given options v) vs) parts.0).0, parts.1)
+    let parts = and_parts (is_allowed_value (rule_for options v.letter) v.text && list_all (may_both_be_given options v) vs) (are_allowed_values options vs) h in
+    ((and_parts (is_allowed_value (rule_for options v.letter) v.text) (list_all (may_both_be_given options v) vs) parts.0).0, parts.1)
 
 -- the value of the option for scripts gives a file
-pub script_allowed : (vs : List OptionValue) (i : ℕ) (v : OptionValue) → are_values (value_rules Mkpkg) vs ≡ true → slice_get vs i ≡ Some v → v.letter ≡ SCRIPT → is_file (script_file v.text) ≡ true
+pub script_allowed : (vs : List OptionValue) (i : ℕ) (v : OptionValue) → are_allowed_values (value_rules Mkpkg) vs ≡ true → slice_get vs i ≡ Some v → v.letter ≡ SCRIPT → is_file (script_file v.text) ≡ true
 script_allowed vs i v h at e =
-    let good : is_value_by (rule_for (value_rules Mkpkg) SCRIPT) v.text ≡ true =
-    subst (λ (l : ℕ). is_value_by (rule_for (value_rules Mkpkg) l) v.text ≡ true) e (value_at (value_rules Mkpkg) vs i v h at) in
+    let good : is_allowed_value (rule_for (value_rules Mkpkg) SCRIPT) v.text ≡ true =
+    subst (λ (l : ℕ). is_allowed_value (rule_for (value_rules Mkpkg) l) v.text ≡ true) e (value_at (value_rules Mkpkg) vs i v h at) in
     (and_parts (list_any (λ t. bytes_eq t (script_type v.text)) script_types) (is_file (script_file v.text)) good).1
 
-pub script_there : (vs : List OptionValue) (i : ℕ) (v : OptionValue) → are_values (value_rules Mkpkg) vs ≡ true → slice_get vs i ≡ Some v → v.letter ≡ SCRIPT
+pub script_there : (vs : List OptionValue) (i : ℕ) (v : OptionValue) → are_allowed_values (value_rules Mkpkg) vs ≡ true → slice_get vs i ≡ Some v → v.letter ≡ SCRIPT
     → IfSome (slice_get vs i) (λ w. (w.letter ≡ SCRIPT) × (is_file (script_file w.text) ≡ true))
 script_there vs i v h at e =
     let P : Option OptionValue → Type 0 = λ o. IfSome o (λ w. (w.letter ≡ SCRIPT) × (is_file (script_file w.text) ≡ true)) in
     subst P (sym at) (e, script_allowed vs i v h at e)
 
 pub script_name : (vs : List OptionValue) (i : ℕ) (v : OptionValue) (name : List ℕ) → slice_get vs i ≡ Some v
-    → option_map (λ (w : OptionValue). without_dot (script_file w.text)) (slice_get vs i) ≡ Some name → name ≡ without_dot (script_file v.text)
+    → option_map (λ (w : OptionValue). without_dot_slash (script_file w.text)) (slice_get vs i) ≡ Some name → name ≡ without_dot_slash (script_file v.text)
 script_name vs i v name at e =
-    let both : Some name ≡ Some (without_dot (script_file v.text)) = sym e ∙ ap (option_map (λ (w : OptionValue). without_dot (script_file w.text))) at in
+    let both : Some name ≡ Some (without_dot_slash (script_file v.text)) = sym e ∙ ap (option_map (λ (w : OptionValue). without_dot_slash (script_file w.text))) at in
     cc (both)
 
 -- and that of the option for a folder names one
-pub folder_file : (vs : List OptionValue) → are_values (value_rules Mkpkg) vs ≡ true → IfSome (first_value FILES vs) (λ v. is_file v.text ≡ true)
+pub folder_file : (vs : List OptionValue) → are_allowed_values (value_rules Mkpkg) vs ≡ true → IfSome (first_value FILES vs) (λ v. is_file v.text ≡ true)
 folder_file [] h = tt
 folder_file (u ∷ us) h = by_letter (eqb u.letter FILES) refl (folder_file us (first_two (value_rules Mkpkg) u us h).1)
   where
     by_letter : (b : Bool) → eqb u.letter FILES ≡ b → IfSome (first_value FILES us) (λ v. is_file v.text ≡ true) → IfSome (cond b (Some u) (first_value FILES us)) (λ v. is_file v.text ≡ true)
     by_letter true t rest =
-        let good : is_value_by (rule_for (value_rules Mkpkg) FILES) u.text ≡ true =
-        subst (λ (l : ℕ). is_value_by (rule_for (value_rules Mkpkg) l) u.text ≡ true) (eqb-true u.letter FILES t) (first_two (value_rules Mkpkg) u us h).0 in
+        let good : is_allowed_value (rule_for (value_rules Mkpkg) FILES) u.text ≡ true =
+        subst (λ (l : ℕ). is_allowed_value (rule_for (value_rules Mkpkg) l) u.text ≡ true) (eqb-true u.letter FILES t) (first_two (value_rules Mkpkg) u us h).0 in
         good
     by_letter false t rest = rest
 
@@ -104,50 +104,50 @@ abbrev IsFirstIn : Option OptionValue → List OptionValue → Type 0
 IsFirstIn None values = values ≡ []
 IsFirstIn (Some v) values = (others : List OptionValue) × (values ≡ v ∷ others)
 
-first_in : (letter : ℕ) (vs : List OptionValue) → IsFirstIn (first_value letter vs) (values_with letter vs)
+first_in : (letter : ℕ) (vs : List OptionValue) → IsFirstIn (first_value letter vs) (values_of_letter letter vs)
 first_in letter [] = refl
 first_in letter (v ∷ vs) = by_letter (eqb v.letter letter) (first_in letter vs)
   where
-    by_letter : (b : Bool) → IsFirstIn (first_value letter vs) (values_with letter vs) → IsFirstIn (cond b (Some v) (first_value letter vs)) (cond b (v ∷ values_with letter vs) (values_with letter vs))
-    by_letter true h = (values_with letter vs, refl)
+    by_letter : (b : Bool) → IsFirstIn (first_value letter vs) (values_of_letter letter vs) → IsFirstIn (cond b (Some v) (first_value letter vs)) (cond b (v ∷ values_of_letter letter vs) (values_of_letter letter vs))
+    by_letter true h = (values_of_letter letter vs, refl)
     by_letter false h = h
 
 first_as : (first : Option (Bor OptionValue)) (found : Option OptionValue) (values : List OptionValue) → option_map (λ (v : Bor OptionValue). v.now) first ≡ found → IsFirstIn found values → IsFirstValue first values
 first_as None found values e h = let P : Option OptionValue → Type 0 = λ o. IsFirstIn o values in subst P (sym e) h
 first_as (Some v) found values e h = let P : Option OptionValue → Type 0 = λ o. IsFirstIn o values in subst P (sym e) h
 
-pub first_value_is : (letter : ℕ) (vs : List OptionValue) (first : Option (Bor OptionValue)) → option_map (λ (v : Bor OptionValue). v.now) first ≡ first_value letter vs → IsFirstValue first (values_with letter vs)
-first_value_is letter vs first e = first_as first (first_value letter vs) (values_with letter vs) e (first_in letter vs)
+pub first_value_is : (letter : ℕ) (vs : List OptionValue) (first : Option (Bor OptionValue)) → option_map (λ (v : Bor OptionValue). v.now) first ≡ first_value letter vs → IsFirstValue first (values_of_letter letter vs)
+first_value_is letter vs first e = first_as first (first_value letter vs) (values_of_letter letter vs) e (first_in letter vs)
 
 -- the folder that is given
 abbrev folder_in : OptionValue → List ℕ
-folder_in v = without_dot v.text
+folder_in v = without_dot_slash v.text
 
 pub record IsFolder (vs : List OptionValue) (folder : List ℕ) : Type 0 where
   pub value : OptionValue
   pub others : List OptionValue
-  pub first : values_with FILES vs ≡ value ∷ others
+  pub first : values_of_letter FILES vs ≡ value ∷ others
   pub name : folder_in value ≡ folder
 
-folder_by : (vs : List OptionValue) (folder : List ℕ) (found : Option OptionValue) → IsFirstIn found (values_with FILES vs) → Some folder ≡ option_map folder_in found → IsFolder vs folder
+folder_by : (vs : List OptionValue) (folder : List ℕ) (found : Option OptionValue) → IsFirstIn found (values_of_letter FILES vs) → Some folder ≡ option_map folder_in found → IsFolder vs folder
 folder_by vs folder None h e = absurd (cc (e))
 folder_by vs folder (Some v) h e = record { value = v; others = h.0; first = h.1; name = cc (e) }
 
 pub folder_is : (vs : List OptionValue) (folder : List ℕ) → Some folder ≡ option_map folder_in (first_value FILES vs) → IsFolder vs folder
 folder_is vs folder e = folder_by vs folder (first_value FILES vs) (first_in FILES vs) e
 
-no_folder_by : (vs : List OptionValue) (found : Option OptionValue) → IsFirstIn found (values_with FILES vs) → None ≡ option_map folder_in found → values_with FILES vs ≡ []
+no_folder_by : (vs : List OptionValue) (found : Option OptionValue) → IsFirstIn found (values_of_letter FILES vs) → None ≡ option_map folder_in found → values_of_letter FILES vs ≡ []
 no_folder_by vs None h e = h
 no_folder_by vs (Some v) h e = absurd (cc (e))
 
-pub no_folder : (vs : List OptionValue) → None ≡ option_map folder_in (first_value FILES vs) → values_with FILES vs ≡ []
+pub no_folder : (vs : List OptionValue) → None ≡ option_map folder_in (first_value FILES vs) → values_of_letter FILES vs ≡ []
 no_folder vs e = no_folder_by vs (first_value FILES vs) (first_in FILES vs) e
 
 -- ---- the values of an option, from a place on
 
-pub given_here : (letter : ℕ) (vs : List OptionValue) (i : ℕ) (v : OptionValue) → slice_get vs i ≡ Some v → v.letter ≡ letter → values_with letter (drop i vs) ≡ v ∷ values_with letter (drop (i + 1) vs)
+pub given_here : (letter : ℕ) (vs : List OptionValue) (i : ℕ) (v : OptionValue) → slice_get vs i ≡ Some v → v.letter ≡ letter → values_of_letter letter (drop i vs) ≡ v ∷ values_of_letter letter (drop (i + 1) vs)
 given_here letter vs i v at e =
-    ap (values_with letter) (left_at vs i v at) ∙ ap (λ b. cond b (v ∷ values_with letter (drop (i + 1) vs)) (values_with letter (drop (i + 1) vs))) (eq-eqb v.letter letter e)
+    ap (values_of_letter letter) (left_at vs i v at) ∙ ap (λ b. cond b (v ∷ values_of_letter letter (drop (i + 1) vs)) (values_of_letter letter (drop (i + 1) vs))) (eq-eqb v.letter letter e)
 
 pub first_is : (values : List OptionValue) (first : Option (Bor OptionValue)) (v : Bor OptionValue) → IsFirstValue first values → first ≡ Some v → IsFirstValue (Some v) values
 first_is values first v h e = let P : Option (Bor OptionValue) → Type 0 = λ o. IsFirstValue o values in subst P e h
@@ -232,9 +232,9 @@ file_ok v contents payload file blocks None w b e =
     ap Ok (sym (e ∙ ap (λ (p : List ℕ). file_of PACKAGE_WORD p ++ blocks) (sym same) ∙ ap (λ (l : List ℕ). file_of PACKAGE_WORD (canonical v) ++ l) b ∙ laid_is v contents))
 file_ok v contents payload file blocks (Some counts) w b e = absurd (cc)
 
-pub package_ok : (v : Plain) (contents : List Contents) (payload file blocks : List ℕ) → written_of v ≡ Ok payload → blocks ≡ contents_blocks contents → file ≡ file_of PACKAGE_WORD payload ++ blocks
+pub package_ok : (v : Plain) (contents : List Contents) (payload file blocks : List ℕ) → payload_or_overflow v ≡ Ok payload → blocks ≡ contents_blocks contents → file ≡ file_of PACKAGE_WORD payload ++ blocks
     → package_container v contents ≡ Ok file
-unfolding written_of package_container
+unfolding payload_or_overflow package_container
 package_ok v contents payload file blocks w b e = file_ok v contents payload file blocks (overflow_of v) w b e
 
 file_large : (v : Plain) (contents : List Contents) (bytes values : ℕ) (o : Option PayloadCounts) → or_overflow (canonical v) o ≡ Err (bytes, values) → container_unless o v contents ≡ Err (TooLarge bytes values)
@@ -243,8 +243,8 @@ file_large v contents bytes values (Some counts) w =
     let same : counts ≡ (bytes, values) = cc in
     ap (λ (c : PayloadCounts). Err (TooLarge c.0 c.1)) same
 
-pub package_err : (v : Plain) (contents : List Contents) (fault : MakeFault) → IsOverflow fault (written_of v) → AgreesOrIsFault IsBytes (Err fault) (package_container v contents)
-unfolding written_of package_container
+pub package_err : (v : Plain) (contents : List Contents) (fault : MakeFault) → IsOverflowFault fault (payload_or_overflow v) → AgreesOrIsFault IsBytes (Err fault) (package_container v contents)
+unfolding payload_or_overflow package_container
 package_err v contents (TooLarge bytes values) h = file_large v contents bytes values (overflow_of v) h
 package_err v contents Disk h = tt
 package_err v contents Memory h = tt
@@ -252,7 +252,7 @@ package_err v contents (FileMissing p) h = absurd h
 package_err v contents (FileBad p c) h = absurd h
 package_err v contents (InfoBad p) h = absurd h
 
-large_not_disk : (A : Type 0) (fault : MakeFault) (told : Result (List ℕ) PayloadCounts) → IsOverflow fault told → IsNotDisk {A = A} (Err fault)
+large_not_disk : (A : Type 0) (fault : MakeFault) (told : Result (List ℕ) PayloadCounts) → IsOverflowFault fault told → IsNotDisk {A = A} (Err fault)
 large_not_disk A (TooLarge bytes values) told h = tt
 large_not_disk A Memory told h = tt
 large_not_disk A Disk told h = absurd h
@@ -260,7 +260,7 @@ large_not_disk A (FileMissing p) told h = absurd h
 large_not_disk A (FileBad p c) told h = absurd h
 large_not_disk A (InfoBad p) told h = absurd h
 
-pub large_answer : {A : Type 0} (r : Result A MakeFault) (fault : MakeFault) (told : Result (List ℕ) PayloadCounts) → IsErrAnd r (λ e. e ≡ fault) → IsOverflow fault told → IsNotDisk r
+pub large_answer : {A : Type 0} (r : Result A MakeFault) (fault : MakeFault) (told : Result (List ℕ) PayloadCounts) → IsErrAnd r (λ e. e ≡ fault) → IsOverflowFault fault told → IsNotDisk r
 large_answer (Ok x) fault told h o = absurd h
 large_answer {A} (Err e) fault told h o = let P : MakeFault → Type 0 = λ f. IsNotDisk {A = A} (Err f) in subst P (sym h) (large_not_disk A fault told o)
 
@@ -271,9 +271,9 @@ memory_answer {A} (Err e) h = let P : MakeFault → Type 0 = λ f. IsNotDisk {A 
 -- the value that is written is that of the package
 pub value_is : (about : List FieldWithValue) (size : ℕ) (written folders : List Folder) (sources : List SourceFolder) (scripts : List Script) (values wanted : List OptionValue)
     → size ≡ packed_size folders → written ≡ folders → AreFoldersFrom folders sources → values ≡ wanted
-    → package_with (information_value about size) (map packed_folder written) scripts (texts_of (values_with TRIGGER values)) (replaces_priority about)
-    ≡ value_of_package (information_value about (installed_size sources)) sources scripts (texts_of (values_with TRIGGER wanted)) (replaces_priority about)
+    → package_with (information_value about size) (map packed_folder written) scripts (texts_of (values_of_letter TRIGGER values)) (replaces_priority about)
+    ≡ value_of_package (information_value about (installed_size sources)) sources scripts (texts_of (values_of_letter TRIGGER wanted)) (replaces_priority about)
 value_is about size written folders sources scripts values wanted s w h v =
     let sized : size ≡ installed_size sources = s ∙ folders_sized folders sources h in
     let valued : map packed_folder written ≡ map value_of_folder sources = ap (map packed_folder) w ∙ folders_valued folders sources h in
-    λ j. package_with (information_value about (sized j)) (valued j) scripts (texts_of (values_with TRIGGER (v j))) (replaces_priority about)
+    λ j. package_with (information_value about (sized j)) (valued j) scripts (texts_of (values_of_letter TRIGGER (v j))) (replaces_priority about)

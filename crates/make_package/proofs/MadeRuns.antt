@@ -11,19 +11,19 @@ use Rattle.base_core.specs.Faults.{Counts}
 use Rattle.base_core.specs.Tree.{TreeState}
 use Rattle.command_core.specs.Command.{CommandLine}
 use Rattle.command_core.specs.Values.{script_file}
-use Rattle.command_core.specs.Files.{without_dot}
+use Rattle.command_core.specs.Files.{without_dot_slash}
 use Rattle.command_core.specs.declared.values.OptionValue.{OptionValue}
-use Rattle.package_files.specs.Folders.{folders_of}
+use Rattle.package_files.specs.Folders.{folder_listings_of}
 use Rattle.package_files.specs.make_info.Faults.{IsInfoFault}
 use Rattle.package_files.specs.make_info.Information.{FieldWithValue, information}
-use Rattle.make_package.specs.Answers.{IsBytes, IsOkOrDiskOrMemory, IsMadeRun, IsNotDisk, AreBelow}
+use Rattle.make_package.specs.Answers.{IsBytes, IsOkOrDiskOrMemory, IsMakeResult, IsNotDisk, AreNamesBelowFirstOption}
 use Rattle.make_package.specs.Making.{made_package, or_info_bad, package_of_parts}
 use Rattle.package_files.specs.Package as packages
 use Rattle.package_files.specs.Package.{SourceFolder}
 use Rattle.package_files.specs.Packed.{IsPacking}
-use Rattle.package_files.specs.Runs.{AgreesOrIsFault, Explains}
+use Rattle.package_files.specs.Runs.{AgreesOrIsFault, IsExplainedBySomeReads}
 use Rattle.make_package.specs.Scripts.{AreScripts, IsScript, script_view, scripts_view}
-use Rattle.package_files.specs.Sources.{AreNamesBelowFirst, and_then, each_from, folder_at, folders_below, source_folders_from, found_at, values_with, script_at, scripts_from}
+use Rattle.package_files.specs.Sources.{AreNamesBelowFirst, and_then, each_from, source_folder_read_at, folders_below, source_folders_from, found_bytes_or_missing, values_of_letter, script_at, scripts_from}
 use Rattle.package_files.specs.make_info.Reads.{Reads}
 use Rattle.package_files.specs.make_info.declared.fault.MakeFault.{MakeFault}
 use Rattle.package_files.specs.make_info.declared.fault.MakeFault.TheVariants.{FileMissing, FileBad, InfoBad, TooLarge, Disk, Memory}
@@ -41,7 +41,7 @@ abbrev pub one_read : OptionValue → ℕ
 one_read v = 1
 
 pub script_own : RestsOnOwn one_read script_at
-script_own f g n v h = ap (λ (o : Option (List ℕ)). and_then (found_at v.place o) (next_of v)) (h n (without_dot (script_file v.text)) (omega arith) (omega arith))
+script_own f g n v h = ap (λ (o : Option (List ℕ)). and_then (found_bytes_or_missing v.place o) (next_of v)) (h n (without_dot_slash (script_file v.text)) (omega arith) (omega arith))
 
 pub scripts_none : (scripts : Vec Script Global) → scripts.items ≡ [] → AreScripts scripts []
 scripts_none scripts e = ap (map script_view) e
@@ -51,24 +51,24 @@ scripts_more : (scripts more : Vec Script Global) (script : Script) (ys : List p
 scripts_more scripts more script ys y e h i = ap (map script_view) e ∙ map-append script_view scripts.items (script ∷ []) ∙ λ j. h j ++ i j ∷ []
 
 module _ (told : List TreeState) (values : List OptionValue) (i : ℕ) (v : OptionValue) (here : slice_get values i ≡ Some v) (is : v.letter ≡ SCRIPT) where
-  pub scripts_go_on : (scripts more : Vec Script Global) (script : Script) → more.items ≡ scripts.items ++ script ∷ [] → IsSoFar told one_read script_at (values_with SCRIPT (take i values)) (AreScripts scripts)
-      → IsNext told script_at v IsScript (Ok script) → IsSoFar told one_read script_at (values_with SCRIPT (take (i + 1) values)) (AreScripts more)
+  pub scripts_go_on : (scripts more : Vec Script Global) (script : Script) → more.items ≡ scripts.items ++ script ∷ [] → IsSoFar told one_read script_at (values_of_letter SCRIPT (take i values)) (AreScripts scripts)
+      → IsNext told script_at v IsScript (Ok script) → IsSoFar told one_read script_at (values_of_letter SCRIPT (take (i + 1) values)) (AreScripts more)
   scripts_go_on scripts more script e so_far next =
       let P : List OptionValue → Type 0 = λ xs. IsSoFar told one_read script_at xs (AreScripts more) in
       subst P (sym (given_one SCRIPT values i v here is))
-      (so_far_more told one_read script_at script_own (values_with SCRIPT (take i values)) v (AreScripts scripts) (AreScripts more) IsScript script so_far next (λ ys y. scripts_more scripts more script ys y e))
+      (so_far_more told one_read script_at script_own (values_of_letter SCRIPT (take i values)) v (AreScripts scripts) (AreScripts more) IsScript script so_far next (λ ys y. scripts_more scripts more script ys y e))
 
-  all_given : values_with SCRIPT (take i values) ++ v ∷ values_with SCRIPT (drop (i + 1) values) ≡ values_with SCRIPT values
+  all_given : values_of_letter SCRIPT (take i values) ++ v ∷ values_of_letter SCRIPT (drop (i + 1) values) ≡ values_of_letter SCRIPT values
   all_given =
-      ap (λ (l : List OptionValue). values_with SCRIPT (take i values) ++ l) (sym (given_here SCRIPT values i v here is))
-      ∙ sym (given_append SCRIPT (take i values) (drop i values)) ∙ ap (values_with SCRIPT) (take-append-drop i values)
+      ap (λ (l : List OptionValue). values_of_letter SCRIPT (take i values) ++ l) (sym (given_here SCRIPT values i v here is))
+      ∙ sym (given_append SCRIPT (take i values) (drop i values)) ∙ ap (values_of_letter SCRIPT) (take-append-drop i values)
 
-  pub scripts_stop : (scripts : Vec Script Global) (fault : MakeFault) → IsSoFar told one_read script_at (values_with SCRIPT (take i values)) (AreScripts scripts) → IsNext told script_at v IsScript (Err fault)
-      → (n : ℕ) → Explains told (λ read. AgreesOrIsFault AreScripts (Err fault) (scripts_from read n (values_with SCRIPT values)))
+  pub scripts_stop : (scripts : Vec Script Global) (fault : MakeFault) → IsSoFar told one_read script_at (values_of_letter SCRIPT (take i values)) (AreScripts scripts) → IsNext told script_at v IsScript (Err fault)
+      → (n : ℕ) → IsExplainedBySomeReads told (λ read. AgreesOrIsFault AreScripts (Err fault) (scripts_from read n (values_of_letter SCRIPT values)))
   scripts_stop scripts fault so_far next n =
-      let P : List OptionValue → Type 0 = λ xs. Explains told (λ read. AgreesOrIsFault AreScripts (Err fault) (scripts_from read n xs)) in
+      let P : List OptionValue → Type 0 = λ xs. IsExplainedBySomeReads told (λ read. AgreesOrIsFault AreScripts (Err fault) (scripts_from read n xs)) in
       subst P all_given
-      (so_far_stops told one_read script_at script_own (values_with SCRIPT (take i values)) v (values_with SCRIPT (drop (i + 1) values)) (AreScripts scripts) IsScript AreScripts fault so_far next n)
+      (so_far_stops told one_read script_at script_own (values_of_letter SCRIPT (take i values)) v (values_of_letter SCRIPT (drop (i + 1) values)) (AreScripts scripts) IsScript AreScripts fault so_far next n)
 
 pub scripts_same : (told : List TreeState) (xs ys : List OptionValue) (scripts : Vec Script Global) → ys ≡ xs → IsSoFar told one_read script_at xs (AreScripts scripts) → IsSoFar told one_read script_at ys (AreScripts scripts)
 scripts_same told xs ys scripts e h = let P : List OptionValue → Type 0 = λ l. IsSoFar told one_read script_at l (AreScripts scripts) in subst P (sym e) h
@@ -93,7 +93,7 @@ ones (x ∷ xs) = let further = ones xs in omega arith
 
 folders_rest : (k : ℕ) (ds : List OptionValue) (names : List (List ℕ)) (f g : Reads) → ((m : ℕ) (name : List ℕ) → k ≤ m → f m name ≡ g m name) → folders_below f k ds names ≡ folders_below g k ds names
 folders_rest k [] names f g h = refl
-folders_rest k (v ∷ vs) names f g h = each_rests reads_in (folder_at v.place) (folder_own v.place) f g k (folders_of (without_dot v.text) names) (λ m name lo hi. h m name lo)
+folders_rest k (v ∷ vs) names f g h = each_rests reads_in (source_folder_read_at v.place) (folder_own v.place) f g k (folder_listings_of (without_dot_slash v.text) names) (λ m name lo hi. h m name lo)
 
 -- scripts and folders are explained together
 pub record AreParts (ss ds : List OptionValue) (names : List (List ℕ)) (scripts : Vec Script Global) (r : Result Packing MakeFault) (read : Reads) : Type 0 where
@@ -103,8 +103,8 @@ pub record AreParts (ss ds : List OptionValue) (names : List (List ℕ)) (script
   pub rest : AgreesOrIsFault IsPacking r (folders_below read (length given) ds names)
 
 pub both_parts : (told : List TreeState) (ss ds : List OptionValue) (names : List (List ℕ)) (scripts : Vec Script Global) (r : Result Packing MakeFault)
-    → Explains told (λ read. AgreesOrIsFault AreScripts (Ok scripts) (scripts_from read 0 ss)) → ((n : ℕ) → Explains told (λ read. AgreesOrIsFault IsPacking r (folders_below read n ds names)))
-    → Explains told (AreParts ss ds names scripts r)
+    → IsExplainedBySomeReads told (λ read. AgreesOrIsFault AreScripts (Ok scripts) (scripts_from read 0 ss)) → ((n : ℕ) → IsExplainedBySomeReads told (λ read. AgreesOrIsFault IsPacking r (folders_below read n ds names)))
+    → IsExplainedBySomeReads told (AreParts ss ds names scripts r)
 both_parts told ss ds names scripts r p q =
     let k : ℕ = 0 + total one_read ss in
     let h = q k in
@@ -129,20 +129,20 @@ both_parts told ss ds names scripts r p q =
 
 module _ (command : CommandLine) (names : List (List ℕ)) (read : Reads) where
   abbrev behind_info : List packages.Script → List FieldWithValue → Result (List ℕ) MakeFault
-  behind_info scripts about = and_then (folders_below read (length scripts) (values_with FILES command.values) names) (package_of_parts command scripts about)
+  behind_info scripts about = and_then (folders_below read (length scripts) (values_of_letter FILES command.values) names) (package_of_parts command scripts about)
 
   abbrev after_scripts : List packages.Script → Result (List ℕ) MakeFault
   after_scripts scripts = and_then (or_info_bad (information command)) (behind_info scripts)
 
-  pub scripts_fault : (fault : MakeFault) → AgreesOrIsFault AreScripts (Err fault) (scripts_from read 0 (values_with SCRIPT command.values)) → AgreesOrIsFault IsBytes (Err fault) (made_package command names read)
+  pub scripts_fault : (fault : MakeFault) → AgreesOrIsFault AreScripts (Err fault) (scripts_from read 0 (values_of_letter SCRIPT command.values)) → AgreesOrIsFault IsBytes (Err fault) (made_package command names read)
   unfolding made_package
-  scripts_fault fault h = fault_of_part AreScripts IsBytes fault (scripts_from read 0 (values_with SCRIPT command.values)) after_scripts h
+  scripts_fault fault h = fault_of_part AreScripts IsBytes fault (scripts_from read 0 (values_of_letter SCRIPT command.values)) after_scripts h
 
-  to_info : (ys : List packages.Script) → scripts_from read 0 (values_with SCRIPT command.values) ≡ Ok ys → made_package command names read ≡ after_scripts ys
+  to_info : (ys : List packages.Script) → scripts_from read 0 (values_of_letter SCRIPT command.values) ≡ Ok ys → made_package command names read ≡ after_scripts ys
   unfolding made_package
   to_info ys e = ap (λ (r : Result (List packages.Script) MakeFault). and_then r after_scripts) e
 
-  pub info_fault : (ys : List packages.Script) (fault : MakeFault) → scripts_from read 0 (values_with SCRIPT command.values) ≡ Ok ys → IsInfoFault fault (information command) → AgreesOrIsFault IsBytes (Err fault) (made_package command names read)
+  pub info_fault : (ys : List packages.Script) (fault : MakeFault) → scripts_from read 0 (values_of_letter SCRIPT command.values) ≡ Ok ys → IsInfoFault fault (information command) → AgreesOrIsFault IsBytes (Err fault) (made_package command names read)
   info_fault ys (InfoBad place) e h = to_info ys e ∙ ap (λ (r : Result (List FieldWithValue) ℕ). and_then (or_info_bad r) (behind_info ys)) h
   info_fault ys Memory e h = tt
   info_fault ys Disk e h = tt
@@ -150,18 +150,18 @@ module _ (command : CommandLine) (names : List (List ℕ)) (read : Reads) where
   info_fault ys (FileBad p c) e h = absurd h
   info_fault ys (TooLarge b v) e h = absurd h
 
-  to_folders : (ys : List packages.Script) (about : List FieldWithValue) → scripts_from read 0 (values_with SCRIPT command.values) ≡ Ok ys → information command ≡ Ok about → made_package command names read ≡ behind_info ys about
+  to_folders : (ys : List packages.Script) (about : List FieldWithValue) → scripts_from read 0 (values_of_letter SCRIPT command.values) ≡ Ok ys → information command ≡ Ok about → made_package command names read ≡ behind_info ys about
   to_folders ys about e i = to_info ys e ∙ ap (λ (r : Result (List FieldWithValue) ℕ). and_then (or_info_bad r) (behind_info ys)) i
 
   pub folders_fault : (scripts : Vec Script Global) (about : List FieldWithValue) (fault : MakeFault) → information command ≡ Ok about
-      → AreParts (values_with SCRIPT command.values) (values_with FILES command.values) names scripts (Err fault) read → AgreesOrIsFault IsBytes (Err fault) (made_package command names read)
+      → AreParts (values_of_letter SCRIPT command.values) (values_of_letter FILES command.values) names scripts (Err fault) read → AgreesOrIsFault IsBytes (Err fault) (made_package command names read)
   folders_fault scripts about fault i h =
       let Q : Result (List ℕ) MakeFault → Type 0 = λ w. AgreesOrIsFault IsBytes (Err fault) w in
       subst Q (sym (to_folders h.given about h.are i))
-      (fault_of_part IsPacking IsBytes fault (folders_below read (length h.given) (values_with FILES command.values) names) (package_of_parts command h.given about) h.rest)
+      (fault_of_part IsPacking IsBytes fault (folders_below read (length h.given) (values_of_letter FILES command.values) names) (package_of_parts command h.given about) h.rest)
 
   pub parts_made : (scripts : Vec Script Global) (about : List FieldWithValue) (packing : Packing) (r : Result (Vec ℕ Global) MakeFault) → information command ≡ Ok about
-      → AreParts (values_with SCRIPT command.values) (values_with FILES command.values) names scripts (Ok packing) read
+      → AreParts (values_of_letter SCRIPT command.values) (values_of_letter FILES command.values) names scripts (Ok packing) read
       → ((sources : List SourceFolder) → IsPacking packing sources → AgreesOrIsFault IsBytes r (package_of_parts command (scripts_view scripts.items) about sources))
       → AgreesOrIsFault IsBytes r (made_package command names read)
   parts_made scripts about packing r i h made =
@@ -172,8 +172,8 @@ module _ (command : CommandLine) (names : List (List ℕ)) (read : Reads) where
 
 -- ---- a run, of what is made
 
-pub made_by : (told : List TreeState) (command : CommandLine) (names : List (List ℕ)) (r : Result (Vec ℕ Global) MakeFault) → AreNamesBelowFirst (values_with FILES command.values) names → IfObservable told (λ v. AreBelow (values_with FILES command.values) v names)
-    → Explains told (λ read. AgreesOrIsFault IsBytes r (made_package command names read)) → IsMadeRun told command r
+pub made_by : (told : List TreeState) (command : CommandLine) (names : List (List ℕ)) (r : Result (Vec ℕ Global) MakeFault) → AreNamesBelowFirst (values_of_letter FILES command.values) names → IfObservable told (λ v. AreNamesBelowFirstOption (values_of_letter FILES command.values) v names)
+    → IsExplainedBySomeReads told (λ read. AgreesOrIsFault IsBytes r (made_package command names read)) → IsMakeResult told command r
 made_by told command names (Ok file) named below p = record { names = names; named = named; below = below; reads = record { read = p.read; observed = p.observed; is = p.is.1 ∙ ap Ok p.is.2 } }
 made_by told command names (Err Disk) named below p = tt
 made_by told command names (Err Memory) named below p = tt
@@ -183,29 +183,29 @@ made_by told command names (Err (InfoBad q)) named below p = record { names = na
 made_by told command names (Err (TooLarge b v)) named below p = record { names = names; named = named; below = below; reads = p }
 
 -- the tree was asked before the run, and stayed as it was
-pub run_as : (t0 t1 : List TreeState) (command : CommandLine) (names : List (List ℕ)) (r : Result (Vec ℕ Global) MakeFault) → t1 ≡ t0 → AreNamesBelowFirst (values_with FILES command.values) names → IfObservable t0 (λ v. AreBelow (values_with FILES command.values) v names)
-    → Explains t1 (λ read. AgreesOrIsFault IsBytes r (made_package command names read)) → IsMadeRun t0 command r
+pub run_as : (t0 t1 : List TreeState) (command : CommandLine) (names : List (List ℕ)) (r : Result (Vec ℕ Global) MakeFault) → t1 ≡ t0 → AreNamesBelowFirst (values_of_letter FILES command.values) names → IfObservable t0 (λ v. AreNamesBelowFirstOption (values_of_letter FILES command.values) v names)
+    → IsExplainedBySomeReads t1 (λ read. AgreesOrIsFault IsBytes r (made_package command names read)) → IsMakeResult t0 command r
 run_as t0 t1 command names r e named below p =
-    let P : List TreeState → Type 0 = λ t. Explains t (λ read. AgreesOrIsFault IsBytes r (made_package command names read)) in
+    let P : List TreeState → Type 0 = λ t. IsExplainedBySomeReads t (λ read. AgreesOrIsFault IsBytes r (made_package command names read)) in
     made_by t0 command names r named below (subst P e p)
 
 -- ---- the listing
 
-pub below_as : (told : List TreeState) (command : CommandLine) (values : List OptionValue) (names : List (List ℕ)) → values ≡ command.values → IfObservable told (λ v. AreBelow (values_with FILES values) v names)
-    → IfObservable told (λ v. AreBelow (values_with FILES command.values) v names)
-below_as told command values names e h = let P : List OptionValue → Type 0 = λ vs. IfObservable told (λ v. AreBelow (values_with FILES vs) v names) in subst P e h
+pub below_as : (told : List TreeState) (command : CommandLine) (values : List OptionValue) (names : List (List ℕ)) → values ≡ command.values → IfObservable told (λ v. AreNamesBelowFirstOption (values_of_letter FILES values) v names)
+    → IfObservable told (λ v. AreNamesBelowFirstOption (values_of_letter FILES command.values) v names)
+below_as told command values names e h = let P : List OptionValue → Type 0 = λ vs. IfObservable told (λ v. AreNamesBelowFirstOption (values_of_letter FILES vs) v names) in subst P e h
 
-pub named_as : (command : CommandLine) (values : List OptionValue) (names : List (List ℕ)) → values ≡ command.values → AreNamesBelowFirst (values_with FILES values) names → AreNamesBelowFirst (values_with FILES command.values) names
-named_as command values names e h = let P : List OptionValue → Type 0 = λ vs. AreNamesBelowFirst (values_with FILES vs) names in subst P e h
+pub named_as : (command : CommandLine) (values : List OptionValue) (names : List (List ℕ)) → values ≡ command.values → AreNamesBelowFirst (values_of_letter FILES values) names → AreNamesBelowFirst (values_of_letter FILES command.values) names
+named_as command values names e h = let P : List OptionValue → Type 0 = λ vs. AreNamesBelowFirst (values_of_letter FILES vs) names in subst P e h
 
 pub nothing_named : (dirs : List OptionValue) (names : List (List ℕ)) → dirs ≡ [] → AreNamesBelowFirst dirs names
 nothing_named dirs names e = let P : List OptionValue → Type 0 = λ l. AreNamesBelowFirst l names in subst P (sym e) tt
 
-pub nothing_below : (told : List TreeState) (dirs : List OptionValue) (names : List (List ℕ)) → dirs ≡ [] → IfObservable told (λ v. AreBelow dirs v names)
+pub nothing_below : (told : List TreeState) (dirs : List OptionValue) (names : List (List ℕ)) → dirs ≡ [] → IfObservable told (λ v. AreNamesBelowFirstOption dirs v names)
 nothing_below [] dirs names e = tt
-nothing_below (v ∷ vs) dirs names e = let P : List OptionValue → Type 0 = λ l. AreBelow l v names in subst P (sym e) tt
+nothing_below (v ∷ vs) dirs names e = let P : List OptionValue → Type 0 = λ l. AreNamesBelowFirstOption l v names in subst P (sym e) tt
 
-cut_by : (told : List TreeState) (command : CommandLine) (fault : MakeFault) → IsOkOrDiskOrMemory {A = List (List ℕ)} (Err fault) → IsMadeRun told command (Err fault)
+cut_by : (told : List TreeState) (command : CommandLine) (fault : MakeFault) → IsOkOrDiskOrMemory {A = List (List ℕ)} (Err fault) → IsMakeResult told command (Err fault)
 cut_by told command Disk cut = tt
 cut_by told command Memory cut = tt
 cut_by told command (FileMissing p) cut = absurd cut
@@ -213,24 +213,24 @@ cut_by told command (FileBad p c) cut = absurd cut
 cut_by told command (InfoBad p) cut = absurd cut
 cut_by told command (TooLarge b v) cut = absurd cut
 
-pub cut_run : (told : List TreeState) (command : CommandLine) (r : Result (Vec ℕ Global) MakeFault) (fault : MakeFault) → IsErrAnd r (λ e. e ≡ fault) → IsOkOrDiskOrMemory {A = List (List ℕ)} (Err fault) → IsMadeRun told command r
+pub cut_run : (told : List TreeState) (command : CommandLine) (r : Result (Vec ℕ Global) MakeFault) (fault : MakeFault) → IsErrAnd r (λ e. e ≡ fault) → IsOkOrDiskOrMemory {A = List (List ℕ)} (Err fault) → IsMakeResult told command r
 cut_run told command (Ok file) fault h cut = absurd h
-cut_run told command (Err e) fault h cut = let P : MakeFault → Type 0 = λ f. IsMadeRun told command (Err f) in subst P (sym h) (cut_by told command fault cut)
+cut_run told command (Err e) fault h cut = let P : MakeFault → Type 0 = λ f. IsMakeResult told command (Err f) in subst P (sym h) (cut_by told command fault cut)
 
 -- ---- what is said of a command's values, and of lists as they are borrowed
 
 pub scripts_as : (told : List TreeState) (r : Result (Vec Script Global) MakeFault) (values wanted : List OptionValue) → values ≡ wanted
-    → Explains told (λ read. AgreesOrIsFault AreScripts r (scripts_from read 0 (values_with SCRIPT values))) → Explains told (λ read. AgreesOrIsFault AreScripts r (scripts_from read 0 (values_with SCRIPT wanted)))
-scripts_as told r values wanted e h = let P : List OptionValue → Type 0 = λ vs. Explains told (λ read. AgreesOrIsFault AreScripts r (scripts_from read 0 (values_with SCRIPT vs))) in subst P e h
+    → IsExplainedBySomeReads told (λ read. AgreesOrIsFault AreScripts r (scripts_from read 0 (values_of_letter SCRIPT values))) → IsExplainedBySomeReads told (λ read. AgreesOrIsFault AreScripts r (scripts_from read 0 (values_of_letter SCRIPT wanted)))
+scripts_as told r values wanted e h = let P : List OptionValue → Type 0 = λ vs. IsExplainedBySomeReads told (λ read. AgreesOrIsFault AreScripts r (scripts_from read 0 (values_of_letter SCRIPT vs))) in subst P e h
 
 -- folders behind scripts, after which the tree stayed as it was
 pub both_as : (t0 t1 : List TreeState) (command : CommandLine) (values : List OptionValue) (names : List (List ℕ)) (scripts : Vec Script Global) (r : Result Packing MakeFault) → values ≡ command.values → t1 ≡ t0
-    → Explains t0 (λ read. AgreesOrIsFault AreScripts (Ok scripts) (scripts_from read 0 (values_with SCRIPT values))) → ((n : ℕ) → Explains t1 (λ read. AgreesOrIsFault IsPacking r (folders_below read n (values_with FILES values) names)))
-    → Explains t0 (AreParts (values_with SCRIPT command.values) (values_with FILES command.values) names scripts r)
+    → IsExplainedBySomeReads t0 (λ read. AgreesOrIsFault AreScripts (Ok scripts) (scripts_from read 0 (values_of_letter SCRIPT values))) → ((n : ℕ) → IsExplainedBySomeReads t1 (λ read. AgreesOrIsFault IsPacking r (folders_below read n (values_of_letter FILES values) names)))
+    → IsExplainedBySomeReads t0 (AreParts (values_of_letter SCRIPT command.values) (values_of_letter FILES command.values) names scripts r)
 both_as t0 t1 command values names scripts r e same p q =
-    let P : List OptionValue → Type 0 = λ vs. Explains t0 (AreParts (values_with SCRIPT vs) (values_with FILES vs) names scripts r) in
-    let Q : List TreeState → Type 0 = λ t. (n : ℕ) → Explains t (λ read. AgreesOrIsFault IsPacking r (folders_below read n (values_with FILES values) names)) in
-    subst P e (both_parts t0 (values_with SCRIPT values) (values_with FILES values) names scripts r p (subst Q same q))
+    let P : List OptionValue → Type 0 = λ vs. IsExplainedBySomeReads t0 (AreParts (values_of_letter SCRIPT vs) (values_of_letter FILES vs) names scripts r) in
+    let Q : List TreeState → Type 0 = λ t. (n : ℕ) → IsExplainedBySomeReads t (λ read. AgreesOrIsFault IsPacking r (folders_below read n (values_of_letter FILES values) names)) in
+    subst P e (both_parts t0 (values_of_letter SCRIPT values) (values_of_letter FILES values) names scripts r p (subst Q same q))
 
 pub package_as : (command : CommandLine) (about : List FieldWithValue) (borrowed scripts : List Script) (packing : Packing) (r : Result (Vec ℕ Global) MakeFault) → borrowed ≡ scripts
     → ((sources : List SourceFolder) → IsPacking packing sources → AgreesOrIsFault IsBytes r (package_of_parts command (scripts_view borrowed) about sources))
@@ -241,29 +241,29 @@ package_as command about borrowed scripts packing r e made sources is =
 -- ---- of the folder that is given, or of none
 
 pub listed_for : (told : List TreeState) (vs : List OptionValue) (folder : List ℕ) (names : List (List ℕ)) → IsFolder vs folder
-    → IfObservable told (λ w. IsListOf folder w names) → IfObservable told (λ w. AreBelow (values_with FILES vs) w names)
+    → IfObservable told (λ w. IsListOf folder w names) → IfObservable told (λ w. AreNamesBelowFirstOption (values_of_letter FILES vs) w names)
 listed_for told vs folder names f h =
-    let P : List OptionValue → Type 0 = λ l. IfObservable told (λ w. AreBelow l w names) in
+    let P : List OptionValue → Type 0 = λ l. IfObservable told (λ w. AreNamesBelowFirstOption l w names) in
     let Q : List ℕ → Type 0 = λ d. IfObservable told (λ w. IsListOf d w names) in
     subst P (sym f.first) (subst Q (sym f.name) h)
 
-pub named_for : (vs : List OptionValue) (folder : List ℕ) (names : List (List ℕ)) → IsFolder vs folder → AreNamesBelow folder names → AreNamesBelowFirst (values_with FILES vs) names
+pub named_for : (vs : List OptionValue) (folder : List ℕ) (names : List (List ℕ)) → IsFolder vs folder → AreNamesBelow folder names → AreNamesBelowFirst (values_of_letter FILES vs) names
 named_for vs folder names f h =
     let P : List OptionValue → Type 0 = λ l. AreNamesBelowFirst l names in
     let Q : List ℕ → Type 0 = λ d. AreNamesBelow d names in
     subst P (sym f.first) (subst Q (sym f.name) h)
 
 pub packed_for : (told : List TreeState) (dirs : List OptionValue) (v : OptionValue) (others : List OptionValue) (dir : List ℕ) (names : List (List ℕ)) (r : Result Packing MakeFault) (n : ℕ) → dirs ≡ v ∷ others
-    → dir ≡ without_dot v.text → Explains told (λ read. AgreesOrIsFault IsPacking r (source_folders_from v.place read n (folders_of dir names))) → Explains told (λ read. AgreesOrIsFault IsPacking r (folders_below read n dirs names))
+    → dir ≡ without_dot_slash v.text → IsExplainedBySomeReads told (λ read. AgreesOrIsFault IsPacking r (source_folders_from v.place read n (folder_listings_of dir names))) → IsExplainedBySomeReads told (λ read. AgreesOrIsFault IsPacking r (folders_below read n dirs names))
 packed_for told dirs v others dir names r n e d h =
-    let P : List OptionValue → Type 0 = λ l. Explains told (λ read. AgreesOrIsFault IsPacking r (folders_below read n l names)) in
-    let Q : List ℕ → Type 0 = λ f. Explains told (λ read. AgreesOrIsFault IsPacking r (source_folders_from v.place read n (folders_of f names))) in
+    let P : List OptionValue → Type 0 = λ l. IsExplainedBySomeReads told (λ read. AgreesOrIsFault IsPacking r (folders_below read n l names)) in
+    let Q : List ℕ → Type 0 = λ f. IsExplainedBySomeReads told (λ read. AgreesOrIsFault IsPacking r (source_folders_from v.place read n (folder_listings_of f names))) in
     subst P (sym e) (subst Q d h)
 
 pub nothing_packed : (told : List TreeState) (dirs : List OptionValue) (names : List (List ℕ)) (packing : Packing) (n : ℕ) → dirs ≡ [] → packing.blocks.items ≡ [] → packing.folders.items ≡ []
-    → Explains told (λ read. AgreesOrIsFault IsPacking (Ok packing) (folders_below read n dirs names))
+    → IsExplainedBySomeReads told (λ read. AgreesOrIsFault IsPacking (Ok packing) (folders_below read n dirs names))
 nothing_packed told dirs names packing n e b f =
-    let P : List OptionValue → Type 0 = λ l. Explains told (λ read. AgreesOrIsFault IsPacking (Ok packing) (folders_below read n l names)) in
+    let P : List OptionValue → Type 0 = λ l. IsExplainedBySomeReads told (λ read. AgreesOrIsFault IsPacking (Ok packing) (folders_below read n l names)) in
     subst P (sym e) (explained told (λ read. AgreesOrIsFault IsPacking (Ok packing) (Ok [])) (λ read. ([], refl, folders_none packing.blocks.items packing.folders b f)))
 
 -- ---- a run, of the tree

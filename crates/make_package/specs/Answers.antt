@@ -9,14 +9,14 @@ use Rattle.base_core.specs.Calls.{IfObservable}
 use Rattle.base_core.specs.Listed.{IsListOf}
 use Rattle.base_core.specs.Tree.{TreeState, files_of}
 use Rattle.command_core.specs.Command.{CommandLine}
-use Rattle.command_core.specs.Files.{without_dot}
+use Rattle.command_core.specs.Files.{without_dot_slash}
 use Rattle.command_core.specs.declared.values.OptionValue.{OptionValue}
 use Rattle.package_files.specs.make_info.Reads.{Reads}
 use Rattle.package_files.specs.make_info.declared.fault.MakeFault.{MakeFault}
 use Rattle.package_files.specs.make_info.declared.fault.MakeFault.TheVariants.{Disk, Memory}
 use Rattle.make_package.specs.Making.{made_package}
-use Rattle.package_files.specs.Runs.{Explains}
-use Rattle.package_files.specs.Sources.{AreNamesBelowFirst, values_with}
+use Rattle.package_files.specs.Runs.{IsExplainedBySomeReads}
+use Rattle.package_files.specs.Sources.{AreNamesBelowFirst, values_of_letter}
 
 -- ---- parts of a run
 
@@ -43,15 +43,15 @@ IsNotDisk result = Unit {0}
 
 -- the names are those below the folder that the first value of `-F` gives, if it is given, in a
 -- tree of this state
-abbrev pub AreBelow : List OptionValue → TreeState → List (List ℕ) → Type 0
-AreBelow [] v names = Unit {0}
-AreBelow (dir ∷ dirs) v names = IsListOf (without_dot dir.text) v names
+abbrev pub AreNamesBelowFirstOption : List OptionValue → TreeState → List (List ℕ) → Type 0
+AreNamesBelowFirstOption [] v names = Unit {0}
+AreNamesBelowFirstOption (dir ∷ dirs) v names = IsListOf (without_dot_slash dir.text) v names
 
 -- this holds of a refusal with a fault; an I/O error of the tree and out of memory say nothing
-abbrev pub OnRefusal : MakeFault → (Result (List ℕ) MakeFault → Type 0) → Type 0
-OnRefusal Disk P = Unit {0}
-OnRefusal Memory P = Unit {0}
-OnRefusal fault P = P (Err fault)
+abbrev pub UnlessDiskOrMemory : MakeFault → (Result (List ℕ) MakeFault → Type 0) → Type 0
+UnlessDiskOrMemory Disk P = Unit {0}
+UnlessDiskOrMemory Memory P = Unit {0}
+UnlessDiskOrMemory fault P = P (Err fault)
 
 -- ---- results of a run
 
@@ -60,25 +60,25 @@ OnRefusal fault P = P (Err fault)
 pub record IsMadeOf (history : List TreeState) (command : CommandLine)
     (made : Result (List ℕ) MakeFault) : Type 0 where
   pub names : List (List ℕ)
-  pub named : AreNamesBelowFirst (values_with FILES command.values) names
-  pub below : IfObservable history (λ v. AreBelow (values_with FILES command.values) v names)
-  pub reads : Explains history (λ read. made_package command names read ≡ made)
+  pub named : AreNamesBelowFirst (values_of_letter FILES command.values) names
+  pub below : IfObservable history (λ v. AreNamesBelowFirstOption (values_of_letter FILES command.values) v names)
+  pub reads : IsExplainedBySomeReads history (λ read. made_package command names read ≡ made)
 
 -- the result of a run is what is made; an I/O error of the tree and out of memory may occur in any case
-abbrev pub IsMadeRun : List TreeState → CommandLine → Result (Vec ℕ Global) MakeFault → Type 0
-IsMadeRun history command (Ok file) = IsMadeOf history command (Ok file.items)
-IsMadeRun history command (Err fault) = OnRefusal fault (IsMadeOf history command)
+abbrev pub IsMakeResult : List TreeState → CommandLine → Result (Vec ℕ Global) MakeFault → Type 0
+IsMakeResult history command (Ok file) = IsMadeOf history command (Ok file.items)
+IsMakeResult history command (Err fault) = UnlessDiskOrMemory fault (IsMadeOf history command)
 
 -- `made` is made from a command and the files of a tree in this state
 pub record IsMadeIn (command : CommandLine) (v : TreeState) (made : Result (List ℕ) MakeFault) :
     Type 0 where
   pub names : List (List ℕ)
-  pub below : AreBelow (values_with FILES command.values) v names
+  pub below : AreNamesBelowFirstOption (values_of_letter FILES command.values) v names
   pub is : made_package command names (λ n name. files_of v name) ≡ made
 
 -- `made` is made from a command, some names below its folder and some reads
 pub record IsMadeBySome (command : CommandLine) (made : Result (List ℕ) MakeFault) : Type 0 where
   pub names : List (List ℕ)
-  pub named : AreNamesBelowFirst (values_with FILES command.values) names
+  pub named : AreNamesBelowFirst (values_of_letter FILES command.values) names
   pub read : Reads
   pub is : made_package command names read ≡ made

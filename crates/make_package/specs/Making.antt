@@ -15,7 +15,7 @@ use Rattle.package_files.specs.make_info.Reads.{Reads}
 use Rattle.package_files.specs.make_info.declared.fault.MakeFault.{MakeFault}
 use Rattle.package_files.specs.make_info.declared.fault.MakeFault.TheVariants.{InfoBad, TooLarge}
 use Rattle.package_files.specs.Package.{SourceFolder, Script, value_of_package, installed_size, contents_of_folders}
-use Rattle.package_files.specs.Sources.{and_then, values_with, texts_of, scripts_from, folders_below}
+use Rattle.package_files.specs.Sources.{and_then, values_of_letter, texts_of, scripts_from, folders_below}
 
 -- ---- the file
 
@@ -44,14 +44,14 @@ abbrev pub package_of_parts :
 package_of_parts command scripts about folders =
     package_container
     (value_of_package (information_value about (installed_size folders)) folders scripts
-    (texts_of (values_with TRIGGER command.values)) (replaces_priority about))
+    (texts_of (values_of_letter TRIGGER command.values)) (replaces_priority about))
     (contents_of_folders 1 folders)
 
 -- the package of a command, given the names below its folder and the reads: scripts first, then the
 -- information, then the files below the folder; or the first refusal
 unfoldable pub made_package : CommandLine → List (List ℕ) → Reads → Result (List ℕ) MakeFault
 made_package command names read =
-    and_then (scripts_from read 0 (values_with SCRIPT command.values)) (λ scripts.
+    and_then (scripts_from read 0 (values_of_letter SCRIPT command.values)) (λ scripts.
     and_then (or_info_bad (information command)) (λ about.
-    and_then (folders_below read (length scripts) (values_with FILES command.values) names)
+    and_then (folders_below read (length scripts) (values_of_letter FILES command.values) names)
     (package_of_parts command scripts about)))

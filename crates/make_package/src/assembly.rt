@@ -5,9 +5,9 @@
 ghost use Rattle.command_core.specs.declared.values.TheConstants.{TRIGGER};
 ghost use Rattle.std.specs.Prelude.{ℕ, ◌≡◌, ◌≤◌, ◌<◌, ◌^◌, ◌++◌, Ok, List, length, map, IfOk, IfErr};
 ghost use Rattle.package_files.specs.adb_schema.declared.read.TheConstants.{PACKAGE_WORD};
-ghost use Rattle.package_files.specs.adb_write.Canonical.{MOST_BYTES, written_of};
+ghost use Rattle.package_files.specs.adb_write.Canonical.{MOST_BYTES, payload_or_overflow};
 ghost use Rattle.package_files.specs.adb_write.File.{file_of};
-ghost use Rattle.package_files.specs.make_info.Faults.{IsOverflow};
+ghost use Rattle.package_files.specs.make_info.Faults.{IsOverflowFault};
 ghost use Rattle.package_files.specs.make_info.Information.{information_value, replaces_priority};
 ghost use Rattle.make_package.specs.Answers.{IsBytes, IsNotDisk};
 ghost use Rattle.make_package.specs.Making.{package_of_parts};
@@ -16,7 +16,7 @@ ghost use Rattle.package_files.specs.Package.{SourceFolder, contents_of_folders,
 ghost use Rattle.package_files.specs.Packed.{IsPacking, files_size, packed_folder, packed_size};
 ghost use Rattle.package_files.specs.Runs.{AgreesOrIsFault};
 ghost use Rattle.make_package.specs.Scripts.{scripts_view};
-ghost use Rattle.package_files.specs.Sources.{values_with, texts_of};
+ghost use Rattle.package_files.specs.Sources.{values_of_letter, texts_of};
 
 use crate::writing::{Script, write_package};
 use command_core::{Command, Values};
@@ -91,15 +91,15 @@ fn payload(
     scripts: &[Script<'_>],
     size: u64,
 ) -> Result<Vec<u8>, MakeFault>
-    ensures made { IfOk result (λ payload. written_of
+    ensures made { IfOk result (λ payload. payload_or_overflow
         (package_with (information_value about.now size) (map packed_folder folders.now)
-        (scripts_view scripts.now) (texts_of (values_with TRIGGER values.now))
+        (scripts_view scripts.now) (texts_of (values_of_letter TRIGGER values.now))
         (replaces_priority about.now)) ≡ Ok payload.items) }
     ensures small { IfOk result (λ payload. length payload.items ≤ MOST_BYTES) }
-    ensures err { IfErr result (λ fault. IsOverflow fault
-        (written_of (package_with (information_value about.now size)
+    ensures err { IfErr result (λ fault. IsOverflowFault fault
+        (payload_or_overflow (package_with (information_value about.now size)
         (map packed_folder folders.now) (scripts_view scripts.now)
-        (texts_of (values_with TRIGGER values.now)) (replaces_priority about.now)))) }
+        (texts_of (values_of_letter TRIGGER values.now)) (replaces_priority about.now)))) }
 {
     let mut draft = Draft::new(alloc);
     write_package(&mut draft, values, about, folders, scripts, size)?;

@@ -1,9 +1,9 @@
 //! Makes the package that a command describes, from what it reads in a tree.
 //! The rule is in `docs/commands.md`, "`mkpkg`", with the refusals in their order.
 ghost use Rattle.base_core.specs.Read.{OnlyReads};
-ghost use Rattle.make_package.specs.Answers.{IsBytes, IsMadeRun};
+ghost use Rattle.make_package.specs.Answers.{IsBytes, IsMakeResult};
 ghost use Rattle.make_package.specs.Making.{made_package};
-ghost use Rattle.package_files.specs.Runs.{AgreesOrIsFault, Explains};
+ghost use Rattle.package_files.specs.Runs.{AgreesOrIsFault, IsExplainedBySomeReads};
 ghost use Rattle.std.specs.Prelude.{◌≡◌};
 
 use crate::assembly::package;
@@ -31,7 +31,7 @@ pub fn make<T: Tree>(alloc: Global, command: &Command, tree: &mut T) -> Result<V
         (T.counts tree.old) (T.counts tree.new) result }
     // The bytes are the package of the command, of names below its folder and of some reads; or the
     // first refusal is returned.
-    ensures made { IsMadeRun (T.history tree.old) command.now result }
+    ensures made { IsMakeResult (T.history tree.old) command.now result }
 {
     // A law that the proof needs; it computes nothing.
     a_command_has_what_its_applet_may_have();
@@ -50,7 +50,7 @@ fn pack<T: Tree>(
     requires { command.now.applet ≡ Applet.Mkpkg }
     ensures tree { OnlyReads MakeFault.Disk (T.history tree.old) (T.history tree.new)
         (T.counts tree.old) (T.counts tree.new) result }
-    ensures read { Explains (T.history tree.old) (λ read.
+    ensures read { IsExplainedBySomeReads (T.history tree.old) (λ read.
         AgreesOrIsFault IsBytes result (made_package command.now names.now read)) }
 {
     // Laws that the proof needs; they compute nothing.

@@ -4,21 +4,21 @@
 //! (the options).
 ghost use Rattle.base_core.specs.Calls.{IfObservable};
 ghost use Rattle.base_core.specs.Read.{OnlyReads};
-ghost use Rattle.command_core.specs.Sound.{value_rules, are_values};
-ghost use Rattle.command_core.specs.Files.{without_dot};
+ghost use Rattle.command_core.specs.Sound.{value_rules, are_allowed_values};
+ghost use Rattle.command_core.specs.Files.{without_dot_slash};
 ghost use Rattle.command_core.specs.Values.{script_file};
 ghost use Rattle.command_core.specs.declared.command.Applet.TheVariants.{Mkpkg};
 ghost use Rattle.command_core.specs.declared.values.TheConstants.{FILES, SCRIPT};
-ghost use Rattle.make_package.specs.Answers.{IsOkOrDiskOrMemory, IsFirstValue, AreBelow};
+ghost use Rattle.make_package.specs.Answers.{IsOkOrDiskOrMemory, IsFirstValue, AreNamesBelowFirstOption};
 ghost use Rattle.package_files.specs.Packed.{IsPacking};
-ghost use Rattle.package_files.specs.Runs.{AgreesOrIsFault, Explains};
+ghost use Rattle.package_files.specs.Runs.{AgreesOrIsFault, IsExplainedBySomeReads};
 ghost use Rattle.make_package.specs.Scripts.{AreScripts, IsScript};
-ghost use Rattle.package_files.specs.Sources.{AreNamesBelowFirst, folders_below, values_with, script_at, scripts_from};
+ghost use Rattle.package_files.specs.Sources.{AreNamesBelowFirst, folders_below, values_of_letter, script_at, scripts_from};
 ghost use Rattle.std.specs.Prelude.{◌≡◌, ◌++◌, ◌∷◌, [], ℕ, IfOk, IsTrue, OnOk};
 
 use crate::writing::Script;
 use base_core::{Name, Names, Tree};
-use command_core::{FILES, OptionValue, SCRIPT, Values, without_dot};
+use command_core::{FILES, OptionValue, SCRIPT, Values, without_dot_slash};
 use package_files::{MakeFault, Packing, pack_names, read_file};
 use std::alloc::{AllocError, Global};
 
@@ -30,16 +30,16 @@ pub(crate) fn list_names<T: Tree>(
     values: &Values,
 ) -> Result<Names, MakeFault>
     // The values are those that `mkpkg` may have.
-    requires { IsTrue (are_values (value_rules Mkpkg) values.now) }
+    requires { IsTrue (are_allowed_values (value_rules Mkpkg) values.now) }
     ensures tree { OnlyReads MakeFault.Disk (T.history tree.old) (T.history tree.new)
         (T.counts tree.old) (T.counts tree.new) result }
     // A listing can fail only by an I/O error of the tree or out of memory.
     ensures cut { IsOkOrDiskOrMemory result }
     // If the tree's files are observable, these are the names below the folder.
     ensures names { IfOk result (λ names. IfObservable (T.history tree.old) (λ v.
-        AreBelow (values_with FILES values.now) v names)) }
+        AreNamesBelowFirstOption (values_of_letter FILES values.now) v names)) }
     // Whatever the tree returns, these are names below the folder, in byte order and each once.
-    ensures order { IfOk result (λ names. AreNamesBelowFirst (values_with FILES values.now) names) }
+    ensures order { IfOk result (λ names. AreNamesBelowFirst (values_of_letter FILES values.now) names) }
 {
     match values.first_file(FILES) {
         Some(folder) => {
@@ -60,13 +60,13 @@ pub(crate) fn pack_below<'a, T: Tree>(
 ) -> Result<Packing<'a>, MakeFault>
     ensures tree { OnlyReads MakeFault.Disk (T.history tree.old) (T.history tree.new)
         (T.counts tree.old) (T.counts tree.new) result }
-    ensures read { (n : ℕ) → Explains (T.history tree.old) (λ read.
+    ensures read { (n : ℕ) → IsExplainedBySomeReads (T.history tree.old) (λ read.
         AgreesOrIsFault IsPacking result (folders_below read n
-        (values_with FILES values.now) names.now)) }
+        (values_of_letter FILES values.now) names.now)) }
 {
     match first_folder(values) {
         Some(value) => {
-            let folder = without_dot(value.text.as_bytes());
+            let folder = without_dot_slash(value.text.as_bytes());
             pack_names(alloc, tree, value.place, folder, names)
         }
         None => Ok(Packing {
@@ -78,7 +78,7 @@ pub(crate) fn pack_below<'a, T: Tree>(
 
 /// The first value of `-F`, which gives a folder, if it is given.
 fn first_folder(values: &Values) -> Option<&OptionValue>
-    ensures { IsFirstValue result (values_with FILES values.entry.now) }
+    ensures { IsFirstValue result (values_of_letter FILES values.entry.now) }
 {
     values.first(FILES)
 }
@@ -89,12 +89,12 @@ pub(crate) fn read_scripts<'a, T: Tree>(
     tree: &mut T,
     values: &'a Values,
 ) -> Result<Vec<Script<'a>>, MakeFault>
-    requires { IsTrue (are_values (value_rules Mkpkg) values.now) }
+    requires { IsTrue (are_allowed_values (value_rules Mkpkg) values.now) }
     ensures tree { OnlyReads MakeFault.Disk (T.history tree.old) (T.history tree.new)
         (T.counts tree.old) (T.counts tree.new) result }
-    ensures read { (n : ℕ) → Explains (T.history tree.old) (λ read.
+    ensures read { (n : ℕ) → IsExplainedBySomeReads (T.history tree.old) (λ read.
         AgreesOrIsFault AreScripts result (scripts_from read n
-        (values_with SCRIPT values.entry.now))) }
+        (values_of_letter SCRIPT values.entry.now))) }
 {
     let mut scripts = Vec::new(alloc);
     for i in 0..values.len() {
@@ -124,10 +124,10 @@ fn read_script<'a, T: Tree>(
     value: &'a OptionValue,
     file: &Name,
 ) -> Result<Script<'a>, MakeFault>
-    requires { file.now ≡ without_dot (script_file value.now.text) }
+    requires { file.now ≡ without_dot_slash (script_file value.now.text) }
     ensures tree { OnlyReads MakeFault.Disk (T.history tree.old) (T.history tree.new)
         (T.counts tree.old) (T.counts tree.new) result }
-    ensures read { (n : ℕ) → Explains (T.history tree.old) (λ read.
+    ensures read { (n : ℕ) → IsExplainedBySomeReads (T.history tree.old) (λ read.
         AgreesOrIsFault IsScript result (script_at read n value.entry.now)) }
 {
     let bytes = read_file(alloc, tree, value.place, file)?;

@@ -10,7 +10,7 @@ ghost use Rattle.package_files.specs.make_info.Values.{plains_of_list};
 ghost use Rattle.package_files.specs.Package.{access_value, script_in, value_of_scripts, package_with};
 ghost use Rattle.package_files.specs.Packed.{packed_file, packed_folder};
 ghost use Rattle.make_package.specs.Scripts.{scripts_view};
-ghost use Rattle.package_files.specs.Sources.{values_with, texts_of};
+ghost use Rattle.package_files.specs.Sources.{values_of_letter, texts_of};
 ghost use Rattle.std.specs.Prelude.{map, OnOk, ◌≡◌};
 
 use command_core::{TRIGGER, Values};
@@ -36,7 +36,7 @@ pub(crate) fn write_package(
 ) -> Result<(), AllocError>
     ensures { OnOk result (draft.new ≡ draft_with
         (package_with (information_value about.now size) (map packed_folder folders.now)
-        (scripts_view scripts.now) (texts_of (values_with TRIGGER values.now))
+        (scripts_view scripts.now) (texts_of (values_of_letter TRIGGER values.now))
         (replaces_priority about.now)) draft.old) }
 {
     draft.open_list()?;
@@ -149,7 +149,7 @@ fn script_of<'a>(scripts: &'a [Script<'_>], kind: &[u8]) -> &'a [u8]
 /// Writes the triggers: the values of `-t`, in the order given.
 fn write_triggers(draft: &mut Draft, values: &Values) -> Result<(), AllocError>
     ensures { OnOk result (draft.new ≡ draft_with (arr_value (plains_of_list (map blob_or_null
-        (texts_of (values_with TRIGGER values.now))))) draft.old) }
+        (texts_of (values_of_letter TRIGGER values.now))))) draft.old) }
 {
     draft.open_list()?;
     for i in 0..values.len() {

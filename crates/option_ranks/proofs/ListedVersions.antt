@@ -9,7 +9,7 @@ use Rattle.std.proofs.lemmas.Bool.{false≢true}
 use Rattle.std.proofs.lemmas.List.Elements.{All-map}
 use Rattle.std.proofs.lemmas.List.Sorted.{All-permutation, IsPermutation-map}
 use Rattle.candidate_core.specs.Options.{IsIn}
-use Rattle.candidate_core.specs.VersionTexts.{IsReadBy}
+use Rattle.candidate_core.specs.VersionTexts.{HasVersionTextFrom}
 use Rattle.candidate_core.specs.declared.versions.RankedVersion.{RankedVersion}
 use Rattle.candidate_core.specs.declared.versions.VersionKind.{VersionKind}
 use Rattle.candidate_core.proofs.Steps.{get_at}
@@ -46,11 +46,11 @@ module _ (kind : VersionKind) (sorted ranked placed : List RankedVersion) (is : 
       (subst (λ (vs : List RankedVersion). All (HasRankAmong kind (versions_in placed)) vs) (sym is)
       (All-map (HasRankAmong kind (versions_in placed)) (version_with_rank_among kind (versions_in sorted)) sorted (λ i d h. same_rank (get_or sorted i d).version)))
 
-  pub all_are_read : (text : ℕ → ℕ → List ℕ) → All (IsReadBy text) sorted → All (IsReadBy text) placed
+  pub all_are_read : (text : ℕ → ℕ → List ℕ) → All (HasVersionTextFrom text) sorted → All (HasVersionTextFrom text) placed
   all_are_read text each =
-      All-permutation (IsReadBy text) ranked placed moved
-      (subst (λ (vs : List RankedVersion). All (IsReadBy text) vs) (sym is)
-      (All-map (IsReadBy text) (version_with_rank_among kind (versions_in sorted)) sorted each))
+      All-permutation (HasVersionTextFrom text) ranked placed moved
+      (subst (λ (vs : List RankedVersion). All (HasVersionTextFrom text) vs) (sym is)
+      (All-map (HasVersionTextFrom text) (version_with_rank_among kind (versions_in sorted)) sorted each))
 
 -- ---- in order
 

@@ -2,7 +2,7 @@
 use Rattle.std.specs.Cmp.{IsTotalOrder, on_total, back_total, then_total, nat_cmp_total, bool_cmp_total}
 use Rattle.std.specs.Cmp.Lexicographic.{nat_list_cmp_total, options_total}
 use Rattle.version_core.specs.Order.{version_cmp}
-use Rattle.candidate_core.specs.Candidates.{Candidate, Need, version_under}
+use Rattle.candidate_core.specs.Candidates.{Candidate, Need, version_meeting_need}
 use Rattle.candidate_core.specs.Rank.{SealedPool, UpgradedNames, rank_cmp, quality_first, is_pinned, is_untagged, has_needed_name, is_kept_installed, tag_name_kept_cmp, version_and_priority_cmp, text_cmp, candidate_at, greater_version}
 use Rattle.option_ranks.specs.Ranking.{Ranking, ranking_cmp, truth_first, version_key_cmp, version_order}
 use Rattle.option_ranks.specs.declared.rank.VersionKey.{VersionKey}
@@ -25,7 +25,7 @@ module _ (versions : IsTotalOrder version_cmp) where
 
   merit_total : (need : Need) → IsTotalOrder (version_and_priority_cmp need)
   merit_total need =
-      then_total (on_total (version_under need) versions_back)
+      then_total (on_total (version_meeting_need need) versions_back)
       (then_total (on_total (λ (c : Candidate). c.priority) (back_total nat_cmp_total))
       (then_total (on_total (λ (c : Candidate). c.name) nat_list_cmp_total)
       (on_total (λ (c : Candidate). c.version) versions_back)))

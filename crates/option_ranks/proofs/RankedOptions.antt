@@ -11,11 +11,11 @@ use Rattle.std.specs.List.Sorted.{IsPermutation, IsSortedBy}
 use Rattle.std.proofs.lemmas.List.{get_or-map, length-map}
 use Rattle.std.proofs.lemmas.List.Sorted.{All-permutation, IsPermutation-map, IsPermutation-refl, IsPermutation-trans}
 use Rattle.version_core.specs.Order.{version_cmp}
-use Rattle.candidate_core.specs.Candidates.{Candidate, Need, version_under}
+use Rattle.candidate_core.specs.Candidates.{Candidate, Need, version_meeting_need}
 use Rattle.candidate_core.specs.Options.{rank_order_of}
 use Rattle.candidate_core.specs.Rank.{SealedPool, bytes_cmp, candidate_at, earlier_repository, greater_version, is_better, is_pinned, quality_first, rank_cmp, tag_name_kept_cmp}
-use Rattle.option_ranks.specs.Ranking.{IsRankingIn, Ranking, ranking_by, ranking_cmp, version_order, with_values_of_candidate}
-use Rattle.option_ranks.specs.VersionRanks.{AreRankedTwice, AreReadyFor, rank_among, version_of, with_rank}
+use Rattle.option_ranks.specs.Ranking.{IsRankingIn, Ranking, ranking_from_parts, ranking_cmp, version_order, with_values_of_candidate}
+use Rattle.option_ranks.specs.VersionRanks.{AreRankedTwice, AreComparableByKey, rank_among, version_of, with_version_rank}
 use Rattle.option_ranks.specs.declared.rank.VersionKey.{VersionKey}
 use Rattle.option_ranks.specs.declared.rank.VersionKey.TheVariants.{ByRank, ByText}
 use Rattle.candidate_core.specs.declared.versions.RankedVersion.{RankedVersion}
@@ -40,7 +40,7 @@ no_version : RankedVersion
 no_version = record { version = None; source = 0; word = 0; rank = 0 }
 
 none_read : Ranking
-none_read = ranking_by false false false false no_version 0 [] no_version None 0
+none_read = ranking_from_parts false false false false no_version 0 [] no_version None 0
 
 -- the version's text is a key of its own, after the version
 regroup : (u p n g t r : Ordering) → ordering_then (ordering_then u (ordering_then p (ordering_then n (ordering_then g t)))) r ≡ ordering_then (ordering_then u (ordering_then p (ordering_then n g))) (ordering_then t r)
@@ -60,9 +60,9 @@ same_by_rank versions kind vs a b p q =
     ∙ (ap (nat_cmp (rank_among kind vs (version_of kind a).version)) q.rank
     ∙ counts_order (version_order kind) (order_of_kind versions kind) vs (version_of kind a).version (version_of kind b).version p.listed q.listed)
 
-pub ranking_kept : (pool : SealedPool) (need : Need) (kind : VersionKind) (n : ℕ) (r : Ranking) → IsRankingIn pool need r → IsRankingIn pool need (with_rank kind n r)
-ranking_kept pool need Under n r p = (p.0, (p.1.0, ap (with_rank Under n) p.1.1))
-ranking_kept pool need Own n r p = (p.0, (p.1.0, ap (with_rank Own n) p.1.1))
+pub ranking_kept : (pool : SealedPool) (need : Need) (kind : VersionKind) (n : ℕ) (r : Ranking) → IsRankingIn pool need r → IsRankingIn pool need (with_version_rank kind n r)
+ranking_kept pool need Under n r p = (p.0, (p.1.0, ap (with_version_rank Under n) p.1.1))
+ranking_kept pool need Own n r p = (p.0, (p.1.0, ap (with_version_rank Own n) p.1.1))
 
 -- what is sorted by a key that orders places as the rank does
 sorted_places : (pool : SealedPool) (need : Need) (key : VersionKey) (P : Ranking → Type 0) → ((a b : Ranking) → P a → P b → ranking_cmp key a b ≡ rank_cmp pool need a.place b.place)
@@ -86,7 +86,7 @@ module _ (pool : SealedPool) (need : Need) where
   unfolding ranking_cmp rank_cmp
   read_by_text a b x y h g =
       rw (h, g) (ap (λ (o : Ordering). ordering_then (ordering_then (quality_first (is_pinned pool.world) x y) (ordering_then (tag_name_kept_cmp pool.upgraded need x y) o)) (nat_cmp a.place b.place))
-      (regroup (greater_version (version_under need x) (version_under need y)) (nat_cmp y.priority x.priority) (bytes_cmp x.name y.name) (greater_version x.version y.version) (option_cmp bytes_cmp x.version y.version) (earlier_repository x.repository y.repository)))
+      (regroup (greater_version (version_meeting_need need x) (version_meeting_need need y)) (nat_cmp y.priority x.priority) (bytes_cmp x.name y.name) (greater_version x.version y.version) (option_cmp bytes_cmp x.version y.version) (earlier_repository x.repository y.repository)))
 
   same_by_text : (a b : Ranking) → IsRankingIn pool need a → IsRankingIn pool need b → ranking_cmp ByText a b ≡ rank_cmp pool need a.place b.place
   same_by_text a b p q =
@@ -101,19 +101,19 @@ module _ (versions : IsTotalOrder version_cmp) (pool : SealedPool) (need : Need)
     pub under : HasRank Under unders r
     pub own : HasRank Own owns r
 
-  as_read : (a b : Ranking) (x y : Candidate) → candidate_at pool a.place ≡ Some x → candidate_at pool b.place ≡ Some y → nat_cmp a.under.rank b.under.rank ≡ greater_version (version_under need x) (version_under need y) → nat_cmp a.version.rank b.version.rank ≡ ordering_then (greater_version x.version y.version) (option_cmp bytes_cmp x.version y.version) → ranking_cmp ByRank (with_values_of_candidate pool need x a) (with_values_of_candidate pool need y b) ≡ rank_cmp pool need a.place b.place
+  as_read : (a b : Ranking) (x y : Candidate) → candidate_at pool a.place ≡ Some x → candidate_at pool b.place ≡ Some y → nat_cmp a.under.rank b.under.rank ≡ greater_version (version_meeting_need need x) (version_meeting_need need y) → nat_cmp a.version.rank b.version.rank ≡ ordering_then (greater_version x.version y.version) (option_cmp bytes_cmp x.version y.version) → ranking_cmp ByRank (with_values_of_candidate pool need x a) (with_values_of_candidate pool need y b) ≡ rank_cmp pool need a.place b.place
   unfolding ranking_cmp rank_cmp
   as_read a b x y h g under own =
       rw (h, g, under, own) (ap (λ (o : Ordering). ordering_then (ordering_then (quality_first (is_pinned pool.world) x y) (ordering_then (tag_name_kept_cmp pool.upgraded need x y) o)) (nat_cmp a.place b.place))
-      (regroup (greater_version (version_under need x) (version_under need y)) (nat_cmp y.priority x.priority) (bytes_cmp x.name y.name) (greater_version x.version y.version) (option_cmp bytes_cmp x.version y.version) (earlier_repository x.repository y.repository)))
+      (regroup (greater_version (version_meeting_need need x) (version_meeting_need need y)) (nat_cmp y.priority x.priority) (bytes_cmp x.name y.name) (greater_version x.version y.version) (option_cmp bytes_cmp x.version y.version) (earlier_repository x.repository y.repository)))
 
   same_order : (a b : Ranking) → IsRanked a → IsRanked b → ranking_cmp ByRank a b ≡ rank_cmp pool need a.place b.place
   same_order a b p q =
       let x : Candidate = p.read.0 in
       let y : Candidate = q.read.0 in
-      let under : nat_cmp a.under.rank b.under.rank ≡ greater_version (version_under need x) (version_under need y) =
+      let under : nat_cmp a.under.rank b.under.rank ≡ greater_version (version_meeting_need need x) (version_meeting_need need y) =
       same_by_rank versions Under unders a b p.under q.under
-      ∙ (ap (λ (r : Ranking). greater_version r.under.version b.under.version) p.read.1.1 ∙ ap (λ (r : Ranking). greater_version (version_under need x) r.under.version) q.read.1.1) in
+      ∙ (ap (λ (r : Ranking). greater_version r.under.version b.under.version) p.read.1.1 ∙ ap (λ (r : Ranking). greater_version (version_meeting_need need x) r.under.version) q.read.1.1) in
       let own : nat_cmp a.version.rank b.version.rank ≡ version_order Own x.version y.version =
       same_by_rank versions Own owns a b p.own q.own
       ∙ (ap (λ (r : Ranking). version_order Own r.version.version b.version.version) p.read.1.1 ∙ ap (λ (r : Ranking). version_order Own x.version r.version.version) q.read.1.1) in
@@ -134,7 +134,7 @@ module _ (versions : IsTotalOrder version_cmp) (pool : SealedPool) (need : Need)
       λ i d h. record { read = each_second i d h; under = under i d h; own = own i d h }
 
   -- what is ready for a key and sorted by it is in rank order
-  pub sorted_by_key : (key : VersionKey) (ready sorted : List Ranking) → AreReadyFor key read ready → IsPermutation ready sorted → IsSortedBy (comes_before key) sorted → IsSortedBy (is_better pool need) (map place_of sorted)
+  pub sorted_by_key : (key : VersionKey) (ready sorted : List Ranking) → AreComparableByKey key read ready → IsPermutation ready sorted → IsSortedBy (comes_before key) sorted → IsSortedBy (is_better pool need) (map place_of sorted)
   sorted_by_key ByRank ready sorted twice moved up =
       let P : Ranking → Type 0 = IsRanked versions pool need twice.under.versions twice.own.versions in
       sorted_places pool need ByRank P (same_order versions pool need twice.under.versions twice.own.versions) sorted (All-permutation P ready sorted moved (ranked_twice ready twice)) up
@@ -143,7 +143,7 @@ module _ (versions : IsTotalOrder version_cmp) (pool : SealedPool) (need : Need)
       sorted_places pool need ByText P (same_by_text pool need) sorted (All-permutation P ready sorted moved (subst (λ (rs : List Ranking). All P rs) (sym same) each)) up
 
   -- and it has the places that were read
-  pub places_ready : (key : VersionKey) (ready : List Ranking) → AreReadyFor key read ready → IsPermutation (map place_of read) (map place_of ready)
+  pub places_ready : (key : VersionKey) (ready : List Ranking) → AreComparableByKey key read ready → IsPermutation (map place_of read) (map place_of ready)
   places_ready ByRank ready twice =
       IsPermutation-trans (map place_of read) (map place_of twice.between) (map place_of ready) (places_kept Under read twice.between twice.under) (places_kept Own twice.between ready twice.own)
   places_ready ByText ready same =

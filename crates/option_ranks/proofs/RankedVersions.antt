@@ -6,8 +6,8 @@ use Rattle.std.proofs.lemmas.List.Elements.{All-map, All-push}
 use Rattle.std.proofs.lemmas.List.Sorted.{All-permutation, IsPermutation-map}
 use Rattle.candidate_core.specs.Options.{IsIn}
 use Rattle.option_ranks.specs.Ranking.{Ranking}
-use Rattle.candidate_core.specs.VersionTexts.{IsReadBy}
-use Rattle.option_ranks.specs.VersionRanks.{AreRankedFrom, AreReadAlike, HaveSamePlace, IsListed, rank_among, version_of, with_rank, with_rank_among}
+use Rattle.candidate_core.specs.VersionTexts.{HasVersionTextFrom}
+use Rattle.option_ranks.specs.VersionRanks.{AreRankedFrom, HaveVersionsFromSameTexts, HaveSamePlace, IsVersionAmong, rank_among, version_of, with_version_rank, with_rank_among}
 use Rattle.candidate_core.specs.declared.versions.RankedVersion.{RankedVersion}
 use Rattle.candidate_core.specs.declared.versions.VersionKind.{VersionKind}
 use Rattle.candidate_core.specs.declared.versions.VersionKind.TheVariants.{Under, Own}
@@ -21,7 +21,7 @@ same_text text s t w u None (Some y) f g e h k = absurd (cc)
 same_text text s t w u (Some x) None f g e h k = absurd (cc)
 same_text text s t w u (Some x) (Some y) f g e h k = ap Some (f ∙ (ap (λ (n : ℕ). text n w) h ∙ (ap (text t) k ∙ sym g)))
 
-pub same_version : (text : ℕ → ℕ → List ℕ) (one other : RankedVersion) → IsReadBy text one → IsReadBy text other → HaveSamePlace one other → one.version ≡ other.version
+pub same_version : (text : ℕ → ℕ → List ℕ) (one other : RankedVersion) → HasVersionTextFrom text one → HasVersionTextFrom text other → HaveSamePlace one other → one.version ≡ other.version
 same_version text one other f g same = same_text text one.source other.source one.word other.word one.version other.version f g same.version same.source same.word
 
 pub all_at : {X : Type 0} (P : X → Type 0) (xs : List X) (i : ℕ) (x : X) → All P xs → slice_get xs i ≡ Some x → P x
@@ -30,10 +30,10 @@ all_at P [] (suc i) x all h = absurd (cc)
 all_at {X} P (y ∷ xs) zero x all h = let s : y ≡ x = cc in subst P s (all 0 y (omega arith))
 all_at P (y ∷ xs) (suc i) x all h = all_at P xs i x (λ k d low. all (suc k) d (omega (arith, low))) h
 
-pub alike_at : (kind : VersionKind) (rs : List Ranking) (i j : ℕ) (one other : Ranking) → AreReadAlike kind rs → slice_get rs i ≡ Some one → slice_get rs j ≡ Some other → HaveSamePlace (version_of kind one) (version_of kind other) → (version_of kind one).version ≡ (version_of kind other).version
+pub alike_at : (kind : VersionKind) (rs : List Ranking) (i j : ℕ) (one other : Ranking) → HaveVersionsFromSameTexts kind rs → slice_get rs i ≡ Some one → slice_get rs j ≡ Some other → HaveSamePlace (version_of kind one) (version_of kind other) → (version_of kind one).version ≡ (version_of kind other).version
 alike_at kind rs i j one other alike f g same =
     same_version alike.0 (version_of kind one) (version_of kind other)
-    (all_at (λ r. IsReadBy alike.0 (version_of kind r)) rs i one alike.1 f) (all_at (λ r. IsReadBy alike.0 (version_of kind r)) rs j other alike.1 g) same
+    (all_at (λ r. HasVersionTextFrom alike.0 (version_of kind r)) rs i one alike.1 f) (all_at (λ r. HasVersionTextFrom alike.0 (version_of kind r)) rs j other alike.1 g) same
 
 -- ---- lists of versions
 
@@ -56,14 +56,14 @@ get_in_front (x ∷ xs) (suc i) zero low = refl
 get_in_front (x ∷ xs) (suc i) (suc j) low = get_in_front xs i j (omega (arith, low))
 
 -- one that is read from the same text as the one before it is listed as that is
-pub listed_before : (kind : VersionKind) (vs : List (Option (List ℕ))) (rs : List Ranking) (i : ℕ) (d : Ranking) → AreReadAlike kind rs → 0 < i → i < length rs → ((one other : Ranking) → slice_get rs (i - 1) ≡ Some one → slice_get rs i ≡ Some other → HaveSamePlace (version_of kind one) (version_of kind other)) → All (IsListed kind vs) (take i rs) → IsListed kind vs (get_or rs i d)
+pub listed_before : (kind : VersionKind) (vs : List (Option (List ℕ))) (rs : List Ranking) (i : ℕ) (d : Ranking) → HaveVersionsFromSameTexts kind rs → 0 < i → i < length rs → ((one other : Ranking) → slice_get rs (i - 1) ≡ Some one → slice_get rs i ≡ Some other → HaveSamePlace (version_of kind one) (version_of kind other)) → All (IsVersionAmong kind vs) (take i rs) → IsVersionAmong kind vs (get_or rs i d)
 listed_before kind vs rs i d alike low within same was =
     let one : Ranking = get_or rs (i - 1) d in
     let other : Ranking = get_or rs i d in
     let f : slice_get rs (i - 1) ≡ Some one = get_at rs (i - 1) d (omega (arith, low, within)) in
     let g : slice_get rs i ≡ Some other = get_at rs i d within in
     let front : slice_get (take i rs) (i - 1) ≡ slice_get rs (i - 1) = get_in_front rs i (i - 1) (omega (arith, low)) in
-    let there : IsListed kind vs one = all_at (IsListed kind vs) (take i rs) (i - 1) one was (front ∙ f) in
+    let there : IsVersionAmong kind vs one = all_at (IsVersionAmong kind vs) (take i rs) (i - 1) one was (front ∙ f) in
     subst (λ (v : Option (List ℕ)). IsIn v vs) (alike_at kind rs (i - 1) i one other alike f g (same one other f g)) there
 
 -- ---- the first of a list, changed
@@ -114,14 +114,14 @@ module _ {X : Type 0} (f : X → X) where
 -- its version has the rank that it has among some, and is one of them
 pub record HasRank (kind : VersionKind) (versions : List (Option (List ℕ))) (r : Ranking) : Type 0 where
   pub rank : (version_of kind r).rank ≡ rank_among kind versions (version_of kind r).version
-  pub listed : IsListed kind versions r
+  pub listed : IsVersionAmong kind versions r
 
-ranked_one : (kind : VersionKind) (vs : List (Option (List ℕ))) (r : Ranking) → IsListed kind vs r → HasRank kind vs (with_rank_among kind vs r)
+ranked_one : (kind : VersionKind) (vs : List (Option (List ℕ))) (r : Ranking) → IsVersionAmong kind vs r → HasRank kind vs (with_rank_among kind vs r)
 ranked_one Under vs r m = record { rank = refl; listed = m }
 ranked_one Own vs r m = record { rank = refl; listed = m }
 
 module _ (kind : VersionKind) (xs ys : List Ranking) (from : AreRankedFrom kind xs ys) where
-  pub all_kept : (P : Ranking → Type 0) → ((n : ℕ) (r : Ranking) → P r → P (with_rank kind n r)) → All P xs → All P ys
+  pub all_kept : (P : Ranking → Type 0) → ((n : ℕ) (r : Ranking) → P r → P (with_version_rank kind n r)) → All P xs → All P ys
   all_kept P keeps all =
       subst (λ (rs : List Ranking). All P rs) (sym from.ranked)
       (All-map P (with_rank_among kind from.versions) from.moved (λ i d h. keeps _ _ (All-permutation P xs from.moved from.permutation all i d h)))
@@ -136,7 +136,7 @@ module _ (kind : VersionKind) (xs ys : List Ranking) (from : AreRankedFrom kind 
       subst (λ (ns : List ℕ). IsPermutation (map (λ (r : Ranking). r.place) xs) ns) (sym (ap (map (λ (r : Ranking). r.place)) from.ranked ∙ same_places from.moved))
       (IsPermutation-map (λ (r : Ranking). r.place) xs from.moved from.permutation)
     where
-      same_place : (k : VersionKind) (n : ℕ) (r : Ranking) → (with_rank k n r).place ≡ r.place
+      same_place : (k : VersionKind) (n : ℕ) (r : Ranking) → (with_version_rank k n r).place ≡ r.place
       same_place Under n r = refl
       same_place Own n r = refl
 

@@ -7,7 +7,7 @@ use Rattle.std.specs.Prelude.{◌≡◌, ℕ, Bool, List, Option, Some}
 use Rattle.std.specs.Option.{option_cmp}
 use Rattle.std.specs.Ordering.{bool_cmp, flip_args, nat_cmp, on, then_cmp}
 use Rattle.std.specs.declared.cmp.Ordering.{Ordering}
-use Rattle.candidate_core.specs.Candidates.{Candidate, Need, version_under}
+use Rattle.candidate_core.specs.Candidates.{Candidate, Need, version_meeting_need}
 use Rattle.candidate_core.specs.Rank.{SealedPool, bytes_cmp, candidate_at, earlier_repository, greater_version, has_needed_name, is_kept_installed, is_pinned, is_untagged}
 use Rattle.option_ranks.specs.declared.rank.VersionKey.{VersionKey}
 use Rattle.option_ranks.specs.declared.rank.VersionKey.TheVariants.{ByRank, ByText}
@@ -31,9 +31,9 @@ pub record Ranking : Type 0 where
   pub place : ℕ
 
 -- a ranking from its parts
-abbrev pub ranking_by :
+abbrev pub ranking_from_parts :
     Bool → Bool → Bool → Bool → RankedVersion → ℕ → List ℕ → RankedVersion → Option ℕ → ℕ → Ranking
-ranking_by pinned untagged named kept under priority name version repository place = record {
+ranking_from_parts pinned untagged named kept under priority name version repository place = record {
   pinned = pinned;
   untagged = untagged;
   named = named;
@@ -54,8 +54,8 @@ with_version ranked version = record ranked { version = version }
 -- ranks stay
 abbrev pub with_values_of_candidate : SealedPool → Need → Candidate → Ranking → Ranking
 with_values_of_candidate pool need c r =
-    ranking_by (is_pinned pool.world c) (is_untagged c) (has_needed_name need c)
-    (is_kept_installed pool.upgraded c) (with_version r.under (version_under need c)) c.priority c.name
+    ranking_from_parts (is_pinned pool.world c) (is_untagged c) (has_needed_name need c)
+    (is_kept_installed pool.upgraded c) (with_version r.under (version_meeting_need need c)) c.priority c.name
     (with_version r.version c.version) c.repository r.place
 
 -- there is a candidate at the place of the ranking, and the ranking is that of it

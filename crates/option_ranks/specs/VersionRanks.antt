@@ -8,7 +8,7 @@ use Rattle.std.specs.List.Sorted.{IsPermutation}
 use Rattle.std.specs.Ordering.{is_lt}
 use Rattle.candidate_core.specs.Options.{IsIn}
 use Rattle.option_ranks.specs.Ranking.{Ranking, version_order}
-use Rattle.candidate_core.specs.VersionTexts.{IsReadBy, source_text}
+use Rattle.candidate_core.specs.VersionTexts.{HasVersionTextFrom, source_text}
 use Rattle.candidate_core.specs.declared.packages.Source.{Source}
 use Rattle.option_ranks.specs.declared.rank.VersionKey.{VersionKey}
 use Rattle.option_ranks.specs.declared.rank.VersionKey.TheVariants.{ByRank, ByText}
@@ -25,8 +25,8 @@ pub record HaveSamePlace (one other : RankedVersion) : Type 0 where
   pub word : one.word ≡ other.word
 
 -- both versions of a ranking, if they exist, are the texts at their places in some sources
-abbrev pub IsReadFrom : List Source → Ranking → Type 0
-IsReadFrom sources r = IsReadBy (source_text sources) r.under × IsReadBy (source_text sources) r.version
+abbrev pub HasVersionTextsOfSources : List Source → Ranking → Type 0
+HasVersionTextsOfSources sources r = HasVersionTextFrom (source_text sources) r.under × HasVersionTextFrom (source_text sources) r.version
 
 -- ---- ranks
 
@@ -41,14 +41,14 @@ rank_among kind versions version =
     length (filter (λ one. is_lt (version_order kind one version)) versions)
 
 -- a ranking in which the version of a kind has this rank
-abbrev pub with_rank : VersionKind → ℕ → Ranking → Ranking
-with_rank Under n r = record r { under = record r.under { rank = n } }
-with_rank Own n r = record r { version = record r.version { rank = n } }
+abbrev pub with_version_rank : VersionKind → ℕ → Ranking → Ranking
+with_version_rank Under n r = record r { under = record r.under { rank = n } }
+with_version_rank Own n r = record r { version = record r.version { rank = n } }
 
 -- a ranking in which the version of a kind has its rank among these
 abbrev pub with_rank_among : VersionKind → List (Option (List ℕ)) → Ranking → Ranking
 with_rank_among kind versions r =
-    with_rank kind (rank_among kind versions (version_of kind r).version) r
+    with_version_rank kind (rank_among kind versions (version_of kind r).version) r
 
 -- the versions of a list, without their places and ranks
 abbrev pub versions_in : List RankedVersion → List (Option (List ℕ))
@@ -73,23 +73,23 @@ IsRankAt versions other rank = (v : RankedVersion)
     × (IsIn v versions × (HaveSamePlace v other × (v.rank ≡ rank)))
 
 -- the ranking's version of a kind is one of the list
-abbrev pub IsListed : VersionKind → List (Option (List ℕ)) → Ranking → Type 0
-IsListed kind versions r = IsIn (version_of kind r).version versions
+abbrev pub IsVersionAmong : VersionKind → List (Option (List ℕ)) → Ranking → Type 0
+IsVersionAmong kind versions r = IsIn (version_of kind r).version versions
 
 -- the versions of one kind of all these rankings are read from the same texts
-abbrev pub AreReadAlike : VersionKind → List Ranking → Type 0
-AreReadAlike kind rankings = (text : ℕ → ℕ → List ℕ)
-    × All (λ r. IsReadBy text (version_of kind r)) rankings
+abbrev pub HaveVersionsFromSameTexts : VersionKind → List Ranking → Type 0
+HaveVersionsFromSameTexts kind rankings = (text : ℕ → ℕ → List ℕ)
+    × All (λ r. HasVersionTextFrom text (version_of kind r)) rankings
 
 -- these versions and one more are read from the same texts
 abbrev pub IsReadTogether : List RankedVersion → RankedVersion → Type 0
 IsReadTogether versions v = (text : ℕ → ℕ → List ℕ)
-    × (IsReadBy text v × All (IsReadBy text) versions)
+    × (HasVersionTextFrom text v × All (HasVersionTextFrom text) versions)
 
 -- these versions, and the versions of one kind of all these rankings, are read from the same texts
 abbrev pub AreReadTogether : VersionKind → List RankedVersion → List Ranking → Type 0
 AreReadTogether kind versions rankings = (text : ℕ → ℕ → List ℕ)
-    × (All (IsReadBy text) versions × All (λ r. IsReadBy text (version_of kind r)) rankings)
+    × (All (HasVersionTextFrom text) versions × All (λ r. HasVersionTextFrom text (version_of kind r)) rankings)
 
 -- the rankings `after` are those `before` in some order, each with the rank of its version among some
 -- that include the versions of all
@@ -97,7 +97,7 @@ pub record AreRankedFrom (kind : VersionKind) (before after : List Ranking) : Ty
   pub versions : List (Option (List ℕ))
   pub moved : List Ranking
   pub permutation : IsPermutation before moved
-  pub listed : All (IsListed kind versions) moved
+  pub listed : All (IsVersionAmong kind versions) moved
   pub ranked : after ≡ map (with_rank_among kind versions) moved
 
 -- the rankings `after` are those `before` in some order, each with the ranks of both its versions
@@ -108,6 +108,6 @@ pub record AreRankedTwice (before after : List Ranking) : Type 0 where
 
 -- the rankings `after` are those `before`, and may be compared by a key: both versions of each are
 -- ranked, or nothing has changed
-abbrev pub AreReadyFor : VersionKey → List Ranking → List Ranking → Type 0
-AreReadyFor ByRank before after = AreRankedTwice before after
-AreReadyFor ByText before after = after ≡ before
+abbrev pub AreComparableByKey : VersionKey → List Ranking → List Ranking → Type 0
+AreComparableByKey ByRank before after = AreRankedTwice before after
+AreComparableByKey ByText before after = after ≡ before

@@ -8,7 +8,7 @@ ghost use Rattle.std.specs.Option.{option_cmp};
 ghost use Rattle.std.specs.Ordering.{bool_cmp, flip_args, then_cmp};
 ghost use Rattle.candidate_core.specs.Rank.{bytes_cmp, earlier_repository, greater_version};
 ghost use Rattle.option_ranks.specs.Ranking.{candidate_ranking_cmp, merit_ranking_cmp, name_ranking_cmp, priority_ranking_cmp, quality_ranking_cmp, ranking_cmp, repository_ranking_cmp, unpinned_ranking_cmp, version_key_cmp, version_order};
-ghost use Rattle.option_ranks.specs.VersionRanks.{version_of, with_rank};
+ghost use Rattle.option_ranks.specs.VersionRanks.{version_of, with_version_rank};
 
 use candidate_core::{CandId, RankedVersion, VersionKind};
 use std::cmp::Ordering;
@@ -50,11 +50,11 @@ pub struct RankedOption<'a> {
 }
 
 impl<'a> Model for RankedOption<'a> {
-    ghost use Rattle.option_ranks.specs.Ranking.{Ranking, ranking_by};
+    ghost use Rattle.option_ranks.specs.Ranking.{Ranking, ranking_from_parts};
 
     ghost Value = { Ranking };
 
-    ghost view = { λ r. ranking_by r.pinned r.untagged r.named r.kept r.under r.priority r.name.now
+    ghost view = { λ r. ranking_from_parts r.pinned r.untagged r.named r.kept r.under r.priority r.name.now
         r.version r.repo r.id };
 }
 
@@ -71,7 +71,7 @@ impl<'a> RankedOption<'a> {
 
     /// Sets the rank of the version of the option that a kind names.
     pub(crate) fn set_rank(&mut self, kind: VersionKind, rank: usize)
-        ensures { self.new ≡ with_rank kind rank self.old }
+        ensures { self.new ≡ with_version_rank kind rank self.old }
     {
         match kind {
             VersionKind::Under => self.under.rank = rank,

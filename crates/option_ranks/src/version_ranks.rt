@@ -6,10 +6,10 @@
 ghost use Rattle.std.specs.Prelude.{◌≡◌, ◌<◌, ◌-◌, ℕ, List, true, All, OnOk, IfOk, IfSome, Some, length, map, slice_get};
 ghost use Rattle.std.specs.List.Sorted.{IsSorted};
 ghost use Rattle.std.specs.Ordering.{is_eq, on};
-ghost use Rattle.candidate_core.specs.VersionTexts.{IsReadBy};
+ghost use Rattle.candidate_core.specs.VersionTexts.{HasVersionTextFrom};
 ghost use Rattle.candidate_core.specs.declared.versions.RankedVersion.{RankedVersion};
 ghost use Rattle.option_ranks.specs.Ranking.{Ranking, version_order};
-ghost use Rattle.option_ranks.specs.VersionRanks.{AreRankedFrom, AreReadAlike, AreReadTogether, AreReadyFor, HasRankAmong, HaveSamePlace, IsListed, IsRankAt, IsReadTogether, rank_among, version_of, version_with_rank, version_with_rank_among, versions_in, with_rank_among};
+ghost use Rattle.option_ranks.specs.VersionRanks.{AreRankedFrom, HaveVersionsFromSameTexts, AreReadTogether, AreComparableByKey, HasRankAmong, HaveSamePlace, IsVersionAmong, IsRankAt, IsReadTogether, rank_among, version_of, version_with_rank, version_with_rank_among, versions_in, with_rank_among};
 ghost use Rattle.candidate_core.specs.declared.versions.VersionKind.TheVariants as Kinds;
 
 use crate::rank::{RankedOption, VersionKey, compare_versions};
@@ -30,9 +30,9 @@ pub fn rank_long_versions<'a>(
     alloc: Global,
     options: &mut Vec<RankedOption<'a>>,
 ) -> Result<VersionKey, AllocError>
-    requires under { AreReadAlike Kinds.Under options.old.items }
-    requires own { AreReadAlike Kinds.Own options.old.items }
-    ensures { IfOk result (λ key. AreReadyFor key options.old.items options.new.items) }
+    requires under { HaveVersionsFromSameTexts Kinds.Under options.old.items }
+    requires own { HaveVersionsFromSameTexts Kinds.Own options.old.items }
+    ensures { IfOk result (λ key. AreComparableByKey key options.old.items options.new.items) }
 {
     if !has_long_version(options) {
         return Ok(VersionKey::ByText);
@@ -59,7 +59,7 @@ fn rank_versions<'a>(
     options: &mut Vec<RankedOption<'a>>,
     kind: VersionKind,
 ) -> Result<(), AllocError>
-    requires { AreReadAlike kind options.old.items }
+    requires { HaveVersionsFromSameTexts kind options.old.items }
     ensures { OnOk result (AreRankedFrom kind options.old.items options.new.items) }
 {
     order_is_total();
@@ -90,12 +90,12 @@ fn distinct_versions<'a>(
     options: &[RankedOption<'a>],
     kind: VersionKind,
 ) -> Result<Vec<RankedVersion<'a>>, AllocError>
-    requires { AreReadAlike kind options.now }
+    requires { HaveVersionsFromSameTexts kind options.now }
     ensures listed { IfOk result
-        (λ versions. All (IsListed kind (versions_in versions.items)) options.now) }
+        (λ versions. All (IsVersionAmong kind (versions_in versions.items)) options.now) }
     ensures read { IfOk result (λ versions. (text : ℕ → ℕ → List ℕ)
-        → All (λ r. IsReadBy text (version_of kind r)) options.now
-        → All (IsReadBy text) versions.items) }
+        → All (λ r. HasVersionTextFrom text (version_of kind r)) options.now
+        → All (HasVersionTextFrom text) versions.items) }
 {
     let mut versions = Vec::new(alloc);
     for i in 0..options.len() {

@@ -22,8 +22,8 @@ use Rattle.outcome.proofs.Applets.{change_is, report_is, told_commits, told_file
 use Rattle.outcome.proofs.MadeSound.{IsRefusalOrMade, index_fine, package_fine}
 use Rattle.outcome.specs.Changing.{change_outcome}
 use Rattle.outcome.specs.Given.{Given}
-use Rattle.outcome.specs.Commands.{IsOutcomeOf, IsOutcomeUnlessBadIntent, effect_outcome, reads_in}
-use Rattle.outcome.specs.Effect.{Effect, Computes, OnlyReadsFiles, AsksRoot, Makes, Changes, does_only_read, effect_by, effect_of, reads_only}
+use Rattle.outcome.specs.Commands.{IsOutcomeWithoutDemo, IsOutcomeUnlessBadIntent, effect_outcome, reads_in}
+use Rattle.outcome.specs.Effect.{Effect, Computes, OnlyReadsFiles, AsksRoot, Makes, Changes, does_only_read, effect_of_arguments, effect_of, reads_only}
 use Rattle.outcome.specs.Make.{files_with_output, index_line, make_outcome, unless_reserved}
 use Rattle.outcome.specs.Outcome.{Outcome, commit_report, just_refusal}
 use Rattle.outcome.specs.Work.{recovery_fault, work_files}
@@ -58,11 +58,11 @@ commits_unless : (fault : Option Cause) (command : CommandLine) (files : Files) 
 commits_unless (Some cause) command files o makes is = subst CommitsUnlessRefused (sym is) refl
 commits_unless None command files o makes (given, are, is) = subst CommitsUnlessRefused (sym is) (applet_commits command.applet command given (work_files (effect_of command.applet) files) makes)
 
-commits_by : (read : Result CommandLine ℕ) (files : Files) (o : Outcome) → effect_by read ≡ Makes → IsOutcomeOf read files o → CommitsUnlessRefused o
+commits_by : (read : Result CommandLine ℕ) (files : Files) (o : Outcome) → effect_of_arguments read ≡ Makes → IsOutcomeWithoutDemo read files o → CommitsUnlessRefused o
 commits_by (Err place) files o makes is = cc
 commits_by (Ok command) files o makes is = commits_unless (recovery_fault (effect_of command.applet) files) command files o makes is
 
-pub maker_commits : (words : List (List ℕ)) (files : Files) (o : Outcome) → effect_by (command_of words) ≡ Makes → IsOutcomeOf (command_of words) files o → CommitsUnlessRefused o
+pub maker_commits : (words : List (List ℕ)) (files : Files) (o : Outcome) → effect_of_arguments (command_of words) ≡ Makes → IsOutcomeWithoutDemo (command_of words) files o → CommitsUnlessRefused o
 maker_commits words files o makes is = commits_by (command_of words) files o makes is
 
 -- ---- a change
@@ -83,7 +83,7 @@ changes_unless : (fault : Option Cause) (command : CommandLine) (files : Files) 
 changes_unless (Some cause) command files o changes is = λ some. ap (λ (p : Outcome). p.commits) is
 changes_unless None command files o changes (given, are, is) = subst CommitsNoRefusal (sym is) (applet_changes command.applet command given (work_files (effect_of command.applet) files) changes)
 
-changes_by : (read : Result CommandLine ℕ) (files : Files) (o : Outcome) → effect_by read ≡ Changes → IsOutcomeOf read files o → CommitsNoRefusal o
+changes_by : (read : Result CommandLine ℕ) (files : Files) (o : Outcome) → effect_of_arguments read ≡ Changes → IsOutcomeWithoutDemo read files o → CommitsNoRefusal o
 changes_by (Err place) files o changes is = cc
 changes_by (Ok command) files o changes is = changes_unless (recovery_fault (effect_of command.applet) files) command files o changes is
 
@@ -96,12 +96,12 @@ tells_unless None command files o tells (given, are, is) =
     ap (λ (p : Outcome). p.commits) (is ∙ sym (report_is command.applet command given (reads_in work) work tells))
     ∙ told_commits work (report_for_command command (reads_in work))
 
-tells_by : (read : Result CommandLine ℕ) (files : Files) (o : Outcome) → effect_by read ≡ AsksRoot → IsOutcomeOf read files o → o.commits ≡ false
+tells_by : (read : Result CommandLine ℕ) (files : Files) (o : Outcome) → effect_of_arguments read ≡ AsksRoot → IsOutcomeWithoutDemo read files o → o.commits ≡ false
 tells_by (Err place) files o tells is = cc
 tells_by (Ok command) files o tells is = tells_unless (recovery_fault (effect_of command.applet) files) command files o tells is
 
 -- it commits nothing
-pub teller_commits : (words : List (List ℕ)) (files : Files) (o : Outcome) → effect_by (command_of words) ≡ AsksRoot → IsOutcomeOf (command_of words) files o → o.commits ≡ false
+pub teller_commits : (words : List (List ℕ)) (files : Files) (o : Outcome) → effect_of_arguments (command_of words) ≡ AsksRoot → IsOutcomeWithoutDemo (command_of words) files o → o.commits ≡ false
 teller_commits words files o tells is = tells_by (command_of words) files o tells is
 
 tells_files : (fault : Option Cause) (command : CommandLine) (files : Files) (o : Outcome) → effect_of command.applet ≡ AsksRoot → IsOutcomeUnlessBadIntent fault command files o → (o.files ≡ files) ⊎ (o.files ≡ work_files AsksRoot files)
@@ -114,12 +114,12 @@ tells_files None command files o tells (given, are, is) =
     ∙ ap (λ (e : Effect). work_files e files) tells
     )
 
-files_by : (read : Result CommandLine ℕ) (files : Files) (o : Outcome) → effect_by read ≡ AsksRoot → IsOutcomeOf read files o → (o.files ≡ files) ⊎ (o.files ≡ work_files AsksRoot files)
+files_by : (read : Result CommandLine ℕ) (files : Files) (o : Outcome) → effect_of_arguments read ≡ AsksRoot → IsOutcomeWithoutDemo read files o → (o.files ≡ files) ⊎ (o.files ≡ work_files AsksRoot files)
 files_by (Err place) files o tells is = cc
 files_by (Ok command) files o tells is = tells_files (recovery_fault (effect_of command.applet) files) command files o tells is
 
 -- and leaves the files that a recovery leaves
-pub teller_files : (words : List (List ℕ)) (files : Files) (o : Outcome) → effect_by (command_of words) ≡ AsksRoot → IsOutcomeOf (command_of words) files o → (o.files ≡ files) ⊎ (o.files ≡ work_files AsksRoot files)
+pub teller_files : (words : List (List ℕ)) (files : Files) (o : Outcome) → effect_of_arguments (command_of words) ≡ AsksRoot → IsOutcomeWithoutDemo (command_of words) files o → (o.files ≡ files) ⊎ (o.files ≡ work_files AsksRoot files)
 teller_files words files o tells is = files_by (command_of words) files o tells is
 
 -- ---- a refusal
@@ -135,11 +135,11 @@ effect_cases AsksRoot = inr (inl refl)
 effect_cases Makes = inr (inr (inl refl))
 effect_cases Changes = inr (inr (inr refl))
 
-line_cases : (read : Result CommandLine ℕ) → (IsTrue (reads_only read)) ⊎ ((effect_by read ≡ AsksRoot) ⊎ ((effect_by read ≡ Makes) ⊎ (effect_by read ≡ Changes)))
+line_cases : (read : Result CommandLine ℕ) → (IsTrue (reads_only read)) ⊎ ((effect_of_arguments read ≡ AsksRoot) ⊎ ((effect_of_arguments read ≡ Makes) ⊎ (effect_of_arguments read ≡ Changes)))
 line_cases (Err place) = inl refl
 line_cases (Ok command) = effect_cases (effect_of command.applet)
 
-pub refusal_commits : (words : List (List ℕ)) (files : Files) (o : Outcome) → IsOutcomeOf (command_of words) files o → (IsTrue (reads_only (command_of words)) → o.commits ≡ false) → (effect_by (command_of words) ≡ AsksRoot → o.commits ≡ false) → (effect_by (command_of words) ≡ Makes → CommitsUnlessRefused o) → IsSome o.refusal → o.commits ≡ false
+pub refusal_commits : (words : List (List ℕ)) (files : Files) (o : Outcome) → IsOutcomeWithoutDemo (command_of words) files o → (IsTrue (reads_only (command_of words)) → o.commits ≡ false) → (effect_of_arguments (command_of words) ≡ AsksRoot → o.commits ≡ false) → (effect_of_arguments (command_of words) ≡ Makes → CommitsUnlessRefused o) → IsSome o.refusal → o.commits ≡ false
 refusal_commits words files o is reads tell makes some = elim (line_cases (command_of words)) as (λ _. o.commits ≡ false) [
   | inl only ↦ reads only
   | inr (inl tells) ↦ tell tells

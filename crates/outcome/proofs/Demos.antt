@@ -21,12 +21,12 @@ use Rattle.make_core.specs.make_package.Making.{made_package}
 use Rattle.report_core.specs.declared.refusal.Refusal.{Refusal}
 use Rattle.report_core.specs.declared.refusal.Refusal.TheVariants.{Reserved, ResultTooLarge}
 use Rattle.root_names.specs.RootNames.{repositories_name}
-use Rattle.words_core.specs.Grammar.{asked_at, asked_or_err, command_of, command_of_reading, line_command, next_after, site_at, spelled_or_asked, takes_option, unless_at}
-use Rattle.words_core.specs.Options.{asked_by}
+use Rattle.words_core.specs.Grammar.{help_or_version_option_at, help_or_version_or_err, command_of, command_of_reading, spelled_command, next_after, applet_site_at, spelled_command_or_help_or_version, can_be_option, unless_refused_at}
+use Rattle.words_core.specs.Options.{applet_of_help_or_version_option}
 use Rattle.outcome.proofs.Existing.{work_within}
 use Rattle.outcome.proofs.Looking.{read_leaves}
-use Rattle.outcome.specs.Commands.{IsOutcomeOf, IsOutcomeUnlessBadIntent, effect_outcome, reads_in}
-use Rattle.outcome.specs.Demo.{AreIndexed, AreInstalled, ArePackaged, IsDemoOutcome, IsRunAfter, IsRunUnlessRefused, demo_start, with_demo_file}
+use Rattle.outcome.specs.Commands.{IsOutcomeWithoutDemo, IsOutcomeUnlessBadIntent, effect_outcome, reads_in}
+use Rattle.outcome.specs.Demo.{IsOutcomeAfterIndexing, IsOutcomeAfterInstalling, IsOutcomeAfterPackaging, IsDemoOutcome, IsOutcomeOfNextRun, IsOutcomeOfNextRunUnlessRefused, outcome_before_demo, with_demo_file}
 use Rattle.outcome.specs.Effect.{Makes, does_only_read, effect_of}
 use Rattle.outcome.specs.Given.{Given}
 use Rattle.outcome.specs.Make.{files_with_output, index_line, make_outcome, unless_reserved}
@@ -93,14 +93,14 @@ abbrev pub DoMake : Result CommandLine ℕ → Type 0
 DoMake (Ok command) = (effect_of command.applet ≡ Makes) ⊎ (does_only_read (effect_of command.applet) ≡ true)
 DoMake (Err place) = Unit {0}
 
-few_by : (read : Result CommandLine ℕ) (files : Files) (o : Outcome) → DoMake read → IsOutcomeOf read files o → AreFew files → AreFew o.files
+few_by : (read : Result CommandLine ℕ) (files : Files) (o : Outcome) → DoMake read → IsOutcomeWithoutDemo read files o → AreFew files → AreFew o.files
 few_by (Err place) files o makes is few = subst AreFew (sym (ap (λ (p : Outcome). p.files) is)) few
 few_by (Ok command) files o (inl makes) is few = few_unless (recovery_fault (effect_of command.applet) files) command files o makes is few
 few_by (Ok command) files o (inr reads) is few = subst AreFew (sym (read_leaves (Ok command) files o reads is).0) few
 
 -- ---- the words
 
-unless_makes : (place : Option ℕ) (lacks : Bool) (behind : ℕ) (command : CommandLine) → effect_of command.applet ≡ Makes → DoMake (unless_at place (if lacks then Err behind else Ok command))
+unless_makes : (place : Option ℕ) (lacks : Bool) (behind : ℕ) (command : CommandLine) → effect_of command.applet ≡ Makes → DoMake (unless_refused_at place (if lacks then Err behind else Ok command))
 unless_makes (Some place) lacks behind command makes = tt
 unless_makes None true behind command makes = tt
 unless_makes None false behind command makes = inl makes
@@ -115,57 +115,57 @@ word_asks true version = refl
 word_asks false true = refl
 word_asks false false = tt
 
-place_asks : (option : Bool) (word : Option (List ℕ)) → AskComputes (if option then option_and_then asked_by word else None)
+place_asks : (option : Bool) (word : Option (List ℕ)) → AskComputes (if option then option_and_then applet_of_help_or_version_option word else None)
 place_asks false word = tt
 place_asks true None = tt
 place_asks true (Some word) = word_asks (bytes_eq (codes "--help") word || bytes_eq (codes "-h") word) (bytes_eq (codes "--version") word || bytes_eq (codes "-V") word)
 
-asked_makes : (words : List (List ℕ)) (place : ℕ) (asked : Option Applet) → AskComputes asked → DoMake (asked_or_err words place asked)
+asked_makes : (words : List (List ℕ)) (place : ℕ) (asked : Option Applet) → AskComputes asked → DoMake (help_or_version_or_err words place asked)
 asked_makes words place None computes = tt
 asked_makes words place (Some applet) computes = inr computes
 
-line_makes : (words : List (List ℕ)) (line : Result CommandLine ℕ) → DoMake line → DoMake (spelled_or_asked words line)
+line_makes : (words : List (List ℕ)) (line : Result CommandLine ℕ) → DoMake line → DoMake (spelled_command_or_help_or_version words line)
 line_makes words (Ok command) makes = makes
-line_makes words (Err place) makes = asked_makes words place (asked_at words place) (place_asks (takes_option (next_after (take (place - 1) words))) (slice_get words (place - 1)))
+line_makes words (Err place) makes = asked_makes words place (help_or_version_option_at words place) (place_asks (can_be_option (next_after (take (place - 1) words))) (slice_get words (place - 1)))
 
-mkpkg_line : (words : List (List ℕ)) → DoMake (line_command (codes "mkpkg" ∷ words))
-unfolding line_command site_at command_of_reading
+mkpkg_line : (words : List (List ℕ)) → DoMake (spelled_command (codes "mkpkg" ∷ words))
+unfolding spelled_command applet_site_at command_of_reading
 mkpkg_line words = unless_makes _ _ _ _ refl
 
-mkndx_line : (words : List (List ℕ)) → DoMake (line_command (codes "mkndx" ∷ words))
-unfolding line_command site_at command_of_reading
+mkndx_line : (words : List (List ℕ)) → DoMake (spelled_command (codes "mkndx" ∷ words))
+unfolding spelled_command applet_site_at command_of_reading
 mkndx_line words = unless_makes _ _ _ _ refl
 
 mkpkg_makes : (words : List (List ℕ)) → DoMake (command_of (codes "mkpkg" ∷ words))
 unfolding command_of
-mkpkg_makes words = line_makes (codes "mkpkg" ∷ words) (line_command (codes "mkpkg" ∷ words)) (mkpkg_line words)
+mkpkg_makes words = line_makes (codes "mkpkg" ∷ words) (spelled_command (codes "mkpkg" ∷ words)) (mkpkg_line words)
 
 mkndx_makes : (words : List (List ℕ)) → DoMake (command_of (codes "mkndx" ∷ words))
 unfolding command_of
-mkndx_makes words = line_makes (codes "mkndx" ∷ words) (line_command (codes "mkndx" ∷ words)) (mkndx_line words)
+mkndx_makes words = line_makes (codes "mkndx" ∷ words) (spelled_command (codes "mkndx" ∷ words)) (mkndx_line words)
 
 -- ---- there is one
 
 -- a command that is read has an outcome over few files
 abbrev pub HaveOutcome : Type 0
-HaveOutcome = (read : Result CommandLine ℕ) (files : Files) (within : List (List ℕ)) → HasNamesAmong within files → (o : Outcome) × IsOutcomeOf read files o
+HaveOutcome = (read : Result CommandLine ℕ) (files : Files) (within : List (List ℕ)) → HasNamesAmong within files → (o : Outcome) × IsOutcomeWithoutDemo read files o
 
 -- an outcome that leaves few files
 abbrev One : (Outcome → Type 0) → Type 0
 One IsOne = (o : Outcome) × IsOne o × AreFew o.files
 
-unless_exists : HaveOutcome → (refusal : Option Refusal) (words : List (List ℕ)) (files : Files) (before : Outcome) → AreFew files → (o : Outcome) × IsRunUnlessRefused refusal words files before o
+unless_exists : HaveOutcome → (refusal : Option Refusal) (words : List (List ℕ)) (files : Files) (before : Outcome) → AreFew files → (o : Outcome) × IsOutcomeOfNextRunUnlessRefused refusal words files before o
 unless_exists have (Some refusal) words files before few = (before, refl)
 unless_exists have None words files before (names, within) = have (command_of words) files names within
 
-few_after : (refusal : Option Refusal) (words : List (List ℕ)) (files : Files) (before o : Outcome) → DoMake (command_of words) → IsRunUnlessRefused refusal words files before o → AreFew before.files → AreFew files → AreFew o.files
+few_after : (refusal : Option Refusal) (words : List (List ℕ)) (files : Files) (before o : Outcome) → DoMake (command_of words) → IsOutcomeOfNextRunUnlessRefused refusal words files before o → AreFew before.files → AreFew files → AreFew o.files
 few_after (Some refusal) words files before o makes is few few_now = subst AreFew (sym (ap (λ (p : Outcome). p.files) is)) few
 few_after None words files before o makes is few few_now = few_by (command_of words) files o makes is few_now
 
-packaged_exists : HaveOutcome → (n : ℕ) → One (ArePackaged n)
+packaged_exists : HaveOutcome → (n : ℕ) → One (IsOutcomeAfterPackaging n)
 packaged_exists have zero =
     let start : Files = put_name no_names repositories_name demo_repositories in
-    (demo_start, refl, few_put no_names repositories_name demo_repositories ([], λ q some. cc))
+    (outcome_before_demo, refl, few_put no_names repositories_name demo_repositories ([], λ q some. cc))
 packaged_exists have (suc i) =
     let (before, is, few) = packaged_exists have i in
     let files = with_demo_file (suc i) before.files in
@@ -173,13 +173,13 @@ packaged_exists have (suc i) =
     let (o, is_next) = unless_exists have before.refusal (mkpkg_words (suc i)) files before few_now in
     (o, (before, is, is_next), few_after before.refusal (mkpkg_words (suc i)) files before o (mkpkg_makes _) is_next few few_now)
 
-indexed_exists : HaveOutcome → (n : ℕ) → One (AreIndexed n)
+indexed_exists : HaveOutcome → (n : ℕ) → One (IsOutcomeAfterIndexing n)
 indexed_exists have n =
     let (before, is, few) = packaged_exists have n in
     let (o, is_next) = unless_exists have before.refusal (mkndx_words n) before.files before few in
     (o, (before, is, is_next), few_after before.refusal (mkndx_words n) before.files before o (mkndx_makes _) is_next few few)
 
-installed_exists : HaveOutcome → (n : ℕ) → (o : Outcome) × AreInstalled n o
+installed_exists : HaveOutcome → (n : ℕ) → (o : Outcome) × IsOutcomeAfterInstalling n o
 installed_exists have n =
     let (before, is, few) = indexed_exists have n in
     let (o, is_next) = unless_exists have before.refusal (add_words n) before.files before few in
@@ -194,26 +194,26 @@ demo_exists have n files =
 
 -- a command that is read has one outcome
 abbrev pub HaveOneOutcome : Type 0
-HaveOneOutcome = (read : Result CommandLine ℕ) (files : Files) (a b : Outcome) → IsOutcomeOf read files a → IsOutcomeOf read files b → a ≡ b
+HaveOneOutcome = (read : Result CommandLine ℕ) (files : Files) (a b : Outcome) → IsOutcomeWithoutDemo read files a → IsOutcomeWithoutDemo read files b → a ≡ b
 
-unless_one : HaveOneOutcome → (refusal : Option Refusal) (words : List (List ℕ)) (files : Files) (before a b : Outcome) → IsRunUnlessRefused refusal words files before a → IsRunUnlessRefused refusal words files before b → a ≡ b
+unless_one : HaveOneOutcome → (refusal : Option Refusal) (words : List (List ℕ)) (files : Files) (before a b : Outcome) → IsOutcomeOfNextRunUnlessRefused refusal words files before a → IsOutcomeOfNextRunUnlessRefused refusal words files before b → a ≡ b
 unless_one one (Some refusal) words files before a b x y = x ∙ sym y
 unless_one one None words files before a b x y = one (command_of words) files a b x y
 
 -- behind one outcome, over files that it gives
-behind_one : HaveOneOutcome → (words : List (List ℕ)) (next : Outcome → Files) (p q a b : Outcome) → p ≡ q → IsRunAfter words (next p) p a → IsRunAfter words (next q) q b → a ≡ b
+behind_one : HaveOneOutcome → (words : List (List ℕ)) (next : Outcome → Files) (p q a b : Outcome) → p ≡ q → IsOutcomeOfNextRun words (next p) p a → IsOutcomeOfNextRun words (next q) q b → a ≡ b
 behind_one one words next p q a b same x y =
-    unless_one one q.refusal words (next q) q a b (subst (λ (r : Outcome). IsRunAfter words (next r) r a) same x) y
+    unless_one one q.refusal words (next q) q a b (subst (λ (r : Outcome). IsOutcomeOfNextRun words (next r) r a) same x) y
 
-packaged_one : HaveOneOutcome → (n : ℕ) (a b : Outcome) → ArePackaged n a → ArePackaged n b → a ≡ b
+packaged_one : HaveOneOutcome → (n : ℕ) (a b : Outcome) → IsOutcomeAfterPackaging n a → IsOutcomeAfterPackaging n b → a ≡ b
 packaged_one one zero a b x y = x ∙ sym y
 packaged_one one (suc i) a b (p, is_p, x) (q, is_q, y) =
     behind_one one (mkpkg_words (suc i)) (λ (o : Outcome). with_demo_file (suc i) o.files) p q a b (packaged_one one i p q is_p is_q) x y
 
-indexed_one : HaveOneOutcome → (n : ℕ) (a b : Outcome) → AreIndexed n a → AreIndexed n b → a ≡ b
+indexed_one : HaveOneOutcome → (n : ℕ) (a b : Outcome) → IsOutcomeAfterIndexing n a → IsOutcomeAfterIndexing n b → a ≡ b
 indexed_one one n a b (p, is_p, x) (q, is_q, y) = behind_one one (mkndx_words n) (λ (o : Outcome). o.files) p q a b (packaged_one one n p q is_p is_q) x y
 
-installed_one : HaveOneOutcome → (n : ℕ) (a b : Outcome) → AreInstalled n a → AreInstalled n b → a ≡ b
+installed_one : HaveOneOutcome → (n : ℕ) (a b : Outcome) → IsOutcomeAfterInstalling n a → IsOutcomeAfterInstalling n b → a ≡ b
 installed_one one n a b (p, is_p, x) (q, is_q, y) = behind_one one (add_words n) (λ (o : Outcome). o.files) p q a b (indexed_one one n p q is_p is_q) x y
 
 pub demo_one : HaveOneOutcome → (n : ℕ) (files : Files) (a b : Outcome) → IsDemoOutcome n files a → IsDemoOutcome n files b → a ≡ b

@@ -9,13 +9,13 @@ use Rattle.tell_core.specs.change_inputs.Chains.{and_then, refused_as, unless_ca
 use Rattle.tell_core.specs.change_inputs.Database.{payload_database, root_database}
 use Rattle.tell_core.specs.change_inputs.Indexes.{index_file, index_files_from, index_in_file, indexes_in_files}
 use Rattle.tell_core.specs.change_inputs.Inputs.{Inputs, database_read, first_index_read, index_reads_from, indexes_of, inputs_of, repositories_read, root_for, root_found, text_database_read, world_read}
-use Rattle.tell_core.specs.change_inputs.Repositories.{if_trusted, root_repositories}
-use Rattle.tell_core.specs.change_inputs.World.{root_world, text_found}
+use Rattle.tell_core.specs.change_inputs.Repositories.{if_untrusted_allowed, root_repositories}
+use Rattle.tell_core.specs.change_inputs.World.{root_world, found_text_or_empty}
 use Rattle.command_core.specs.Command.{CommandLine}
 use Rattle.dep_core.specs.Repositories.{Repository, repositories_of}
 use Rattle.dep_core.specs.World.{world_of}
 use Rattle.make_core.specs.make_info.Reads.{Reads}
-use Rattle.tell_core.specs.candidate_core.Rank.{UpgradedNames, sealed_pool_by}
+use Rattle.tell_core.specs.candidate_core.Rank.{UpgradedNames, sealed_pool_from_parts}
 use Rattle.tell_core.specs.candidate_core.declared.candidate_list.TheConstants.{MOST_CANDIDATES}
 use Rattle.report_core.specs.declared.refusal.Refusal.{Refusal}
 use Rattle.report_core.specs.declared.refusal.Refusal.TheVariants.{DatabaseBad, IndexBad, RepositoriesBad, TooMany, WorldBad}
@@ -58,20 +58,20 @@ database_stated may_begin None (Some text) = payload_stated (payload_of_text tex
 database_stated true None None = tt
 database_stated false None None = refl
 
-trusted_stated : (is_allowed : Bool) (repositories : List Repository) → HasKnownRefusal is_input_refusal (if_trusted is_allowed repositories)
+trusted_stated : (is_allowed : Bool) (repositories : List Repository) → HasKnownRefusal is_input_refusal (if_untrusted_allowed is_allowed repositories)
 trusted_stated is_allowed [] = tt
 trusted_stated true (repository ∷ repositories) = tt
 trusted_stated false (repository ∷ repositories) = refl
 
 repositories_stated : (is_allowed : Bool) (text : List ℕ) → HasKnownRefusal is_input_refusal (root_repositories is_allowed text)
 repositories_stated is_allowed text =
-    then_stated is_input_refusal (refused_as RepositoriesBad (repositories_of text)) (if_trusted is_allowed) (as_stated RepositoriesBad (repositories_of text) (λ e. refl)) (trusted_stated is_allowed)
+    then_stated is_input_refusal (refused_as RepositoriesBad (repositories_of text)) (if_untrusted_allowed is_allowed) (as_stated RepositoriesBad (repositories_of text) (λ e. refl)) (trusted_stated is_allowed)
 
 found_stated : (command : CommandLine) (file text world_file repositories_file : Option (List ℕ)) → HasKnownRefusal is_input_refusal (root_found command file text world_file repositories_file)
 found_stated command file text world_file repositories_file =
     then_stated is_input_refusal (root_database command.flags.initdb file text) _ (database_stated command.flags.initdb file text) (λ database.
-    then_stated is_input_refusal (root_world (text_found world_file)) _ (as_stated WorldBad (world_of (text_found world_file)) (λ e. refl)) (λ world.
-    then_stated is_input_refusal (root_repositories command.flags.allow_untrusted (text_found repositories_file)) _ (repositories_stated command.flags.allow_untrusted (text_found repositories_file)) (λ repositories. tt)))
+    then_stated is_input_refusal (root_world (found_text_or_empty world_file)) _ (as_stated WorldBad (world_of (found_text_or_empty world_file)) (λ e. refl)) (λ world.
+    then_stated is_input_refusal (root_repositories command.flags.allow_untrusted (found_text_or_empty repositories_file)) _ (repositories_stated command.flags.allow_untrusted (found_text_or_empty repositories_file)) (λ repositories. tt)))
 
 file_stated : (n : ℕ) (found : Option (List ℕ)) → HasKnownRefusal is_input_refusal (index_file n found)
 file_stated n None = refl
@@ -101,6 +101,6 @@ pub pool_stated : (inputs : Inputs) (upgraded : UpgradedNames) → HasKnownRefus
 unfolding root_pool
 pool_stated inputs upgraded = by_count (nat_lt MOST_CANDIDATES (length (candidates_of inputs)))
   where
-    by_count : (b : Bool) → HasKnownRefusal is_input_refusal (if b then Err (TooMany (MOST_CANDIDATES + 1)) else Ok (sealed_pool_by (candidates_of inputs) inputs.root.new_world upgraded))
+    by_count : (b : Bool) → HasKnownRefusal is_input_refusal (if b then Err (TooMany (MOST_CANDIDATES + 1)) else Ok (sealed_pool_from_parts (candidates_of inputs) inputs.root.new_world upgraded))
     by_count true = refl
     by_count false = tt

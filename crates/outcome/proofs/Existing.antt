@@ -8,23 +8,23 @@ use Rattle.base_core.specs.Files.{Files, HasNamesAmong}
 use Rattle.base_core.specs.Listed.{IsNamesOf}
 use Rattle.base_core.specs.declared.cause.Cause.{Cause}
 use Rattle.engine_core.specs.Choice.{IsChoiceFrom}
-use Rattle.engine_core.specs.Selecting.{pool_for}
+use Rattle.engine_core.specs.Selecting.{pool_of_command}
 use Rattle.make_core.specs.make_info.Reads.{Reads}
 use Rattle.tell_core.specs.candidate_core.Rank.{SealedPool}
 use Rattle.report_core.specs.declared.refusal.Refusal.{Refusal}
 use Rattle.report_core.specs.declared.refusal.Refusal.TheVariants.{IntentBad, Usage}
 use Rattle.command_core.specs.Command.{CommandLine}
-use Rattle.command_core.specs.Files.{without_dot}
+use Rattle.command_core.specs.Files.{without_dot_slash}
 use Rattle.command_core.specs.declared.values.TheConstants.{FILES}
-use Rattle.command_core.specs.Files.{without_dot}
+use Rattle.command_core.specs.Files.{without_dot_slash}
 use Rattle.command_core.specs.declared.command.Applet.{Applet}
 use Rattle.command_core.specs.declared.command.Applet.TheVariants.{Mkpkg}
 use Rattle.command_core.specs.declared.values.OptionValue.{OptionValue}
-use Rattle.make_core.specs.package_files.Sources.{values_with}
+use Rattle.make_core.specs.package_files.Sources.{values_of_letter}
 use Rattle.outcome.proofs.Clashes.{HaveClash, HaveOneClash, clash_exists, clash_one}
 use Rattle.outcome.proofs.Recovered.{unstaged_within}
 use Rattle.outcome.specs.Given.{Given, IsChosenFor, IsClashBy, IsGiven, IsListingFor}
-use Rattle.outcome.specs.Commands.{IsOutcomeOf, IsOutcomeOn, IsOutcomeUnlessBadIntent, effect_outcome, reads_in}
+use Rattle.outcome.specs.Commands.{IsOutcomeWithoutDemo, IsOutcomeAfterRecovery, IsOutcomeUnlessBadIntent, effect_outcome, reads_in}
 use Rattle.outcome.specs.Effect.{Effect, Computes, OnlyReadsFiles, AsksRoot, Makes, Changes, effect_of}
 use Rattle.outcome.specs.Make.{AreNamesBelowOption, files_below}
 use Rattle.outcome.specs.Outcome.{Outcome, just_refusal}
@@ -47,10 +47,10 @@ within_below folder files within h q some =
 
 listing_exists : HaveList → (values : List OptionValue) (files : Files) (within : List (List ℕ)) → HasNamesAmong within files → (names : List (List ℕ)) × AreNamesBelowOption values files names
 listing_exists have [] files within h = ([], refl)
-listing_exists have (v ∷ values) files within h = have (files_below (without_dot v.text) files) within (within_below (without_dot v.text) files within h)
+listing_exists have (v ∷ values) files within h = have (files_below (without_dot_slash v.text) files) within (within_below (without_dot_slash v.text) files within h)
 
 names_exist : HaveList → (applet : Applet) (command : CommandLine) (files : Files) (within : List (List ℕ)) → HasNamesAmong within files → (names : List (List ℕ)) × IsListingFor applet command files names
-names_exist have Mkpkg command files within h = listing_exists have (values_with FILES command.values) files within h
+names_exist have Mkpkg command files within h = listing_exists have (values_of_letter FILES command.values) files within h
 names_exist have other command files within h = ([], refl)
 
 pub work_within : (effect : Effect) (files : Files) (within : List (List ℕ)) → HasNamesAmong within files → (names : List (List ℕ)) × HasNamesAmong names (work_files effect files)
@@ -68,11 +68,11 @@ abbrev pub HaveOneChoice : Type 0
 HaveOneChoice = (pool : Result SealedPool Refusal) (a b : Option (List ℕ)) → IsChoiceFrom pool a → IsChoiceFrom pool b → a ≡ b
 
 chosen_exists : HaveChoice → (effect : Effect) (command : CommandLine) (read : Reads) → (chosen : Option (List ℕ)) × IsChosenFor effect command read chosen
-chosen_exists choose Changes command read = choose (pool_for command read)
+chosen_exists choose Changes command read = choose (pool_of_command command read)
 chosen_exists choose other command read = (None, refl)
 
 chosen_one : HaveOneChoice → (effect : Effect) (command : CommandLine) (read : Reads) (a b : Option (List ℕ)) → IsChosenFor effect command read a → IsChosenFor effect command read b → a ≡ b
-chosen_one one Changes command read a b x y = one (pool_for command read) a b x y
+chosen_one one Changes command read a b x y = one (pool_of_command command read) a b x y
 chosen_one one other command read a b x y = x ∙ sym y
 
 given_exists : HaveList → HaveChoice → HaveClash → (command : CommandLine) (read : Reads) (files : Files) (within : List (List ℕ)) → HasNamesAmong within files → (given : Given) × IsGiven command read files given
@@ -90,16 +90,16 @@ outcome_unless have choose clashes None command files within h =
     let (given, are) = given_exists have choose clashes command (reads_in work) work within_work is in
     (effect_outcome (effect_of command.applet) command.applet command given (reads_in work) work, (given, are, refl))
 
-pub outcome_by : HaveList → HaveChoice → HaveClash → (read : Result CommandLine ℕ) (files : Files) (within : List (List ℕ)) → HasNamesAmong within files → (o : Outcome) × IsOutcomeOf read files o
+pub outcome_by : HaveList → HaveChoice → HaveClash → (read : Result CommandLine ℕ) (files : Files) (within : List (List ℕ)) → HasNamesAmong within files → (o : Outcome) × IsOutcomeWithoutDemo read files o
 outcome_by have choose clashes (Err place) files within h = (just_refusal files (Usage place), refl)
 outcome_by have choose clashes (Ok command) files within h = outcome_unless have choose clashes (recovery_fault (effect_of command.applet) files) command files within h
 
 pub listing_one : HaveOneList → (values : List OptionValue) (files : Files) (a b : List (List ℕ)) → AreNamesBelowOption values files a → AreNamesBelowOption values files b → a ≡ b
 listing_one one [] files a b x y = x ∙ sym y
-listing_one one (v ∷ values) files a b x y = one (files_below (without_dot v.text) files) a b x y
+listing_one one (v ∷ values) files a b x y = one (files_below (without_dot_slash v.text) files) a b x y
 
 names_one : HaveOneList → (applet : Applet) (command : CommandLine) (files : Files) (a b : List (List ℕ)) → IsListingFor applet command files a → IsListingFor applet command files b → a ≡ b
-names_one one Mkpkg command files a b x y = listing_one one (values_with FILES command.values) files a b x y
+names_one one Mkpkg command files a b x y = listing_one one (values_of_letter FILES command.values) files a b x y
 names_one one other command files a b x y = x ∙ sym y
 
 given_one : HaveOneList → HaveOneChoice → HaveOneClash → (command : CommandLine) (read : Reads) (files : Files) (a b : Given) → IsGiven command read files a → IsGiven command read files b → a ≡ b
@@ -110,7 +110,7 @@ given_one one choice clashes command read files a b x y =
     (subst (λ (c : Option (List ℕ)). IsClashBy (effect_of command.applet) command read files c b.clash) (sym chosen) y.clash) in
     λ i. record { names = names i; chosen = chosen i; clash = clash i }
 
-pub over_one : HaveOneList → HaveOneChoice → HaveOneClash → (command : CommandLine) (files : Files) (a b : Outcome) → IsOutcomeOn command files a → IsOutcomeOn command files b → a ≡ b
+pub over_one : HaveOneList → HaveOneChoice → HaveOneClash → (command : CommandLine) (files : Files) (a b : Outcome) → IsOutcomeAfterRecovery command files a → IsOutcomeAfterRecovery command files b → a ≡ b
 over_one one choice clashes command files a b (g, is_g, x) (h, is_h, y) =
     x
     ∙ ap (λ given. effect_outcome (effect_of command.applet) command.applet command given (reads_in files) files) (given_one one choice clashes command (reads_in files) files g h is_g is_h)
@@ -120,6 +120,6 @@ unless_one : HaveOneList → HaveOneChoice → HaveOneClash → (fault : Option 
 unless_one one choice clashes (Some cause) command files a b x y = x ∙ sym y
 unless_one one choice clashes None command files a b x y = over_one one choice clashes command (work_files (effect_of command.applet) files) a b x y
 
-pub outcome_one : HaveOneList → HaveOneChoice → HaveOneClash → (read : Result CommandLine ℕ) (files : Files) (a b : Outcome) → IsOutcomeOf read files a → IsOutcomeOf read files b → a ≡ b
+pub outcome_one : HaveOneList → HaveOneChoice → HaveOneClash → (read : Result CommandLine ℕ) (files : Files) (a b : Outcome) → IsOutcomeWithoutDemo read files a → IsOutcomeWithoutDemo read files b → a ≡ b
 outcome_one one choice clashes (Err place) files a b x y = x ∙ sym y
 outcome_one one choice clashes (Ok command) files a b x y = unless_one one choice clashes (recovery_fault (effect_of command.applet) files) command files a b x y

@@ -7,18 +7,18 @@ use Rattle.base_core.specs.declared.cause.Cause.{Cause}
 use Rattle.tell_core.specs.change_inputs.Chains.{and_then}
 use Rattle.tell_core.specs.change_inputs.Inputs.{Inputs, inputs_of}
 use Rattle.engine_core.specs.change_outcome.Made.{IsChangeMade}
-use Rattle.engine_core.specs.change_files.PlanLists.{aside_of, kept_of}
+use Rattle.engine_core.specs.change_files.PlanLists.{paths_with_apk_new_file, kept_paths_of}
 use Rattle.engine_core.specs.change_outcome.ChangeOutcome.{ChangeDone, ChangeWishes, change_or_refusal, file_change, member_sum_line, touched_paths}
 use Rattle.engine_core.specs.change_outcome.ConfigurationLines.{configuration_lines}
 use Rattle.engine_core.specs.change_outcome.Triggers.{trigger_lines}
 use Rattle.command_core.specs.Command.{CommandLine}
 use Rattle.engine_core.specs.Changed.{IsClashFor, Selected, change_of_selected, change_of_command, selected_by, selected_of_inputs, simulated_change}
 use Rattle.engine_core.specs.Choice.{IsChoiceFrom}
-use Rattle.engine_core.specs.Selecting.{pool_by, pool_for, replacement_of_choice}
+use Rattle.engine_core.specs.Selecting.{pool_of_inputs, pool_of_command, replacement_of_choice}
 use Rattle.engine_core.specs.Wishes.{names_to_reinstall, names_to_upgrade, unknown_operand_place, unless_unknown_operand, wishes_of}
 use Rattle.make_core.specs.make_info.Reads.{Reads}
 use Rattle.engine_core.specs.package_changes.Changes.{Replacement, changes_of}
-use Rattle.engine_core.specs.package_changes.Report.{selected_sum_line, simulated_report, stay_lines}
+use Rattle.engine_core.specs.package_changes.Report.{selected_sum_line, simulated_report, still_needed_lines}
 use Rattle.tell_core.specs.path_clashes.Clash.{NamePair}
 use Rattle.tell_core.specs.candidate_core.Rank.{SealedPool}
 use Rattle.report_core.specs.Reports.{change_lines}
@@ -29,7 +29,7 @@ use Rattle.outcome.proofs.Ends.{HasKnownRefusal, inputs_stated, pool_stated}
 use Rattle.outcome.proofs.PackageRefusals.{refusal_stated}
 use Rattle.outcome.specs.ChangeEnd.{IsChangeEnd, IsEndBy, IsRunEnd, is_input_refusal, is_refusal_after_choice}
 use Rattle.outcome.specs.Changing.{change_outcome}
-use Rattle.outcome.specs.Commands.{IsOutcomeOf, IsOutcomeOn, IsOutcomeUnlessBadIntent, reads_in}
+use Rattle.outcome.specs.Commands.{IsOutcomeWithoutDemo, IsOutcomeAfterRecovery, IsOutcomeUnlessBadIntent, reads_in}
 use Rattle.outcome.specs.Effect.{Changes, Effect, effect_of}
 use Rattle.outcome.specs.Given.{IsChosenFor, IsClashBy}
 use Rattle.outcome.specs.Outcome.{Outcome}
@@ -49,7 +49,7 @@ IsMadeKnown = (inputs : Inputs) (r : Replacement) (wishes : ChangeWishes) (read 
 simulated_lines : (r : Replacement) (to_remove : List (List ℕ)) → HasChangeLines r (simulated_report r to_remove)
 unfolding simulated_report
 simulated_lines r to_remove =
-    let stays = stay_lines r.before r.selected to_remove in
+    let stays = still_needed_lines r.before r.selected to_remove in
     let sum = selected_sum_line r.selected in
     (stays ++ sum, append_assoc (change_lines (changes_of r)) stays sum)
 
@@ -57,8 +57,8 @@ made_lines : (inputs : Inputs) (r : Replacement) (wishes : ChangeWishes) (read :
 made_lines inputs r wishes read clash files done made =
     let change = file_change inputs wishes made.found in
     let lines = change_lines (changes_of r) in
-    let stays = stay_lines r.before r.selected wishes.to_remove in
-    let configuration = configuration_lines (aside_of change files) (kept_of change files) in
+    let stays = still_needed_lines r.before r.selected wishes.to_remove in
+    let configuration = configuration_lines (paths_with_apk_new_file change files) (kept_paths_of change files) in
     let triggers = trigger_lines (touched_paths change files) change.members in
     let sum = member_sum_line change.members in (
       stays ++ (configuration ++ (triggers ++ sum)),
@@ -100,16 +100,16 @@ module _ (known : IsMadeKnown) (command : CommandLine) (files : Files) where
   end_of clash selected = change_outcome files (and_then selected (change_of_selected command (reads_in files) files clash))
 
   by_choice : (inputs : Inputs) (pool : SealedPool) (chosen : Option (List ℕ)) (clash : Option NamePair)
-      → inputs_of command (reads_in files) ≡ Ok inputs → pool_by command inputs ≡ Ok pool → unknown_operand_place command.applet inputs command.operands ≡ None
+      → inputs_of command (reads_in files) ≡ Ok inputs → pool_of_inputs command inputs ≡ Ok pool → unknown_operand_place command.applet inputs command.operands ≡ None
       → IsChoiceFrom (Ok pool) chosen → IsClashFor command (reads_in files) files chosen clash
       → IsChangeEnd command files (end_of clash (selected_by command inputs pool chosen))
   by_choice inputs pool None clash are is known_names choice is_clash =
-      inr (inl (record { pool = pool; is_pool = ap (λ (r : Result Inputs Refusal). and_then r (pool_by command)) are ∙ is; none = choice; outcome = refl }))
+      inr (inl (record { pool = pool; is_pool = ap (λ (r : Result Inputs Refusal). and_then r (pool_of_inputs command)) are ∙ is; none = choice; outcome = refl }))
   by_choice inputs pool (Some trace) clash are is known_names choice is_clash =
       let s : Selected = record { inputs = inputs; replacement = replacement_of_choice (names_to_reinstall command.applet command.operands) inputs pool trace } in
       inr (inr (record {
         pool = pool;
-        is_pool = ap (λ (r : Result Inputs Refusal). and_then r (pool_by command)) are ∙ is;
+        is_pool = ap (λ (r : Result Inputs Refusal). and_then r (pool_of_inputs command)) are ∙ is;
         trace = trace;
         first = choice;
         selected = s;
@@ -125,7 +125,7 @@ module _ (known : IsMadeKnown) (command : CommandLine) (files : Files) where
   -- ---- by what is read
 
   by_place : (inputs : Inputs) (pool : SealedPool) (place : Option ℕ) (chosen : Option (List ℕ)) (clash : Option NamePair)
-      → inputs_of command (reads_in files) ≡ Ok inputs → pool_by command inputs ≡ Ok pool → unknown_operand_place command.applet inputs command.operands ≡ place
+      → inputs_of command (reads_in files) ≡ Ok inputs → pool_of_inputs command inputs ≡ Ok pool → unknown_operand_place command.applet inputs command.operands ≡ place
       → IsChoiceFrom (Ok pool) chosen → IsClashFor command (reads_in files) files chosen clash
       → IsChangeEnd command files (end_of clash (unless_unknown_operand place (selected_by command inputs pool chosen)))
   by_place inputs pool None chosen clash are is at choice is_clash = by_choice inputs pool chosen clash are is at choice is_clash
@@ -141,7 +141,7 @@ module _ (known : IsMadeKnown) (command : CommandLine) (files : Files) where
       })
 
   by_pool : (inputs : Inputs) (pool : Result SealedPool Refusal) (chosen : Option (List ℕ)) (clash : Option NamePair)
-      → inputs_of command (reads_in files) ≡ Ok inputs → pool_by command inputs ≡ pool
+      → inputs_of command (reads_in files) ≡ Ok inputs → pool_of_inputs command inputs ≡ pool
       → IsChoiceFrom pool chosen → IsClashFor command (reads_in files) files chosen clash
       → IsChangeEnd command files (end_of clash (and_then pool (λ pool. unless_unknown_operand (unknown_operand_place command.applet inputs command.operands) (selected_by command inputs pool chosen))))
   by_pool inputs (Ok pool) chosen clash are is choice is_clash = by_place inputs pool (unknown_operand_place command.applet inputs command.operands) chosen clash are is refl choice is_clash
@@ -156,20 +156,20 @@ module _ (known : IsMadeKnown) (command : CommandLine) (files : Files) where
       })
 
   by_inputs : (inputs : Result Inputs Refusal) (chosen : Option (List ℕ)) (clash : Option NamePair) → inputs_of command (reads_in files) ≡ inputs
-      → IsChoiceFrom (and_then inputs (pool_by command)) chosen → IsClashFor command (reads_in files) files chosen clash
+      → IsChoiceFrom (and_then inputs (pool_of_inputs command)) chosen → IsClashFor command (reads_in files) files chosen clash
       → IsChangeEnd command files (end_of clash (and_then inputs (selected_of_inputs command chosen)))
-  by_inputs (Ok inputs) chosen clash are choice is_clash = by_pool inputs (pool_by command inputs) chosen clash are refl choice is_clash
+  by_inputs (Ok inputs) chosen clash are choice is_clash = by_pool inputs (pool_of_inputs command inputs) chosen clash are refl choice is_clash
   by_inputs (Err refusal) chosen clash are choice is_clash =
       inl (record { refusal = refusal; stated = subst (HasKnownRefusal is_input_refusal) are (inputs_stated command (reads_in files)); outcome = refl; unchosen = λ other. ap (λ (r : Result Inputs Refusal). and_then r (selected_of_inputs command other)) are })
 
-  change_end : (chosen : Option (List ℕ)) (clash : Option NamePair) → IsChoiceFrom (pool_for command (reads_in files)) chosen → IsClashFor command (reads_in files) files chosen clash
+  change_end : (chosen : Option (List ℕ)) (clash : Option NamePair) → IsChoiceFrom (pool_of_command command (reads_in files)) chosen → IsClashFor command (reads_in files) files chosen clash
       → IsChangeEnd command files (change_outcome files (change_of_command command (reads_in files) files chosen clash))
   unfolding change_of_command
   change_end chosen clash choice is_clash = by_inputs (inputs_of command (reads_in files)) chosen clash refl choice is_clash
 
 -- ---- over the files on which it works, and by the words
 
-pub over_end : IsMadeKnown → (command : CommandLine) (files : Files) (o : Outcome) → effect_of command.applet ≡ Changes → IsOutcomeOn command files o → IsChangeEnd command files o
+pub over_end : IsMadeKnown → (command : CommandLine) (files : Files) (o : Outcome) → effect_of command.applet ≡ Changes → IsOutcomeAfterRecovery command files o → IsChangeEnd command files o
 over_end known command files o changes (given, are, is) =
     subst (IsChangeEnd command files) (change_is command.applet command given (reads_in files) files changes ∙ sym is)
     (change_end known command files given.chosen given.clash
@@ -179,8 +179,8 @@ over_end known command files o changes (given, are, is) =
 unless_end : IsMadeKnown → (fault : Option Cause) (command : CommandLine) (files : Files) (o : Outcome) → effect_of command.applet ≡ Changes → recovery_fault Changes files ≡ fault → IsOutcomeUnlessBadIntent fault command files o → IsRunEnd command files o
 unless_end known (Some cause) command files o changes at is = inl (record { cause = cause; bad = at; outcome = is })
 unless_end known None command files o changes at is =
-    inr (over_end known command (work_files Changes files) o changes (subst (λ (e : Effect). IsOutcomeOn command (work_files e files) o) changes is))
+    inr (over_end known command (work_files Changes files) o changes (subst (λ (e : Effect). IsOutcomeAfterRecovery command (work_files e files) o) changes is))
 
-pub run_end : IsMadeKnown → (command : CommandLine) (files : Files) (o : Outcome) → effect_of command.applet ≡ Changes → IsOutcomeOf (Ok command) files o → IsRunEnd command files o
+pub run_end : IsMadeKnown → (command : CommandLine) (files : Files) (o : Outcome) → effect_of command.applet ≡ Changes → IsOutcomeWithoutDemo (Ok command) files o → IsRunEnd command files o
 run_end known command files o changes is =
     unless_end known (recovery_fault Changes files) command files o changes refl (subst (λ (e : Effect). IsOutcomeUnlessBadIntent (recovery_fault e files) command files o) changes is)

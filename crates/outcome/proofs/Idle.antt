@@ -9,13 +9,13 @@ use Rattle.tell_core.specs.change_inputs.Inputs.{Inputs, inputs_of}
 use Rattle.engine_core.specs.change_outcome.Premises.{IsRootOfFiles}
 use Rattle.engine_core.specs.change_outcome.ChangeOutcome.{ChangeDone, ChangeWishes, change_or_refusal}
 use Rattle.command_core.specs.Command.{CommandLine}
-use Rattle.command_core.specs.Files.{without_dot}
+use Rattle.command_core.specs.Files.{without_dot_slash}
 use Rattle.command_core.specs.declared.command.Applet.{Applet}
 use Rattle.command_core.specs.declared.command.Applet.TheVariants.{Adbdump, Adbgen, Mkndx, Mkpkg, Verify, Version}
 use Rattle.command_core.specs.declared.command.Flags.{Flags}
 use Rattle.command_core.specs.declared.operands.Operand.{Operand}
 use Rattle.engine_core.specs.Changed.{Selected, change_of_selected, change_of_command, selected_by, selected_for, selected_of_inputs, simulated_change}
-use Rattle.engine_core.specs.Selecting.{pool_by}
+use Rattle.engine_core.specs.Selecting.{pool_of_inputs}
 use Rattle.engine_core.specs.Wishes.{unknown_operand_place, unless_unknown_operand, wishes_of}
 use Rattle.gen_core.specs.Generated.{generated_file}
 use Rattle.gen_core.specs.declared.generate.GenFault.{GenFault}
@@ -35,9 +35,9 @@ use Rattle.tell_core.specs.ReportForCommand.{report_for_command}
 use Rattle.words_core.specs.Grammar.{command_of}
 use Rattle.outcome.proofs.Applets.{told_files}
 use Rattle.outcome.specs.Changing.{change_outcome}
-use Rattle.outcome.specs.Commands.{IsOutcomeOf, IsOutcomeOn, IsOutcomeUnlessBadIntent, computing_outcome, effect_outcome, making_outcome, reading_outcome, reads_in}
+use Rattle.outcome.specs.Commands.{IsOutcomeWithoutDemo, IsOutcomeAfterRecovery, IsOutcomeUnlessBadIntent, computing_outcome, effect_outcome, making_outcome, reading_outcome, reads_in}
 use Rattle.outcome.specs.Dump.{adbdump, dump_of, dump_outcome, text_outcome}
-use Rattle.outcome.specs.Effect.{Effect, Changes, Computes, Makes, OnlyReadsFiles, AsksRoot, effect_by, effect_of}
+use Rattle.outcome.specs.Effect.{Effect, Changes, Computes, Makes, OnlyReadsFiles, AsksRoot, effect_of_arguments, effect_of}
 use Rattle.outcome.specs.Generate.{adbgen, container_outcome, generate_outcome}
 use Rattle.outcome.specs.Given.{Given}
 use Rattle.outcome.specs.Make.{files_with_output, index_line, make_outcome, unless_reserved}
@@ -72,7 +72,7 @@ dump_idle files place (Some bytes) idle = text_idle files place (dump_of bytes) 
 
 adbdump_idle : (read : Reads) (files : Files) (operands : List Operand) → LeavesIdle files (adbdump read files operands)
 adbdump_idle read files [] idle = refl
-adbdump_idle read files (o ∷ operands) idle = dump_idle files o.place (read 0 (without_dot o.text)) idle
+adbdump_idle read files (o ∷ operands) idle = dump_idle files o.place (read 0 (without_dot_slash o.text)) idle
 
 container_idle : (files : Files) (place : ℕ) (made : Result (List ℕ) GenFault) → LeavesIdle files (container_outcome files place made)
 container_idle files place (Ok file) idle = refl
@@ -86,7 +86,7 @@ generate_idle files place (Some text) idle = container_idle files place (generat
 
 adbgen_idle : (read : Reads) (files : Files) (operands : List Operand) → LeavesIdle files (adbgen read files operands)
 adbgen_idle read files [] idle = refl
-adbgen_idle read files (o ∷ operands) idle = generate_idle files o.place (read 0 (without_dot o.text)) idle
+adbgen_idle read files (o ∷ operands) idle = generate_idle files o.place (read 0 (without_dot_slash o.text)) idle
 
 computing_idle : (applet : Applet) (command : CommandLine) (files : Files) → LeavesIdle files (computing_outcome applet command files)
 computing_idle Version command files = version_idle files command.flags command.operands
@@ -152,7 +152,7 @@ chosen_inputs command inputs pool (Some trace) s e = ap (λ (r : Result Selected
 pub selected_inputs : (command : CommandLine) (read : Reads) (chosen : Option (List ℕ)) (s : Selected) → selected_for command read chosen ≡ Ok s → inputs_of command read ≡ Ok s.inputs
 selected_inputs command read chosen s e =
     let (inputs, are, rest) = chain_ok (inputs_of command read) (selected_of_inputs command chosen) s e in
-    let (pool, is, left) = chain_ok (pool_by command inputs) (λ pool. unless_unknown_operand (unknown_operand_place command.applet inputs command.operands) (selected_by command inputs pool chosen)) s rest in
+    let (pool, is, left) = chain_ok (pool_of_inputs command inputs) (λ pool. unless_unknown_operand (unknown_operand_place command.applet inputs command.operands) (selected_by command inputs pool chosen)) s rest in
     are ∙ ap (λ (x : Inputs). Ok x) (sym (chosen_inputs command inputs pool chosen s (place_ok (unknown_operand_place command.applet inputs command.operands) (selected_by command inputs pool chosen) s left)))
 
 selected_idle : HaveIdle → (command : CommandLine) (read : Reads) (files : Files) (clash : Option NamePair) (s : Selected) (done : ChangeDone) → IsRootOfFiles files s.inputs.root
@@ -186,7 +186,7 @@ effect_idle rooted idle AsksRoot applet command given files = λ nothing. told_f
 effect_idle rooted idle Makes applet command given files = making_idle applet command given.names (reads_in files) files
 effect_idle rooted idle Changes applet command given files = change_idle rooted idle command files given.chosen given.clash (change_of_command command (reads_in files) files given.chosen given.clash) refl
 
-pub over_idle : HaveRoot → HaveIdle → (command : CommandLine) (files : Files) (o : Outcome) → IsOutcomeOn command files o → o.commits ≡ false → o.files ≡ files
+pub over_idle : HaveRoot → HaveIdle → (command : CommandLine) (files : Files) (o : Outcome) → IsOutcomeAfterRecovery command files o → o.commits ≡ false → o.files ≡ files
 over_idle rooted idle command files o (given, are, is) nothing =
     subst (LeavesIdle files) (sym is) (effect_idle rooted idle (effect_of command.applet) command.applet command given files) nothing
 
@@ -197,11 +197,11 @@ unless_leaves : HaveRoot → HaveIdle → (fault : Option Cause) (command : Comm
 unless_leaves rooted idle (Some cause) command files o is nothing = inl (ap (λ (p : Outcome). p.files) is)
 unless_leaves rooted idle None command files o is nothing = inr (over_idle rooted idle command (work_files (effect_of command.applet) files) o is nothing)
 
-leaves_by : HaveRoot → HaveIdle → (read : Result CommandLine ℕ) (files : Files) (o : Outcome) → IsOutcomeOf read files o → o.commits ≡ false
-    → (o.files ≡ files) ⊎ (o.files ≡ work_files (effect_by read) files)
+leaves_by : HaveRoot → HaveIdle → (read : Result CommandLine ℕ) (files : Files) (o : Outcome) → IsOutcomeWithoutDemo read files o → o.commits ≡ false
+    → (o.files ≡ files) ⊎ (o.files ≡ work_files (effect_of_arguments read) files)
 leaves_by rooted idle (Err place) files o is nothing = inl (ap (λ (p : Outcome). p.files) is)
 leaves_by rooted idle (Ok command) files o is nothing = unless_leaves rooted idle (recovery_fault (effect_of command.applet) files) command files o is nothing
 
-pub leaves_idle : HaveRoot → HaveIdle → (words : List (List ℕ)) (files : Files) (o : Outcome) → IsOutcomeOf (command_of words) files o → o.commits ≡ false
-    → (o.files ≡ files) ⊎ (o.files ≡ work_files (effect_by (command_of words)) files)
+pub leaves_idle : HaveRoot → HaveIdle → (words : List (List ℕ)) (files : Files) (o : Outcome) → IsOutcomeWithoutDemo (command_of words) files o → o.commits ≡ false
+    → (o.files ≡ files) ⊎ (o.files ≡ work_files (effect_of_arguments (command_of words)) files)
 leaves_idle rooted idle words files o is nothing = leaves_by rooted idle (command_of words) files o is nothing

@@ -20,13 +20,13 @@ use Rattle.report_core.specs.declared.refusal.Refusal.TheVariants.{IntentBad, Re
 use Rattle.tell_core.specs.ReportForCommand.{report_for_command}
 use Rattle.words_core.specs.Grammar.{command_of}
 use Rattle.outcome.specs.ChangeEnd.{IsChangeEnd, IsEndBy, is_input_refusal, is_refusal_after_choice}
-use Rattle.outcome.specs.Commands.{IsOutcomeOf, IsOutcomeOn, IsOutcomeUnlessBadIntent, effect_outcome, reads_in}
-use Rattle.outcome.specs.Effect.{Effect, Computes, OnlyReadsFiles, AsksRoot, Makes, Changes, does_recover, effect_by, effect_of}
+use Rattle.outcome.specs.Commands.{IsOutcomeWithoutDemo, IsOutcomeAfterRecovery, IsOutcomeUnlessBadIntent, effect_outcome, reads_in}
+use Rattle.outcome.specs.Effect.{Effect, Computes, OnlyReadsFiles, AsksRoot, Makes, Changes, does_recover, effect_of_arguments, effect_of}
 use Rattle.outcome.specs.Given.{Given}
 use Rattle.outcome.specs.Make.{make_outcome, unless_reserved}
 use Rattle.outcome.specs.Outcome.{Outcome, just_refusal}
 use Rattle.outcome.specs.OutcomeOfReport.{outcome_of_report}
-use Rattle.outcome.specs.Words.{IsOutcome, IsOutcomeFor}
+use Rattle.outcome.specs.Words.{IsOutcome, IsOutcomeOfApplet}
 use Rattle.outcome.specs.Work.{recovery_fault, work_files}
 use Rattle.outcome.proofs.Applets.{report_is}
 
@@ -94,8 +94,8 @@ module _ (refused : (c : CommandLine) (read : Reads) (refusal : Refusal) → rep
 
   -- ---- by the words
 
-  module _ (ends : (command : CommandLine) (files : Files) (o : Outcome) → effect_of command.applet ≡ Changes → IsOutcomeOn command files o → IsChangeEnd command files o) where
-    over_other : (command : CommandLine) (files : Files) (o : Outcome) (effect : Effect) → effect_of command.applet ≡ effect → does_recover effect ≡ true → IsOutcomeOn command files o → NamesNoIntent o
+  module _ (ends : (command : CommandLine) (files : Files) (o : Outcome) → effect_of command.applet ≡ Changes → IsOutcomeAfterRecovery command files o → IsChangeEnd command files o) where
+    over_other : (command : CommandLine) (files : Files) (o : Outcome) (effect : Effect) → effect_of command.applet ≡ effect → does_recover effect ≡ true → IsOutcomeAfterRecovery command files o → NamesNoIntent o
     over_other command files o Computes at recovers over = absurd (false≢true recovers)
     over_other command files o OnlyReadsFiles at recovers over = absurd (false≢true recovers)
     over_other command files o AsksRoot at recovers (given, are, is) =
@@ -114,16 +114,16 @@ module _ (refused : (c : CommandLine) (read : Reads) (refusal : Refusal) → rep
         absurd (over_other command (work_files (effect_of command.applet) files) o (effect_of command.applet) refl recovers over cause refusal)
 
     -- `demo` does not recover
-    no_demo : (applet : Applet) (command : CommandLine) (files : Files) (o : Outcome) → does_recover (effect_of applet) ≡ true → IsOutcomeFor applet command files o → IsOutcomeOf (Ok command) files o
+    no_demo : (applet : Applet) (command : CommandLine) (files : Files) (o : Outcome) → does_recover (effect_of applet) ≡ true → IsOutcomeOfApplet applet command files o → IsOutcomeWithoutDemo (Ok command) files o
     no_demo Demo command files o recovers one = absurd (false≢true recovers)
     no_demo other command files o recovers one = one
 
-    by_command : (read : Result CommandLine ℕ) (files : Files) (o : Outcome) (cause : Cause) → does_recover (effect_by read) ≡ true → IsOutcome read files o → o.refusal ≡ Some (IntentBad cause)
-        → recovery_fault (effect_by read) files ≡ Some cause
+    by_command : (read : Result CommandLine ℕ) (files : Files) (o : Outcome) (cause : Cause) → does_recover (effect_of_arguments read) ≡ true → IsOutcome read files o → o.refusal ≡ Some (IntentBad cause)
+        → recovery_fault (effect_of_arguments read) files ≡ Some cause
     by_command (Ok command) files o cause recovers one refusal =
         unless_other command files o cause (recovery_fault (effect_of command.applet) files) recovers (no_demo command.applet command files o recovers one) refusal
     by_command (Err place) files o cause recovers one refusal = absurd (false≢true recovers)
 
-    pub refused_bad : (words : List (List ℕ)) (files : Files) (o : Outcome) (cause : Cause) → does_recover (effect_by (command_of words)) ≡ true → IsOutcome (command_of words) files o → o.refusal ≡ Some (IntentBad cause)
-        → recovery_fault (effect_by (command_of words)) files ≡ Some cause
+    pub refused_bad : (words : List (List ℕ)) (files : Files) (o : Outcome) (cause : Cause) → does_recover (effect_of_arguments (command_of words)) ≡ true → IsOutcome (command_of words) files o → o.refusal ≡ Some (IntentBad cause)
+        → recovery_fault (effect_of_arguments (command_of words)) files ≡ Some cause
     refused_bad words = by_command (command_of words)

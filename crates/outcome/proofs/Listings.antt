@@ -3,15 +3,15 @@ use Rattle.std.proofs.Common.{◌≡◌, ℕ, Bool, true, false, List, ◌++◌,
 use Rattle.std.specs.Prelude.{if◌then◌else◌, nat_eq}
 use Rattle.std.specs.List.{starts_with}
 use Rattle.base_core.specs.Listed.{IsListOf, IsNamesOf}
-use Rattle.base_core.specs.Tree.{TreeState, bytes_at, files_of}
+use Rattle.base_core.specs.Tree.{TreeState, bytes_of_file_number, files_of}
 use Rattle.engine_core.proofs.journal_core.Below.{begins, is_below}
 use Rattle.outcome.specs.Make.{files_below}
 
-has_bytes : (v : TreeState) (n : Option ℕ) → IsSome n → IsSome (bytes_at v.files n)
+has_bytes : (v : TreeState) (n : Option ℕ) → IsSome n → IsSome (bytes_of_file_number v.files n)
 has_bytes v None h = cc
 has_bytes v (Some n) h = refl
 
-has_number : (v : TreeState) (n : Option ℕ) → IsSome (bytes_at v.files n) → IsSome n
+has_number : (v : TreeState) (n : Option ℕ) → IsSome (bytes_of_file_number v.files n) → IsSome n
 has_number v None h = cc
 has_number v (Some n) h = refl
 

@@ -5,7 +5,7 @@ use Rattle.std.proofs.lemmas.Bool.{false≢true}
 use Rattle.base_core.specs.Files.{Files}
 use Rattle.base_core.specs.declared.cause.Cause.{Cause}
 use Rattle.command_core.specs.Command.{CommandLine}
-use Rattle.command_core.specs.Files.{without_dot}
+use Rattle.command_core.specs.Files.{without_dot_slash}
 use Rattle.command_core.specs.declared.command.Applet.{Applet}
 use Rattle.command_core.specs.declared.command.Applet.TheVariants.{Adbdump, Adbgen, Verify, Version}
 use Rattle.command_core.specs.declared.operands.Operand.{Operand}
@@ -14,7 +14,7 @@ use Rattle.gen_core.specs.declared.generate.GenFault.{GenFault}
 use Rattle.gen_core.specs.declared.generate.GenFault.TheVariants.{Bad, TooLarge, Memory}
 use Rattle.make_core.specs.make_info.Reads.{Reads}
 use Rattle.report_core.specs.declared.refusal.Refusal.{Refusal}
-use Rattle.outcome.specs.Commands.{IsOutcomeOf, IsOutcomeOn, IsOutcomeUnlessBadIntent, computing_outcome, effect_outcome, reading_outcome, reads_in}
+use Rattle.outcome.specs.Commands.{IsOutcomeWithoutDemo, IsOutcomeAfterRecovery, IsOutcomeUnlessBadIntent, computing_outcome, effect_outcome, reading_outcome, reads_in}
 use Rattle.outcome.specs.Dump.{adbdump, dump_of, dump_outcome, text_outcome}
 use Rattle.outcome.specs.Effect.{Effect, Changes, Computes, Makes, OnlyReadsFiles, AsksRoot, does_only_read, effect_of, reads_only}
 use Rattle.outcome.specs.Generate.{adbgen, container_outcome, generate_outcome}
@@ -43,7 +43,7 @@ dump_leaves files place (Some bytes) = text_leaves files place (dump_of bytes)
 
 adbdump_leaves : (read : Reads) (files : Files) (os : List Operand) → LeavesFiles files (adbdump read files os)
 adbdump_leaves read files [] = (refl, refl)
-adbdump_leaves read files (o ∷ os) = dump_leaves files o.place (read 0 (without_dot o.text))
+adbdump_leaves read files (o ∷ os) = dump_leaves files o.place (read 0 (without_dot_slash o.text))
 
 container_leaves : (files : Files) (place : ℕ) (made : Result (List ℕ) GenFault) → LeavesFiles files (container_outcome files place made)
 container_leaves files place (Ok file) = (refl, refl)
@@ -57,7 +57,7 @@ generate_leaves files place (Some text) = container_leaves files place (generate
 
 adbgen_leaves : (read : Reads) (files : Files) (os : List Operand) → LeavesFiles files (adbgen read files os)
 adbgen_leaves read files [] = (refl, refl)
-adbgen_leaves read files (o ∷ os) = generate_leaves files o.place (read 0 (without_dot o.text))
+adbgen_leaves read files (o ∷ os) = generate_leaves files o.place (read 0 (without_dot_slash o.text))
 
 pub computing_leaves : (applet : Applet) (command : CommandLine) (files : Files) → LeavesFiles files (computing_outcome applet command files)
 computing_leaves Version command files =
@@ -96,10 +96,10 @@ same_files AsksRoot files reads = absurd (false≢true reads)
 same_files Makes files reads = absurd (false≢true reads)
 same_files Changes files reads = absurd (false≢true reads)
 
-pub read_leaves : (read : Result CommandLine ℕ) (files : Files) (o : Outcome) → reads_only read ≡ true → IsOutcomeOf read files o → LeavesFiles files o
+pub read_leaves : (read : Result CommandLine ℕ) (files : Files) (o : Outcome) → reads_only read ≡ true → IsOutcomeWithoutDemo read files o → LeavesFiles files o
 read_leaves (Err place) files o reads is = (ap (λ (p : Outcome). p.files) is, ap (λ (p : Outcome). p.commits) is)
 read_leaves (Ok command) files o reads is =
     let effect = effect_of command.applet in
-    let over : IsOutcomeOn command (work_files effect files) o = subst (λ (f : Option Cause). IsOutcomeUnlessBadIntent f command files o) (no_fault effect files reads) is in
-    let here : IsOutcomeOn command files o = subst (λ (work : Files). IsOutcomeOn command work o) (same_files effect files reads) over in
+    let over : IsOutcomeAfterRecovery command (work_files effect files) o = subst (λ (f : Option Cause). IsOutcomeUnlessBadIntent f command files o) (no_fault effect files reads) is in
+    let here : IsOutcomeAfterRecovery command files o = subst (λ (work : Files). IsOutcomeAfterRecovery command work o) (same_files effect files reads) over in
     subst (LeavesFiles files) (sym here.2) (look_leaves effect command.applet command here.0 files reads)

@@ -6,7 +6,7 @@ use Rattle.std.proofs.lemmas.List.Elements.{All-contains_itself, All-weaker}
 use Rattle.std.proofs.lemmas.Slice.Eq.{bytes_eq-Decides}
 use Rattle.gen_core.specs.adb_schema.Reserved.{is_reserved}
 use Rattle.adb_view.specs.Plain.{Plain}
-use Rattle.gen_core.specs.adb_write.Canonical.{PayloadCounts, overflow_of, written_of}
+use Rattle.gen_core.specs.adb_write.Canonical.{PayloadCounts, overflow_of, payload_or_overflow}
 use Rattle.base_core.specs.Files.{AreNamedFiles, Files, drop_name}
 use Rattle.base_core.specs.Listed.{AreNamesBelow, IsNameBelow, IsNamesOf}
 use Rattle.base_core.specs.Tree.{IsWellFormed, TreeState, files_of}
@@ -14,7 +14,7 @@ use Rattle.base_core.specs.declared.cause.Cause.{Cause}
 use Rattle.command_core.specs.declared.values.TheConstants.{FILES, SCRIPT, TRIGGER}
 use Rattle.engine_core.specs.journal_core.Replacing.{replaced_files, scratch_of}
 use Rattle.engine_core.specs.journal_core.Staged.{unstaged_files}
-use Rattle.make_core.specs.package_files.Folders.{FolderListing, folders_of, last_part_of}
+use Rattle.make_core.specs.package_files.Folders.{FolderListing, folder_listings_of, last_part_of}
 use Rattle.make_core.specs.make_index.Index.{and_entries, found_entries, found_entry, index_container, index_of, index_of_found, value_of_index, entry_unless, description_in, made_index}
 use Rattle.make_core.specs.make_index.EntryOrder.{entry_cmp}
 use Rattle.base_core.specs.Sorted.{sorted_by}
@@ -23,7 +23,7 @@ use Rattle.make_core.specs.make_package.Making.{container_unless, made_package, 
 use Rattle.make_core.specs.make_info.Output.{output_name}
 use Rattle.make_core.specs.package_files.Package.{Script, Source, SourceFolder, contents_of_folders, installed_size, value_of_package}
 use Rattle.make_core.specs.make_index.Files.{FindOnlyFiles}
-use Rattle.make_core.specs.package_files.Sources.{AreNamesBelowFirst, and_then, each_from, file_at, sources_from, folder_at, folders_below, found_at, values_with, script_at, scripts_from, texts_of}
+use Rattle.make_core.specs.package_files.Sources.{AreNamesBelowFirst, and_then, each_from, source_file_read_at, sources_from, source_folder_read_at, folders_below, found_bytes_or_missing, values_of_letter, script_at, scripts_from, texts_of}
 use Rattle.make_core.specs.make_info.Reads.{Reads}
 use Rattle.make_core.specs.make_info.declared.fault.MakeFault.{MakeFault}
 use Rattle.make_core.specs.make_info.declared.fault.MakeFault.TheVariants.{FileMissing, FileBad, InfoBad, TooLarge, Disk, Memory}
@@ -32,7 +32,7 @@ use Rattle.make_core.specs.pkg_core.Whole.{container_fault, package_fault}
 use Rattle.report_core.specs.declared.refusal.Refusal.{Refusal}
 use Rattle.report_core.specs.declared.refusal.Refusal.TheVariants.{IntentBad, Reserved, ResultTooLarge}
 use Rattle.command_core.specs.Command.{CommandLine}
-use Rattle.command_core.specs.Files.{without_dot}
+use Rattle.command_core.specs.Files.{without_dot_slash}
 use Rattle.words_core.specs.Grammar.{command_of}
 use Rattle.command_core.specs.Values.{script_file, script_type}
 use Rattle.command_core.specs.declared.command.Applet.{Applet}
@@ -42,16 +42,16 @@ use Rattle.command_core.specs.declared.values.OptionValue.{OptionValue}
 use Rattle.engine_core.proofs.journal_core.Below.{is_below}
 use Rattle.outcome.proofs.Listings.{if_some}
 use Rattle.outcome.specs.Given.{Given, IsListingFor}
-use Rattle.outcome.specs.Commands.{IsOutcomeOf, IsOutcomeUnlessBadIntent, effect_outcome, reads_in}
-use Rattle.outcome.specs.Effect.{Effect, Computes, OnlyReadsFiles, AsksRoot, Makes, Changes, effect_of, output, output_by, output_if}
+use Rattle.outcome.specs.Commands.{IsOutcomeWithoutDemo, IsOutcomeUnlessBadIntent, effect_outcome, reads_in}
+use Rattle.outcome.specs.Effect.{Effect, Computes, OnlyReadsFiles, AsksRoot, Makes, Changes, effect_of, output, output_of_arguments, output_for_effect}
 use Rattle.outcome.specs.Make.{AreNamesBelowOption, files_below, index_line, make_outcome, mkndx, mkpkg}
 use Rattle.outcome.specs.Outcome.{Outcome, commit_report, just_refusal}
-use Rattle.outcome.specs.Sound.{IsSoundAt}
+use Rattle.outcome.specs.Sound.{IsSoundFileAt}
 use Rattle.outcome.specs.Work.{recovery_fault, work_files}
 
 -- a package that is made of names below its folder is sound, and so is an index of files
 abbrev pub SoundPackage : Type 0
-SoundPackage = (command : CommandLine) (names : List (List ℕ)) (read : Reads) (bytes : List ℕ) → AreNamesBelowFirst (values_with FILES command.values) names → made_package command names read ≡ Ok bytes → length bytes < 2 ^ 64 → container_fault bytes ≡ None
+SoundPackage = (command : CommandLine) (names : List (List ℕ)) (read : Reads) (bytes : List ℕ) → AreNamesBelowFirst (values_of_letter FILES command.values) names → made_package command names read ≡ Ok bytes → length bytes < 2 ^ 64 → container_fault bytes ≡ None
 
 abbrev pub SoundIndex : Type 0
 SoundIndex = (command : CommandLine) (read : Reads) (bytes : List ℕ) → FindOnlyFiles read 0 command.operands → made_index command read ≡ Ok bytes → container_fault bytes ≡ None
@@ -71,13 +71,13 @@ names_below folder files names good are = record {
 
 names_for : (values : List OptionValue) (files : Files) (names : List (List ℕ)) → AreNamedFiles files → AreNamesBelowOption values files names → AreNamesBelowFirst values names
 names_for [] files names good are = tt
-names_for (folder ∷ values) files names good are = names_below (without_dot folder.text) files names good are
+names_for (folder ∷ values) files names good are = names_below (without_dot_slash folder.text) files names good are
 
 -- ---- what reads find in the files are files
 
 files_found : (files : Files) → AreNamedFiles files → (n : ℕ) (operands : List Operand) → FindOnlyFiles (reads_in files) n operands
 files_found files good n [] = tt
-files_found files good n (o ∷ operands) = (good.each (without_dot o.text), files_found files good (n + 1) operands)
+files_found files good n (o ∷ operands) = (good.each (without_dot_slash o.text), files_found files good (n + 1) operands)
 
 -- ---- the definitions of what is made give no fault of the tree, and no want of memory
 
@@ -108,7 +108,7 @@ each_fine count of h n (x ∷ xs) =
     after_fine (of n x) (λ y. and_then (each_from count of (n + count x) xs) (λ ys. Ok (y ∷ ys))) (h n x)
     (λ y. after_fine (each_from count of (n + count x) xs) (λ ys. Ok (y ∷ ys)) (each_fine count of h (n + count x) xs) (λ ys. tt))
 
-found_fine : (place : ℕ) (found : Option (List ℕ)) → IsRefusalOrMade (found_at place found)
+found_fine : (place : ℕ) (found : Option (List ℕ)) → IsRefusalOrMade (found_bytes_or_missing place found)
 found_fine place None = tt
 found_fine place (Some bytes) = tt
 
@@ -121,27 +121,27 @@ script_of v bytes = Ok (record { field = script_type v.text; bytes = bytes })
 
 script_fine : (read : Reads) (n : ℕ) (v : OptionValue) → IsRefusalOrMade (script_at read n v)
 unfolding script_of
-script_fine read n v = after_fine (found_at v.place (read n (without_dot (script_file v.text)))) (script_of v) (found_fine v.place (read n (without_dot (script_file v.text)))) (λ bytes. tt)
+script_fine read n v = after_fine (found_bytes_or_missing v.place (read n (without_dot_slash (script_file v.text)))) (script_of v) (found_fine v.place (read n (without_dot_slash (script_file v.text)))) (λ bytes. tt)
 
 source_of : List ℕ → List ℕ → Result Source MakeFault
 source_of name bytes = Ok (record { name = last_part_of name; bytes = bytes })
 
-file_fine : (place : ℕ) (read : Reads) (n : ℕ) (name : List ℕ) → IsRefusalOrMade (file_at place read n name)
+file_fine : (place : ℕ) (read : Reads) (n : ℕ) (name : List ℕ) → IsRefusalOrMade (source_file_read_at place read n name)
 unfolding source_of
-file_fine place read n name = after_fine (found_at place (read n name)) (source_of name) (found_fine place (read n name)) (λ bytes. tt)
+file_fine place read n name = after_fine (found_bytes_or_missing place (read n name)) (source_of name) (found_fine place (read n name)) (λ bytes. tt)
 
 folder_of : FolderListing → List Source → Result SourceFolder MakeFault
 folder_of folder files = Ok (record { name = folder.name; files = files })
 
-folder_fine : (place : ℕ) (read : Reads) (n : ℕ) (folder : FolderListing) → IsRefusalOrMade (folder_at place read n folder)
+folder_fine : (place : ℕ) (read : Reads) (n : ℕ) (folder : FolderListing) → IsRefusalOrMade (source_folder_read_at place read n folder)
 unfolding folder_of
 folder_fine place read n folder =
-    after_fine (sources_from place read n folder.files) (folder_of folder) (each_fine (λ name. 1) (file_at place read) (file_fine place read) n folder.files) (λ files. tt)
+    after_fine (sources_from place read n folder.files) (folder_of folder) (each_fine (λ name. 1) (source_file_read_at place read) (file_fine place read) n folder.files) (λ files. tt)
 
 folders_fine : (read : Reads) (n : ℕ) (values : List OptionValue) (names : List (List ℕ)) → IsRefusalOrMade (folders_below read n values names)
 folders_fine read n [] names = tt
 folders_fine read n (v ∷ values) names =
-    each_fine (λ (folder : FolderListing). length folder.files) (folder_at v.place read) (folder_fine v.place read) n (folders_of (without_dot v.text) names)
+    each_fine (λ (folder : FolderListing). length folder.files) (source_folder_read_at v.place read) (folder_fine v.place read) n (folder_listings_of (without_dot_slash v.text) names)
 
 unless_fine : (counts : Option PayloadCounts) (v : Plain) (contents : List Contents) → IsRefusalOrMade (container_unless counts v contents)
 unless_fine None v contents = tt
@@ -154,18 +154,18 @@ file_of_fine v contents = unless_fine (overflow_of v) v contents
 pub package_fine : (command : CommandLine) (names : List (List ℕ)) (read : Reads) → IsRefusalOrMade (made_package command names read)
 unfolding made_package
 package_fine command names read =
-    after_fine (scripts_from read 0 (values_with SCRIPT command.values))
-    (λ scripts. and_then (or_info_bad (information command)) (λ about. and_then (folders_below read (length scripts) (values_with FILES command.values) names) (package_of_parts command scripts about)))
-    (each_fine (λ v. 1) (script_at read) (script_fine read) 0 (values_with SCRIPT command.values))
+    after_fine (scripts_from read 0 (values_of_letter SCRIPT command.values))
+    (λ scripts. and_then (or_info_bad (information command)) (λ about. and_then (folders_below read (length scripts) (values_of_letter FILES command.values) names) (package_of_parts command scripts about)))
+    (each_fine (λ v. 1) (script_at read) (script_fine read) 0 (values_of_letter SCRIPT command.values))
     (λ scripts.
-    after_fine (or_info_bad (information command)) (λ about. and_then (folders_below read (length scripts) (values_with FILES command.values) names) (package_of_parts command scripts about))
+    after_fine (or_info_bad (information command)) (λ about. and_then (folders_below read (length scripts) (values_of_letter FILES command.values) names) (package_of_parts command scripts about))
     (info_fine (information command))
     (λ about.
-    after_fine (folders_below read (length scripts) (values_with FILES command.values) names) (package_of_parts command scripts about)
-    (folders_fine read (length scripts) (values_with FILES command.values) names)
+    after_fine (folders_below read (length scripts) (values_of_letter FILES command.values) names) (package_of_parts command scripts about)
+    (folders_fine read (length scripts) (values_of_letter FILES command.values) names)
     (λ folders.
     file_of_fine
-    (value_of_package (information_value about (installed_size folders)) folders scripts (texts_of (values_with TRIGGER command.values)) (replaces_priority about))
+    (value_of_package (information_value about (installed_size folders)) folders scripts (texts_of (values_of_letter TRIGGER command.values)) (replaces_priority about))
     (contents_of_folders 1 folders))))
 
 tested_fine : (place : ℕ) (file : List ℕ) (cause : Option Cause) → IsRefusalOrMade (entry_unless place file cause)
@@ -184,8 +184,8 @@ and_fine (Ok entry) (Ok entries) h further = tt
 entries_fine : (read : Reads) (n : ℕ) (operands : List Operand) → IsRefusalOrMade (found_entries read n operands)
 entries_fine read n [] = tt
 entries_fine read n (o ∷ operands) =
-    and_fine (found_entry o.place (read n (without_dot o.text))) (found_entries read (n + 1) operands)
-    (entry_fine o.place (read n (without_dot o.text))) (entries_fine read (n + 1) operands)
+    and_fine (found_entry o.place (read n (without_dot_slash o.text))) (found_entries read (n + 1) operands)
+    (entry_fine o.place (read n (without_dot_slash o.text))) (entries_fine read (n + 1) operands)
 
 written_fine : (payload : Result (List ℕ) PayloadCounts) → IsRefusalOrMade (index_container payload)
 written_fine (Ok payload) = tt
@@ -193,7 +193,7 @@ written_fine (Err counts) = tt
 
 of_found_fine : (description : List ℕ) (entries : Result (List Plain) MakeFault) → IsRefusalOrMade entries → IsRefusalOrMade (index_of_found description entries)
 unfolding index_of
-of_found_fine description (Ok entries) h = written_fine (written_of (value_of_index description (sorted_by entry_cmp entries)))
+of_found_fine description (Ok entries) h = written_fine (payload_or_overflow (value_of_index description (sorted_by entry_cmp entries)))
 of_found_fine description (Err why) h = fine_err (List Plain) (List ℕ) why h
 
 pub index_fine : (command : CommandLine) (read : Reads) → IsRefusalOrMade (made_index command read)
@@ -233,22 +233,22 @@ stands_at files output name report result fine is =
 
 -- ---- the outcome of a command
 
-package_sound : SoundPackage → (command : CommandLine) (names : List (List ℕ)) (files : Files) (name : List ℕ) → AreNamedFiles files → AreNamesBelowOption (values_with FILES command.values) files names → output_name command ≡ Some name
-    → (mkpkg (reads_in files) files command names).refusal ≡ None → IsSoundAt name (mkpkg (reads_in files) files command names).files
+package_sound : SoundPackage → (command : CommandLine) (names : List (List ℕ)) (files : Files) (name : List ℕ) → AreNamedFiles files → AreNamesBelowOption (values_of_letter FILES command.values) files names → output_name command ≡ Some name
+    → (mkpkg (reads_in files) files command names).refusal ≡ None → IsSoundFileAt name (mkpkg (reads_in files) files command names).files
 package_sound law command names files name good are is none =
     let read : Reads = reads_in files in
     let (bytes, ok, here) = stands_at files (output_name command) name [] (made_package command names read) (package_fine command names read) is none in
-    (bytes, here, law command names read bytes (names_for (values_with FILES command.values) files names good are) ok)
+    (bytes, here, law command names read bytes (names_for (values_of_letter FILES command.values) files names good are) ok)
 
 index_sound : SoundIndex → (command : CommandLine) (files : Files) (name : List ℕ) → AreNamedFiles files → output_name command ≡ Some name
-    → (mkndx (reads_in files) files command).refusal ≡ None → IsSoundAt name (mkndx (reads_in files) files command).files
+    → (mkndx (reads_in files) files command).refusal ≡ None → IsSoundFileAt name (mkndx (reads_in files) files command).files
 index_sound law command files name good is none =
     let read : Reads = reads_in files in
     let (bytes, ok, here) = stands_at files (output_name command) name (index_line (length command.operands)) (made_index command read) (index_fine command read) is none in
     (bytes, here, λ few. law command read bytes (files_found files good 0 command.operands) ok)
 
 applet_sound : SoundPackage → SoundIndex → (applet : Applet) (command : CommandLine) (given : Given) (files : Files) (name : List ℕ) → AreNamedFiles files → IsListingFor applet command files given.names
-    → output_if (effect_of applet) command ≡ Some name → (effect_outcome (effect_of applet) applet command given (reads_in files) files).refusal ≡ None → IsSoundAt name (effect_outcome (effect_of applet) applet command given (reads_in files) files).files
+    → output_for_effect (effect_of applet) command ≡ Some name → (effect_outcome (effect_of applet) applet command given (reads_in files) files).refusal ≡ None → IsSoundFileAt name (effect_outcome (effect_of applet) applet command given (reads_in files) files).files
 applet_sound packages indexes Mkpkg command given files name good are is none = package_sound packages command given.names files name good are is none
 applet_sound packages indexes Mkndx command given files name good are is none = index_sound indexes command files name good is none
 applet_sound packages indexes other command given files name good are is none = absurd (cc (is))
@@ -265,19 +265,19 @@ work_named stay Makes files good = stay files good
 work_named stay Changes files good = stay files good
 
 sound_unless : StayNamed → SoundPackage → SoundIndex → (fault : Option Cause) (command : CommandLine) (files : Files) (o : Outcome) (name : List ℕ) → AreNamedFiles files → IsOutcomeUnlessBadIntent fault command files o → o.refusal ≡ None
-    → output_if (effect_of command.applet) command ≡ Some name → IsSoundAt name o.files
+    → output_for_effect (effect_of command.applet) command ≡ Some name → IsSoundFileAt name o.files
 sound_unless stay packages indexes (Some cause) command files o name good is none named = absurd (let e : Some (IntentBad cause) ≡ None = ap (λ (p : Outcome). p.refusal) (sym is) ∙ none in cc)
 sound_unless stay packages indexes None command files o name good (given, are, is) none named =
     let work = work_files (effect_of command.applet) files in
-    subst (λ (p : Outcome). IsSoundAt name p.files) (sym is)
+    subst (λ (p : Outcome). IsSoundFileAt name p.files) (sym is)
     (applet_sound packages indexes command.applet command given work name (work_named stay (effect_of command.applet) files good) are.names named (ap (λ (p : Outcome). p.refusal) (sym is) ∙ none))
 
-sound_by : StayNamed → SoundPackage → SoundIndex → (read : Result CommandLine ℕ) (files : Files) (o : Outcome) (name : List ℕ) → AreNamedFiles files → IsOutcomeOf read files o → o.refusal ≡ None → output_by read ≡ Some name
-    → IsSoundAt name o.files
+sound_by : StayNamed → SoundPackage → SoundIndex → (read : Result CommandLine ℕ) (files : Files) (o : Outcome) (name : List ℕ) → AreNamedFiles files → IsOutcomeWithoutDemo read files o → o.refusal ≡ None → output_of_arguments read ≡ Some name
+    → IsSoundFileAt name o.files
 sound_by stay packages indexes (Err place) files o name good is none named = absurd (cc (named))
 sound_by stay packages indexes (Ok command) files o name good is none named = sound_unless stay packages indexes (recovery_fault (effect_of command.applet) files) command files o name good is none named
 
 pub made_sound : ((v : TreeState) → IsWellFormed v → AreNamedFiles (files_of v)) → StayNamed → SoundPackage → SoundIndex
-    → (words : List (List ℕ)) (v : TreeState) (o : Outcome) (name : List ℕ) → IsWellFormed v → IsOutcomeOf (command_of words) (files_of v) o → o.refusal ≡ None → output words ≡ Some name
-    → IsSoundAt name o.files
+    → (words : List (List ℕ)) (v : TreeState) (o : Outcome) (name : List ℕ) → IsWellFormed v → IsOutcomeWithoutDemo (command_of words) (files_of v) o → o.refusal ≡ None → output words ≡ Some name
+    → IsSoundFileAt name o.files
 made_sound named stay packages indexes words v o name whole is none under = sound_by stay packages indexes (command_of words) (files_of v) o name (named v whole) is none under

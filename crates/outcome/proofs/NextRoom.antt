@@ -9,7 +9,7 @@ use Rattle.command_core.specs.Command.{CommandLine}
 use Rattle.command_core.specs.declared.command.Applet.{Applet}
 use Rattle.engine_core.specs.Changed.{IsClashFor, IsClashOfSelected, IsClashUnlessSimulated, Selected, change_of_selected, change_of_command, selected_for, simulated_change}
 use Rattle.engine_core.specs.Wishes.{wishes_of}
-use Rattle.engine_core.specs.journal_core.Recovery.{Intent, intent_at, intent_name, is_staged, recovered_files, recovered_files_by}
+use Rattle.engine_core.specs.journal_core.Recovery.{Intent, intent_in_file, intent_name, is_staged, recovered_files, files_after_intent}
 use Rattle.engine_core.specs.journal_core.Staged.{AreReplayPathsFree, AreStagingPathsFree, unstaged_files}
 use Rattle.make_core.specs.make_info.Reads.{Reads}
 use Rattle.engine_core.specs.package_changes.Changes.{Replacement}
@@ -20,8 +20,8 @@ use Rattle.outcome.proofs.Applets.{change_is}
 use Rattle.outcome.proofs.Idle.{chain_ok}
 use Rattle.outcome.proofs.Recovered.{ReadSound}
 use Rattle.outcome.specs.Changing.{change_outcome}
-use Rattle.outcome.specs.Commands.{IsOutcomeOf, IsOutcomeOn, IsOutcomeUnlessBadIntent, effect_outcome, reads_in}
-use Rattle.outcome.specs.Effect.{Changes, Effect, effect_by, effect_of}
+use Rattle.outcome.specs.Commands.{IsOutcomeWithoutDemo, IsOutcomeAfterRecovery, IsOutcomeUnlessBadIntent, effect_outcome, reads_in}
+use Rattle.outcome.specs.Effect.{Changes, Effect, effect_of_arguments, effect_of}
 use Rattle.outcome.specs.Given.{Given, IsClashBy}
 use Rattle.outcome.specs.Outcome.{Outcome}
 use Rattle.outcome.specs.Work.{fault_of_intent, recovery_fault, work_files}
@@ -75,7 +75,7 @@ module _ (room : KeepsRoom) (gone : BringsNoIntent) where
       (change_room command files given.chosen given.clash (change_of_command command (reads_in files) files given.chosen given.clash) refl
       (subst (λ (e : Effect). IsClashBy e command (reads_in files) files given.chosen given.clash) changes is_clash))
 
-  over_room : (command : CommandLine) (files : Files) (o : Outcome) → effect_of command.applet ≡ Changes → IsOutcomeOn command files o → o.refusal ≡ None → HasRoomNow files → HasRoomNow o.files
+  over_room : (command : CommandLine) (files : Files) (o : Outcome) → effect_of command.applet ≡ Changes → IsOutcomeAfterRecovery command files o → o.refusal ≡ None → HasRoomNow files → HasRoomNow o.files
   over_room command files o changes (given, are, is) =
       subst (λ (p : Outcome). p.refusal ≡ None → HasRoomNow files → HasRoomNow p.files) (sym is) (applet_room command.applet command given files changes are.clash)
 
@@ -83,22 +83,22 @@ module _ (room : KeepsRoom) (gone : BringsNoIntent) where
 
 -- it leaves no intent
 pub intent_gone : ReadSound → (files : Files) (found : Option (List ℕ)) → files intent_name ≡ found → fault_of_intent found ≡ None → unstaged_files files intent_name ≡ None
-intent_gone sound files None is good = ap (λ (o : Option (List ℕ)). recovered_files_by (intent_at o) files intent_name) is ∙ is
+intent_gone sound files None is good = ap (λ (o : Option (List ℕ)). files_after_intent (intent_in_file o) files intent_name) is ∙ is
 intent_gone sound files (Some file) is good =
-    ap (λ (o : Option (List ℕ)). recovered_files_by (intent_at o) files intent_name) is
-    ∙ ap (λ (o : Option Intent). recovered_files_by o files intent_name) (sound file good)
+    ap (λ (o : Option (List ℕ)). files_after_intent (intent_in_file o) files intent_name) is
+    ∙ ap (λ (o : Option Intent). files_after_intent o files intent_name) (sound file good)
 
 -- and where there is none, and nothing waits, it has nothing to do
 nothing_at : (files : Files) (q : List ℕ) → HasRoomNow files → (b : Bool) → is_staged q ≡ b → (if b then None else recovered_files files q) ≡ files q
 nothing_at files q (absent, stage) true staged = sym (stage.empty q staged)
-nothing_at files q (absent, stage) false shown = ap (λ (o : Option (List ℕ)). recovered_files_by (intent_at o) files q) absent
+nothing_at files q (absent, stage) false shown = ap (λ (o : Option (List ℕ)). files_after_intent (intent_in_file o) files q) absent
 
 nothing_left : (files : Files) → HasRoomNow files → unstaged_files files ≡ files
 nothing_left files now i q = nothing_at files q now (is_staged q) refl i
 
 room_now : (files : Files) → HasRoomNow files → AreReplayPathsFree files × AreStagingPathsFree (unstaged_files files)
 room_now files now =
-    (λ some. absurd (let e = subst (λ (o : Option (List ℕ)). IsSome (intent_at o)) now.0 some in cc (e)), subst AreStagingPathsFree (sym (nothing_left files now)) now.1)
+    (λ some. absurd (let e = subst (λ (o : Option (List ℕ)). IsSome (intent_in_file o)) now.0 some in cc (e)), subst AreStagingPathsFree (sym (nothing_left files now)) now.1)
 
 -- ---- by the words
 
@@ -111,12 +111,12 @@ module _ (room : KeepsRoom) (gone : BringsNoIntent) (sound : ReadSound) where
   unless_room (Some cause) command files o changes at is unrefused stage = absurd (let e = sym (ap (λ (p : Outcome). p.refusal) is) ∙ unrefused in cc (e))
   unless_room None command files o changes at is unrefused stage =
       let good = subst (λ (e : Effect). recovery_fault e files ≡ None) changes at in
-      let over = subst (λ (e : Effect). IsOutcomeOn command (work_files e files) o) changes is in
+      let over = subst (λ (e : Effect). IsOutcomeAfterRecovery command (work_files e files) o) changes is in
       room_now o.files (over_room room gone command (unstaged_files files) o changes over unrefused (intent_gone sound files (files intent_name) refl good, stage))
 
-  by_line : (read : Result CommandLine ℕ) (files : Files) (o : Outcome) → effect_by read ≡ Changes → IsOutcomeOf read files o → o.refusal ≡ None → AreStagingPathsFree (unstaged_files files) → LeavesNext o
+  by_line : (read : Result CommandLine ℕ) (files : Files) (o : Outcome) → effect_of_arguments read ≡ Changes → IsOutcomeWithoutDemo read files o → o.refusal ≡ None → AreStagingPathsFree (unstaged_files files) → LeavesNext o
   by_line (Err place) files o changes is unrefused stage = absurd (cc (changes))
   by_line (Ok command) files o changes is unrefused stage = unless_room (recovery_fault (effect_of command.applet) files) command files o changes refl is unrefused stage
 
-  pub next_room : (words : List (List ℕ)) (files : Files) (o : Outcome) → effect_by (command_of words) ≡ Changes → IsOutcomeOf (command_of words) files o → o.refusal ≡ None → AreStagingPathsFree (unstaged_files files) → LeavesNext o
+  pub next_room : (words : List (List ℕ)) (files : Files) (o : Outcome) → effect_of_arguments (command_of words) ≡ Changes → IsOutcomeWithoutDemo (command_of words) files o → o.refusal ≡ None → AreStagingPathsFree (unstaged_files files) → LeavesNext o
   next_room words files o = by_line (command_of words) files o

@@ -6,17 +6,17 @@ use Rattle.make_core.specs.adb_fields.Repeated.{package_name}
 use Rattle.gen_core.specs.adb_write.Canonical.{PayloadCounts, overflow_of}
 use Rattle.base_core.specs.Files.{Files}
 use Rattle.base_core.specs.declared.cause.Cause.{Cause}
-use Rattle.engine_core.specs.change_files.PlanLists.{first_reserved}
+use Rattle.engine_core.specs.change_files.PlanLists.{first_reserved_path}
 use Rattle.tell_core.specs.change_inputs.Chains.{and_then}
 use Rattle.tell_core.specs.change_inputs.Inputs.{Inputs}
-use Rattle.engine_core.specs.change_outcome.ChangeOutcome.{ChangeDone, ChangeWishes, actions_of, change_done, change_members, change_or_refusal, change_with_members, file_change, new_records, touched_paths, unless_clash, unless_contested, unless_large, unless_overflow, unless_reserved_path, unless_too_large}
+use Rattle.engine_core.specs.change_outcome.ChangeOutcome.{ChangeDone, ChangeWishes, actions_of, change_done, change_members, change_or_refusal, change_with_members, file_change, new_records, touched_paths, unless_clash, unless_contested, or_result_too_large, unless_overflow, unless_reserved_path, unless_too_large}
 use Rattle.engine_core.specs.change_outcome.MembersAfter.{MemberFound, added_package_by_path, added_member_found, members_after, name_after, name_by_change, name_by_selected, member_of_removed_name, names_after}
-use Rattle.engine_core.specs.change_outcome.PackageFiles.{AddedPackage, first_script_of, package_file_of, package_found, scripts_of_change, unless_different, unless_script_number, unless_package_bad, unless_script}
-use Rattle.engine_core.specs.change_outcome.Triggers.{folders_of_paths, has_due_trigger, unless_trigger}
+use Rattle.engine_core.specs.change_outcome.PackageFiles.{AddedPackage, first_script_of, package_file_of, added_package_or_refusal, scripts_of_change, unless_different, unless_script_number, unless_package_bad, unless_script}
+use Rattle.engine_core.specs.change_outcome.Triggers.{folders_of_paths, has_due_trigger, unless_trigger_due}
 use Rattle.tell_core.specs.db_core.Members.{Member}
 use Rattle.engine_core.specs.db_write.NewDatabase.{database_of}
 use Rattle.dep_core.specs.Repositories.{Repository}
-use Rattle.tell_core.specs.file_owners.Owners.{contested_of, owned_of}
+use Rattle.tell_core.specs.file_owners.Owners.{first_contested_path_of_members, owned_flags_of}
 use Rattle.engine_core.specs.journal_intent.IntentValue.{intent_of_lists, value_of_intent}
 use Rattle.make_core.specs.make_info.Reads.{Reads}
 use Rattle.engine_core.specs.package_changes.Changes.{Replacement}
@@ -47,7 +47,7 @@ bad_stated : (c : Candidate) (cause : Option Cause) (pkg : AddedPackage) → IsP
 bad_stated c None pkg = different_stated c pkg
 bad_stated c (Some cause) pkg = refl
 
-file_stated : (c : Candidate) (file : Option (List ℕ)) → IsPackagesResult (package_found c file)
+file_stated : (c : Candidate) (file : Option (List ℕ)) → IsPackagesResult (added_package_or_refusal c file)
 file_stated c None = refl
 file_stated c (Some file) = bad_stated c _ _
 
@@ -105,12 +105,12 @@ contested_stated : {A : Type 0} (members : List Member) (contested : Option Cont
 contested_stated members None next h = h
 contested_stated members (Some c) next h = refl
 
-trigger_stated : (no_scripts : Bool) (paths : List (List ℕ)) (members : List Member) → IsPackagesResult (unless_trigger no_scripts paths members)
+trigger_stated : (no_scripts : Bool) (paths : List (List ℕ)) (members : List Member) → IsPackagesResult (unless_trigger_due no_scripts paths members)
 trigger_stated true paths members = tt
 trigger_stated false paths [] = tt
-trigger_stated false paths (m ∷ members) = test_stated (has_due_trigger (folders_of_paths paths) m.pkg) _ (unless_trigger false paths members) refl (trigger_stated false paths members)
+trigger_stated false paths (m ∷ members) = test_stated (has_due_trigger (folders_of_paths paths) m.pkg) _ (unless_trigger_due false paths members) refl (trigger_stated false paths members)
 
-large_stated : {A : Type 0} (r : Result A PayloadCounts) → IsPackagesResult (unless_large r)
+large_stated : {A : Type 0} (r : Result A PayloadCounts) → IsPackagesResult (or_result_too_large r)
 large_stated (Ok a) = tt
 large_stated (Err counts) = refl
 
@@ -121,12 +121,12 @@ overflow_stated (Some counts) a = refl
 too_large_stated : (inputs : Inputs) (r : Replacement) (wishes : ChangeWishes) (found : List MemberFound) (files : Files) → IsPackagesResult (unless_too_large inputs r wishes found files)
 too_large_stated inputs r wishes found files =
     let members = (file_change inputs wishes found).members in
-    then_stated {A = List ℕ} {B = ChangeDone} is_refusal_after_choice (unless_large (database_of members (owned_of members)))
+    then_stated {A = List ℕ} {B = ChangeDone} is_refusal_after_choice (or_result_too_large (database_of members (owned_flags_of members)))
     (λ database.
     let records = new_records inputs database in
     let actions = actions_of inputs (file_change inputs wishes found) files records in
     unless_overflow (overflow_of (value_of_intent (intent_of_lists actions.removals actions.writes))) (change_done inputs r wishes found files records))
-    (large_stated (database_of members (owned_of members)))
+    (large_stated (database_of members (owned_flags_of members)))
     (λ database.
     let records = new_records inputs database in
     let actions = actions_of inputs (file_change inputs wishes found) files records in
@@ -136,10 +136,10 @@ with_members_stated : (inputs : Inputs) (r : Replacement) (wishes : ChangeWishes
 with_members_stated inputs r wishes clash files found =
     let change = file_change inputs wishes found in
     let paths = touched_paths change files in
-    let rest : IsPackagesResult (and_then (unless_trigger wishes.no_scripts paths change.members) (λ is_allowed. unless_too_large inputs r wishes found files)) =
-    then_stated is_refusal_after_choice (unless_trigger wishes.no_scripts paths change.members) (λ is_allowed. unless_too_large inputs r wishes found files) (trigger_stated wishes.no_scripts paths change.members) (λ is_allowed. too_large_stated inputs r wishes found files) in
-    let owned : Result ChangeDone Refusal = unless_contested change.members (contested_of change.members) (and_then (unless_trigger wishes.no_scripts paths change.members) (λ is_allowed. unless_too_large inputs r wishes found files)) in
-    reserved_stated (first_reserved change.members) (unless_clash clash owned) (clash_stated clash owned (contested_stated change.members (contested_of change.members) (and_then (unless_trigger wishes.no_scripts paths change.members) (λ is_allowed. unless_too_large inputs r wishes found files)) rest))
+    let rest : IsPackagesResult (and_then (unless_trigger_due wishes.no_scripts paths change.members) (λ is_allowed. unless_too_large inputs r wishes found files)) =
+    then_stated is_refusal_after_choice (unless_trigger_due wishes.no_scripts paths change.members) (λ is_allowed. unless_too_large inputs r wishes found files) (trigger_stated wishes.no_scripts paths change.members) (λ is_allowed. too_large_stated inputs r wishes found files) in
+    let owned : Result ChangeDone Refusal = unless_contested change.members (first_contested_path_of_members change.members) (and_then (unless_trigger_due wishes.no_scripts paths change.members) (λ is_allowed. unless_too_large inputs r wishes found files)) in
+    reserved_stated (first_reserved_path change.members) (unless_clash clash owned) (clash_stated clash owned (contested_stated change.members (first_contested_path_of_members change.members) (and_then (unless_trigger_due wishes.no_scripts paths change.members) (λ is_allowed. unless_too_large inputs r wishes found files)) rest))
 
 pub refusal_stated : (inputs : Inputs) (r : Replacement) (wishes : ChangeWishes) (read : Reads) (clash : Option NamePair) (files : Files) → IsPackagesResult (change_or_refusal inputs r wishes read clash files)
 unfolding change_or_refusal

@@ -8,8 +8,8 @@ use Rattle.std.proofs.lemmas.Option.{same_Some}
 use Rattle.std.proofs.lemmas.Slice.Eq.{bytes_eq-Decides}
 use Rattle.make_core.specs.adb_fields.Repeated.{list_of}
 use Rattle.gen_core.specs.adb_schema.Reserved.{is_intent_or_stage_name}
-use Rattle.gen_core.specs.adb_schema.Rules.{is_change_name}
-use Rattle.gen_core.specs.adb_schema.SoundValues.{IsChangeName}
+use Rattle.gen_core.specs.adb_schema.Rules.{is_changeable_name}
+use Rattle.gen_core.specs.adb_schema.SoundValues.{IsChangeableName}
 use Rattle.gen_core.specs.adb_schema.SoundContainers.{IsSound, IsSoundValue}
 use Rattle.gen_core.specs.adb_schema.Soundness.{first_fault, payload_in, root_value}
 use Rattle.adb_view.specs.Values.{entries_in, entry_in, text_in}
@@ -20,7 +20,7 @@ use Rattle.adb_view.specs.Shaped.{Each}
 use Rattle.base_core.specs.Files.{AreNamedFiles, Files, IsFile, HasNamesAmong, drop_name, move_name}
 use Rattle.base_core.specs.Name.{IsName, is_name}
 use Rattle.base_core.specs.declared.cause.Cause.{Cause}
-use Rattle.engine_core.specs.journal_core.Recovery.{Intent, after_actions, after_moves, intent_at, intent_in, intent_name, intent_of, is_staged, move_if, read_intent, recovered_files, recovered_files_by, stage_name, without_names}
+use Rattle.engine_core.specs.journal_core.Recovery.{Intent, files_after_actions, files_after_moves, intent_in_file, intent_of_value, intent_name, intent_of, is_staged, move_if_present, read_intent, recovered_files, files_after_intent, stage_name, without_names}
 use Rattle.engine_core.specs.journal_core.Staged.{unstaged_files}
 
 -- ---- of each file
@@ -47,20 +47,20 @@ moved_holds P files from to bytes here holds q other is = by_name (bytes_eq q to
     by_name true same is = subst (λ (n : List ℕ). P n other) (sym ((bytes_eq-Decides q to).0 same)) (subst (P to) (same_Some bytes other is) here)
     by_name false same is = holds q other (if_there (bytes_eq q from) (files q) other is)
 
-move_holds : (P : Property) (files : Files) (from to : List ℕ) (found : Option (List ℕ)) → files from ≡ found → ((other bytes : List ℕ) → P other bytes → P to bytes) → Holds P files → Holds P (move_if files from to found)
+move_holds : (P : Property) (files : Files) (from to : List ℕ) (found : Option (List ℕ)) → files from ≡ found → ((other bytes : List ℕ) → P other bytes → P to bytes) → Holds P files → Holds P (move_if_present files from to found)
 move_holds P files from to None is carry holds = holds
 move_holds P files from to (Some bytes) is carry holds = moved_holds P files from to bytes (carry from bytes (holds from bytes is)) holds
 
-moves_hold : (P : Property) (k : ℕ) (names : List (List ℕ)) (files : Files) → Carries P names → Holds P files → Holds P (after_moves k names files)
+moves_hold : (P : Property) (k : ℕ) (names : List (List ℕ)) (files : Files) → Carries P names → Holds P files → Holds P (files_after_moves k names files)
 moves_hold P k [] files carry holds = holds
 moves_hold P k (name ∷ names) files (one, others) holds =
-    moves_hold P (k + 1) names (move_if files (stage_name k) name (files (stage_name k))) others (move_holds P files (stage_name k) name (files (stage_name k)) refl one holds)
+    moves_hold P (k + 1) names (move_if_present files (stage_name k) name (files (stage_name k))) others (move_holds P files (stage_name k) name (files (stage_name k)) refl one holds)
 
-recovered_by_holds : (P : Property) (files : Files) (intent : Option Intent) → ((i : Intent) → intent ≡ Some i → Carries P i.writes) → Holds P files → Holds P (recovered_files_by intent files)
+recovered_by_holds : (P : Property) (files : Files) (intent : Option Intent) → ((i : Intent) → intent ≡ Some i → Carries P i.writes) → Holds P files → Holds P (files_after_intent intent files)
 recovered_by_holds P files None carry holds = holds
 recovered_by_holds P files (Some intent) carry holds = λ q bytes is.
     moves_hold P 1 intent.writes (without_names intent.removals files) (carry intent refl)
-    (λ p other is_there. holds p other (if_there (list_any (bytes_eq p) intent.removals) (files p) other is_there)) q bytes (if_there (bytes_eq q intent_name) (after_actions intent files q) bytes is)
+    (λ p other is_there. holds p other (if_there (list_any (bytes_eq p) intent.removals) (files p) other is_there)) q bytes (if_there (bytes_eq q intent_name) (files_after_actions intent files q) bytes is)
 
 pub unstaged_holds : (P : Property) (files : Files) → ((i : Intent) → intent_of files ≡ Some i → Carries P i.writes) → Holds P files → Holds P (unstaged_files files)
 unstaged_holds P files carry holds = λ q bytes is. recovered_by_holds P files (intent_of files) carry holds q bytes (if_there (is_staged q) (recovered_files files q) bytes is)
@@ -112,7 +112,7 @@ unstaged_within files within h =
 
 -- an intent is read from a sound container, whose value is sound
 abbrev pub ReadSound : Type 0
-ReadSound = (file : List ℕ) → first_fault IntentTable file ≡ None → read_intent file ≡ Some (intent_in (root_value IntentTable (payload_in file)))
+ReadSound = (file : List ℕ) → first_fault IntentTable file ≡ None → read_intent file ≡ Some (intent_of_value (root_value IntentTable (payload_in file)))
 
 abbrev pub ReadNone : Type 0
 ReadNone = (file : List ℕ) (cause : Cause) → first_fault IntentTable file ≡ Some cause → read_intent file ≡ None
@@ -124,10 +124,10 @@ HoldsSound = (which : Which) (file : List ℕ) → IsSound which file → IsSoun
 abbrev NamedFile : Property
 NamedFile q bytes = IsName q × IsFile bytes
 
-change_named : (name : List ℕ) → is_change_name name ≡ true → IsName name
+change_named : (name : List ℕ) → is_changeable_name name ≡ true → IsName name
 change_named name h = (and_parts (is_name name) (not (is_intent_or_stage_name name)) h).0
 
-named_carries : (vs : Plains) → Each IsChangeName vs → Carries NamedFile (map text_in (list_of vs))
+named_carries : (vs : Plains) → Each IsChangeableName vs → Carries NamedFile (map text_in (list_of vs))
 named_carries none each = tt
 named_carries (more v vs) (one, others) = (λ from bytes h. (change_named (text_in v) one, h.1), named_carries vs others)
 
@@ -137,10 +137,10 @@ file_named read none_read sound file intent is = by_fault (first_fault IntentTab
     by_fault : (fault : Option Cause) → first_fault IntentTable file ≡ fault → Carries NamedFile intent.writes
     by_fault None good =
         let v : Plain = root_value IntentTable (payload_in file) in
-        subst (λ (i : Intent). Carries NamedFile i.writes) (same_Some (intent_in v) intent (sym (read file good) ∙ is)) (named_carries (entries_in (entry_in v 1)) (sound IntentTable file good).rules.writes)
+        subst (λ (i : Intent). Carries NamedFile i.writes) (same_Some (intent_of_value v) intent (sym (read file good) ∙ is)) (named_carries (entries_in (entry_in v 1)) (sound IntentTable file good).rules.writes)
     by_fault (Some cause) bad = absurd (let e : None ≡ Some intent = sym (none_read file cause bad) ∙ is in cc)
 
-at_named : ReadSound → ReadNone → HoldsSound → (found : Option (List ℕ)) (intent : Intent) → intent_at found ≡ Some intent → Carries NamedFile intent.writes
+at_named : ReadSound → ReadNone → HoldsSound → (found : Option (List ℕ)) (intent : Intent) → intent_in_file found ≡ Some intent → Carries NamedFile intent.writes
 at_named read none_read sound None intent is = cc
 at_named read none_read sound (Some file) intent is = file_named read none_read sound file intent is
 

@@ -12,7 +12,7 @@ use Rattle.report_core.specs.declared.refusal.Refusal.TheVariants.{IntentBad}
 use Rattle.words_core.specs.Grammar.{command_of}
 use Rattle.outcome.proofs.Idle.{HaveIdle, HaveRoot, over_idle}
 use Rattle.outcome.proofs.Worded.{of_by}
-use Rattle.outcome.specs.Commands.{IsOutcomeOf, IsOutcomeOn, IsOutcomeUnlessBadIntent}
+use Rattle.outcome.specs.Commands.{IsOutcomeWithoutDemo, IsOutcomeAfterRecovery, IsOutcomeUnlessBadIntent}
 use Rattle.outcome.specs.Effect.{Effect, Changes, Computes, Makes, OnlyReadsFiles, AsksRoot, does_only_read, does_recover, effect_of, reads_only}
 use Rattle.outcome.specs.Outcome.{Outcome, just_refusal}
 use Rattle.outcome.specs.Recovers.{must_recover}
@@ -82,23 +82,23 @@ looks_beyond : (effect : Effect) → does_recover effect ≡ true → effect ≡
 looks_beyond effect h computes = true≢false (sym h ∙ ap does_recover computes)
 
 -- its words are no `demo`'s
-of_recovering : (words : List (List ℕ)) (command : CommandLine) (files : Files) (o : Outcome) → command_of words ≡ Ok command → must_recover command.applet ≡ true → IsOutcome (command_of words) files o → IsOutcomeOf (Ok command) files o
+of_recovering : (words : List (List ℕ)) (command : CommandLine) (files : Files) (o : Outcome) → command_of words ≡ Ok command → must_recover command.applet ≡ true → IsOutcome (command_of words) files o → IsOutcomeWithoutDemo (Ok command) files o
 of_recovering words command files o reads must is =
     of_by (Ok command) files o (looks_beyond (effect_of command.applet) (recovers command.applet ∙ must)) (subst (λ (r : Result CommandLine ℕ). IsOutcome r files o) reads is)
 
-unless_at : (fault : Option Cause) (words : List (List ℕ)) (command : CommandLine) (files : Files) (o : Outcome) → command_of words ≡ Ok command → must_recover command.applet ≡ true → fault_of_intent (files intent_name) ≡ fault
+unless_refused_at : (fault : Option Cause) (words : List (List ℕ)) (command : CommandLine) (files : Files) (o : Outcome) → command_of words ≡ Ok command → must_recover command.applet ≡ true → fault_of_intent (files intent_name) ≡ fault
     → IsOutcome (command_of words) files o → IsOutcomeUnlessBadIntent fault command files o
-unless_at fault words command files o reads must at is =
+unless_refused_at fault words command files o reads must at is =
     subst (λ (f : Option Cause). IsOutcomeUnlessBadIntent f command files o) (fault_is (effect_of command.applet) files (recovers command.applet ∙ must) ∙ at) (of_recovering words command files o reads must is)
 
 pub refuses_bad : (words : List (List ℕ)) (command : CommandLine) (files : Files) (o : Outcome) (cause : Cause) → command_of words ≡ Ok command → must_recover command.applet ≡ true → fault_of_intent (files intent_name) ≡ Some cause
     → IsOutcome (command_of words) files o → o ≡ just_refusal files (IntentBad cause)
-refuses_bad words command files o cause reads must at is = unless_at (Some cause) words command files o reads must at is
+refuses_bad words command files o cause reads must at is = unless_refused_at (Some cause) words command files o reads must at is
 
 pub works_on_recovered : (words : List (List ℕ)) (command : CommandLine) (files : Files) (o : Outcome) → command_of words ≡ Ok command → must_recover command.applet ≡ true → fault_of_intent (files intent_name) ≡ None
-    → IsOutcome (command_of words) files o → IsOutcomeOn command (unstaged_files files) o
+    → IsOutcome (command_of words) files o → IsOutcomeAfterRecovery command (unstaged_files files) o
 works_on_recovered words command files o reads must at is =
-    subst (λ (work : Files). IsOutcomeOn command work o) (work_is (effect_of command.applet) files (recovers command.applet ∙ must)) (unless_at None words command files o reads must at is)
+    subst (λ (work : Files). IsOutcomeAfterRecovery command work o) (work_is (effect_of command.applet) files (recovers command.applet ∙ must)) (unless_refused_at None words command files o reads must at is)
 
 pub leaves_recovered : HaveRoot → HaveIdle → (words : List (List ℕ)) (command : CommandLine) (files : Files) (o : Outcome) → command_of words ≡ Ok command → must_recover command.applet ≡ true → fault_of_intent (files intent_name) ≡ None
     → IsOutcome (command_of words) files o → o.commits ≡ false → o.files ≡ unstaged_files files

@@ -7,15 +7,15 @@ use Rattle.command_core.specs.declared.command.Applet.{Applet}
 use Rattle.command_core.specs.declared.command.Applet.TheVariants.{Demo}
 use Rattle.demo_lines.specs.Count.{demo_count}
 use Rattle.outcome.proofs.Demos.{HaveOneOutcome, HaveOutcome, demo_everywhere, demo_exists, demo_leaves, demo_one}
-use Rattle.outcome.specs.Commands.{IsOutcomeOf}
+use Rattle.outcome.specs.Commands.{IsOutcomeWithoutDemo}
 use Rattle.outcome.specs.Demo.{IsDemoOutcome}
-use Rattle.outcome.specs.Effect.{Effect, Computes, AsksRoot, Makes, Changes, ignores_files, effect_by, effect_of, output_by, output_if, depends_only_on_arguments}
+use Rattle.outcome.specs.Effect.{Effect, Computes, AsksRoot, Makes, Changes, ignores_files, effect_of_arguments, effect_of, output_of_arguments, output_for_effect, depends_only_on_arguments}
 use Rattle.outcome.specs.Outcome.{Outcome, outcome_of}
-use Rattle.outcome.specs.Words.{IsOutcome, IsOutcomeFor}
+use Rattle.outcome.specs.Words.{IsOutcome, IsOutcomeOfApplet}
 
 -- ---- there is one, and no second one
 
-applet_exists : HaveOutcome → (applet : Applet) (command : CommandLine) (files : Files) (within : List (List ℕ)) → HasNamesAmong within files → (o : Outcome) × IsOutcomeFor applet command files o
+applet_exists : HaveOutcome → (applet : Applet) (command : CommandLine) (files : Files) (within : List (List ℕ)) → HasNamesAmong within files → (o : Outcome) × IsOutcomeOfApplet applet command files o
 applet_exists have Demo command files within few = demo_exists have (demo_count command.operands) files
 applet_exists have other command files within few = have (Ok command) files within few
 
@@ -23,7 +23,7 @@ pub by_exists : HaveOutcome → (read : Result CommandLine ℕ) (files : Files) 
 by_exists have (Ok command) files within few = applet_exists have command.applet command files within few
 by_exists have (Err place) files within few = have (Err place) files within few
 
-applet_one : HaveOneOutcome → (applet : Applet) (command : CommandLine) (files : Files) (a b : Outcome) → IsOutcomeFor applet command files a → IsOutcomeFor applet command files b → a ≡ b
+applet_one : HaveOneOutcome → (applet : Applet) (command : CommandLine) (files : Files) (a b : Outcome) → IsOutcomeOfApplet applet command files a → IsOutcomeOfApplet applet command files b → a ≡ b
 applet_one one Demo command files a b x y = demo_one one (demo_count command.operands) files a b x y
 applet_one one other command files a b x y = one (Ok command) files a b x y
 
@@ -35,19 +35,19 @@ by_one one (Err place) files a b x y = one (Err place) files a b x y
 
 -- it is that of `demo`
 abbrev pub IsOfDemo : Result CommandLine ℕ → Files → Outcome → Type 0
-IsOfDemo read files o = (n : ℕ) × IsDemoOutcome n files o × (effect_by read ≡ Computes)
+IsOfDemo read files o = (n : ℕ) × IsDemoOutcome n files o × (effect_of_arguments read ≡ Computes)
 
-applet_either : (applet : Applet) (command : CommandLine) (files : Files) (o : Outcome) → IsOutcomeFor applet command files o
-    → IsOutcomeOf (Ok command) files o ⊎ ((n : ℕ) × IsDemoOutcome n files o × (effect_of applet ≡ Computes))
+applet_either : (applet : Applet) (command : CommandLine) (files : Files) (o : Outcome) → IsOutcomeOfApplet applet command files o
+    → IsOutcomeWithoutDemo (Ok command) files o ⊎ ((n : ℕ) × IsDemoOutcome n files o × (effect_of applet ≡ Computes))
 applet_either Demo command files o is = inr (demo_count command.operands, is, refl)
 applet_either other command files o is = inl is
 
-pub either : (read : Result CommandLine ℕ) (files : Files) (o : Outcome) → IsOutcome read files o → IsOutcomeOf read files o ⊎ IsOfDemo read files o
+pub either : (read : Result CommandLine ℕ) (files : Files) (o : Outcome) → IsOutcome read files o → IsOutcomeWithoutDemo read files o ⊎ IsOfDemo read files o
 either (Ok command) files o is = applet_either command.applet command files o is
 either (Err place) files o is = inl is
 
 -- where it does not rest on the words alone, it is not that of `demo`
-pub of_by : (read : Result CommandLine ℕ) (files : Files) (o : Outcome) → (effect_by read ≡ Computes → ⊥) → IsOutcome read files o → IsOutcomeOf read files o
+pub of_by : (read : Result CommandLine ℕ) (files : Files) (o : Outcome) → (effect_of_arguments read ≡ Computes → ⊥) → IsOutcome read files o → IsOutcomeWithoutDemo read files o
 of_by read files o rests is = ⊎_elim (λ of. of) (λ demo. absurd (rests demo.2)) (either read files o is)
 
 pub tells_not : (effect : Effect) → effect ≡ AsksRoot → effect ≡ Computes → ⊥
@@ -59,24 +59,24 @@ makes_not effect makes computes = let e : Makes ≡ Computes = sym makes ∙ com
 pub changes_not : (effect : Effect) → effect ≡ Changes → effect ≡ Computes → ⊥
 changes_not effect changes computes = let e : Changes ≡ Computes = sym changes ∙ computes in cc
 
-pub output_not : (read : Result CommandLine ℕ) (name : List ℕ) → output_by read ≡ Some name → effect_by read ≡ Computes → ⊥
+pub output_not : (read : Result CommandLine ℕ) (name : List ℕ) → output_of_arguments read ≡ Some name → effect_of_arguments read ≡ Computes → ⊥
 output_not (Err place) name is computes = cc
 output_not (Ok command) name is computes =
-    let e : None ≡ Some name = subst (λ (effect : Effect). output_if effect command ≡ Some name) computes is in cc
+    let e : None ≡ Some name = subst (λ (effect : Effect). output_for_effect effect command ≡ Some name) computes is in cc
 
 -- ---- it leaves the files
 
-pub leaves_by : (P : Outcome → Type 0) (read : Result CommandLine ℕ) (files : Files) (o : Outcome) → (IsOutcomeOf read files o → P o) → ((o.files ≡ files) × (o.commits ≡ false) → P o) → IsOutcome read files o → P o
+pub leaves_by : (P : Outcome → Type 0) (read : Result CommandLine ℕ) (files : Files) (o : Outcome) → (IsOutcomeWithoutDemo read files o → P o) → ((o.files ≡ files) × (o.commits ≡ false) → P o) → IsOutcome read files o → P o
 leaves_by P read files o of demo is = ⊎_elim of (λ d. demo (demo_leaves d.0 files o d.1)) (either read files o is)
 
 -- ---- it is the same over all files
 
 -- so it is of a command that rests on the words alone
 abbrev pub SameEverywhere : Type 0
-SameEverywhere = (read : Result CommandLine ℕ) (files others : Files) (o : Outcome) → IsTrue (depends_only_on_arguments read) → IsOutcomeOf read files o → IsOutcomeOf read others (outcome_of o.refusal o.out others)
+SameEverywhere = (read : Result CommandLine ℕ) (files others : Files) (o : Outcome) → IsTrue (depends_only_on_arguments read) → IsOutcomeWithoutDemo read files o → IsOutcomeWithoutDemo read others (outcome_of o.refusal o.out others)
 
-applet_everywhere : SameEverywhere → (applet : Applet) (command : CommandLine) (files others : Files) (o : Outcome) → IsTrue (ignores_files (effect_of command.applet)) → IsOutcomeFor applet command files o
-    → IsOutcomeFor applet command others (outcome_of o.refusal o.out others)
+applet_everywhere : SameEverywhere → (applet : Applet) (command : CommandLine) (files others : Files) (o : Outcome) → IsTrue (ignores_files (effect_of command.applet)) → IsOutcomeOfApplet applet command files o
+    → IsOutcomeOfApplet applet command others (outcome_of o.refusal o.out others)
 applet_everywhere same Demo command files others o rests is = demo_everywhere (demo_count command.operands) files others o is
 applet_everywhere same other command files others o rests is = same (Ok command) files others o rests is
 

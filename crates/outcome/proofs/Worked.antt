@@ -2,10 +2,10 @@
 use Rattle.std.proofs.Common.{◌≡◌, ℕ, false, true, List, [], ◌∷◌, Some, None, refl}
 use Rattle.std.specs.Prelude.{codes}
 use Rattle.adb_view.specs.Plain.{Plain, blob, more, none, obj}
-use Rattle.engine_core.specs.change_files.PlanLists.{names_in_order}
+use Rattle.engine_core.specs.change_files.PlanLists.{sorted_distinct_names}
 use Rattle.demo_lines.specs.Lines.{demo_text}
-use Rattle.dep_core.specs.Dependency.{Dependency, dependency_by}
-use Rattle.engine_core.specs.package_changes.Report.{stay_lines}
+use Rattle.dep_core.specs.Dependency.{Dependency, dependency_from_parts}
+use Rattle.engine_core.specs.package_changes.Report.{still_needed_lines}
 use Rattle.tell_core.specs.candidate_core.Candidates.{Candidate, candidate_by}
 
 -- ---- who needs a package that stays: in byte order, whatever is selected first
@@ -20,13 +20,13 @@ abbrev selected : List ℕ → List Dependency → Candidate
 selected name depends = candidate_by (info_of name) name (Some (codes "1")) [] depends [] [] 0 None None true
 
 abbrev needs_b : List Dependency
-needs_b = dependency_by (codes "b") None 1 false None ∷ []
+needs_b = dependency_from_parts (codes "b") None 1 false None ∷ []
 
 abbrev c_b_a : List Candidate
 c_b_a = selected (codes "c") needs_b ∷ selected (codes "b") [] ∷ selected (codes "a") needs_b ∷ []
 
-needed_by_both : stay_lines installed_b c_b_a (codes "b" ∷ []) ≡ codes "b stays; required by: a c\n"
-unfolding names_in_order
+needed_by_both : still_needed_lines installed_b c_b_a (codes "b" ∷ []) ≡ codes "b stays; required by: a c\n"
+unfolding sorted_distinct_names
 needed_by_both = refl
 
 -- ---- what `demo` runs

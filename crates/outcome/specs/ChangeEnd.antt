@@ -8,7 +8,7 @@ use Rattle.base_core.specs.declared.cause.Cause.{Cause}
 use Rattle.engine_core.specs.change_outcome.ChangeOutcome.{ChangeDone}
 use Rattle.command_core.specs.Command.{CommandLine}
 use Rattle.engine_core.specs.Changed.{IsClashFor, Selected, change_of_selected, selected_for}
-use Rattle.engine_core.specs.Selecting.{pool_for}
+use Rattle.engine_core.specs.Selecting.{pool_of_command}
 use Rattle.engine_core.specs.package_changes.Changes.{changes_of}
 use Rattle.engine_core.specs.package_changes.Placed.{candidates_at}
 use Rattle.tell_core.specs.path_clashes.Clash.{NamePair}
@@ -68,7 +68,7 @@ pub record IsInputRefused (command : CommandLine) (files : Files) (o : Outcome) 
 -- no selection of the candidates satisfies the new world, and exactly this is reported
 pub record HasNoSelection (command : CommandLine) (files : Files) (o : Outcome) : Type 0 where
   pub pool : SealedPool
-  pub is_pool : pool_for command (reads_in files) ≡ Ok pool
+  pub is_pool : pool_of_command command (reads_in files) ≡ Ok pool
   pub none : (selection : List ℕ) → IsSatisfying pool selection → ⊥
   pub outcome : o ≡ just_refusal files Unsatisfied
 
@@ -95,7 +95,7 @@ IsEndBy command files selected (Err refusal) o =
 -- change
 pub record TakesFirstSelection (command : CommandLine) (files : Files) (o : Outcome) : Type 0 where
   pub pool : SealedPool
-  pub is_pool : pool_for command (reads_in files) ≡ Ok pool
+  pub is_pool : pool_of_command command (reads_in files) ≡ Ok pool
   pub trace : List ℕ
   pub first : IsFirstSelection pool trace
   pub selected : Selected

@@ -71,8 +71,8 @@ abbrev pub reads_in : Files → Reads
 reads_in files n name = files name
 
 -- the outcome of a command that works on these files
-abbrev pub IsOutcomeOn : CommandLine → Files → Outcome → Type 0
-IsOutcomeOn command files outcome =
+abbrev pub IsOutcomeAfterRecovery : CommandLine → Files → Outcome → Type 0
+IsOutcomeAfterRecovery command files outcome =
     (given : Given)
     × IsGiven command (reads_in files) files given
     × (outcome
@@ -84,13 +84,13 @@ abbrev pub IsOutcomeUnlessBadIntent : Option Cause → CommandLine → Files →
 IsOutcomeUnlessBadIntent (Some cause) command files outcome =
     outcome ≡ just_refusal files (IntentBad cause)
 IsOutcomeUnlessBadIntent None command files outcome =
-    IsOutcomeOn command (work_files (effect_of command.applet) files) outcome
+    IsOutcomeAfterRecovery command (work_files (effect_of command.applet) files) outcome
 
 -- the outcome of parsed arguments that do not name `demo`: a usage error is reported before any file is
 -- read
-abbrev pub IsOutcomeOf : Result CommandLine ℕ → Files → Outcome → Type 0
-IsOutcomeOf (Err place) files outcome = outcome ≡ just_refusal files (Usage place)
-IsOutcomeOf (Ok command) files outcome =
+abbrev pub IsOutcomeWithoutDemo : Result CommandLine ℕ → Files → Outcome → Type 0
+IsOutcomeWithoutDemo (Err place) files outcome = outcome ≡ just_refusal files (Usage place)
+IsOutcomeWithoutDemo (Ok command) files outcome =
     IsOutcomeUnlessBadIntent (recovery_fault (effect_of command.applet) files) command files outcome
 
 -- ---- over a tree whose files no contract knows, such as a folder of the host
@@ -112,8 +112,8 @@ pub record IsRefusedForSpoiledPackage (command : CommandLine) (read : Reads) (gi
 
 -- the outcome for some listing, some contents at each read, and some files; and for the first clash of
 -- names among some present files
-abbrev pub IsPossibleOutcomeOn : CommandLine → Outcome → Type 0
-IsPossibleOutcomeOn command outcome =
+abbrev pub IsPossibleOutcomeAfterRecovery : CommandLine → Outcome → Type 0
+IsPossibleOutcomeAfterRecovery command outcome =
     (given : Given)
     × (read : Reads)
     × (files : Files)
@@ -131,7 +131,7 @@ IsPossibleIntentRefusal outcome =
 
 -- the outcome of a command other than `demo` on a tree whose files no contract knows; a bad intent says
 -- nothing of files
-abbrev pub IsPossibleOutcomeOf : CommandLine → Outcome → Type 0
-IsPossibleOutcomeOf command outcome =
-    IsPossibleOutcomeOn command outcome
+abbrev pub IsPossibleOutcomeWithoutDemo : CommandLine → Outcome → Type 0
+IsPossibleOutcomeWithoutDemo command outcome =
+    IsPossibleOutcomeAfterRecovery command outcome
     ⊎ ((does_recover (effect_of command.applet) ≡ true) × IsPossibleIntentRefusal outcome)

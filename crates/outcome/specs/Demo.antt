@@ -4,7 +4,7 @@ use Rattle.base_core.specs.Files.{Files, no_names, put_name}
 use Rattle.root_names.specs.RootNames.{repositories_name}
 use Rattle.report_core.specs.declared.refusal.Refusal.{Refusal}
 use Rattle.words_core.specs.Grammar.{command_of}
-use Rattle.outcome.specs.Commands.{IsOutcomeOf}
+use Rattle.outcome.specs.Commands.{IsOutcomeWithoutDemo}
 use Rattle.demo_lines.specs.Lines.{add_words, demo_file, demo_repositories, demo_text, mkndx_words, mkpkg_words}
 use Rattle.demo_lines.specs.Report.{demo_line}
 use Rattle.outcome.specs.Outcome.{Outcome, just_report, report_unless}
@@ -13,45 +13,45 @@ use Rattle.outcome.specs.Outcome.{Outcome, just_report, report_unless}
 
 -- the outcome of a run after another one: a refusal of that ends all; otherwise the command line is run
 -- over the files that were left
-abbrev pub IsRunUnlessRefused : Option Refusal → List (List ℕ) → Files → Outcome → Outcome → Type 0
-IsRunUnlessRefused (Some refusal) words files before outcome = outcome ≡ before
-IsRunUnlessRefused None words files before outcome = IsOutcomeOf (command_of words) files outcome
+abbrev pub IsOutcomeOfNextRunUnlessRefused : Option Refusal → List (List ℕ) → Files → Outcome → Outcome → Type 0
+IsOutcomeOfNextRunUnlessRefused (Some refusal) words files before outcome = outcome ≡ before
+IsOutcomeOfNextRunUnlessRefused None words files before outcome = IsOutcomeWithoutDemo (command_of words) files outcome
 
 -- the outcome of a command line that is run after another outcome, over its files or changes of these
-abbrev pub IsRunAfter : List (List ℕ) → Files → Outcome → Outcome → Type 0
-IsRunAfter words files before outcome = IsRunUnlessRefused before.refusal words files before outcome
+abbrev pub IsOutcomeOfNextRun : List (List ℕ) → Files → Outcome → Outcome → Type 0
+IsOutcomeOfNextRun words files before outcome = IsOutcomeOfNextRunUnlessRefused before.refusal words files before outcome
 
 -- ---- the runs
 
 -- the outcome before the first run: the tree has only the list of repositories
-abbrev pub demo_start : Outcome
-demo_start = just_report (put_name no_names repositories_name demo_repositories) []
+abbrev pub outcome_before_demo : Outcome
+outcome_before_demo = just_report (put_name no_names repositories_name demo_repositories) []
 
 -- the files with that of package i
 abbrev pub with_demo_file : ℕ → Files → Files
 with_demo_file i files = put_name files (demo_file i) (demo_text i)
 
 -- the packages 1 to n are made, each of a file that is put there before
-abbrev pub ArePackaged : ℕ → Outcome → Type 0
-ArePackaged zero outcome = outcome ≡ demo_start
-ArePackaged (suc i) outcome =
+abbrev pub IsOutcomeAfterPackaging : ℕ → Outcome → Type 0
+IsOutcomeAfterPackaging zero outcome = outcome ≡ outcome_before_demo
+IsOutcomeAfterPackaging (suc i) outcome =
     (before : Outcome)
-    × ArePackaged i before
-    × IsRunAfter (mkpkg_words (suc i)) (with_demo_file (suc i) before.files) before outcome
+    × IsOutcomeAfterPackaging i before
+    × IsOutcomeOfNextRun (mkpkg_words (suc i)) (with_demo_file (suc i) before.files) before outcome
 
 -- the packages 1 to n are made, and then their index
-abbrev pub AreIndexed : ℕ → Outcome → Type 0
-AreIndexed n outcome =
+abbrev pub IsOutcomeAfterIndexing : ℕ → Outcome → Type 0
+IsOutcomeAfterIndexing n outcome =
     (before : Outcome)
-    × ArePackaged n before
-    × IsRunAfter (mkndx_words n) before.files before outcome
+    × IsOutcomeAfterPackaging n before
+    × IsOutcomeOfNextRun (mkndx_words n) before.files before outcome
 
 -- the packages 1 to n are made and indexed, and then those on which no other depends are added
-abbrev pub AreInstalled : ℕ → Outcome → Type 0
-AreInstalled n outcome =
+abbrev pub IsOutcomeAfterInstalling : ℕ → Outcome → Type 0
+IsOutcomeAfterInstalling n outcome =
     (before : Outcome)
-    × AreIndexed n before
-    × IsRunAfter (add_words n) before.files before outcome
+    × IsOutcomeAfterIndexing n before
+    × IsOutcomeOfNextRun (add_words n) before.files before outcome
 
 -- ---- the report
 
@@ -60,5 +60,5 @@ AreInstalled n outcome =
 abbrev pub IsDemoOutcome : ℕ → Files → Outcome → Type 0
 IsDemoOutcome n files outcome =
     (last : Outcome)
-    × AreInstalled n last
+    × IsOutcomeAfterInstalling n last
     × (outcome ≡ report_unless files last.refusal (demo_line n last.out))

@@ -6,20 +6,20 @@ use Rattle.base_core.specs.Files.{Files}
 use Rattle.base_core.specs.declared.cause.Cause.{Cause}
 use Rattle.base_core.specs.declared.cause.Cause.TheVariants.{WrongSchema}
 use Rattle.report_core.specs.declared.refusal.Refusal.TheVariants.{FileMissing, FileBad}
-use Rattle.command_core.specs.Files.{without_dot}
+use Rattle.command_core.specs.Files.{without_dot_slash}
 use Rattle.command_core.specs.declared.operands.Operand.{Operand}
 use Rattle.adb_block.specs.Header.{header_of}
-use Rattle.adb_block.specs.ReaderPosition.{start_of}
-use Rattle.adb_block.specs.Reading.{Reading, done, fault, more, reading_of}
+use Rattle.adb_block.specs.ReaderPosition.{first_block_position}
+use Rattle.adb_block.specs.Reading.{Reading, done, fault, more, block_stream_from}
 use Rattle.adb_view.specs.Head.{head_fault, root_of}
 use Rattle.adb_view.specs.Schema.{shape_of}
-use Rattle.gen_core.specs.adb_schema.Soundness.{first_payload, root_value}
+use Rattle.gen_core.specs.adb_schema.Soundness.{first_block_payload, root_value}
 use Rattle.adb_view.specs.Walk.{shape_fault}
 use Rattle.adb_view.specs.declared.tables.Which.{Which}
 use Rattle.adb_view.specs.declared.tables.Kind.TheVariants.{Obj}
 use Rattle.gen_core.specs.adb_dump.Dump.{dump_text}
 use Rattle.make_core.specs.make_info.Reads.{Reads}
-use Rattle.make_core.specs.pkg_core.Whole.{root_of_schema}
+use Rattle.make_core.specs.pkg_core.Whole.{table_of_schema}
 use Rattle.outcome.specs.Outcome.{Outcome, just_refusal, just_report}
 
 -- the first fault of the framing of the remaining blocks; their payloads are not tested
@@ -29,15 +29,15 @@ framing_fault (fault c) = Some c
 framing_fault (more b at r) = framing_fault r
 
 -- the first fault of a payload's head and shape; its texts are not tested
-abbrev pub form_fault : Which → List ℕ → Option Cause
-form_fault which payload =
+abbrev pub head_or_shape_fault : Which → List ℕ → Option Cause
+head_or_shape_fault which payload =
     option_or (head_fault payload) (shape_fault payload (shape_of (Obj which)) (root_of payload))
 
 -- the first fault of the blocks: of the first block, and then of the framing of the others
 abbrev pub dump_fault : Which → Reading → Option Cause
 dump_fault which done = None
 dump_fault which (fault c) = Some c
-dump_fault which (more b at r) = option_or (form_fault which b.payload) (framing_fault r)
+dump_fault which (more b at r) = option_or (head_or_shape_fault which b.payload) (framing_fault r)
 
 -- the text of a container, unless a test failed
 abbrev pub or_text : Option Cause → List ℕ → Result (List ℕ) Cause
@@ -47,7 +47,7 @@ or_text (Some cause) text = Err cause
 -- the text of blocks with this table at their root, or the first failed test
 abbrev pub dump_of_blocks : Which → Reading → Result (List ℕ) Cause
 dump_of_blocks which r =
-    or_text (dump_fault which r) (dump_text which (root_value which (first_payload r)))
+    or_text (dump_fault which r) (dump_text which (root_value which (first_block_payload r)))
 
 -- the text of blocks by the table at their root; a schema that is no table of a root is refused
 abbrev pub dump_with_root : ℕ → Reading → Option Which → Result (List ℕ) Cause
@@ -58,7 +58,7 @@ dump_with_root schema r (Some which) = dump_of_blocks which r
 abbrev pub dump_with_schema : List ℕ → Result ℕ Cause → Result (List ℕ) Cause
 dump_with_schema file (Err c) = Err c
 dump_with_schema file (Ok schema) =
-    dump_with_root schema (reading_of (start_of schema file)) (root_of_schema schema)
+    dump_with_root schema (block_stream_from (first_block_position schema file)) (table_of_schema schema)
 
 -- the text of a file, or the first failed test: its header, its schema, which is one of the four, its
 -- first block, and the framing of the others
@@ -78,4 +78,4 @@ dump_outcome files place (Some bytes) = text_outcome files place (dump_of bytes)
 -- the text of the first operand's file; the grammar gives exactly one operand
 abbrev pub adbdump : Reads → Files → List Operand → Outcome
 adbdump read files [] = just_report files []
-adbdump read files (o ∷ operands) = dump_outcome files o.place (read 0 (without_dot o.text))
+adbdump read files (o ∷ operands) = dump_outcome files o.place (read 0 (without_dot_slash o.text))

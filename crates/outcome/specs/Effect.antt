@@ -67,19 +67,19 @@ does_recover Makes = true
 does_recover Changes = true
 
 -- the name under which a command writes a file, if it writes one
-abbrev pub output_if : Effect → CommandLine → Option (List ℕ)
-output_if Computes command = None
-output_if OnlyReadsFiles command = None
-output_if AsksRoot command = None
-output_if Makes command = output_name command
-output_if Changes command = None
+abbrev pub output_for_effect : Effect → CommandLine → Option (List ℕ)
+output_for_effect Computes command = None
+output_for_effect OnlyReadsFiles command = None
+output_for_effect AsksRoot command = None
+output_for_effect Makes command = output_name command
+output_for_effect Changes command = None
 
 -- ---- of a command line; a usage error reads and changes nothing
 
 -- the effect of a command line; a usage error counts as a command that computes
-abbrev pub effect_by : Result CommandLine ℕ → Effect
-effect_by (Ok command) = effect_of command.applet
-effect_by (Err place) = Computes
+abbrev pub effect_of_arguments : Result CommandLine ℕ → Effect
+effect_of_arguments (Ok command) = effect_of command.applet
+effect_of_arguments (Err place) = Computes
 
 -- whether the outcome of a command line depends on the arguments alone, as that of a usage error does
 abbrev pub depends_only_on_arguments : Result CommandLine ℕ → Bool
@@ -92,10 +92,10 @@ reads_only (Ok command) = does_only_read (effect_of command.applet)
 reads_only (Err place) = true
 
 -- the name of the file that a command line makes, if it makes one
-abbrev pub output_by : Result CommandLine ℕ → Option (List ℕ)
-output_by (Ok command) = output_if (effect_of command.applet) command
-output_by (Err place) = None
+abbrev pub output_of_arguments : Result CommandLine ℕ → Option (List ℕ)
+output_of_arguments (Ok command) = output_for_effect (effect_of command.applet) command
+output_of_arguments (Err place) = None
 
 -- the output of a command line, by its words
 abbrev pub output : List (List ℕ) → Option (List ℕ)
-output words = output_by (command_of words)
+output words = output_of_arguments (command_of words)

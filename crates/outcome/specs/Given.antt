@@ -10,9 +10,9 @@ use Rattle.command_core.specs.declared.command.Applet.TheVariants.{Mkpkg}
 use Rattle.command_core.specs.declared.values.TheConstants.{FILES}
 use Rattle.engine_core.specs.Changed.{IsClashFor, IsClashForAmong}
 use Rattle.engine_core.specs.Choice.{IsChoiceFrom}
-use Rattle.engine_core.specs.Selecting.{pool_for}
+use Rattle.engine_core.specs.Selecting.{pool_of_command}
 use Rattle.make_core.specs.make_info.Reads.{Reads}
-use Rattle.make_core.specs.package_files.Sources.{AreNamesBelowFirst, values_with}
+use Rattle.make_core.specs.package_files.Sources.{AreNamesBelowFirst, values_of_letter}
 use Rattle.tell_core.specs.path_clashes.Clash.{NamePair}
 use Rattle.outcome.specs.Effect.{Effect, Changes, effect_of}
 use Rattle.outcome.specs.Make.{AreNamesBelowOption}
@@ -35,7 +35,7 @@ nothing_given = record { names = []; chosen = None; clash = None }
 
 -- what a command chooses, by what reads find; only a change chooses
 abbrev pub IsChosenFor : Effect → CommandLine → Reads → Option (List ℕ) → Type 0
-IsChosenFor Changes command read chosen = IsChoiceFrom (pool_for command read) chosen
+IsChosenFor Changes command read chosen = IsChoiceFrom (pool_of_command command read) chosen
 IsChosenFor other command read chosen = chosen ≡ None
 
 -- ---- over these files
@@ -43,7 +43,7 @@ IsChosenFor other command read chosen = chosen ≡ None
 -- the names that an applet lists: `mkpkg` those below its folder, the others none
 abbrev pub IsListingFor : Applet → CommandLine → Files → List (List ℕ) → Type 0
 IsListingFor Mkpkg command files names =
-    AreNamesBelowOption (values_with FILES command.values) files names
+    AreNamesBelowOption (values_of_letter FILES command.values) files names
 IsListingFor other command files names = names ≡ []
 
 -- the first clash of the names after a command, which only a change has
@@ -65,7 +65,7 @@ pub record IsGiven (command : CommandLine) (read : Reads) (files : Files) (given
 -- names that an applet may list: `mkpkg` some below its folder, in byte order and each once, the others
 -- none
 abbrev pub MayBeListedFor : Applet → CommandLine → List (List ℕ) → Type 0
-MayBeListedFor Mkpkg command names = AreNamesBelowFirst (values_with FILES command.values) names
+MayBeListedFor Mkpkg command names = AreNamesBelowFirst (values_of_letter FILES command.values) names
 MayBeListedFor other command names = names ≡ []
 
 -- the first clash of names after a command among some present files; only a change has one

@@ -15,7 +15,7 @@ use Rattle.make_core.specs.make_info.declared.fault.MakeFault.{MakeFault}
 use Rattle.make_core.specs.make_info.declared.fault.MakeFault.TheVariants.{FileMissing as NoFile, FileBad as BadFile, InfoBad as BadInfo, TooLarge, Disk, Memory}
 use Rattle.report_core.specs.declared.refusal.Refusal.TheVariants.{FileMissing, FileBad, InfoBad, Reserved, ResultTooLarge}
 use Rattle.command_core.specs.Command.{CommandLine}
-use Rattle.command_core.specs.Files.{without_dot}
+use Rattle.command_core.specs.Files.{without_dot_slash}
 use Rattle.command_core.specs.declared.values.OptionValue.{OptionValue}
 use Rattle.outcome.specs.Outcome.{Outcome, commit_report, just_refusal, just_report}
 
@@ -30,7 +30,7 @@ files_below folder files name =
 abbrev pub AreNamesBelowOption : List OptionValue → Files → List (List ℕ) → Type 0
 AreNamesBelowOption [] files names = names ≡ []
 AreNamesBelowOption (folder ∷ values) files names =
-    IsNamesOf (files_below (without_dot folder.text) files) names
+    IsNamesOf (files_below (without_dot_slash folder.text) files) names
 
 -- ---- the outcome
 

@@ -5,8 +5,8 @@ use Rattle.base_core.specs.Files.{Files}
 use Rattle.make_core.specs.pkg_core.Whole.{container_fault}
 
 -- there is a file under the name; it passes all tests of a container, if it has fewer than 2 ^ 64 bytes
-abbrev pub IsSoundAt : List ℕ → Files → Type 0
-IsSoundAt name files =
+abbrev pub IsSoundFileAt : List ℕ → Files → Type 0
+IsSoundFileAt name files =
     (bytes : List ℕ)
     × (files name ≡ Some bytes)
     × (length bytes < 2 ^ 64 → container_fault bytes ≡ None)

@@ -7,35 +7,35 @@ use Rattle.command_core.specs.declared.command.Applet.{Applet}
 use Rattle.command_core.specs.declared.command.Applet.TheVariants.{Demo}
 use Rattle.demo_lines.specs.Count.{demo_count}
 use Rattle.report_core.specs.declared.refusal.Refusal.TheVariants.{Usage}
-use Rattle.outcome.specs.Commands.{IsPossibleOutcomeOf, IsOutcomeUnlessBadIntent}
+use Rattle.outcome.specs.Commands.{IsPossibleOutcomeWithoutDemo, IsOutcomeUnlessBadIntent}
 use Rattle.outcome.specs.Demo.{IsDemoOutcome}
 use Rattle.outcome.specs.Effect.{effect_of}
 use Rattle.outcome.specs.Outcome.{Outcome, just_refusal}
 use Rattle.outcome.specs.Work.{recovery_fault}
 
 -- the outcome of a command by its applet: `demo` runs others; any other recovers first, if it has to
-abbrev pub IsOutcomeFor : Applet → CommandLine → Files → Outcome → Type 0
-IsOutcomeFor Demo command files outcome =
+abbrev pub IsOutcomeOfApplet : Applet → CommandLine → Files → Outcome → Type 0
+IsOutcomeOfApplet Demo command files outcome =
     IsDemoOutcome (demo_count command.operands) files outcome
-IsOutcomeFor other command files outcome =
+IsOutcomeOfApplet other command files outcome =
     IsOutcomeUnlessBadIntent (recovery_fault (effect_of command.applet) files) command files outcome
 
 -- the outcome of the parsed arguments of a command line over these files: a usage error is reported
 -- before any file is read
 abbrev pub IsOutcome : Result CommandLine ℕ → Files → Outcome → Type 0
 IsOutcome (Err place) files outcome = outcome ≡ just_refusal files (Usage place)
-IsOutcome (Ok command) files outcome = IsOutcomeFor command.applet command files outcome
+IsOutcome (Ok command) files outcome = IsOutcomeOfApplet command.applet command files outcome
 
 -- ---- over a tree whose files no contract knows
 
--- *IsOutcomeFor* on a tree whose files no contract knows: `demo` depends on no files
-abbrev pub IsPossibleOutcomeFor : Applet → CommandLine → Outcome → Type 0
-IsPossibleOutcomeFor Demo command outcome =
+-- *IsOutcomeOfApplet* on a tree whose files no contract knows: `demo` depends on no files
+abbrev pub IsPossibleOutcomeOfApplet : Applet → CommandLine → Outcome → Type 0
+IsPossibleOutcomeOfApplet Demo command outcome =
     IsDemoOutcome (demo_count command.operands) no_names outcome
-IsPossibleOutcomeFor other command outcome = IsPossibleOutcomeOf command outcome
+IsPossibleOutcomeOfApplet other command outcome = IsPossibleOutcomeWithoutDemo command outcome
 
 -- The outcome of parsed arguments for some listing, for some contents, or none, at each read and of the
 -- intent, and for some files. Nothing is said of the files afterwards: a usage error leaves none here.
 abbrev pub IsPossibleOutcome : Result CommandLine ℕ → Outcome → Type 0
 IsPossibleOutcome (Err place) outcome = outcome ≡ just_refusal no_names (Usage place)
-IsPossibleOutcome (Ok command) outcome = IsPossibleOutcomeFor command.applet command outcome
+IsPossibleOutcome (Ok command) outcome = IsPossibleOutcomeOfApplet command.applet command outcome

@@ -31,12 +31,12 @@ ghost use Rattle.engine_core.specs.journal_core.Staged.{AreReplayPathsFree, AreS
 ghost use Rattle.tell_core.specs.installed_info.declared.telling.ReportAndRefusal.{ReportAndRefusal};
 ghost use Rattle.make_core.specs.make_info.Reads.{Reads};
 ghost use Rattle.outcome.specs.ChangeEnd.{IsChangeEnd, IsRunEnd, is_input_refusal};
-ghost use Rattle.outcome.specs.Commands.{IsOutcomeOf, IsOutcomeOn, reads_in};
-ghost use Rattle.outcome.specs.Effect.{Changes, Makes, AsksRoot, does_recover, effect_by, effect_of, output, reads_only, depends_only_on_arguments};
+ghost use Rattle.outcome.specs.Commands.{IsOutcomeWithoutDemo, IsOutcomeAfterRecovery, reads_in};
+ghost use Rattle.outcome.specs.Effect.{Changes, Makes, AsksRoot, does_recover, effect_of_arguments, effect_of, output, reads_only, depends_only_on_arguments};
 ghost use Rattle.outcome.specs.Make.{files_below};
 ghost use Rattle.outcome.specs.Outcome.{Outcome, just_refusal, outcome_of};
 ghost use Rattle.outcome.specs.Recovers.{must_recover};
-ghost use Rattle.outcome.specs.Sound.{IsSoundAt};
+ghost use Rattle.outcome.specs.Sound.{IsSoundFileAt};
 ghost use Rattle.outcome.specs.Words.{IsOutcome};
 ghost use Rattle.outcome.specs.Work.{fault_of_intent, recovery_fault, work_files};
 ghost use Rattle.report_core.specs.declared.refusal.Refusal.{Refusal};
@@ -79,7 +79,7 @@ pub fn an_outcome_is_unique()
 /// A command has one outcome over the files on which it works, and no second one.
 pub fn an_outcome_over_files_is_unique()
     ensures { (command : CommandLine) (files : Files) (a b : Outcome)
-        → IsOutcomeOn command files a → IsOutcomeOn command files b → a ≡ b }
+        → IsOutcomeAfterRecovery command files a → IsOutcomeAfterRecovery command files b → a ≡ b }
 {
     files_have_one_list_of_names();
     a_choice_is_unique();
@@ -102,26 +102,26 @@ pub fn a_command_that_reads_leaves_the_files()
 // parsed.
 fn reading_leaves_the_files()
     ensures files { (read : Result CommandLine ℕ) (files : Files) (o : Outcome)
-        → IsTrue (reads_only read) → IsOutcomeOf read files o → o.files ≡ files }
+        → IsTrue (reads_only read) → IsOutcomeWithoutDemo read files o → o.files ≡ files }
     ensures commits { (read : Result CommandLine ℕ) (files : Files) (o : Outcome)
-        → IsTrue (reads_only read) → IsOutcomeOf read files o → o.commits ≡ false }
+        → IsTrue (reads_only read) → IsOutcomeWithoutDemo read files o → o.commits ≡ false }
 {}
 
 /// A command that recovers and then only reads commits nothing. It leaves the recovered files, or
 /// the old ones if it cannot recover.
 pub fn a_reporting_command_leaves_the_files()
     ensures files { (words : List (List ℕ)) (files : Files) (o : Outcome)
-        → effect_by (command_of words) ≡ AsksRoot → IsOutcome (command_of words) files o
+        → effect_of_arguments (command_of words) ≡ AsksRoot → IsOutcome (command_of words) files o
         → (o.files ≡ files) ⊎ (o.files ≡ work_files AsksRoot files) }
     ensures commits { (words : List (List ℕ)) (files : Files) (o : Outcome)
-        → effect_by (command_of words) ≡ AsksRoot → IsOutcome (command_of words) files o
+        → effect_of_arguments (command_of words) ≡ AsksRoot → IsOutcome (command_of words) files o
         → o.commits ≡ false }
 {}
 
 /// A command that makes a file commits exactly if it is not refused.
 pub fn a_command_that_makes_commits_unless_refused()
     ensures { (words : List (List ℕ)) (files : Files) (o : Outcome)
-        → effect_by (command_of words) ≡ Makes → IsOutcome (command_of words) files o
+        → effect_of_arguments (command_of words) ≡ Makes → IsOutcome (command_of words) files o
         → o.commits ≡ not (is_some o.refusal) }
 {}
 
@@ -139,11 +139,11 @@ pub fn a_refusal_commits_nothing()
 pub fn a_command_that_commits_nothing_leaves_the_files()
     // Of a command over the files on which it works.
     ensures over { (command : CommandLine) (files : Files) (o : Outcome)
-        → IsOutcomeOn command files o → o.commits ≡ false → o.files ≡ files }
+        → IsOutcomeAfterRecovery command files o → o.commits ≡ false → o.files ≡ files }
     // Of a command line, which may first recover.
     ensures words { (words : List (List ℕ)) (files : Files) (o : Outcome)
         → IsOutcome (command_of words) files o → o.commits ≡ false → (o.files ≡ files)
-        ⊎ (o.files ≡ work_files (effect_by (command_of words)) files) }
+        ⊎ (o.files ≡ work_files (effect_of_arguments (command_of words)) files) }
 {
     what_is_read_of_a_root_is_in_the_tree();
     a_change_that_writes_nothing_leaves_the_files();
@@ -166,7 +166,7 @@ pub fn a_command_recovers()
     ensures works { (words : List (List ℕ)) (command : CommandLine) (files : Files) (o : Outcome)
         → command_of words ≡ Ok command → IsTrue (must_recover command.applet)
         → fault_of_intent (files intent_name) ≡ None → IsOutcome (command_of words) files o
-        → IsOutcomeOn command (unstaged_files files) o }
+        → IsOutcomeAfterRecovery command (unstaged_files files) o }
     // These files are left if the command commits nothing.
     ensures leaves { (words : List (List ℕ)) (command : CommandLine) (files : Files) (o : Outcome)
         → command_of words ≡ Ok command → IsTrue (must_recover command.applet)
@@ -186,9 +186,9 @@ pub fn a_command_recovers()
 /// first test that the intent fails.
 pub fn only_a_bad_intent_is_refused_as_one()
     ensures { (words : List (List ℕ)) (files : Files) (o : Outcome) (cause : Cause)
-        → does_recover (effect_by (command_of words)) ≡ true → IsOutcome (command_of words) files o
+        → does_recover (effect_of_arguments (command_of words)) ≡ true → IsOutcome (command_of words) files o
         → o.refusal ≡ Some (IntentBad cause)
-        → recovery_fault (effect_by (command_of words)) files ≡ Some cause }
+        → recovery_fault (effect_of_arguments (command_of words)) files ≡ Some cause }
 {
     a_reporting_command_is_refused_for_its_input();
     a_change_takes_the_first_selection_or_is_refused();
@@ -226,7 +226,7 @@ pub fn a_root_without_a_database_file_has_no_database()
 pub fn a_change_takes_the_first_selection_or_is_refused()
     // Of a command over the files on which it works.
     ensures over { (command : CommandLine) (files : Files) (o : Outcome)
-        → effect_of command.applet ≡ Changes → IsOutcomeOn command files o
+        → effect_of command.applet ≡ Changes → IsOutcomeAfterRecovery command files o
         → IsChangeEnd command files o }
     // Of a run, which first recovers.
     ensures words { (words : List (List ℕ)) (command : CommandLine) (files : Files) (o : Outcome)
@@ -240,7 +240,7 @@ pub fn a_change_takes_the_first_selection_or_is_refused()
 /// the paths that a stage may create are free.
 pub fn a_change_leaves_free_paths_for_the_next()
     ensures { (words : List (List ℕ)) (files : Files) (o : Outcome)
-        → effect_by (command_of words) ≡ Changes → IsOutcome (command_of words) files o
+        → effect_of_arguments (command_of words) ≡ Changes → IsOutcome (command_of words) files o
         → o.refusal ≡ None
         → AreStagingPathsFree (work_files Changes files)
         → AreReplayPathsFree o.files × AreStagingPathsFree (work_files Changes o.files) }
@@ -264,8 +264,8 @@ pub fn an_outcome_of_arguments_is_the_same_on_every_tree()
 // `an_outcome_of_arguments_is_the_same_on_every_tree` for each command except `demo`.
 fn words_alone_are_the_same_everywhere()
     ensures { (read : Result CommandLine ℕ) (files others : Files) (o : Outcome)
-        → IsTrue (depends_only_on_arguments read) → IsOutcomeOf read files o
-        → IsOutcomeOf read others (outcome_of o.refusal o.out others) }
+        → IsTrue (depends_only_on_arguments read) → IsOutcomeWithoutDemo read files o
+        → IsOutcomeWithoutDemo read others (outcome_of o.refusal o.out others) }
 {}
 
 /// The names below a folder, as a tree lists them, are those of its files.
@@ -279,7 +279,7 @@ pub fn a_listing_of_a_tree_is_that_of_its_files()
 pub fn what_is_made_is_sound()
     ensures { (words : List (List ℕ)) (v : TreeState) (o : Outcome) (name : List ℕ)
         → IsWellFormed v → IsOutcome (command_of words) (files_of v) o → o.refusal ≡ None
-        → output words ≡ Some name → IsSoundAt name o.files }
+        → output words ≡ Some name → IsSoundFileAt name o.files }
 {
     the_files_of_a_well_formed_state_are_named_files();
     an_intent_is_read_from_a_sound_container();

@@ -3,8 +3,8 @@ use Rattle.std.proofs.Common.{ℕ, ◌≡◌, ◌↔◌, inl, inr, ◌∙◌, ze
 use Rattle.std.specs.Prelude.{is_some, slice_get}
 use Rattle.std.specs.Option.{option_or}
 use Rattle.adb_block.specs.Header.{header_of}
-use Rattle.adb_block.specs.Reading.{Reading, done, fault, more, reading_of}
-use Rattle.adb_block.specs.ReaderPosition.{start_of}
+use Rattle.adb_block.specs.Reading.{Reading, done, fault, more, block_stream_from}
+use Rattle.adb_block.specs.ReaderPosition.{first_block_position}
 use Rattle.adb_view.specs.Head.{head_fault, root_of}
 use Rattle.adb_view.specs.Schema.{shape_of}
 use Rattle.adb_view.specs.Walk.{shape_fault}
@@ -13,11 +13,11 @@ use Rattle.adb_view.specs.declared.tables.Which.{Which}
 use Rattle.base_core.specs.Files.{Files}
 use Rattle.base_core.specs.declared.cause.Cause.{Cause}
 use Rattle.base_core.specs.declared.cause.Cause.TheVariants.{WrongSchema}
-use Rattle.command_core.specs.Files.{without_dot}
+use Rattle.command_core.specs.Files.{without_dot_slash}
 use Rattle.command_core.specs.declared.operands.Operand.{Operand}
 use Rattle.container_laws.specs.TestsInOrder.{IsFirstFailing}
-use Rattle.container_laws.specs.adb_schema.Soundness.{first_payload, root_value}
-use Rattle.container_laws.specs.pkg_core.Whole.{root_of_schema}
+use Rattle.container_laws.specs.adb_schema.Soundness.{first_block_payload, root_value}
+use Rattle.container_laws.specs.pkg_core.Whole.{table_of_schema}
 use Rattle.outcome.specs.Dump.{adbdump, dump_fault, dump_of, dump_outcome, dump_with_root, dump_with_schema, framing_fault, or_text, text_outcome}
 use Rattle.outcome.specs.adb_dump.Dump.{dump_text}
 use Rattle.outcome.specs.make_info.Reads.{Reads}
@@ -94,20 +94,20 @@ no_text : (o : Option Cause) (text : List ℕ) (c : Cause) → or_text o text �
 no_text None text c e = absurd (cc (e))
 no_text (Some d) text c e = let same : d ≡ c = cc (e) in ap Some same
 
-by_root : (file : List ℕ) (c : Cause) (schema : ℕ) (root : Option Which) → header_of file ≡ Ok schema → root_of_schema schema ≡ root
-    → dump_with_root schema (reading_of (start_of schema file)) root ≡ Err c → IsDumpRefusalCause file c
+by_root : (file : List ℕ) (c : Cause) (schema : ℕ) (root : Option Which) → header_of file ≡ Ok schema → table_of_schema schema ≡ root
+    → dump_with_root schema (block_stream_from (first_block_position schema file)) root ≡ Err c → IsDumpRefusalCause file c
 by_root file c schema None header root e =
     let same : WrongSchema schema ≡ c = cc (e) in
     inr (schema, header, inl (root, sym same))
 by_root file c schema (Some which) header root e =
-    let r = reading_of (start_of schema file) in
-    inr (schema, header, inr (which, root, blocks_told which r c (no_text (dump_fault which r) (dump_text which (root_value which (first_payload r))) c e)))
+    let r = block_stream_from (first_block_position schema file) in
+    inr (schema, header, inr (which, root, blocks_told which r c (no_text (dump_fault which r) (dump_text which (root_value which (first_block_payload r))) c e)))
 
 by_header : (file : List ℕ) (c : Cause) (h : Result ℕ Cause) → header_of file ≡ h → dump_with_schema file h ≡ Err c → IsDumpRefusalCause file c
 by_header file c (Err d) header e =
     let same : d ≡ c = cc (e) in
     inl (header ∙ ap Err same)
-by_header file c (Ok schema) header e = by_root file c schema (root_of_schema schema) header refl e
+by_header file c (Ok schema) header e = by_root file c schema (table_of_schema schema) header refl e
 
 fault_told : (file : List ℕ) (c : Cause) → dump_of file ≡ Err c → IsDumpRefusalCause file c
 unfolding dump_of
@@ -122,12 +122,12 @@ file_refused file c f =
           let (schema, header, rest) = f in
           ap (dump_with_schema file) header
           ∙ elim rest [
-            | inl x ↦ ap (dump_with_root schema (reading_of (start_of schema file))) x.0 ∙ ap Err (sym x.1)
+            | inl x ↦ ap (dump_with_root schema (block_stream_from (first_block_position schema file))) x.0 ∙ ap Err (sym x.1)
             | inr x ↦
                 let (which, root, blocks) = x in
-                let r = reading_of (start_of schema file) in
+                let r = block_stream_from (first_block_position schema file) in
                 ap (dump_with_root schema r) root
-                ∙ ap (λ (o : Option Cause). or_text o (dump_text which (root_value which (first_payload r)))) (blocks_refused which r c blocks)
+                ∙ ap (λ (o : Option Cause). or_text o (dump_text which (root_value which (first_block_payload r)))) (blocks_refused which r c blocks)
           ]
     ]
 
@@ -137,11 +137,11 @@ refused_by : (files : Files) (place : ℕ) (r : Result (List ℕ) Cause) (c : Ca
 refused_by files place (Ok text) c e = absurd (cc (e))
 refused_by files place (Err d) c e = let same : d ≡ c = cc (e) in ap Err same
 
-of_found : (read : Reads) (files : Files) (o : Operand) (file : List ℕ) → read 0 (without_dot o.text) ≡ Some file
+of_found : (read : Reads) (files : Files) (o : Operand) (file : List ℕ) → read 0 (without_dot_slash o.text) ≡ Some file
     → (adbdump read files (o ∷ [])).refusal ≡ (text_outcome files o.place (dump_of file)).refusal
 of_found read files o file found = ap (λ (f : Option (List ℕ)). (dump_outcome files o.place f).refusal) found
 
-pub fault_refused : (read : Reads) (files : Files) (o : Operand) (file : List ℕ) (c : Cause) → read 0 (without_dot o.text) ≡ Some file
+pub fault_refused : (read : Reads) (files : Files) (o : Operand) (file : List ℕ) (c : Cause) → read 0 (without_dot_slash o.text) ≡ Some file
     → ((adbdump read files (o ∷ [])).refusal ≡ Some (FileBad o.place c)) ↔ IsDumpRefusalCause file c
 fault_refused read files o file c found =
     let same = of_found read files o file found in (
@@ -154,7 +154,7 @@ cause_of : (files : Files) (place : ℕ) (r : Result (List ℕ) Cause) (refusal 
 cause_of files place (Ok text) refusal e = absurd (cc (e))
 cause_of files place (Err d) refusal e = let same : FileBad place d ≡ refusal = cc (e) in (d, sym same)
 
-pub only_faults : (read : Reads) (files : Files) (o : Operand) (file : List ℕ) (refusal : Refusal) → read 0 (without_dot o.text) ≡ Some file
+pub only_faults : (read : Reads) (files : Files) (o : Operand) (file : List ℕ) (refusal : Refusal) → read 0 (without_dot_slash o.text) ≡ Some file
     → (adbdump read files (o ∷ [])).refusal ≡ Some refusal → (c : Cause) × (refusal ≡ FileBad o.place c)
 only_faults read files o file refusal found e =
     cause_of files o.place (dump_of file) refusal (sym (of_found read files o file found) ∙ e)
@@ -168,7 +168,7 @@ silent_found files place None e = refl
 silent_found files place (Some file) e = silent_by files place (dump_of file) e
 
 pub refused_silently : (read : Reads) (files : Files) (o : Operand) → is_some (adbdump read files (o ∷ [])).refusal ≡ true → (adbdump read files (o ∷ [])).out ≡ []
-refused_silently read files o e = silent_found files o.place (read 0 (without_dot o.text)) e
+refused_silently read files o e = silent_found files o.place (read 0 (without_dot_slash o.text)) e
 
 same_by : (files : Files) (place : ℕ) (r : Result (List ℕ) Cause) → (text_outcome files place r).files ≡ files
 same_by files place (Ok text) = refl
@@ -179,4 +179,4 @@ same_found files place None = refl
 same_found files place (Some file) = same_by files place (dump_of file)
 
 pub files_kept : (read : Reads) (files : Files) (o : Operand) → (adbdump read files (o ∷ [])).files ≡ files
-files_kept read files o = same_found files o.place (read 0 (without_dot o.text))
+files_kept read files o = same_found files o.place (read 0 (without_dot_slash o.text))

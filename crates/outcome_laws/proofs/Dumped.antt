@@ -3,12 +3,12 @@ use Rattle.std.proofs.Common.{◌≡◌, ◌∙◌, ℕ, Bool, true, false, List
 use Rattle.std.specs.Prelude.{if◌then◌else◌, nat_lt}
 use Rattle.std.specs.Option.{option_or}
 use Rattle.adb_block.specs.Header.{header_of}
-use Rattle.adb_block.specs.Reading.{Reading, done, fault, more, reading_of}
-use Rattle.adb_block.specs.ReaderPosition.{start_of}
+use Rattle.adb_block.specs.Reading.{Reading, done, fault, more, block_stream_from}
+use Rattle.adb_block.specs.ReaderPosition.{first_block_position}
 use Rattle.adb_block.specs.declared.block.BlockKind.{BlockKind}
 use Rattle.adb_block.specs.declared.block.BlockKind.TheVariants as Kinds
 use Rattle.outcome.specs.adb_dump.Dump.{dump_text}
-use Rattle.container_laws.specs.adb_schema.Soundness.{block_fault, file_pair, first_payload, further_fault, payload_after_header, payload_in, root_value}
+use Rattle.container_laws.specs.adb_schema.Soundness.{further_block_fault, contents_positions, first_block_payload, further_blocks_fault, payload_after_header, payload_in, root_value}
 use Rattle.adb_view.specs.Head.{root_of}
 use Rattle.adb_view.specs.Plain.{Plain}
 use Rattle.adb_view.specs.Schema.{shape_of}
@@ -20,26 +20,26 @@ use Rattle.base_core.specs.Files.{Files}
 use Rattle.base_core.specs.declared.cause.Cause.{Cause}
 use Rattle.base_core.specs.declared.cause.Cause.TheVariants.{DataOrder, Truncated}
 use Rattle.base_core.proofs.Causes.{both_none}
-use Rattle.command_core.specs.Files.{without_dot}
+use Rattle.command_core.specs.Files.{without_dot_slash}
 use Rattle.command_core.specs.declared.operands.Operand.{Operand}
 use Rattle.container_laws.specs.TestsInOrder.{PassesEveryTest}
 use Rattle.outcome.specs.make_info.Reads.{Reads}
 use Rattle.outcome.specs.Dump.{adbdump, dump_fault, dump_of, dump_of_blocks, dump_outcome, dump_with_root, dump_with_schema, framing_fault, or_text, text_outcome}
-use Rattle.container_laws.specs.pkg_core.Contents.{Expected, POSITIONS_LEN, contents_block_fault, expected_contents, fault_in, files_at_block, files_by_blocks, unless_fault, with_next}
-use Rattle.container_laws.specs.pkg_core.Whole.{fault_after_first, root_of_schema}
+use Rattle.container_laws.specs.pkg_core.Contents.{Expected, POSITIONS_LEN, contents_block_fault, expected_contents, fault_of_files_read, files_at_block, files_read_from_blocks, unless_fault, with_contents_of_next}
+use Rattle.container_laws.specs.pkg_core.Whole.{fault_of_further_blocks, table_of_schema}
 use Rattle.report_core.specs.declared.refusal.Refusal.TheVariants.{FileBad, FileMissing}
 use Rattle.outcome_laws.specs.DumpedFiles.{HasTextOfValue}
 
 -- ---- the printed text
 
-told_text : (which : Which) (r : Reading) (text : List ℕ) → dump_of_blocks which r ≡ Ok text → text ≡ dump_text which (root_value which (first_payload r))
+told_text : (which : Which) (r : Reading) (text : List ℕ) → dump_of_blocks which r ≡ Ok text → text ≡ dump_text which (root_value which (first_block_payload r))
 told_text which r text e = go (dump_fault which r) e
   where
-    go : (o : Option Cause) → or_text o (dump_text which (root_value which (first_payload r))) ≡ Ok text → text ≡ dump_text which (root_value which (first_payload r))
-    go None e = let same : dump_text which (root_value which (first_payload r)) ≡ text = cc in sym same
+    go : (o : Option Cause) → or_text o (dump_text which (root_value which (first_block_payload r))) ≡ Ok text → text ≡ dump_text which (root_value which (first_block_payload r))
+    go None e = let same : dump_text which (root_value which (first_block_payload r)) ≡ text = cc in sym same
     go (Some c) e = absurd cc
 
-text_by_root : (file text : List ℕ) (schema : ℕ) (root : Option Which) → header_of file ≡ Ok schema → root_of_schema schema ≡ root → dump_with_root schema (reading_of (start_of schema file)) root ≡ Ok text → HasTextOfValue file text
+text_by_root : (file text : List ℕ) (schema : ℕ) (root : Option Which) → header_of file ≡ Ok schema → table_of_schema schema ≡ root → dump_with_root schema (block_stream_from (first_block_position schema file)) root ≡ Ok text → HasTextOfValue file text
 unfolding payload_in
 text_by_root file text schema None header root e = absurd cc
 text_by_root file text schema (Some which) header root e =
@@ -48,23 +48,23 @@ text_by_root file text schema (Some which) header root e =
       header = header;
       which = which;
       root = root;
-      text_is = told_text which (reading_of (start_of schema file)) text e
+      text_is = told_text which (block_stream_from (first_block_position schema file)) text e
           ∙ ap (λ (o : Result ℕ Cause). dump_text which (root_value which (payload_after_header file o))) (sym header);
     }
 
 text_by_header : (file text : List ℕ) (h : Result ℕ Cause) → header_of file ≡ h → dump_with_schema file h ≡ Ok text → HasTextOfValue file text
 text_by_header file text (Err c) header e = absurd cc
-text_by_header file text (Ok schema) header e = text_by_root file text schema (root_of_schema schema) header refl e
+text_by_header file text (Ok schema) header e = text_by_root file text schema (table_of_schema schema) header refl e
 
 text_of : (file text : List ℕ) → dump_of file ≡ Ok text → HasTextOfValue file text
 unfolding dump_of
 text_of file text e = text_by_header file text (header_of file) refl e
 
-pub text_printed : (read : Reads) (files : Files) (o : Operand) (file : List ℕ) → read 0 (without_dot o.text) ≡ Some file
+pub text_printed : (read : Reads) (files : Files) (o : Operand) (file : List ℕ) → read 0 (without_dot_slash o.text) ≡ Some file
     → (adbdump read files (o ∷ [])).refusal ≡ None → HasTextOfValue file (adbdump read files (o ∷ [])).out
 text_printed read files o file found e = go (dump_of file) refl
   where
-    go : (r : Result (List ℕ) Cause) → dump_of file ≡ r → HasTextOfValue file (dump_outcome files o.place (read 0 (without_dot o.text))).out
+    go : (r : Result (List ℕ) Cause) → dump_of file ≡ r → HasTextOfValue file (dump_outcome files o.place (read 0 (without_dot_slash o.text))).out
     go (Ok text) is =
         subst (HasTextOfValue file)
         (sym (ap (λ (f : Option (List ℕ)). (dump_outcome files o.place f).out) found ∙ ap (λ (r : Result (List ℕ) Cause). (text_outcome files o.place r).out) is))
@@ -75,35 +75,35 @@ text_printed read files o file found e = go (dump_of file) refl
 
 -- ---- the framing of the blocks
 
-framed_further : (r : Reading) → further_fault r ≡ None → framing_fault r ≡ None
-unfolding further_fault
+framed_further : (r : Reading) → further_blocks_fault r ≡ None → framing_fault r ≡ None
+unfolding further_blocks_fault
 framed_further done e = refl
 framed_further (fault c) e = absurd cc
-framed_further (more b at r) e = framed_further r (both_none (block_fault b.kind b.payload at) (further_fault r) e).1
+framed_further (more b at r) e = framed_further r (both_none (further_block_fault b.kind b.payload at) (further_blocks_fault r) e).1
 
 never_none : {A : Type 0} (b : Bool) (x y : A) → (if b then Some x else Some y) ≡ None → ⊥
 never_none true x y e = absurd cc
 never_none false x y e = absurd cc
 
-framed_contents : (es : List Expected) (r : Reading) → fault_in (files_by_blocks es r) ≡ None → framing_fault r ≡ None
-unfolding files_by_blocks
+framed_contents : (es : List Expected) (r : Reading) → fault_of_files_read (files_read_from_blocks es r) ≡ None → framing_fault r ≡ None
+unfolding files_read_from_blocks
 framed_contents es done e = refl
 framed_contents es (fault c) e = absurd cc
 framed_contents es (more b at r) e = by_kind b.kind e (λ left. framed_contents left r)
   where
-    by_fault : (o : Option Cause) (left : List Expected) → contents_block_fault b.payload at left ≡ o → fault_in (unless_fault o (with_next b.payload (λ rest. files_by_blocks rest r) left)) ≡ None
-        → ((rest : List Expected) → fault_in (files_by_blocks rest r) ≡ None → framing_fault r ≡ None) → framing_fault r ≡ None
+    by_fault : (o : Option Cause) (left : List Expected) → contents_block_fault b.payload at left ≡ o → fault_of_files_read (unless_fault o (with_contents_of_next b.payload (λ rest. files_read_from_blocks rest r) left)) ≡ None
+        → ((rest : List Expected) → fault_of_files_read (files_read_from_blocks rest r) ≡ None → framing_fault r ≡ None) → framing_fault r ≡ None
     by_fault (Some c) left is e further = absurd cc
-    by_fault None [] is e further = absurd (never_none (nat_lt (length b.payload) POSITIONS_LEN) (Truncated at) (DataOrder (0, 0) (file_pair b.payload)) is)
+    by_fault None [] is e further = absurd (never_none (nat_lt (length b.payload) POSITIONS_LEN) (Truncated at) (DataOrder (0, 0) (contents_positions b.payload)) is)
     by_fault None (x ∷ xs) is e further = further xs e
 
-    by_kind : (k : BlockKind) → fault_in (files_at_block k b.payload at (λ left. files_by_blocks left r) es) ≡ None
-        → ((rest : List Expected) → fault_in (files_by_blocks rest r) ≡ None → framing_fault r ≡ None) → framing_fault r ≡ None
+    by_kind : (k : BlockKind) → fault_of_files_read (files_at_block k b.payload at (λ left. files_read_from_blocks left r) es) ≡ None
+        → ((rest : List Expected) → fault_of_files_read (files_read_from_blocks rest r) ≡ None → framing_fault r ≡ None) → framing_fault r ≡ None
     by_kind Kinds.Contents e further = by_fault (contents_block_fault b.payload at es) es refl e further
     by_kind Kinds.Adb e further = further es e
     by_kind Kinds.Signature e further = further es e
 
-framed : (which : Which) (value : Plain) (r : Reading) → fault_after_first which value r ≡ None → framing_fault r ≡ None
+framed : (which : Which) (value : Plain) (r : Reading) → fault_of_further_blocks which value r ≡ None → framing_fault r ≡ None
 framed Tables.Package value r e = framed_contents (expected_contents value) r e
 framed Tables.Dep value r e = framed_further r e
 framed Tables.Acl value r e = framed_further r e
@@ -129,16 +129,16 @@ dumped file p =
     ∙ framed p.which value p.behind (p.each 4 _ refl) in (
       text,
       ap (dump_with_schema file) p.header
-          ∙ ap (dump_with_root p.schema (reading_of (start_of p.schema file))) p.root
+          ∙ ap (dump_with_root p.schema (block_stream_from (first_block_position p.schema file))) p.root
           ∙ ap (dump_of_blocks p.which) p.blocks
           ∙ ap (λ (o : Option Cause). or_text o text) good,
     )
 
-pub sound_dumped : (read : Reads) (files : Files) (o : Operand) (file : List ℕ) → read 0 (without_dot o.text) ≡ Some file → PassesEveryTest file
+pub sound_dumped : (read : Reads) (files : Files) (o : Operand) (file : List ℕ) → read 0 (without_dot_slash o.text) ≡ Some file → PassesEveryTest file
     → (adbdump read files (o ∷ [])).refusal ≡ None
 sound_dumped read files o file found p =
     ap (λ (f : Option (List ℕ)). (dump_outcome files o.place f).refusal) found
     ∙ ap (λ (r : Result (List ℕ) Cause). (text_outcome files o.place r).refusal) (dumped file p).1
 
-pub absent_refused : (read : Reads) (files : Files) (o : Operand) → read 0 (without_dot o.text) ≡ None → (adbdump read files (o ∷ [])).refusal ≡ Some (FileMissing o.place)
+pub absent_refused : (read : Reads) (files : Files) (o : Operand) → read 0 (without_dot_slash o.text) ≡ None → (adbdump read files (o ∷ [])).refusal ≡ Some (FileMissing o.place)
 absent_refused read files o found = ap (λ (f : Option (List ℕ)). (dump_outcome files o.place f).refusal) found

@@ -5,8 +5,8 @@ use Rattle.base_core.specs.declared.cause.Cause.{Cause}
 use Rattle.base_core.specs.declared.cause.Cause.TheVariants.{WrongSchema}
 use Rattle.adb_block.specs.Header.{header_of}
 use Rattle.adb_block.specs.Piece.{Piece}
-use Rattle.adb_block.specs.Reading.{Reading, fault, more, reading_of}
-use Rattle.adb_block.specs.ReaderPosition.{start_of}
+use Rattle.adb_block.specs.Reading.{Reading, fault, more, block_stream_from}
+use Rattle.adb_block.specs.ReaderPosition.{first_block_position}
 use Rattle.adb_view.specs.Head.{head_fault, root_of}
 use Rattle.adb_view.specs.Schema.{shape_of}
 use Rattle.adb_view.specs.Walk.{shape_fault}
@@ -16,14 +16,14 @@ use Rattle.outcome.specs.Dump.{framing_fault}
 use Rattle.outcome.specs.adb_dump.Dump.{dump_text}
 use Rattle.container_laws.specs.adb_schema.Soundness.{payload_in, root_value}
 use Rattle.adb_view.specs.declared.tables.Which.{Which}
-use Rattle.container_laws.specs.pkg_core.Whole.{root_of_schema}
+use Rattle.container_laws.specs.pkg_core.Whole.{table_of_schema}
 
 -- a text is that of the value of a file, by the table that the schema of its header has at its root
 pub record HasTextOfValue (file text : List ℕ) : Type 0 where
   pub schema : ℕ
   pub header : header_of file ≡ Ok schema
   pub which : Which
-  pub root : root_of_schema schema ≡ Some which
+  pub root : table_of_schema schema ≡ Some which
   pub text_is : text ≡ dump_text which (root_value which (payload_in file))
 
 -- ---- why a file is not printed
@@ -50,6 +50,6 @@ abbrev pub IsDumpRefusalCause : List ℕ → Cause → Type 0
 IsDumpRefusalCause file c =
     (header_of file ≡ Err c)
     ⊎ ((schema : ℕ) × (header_of file ≡ Ok schema)
-    × (((root_of_schema schema ≡ None) × (c ≡ WrongSchema schema))
-    ⊎ ((which : Which) × (root_of_schema schema ≡ Some which)
-    × IsFaultOfPrinted which (reading_of (start_of schema file)) c)))
+    × (((table_of_schema schema ≡ None) × (c ≡ WrongSchema schema))
+    ⊎ ((which : Which) × (table_of_schema schema ≡ Some which)
+    × IsFaultOfPrinted which (block_stream_from (first_block_position schema file)) c)))

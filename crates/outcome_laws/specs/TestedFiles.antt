@@ -2,7 +2,7 @@
 -- in `docs/formats.md`, "Tests of a container". Serves the laws of `src/verify.rt`.
 use Rattle.std.specs.Prelude.{◌≡◌, ◌<◌, ℕ, List, Option, Some, None, slice_get}
 use Rattle.base_core.specs.declared.cause.Cause.{Cause}
-use Rattle.command_core.specs.Files.{without_dot}
+use Rattle.command_core.specs.Files.{without_dot_slash}
 use Rattle.command_core.specs.declared.operands.Operand.{Operand}
 use Rattle.container_laws.specs.TestsInOrder.{IsContainerFault, PassesEveryTest}
 use Rattle.outcome.specs.make_info.Reads.{Reads}
@@ -18,7 +18,7 @@ pub record IsFoundSound (found : Option (List ℕ)) : Type 0 where
 -- the read with an operand's number, from 0, finds a file that passes every test
 abbrev pub IsOperandSound : Reads → List Operand → ℕ → Type 0
 IsOperandSound read operands i =
-    (o : Operand) → slice_get operands i ≡ Some o → IsFoundSound (read i (without_dot o.text))
+    (o : Operand) → slice_get operands i ≡ Some o → IsFoundSound (read i (without_dot_slash o.text))
 
 -- the files of all operands pass every test
 abbrev pub AreFilesSound : Reads → List Operand → Type 0
@@ -36,5 +36,5 @@ pub record IsFirstUnsound (read : Reads) (operands : List Operand) (refusal : Re
   pub number : ℕ
   pub operand : Operand
   pub at : slice_get operands number ≡ Some operand
-  pub refused : IsFileRefusal (read number (without_dot operand.text)) operand.place refusal
+  pub refused : IsFileRefusal (read number (without_dot_slash operand.text)) operand.place refusal
   pub earlier : (i : ℕ) → i < number → IsOperandSound read operands i

@@ -4,7 +4,7 @@
 ghost use Rattle.std.specs.Prelude.{ℕ, ◌≡◌, ◌↔◌, ◌∷◌, [], List, Some, None, is_some, true};
 ghost use Rattle.base_core.specs.Files.{Files};
 ghost use Rattle.base_core.specs.declared.cause.Cause.{Cause};
-ghost use Rattle.command_core.specs.Files.{without_dot};
+ghost use Rattle.command_core.specs.Files.{without_dot_slash};
 ghost use Rattle.command_core.specs.declared.operands.Operand.{Operand};
 ghost use Rattle.container_laws.specs.TestsInOrder.{PassesEveryTest};
 ghost use Rattle.outcome.specs.make_info.Reads.{Reads};
@@ -17,7 +17,7 @@ ghost use Rattle.report_core.specs.declared.refusal.Refusal.TheVariants.{FileBad
 /// the schema of its header.
 pub fn adbdump_prints_the_text_of_the_value()
     ensures { (read : Reads) (files : Files) (o : Operand) (file : List ℕ)
-        → read 0 (without_dot o.text) ≡ Some file
+        → read 0 (without_dot_slash o.text) ≡ Some file
         → (adbdump read files (o ∷ [])).refusal ≡ None
         → HasTextOfValue file (adbdump read files (o ∷ [])).out }
 {}
@@ -26,10 +26,10 @@ pub fn adbdump_prints_the_text_of_the_value()
 /// absent one.
 pub fn adbdump_prints_what_passes_every_test()
     ensures sound { (read : Reads) (files : Files) (o : Operand) (file : List ℕ)
-        → read 0 (without_dot o.text) ≡ Some file → PassesEveryTest file
+        → read 0 (without_dot_slash o.text) ≡ Some file → PassesEveryTest file
         → (adbdump read files (o ∷ [])).refusal ≡ None }
     ensures absent { (read : Reads) (files : Files) (o : Operand)
-        → read 0 (without_dot o.text) ≡ None
+        → read 0 (without_dot_slash o.text) ≡ None
         → (adbdump read files (o ∷ [])).refusal ≡ Some (FileMissing o.place) }
 {}
 
@@ -39,11 +39,11 @@ pub fn adbdump_prints_what_passes_every_test()
 /// fails, and prints nothing then. The files stay as they are.
 pub fn adbdump_refuses_the_first_failed_test()
     ensures refused { (read : Reads) (files : Files) (o : Operand) (file : List ℕ) (cause : Cause)
-        → read 0 (without_dot o.text) ≡ Some file
+        → read 0 (without_dot_slash o.text) ≡ Some file
         → ((adbdump read files (o ∷ [])).refusal ≡ Some (FileBad o.place cause))
         ↔ IsDumpRefusalCause file cause }
     ensures only { (read : Reads) (files : Files) (o : Operand) (file : List ℕ)
-        (refusal : Refusal) → read 0 (without_dot o.text) ≡ Some file
+        (refusal : Refusal) → read 0 (without_dot_slash o.text) ≡ Some file
         → (adbdump read files (o ∷ [])).refusal ≡ Some refusal
         → (cause : Cause) × (refusal ≡ FileBad o.place cause) }
     ensures nothing { (read : Reads) (files : Files) (o : Operand)

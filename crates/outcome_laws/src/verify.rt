@@ -3,7 +3,7 @@
 
 ghost use Rattle.std.specs.Prelude.{◌≡◌, ◌↔◌, ◌++◌, [], List, Some, None, codes, is_some, map, true};
 ghost use Rattle.base_core.specs.Files.{Files};
-ghost use Rattle.command_core.specs.Files.{without_dot};
+ghost use Rattle.command_core.specs.Files.{without_dot_slash};
 ghost use Rattle.command_core.specs.declared.operands.Operand.{Operand};
 ghost use Rattle.outcome.specs.make_info.Reads.{Reads};
 ghost use Rattle.outcome.specs.Verify.{verify};
@@ -31,7 +31,7 @@ pub fn verify_prints_ok_for_each_file()
     ensures printed { (read : Reads) (files : Files) (operands : List Operand)
         → (verify read files operands).refusal ≡ None
         → (verify read files operands).out
-        ≡ report_lines (map (λ (o : Operand). without_dot o.text ++ codes ": OK") operands) }
+        ≡ report_lines (map (λ (o : Operand). without_dot_slash o.text ++ codes ": OK") operands) }
     ensures refused { (read : Reads) (files : Files) (operands : List Operand)
         → is_some (verify read files operands).refusal ≡ true
         → (verify read files operands).out ≡ [] }

@@ -8,8 +8,8 @@ use Rattle.std.proofs.Math.Seq.{take-append_seam, drop-append_seam}
 use Rattle.base_core.specs.Name.{IsName}
 use Rattle.base_core.proofs.NameParts.{IsEnding, ending_makes_name}
 use Rattle.path_claim_lists.specs.adb_fields.Paths.{path_of}
-use Rattle.change_files.specs.Fate.{aside_name}
-use Rattle.change_files.specs.FilesAfter.{path_beside}
+use Rattle.change_files.specs.Fate.{apk_new_name}
+use Rattle.change_files.specs.FilesAfter.{path_of_apk_new_name}
 
 abbrev pub ending : List ℕ
 ending = codes ".apk-new"
@@ -27,12 +27,12 @@ front_len xs = let n : length (xs ++ ending) ≡ length xs + 8 = length-append x
 last_eight : (xs : List ℕ) → drop (length (xs ++ ending) - 8) (xs ++ ending) ≡ ending
 last_eight xs = ap (λ n. drop n (xs ++ ending)) (front_len xs) ∙ drop-append_seam xs ending
 
-pub front_of : (xs : List ℕ) → path_beside (xs ++ ending) ≡ Some xs
+pub front_of : (xs : List ℕ) → path_of_apk_new_name (xs ++ ending) ≡ Some xs
 front_of xs =
     ap (λ b. if b then Some (take (length (xs ++ ending) - 8) (xs ++ ending)) else None) ((bytes_decides ending (drop (length (xs ++ ending) - 8) (xs ++ ending))).1 (sym (last_eight xs)))
     ∙ ap Some (ap (λ n. take n (xs ++ ending)) (front_len xs) ∙ take-append_seam xs ending)
 
-pub ends_so : (name : List ℕ) → path_beside name ≡ None ⊎ ((front : List ℕ) × (name ≡ front ++ ending))
+pub ends_so : (name : List ℕ) → path_of_apk_new_name name ≡ None ⊎ ((front : List ℕ) × (name ≡ front ++ ending))
 ends_so name = go (ends_with nat_eq name ending) refl
   where
     go : (b : Bool) → ends_with nat_eq name ending ≡ b → ((if b then Some (take (length name - 8) name) else None) ≡ None) ⊎ ((front : List ℕ) × (name ≡ front ++ ending))
@@ -40,10 +40,10 @@ ends_so name = go (ends_with nat_eq name ending) refl
     go false e = inl refl
 
 -- the front of what ends so
-pub found_front : (name front : List ℕ) → path_beside name ≡ Some front → name ≡ front ++ ending
+pub found_front : (name front : List ℕ) → path_of_apk_new_name name ≡ Some front → name ≡ front ++ ending
 found_front name front e = elim (ends_so name) [
   | inl none ↦ absurd (let off : None ≡ Some front = sym none ∙ e in cc)
-  | inr found ↦ found.1 ∙ ap (λ (r : List ℕ). r ++ ending) (let same : Some found.0 ≡ Some front = sym (ap path_beside found.1 ∙ front_of found.0) ∙ e in cc)
+  | inr found ↦ found.1 ∙ ap (λ (r : List ℕ). r ++ ending) (let same : Some found.0 ≡ Some front = sym (ap path_of_apk_new_name found.1 ∙ front_of found.0) ∙ e in cc)
 ]
 
 -- ---- of a path in two parts
@@ -73,7 +73,7 @@ path_ends [] name ys e = (ys, e)
 path_ends (b ∷ folder) name ys e = name_ends (b ∷ folder) name ys e
 
 -- a name that does not end so is that of a path that does not
-pub no_ending : (folder name : List ℕ) → pointwise nat_eq (drop (length name - 8) name) ending ≡ false → path_beside (path_of folder name) ≡ None
+pub no_ending : (folder name : List ℕ) → pointwise nat_eq (drop (length name - 8) name) ending ≡ false → path_of_apk_new_name (path_of folder name) ≡ None
 no_ending folder name h = elim (ends_so (path_of folder name)) [
   | inl none ↦ none
   | inr found ↦ absurd (ends (path_ends folder name found.0 found.1))
@@ -86,17 +86,17 @@ no_ending folder name h = elim (ends_so (path_of folder name)) [
 
 -- and one that does is that of a path that does
 pub some_ending : (folder name front : List ℕ) → pointwise nat_eq (drop (length name - 8) name) ending ≡ true → front ≡ take (length name - 8) name
-    → Some (path_of folder front) ≡ path_beside (path_of folder name)
+    → Some (path_of folder front) ≡ path_of_apk_new_name (path_of folder name)
 some_ending folder name front h f =
     let is : name ≡ front ++ ending = sym (both_parts (length name - 8) name) ∙ (λ j. sym f j ++ (bytes_decides (drop (length name - 8) name) ending).0 h j) in
-    sym (ap path_beside (ap (path_of folder) is ∙ ending_of_path folder front) ∙ front_of (path_of folder front))
+    sym (ap path_of_apk_new_name (ap (path_of folder) is ∙ ending_of_path folder front) ∙ front_of (path_of folder front))
 
 -- ---- it is a name
 
 ending_is : IsEnding ending
 ending_is = record { long = omega arith; ascii = refl; no_zero = refl; one_part = refl }
 
-pub aside_is_name : (name : List ℕ) → IsName name → length (aside_name name) ≤ 1024 → IsName (aside_name name)
+pub aside_is_name : (name : List ℕ) → IsName name → length (apk_new_name name) ≤ 1024 → IsName (apk_new_name name)
 aside_is_name name is short =
-    let n : length (aside_name name) ≡ length name + 8 = length-append name ending in
+    let n : length (apk_new_name name) ≡ length name + 8 = length-append name ending in
     ending_makes_name ending name ending_is is (omega (arith, n, short))

@@ -13,15 +13,15 @@ use Rattle.adb_view.specs.Values.{count_of, entries_in, entry_in, nth}
 use Rattle.path_claim_lists.specs.adb_fields.Repeated.{files_in, list_of, name_of}
 use Rattle.base_core.specs.Sorted.{sorted_by}
 use Rattle.base_core.proofs.Sorting.{Each, stable_in_order}
-use Rattle.change_files.specs.db_core.Members.{Listing, Member, claims_of, is_added, listings_by, listings_from, listings_in_folder, listings_in_folders, member_listing, member_listings}
-use Rattle.path_claim_lists.specs.path_claims.Claims.{PathClaim, claim_cmp, is_member, is_of_path}
+use Rattle.change_files.specs.db_core.Members.{Listing, Member, listings_of_path, is_added, listings_of_member, listings_of_members_from, listings_in_folder, listings_in_folders, member_listing, member_listings}
+use Rattle.path_claim_lists.specs.path_claims.Claims.{PathClaim, claim_cmp, is_owning_member, is_claim_of_path}
 use Rattle.path_claim_lists.proofs.path_claims.ClaimOrder.{claims_total}
 use Rattle.path_claim_lists.proofs.path_claims.Owned.{ties_path}
 use Rattle.path_claim_lists.proofs.path_claims.Places.{no_some, value_or}
 use Rattle.path_claim_lists.proofs.path_claims.Runs.{filter_ext}
 use Rattle.path_claim_lists.proofs.path_claims.Whole.{from_sorted}
 use Rattle.path_claim_lists.proofs.Lists.{found_ext, found_filtered, found_first, found_is, first_of}
-use Rattle.change_files.specs.file_owners.Owners.{claim_by, claims_from, claims_in, owner_of_path}
+use Rattle.change_files.specs.file_owners.Owners.{claim_of_listing, claims_from, claims_in, owner_of_path}
 use Rattle.change_files.specs.FileChange.{FileChange, added_owner_listing, if_member_added, is_claimed, old_entry, old_listings, owner_listing}
 use Rattle.own_core.specs.ClaimEntries.{AreClaimsOf, HasFileAt, IsClaimOf, claim_entry, is_added_at, is_added_if_any, listed_file_at, folders_if_any, is_of_added_owner}
 
@@ -53,11 +53,11 @@ each_in_folders P m place (more v vs) i h = each_both P (listings_in_folder m pl
     (each_in_folders P m place vs (i + 1) (λ k l.
     (let n : i + suc k ≡ i + 1 + k = omega arith in subst (λ j. Each P (listings_in_folder m place j 1 (name_of (nth vs k)) (files_in (nth vs k)))) n (h (suc k) (omega arith)))))
 
-each_from : (P : Listing → Type 0) (ms : List Member) (n : ℕ) → ((k : ℕ) (m : Member) → slice_get ms k ≡ Some m → Each P (listings_by (n + k) m)) → Each P (listings_from n ms)
+each_from : (P : Listing → Type 0) (ms : List Member) (n : ℕ) → ((k : ℕ) (m : Member) → slice_get ms k ≡ Some m → Each P (listings_of_member (n + k) m)) → Each P (listings_of_members_from n ms)
 each_from P [] n h = tt
-each_from P (m ∷ ms) n h = each_both P (listings_by n m) (listings_from (n + 1) ms)
-    (let e : n + 0 ≡ n = omega arith in subst (λ k. Each P (listings_by k m)) e (h 0 m refl))
-    (each_from P ms (n + 1) (λ k x g. (let e : n + suc k ≡ n + 1 + k = omega arith in subst (λ j. Each P (listings_by j x)) e (h (suc k) x g))))
+each_from P (m ∷ ms) n h = each_both P (listings_of_member n m) (listings_of_members_from (n + 1) ms)
+    (let e : n + 0 ≡ n = omega arith in subst (λ k. Each P (listings_of_member k m)) e (h 0 m refl))
+    (each_from P ms (n + 1) (λ k x g. (let e : n + suc k ≡ n + 1 + k = omega arith in subst (λ j. Each P (listings_of_member j x)) e (h (suc k) x g))))
 
 pub each_placed : (members : List Member) → Each (IsPlaced members) (member_listings members)
 unfolding member_listings
@@ -80,7 +80,7 @@ each_placed members = each_from (IsPlaced members) members 0 by_member
           entry = λ t. nth (entries_in (entry_in (nth (entries_in (entry_in m.pkg 1)) (oj t)) 2)) (oi t);
         }
 
-    by_member : (k : ℕ) (m : Member) → slice_get members k ≡ Some m → Each (IsPlaced members) (listings_by (0 + k) m)
+    by_member : (k : ℕ) (m : Member) → slice_get members k ≡ Some m → Each (IsPlaced members) (listings_of_member (0 + k) m)
     by_member k m g = each_in_folders (IsPlaced members) m (0 + k) (entries_in (entry_in m.pkg 1)) 1
         (λ j lj. each_in_folder (IsPlaced members) m (0 + k) (1 + j) (name_of (nth (entries_in (entry_in m.pkg 1)) j)) (entries_in (entry_in (nth (entries_in (entry_in m.pkg 1)) j) 2)) 1 (λ i li. by_file k m g j lj i li))
 
@@ -92,7 +92,7 @@ pub record IsClaimFor (l : Listing) (c : PathClaim) : Type 0 where
   pub folder : c.folder ≡ l.folder
   pub file : c.file ≡ l.file
 
-pub claim_for : (n : ℕ) (l : Listing) → IsClaimFor l (claim_by n l)
+pub claim_for : (n : ℕ) (l : Listing) → IsClaimFor l (claim_of_listing n l)
 claim_for n l = record { path = refl; member = refl; folder = refl; file = refl }
 
 pub entry_of : (members : List Member) (l : Listing) (c : PathClaim) → IsPlaced members l → IsClaimFor l c → claim_entry members c ≡ l.entry
@@ -107,11 +107,11 @@ GoTogether None (Some c) = ⊥
 GoTogether (Some l) None = ⊥
 GoTogether (Some l) (Some c) = IsClaimFor l c
 
-pub found_together : (t : PathClaim → Bool) (s : Listing → Bool) → ((n : ℕ) (l : Listing) → t (claim_by n l) ≡ s l) → (n : ℕ) (ls : List Listing) → GoTogether (find s ls) (find t (claims_from n ls))
+pub found_together : (t : PathClaim → Bool) (s : Listing → Bool) → ((n : ℕ) (l : Listing) → t (claim_of_listing n l) ≡ s l) → (n : ℕ) (ls : List Listing) → GoTogether (find s ls) (find t (claims_from n ls))
 found_together t s h n [] = tt
-found_together t s h n (l ∷ ls) = go (t (claim_by n l)) (s l) (h n l) (found_together t s h (n + 1) ls)
+found_together t s h n (l ∷ ls) = go (t (claim_of_listing n l)) (s l) (h n l) (found_together t s h (n + 1) ls)
   where
-    go : (a b : Bool) → a ≡ b → GoTogether (find s ls) (find t (claims_from (n + 1) ls)) → GoTogether (cond b (Some l) (find s ls)) (cond a (Some (claim_by n l)) (find t (claims_from (n + 1) ls)))
+    go : (a b : Bool) → a ≡ b → GoTogether (find s ls) (find t (claims_from (n + 1) ls)) → GoTogether (cond b (Some l) (find s ls)) (cond a (Some (claim_of_listing n l)) (find t (claims_from (n + 1) ls)))
     go true true e r = claim_for n l
     go true false e r = absurd (true≢false e)
     go false true e r = absurd (true≢false (sym e))
@@ -122,25 +122,25 @@ found_together t s h n (l ∷ ls) = go (t (claim_by n l)) (s l) (h n l) (found_t
 no_claim : List ℕ → PathClaim
 no_claim path = record { path = path; member = 0; folder = 0; file = 0; number = 0 }
 
-pub same_claims : (all : List PathClaim) (path : List ℕ) → filter (is_of_path path) (sorted_by claim_cmp all) ≡ filter (is_of_path path) all
+pub same_claims : (all : List PathClaim) (path : List ℕ) → filter (is_claim_of_path path) (sorted_by claim_cmp all) ≡ filter (is_claim_of_path path) all
 unfolding no_claim
 same_claims all path =
     let z : PathClaim = no_claim path in
-    sym (filter_ext (ties (λ x y. is_lt (claim_cmp x y)) z) (is_of_path path) (ties_path z) (sorted_by claim_cmp all))
-    ∙ (stable_in_order claim_cmp claims_total z all ∙ filter_ext (ties (λ x y. is_lt (claim_cmp x y)) z) (is_of_path path) (ties_path z) all)
+    sym (filter_ext (ties (λ x y. is_lt (claim_cmp x y)) z) (is_claim_of_path path) (ties_path z) (sorted_by claim_cmp all))
+    ∙ (stable_in_order claim_cmp claims_total z all ∙ filter_ext (ties (λ x y. is_lt (claim_cmp x y)) z) (is_claim_of_path path) (ties_path z) all)
 
-pub same_found : (all : List PathClaim) (path : List ℕ) → find (is_of_path path) (sorted_by claim_cmp all) ≡ find (is_of_path path) all
-same_found all path = found_first (is_of_path path) (sorted_by claim_cmp all) ∙ (ap first_of (same_claims all path) ∙ sym (found_first (is_of_path path) all))
+pub same_found : (all : List PathClaim) (path : List ℕ) → find (is_claim_of_path path) (sorted_by claim_cmp all) ≡ find (is_claim_of_path path) all
+same_found all path = found_first (is_claim_of_path path) (sorted_by claim_cmp all) ∙ (ap first_of (same_claims all path) ∙ sym (found_first (is_claim_of_path path) all))
 
-pub same_kept : (p : PathClaim → Bool) (all : List PathClaim) (path : List ℕ) → find (is_of_path path) (filter p (sorted_by claim_cmp all)) ≡ find (is_of_path path) (filter p all)
+pub same_kept : (p : PathClaim → Bool) (all : List PathClaim) (path : List ℕ) → find (is_claim_of_path path) (filter p (sorted_by claim_cmp all)) ≡ find (is_claim_of_path path) (filter p all)
 same_kept p all path =
-    found_filtered (is_of_path path) p (sorted_by claim_cmp all) ∙ (ap (find p) (same_claims all path) ∙ sym (found_filtered (is_of_path path) p all))
+    found_filtered (is_claim_of_path path) p (sorted_by claim_cmp all) ∙ (ap (find p) (same_claims all path) ∙ sym (found_filtered (is_claim_of_path path) p all))
 
 -- ---- a path is listed
 
-pub path_together : (members : List Member) (path : List ℕ) → GoTogether (find (λ l. bytes_eq l.path path) (member_listings members)) (find (is_of_path path) (claims_in members))
+pub path_together : (members : List Member) (path : List ℕ) → GoTogether (find (λ l. bytes_eq l.path path) (member_listings members)) (find (is_claim_of_path path) (claims_in members))
 unfolding claims_in
-path_together members path = found_together (is_of_path path) (λ l. bytes_eq l.path path) (λ n l. refl) 0 (member_listings members)
+path_together members path = found_together (is_claim_of_path path) (λ l. bytes_eq l.path path) (λ n l. refl) 0 (member_listings members)
 
 some_together : (a : Option Listing) (b : Option PathClaim) → GoTogether a b → is_some b ≡ is_some a
 some_together None None h = refl
@@ -157,11 +157,11 @@ any_found p (x ∷ xs) = go (p x) (any_found p xs)
     go false h = h
 
 -- whether a package after the change lists a path
-pub claimed_is : (change : FileChange) (path : List ℕ) → is_some (find (is_of_path path) (sorted_by claim_cmp (claims_in change.members))) ≡ is_claimed change path
+pub claimed_is : (change : FileChange) (path : List ℕ) → is_some (find (is_claim_of_path path) (sorted_by claim_cmp (claims_in change.members))) ≡ is_claimed change path
 unfolding is_claimed
 claimed_is change path =
     ap is_some (same_found (claims_in change.members) path)
-    ∙ (some_together (find (λ l. bytes_eq l.path path) (member_listings change.members)) (find (is_of_path path) (claims_in change.members)) (path_together change.members path)
+    ∙ (some_together (find (λ l. bytes_eq l.path path) (member_listings change.members)) (find (is_claim_of_path path) (claims_in change.members)) (path_together change.members path)
     ∙ any_found (λ l. bytes_eq l.path path) (member_listings change.members))
 
 entry_together : (members : List Member) (s : Listing → Bool) (a : Option Listing) (b : Option PathClaim) → find s (member_listings members) ≡ a → GoTogether a b → option_map (claim_entry members) b ≡ option_map (λ l. l.entry) a
@@ -172,10 +172,10 @@ entry_together members s (Some l) (Some c) e h = ap Some (entry_of members l c (
 
 -- what the packages before say of a path
 pub old_entry_is : (change : FileChange) (members : List Member) → member_listings members ≡ old_listings change → (path : List ℕ)
-    → option_map (claim_entry members) (find (is_of_path path) (claims_in members)) ≡ old_entry change path
+    → option_map (claim_entry members) (find (is_claim_of_path path) (claims_in members)) ≡ old_entry change path
 unfolding old_entry
 old_entry_is change members is path =
-    entry_together members (λ l. bytes_eq l.path path) (find (λ l. bytes_eq l.path path) (member_listings members)) (find (is_of_path path) (claims_in members)) refl (path_together members path)
+    entry_together members (λ l. bytes_eq l.path path) (find (λ l. bytes_eq l.path path) (member_listings members)) (find (is_claim_of_path path) (claims_in members)) refl (path_together members path)
     ∙ ap (λ ls. option_map (λ l. l.entry) (find (λ l. bytes_eq l.path path) ls)) is
 
 -- ---- owners that come
@@ -203,7 +203,7 @@ and_true false = refl
 module _ (members : List Member) (path : List ℕ) where
   -- the listing of the owner at a place, if it comes
   abbrev by_owner : Option ℕ → Listing → Bool
-  by_owner owner l = bytes_eq l.path path && (is_member l.place owner && is_added_at members l.place)
+  by_owner owner l = bytes_eq l.path path && (is_owning_member l.place owner && is_added_at members l.place)
 
   place_comes : (w : ℕ) (l : Listing) → IsPlaced members l → (l.place == w) ≡ true → is_added l.member ≡ is_added_at members w
   place_comes w l h e = sym (ap is_added_if_any h.at) ∙ ap (is_added_at members) (eqb-true l.place w e)
@@ -247,35 +247,35 @@ module _ (members : List Member) (path : List ℕ) where
   owner_listed None = never (by_owner None) (λ l. and-false (bytes_eq l.path path)) (member_listings members)
   owner_listed (Some w) = by_place w (is_added_at members w) refl ∙ ap if_member_added (sym (found_and (λ l. l.place == w) (λ l. bytes_eq l.path path) (member_listings members)))
 
-  claim_test : (c : PathClaim) → (is_of_path path c && is_of_added_owner members c) ≡ (bytes_eq c.path path && (is_member c.member (owner_of_path members path) && is_added_at members c.member))
+  claim_test : (c : PathClaim) → (is_claim_of_path path c && is_of_added_owner members c) ≡ (bytes_eq c.path path && (is_owning_member c.member (owner_of_path members path) && is_added_at members c.member))
   unfolding is_of_added_owner
   claim_test c = go (bytes_eq c.path path) refl
     where
-      go : (b : Bool) → bytes_eq c.path path ≡ b → (b && (is_member c.member (owner_of_path members c.path) && is_added_at members c.member)) ≡ (b && (is_member c.member (owner_of_path members path) && is_added_at members c.member))
-      go true e = ap (λ p. is_member c.member (owner_of_path members p) && is_added_at members c.member) ((bytes_decides c.path path).0 e)
+      go : (b : Bool) → bytes_eq c.path path ≡ b → (b && (is_owning_member c.member (owner_of_path members c.path) && is_added_at members c.member)) ≡ (b && (is_owning_member c.member (owner_of_path members path) && is_added_at members c.member))
+      go true e = ap (λ p. is_owning_member c.member (owner_of_path members p) && is_added_at members c.member) ((bytes_decides c.path path).0 e)
       go false e = refl
 
-  pub coming_together : GoTogether (find (by_owner (owner_of_path members path)) (member_listings members)) (find (is_of_path path) (filter (is_of_added_owner members) (sorted_by claim_cmp (claims_in members))))
+  pub coming_together : GoTogether (find (by_owner (owner_of_path members path)) (member_listings members)) (find (is_claim_of_path path) (filter (is_of_added_owner members) (sorted_by claim_cmp (claims_in members))))
   unfolding claims_in
   coming_together =
       subst (GoTogether (find (by_owner (owner_of_path members path)) (member_listings members)))
       (sym (same_kept (is_of_added_owner members) (claims_from 0 (member_listings members)) path
-      ∙ (found_filtered (is_of_path path) (is_of_added_owner members) (claims_from 0 (member_listings members))
-      ∙ (found_and (is_of_added_owner members) (is_of_path path) (claims_from 0 (member_listings members))
-      ∙ found_ext (λ c. is_of_path path c && is_of_added_owner members c) (λ c. bytes_eq c.path path && (is_member c.member (owner_of_path members path) && is_added_at members c.member)) claim_test (claims_from 0 (member_listings members))))))
-      (found_together (λ c. bytes_eq c.path path && (is_member c.member (owner_of_path members path) && is_added_at members c.member)) (by_owner (owner_of_path members path)) (λ n l. refl) 0 (member_listings members))
+      ∙ (found_filtered (is_claim_of_path path) (is_of_added_owner members) (claims_from 0 (member_listings members))
+      ∙ (found_and (is_of_added_owner members) (is_claim_of_path path) (claims_from 0 (member_listings members))
+      ∙ found_ext (λ c. is_claim_of_path path c && is_of_added_owner members c) (λ c. bytes_eq c.path path && (is_owning_member c.member (owner_of_path members path) && is_added_at members c.member)) claim_test (claims_from 0 (member_listings members))))))
+      (found_together (λ c. bytes_eq c.path path && (is_owning_member c.member (owner_of_path members path) && is_added_at members c.member)) (by_owner (owner_of_path members path)) (λ n l. refl) 0 (member_listings members))
 
 -- the claim of a path's owner that comes, and its listing
-pub coming_is : (change : FileChange) (path : List ℕ) → GoTogether (added_owner_listing change path) (find (is_of_path path) (filter (is_of_added_owner change.members) (sorted_by claim_cmp (claims_in change.members))))
-unfolding owner_listing claims_of
+pub coming_is : (change : FileChange) (path : List ℕ) → GoTogether (added_owner_listing change path) (find (is_claim_of_path path) (filter (is_of_added_owner change.members) (sorted_by claim_cmp (claims_in change.members))))
+unfolding owner_listing listings_of_path
 coming_is change path =
-    subst (λ o. GoTogether o (find (is_of_path path) (filter (is_of_added_owner change.members) (sorted_by claim_cmp (claims_in change.members)))))
+    subst (λ o. GoTogether o (find (is_claim_of_path path) (filter (is_of_added_owner change.members) (sorted_by claim_cmp (claims_in change.members)))))
     (owner_listed change.members path (owner_of_path change.members path)) (coming_together change.members path)
 
 -- such a listing is one of all, and its member comes
 pub coming_placed : (change : FileChange) (path : List ℕ) (l : Listing) → added_owner_listing change path ≡ Some l
     → (find (by_owner change.members path (owner_of_path change.members path)) (member_listings change.members) ≡ Some l) × IsPlaced change.members l
-unfolding owner_listing claims_of
+unfolding owner_listing listings_of_path
 coming_placed change path l e =
     let f = owner_listed change.members path (owner_of_path change.members path) ∙ e in
     (f, (found_is (by_owner change.members path (owner_of_path change.members path)) (IsPlaced change.members) (member_listings change.members) l (each_placed change.members) f).0)
@@ -286,7 +286,7 @@ pub claim_listed : (members : List Member) → All (λ l. IsName l.path) (member
     → slice_get (claims_from n ls) i ≡ Some c → IsClaimOf members c
 claim_listed members named c n i [] p q g = absurd (no_some c g)
 claim_listed members named c n zero (l ∷ ls) p q g =
-    let is : claim_by n l ≡ c = ap (value_or c) g in
+    let is : claim_of_listing n l ≡ c = ap (value_or c) g in
     subst (IsClaimOf members) is (record { member = l.member; at = p.0.at; place = p.0.place; name = q.0 })
 claim_listed members named c n (suc i) (l ∷ ls) p q g = claim_listed members named c (n + 1) i ls p.1 q.1 g
 

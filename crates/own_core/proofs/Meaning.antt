@@ -7,34 +7,34 @@ use Rattle.base_core.specs.Files.{Files}
 use Rattle.base_core.proofs.Rising as Names
 use Rattle.base_core.specs.Sorted.{sorted_by}
 use Rattle.change_files.specs.db_core.Members.{Listing, is_added, member_listings, members_of_kept}
-use Rattle.path_claim_lists.specs.path_claims.Claims.{PathClaim, claim_cmp, is_of_path}
+use Rattle.path_claim_lists.specs.path_claims.Claims.{PathClaim, claim_cmp, is_claim_of_path}
 use Rattle.path_claim_lists.proofs.path_claims.Places.{no_some, value_or}
 use Rattle.path_claim_lists.proofs.Firsts.{found_in, in_found, paths}
 use Rattle.path_claim_lists.proofs.Lists.{found_passes}
 use Rattle.change_files.specs.file_owners.Owners.{claims_in}
 use Rattle.change_files.specs.Fate as Fates
-use Rattle.change_files.specs.Fate.{fate_by, fate_of, goes_aside, goes_in, gives_way, is_guarded}
+use Rattle.change_files.specs.Fate.{fate_with_file_found, fate_of, goes_aside, goes_in, gives_way, is_protected_path}
 use Rattle.change_files.specs.FileChange.{FileChange, added_owner_listing, if_member_added, is_claimed, old_entry, old_listings, owner_listing, was_listed}
-use Rattle.change_files.specs.FilesAfter.{if_aside, if_in, is_changed, is_kept, is_no_longer_listed, is_removed, is_written, aside_claim_at, may_be_kept, path_beside, written_as, written_in}
+use Rattle.change_files.specs.FilesAfter.{if_written_as_apk_new, if_written_in_place, is_modified_from_entry, is_modified_file_kept, is_no_longer_listed, is_removed, is_written, apk_new_listing_at, is_modified_config_to_keep, path_of_apk_new_name, listing_written_under_name, listing_written_in_place}
 use Rattle.std.specs.Option.{option_or}
 use Rattle.change_files.specs.NamesAfter.{added_paths}
-use Rattle.change_files.specs.PlanLists.{aside_of, kept_of, old_paths, removals_of}
+use Rattle.change_files.specs.PlanLists.{paths_with_apk_new_file, kept_paths_of, old_paths, removals_of}
 use Rattle.change_files.proofs.Coming.{no_owner}
 use Rattle.own_core.specs.ClaimEntries.{claim_entry, is_of_added_owner}
-use Rattle.own_core.specs.Fates.{claim_fate, is_fate, is_flag}
-use Rattle.own_core.specs.Going.{is_file_kept, is_beside, is_path_left_over}
+use Rattle.own_core.specs.Fates.{claim_fate, are_equal_fates, are_equal_flags}
+use Rattle.own_core.specs.Going.{is_file_kept, is_apk_new_name_of, is_path_left_over}
 use Rattle.own_core.proofs.Listings.{GoTogether, IsClaimFor, coming_is, coming_placed, entry_of, old_entry_is, same_found}
 use Rattle.own_core.proofs.NamesOnce.{found_kept, keep_if, kept_rises, same_names}
 
 -- ---- what a path of the program's claims is
 
-pub is_there : (cs : List PathClaim) (q : List ℕ) → Names.IsIn q (paths cs) → is_some (find (is_of_path q) cs) ≡ true
+pub is_there : (cs : List PathClaim) (q : List ℕ) → Names.IsIn q (paths cs) → is_some (find (is_claim_of_path q) cs) ≡ true
 is_there cs q here = ap is_some (found_in cs q here).1
 
-pub there_is : (cs : List PathClaim) (q : List ℕ) → is_some (find (is_of_path q) cs) ≡ true → Names.IsIn q (paths cs)
-there_is cs q h = go (find (is_of_path q) cs) refl h
+pub there_is : (cs : List PathClaim) (q : List ℕ) → is_some (find (is_claim_of_path q) cs) ≡ true → Names.IsIn q (paths cs)
+there_is cs q h = go (find (is_claim_of_path q) cs) refl h
   where
-    go : (o : Option PathClaim) → find (is_of_path q) cs ≡ o → is_some o ≡ true → Names.IsIn q (paths cs)
+    go : (o : Option PathClaim) → find (is_claim_of_path q) cs ≡ o → is_some o ≡ true → Names.IsIn q (paths cs)
     go None e h = absurd (true≢false (sym h))
     go (Some c) e h = in_found cs q c e
 
@@ -101,23 +101,23 @@ in_coming_paths change q h = go (added_owner_listing change q) refl h
 pub same_fate : (change : FileChange) (files : Files) (q : List ℕ) (l : Listing) (c : PathClaim) → added_owner_listing change q ≡ Some l → IsClaimFor l c → claim_fate change c (files c.path) ≡ fate_of change files l
 unfolding fate_of
 same_fate change files q l c e h =
-    (λ j. fate_by change (h.path j) (claim_entry change.members c) (files (h.path j)))
-    ∙ ap (λ entry. fate_by change l.path entry (files l.path)) (entry_of change.members l c (coming_placed change q l e).1 h)
+    (λ j. fate_with_file_found change (h.path j) (claim_entry change.members c) (files (h.path j)))
+    ∙ ap (λ entry. fate_with_file_found change l.path entry (files l.path)) (entry_of change.members l c (coming_placed change q l e).1 h)
 
 module _ (change : FileChange) (files : Files) (coming : List PathClaim) (up : Names.Rises (paths coming))
-    (each : (q : List ℕ) → find (is_of_path q) coming ≡ find (is_of_path q) (filter (is_of_added_owner change.members) (sorted_by claim_cmp (claims_in change.members)))) where
-  pub together : (q : List ℕ) → GoTogether (added_owner_listing change q) (find (is_of_path q) coming)
+    (each : (q : List ℕ) → find (is_claim_of_path q) coming ≡ find (is_claim_of_path q) (filter (is_of_added_owner change.members) (sorted_by claim_cmp (claims_in change.members)))) where
+  pub together : (q : List ℕ) → GoTogether (added_owner_listing change q) (find (is_claim_of_path q) coming)
   together q = subst (GoTogether (added_owner_listing change q)) (sym (each q)) (coming_is change q)
 
   abbrev pub with_fate : Fates.AddedFileFate → List PathClaim
-  with_fate f = filter (λ c. is_fate f (claim_fate change c (files c.path))) coming
+  with_fate f = filter (λ c. are_equal_fates f (claim_fate change c (files c.path))) coming
 
-  aside_test : (l : Listing) (f : Fates.AddedFileFate) → is_some (if_aside l f) ≡ is_fate goes_aside f
+  aside_test : (l : Listing) (f : Fates.AddedFileFate) → is_some (if_written_as_apk_new l f) ≡ are_equal_fates goes_aside f
   aside_test l goes_in = refl
   aside_test l gives_way = refl
   aside_test l goes_aside = refl
 
-  in_test : (l : Listing) (f : Fates.AddedFileFate) → is_some (if_in l f) ≡ is_fate goes_in f
+  in_test : (l : Listing) (f : Fates.AddedFileFate) → is_some (if_written_in_place l f) ≡ are_equal_fates goes_in f
   in_test l goes_in = refl
   in_test l gives_way = refl
   in_test l goes_aside = refl
@@ -126,47 +126,47 @@ module _ (change : FileChange) (files : Files) (coming : List PathClaim) (up : N
   some_if true c = refl
   some_if false c = refl
 
-  pub laid_is : (q : List ℕ) → is_some (aside_claim_at change files q) ≡ is_some (find (is_of_path q) (with_fate goes_aside))
-  laid_is q = go (added_owner_listing change q) (find (is_of_path q) coming) refl refl (together q) ∙ sym (ap is_some (found_kept (λ c. is_fate goes_aside (claim_fate change c (files c.path))) coming up q))
+  pub laid_is : (q : List ℕ) → is_some (apk_new_listing_at change files q) ≡ is_some (find (is_claim_of_path q) (with_fate goes_aside))
+  laid_is q = go (added_owner_listing change q) (find (is_claim_of_path q) coming) refl refl (together q) ∙ sym (ap is_some (found_kept (λ c. are_equal_fates goes_aside (claim_fate change c (files c.path))) coming up q))
     where
-      go : (a : Option Listing) (b : Option PathClaim) → added_owner_listing change q ≡ a → find (is_of_path q) coming ≡ b → GoTogether a b
-          → is_some (option_and_then (λ l. if_aside l (fate_of change files l)) a) ≡ is_some (keep_if (λ c. is_fate goes_aside (claim_fate change c (files c.path))) b)
+      go : (a : Option Listing) (b : Option PathClaim) → added_owner_listing change q ≡ a → find (is_claim_of_path q) coming ≡ b → GoTogether a b
+          → is_some (option_and_then (λ l. if_written_as_apk_new l (fate_of change files l)) a) ≡ is_some (keep_if (λ c. are_equal_fates goes_aside (claim_fate change c (files c.path))) b)
       go None None e f h = refl
       go None (Some c) e f h = absurd h
       go (Some l) None e f h = absurd h
       go (Some l) (Some c) e f h =
-          aside_test l (fate_of change files l) ∙ (ap (is_fate goes_aside) (sym (same_fate change files q l c e h)) ∙ sym (some_if (is_fate goes_aside (claim_fate change c (files c.path))) c))
+          aside_test l (fate_of change files l) ∙ (ap (are_equal_fates goes_aside) (sym (same_fate change files q l c e h)) ∙ sym (some_if (are_equal_fates goes_aside (claim_fate change c (files c.path))) c))
 
-  pub in_is : (q : List ℕ) → is_some (written_in change files q) ≡ is_some (find (is_of_path q) (with_fate goes_in))
-  in_is q = go (added_owner_listing change q) (find (is_of_path q) coming) refl refl (together q) ∙ sym (ap is_some (found_kept (λ c. is_fate goes_in (claim_fate change c (files c.path))) coming up q))
+  pub in_is : (q : List ℕ) → is_some (listing_written_in_place change files q) ≡ is_some (find (is_claim_of_path q) (with_fate goes_in))
+  in_is q = go (added_owner_listing change q) (find (is_claim_of_path q) coming) refl refl (together q) ∙ sym (ap is_some (found_kept (λ c. are_equal_fates goes_in (claim_fate change c (files c.path))) coming up q))
     where
-      go : (a : Option Listing) (b : Option PathClaim) → added_owner_listing change q ≡ a → find (is_of_path q) coming ≡ b → GoTogether a b
-          → is_some (option_and_then (λ l. if_in l (fate_of change files l)) a) ≡ is_some (keep_if (λ c. is_fate goes_in (claim_fate change c (files c.path))) b)
+      go : (a : Option Listing) (b : Option PathClaim) → added_owner_listing change q ≡ a → find (is_claim_of_path q) coming ≡ b → GoTogether a b
+          → is_some (option_and_then (λ l. if_written_in_place l (fate_of change files l)) a) ≡ is_some (keep_if (λ c. are_equal_fates goes_in (claim_fate change c (files c.path))) b)
       go None None e f h = refl
       go None (Some c) e f h = absurd h
       go (Some l) None e f h = absurd h
       go (Some l) (Some c) e f h =
-          in_test l (fate_of change files l) ∙ (ap (is_fate goes_in) (sym (same_fate change files q l c e h)) ∙ sym (some_if (is_fate goes_in (claim_fate change c (files c.path))) c))
+          in_test l (fate_of change files l) ∙ (ap (are_equal_fates goes_in) (sym (same_fate change files q l c e h)) ∙ sym (some_if (are_equal_fates goes_in (claim_fate change c (files c.path))) c))
 
-  laid_comes : (q : List ℕ) → is_some (aside_claim_at change files q) ≡ true → is_some (added_owner_listing change q) ≡ true
+  laid_comes : (q : List ℕ) → is_some (apk_new_listing_at change files q) ≡ true → is_some (added_owner_listing change q) ≡ true
   laid_comes q h = go (added_owner_listing change q) h
     where
-      go : (a : Option Listing) → is_some (option_and_then (λ l. if_aside l (fate_of change files l)) a) ≡ true → is_some a ≡ true
+      go : (a : Option Listing) → is_some (option_and_then (λ l. if_written_as_apk_new l (fate_of change files l)) a) ≡ true → is_some a ≡ true
       go None h = h
       go (Some l) h = refl
 
   -- the paths beside which a file is laid
-  pub aside_are : paths (with_fate goes_aside) ≡ aside_of change files
-  unfolding aside_of
-  aside_are = same_names (λ path. is_some (aside_claim_at change files path)) (paths (with_fate goes_aside)) (added_paths change.members)
-      (kept_rises (λ c. is_fate goes_aside (claim_fate change c (files c.path))) coming up)
+  pub aside_are : paths (with_fate goes_aside) ≡ paths_with_apk_new_file change files
+  unfolding paths_with_apk_new_file
+  aside_are = same_names (λ path. is_some (apk_new_listing_at change files path)) (paths (with_fate goes_aside)) (added_paths change.members)
+      (kept_rises (λ c. are_equal_fates goes_aside (claim_fate change c (files c.path))) coming up)
       (λ q here. (let t = laid_is q ∙ is_there (with_fate goes_aside) q here in (in_coming_paths change q (laid_comes q t), t)))
       (λ q here t. there_is (with_fate goes_aside) q (sym (laid_is q) ∙ t))
 
-  pub beside_is : (name : List ℕ) → is_beside (with_fate goes_aside) name ≡ is_some (option_and_then (aside_claim_at change files) (path_beside name))
-  beside_is name = go (path_beside name)
+  pub beside_is : (name : List ℕ) → is_apk_new_name_of (with_fate goes_aside) name ≡ is_some (option_and_then (apk_new_listing_at change files) (path_of_apk_new_name name))
+  beside_is name = go (path_of_apk_new_name name)
     where
-      go : (p : Option (List ℕ)) → is_some (option_and_then (λ path. find (is_of_path path) (with_fate goes_aside)) p) ≡ is_some (option_and_then (aside_claim_at change files) p)
+      go : (p : Option (List ℕ)) → is_some (option_and_then (λ path. find (is_claim_of_path path) (with_fate goes_aside)) p) ≡ is_some (option_and_then (apk_new_listing_at change files) p)
       go None = refl
       go (Some q) = sym (laid_is q)
 
@@ -180,21 +180,21 @@ no_claims (l ∷ ls) q h = go (bytes_eq l.path q) (no_claims ls q) h
     go true rest h = absurd (true≢false h)
     go false rest h = rest h
 
-pub left_is : (change : FileChange) (files : Files) (q : List ℕ) (b : Bool) → b ≡ is_some (option_and_then (aside_claim_at change files) (path_beside q))
+pub left_is : (change : FileChange) (files : Files) (q : List ℕ) (b : Bool) → b ≡ is_some (option_and_then (apk_new_listing_at change files) (path_of_apk_new_name q))
     → (not (is_claimed change q) && not (is_written change files q)) ≡ (not (is_claimed change q) && not b)
-unfolding written_as
+unfolding listing_written_under_name
 left_is change files q b e = go (is_claimed change q) refl
   where
-    go : (c : Bool) → is_claimed change q ≡ c → (not c && not (is_some (option_or (written_in change files q) (option_and_then (aside_claim_at change files) (path_beside q))))) ≡ (not c && not b)
+    go : (c : Bool) → is_claimed change q ≡ c → (not c && not (is_some (option_or (listing_written_in_place change files q) (option_and_then (apk_new_listing_at change files) (path_of_apk_new_name q))))) ≡ (not c && not b)
     go true h = refl
     go false h =
-        ap (λ o. not (is_some (option_or (option_and_then (λ l. if_in l (fate_of change files l)) o) (option_and_then (aside_claim_at change files) (path_beside q))))) (no_owner change q h)
+        ap (λ o. not (is_some (option_or (option_and_then (λ l. if_written_in_place l (fate_of change files l)) o) (option_and_then (apk_new_listing_at change files) (path_of_apk_new_name q))))) (no_owner change q h)
         ∙ ap not (sym e)
 
 module _ (change : FileChange) (files : Files) (before : List PathClaim) (up : Names.Rises (paths before))
-    (each : (q : List ℕ) → find (is_of_path q) before ≡ find (is_of_path q) (sorted_by claim_cmp (claims_in (members_of_kept change.old))))
-    (asides : List PathClaim) (beside : (q : List ℕ) → is_beside asides q ≡ is_some (option_and_then (aside_claim_at change files) (path_beside q))) where
-  pub entries_are : (q : List ℕ) → option_map (claim_entry (members_of_kept change.old)) (find (is_of_path q) before) ≡ old_entry change q
+    (each : (q : List ℕ) → find (is_claim_of_path q) before ≡ find (is_claim_of_path q) (sorted_by claim_cmp (claims_in (members_of_kept change.old))))
+    (asides : List PathClaim) (beside : (q : List ℕ) → is_apk_new_name_of asides q ≡ is_some (option_and_then (apk_new_listing_at change files) (path_of_apk_new_name q))) where
+  pub entries_are : (q : List ℕ) → option_map (claim_entry (members_of_kept change.old)) (find (is_claim_of_path q) before) ≡ old_entry change q
   unfolding old_listings
   entries_are q = ap (option_map (claim_entry (members_of_kept change.old))) (each q ∙ same_found (claims_in (members_of_kept change.old)) q) ∙ old_entry_is change (members_of_kept change.old) refl q
 
@@ -202,35 +202,35 @@ module _ (change : FileChange) (files : Files) (before : List PathClaim) (up : N
   left_over = filter (λ c. is_path_left_over change asides c.path) before
 
   abbrev pub going : Bool → List PathClaim
-  going stays = filter (λ c. is_flag stays (is_file_kept change c (files c.path))) left_over
+  going stays = filter (λ c. are_equal_flags stays (is_file_kept change c (files c.path))) left_over
 
   -- by the test of a path that is listed
-  pub going_is : (stays : Bool) (q : List ℕ) → is_some (find (is_of_path q) (going stays))
-      ≡ (is_no_longer_listed change files q && is_flag stays (may_be_kept change q (files q) (old_entry change q)))
+  pub going_is : (stays : Bool) (q : List ℕ) → is_some (find (is_claim_of_path q) (going stays))
+      ≡ (is_no_longer_listed change files q && are_equal_flags stays (is_modified_config_to_keep change q (files q) (old_entry change q)))
   going_is stays q =
-      ap is_some (found_kept (λ c. is_flag stays (is_file_kept change c (files c.path))) left_over (kept_rises (λ c. is_path_left_over change asides c.path) before up) q)
-      ∙ (ap (λ o. is_some (keep_if (λ c. is_flag stays (is_file_kept change c (files c.path))) o)) (found_kept (λ c. is_path_left_over change asides c.path) before up q)
-      ∙ (go (find (is_of_path q) before) refl
-      ∙ (λ j. (is_some (entries_are q j) && (not (is_claimed change q) && not (is_written change files q))) && is_flag stays (may_be_kept change q (files q) (entries_are q j)))))
+      ap is_some (found_kept (λ c. are_equal_flags stays (is_file_kept change c (files c.path))) left_over (kept_rises (λ c. is_path_left_over change asides c.path) before up) q)
+      ∙ (ap (λ o. is_some (keep_if (λ c. are_equal_flags stays (is_file_kept change c (files c.path))) o)) (found_kept (λ c. is_path_left_over change asides c.path) before up q)
+      ∙ (go (find (is_claim_of_path q) before) refl
+      ∙ (λ j. (is_some (entries_are q j) && (not (is_claimed change q) && not (is_written change files q))) && are_equal_flags stays (is_modified_config_to_keep change q (files q) (entries_are q j)))))
     where
-      by_tests : (a s : Bool) (c : PathClaim) → is_some (keep_if (λ c. is_flag stays (is_file_kept change c (files c.path))) (cond a (Some c) None)) ≡ (a && is_flag stays (is_file_kept change c (files c.path)))
-      by_tests true s c = some_cond (is_flag stays (is_file_kept change c (files c.path))) c
+      by_tests : (a s : Bool) (c : PathClaim) → is_some (keep_if (λ c. are_equal_flags stays (is_file_kept change c (files c.path))) (cond a (Some c) None)) ≡ (a && are_equal_flags stays (is_file_kept change c (files c.path)))
+      by_tests true s c = some_cond (are_equal_flags stays (is_file_kept change c (files c.path))) c
         where
           some_cond : (t : Bool) (c : PathClaim) → is_some (cond t (Some c) None) ≡ t
           some_cond true c = refl
           some_cond false c = refl
       by_tests false s c = refl
 
-      go : (o : Option PathClaim) → find (is_of_path q) before ≡ o → is_some (keep_if (λ c. is_flag stays (is_file_kept change c (files c.path))) (keep_if (λ c. is_path_left_over change asides c.path) o))
-          ≡ ((is_some (option_map (claim_entry (members_of_kept change.old)) o) && (not (is_claimed change q) && not (is_written change files q))) && is_flag stays (may_be_kept change q (files q) (option_map (claim_entry (members_of_kept change.old)) o)))
+      go : (o : Option PathClaim) → find (is_claim_of_path q) before ≡ o → is_some (keep_if (λ c. are_equal_flags stays (is_file_kept change c (files c.path))) (keep_if (λ c. is_path_left_over change asides c.path) o))
+          ≡ ((is_some (option_map (claim_entry (members_of_kept change.old)) o) && (not (is_claimed change q) && not (is_written change files q))) && are_equal_flags stays (is_modified_config_to_keep change q (files q) (option_map (claim_entry (members_of_kept change.old)) o)))
       go None e = refl
       go (Some c) e =
-          let is : c.path ≡ q = (bytes_decides c.path q).0 (found_passes (is_of_path q) before c e) in
+          let is : c.path ≡ q = (bytes_decides c.path q).0 (found_passes (is_claim_of_path q) before c e) in
           by_tests (is_path_left_over change asides c.path) true c
-          ∙ (λ j. left c is j && is_flag stays (is_guarded (is j) && (not change.purge && is_changed (claim_entry (members_of_kept change.old) c) (files (is j)))))
+          ∙ (λ j. left c is j && are_equal_flags stays (is_protected_path (is j) && (not change.purge && is_modified_from_entry (claim_entry (members_of_kept change.old) c) (files (is j)))))
         where
           left : (c : PathClaim) (is : c.path ≡ q) → is_path_left_over change asides c.path ≡ (not (is_claimed change q) && not (is_written change files q))
-          left c is = ap (is_path_left_over change asides) is ∙ sym (left_is change files q (is_beside asides q) (beside q))
+          left c is = ap (is_path_left_over change asides) is ∙ sym (left_is change files q (is_apk_new_name_of asides q) (beside q))
 
   old_path : (q : List ℕ) → is_no_longer_listed change files q ≡ true → Names.IsIn q (old_paths change)
   unfolding old_entry
@@ -248,16 +248,16 @@ module _ (change : FileChange) (files : Files) (before : List PathClaim) (up : N
   front true b h = refl
   front false b h = absurd (true≢false (sym h))
 
-  pub kept_are : paths (going true) ≡ kept_of change files
-  unfolding kept_of is_kept
-  kept_are = same_names (is_kept change files) (paths (going true)) (old_paths change)
-      (kept_rises (λ c. is_flag true (is_file_kept change c (files c.path))) left_over (kept_rises (λ c. is_path_left_over change asides c.path) before up))
+  pub kept_are : paths (going true) ≡ kept_paths_of change files
+  unfolding kept_paths_of is_modified_file_kept
+  kept_are = same_names (is_modified_file_kept change files) (paths (going true)) (old_paths change)
+      (kept_rises (λ c. are_equal_flags true (is_file_kept change c (files c.path))) left_over (kept_rises (λ c. is_path_left_over change asides c.path) before up))
       (λ q here. (let t = sym (going_is true q) ∙ is_there (going true) q here in (old_path q (front (is_no_longer_listed change files q) _ t), t)))
       (λ q here t. there_is (going true) q (going_is true q ∙ t))
 
   pub removals_are : paths (going false) ≡ removals_of change files
   unfolding removals_of is_removed
   removals_are = same_names (is_removed change files) (paths (going false)) (old_paths change)
-      (kept_rises (λ c. is_flag false (is_file_kept change c (files c.path))) left_over (kept_rises (λ c. is_path_left_over change asides c.path) before up))
+      (kept_rises (λ c. are_equal_flags false (is_file_kept change c (files c.path))) left_over (kept_rises (λ c. is_path_left_over change asides c.path) before up))
       (λ q here. (let t = sym (going_is false q) ∙ is_there (going false) q here in (old_path q (front (is_no_longer_listed change files q) _ t), t)))
       (λ q here t. there_is (going false) q (going_is false q ∙ t))

@@ -15,19 +15,19 @@ use Rattle.base_core.proofs.Booleans.{or_swap}
 use Rattle.base_core.proofs.AtName.{either_way}
 use Rattle.change_files.specs.db_core.Members.{Listing, Member, is_added, member_listings, members_of_kept}
 use Rattle.change_files.specs.db_core.Seen.{members_of}
-use Rattle.path_claim_lists.specs.path_claims.Claims.{PathClaim, claim_cmp, is_of_path}
-use Rattle.path_claim_lists.specs.Once.{HasFirsts}
+use Rattle.path_claim_lists.specs.path_claims.Claims.{PathClaim, claim_cmp, is_claim_of_path}
+use Rattle.path_claim_lists.specs.Once.{HasFirstClaimOfEachPath}
 use Rattle.change_files.specs.file_owners.Owners.{claims_from, claims_in}
-use Rattle.change_files.specs.Fate.{aside_name}
+use Rattle.change_files.specs.Fate.{apk_new_name}
 use Rattle.change_files.specs.FileChange.{old_entry, was_listed}
-use Rattle.change_files.specs.FilesAfter.{database_name, is_kept, is_no_longer_listed, aside_claim_at, may_be_kept, path_beside, world_name}
+use Rattle.change_files.specs.FilesAfter.{database_name, is_modified_file_kept, is_no_longer_listed, apk_new_listing_at, is_modified_config_to_keep, path_of_apk_new_name, world_name}
 use Rattle.change_files.specs.NamesAfter.{added_paths, is_released, counts_as_written, name_change}
 use Rattle.own_core.specs.ClaimEntries.{claim_entry, is_added_at, is_added_if_any, is_of_added_owner}
 use Rattle.own_core.specs.Fates.{claim_fate}
-use Rattle.own_core.specs.Found.{said_of}
-use Rattle.own_core.specs.Going.{is_file_kept, is_beside}
-use Rattle.own_core.specs.Parts.{AreFilesByFate, asides_of, kept_of_parts, left_over_claims_by}
-use Rattle.own_core.specs.Sides.{HasClaims, claims_after, claims_before, file_change_of}
+use Rattle.own_core.specs.Found.{results_for_claims}
+use Rattle.own_core.specs.Going.{is_file_kept, is_apk_new_name_of}
+use Rattle.own_core.specs.Parts.{AreFilesByFate, apk_new_claims_of, kept_claims_of, left_over_claims_of}
+use Rattle.own_core.specs.Sides.{HasClaimsOfPackages, claims_after, claims_before, file_change_of}
 use Rattle.own_core.specs.declared.claim_change.ClaimChange.{ClaimChange}
 use Rattle.own_core.specs.declared.parts.Parts.{Parts}
 use Rattle.own_core.proofs.ChangeClaims.{claimed_after}
@@ -84,41 +84,41 @@ any_coming members t cs e =
 
 -- ---- names beside
 
-same_aside : (p q : List ℕ) → bytes_eq (p ++ ending) (aside_name q) ≡ bytes_eq p q
-same_aside p q = go (bytes_eq (p ++ ending) (aside_name q)) (bytes_eq p q) refl refl
+same_aside : (p q : List ℕ) → bytes_eq (p ++ ending) (apk_new_name q) ≡ bytes_eq p q
+same_aside p q = go (bytes_eq (p ++ ending) (apk_new_name q)) (bytes_eq p q) refl refl
   where
     one : p ++ ending ≡ q ++ ending → p ≡ q
-    one e = let same : Some p ≡ Some q = sym (front_of p) ∙ (ap path_beside e ∙ front_of q) in cc
+    one e = let same : Some p ≡ Some q = sym (front_of p) ∙ (ap path_of_apk_new_name e ∙ front_of q) in cc
 
-    go : (s t : Bool) → bytes_eq (p ++ ending) (aside_name q) ≡ s → bytes_eq p q ≡ t → s ≡ t
+    go : (s t : Bool) → bytes_eq (p ++ ending) (apk_new_name q) ≡ s → bytes_eq p q ≡ t → s ≡ t
     go true true e f = refl
-    go true false e f = absurd (true≢false (sym ((bytes_decides p q).1 (one ((bytes_decides (p ++ ending) (aside_name q)).0 e))) ∙ f))
-    go false true e f = absurd (true≢false (sym ((bytes_decides (p ++ ending) (aside_name q)).1 (ap (λ (r : List ℕ). r ++ ending) ((bytes_decides p q).0 f))) ∙ e))
+    go true false e f = absurd (true≢false (sym ((bytes_decides p q).1 (one ((bytes_decides (p ++ ending) (apk_new_name q)).0 e))) ∙ f))
+    go false true e f = absurd (true≢false (sym ((bytes_decides (p ++ ending) (apk_new_name q)).1 (ap (λ (r : List ℕ). r ++ ending) ((bytes_decides p q).0 f))) ∙ e))
     go false false e f = refl
 
-any_aside : (p : List ℕ) (cs : List PathClaim) → list_any (bytes_eq (p ++ ending)) (map (λ c. aside_name c.path) cs) ≡ is_some (find (is_of_path p) cs)
+any_aside : (p : List ℕ) (cs : List PathClaim) → list_any (bytes_eq (p ++ ending)) (map (λ c. apk_new_name c.path) cs) ≡ is_some (find (is_claim_of_path p) cs)
 any_aside p [] = refl
 any_aside p (c ∷ cs) = go (bytes_eq c.path p) (same_aside p c.path ∙ either_way p c.path) (any_aside p cs)
   where
-    go : (b : Bool) → bytes_eq (p ++ ending) (aside_name c.path) ≡ b → list_any (bytes_eq (p ++ ending)) (map (λ c. aside_name c.path) cs) ≡ is_some (find (is_of_path p) cs)
-        → (bytes_eq (p ++ ending) (aside_name c.path) || list_any (bytes_eq (p ++ ending)) (map (λ c. aside_name c.path) cs)) ≡ is_some (cond b (Some c) (find (is_of_path p) cs))
-    go true e h = ap (λ t. t || list_any (bytes_eq (p ++ ending)) (map (λ c. aside_name c.path) cs)) e
-    go false e h = ap (λ t. t || list_any (bytes_eq (p ++ ending)) (map (λ c. aside_name c.path) cs)) e ∙ h
+    go : (b : Bool) → bytes_eq (p ++ ending) (apk_new_name c.path) ≡ b → list_any (bytes_eq (p ++ ending)) (map (λ c. apk_new_name c.path) cs) ≡ is_some (find (is_claim_of_path p) cs)
+        → (bytes_eq (p ++ ending) (apk_new_name c.path) || list_any (bytes_eq (p ++ ending)) (map (λ c. apk_new_name c.path) cs)) ≡ is_some (cond b (Some c) (find (is_claim_of_path p) cs))
+    go true e h = ap (λ t. t || list_any (bytes_eq (p ++ ending)) (map (λ c. apk_new_name c.path) cs)) e
+    go false e h = ap (λ t. t || list_any (bytes_eq (p ++ ending)) (map (λ c. apk_new_name c.path) cs)) e ∙ h
 
-none_aside : (name : List ℕ) → path_beside name ≡ None → (cs : List PathClaim) → list_any (bytes_eq name) (map (λ c. aside_name c.path) cs) ≡ false
+none_aside : (name : List ℕ) → path_of_apk_new_name name ≡ None → (cs : List PathClaim) → list_any (bytes_eq name) (map (λ c. apk_new_name c.path) cs) ≡ false
 none_aside name h [] = refl
-none_aside name h (c ∷ cs) = go (bytes_eq name (aside_name c.path)) refl (none_aside name h cs)
+none_aside name h (c ∷ cs) = go (bytes_eq name (apk_new_name c.path)) refl (none_aside name h cs)
   where
-    go : (b : Bool) → bytes_eq name (aside_name c.path) ≡ b → list_any (bytes_eq name) (map (λ c. aside_name c.path) cs) ≡ false → (b || list_any (bytes_eq name) (map (λ c. aside_name c.path) cs)) ≡ false
-    go true e rest = absurd (let off : None ≡ Some c.path = sym h ∙ (ap path_beside ((bytes_decides name (aside_name c.path)).0 e) ∙ front_of c.path) in cc)
+    go : (b : Bool) → bytes_eq name (apk_new_name c.path) ≡ b → list_any (bytes_eq name) (map (λ c. apk_new_name c.path) cs) ≡ false → (b || list_any (bytes_eq name) (map (λ c. apk_new_name c.path) cs)) ≡ false
+    go true e rest = absurd (let off : None ≡ Some c.path = sym h ∙ (ap path_of_apk_new_name ((bytes_decides name (apk_new_name c.path)).0 e) ∙ front_of c.path) in cc)
     go false e rest = rest
 
-pub any_beside : (name : List ℕ) (cs : List PathClaim) → list_any (bytes_eq name) (map (λ c. aside_name c.path) cs) ≡ is_beside cs name
-any_beside name cs = go (path_beside name) refl
+pub any_beside : (name : List ℕ) (cs : List PathClaim) → list_any (bytes_eq name) (map (λ c. apk_new_name c.path) cs) ≡ is_apk_new_name_of cs name
+any_beside name cs = go (path_of_apk_new_name name) refl
   where
-    go : (o : Option (List ℕ)) → path_beside name ≡ o → list_any (bytes_eq name) (map (λ c. aside_name c.path) cs) ≡ is_some (option_and_then (λ path. find (is_of_path path) cs) o)
+    go : (o : Option (List ℕ)) → path_of_apk_new_name name ≡ o → list_any (bytes_eq name) (map (λ c. apk_new_name c.path) cs) ≡ is_some (option_and_then (λ path. find (is_claim_of_path path) cs) o)
     go None e = none_aside name e cs
-    go (Some p) e = ap (λ n. list_any (bytes_eq n) (map (λ c. aside_name c.path) cs)) (found_front name p e) ∙ any_aside p cs
+    go (Some p) e = ap (λ n. list_any (bytes_eq n) (map (λ c. apk_new_name c.path) cs)) (found_front name p e) ∙ any_aside p cs
 
 -- ---- the change of names
 
@@ -130,38 +130,38 @@ abbrev pub all_written : ClaimChange → List (List ℕ) → List (List ℕ)
 all_written change besides =
     (database_name ∷ world_name ∷ []) ++ map (λ c. c.path) (filter (λ c. is_added_at (members_of change.members.now) c.member) (claims_after change)) ++ besides
 
-module _ (change : ClaimChange) (claims : HasClaims change) (coming : List PathClaim) (firsts : HasFirsts (filter (is_of_added_owner (members_of change.members.now)) (claims_after change)) coming)
+module _ (change : ClaimChange) (claims : HasClaimsOfPackages change) (coming : List PathClaim) (firsts : HasFirstClaimOfEachPath (filter (is_of_added_owner (members_of change.members.now)) (claims_after change)) coming)
     (parts : Parts) (history : List TreeState) (are : AreFilesByFate change history coming parts) (files : Files)
-    (fates_are : are.fates ≡ said_of (claim_fate (file_change_of change)) files coming) (stays_are : are.stays ≡ said_of (is_file_kept (file_change_of change)) files (left_over_claims_by change (asides_of parts))) where
-  written_is : (name : List ℕ) → list_any (bytes_eq name) (sorted_by bytes_cmp (all_written change (map (λ c. aside_name c.path) (asides_of parts)))) ≡ counts_as_written (file_change_of change) files name
+    (fates_are : are.fates ≡ results_for_claims (claim_fate (file_change_of change)) files coming) (stays_are : are.stays ≡ results_for_claims (is_file_kept (file_change_of change)) files (left_over_claims_of change (apk_new_claims_of parts))) where
+  written_is : (name : List ℕ) → list_any (bytes_eq name) (sorted_by bytes_cmp (all_written change (map (λ c. apk_new_name c.path) (apk_new_claims_of parts)))) ≡ counts_as_written (file_change_of change) files name
   unfolding counts_as_written
   written_is name =
-      any_sorted bytes_cmp (bytes_eq name) (all_written change (map (λ c. aside_name c.path) (asides_of parts)))
-      ∙ (any_both (bytes_eq name) ((database_name ∷ world_name ∷ []) ++ map (λ c. c.path) (filter (λ c. is_added_at (members_of change.members.now) c.member) (claims_after change))) (map (λ c. aside_name c.path) (asides_of parts))
+      any_sorted bytes_cmp (bytes_eq name) (all_written change (map (λ c. apk_new_name c.path) (apk_new_claims_of parts)))
+      ∙ (any_both (bytes_eq name) ((database_name ∷ world_name ∷ []) ++ map (λ c. c.path) (filter (λ c. is_added_at (members_of change.members.now) c.member) (claims_after change))) (map (λ c. apk_new_name c.path) (apk_new_claims_of parts))
       ∙ (λ j. front j || back j))
     where
       front : list_any (bytes_eq name) ((database_name ∷ world_name ∷ []) ++ map (λ c. c.path) (filter (λ c. is_added_at (members_of change.members.now) c.member) (claims_after change)))
           ≡ list_any (bytes_eq name) (database_name ∷ world_name ∷ added_paths (members_of change.members.now))
       front = ap (λ r. bytes_eq name database_name || (bytes_eq name world_name || r)) (any_coming (members_of change.members.now) (bytes_eq name) (claims_after change) claims.after)
 
-      back : list_any (bytes_eq name) (map (λ c. aside_name c.path) (asides_of parts)) ≡ is_some (option_and_then (aside_claim_at (file_change_of change) files) (path_beside name))
-      back = any_beside name (asides_of parts) ∙ beside_parts change claims coming firsts parts history are files fates_are stays_are name
+      back : list_any (bytes_eq name) (map (λ c. apk_new_name c.path) (apk_new_claims_of parts)) ≡ is_some (option_and_then (apk_new_listing_at (file_change_of change) files) (path_of_apk_new_name name))
+      back = any_beside name (apk_new_claims_of parts) ∙ beside_parts change claims coming firsts parts history are files fates_are stays_are name
 
-  goes_is : (name : List ℕ) → (is_some (find (is_of_path name) (claims_before change))
-      && not (is_some (find (is_of_path name) (claims_after change)) || is_some (find (is_of_path name) (kept_of_parts parts)))) ≡ is_released (file_change_of change) files name
-  unfolding is_released is_kept
+  goes_is : (name : List ℕ) → (is_some (find (is_claim_of_path name) (claims_before change))
+      && not (is_some (find (is_claim_of_path name) (claims_after change)) || is_some (find (is_claim_of_path name) (kept_claims_of parts)))) ≡ is_released (file_change_of change) files name
+  unfolding is_released is_modified_file_kept
   goes_is name =
       (λ j. listed j && not (claimed_after change claims name j || kept j))
     where
-      listed : is_some (find (is_of_path name) (claims_before change)) ≡ was_listed (file_change_of change) name
-      listed = sym (mapped_some (claim_entry (members_of_kept (file_change_of change).old)) (find (is_of_path name) (claims_before change)))
-          ∙ ap is_some (entries_are (file_change_of change) files (claims_before change) (before_up change claims coming firsts parts history are files fates_are stays_are) (before_each change claims coming firsts parts history are files fates_are stays_are) (asides_of parts) (beside_parts change claims coming firsts parts history are files fates_are stays_are) name)
+      listed : is_some (find (is_claim_of_path name) (claims_before change)) ≡ was_listed (file_change_of change) name
+      listed = sym (mapped_some (claim_entry (members_of_kept (file_change_of change).old)) (find (is_claim_of_path name) (claims_before change)))
+          ∙ ap is_some (entries_are (file_change_of change) files (claims_before change) (before_up change claims coming firsts parts history are files fates_are stays_are) (before_each change claims coming firsts parts history are files fates_are stays_are) (apk_new_claims_of parts) (beside_parts change claims coming firsts parts history are files fates_are stays_are) name)
 
-      kept : is_some (find (is_of_path name) (kept_of_parts parts)) ≡ (is_no_longer_listed (file_change_of change) files name && may_be_kept (file_change_of change) name (files name) (old_entry (file_change_of change) name))
-      kept = ap (λ cs. is_some (find (is_of_path name) cs)) (kept_parts change claims coming firsts parts history are files fates_are stays_are)
-          ∙ going_is (file_change_of change) files (claims_before change) (before_up change claims coming firsts parts history are files fates_are stays_are) (before_each change claims coming firsts parts history are files fates_are stays_are) (asides_of parts) (beside_parts change claims coming firsts parts history are files fates_are stays_are) true name
+      kept : is_some (find (is_claim_of_path name) (kept_claims_of parts)) ≡ (is_no_longer_listed (file_change_of change) files name && is_modified_config_to_keep (file_change_of change) name (files name) (old_entry (file_change_of change) name))
+      kept = ap (λ cs. is_some (find (is_claim_of_path name) cs)) (kept_parts change claims coming firsts parts history are files fates_are stays_are)
+          ∙ going_is (file_change_of change) files (claims_before change) (before_up change claims coming firsts parts history are files fates_are stays_are) (before_each change claims coming firsts parts history are files fates_are stays_are) (apk_new_claims_of parts) (beside_parts change claims coming firsts parts history are files fates_are stays_are) true name
 
-  pub same_names : (counts lets : List ℕ → Bool) → ((name : List ℕ) → counts name ≡ list_any (bytes_eq name) (sorted_by bytes_cmp (all_written change (map (λ c. aside_name c.path) (asides_of parts)))))
-      → ((name : List ℕ) → lets name ≡ (is_some (find (is_of_path name) (claims_before change)) && not (is_some (find (is_of_path name) (claims_after change)) || is_some (find (is_of_path name) (kept_of_parts parts)))))
+  pub same_names : (counts lets : List ℕ → Bool) → ((name : List ℕ) → counts name ≡ list_any (bytes_eq name) (sorted_by bytes_cmp (all_written change (map (λ c. apk_new_name c.path) (apk_new_claims_of parts)))))
+      → ((name : List ℕ) → lets name ≡ (is_some (find (is_claim_of_path name) (claims_before change)) && not (is_some (find (is_claim_of_path name) (claims_after change)) || is_some (find (is_claim_of_path name) (kept_claims_of parts)))))
       → record { counts_as_written = counts; does_release = lets } ≡ name_change (file_change_of change) files
   same_names counts lets c l = (λ j. record { counts_as_written = λ name. (c name ∙ written_is name) j; does_release = λ name. (l name ∙ goes_is name) j })

@@ -9,10 +9,10 @@ use Rattle.base_core.proofs.Rising as Names
 use Rattle.base_core.specs.ByteOrder.{bytes_cmp, precedes}
 use Rattle.base_core.proofs.Sorting as Sorting
 use Rattle.base_core.proofs.Orderings.{is_less}
-use Rattle.path_claim_lists.specs.path_claims.Claims.{PathClaim, is_of_path}
+use Rattle.path_claim_lists.specs.path_claims.Claims.{PathClaim, is_claim_of_path}
 use Rattle.path_claim_lists.proofs.Firsts.{paths}
 use Rattle.path_claim_lists.proofs.PathOrder.{behind}
-use Rattle.change_files.specs.PlanLists.{names_in_order, unless_next, without_repeats}
+use Rattle.change_files.specs.PlanLists.{sorted_distinct_names, prepend_unless_repeated, without_repeats}
 use Rattle.change_files.proofs.InOrder.{from_with, in_sorted, from_sorted, from_unless, from_once, in_order, from_order, order_rises, filter_rises}
 
 -- ---- each once
@@ -26,7 +26,7 @@ once_rises : (xs : List (List ℕ)) → Sorting.Rises (λ x y. is_lt (bytes_cmp 
 once_rises [] up = tt
 once_rises (x ∷ xs) up = go (without_repeats xs) (once_rises xs up.1) (λ q here. not_below x xs up.0 q (from_once q xs here))
   where
-    go : (w : List (List ℕ)) → Names.Rises w → ((q : List ℕ) → Names.IsIn q w → precedes q x ≡ false) → Names.Rises (unless_next x w)
+    go : (w : List (List ℕ)) → Names.Rises w → ((q : List ℕ) → Names.IsIn q w → precedes q x ≡ false) → Names.Rises (prepend_unless_repeated x w)
     go [] r low = (λ q here. absurd here, tt)
     go (y ∷ ys) r low = by_eq (bytes_eq x y) refl
       where
@@ -67,10 +67,10 @@ passing_in p q (x ∷ xs) here h = go (p x) refl (λ old. passing_in p q xs old 
 
 -- a rising list of just the names that pass
 pub same_names : (p : List ℕ → Bool) (ys xs : List (List ℕ)) → Names.Rises ys → ((q : List ℕ) → Names.IsIn q ys → Names.IsIn q xs × (p q ≡ true))
-    → ((q : List ℕ) → Names.IsIn q xs → p q ≡ true → Names.IsIn q ys) → ys ≡ filter p (names_in_order xs)
-same_names p ys xs r there back = Names.same_list ys (filter p (names_in_order xs)) r (filter_rises p (names_in_order xs) (order_rises xs))
-    (λ q here. passing_in p q (names_in_order xs) (in_order q xs (there q here).0) (there q here).1)
-    (λ q here. back q (from_order q xs (in_passing p q (names_in_order xs) here).0) (in_passing p q (names_in_order xs) here).1)
+    → ((q : List ℕ) → Names.IsIn q xs → p q ≡ true → Names.IsIn q ys) → ys ≡ filter p (sorted_distinct_names xs)
+same_names p ys xs r there back = Names.same_list ys (filter p (sorted_distinct_names xs)) r (filter_rises p (sorted_distinct_names xs) (order_rises xs))
+    (λ q here. passing_in p q (sorted_distinct_names xs) (in_order q xs (there q here).0) (there q here).1)
+    (λ q here. back q (from_order q xs (in_passing p q (sorted_distinct_names xs) here).0) (in_passing p q (sorted_distinct_names xs) here).1)
 
 -- ---- claims whose paths rise
 
@@ -78,7 +78,7 @@ abbrev pub keep_if : (PathClaim → Bool) → Option PathClaim → Option PathCl
 keep_if t None = None
 keep_if t (Some c) = cond (t c) (Some c) None
 
-path_above : (c : PathClaim) (cs : List PathClaim) → Names.Rises (c.path ∷ paths cs) → (q : List ℕ) → bytes_eq c.path q ≡ true → (t : PathClaim → Bool) → find (is_of_path q) (filter t cs) ≡ None
+path_above : (c : PathClaim) (cs : List PathClaim) → Names.Rises (c.path ∷ paths cs) → (q : List ℕ) → bytes_eq c.path q ≡ true → (t : PathClaim → Bool) → find (is_claim_of_path q) (filter t cs) ≡ None
 path_above c [] r q e t = refl
 path_above c (d ∷ cs) r q e t = go (t d) (path_above c cs (λ z here. r.0 z (inr here), r.1.1) q e t)
   where
@@ -95,18 +95,18 @@ path_above c (d ∷ cs) r q e t = go (t d) (path_above c cs (λ z here. r.0 z (i
         go true f = absurd (itself (ap (bytes_cmp c.path) (is ∙ sym ((bytes_decides d.path q).0 f)) ∙ r.0 d.path (inl refl)))
         go false f = refl
 
-    go : (b : Bool) → find (is_of_path q) (filter t cs) ≡ None → find (is_of_path q) (cond b (d ∷ filter t cs) (filter t cs)) ≡ None
-    go true rest = ap (λ a. cond a (Some d) (find (is_of_path q) (filter t cs))) apart ∙ rest
+    go : (b : Bool) → find (is_claim_of_path q) (filter t cs) ≡ None → find (is_claim_of_path q) (cond b (d ∷ filter t cs) (filter t cs)) ≡ None
+    go true rest = ap (λ a. cond a (Some d) (find (is_claim_of_path q) (filter t cs))) apart ∙ rest
     go false rest = rest
 
-pub found_kept : (t : PathClaim → Bool) (cs : List PathClaim) → Names.Rises (paths cs) → (q : List ℕ) → find (is_of_path q) (filter t cs) ≡ keep_if t (find (is_of_path q) cs)
+pub found_kept : (t : PathClaim → Bool) (cs : List PathClaim) → Names.Rises (paths cs) → (q : List ℕ) → find (is_claim_of_path q) (filter t cs) ≡ keep_if t (find (is_claim_of_path q) cs)
 found_kept t [] r q = refl
 found_kept t (c ∷ cs) r q = go (t c) (bytes_eq c.path q) refl refl (found_kept t cs r.1 q)
   where
-    go : (a b : Bool) → t c ≡ a → bytes_eq c.path q ≡ b → find (is_of_path q) (filter t cs) ≡ keep_if t (find (is_of_path q) cs)
-        → find (is_of_path q) (cond a (c ∷ filter t cs) (filter t cs)) ≡ keep_if t (cond b (Some c) (find (is_of_path q) cs))
-    go true true e f rest = ap (λ x. cond x (Some c) (find (is_of_path q) (filter t cs))) f ∙ sym (ap (λ x. cond x (Some c) None) e)
-    go true false e f rest = ap (λ x. cond x (Some c) (find (is_of_path q) (filter t cs))) f ∙ rest
+    go : (a b : Bool) → t c ≡ a → bytes_eq c.path q ≡ b → find (is_claim_of_path q) (filter t cs) ≡ keep_if t (find (is_claim_of_path q) cs)
+        → find (is_claim_of_path q) (cond a (c ∷ filter t cs) (filter t cs)) ≡ keep_if t (cond b (Some c) (find (is_claim_of_path q) cs))
+    go true true e f rest = ap (λ x. cond x (Some c) (find (is_claim_of_path q) (filter t cs))) f ∙ sym (ap (λ x. cond x (Some c) None) e)
+    go true false e f rest = ap (λ x. cond x (Some c) (find (is_claim_of_path q) (filter t cs))) f ∙ rest
     go false true e f rest = path_above c cs r q f t ∙ sym (ap (λ x. cond x (Some c) None) e)
     go false false e f rest = rest
 

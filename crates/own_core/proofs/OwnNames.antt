@@ -5,25 +5,25 @@ use Rattle.std.proofs.lemmas.Bool.{and_parts, leb-true}
 use Rattle.change_files.specs.adb_schema.Reserved.{is_reserved}
 use Rattle.adb_view.specs.Plain.{Plain}
 use Rattle.base_core.specs.Files.{Files}
-use Rattle.base_core.specs.Listed.{IsRising}
+use Rattle.base_core.specs.Listed.{AreSortedDistinctNames}
 use Rattle.base_core.specs.Name.{IsName}
 use Rattle.base_core.specs.Tree.{TreeState}
 use Rattle.base_core.proofs.Rising as Names
 use Rattle.change_files.specs.db_core.Members.{Listing, member_listings, member_of_kept}
 use Rattle.change_files.specs.file_guard.AsListed.{is_as_listed}
-use Rattle.change_files.specs.Fate.{agrees_with_old, aside_name, fate_beside, fate_by, fate_of, gives_way, goes_aside, goes_in, is_as_old, is_guarded}
+use Rattle.change_files.specs.Fate.{agrees_with_old_entry, apk_new_name, fate_of_protected_file, fate_with_file_found, fate_of, gives_way, goes_aside, goes_in, is_as_old_entry_lists, is_protected_path}
 use Rattle.change_files.specs.FileChange.{FileChange, is_claimed, old_entry, old_listings}
-use Rattle.change_files.specs.FilesAfter.{is_removed, is_written, aside_claim_at, written_as}
-use Rattle.change_files.specs.PlanLists.{FileWrite, file_writes_of, first_reserved, removals_of}
-use Rattle.change_files.specs.Touched.{IsWriteOf}
+use Rattle.change_files.specs.FilesAfter.{is_removed, is_written, apk_new_listing_at, listing_written_under_name}
+use Rattle.change_files.specs.PlanLists.{FileWrite, file_writes_of, first_reserved_path, removals_of}
+use Rattle.change_files.specs.Touched.{IsPlannedWrite}
 use Rattle.change_files.proofs.LeftOver.{removed_unreserved}
 use Rattle.change_files.proofs.Lists.{IsOneOf, contains_from_one}
 use Rattle.change_files.proofs.OwnedFiles.{aside_found, coming_listed, in_old_paths, written_is}
 use Rattle.change_files.proofs.PlanNames.{removals_hold, removals_rise, writes_are, writes_hold, writes_rise, written_or_removed}
 use Rattle.change_files.proofs.Reserved.{written_unreserved}
 use Rattle.change_files.proofs.Untouched.{removed_is}
-use Rattle.own_core.specs.Fates.{is_free_beside}
-use Rattle.own_core.specs.Planned.{ArePlanLists, HasOwnNames, HasSources, IsOfAddedFile, IsOpenName, IsPlanFor, IsPlanOf}
+use Rattle.own_core.specs.Fates.{is_apk_new_name_free}
+use Rattle.own_core.specs.Planned.{ArePlanLists, HasDisjointUnreservedNames, HasSources, IsOfAddedFile, IsUnreservedName, IsPlanFor, IsPlanOf}
 use Rattle.own_core.specs.WritesSeen.{writes_in}
 use Rattle.own_core.specs.declared.fault.PlanFault.{PlanFault}
 use Rattle.own_core.specs.declared.planning.FilePlan.{FilePlan}
@@ -56,18 +56,18 @@ by_room true false e = absurd (cc)
 by_room false b e = absurd (cc)
 
 -- a file goes aside only if its name there is free
-pub aside_free : (change : FileChange) (path : List ℕ) (entry : Plain) (found : Option (List ℕ)) → fate_by change path entry found ≡ goes_aside → is_free_beside change path ≡ true
+pub aside_free : (change : FileChange) (path : List ℕ) (entry : Plain) (found : Option (List ℕ)) → fate_with_file_found change path entry found ≡ goes_aside → is_apk_new_name_free change path ≡ true
 aside_free change path entry None e = absurd (cc)
-aside_free change path entry (Some bytes) e = by_tests (not (is_guarded path) || (is_as_listed entry bytes || is_as_old (old_entry change path) bytes)) e
+aside_free change path entry (Some bytes) e = by_tests (not (is_protected_path path) || (is_as_listed entry bytes || is_as_old_entry_lists (old_entry change path) bytes)) e
   where
-    by_tests : (b : Bool) → (if b then goes_in else fate_beside change path entry) ≡ goes_aside → is_free_beside change path ≡ true
+    by_tests : (b : Bool) → (if b then goes_in else fate_of_protected_file change path entry) ≡ goes_aside → is_apk_new_name_free change path ≡ true
     by_tests true e = absurd (cc)
-    by_tests false e = by_room (not (agrees_with_old (old_entry change path) entry)) (is_free_beside change path) e
+    by_tests false e = by_room (not (agrees_with_old_entry (old_entry change path) entry)) (is_apk_new_name_free change path) e
 
-pub is_short : (change : FileChange) (path : List ℕ) → is_free_beside change path ≡ true → length (aside_name path) ≤ 1024
-is_short change path room = leb-true (length (aside_name path)) 1024 (and_parts (nat_le (length (aside_name path)) 1024) (not (is_claimed change (aside_name path))) room).0
+pub is_short : (change : FileChange) (path : List ℕ) → is_apk_new_name_free change path ≡ true → length (apk_new_name path) ≤ 1024
+is_short change path room = leb-true (length (apk_new_name path)) 1024 (and_parts (nat_le (length (apk_new_name path)) 1024) (not (is_claimed change (apk_new_name path))) room).0
 
-named_beside : (change : FileChange) (files : Files) (l : Listing) → IsName l.path → aside_claim_at change files l.path ≡ Some l → IsName (aside_name l.path)
+named_beside : (change : FileChange) (files : Files) (l : Listing) → IsName l.path → apk_new_listing_at change files l.path ≡ Some l → IsName (apk_new_name l.path)
 unfolding fate_of
 named_beside change files l named laid =
     let (comes, aside) = aside_found change files l.path l laid in
@@ -77,8 +77,8 @@ named_beside change files l named laid =
 
 module _ (change : FileChange) (files : Files) (old_named : All (λ l. IsName l.path) (member_listings (map member_of_kept change.old)))
     (old_free : All (λ l. is_reserved l.path ≡ false) (member_listings (map member_of_kept change.old))) (named : All (λ l. IsName l.path) (member_listings change.members))
-    (none : first_reserved change.members ≡ None) where
-  removed_open : (path : List ℕ) → is_removed change files path ≡ true → IsOpenName path
+    (none : first_reserved_path change.members ≡ None) where
+  removed_open : (path : List ℕ) → is_removed change files path ≡ true → IsUnreservedName path
   unfolding old_listings
   removed_open path removed =
       let (left, gone) = removed_is change files path removed in
@@ -87,12 +87,12 @@ module _ (change : FileChange) (files : Files) (old_named : All (λ l. IsName l.
         unreserved = removed_unreserved change files path old_free removed;
       }
 
-  listing_named : (name : List ℕ) (l : Listing) → written_as change files name ≡ Some l → IsName l.path
+  listing_named : (name : List ℕ) (l : Listing) → listing_written_under_name change files name ≡ Some l → IsName l.path
   listing_named name l e =
       let (path, comes, listed, owner) = coming_listed change l.path l (written_is change files name l e).comes in
       one_holds (λ l. IsName l.path) (member_listings change.members) named l listed
 
-  written_open : (name : List ℕ) (l : Listing) → written_as change files name ≡ Some l → IsOpenName name
+  written_open : (name : List ℕ) (l : Listing) → listing_written_under_name change files name ≡ Some l → IsUnreservedName name
   written_open name l e = record {
     named = elim (written_is change files name l e).under [
       | inl own ↦ subst IsName (sym own.0) (listing_named name l e)
@@ -101,29 +101,29 @@ module _ (change : FileChange) (files : Files) (old_named : All (λ l. IsName l.
     unreserved = written_unreserved change files name l none e;
   }
 
-  some_written : (name : List ℕ) → is_written change files name ≡ true → IsOpenName name
-  some_written name h = go (written_as change files name) refl h
+  some_written : (name : List ℕ) → is_written change files name ≡ true → IsUnreservedName name
+  some_written name h = go (listing_written_under_name change files name) refl h
     where
-      go : (o : Option Listing) → written_as change files name ≡ o → is_some o ≡ true → IsOpenName name
+      go : (o : Option Listing) → listing_written_under_name change files name ≡ o → is_some o ≡ true → IsUnreservedName name
       go None e h = absurd (true≢false (sym h))
       go (Some l) e h = written_open name l e
 
   -- each write is of a file that comes
-  write_source : (w : FileWrite) → IsWriteOf change files w → IsOfAddedFile change.members w
+  write_source : (w : FileWrite) → IsPlannedWrite change files w → IsOfAddedFile change.members w
   write_source w is =
       let comes = (written_is change files w.name is.listing is.written).comes in
       let placed = (coming_placed change is.listing.path is.listing comes).1 in
       let (path, coming, listed, owner) = coming_listed change is.listing.path is.listing comes in
       subst (IsOfAddedFile change.members) (sym is.shown) (record { member = is.listing.member; at = placed.at; comes = coming; place = placed.place })
 
-  pub own_names : (plan : FilePlan) → ArePlanLists change files plan → HasOwnNames plan
+  pub own_names : (plan : FilePlan) → ArePlanLists change files plan → HasDisjointUnreservedNames plan
   own_names plan lists =
       let same : map (λ w. w.name) (writes_in plan.writes) ≡ map (λ w. w.name) (file_writes_of change files) = ap (map (λ w. w.name)) lists.writes in
       record {
-        removals = subst (All IsOpenName) (sym lists.removals) (all_names IsOpenName (removals_of change files) (λ path here. removed_open path ((removals_hold change files path).0 (Names.contains_from_in _ path here))));
-        writes = subst (All IsOpenName) (sym same) (all_names IsOpenName _ (λ name here. some_written name ((writes_hold change files name).0 (Names.contains_from_in _ name here))));
-        removals_rise = subst IsRising (sym lists.removals) (removals_rise change files);
-        writes_rise = subst IsRising (sym same) (writes_rise change files);
+        removals = subst (All IsUnreservedName) (sym lists.removals) (all_names IsUnreservedName (removals_of change files) (λ path here. removed_open path ((removals_hold change files path).0 (Names.contains_from_in _ path here))));
+        writes = subst (All IsUnreservedName) (sym same) (all_names IsUnreservedName _ (λ name here. some_written name ((writes_hold change files name).0 (Names.contains_from_in _ name here))));
+        removals_rise = subst AreSortedDistinctNames (sym lists.removals) (removals_rise change files);
+        writes_rise = subst AreSortedDistinctNames (sym same) (writes_rise change files);
         apart = λ name gone written.
             written_or_removed change files name ((writes_hold change files name).0 (subst (λ names. Contains names name) same written)) ((removals_hold change files name).0 (subst (λ names. Contains names name) lists.removals gone));
       }
@@ -135,7 +135,7 @@ module _ (change : FileChange) (files : Files) (old_named : All (λ l. IsName l.
 
 pub names_if_planned : (change : FileChange) (h : List TreeState) (r : Result FilePlan PlanFault) → All (λ l. IsName l.path) (member_listings (map member_of_kept change.old))
     → All (λ l. is_reserved l.path ≡ false) (member_listings (map member_of_kept change.old)) → All (λ l. IsName l.path) (member_listings change.members)
-    → IfOk r (IsPlanOf change h) → IfOk r (IsPlanFor change.members) → IfOk r HasOwnNames
+    → IfOk r (IsPlanOf change h) → IfOk r (IsPlanFor change.members) → IfOk r HasDisjointUnreservedNames
 names_if_planned change h (Ok plan) old_named old_free named is for = own_names change is.files old_named old_free named for.allowed plan is.lists
 names_if_planned change h (Err fault) old_named old_free named is for = tt
 

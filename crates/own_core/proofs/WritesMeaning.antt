@@ -13,26 +13,26 @@ use Rattle.base_core.specs.Sorted.{sorted_by, with_element}
 use Rattle.base_core.proofs.Sorting as Sorting
 use Rattle.base_core.proofs.Sorting.{Each, sort_seen, sorted_up, stable}
 use Rattle.change_files.specs.db_core.Members.{Listing}
-use Rattle.path_claim_lists.specs.path_claims.Claims.{PathClaim, claim_cmp, is_of_path}
+use Rattle.path_claim_lists.specs.path_claims.Claims.{PathClaim, claim_cmp, is_claim_of_path}
 use Rattle.path_claim_lists.proofs.Firsts.{found_in, paths}
 use Rattle.path_claim_lists.proofs.Lists.{found_is}
 use Rattle.path_claim_lists.proofs.PathOrder.{behind, less_apart}
 use Rattle.change_files.specs.file_owners.Owners.{claims_in}
 use Rattle.change_files.specs.Fate as Fates
-use Rattle.change_files.specs.Fate.{agrees_with_old, aside_name, fate_by, fate_of, goes_aside, goes_in, gives_way, is_as_old, is_guarded}
+use Rattle.change_files.specs.Fate.{agrees_with_old_entry, apk_new_name, fate_with_file_found, fate_of, goes_aside, goes_in, gives_way, is_as_old_entry_lists, is_protected_path}
 use Rattle.change_files.specs.file_guard.AsListed.{is_as_listed}
 use Rattle.change_files.specs.FileChange.{FileChange, added_owner_listing, is_claimed, old_entry}
-use Rattle.change_files.specs.FilesAfter.{if_aside, if_in, aside_claim_at, path_beside, written_as, written_in}
+use Rattle.change_files.specs.FilesAfter.{if_written_as_apk_new, if_written_in_place, apk_new_listing_at, path_of_apk_new_name, listing_written_under_name, listing_written_in_place}
 use Rattle.std.specs.Option.{option_or}
 use Rattle.base_core.proofs.Orderings.{is_less}
 use Rattle.base_core.proofs.Listed.{in_both}
 use Rattle.change_files.specs.NamesAfter.{added_paths}
-use Rattle.change_files.specs.PlanLists.{FileWrite, file_writes_of, names_in_order, write_to}
+use Rattle.change_files.specs.PlanLists.{FileWrite, file_writes_of, sorted_distinct_names, write_to}
 use Rattle.change_files.proofs.InOrder.{from_with, in_sorted, from_sorted}
 use Rattle.change_files.proofs.Coming.{no_owner}
 use Rattle.own_core.specs.ClaimEntries.{claim_entry, is_of_added_owner}
-use Rattle.own_core.specs.Fates.{claim_fate, is_fate}
-use Rattle.own_core.specs.WritesSeen.{aside_write, claim_write, write_by, write_cmp}
+use Rattle.own_core.specs.Fates.{claim_fate, are_equal_fates}
+use Rattle.own_core.specs.WritesSeen.{apk_new_write, claim_write, write_of_claim_under, write_cmp}
 use Rattle.own_core.proofs.Endings.{found_front, front_of}
 use Rattle.own_core.proofs.Listings.{GoTogether, IsClaimFor}
 use Rattle.own_core.proofs.Meaning.{in_coming_paths, in_is, is_there, laid_is, same_fate, there_is, together, with_fate}
@@ -114,9 +114,9 @@ names_of_in : (cs : List PathClaim) → write_names (map claim_write cs) ≡ pat
 names_of_in [] = refl
 names_of_in (c ∷ cs) = ap (λ r. c.path ∷ r) (names_of_in cs)
 
-names_of_beside : (cs : List PathClaim) → write_names (map aside_write cs) ≡ map aside_name (paths cs)
+names_of_beside : (cs : List PathClaim) → write_names (map apk_new_write cs) ≡ map apk_new_name (paths cs)
 names_of_beside [] = refl
-names_of_beside (c ∷ cs) = ap (λ r. aside_name c.path ∷ r) (names_of_beside cs)
+names_of_beside (c ∷ cs) = ap (λ r. apk_new_name c.path ∷ r) (names_of_beside cs)
 
 names_both : (xs ys : List FileWrite) → write_names (xs ++ ys) ≡ write_names xs ++ write_names ys
 names_both [] ys = refl
@@ -129,19 +129,19 @@ both_in q (x ∷ xs) ys (inl (inl is)) = inl is
 both_in q (x ∷ xs) ys (inl (inr old)) = inr (both_in q xs ys (inl old))
 both_in q (x ∷ xs) ys (inr b) = inr (both_in q xs ys (inr b))
 
-in_aside : (q : List ℕ) (xs : List (List ℕ)) → Names.IsIn q (map aside_name xs) → (p : List ℕ) × (q ≡ aside_name p) × Names.IsIn p xs
+in_aside : (q : List ℕ) (xs : List (List ℕ)) → Names.IsIn q (map apk_new_name xs) → (p : List ℕ) × (q ≡ apk_new_name p) × Names.IsIn p xs
 in_aside q [] here = absurd here
 in_aside q (x ∷ xs) (inl is) = (x, is, inl refl)
 in_aside q (x ∷ xs) (inr old) = let f = in_aside q xs old in (f.0, f.1, inr f.2)
 
-aside_in : (p : List ℕ) (xs : List (List ℕ)) → Names.IsIn p xs → Names.IsIn (aside_name p) (map aside_name xs)
+aside_in : (p : List ℕ) (xs : List (List ℕ)) → Names.IsIn p xs → Names.IsIn (apk_new_name p) (map apk_new_name xs)
 aside_in p [] here = here
-aside_in p (x ∷ xs) (inl is) = inl (ap aside_name is)
+aside_in p (x ∷ xs) (inl is) = inl (ap apk_new_name is)
 aside_in p (x ∷ xs) (inr old) = inr (aside_in p xs old)
 
 -- a name beside is that of one path
-one_aside : (p q : List ℕ) → aside_name p ≡ aside_name q → p ≡ q
-one_aside p q e = let same : Some p ≡ Some q = sym (front_of p) ∙ (ap path_beside e ∙ front_of q) in cc
+one_aside : (p q : List ℕ) → apk_new_name p ≡ apk_new_name q → p ≡ q
+one_aside p q e = let same : Some p ≡ Some q = sym (front_of p) ∙ (ap path_of_apk_new_name e ∙ front_of q) in cc
 
 rising_apart : (xs : List (List ℕ)) → Names.Rises xs → Distinct xs
 rising_apart [] r = tt
@@ -150,9 +150,9 @@ rising_apart (x ∷ xs) r = (λ here. itself x (r.0 x here), rising_apart xs r.1
     itself : (x : List ℕ) → bytes_cmp x x ≡ Less → ⊥
     itself x less = true≢false (sym (ap is_lt less) ∙ (Sorting.ranks bytes_cmp nat_list_cmp_total).one_way x x (ap is_lt less))
 
-aside_apart : (xs : List (List ℕ)) → Distinct xs → Distinct (map aside_name xs)
+aside_apart : (xs : List (List ℕ)) → Distinct xs → Distinct (map apk_new_name xs)
 aside_apart [] d = tt
-aside_apart (x ∷ xs) d = (λ here. (let f = in_aside (aside_name x) xs here in d.0 (subst (λ p. Names.IsIn p xs) (sym (one_aside x f.0 f.1)) f.2)), aside_apart xs d.1)
+aside_apart (x ∷ xs) d = (λ here. (let f = in_aside (apk_new_name x) xs here in d.0 (subst (λ p. Names.IsIn p xs) (sym (one_aside x f.0 f.1)) f.2)), aside_apart xs d.1)
 
 pub both_apart : (xs ys : List (List ℕ)) → Distinct xs → Distinct ys → ((q : List ℕ) → Names.IsIn q xs → Names.IsIn q ys → ⊥) → Distinct (xs ++ ys)
 both_apart [] ys d e n = e
@@ -160,15 +160,15 @@ both_apart (x ∷ xs) ys d e n = (λ here. elim (in_both x xs ys here) [ inl a �
 
 -- over any tree: claimed paths and names beside that are not
 pub writes_rise : (change : FileChange) (ins asides : List PathClaim) → Names.Rises (paths ins) → Names.Rises (paths asides)
-    → ((q : List ℕ) → Names.IsIn q (paths ins) → is_claimed change q ≡ true) → ((q : List ℕ) → Names.IsIn q (paths asides) → is_claimed change (aside_name q) ≡ false)
-    → Names.Rises (write_names (sorted_by write_cmp (map claim_write ins ++ map aside_write asides)))
+    → ((q : List ℕ) → Names.IsIn q (paths ins) → is_claimed change q ≡ true) → ((q : List ℕ) → Names.IsIn q (paths asides) → is_claimed change (apk_new_name q) ≡ false)
+    → Names.Rises (write_names (sorted_by write_cmp (map claim_write ins ++ map apk_new_write asides)))
 writes_rise change ins asides a b claimed free =
-    subst Names.Rises (sym (names_sorted (map claim_write ins ++ map aside_write asides)))
-    (sorted_rises (write_names (map claim_write ins ++ map aside_write asides))
-    (subst Distinct (sym (names_both (map claim_write ins) (map aside_write asides) ∙ (λ j. names_of_in ins j ++ names_of_beside asides j)))
-    (both_apart (paths ins) (map aside_name (paths asides)) (rising_apart (paths ins) a) (aside_apart (paths asides) (rising_apart (paths asides) b)) apart)))
+    subst Names.Rises (sym (names_sorted (map claim_write ins ++ map apk_new_write asides)))
+    (sorted_rises (write_names (map claim_write ins ++ map apk_new_write asides))
+    (subst Distinct (sym (names_both (map claim_write ins) (map apk_new_write asides) ∙ (λ j. names_of_in ins j ++ names_of_beside asides j)))
+    (both_apart (paths ins) (map apk_new_name (paths asides)) (rising_apart (paths ins) a) (aside_apart (paths asides) (rising_apart (paths asides) b)) apart)))
   where
-    apart : (q : List ℕ) → Names.IsIn q (paths ins) → Names.IsIn q (map aside_name (paths asides)) → ⊥
+    apart : (q : List ℕ) → Names.IsIn q (paths ins) → Names.IsIn q (map apk_new_name (paths asides)) → ⊥
     apart q here there =
         let f = in_aside q (paths asides) there in
         true≢false (sym (claimed q here) ∙ (ap (is_claimed change) f.1 ∙ free f.0 f.2))
@@ -187,15 +187,15 @@ each_own : (cs : List PathClaim) → Each (λ d. Names.IsIn d.path (paths cs)) c
 each_own [] = tt
 each_own (c ∷ cs) = (inl refl, each_to (λ d. Names.IsIn d.path (paths cs)) (λ d. Names.IsIn d.path (paths (c ∷ cs))) (λ d here. inr here) cs (each_own cs))
 
-pub each_finds_itself : (cs : List PathClaim) → Names.Rises (paths cs) → Each (λ c. find (is_of_path c.path) cs ≡ Some c) cs
+pub each_finds_itself : (cs : List PathClaim) → Names.Rises (paths cs) → Each (λ c. find (is_claim_of_path c.path) cs ≡ Some c) cs
 each_finds_itself [] r = tt
 each_finds_itself (c ∷ cs) r = (
-  ap (λ b. cond b (Some c) (find (is_of_path c.path) cs)) ((bytes_decides c.path c.path).1 refl),
-  each_two (λ d. find (is_of_path d.path) cs ≡ Some d) (λ d. Names.IsIn d.path (paths cs)) (λ d. find (is_of_path d.path) (c ∷ cs) ≡ Some d) past cs (each_finds_itself cs r.1) (each_own cs),
+  ap (λ b. cond b (Some c) (find (is_claim_of_path c.path) cs)) ((bytes_decides c.path c.path).1 refl),
+  each_two (λ d. find (is_claim_of_path d.path) cs ≡ Some d) (λ d. Names.IsIn d.path (paths cs)) (λ d. find (is_claim_of_path d.path) (c ∷ cs) ≡ Some d) past cs (each_finds_itself cs r.1) (each_own cs),
 )
   where
-    past : (d : PathClaim) → find (is_of_path d.path) cs ≡ Some d → Names.IsIn d.path (paths cs) → find (is_of_path d.path) (c ∷ cs) ≡ Some d
-    past d f here = ap (λ b. cond b (Some c) (find (is_of_path d.path) cs)) (less_apart c.path d.path (ap is_lt (r.0 d.path here))) ∙ f
+    past : (d : PathClaim) → find (is_claim_of_path d.path) cs ≡ Some d → Names.IsIn d.path (paths cs) → find (is_claim_of_path d.path) (c ∷ cs) ≡ Some d
+    past d f here = ap (λ b. cond b (Some c) (find (is_claim_of_path d.path) cs)) (less_apart c.path d.path (ap is_lt (r.0 d.path here))) ∙ f
 
 each_passing : (P : PathClaim → Type 0) (t : PathClaim → Bool) (xs : List PathClaim) → Each P xs → Each (λ c. P c × (t c ≡ true)) (filter t xs)
 each_passing P t [] h = tt
@@ -213,38 +213,38 @@ each_joined : (P : FileWrite → Type 0) (xs ys : List FileWrite) → Each P xs 
 each_joined P [] ys h k = k
 each_joined P (x ∷ xs) ys h k = (h.0, each_joined P xs ys h.1 k)
 
-is_in : (f : Fates.AddedFileFate) → is_fate goes_in f ≡ true → f ≡ goes_in
+is_in : (f : Fates.AddedFileFate) → are_equal_fates goes_in f ≡ true → f ≡ goes_in
 is_in goes_in h = refl
 is_in gives_way h = absurd (true≢false (sym h))
 is_in goes_aside h = absurd (true≢false (sym h))
 
-pub is_aside : (f : Fates.AddedFileFate) → is_fate goes_aside f ≡ true → f ≡ goes_aside
+pub is_aside : (f : Fates.AddedFileFate) → are_equal_fates goes_aside f ≡ true → f ≡ goes_aside
 is_aside goes_in h = absurd (true≢false (sym h))
 is_aside gives_way h = absurd (true≢false (sym h))
 is_aside goes_aside h = refl
 
 -- a file goes aside only if nobody lists the name beside
-pub free_beside : (change : FileChange) (files : Files) (c : PathClaim) → is_fate goes_aside (claim_fate change c (files c.path)) ≡ true → is_claimed change (aside_name c.path) ≡ false
+pub free_beside : (change : FileChange) (files : Files) (c : PathClaim) → are_equal_fates goes_aside (claim_fate change c (files c.path)) ≡ true → is_claimed change (apk_new_name c.path) ≡ false
 free_beside change files c h = by_file (files c.path) h
   where
-    third : (a b d : Bool) → is_fate goes_aside (if a && (b && not d) then goes_aside else gives_way) ≡ true → d ≡ false
+    third : (a b d : Bool) → are_equal_fates goes_aside (if a && (b && not d) then goes_aside else gives_way) ≡ true → d ≡ false
     third true true true h = absurd (true≢false (sym h))
     third true true false h = refl
     third true false d h = absurd (true≢false (sym h))
     third false b d h = absurd (true≢false (sym h))
 
-    by_test : (t a b d : Bool) → is_fate goes_aside (if t then goes_in else (if a && (b && not d) then goes_aside else gives_way)) ≡ true → d ≡ false
+    by_test : (t a b d : Bool) → are_equal_fates goes_aside (if t then goes_in else (if a && (b && not d) then goes_aside else gives_way)) ≡ true → d ≡ false
     by_test true a b d h = absurd (true≢false (sym h))
     by_test false a b d h = third a b d h
 
-    by_file : (o : Option (List ℕ)) → is_fate goes_aside (fate_by change c.path (claim_entry change.members c) o) ≡ true → is_claimed change (aside_name c.path) ≡ false
+    by_file : (o : Option (List ℕ)) → are_equal_fates goes_aside (fate_with_file_found change c.path (claim_entry change.members c) o) ≡ true → is_claimed change (apk_new_name c.path) ≡ false
     by_file None h = absurd (true≢false (sym h))
     by_file (Some bytes) h =
-        by_test (not (is_guarded c.path) || (is_as_listed (claim_entry change.members c) bytes || is_as_old (old_entry change c.path) bytes))
-        (not (agrees_with_old (old_entry change c.path) (claim_entry change.members c))) (nat_le (length (aside_name c.path)) 1024) (is_claimed change (aside_name c.path)) h
+        by_test (not (is_protected_path c.path) || (is_as_listed (claim_entry change.members c) bytes || is_as_old_entry_lists (old_entry change c.path) bytes))
+        (not (agrees_with_old_entry (old_entry change c.path) (claim_entry change.members c))) (nat_le (length (apk_new_name c.path)) 1024) (is_claimed change (apk_new_name c.path)) h
 
 module _ (change : FileChange) (files : Files) (coming : List PathClaim) (up : Names.Rises (paths coming))
-    (each : (q : List ℕ) → find (is_of_path q) coming ≡ find (is_of_path q) (filter (is_of_added_owner change.members) (sorted_by claim_cmp (claims_in change.members)))) where
+    (each : (q : List ℕ) → find (is_claim_of_path q) coming ≡ find (is_claim_of_path q) (filter (is_of_added_owner change.members) (sorted_by claim_cmp (claims_in change.members)))) where
   abbrev ins : List PathClaim
   ins = with_fate change files coming up each goes_in
 
@@ -252,47 +252,47 @@ module _ (change : FileChange) (files : Files) (coming : List PathClaim) (up : N
   asides = with_fate change files coming up each goes_aside
 
   abbrev as_written : List ℕ → Option FileWrite
-  as_written name = option_map (write_to name) (written_as change files name)
+  as_written name = option_map (write_to name) (listing_written_under_name change files name)
 
-  same_write : (name : List ℕ) (l : Listing) (c : PathClaim) → IsClaimFor l c → write_to name l ≡ write_by name c
+  same_write : (name : List ℕ) (l : Listing) (c : PathClaim) → IsClaimFor l c → write_to name l ≡ write_of_claim_under name c
   same_write name l c h = (λ j. record { name = name; member = sym h.member j; folder = sym h.folder j; file = sym h.file j })
 
-  owner_claim : (c : PathClaim) → find (is_of_path c.path) coming ≡ Some c → GoTogether (added_owner_listing change c.path) (Some c)
+  owner_claim : (c : PathClaim) → find (is_claim_of_path c.path) coming ≡ Some c → GoTogether (added_owner_listing change c.path) (Some c)
   owner_claim c f = subst (GoTogether (added_owner_listing change c.path)) f (together change files coming up each c.path)
 
-  in_as_written : (c : PathClaim) → (find (is_of_path c.path) coming ≡ Some c) × (is_fate goes_in (claim_fate change c (files c.path)) ≡ true) → as_written c.path ≡ Some (claim_write c)
-  unfolding written_as
+  in_as_written : (c : PathClaim) → (find (is_claim_of_path c.path) coming ≡ Some c) × (are_equal_fates goes_in (claim_fate change c (files c.path)) ≡ true) → as_written c.path ≡ Some (claim_write c)
+  unfolding listing_written_under_name
   in_as_written c h = go (added_owner_listing change c.path) refl (owner_claim c h.0)
     where
       go : (a : Option Listing) → added_owner_listing change c.path ≡ a → GoTogether a (Some c)
-          → option_map (write_to c.path) (option_or (option_and_then (λ l. if_in l (fate_of change files l)) a) (option_and_then (aside_claim_at change files) (path_beside c.path))) ≡ Some (claim_write c)
+          → option_map (write_to c.path) (option_or (option_and_then (λ l. if_written_in_place l (fate_of change files l)) a) (option_and_then (apk_new_listing_at change files) (path_of_apk_new_name c.path))) ≡ Some (claim_write c)
       go None e k = absurd k
       go (Some l) e k =
-          ap (λ f. option_map (write_to c.path) (option_or (if_in l f) (option_and_then (aside_claim_at change files) (path_beside c.path)))) (sym (same_fate change files c.path l c e k) ∙ is_in (claim_fate change c (files c.path)) h.1)
+          ap (λ f. option_map (write_to c.path) (option_or (if_written_in_place l f) (option_and_then (apk_new_listing_at change files) (path_of_apk_new_name c.path)))) (sym (same_fate change files c.path l c e k) ∙ is_in (claim_fate change c (files c.path)) h.1)
           ∙ ap Some (same_write c.path l c k)
 
-  aside_as_written : (c : PathClaim) → (find (is_of_path c.path) coming ≡ Some c) × (is_fate goes_aside (claim_fate change c (files c.path)) ≡ true) → as_written (aside_name c.path) ≡ Some (aside_write c)
-  unfolding written_as
+  aside_as_written : (c : PathClaim) → (find (is_claim_of_path c.path) coming ≡ Some c) × (are_equal_fates goes_aside (claim_fate change c (files c.path)) ≡ true) → as_written (apk_new_name c.path) ≡ Some (apk_new_write c)
+  unfolding listing_written_under_name
   aside_as_written c h =
-      (λ j. option_map (write_to (aside_name c.path)) (option_or (option_and_then (λ l. if_in l (fate_of change files l)) (no_owner change (aside_name c.path) (free_beside change files c h.1) j)) (option_and_then (aside_claim_at change files) (front_of c.path j))))
+      (λ j. option_map (write_to (apk_new_name c.path)) (option_or (option_and_then (λ l. if_written_in_place l (fate_of change files l)) (no_owner change (apk_new_name c.path) (free_beside change files c h.1) j)) (option_and_then (apk_new_listing_at change files) (front_of c.path j))))
       ∙ go (added_owner_listing change c.path) refl (owner_claim c h.0)
     where
       go : (a : Option Listing) → added_owner_listing change c.path ≡ a → GoTogether a (Some c)
-          → option_map (write_to (aside_name c.path)) (option_and_then (λ l. if_aside l (fate_of change files l)) a) ≡ Some (aside_write c)
+          → option_map (write_to (apk_new_name c.path)) (option_and_then (λ l. if_written_as_apk_new l (fate_of change files l)) a) ≡ Some (apk_new_write c)
       go None e k = absurd k
       go (Some l) e k =
-          ap (λ f. option_map (write_to (aside_name c.path)) (if_aside l f)) (sym (same_fate change files c.path l c e k) ∙ is_aside (claim_fate change c (files c.path)) h.1)
-          ∙ ap Some (same_write (aside_name c.path) l c k)
+          ap (λ f. option_map (write_to (apk_new_name c.path)) (if_written_as_apk_new l f)) (sym (same_fate change files c.path l c e k) ∙ is_aside (claim_fate change c (files c.path)) h.1)
+          ∙ ap Some (same_write (apk_new_name c.path) l c k)
 
   abbrev pub all_writes : List FileWrite
-  all_writes = map claim_write ins ++ map aside_write asides
+  all_writes = map claim_write ins ++ map apk_new_write asides
 
   all_as_written : Each (λ w. as_written w.name ≡ Some w) all_writes
-  all_as_written = each_joined (λ w. as_written w.name ≡ Some w) (map claim_write ins) (map aside_write asides)
-      (each_written (λ c. (find (is_of_path c.path) coming ≡ Some c) × (is_fate goes_in (claim_fate change c (files c.path)) ≡ true)) (λ w. as_written w.name ≡ Some w) claim_write in_as_written ins
-      (each_passing (λ c. find (is_of_path c.path) coming ≡ Some c) (λ c. is_fate goes_in (claim_fate change c (files c.path))) coming (each_finds_itself coming up)))
-      (each_written (λ c. (find (is_of_path c.path) coming ≡ Some c) × (is_fate goes_aside (claim_fate change c (files c.path)) ≡ true)) (λ w. as_written w.name ≡ Some w) aside_write aside_as_written asides
-      (each_passing (λ c. find (is_of_path c.path) coming ≡ Some c) (λ c. is_fate goes_aside (claim_fate change c (files c.path))) coming (each_finds_itself coming up)))
+  all_as_written = each_joined (λ w. as_written w.name ≡ Some w) (map claim_write ins) (map apk_new_write asides)
+      (each_written (λ c. (find (is_claim_of_path c.path) coming ≡ Some c) × (are_equal_fates goes_in (claim_fate change c (files c.path)) ≡ true)) (λ w. as_written w.name ≡ Some w) claim_write in_as_written ins
+      (each_passing (λ c. find (is_claim_of_path c.path) coming ≡ Some c) (λ c. are_equal_fates goes_in (claim_fate change c (files c.path))) coming (each_finds_itself coming up)))
+      (each_written (λ c. (find (is_claim_of_path c.path) coming ≡ Some c) × (are_equal_fates goes_aside (claim_fate change c (files c.path)) ≡ true)) (λ w. as_written w.name ≡ Some w) apk_new_write aside_as_written asides
+      (each_passing (λ c. find (is_claim_of_path c.path) coming ≡ Some c) (λ c. are_equal_fates goes_aside (claim_fate change c (files c.path))) coming (each_finds_itself coming up)))
 
   claimed_in : (q : List ℕ) → Names.IsIn q (paths ins) → is_claimed change q ≡ true
   claimed_in q here = go (is_claimed change q) refl
@@ -300,7 +300,7 @@ module _ (change : FileChange) (files : Files) (coming : List PathClaim) (up : N
       comes : is_some (added_owner_listing change q) ≡ true
       comes = by_owner (added_owner_listing change q) (in_is change files coming up each q ∙ is_there ins q here)
         where
-          by_owner : (a : Option Listing) → is_some (option_and_then (λ l. if_in l (fate_of change files l)) a) ≡ true → is_some a ≡ true
+          by_owner : (a : Option Listing) → is_some (option_and_then (λ l. if_written_in_place l (fate_of change files l)) a) ≡ true → is_some a ≡ true
           by_owner None h = h
           by_owner (Some l) h = refl
 
@@ -308,27 +308,27 @@ module _ (change : FileChange) (files : Files) (coming : List PathClaim) (up : N
       go true e = refl
       go false e = absurd (true≢false (sym comes ∙ ap is_some (no_owner change q e)))
 
-  free_in : (q : List ℕ) → Names.IsIn q (paths asides) → is_claimed change (aside_name q) ≡ false
+  free_in : (q : List ℕ) → Names.IsIn q (paths asides) → is_claimed change (apk_new_name q) ≡ false
   free_in q here =
       let f = found_in asides q here in
-      let t = found_is (is_of_path q) (λ c. (find (is_of_path c.path) coming ≡ Some c) × (is_fate goes_aside (claim_fate change c (files c.path)) ≡ true)) asides f.0
-      (each_passing (λ c. find (is_of_path c.path) coming ≡ Some c) (λ c. is_fate goes_aside (claim_fate change c (files c.path))) coming (each_finds_itself coming up)) f.1 in
-      ap (λ p. is_claimed change (aside_name p)) (sym ((bytes_decides f.0.path q).0 t.1)) ∙ free_beside change files f.0 t.0.1
+      let t = found_is (is_claim_of_path q) (λ c. (find (is_claim_of_path c.path) coming ≡ Some c) × (are_equal_fates goes_aside (claim_fate change c (files c.path)) ≡ true)) asides f.0
+      (each_passing (λ c. find (is_claim_of_path c.path) coming ≡ Some c) (λ c. are_equal_fates goes_aside (claim_fate change c (files c.path))) coming (each_finds_itself coming up)) f.1 in
+      ap (λ p. is_claimed change (apk_new_name p)) (sym ((bytes_decides f.0.path q).0 t.1)) ∙ free_beside change files f.0 t.0.1
 
-  in_write_names : (q : List ℕ) → Names.IsIn q (paths ins) ⊎ Names.IsIn q (map aside_name (paths asides)) → Names.IsIn q (write_names (sorted_by write_cmp all_writes))
+  in_write_names : (q : List ℕ) → Names.IsIn q (paths ins) ⊎ Names.IsIn q (map apk_new_name (paths asides)) → Names.IsIn q (write_names (sorted_by write_cmp all_writes))
   in_write_names q h =
       subst (Names.IsIn q) (sym (names_sorted all_writes))
       (in_sorted q (write_names all_writes)
-      (subst (Names.IsIn q) (sym (names_both (map claim_write ins) (map aside_write asides) ∙ (λ j. names_of_in ins j ++ names_of_beside asides j))) (both_in q (paths ins) (map aside_name (paths asides)) h)))
+      (subst (Names.IsIn q) (sym (names_both (map claim_write ins) (map apk_new_write asides) ∙ (λ j. names_of_in ins j ++ names_of_beside asides j))) (both_in q (paths ins) (map apk_new_name (paths asides)) h)))
 
-  of_write_names : (q : List ℕ) → Names.IsIn q (write_names (sorted_by write_cmp all_writes)) → Names.IsIn q (paths ins) ⊎ Names.IsIn q (map aside_name (paths asides))
+  of_write_names : (q : List ℕ) → Names.IsIn q (write_names (sorted_by write_cmp all_writes)) → Names.IsIn q (paths ins) ⊎ Names.IsIn q (map apk_new_name (paths asides))
   of_write_names q here =
-      in_both q (paths ins) (map aside_name (paths asides))
-      (subst (Names.IsIn q) (names_both (map claim_write ins) (map aside_write asides) ∙ (λ j. names_of_in ins j ++ names_of_beside asides j))
+      in_both q (paths ins) (map apk_new_name (paths asides))
+      (subst (Names.IsIn q) (names_both (map claim_write ins) (map apk_new_write asides) ∙ (λ j. names_of_in ins j ++ names_of_beside asides j))
       (from_sorted q (write_names all_writes) (subst (Names.IsIn q) (names_sorted all_writes) here)))
 
   abbrev places : List (List ℕ)
-  places = added_paths change.members ++ map aside_name (added_paths change.members)
+  places = added_paths change.members ++ map apk_new_name (added_paths change.members)
 
   mapped_some : (name : List ℕ) (o : Option Listing) → is_some (option_map (write_to name) o) ≡ is_some o
   mapped_some name None = refl
@@ -337,10 +337,10 @@ module _ (change : FileChange) (files : Files) (coming : List PathClaim) (up : N
   there : (q : List ℕ) → Names.IsIn q (write_names (sorted_by write_cmp all_writes)) → Names.IsIn q places × (is_some (as_written q) ≡ true)
   there q here = (
     elim (of_write_names q here) [
-      | inl a ↦ both_in q (added_paths change.members) (map aside_name (added_paths change.members)) (inl (in_coming_paths change q (comes_in q a)))
+      | inl a ↦ both_in q (added_paths change.members) (map apk_new_name (added_paths change.members)) (inl (in_coming_paths change q (comes_in q a)))
       | inr b ↦ (let f = in_aside q (paths asides) b in
-          both_in q (added_paths change.members) (map aside_name (added_paths change.members))
-          (inr (subst (λ z. Names.IsIn z (map aside_name (added_paths change.members))) (sym f.1) (aside_in f.0 (added_paths change.members) (in_coming_paths change f.0 (comes_aside f.0 f.2))))))
+          both_in q (added_paths change.members) (map apk_new_name (added_paths change.members))
+          (inr (subst (λ z. Names.IsIn z (map apk_new_name (added_paths change.members))) (sym f.1) (aside_in f.0 (added_paths change.members) (in_coming_paths change f.0 (comes_aside f.0 f.2))))))
     ],
     written q here,
   )
@@ -348,14 +348,14 @@ module _ (change : FileChange) (files : Files) (coming : List PathClaim) (up : N
       comes_in : (q : List ℕ) → Names.IsIn q (paths ins) → is_some (added_owner_listing change q) ≡ true
       comes_in q a = by_owner (added_owner_listing change q) (in_is change files coming up each q ∙ is_there ins q a)
         where
-          by_owner : (a : Option Listing) → is_some (option_and_then (λ l. if_in l (fate_of change files l)) a) ≡ true → is_some a ≡ true
+          by_owner : (a : Option Listing) → is_some (option_and_then (λ l. if_written_in_place l (fate_of change files l)) a) ≡ true → is_some a ≡ true
           by_owner None h = h
           by_owner (Some l) h = refl
 
       comes_aside : (q : List ℕ) → Names.IsIn q (paths asides) → is_some (added_owner_listing change q) ≡ true
       comes_aside q a = by_owner (added_owner_listing change q) (laid_is change files coming up each q ∙ is_there asides q a)
         where
-          by_owner : (a : Option Listing) → is_some (option_and_then (λ l. if_aside l (fate_of change files l)) a) ≡ true → is_some a ≡ true
+          by_owner : (a : Option Listing) → is_some (option_and_then (λ l. if_written_as_apk_new l (fate_of change files l)) a) ≡ true → is_some a ≡ true
           by_owner None h = h
           by_owner (Some l) h = refl
 
@@ -368,29 +368,29 @@ module _ (change : FileChange) (files : Files) (coming : List PathClaim) (up : N
           by_each (w ∷ ws) h (inr old) = by_each ws h.1 old
 
   back : (q : List ℕ) → Names.IsIn q places → is_some (as_written q) ≡ true → Names.IsIn q (write_names (sorted_by write_cmp all_writes))
-  unfolding written_as
-  back q here t = in_write_names q (by_in (is_some (written_in change files q)) refl)
+  unfolding listing_written_under_name
+  back q here t = in_write_names q (by_in (is_some (listing_written_in_place change files q)) refl)
     where
-      w : is_some (option_or (written_in change files q) (option_and_then (aside_claim_at change files) (path_beside q))) ≡ true
-      w = sym (mapped_some q (option_or (written_in change files q) (option_and_then (aside_claim_at change files) (path_beside q)))) ∙ t
+      w : is_some (option_or (listing_written_in_place change files q) (option_and_then (apk_new_listing_at change files) (path_of_apk_new_name q))) ≡ true
+      w = sym (mapped_some q (option_or (listing_written_in_place change files q) (option_and_then (apk_new_listing_at change files) (path_of_apk_new_name q)))) ∙ t
 
       skip : (a b : Option Listing) → is_some a ≡ false → is_some (option_or a b) ≡ true → is_some b ≡ true
       skip None b e h = h
       skip (Some l) b e h = absurd (true≢false e)
 
-      by_front : (p : Option (List ℕ)) → path_beside q ≡ p → is_some (option_and_then (aside_claim_at change files) p) ≡ true → Names.IsIn q (map aside_name (paths asides))
+      by_front : (p : Option (List ℕ)) → path_of_apk_new_name q ≡ p → is_some (option_and_then (apk_new_listing_at change files) p) ≡ true → Names.IsIn q (map apk_new_name (paths asides))
       by_front None e h = absurd (true≢false (sym h))
       by_front (Some p) e h =
-          subst (λ z. Names.IsIn z (map aside_name (paths asides))) (sym (found_front q p e)) (aside_in p (paths asides) (there_is asides p (sym (laid_is change files coming up each p) ∙ h)))
+          subst (λ z. Names.IsIn z (map apk_new_name (paths asides))) (sym (found_front q p e)) (aside_in p (paths asides) (there_is asides p (sym (laid_is change files coming up each p) ∙ h)))
 
-      by_in : (b : Bool) → is_some (written_in change files q) ≡ b → Names.IsIn q (paths ins) ⊎ Names.IsIn q (map aside_name (paths asides))
+      by_in : (b : Bool) → is_some (listing_written_in_place change files q) ≡ b → Names.IsIn q (paths ins) ⊎ Names.IsIn q (map apk_new_name (paths asides))
       by_in true e = inl (there_is ins q (sym (in_is change files coming up each q) ∙ e))
-      by_in false e = inr (by_front (path_beside q) refl (skip (written_in change files q) (option_and_then (aside_claim_at change files) (path_beside q)) e w))
+      by_in false e = inr (by_front (path_of_apk_new_name q) refl (skip (listing_written_in_place change files q) (option_and_then (apk_new_listing_at change files) (path_of_apk_new_name q)) e w))
 
   pub writes_are : sorted_by write_cmp all_writes ≡ file_writes_of change files
   unfolding file_writes_of
   writes_are =
-      let rises = writes_rise change ins asides (kept_rises (λ c. is_fate goes_in (claim_fate change c (files c.path))) coming up) (kept_rises (λ c. is_fate goes_aside (claim_fate change c (files c.path))) coming up) claimed_in free_in in
+      let rises = writes_rise change ins asides (kept_rises (λ c. are_equal_fates goes_in (claim_fate change c (files c.path))) coming up) (kept_rises (λ c. are_equal_fates goes_aside (claim_fate change c (files c.path))) coming up) claimed_in free_in in
       sym (by_names as_written (sorted_by write_cmp all_writes) (each_sorted (λ w. as_written w.name ≡ Some w) all_writes all_as_written))
       ∙ (ap (filter_map as_written) (same_names (λ q. is_some (as_written q)) (write_names (sorted_by write_cmp all_writes)) places rises there back)
-      ∙ those_only as_written (names_in_order places))
+      ∙ those_only as_written (sorted_distinct_names places))

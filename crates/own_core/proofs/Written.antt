@@ -10,7 +10,7 @@ use Rattle.path_claim_lists.specs.path_claims.Seen.{claim_seen}
 use Rattle.path_claim_lists.specs.path_claims.declared.claim.Claim.{Claim}
 use Rattle.path_claim_lists.proofs.Lists.{take_at, take_whole}
 use Rattle.change_files.specs.PlanLists.{FileWrite}
-use Rattle.own_core.specs.WritesSeen.{write_by}
+use Rattle.own_core.specs.WritesSeen.{write_of_claim_under}
 use Rattle.own_core.proofs.Kept.{filter_step, map_more, none_more}
 
 there : (xs : List Claim) (i : ℕ) (d : Claim) → i < length xs → slice_get xs i ≡ Some (slice_index_or xs i d)
@@ -31,11 +31,11 @@ behind_more g xs i d old now new y l e is inv =
     ∙ (append_assoc old (map g (map claim_seen (take i xs))) (g (claim_seen (slice_index_or xs i d)) ∷ [])
     ∙ ap (λ r. old ++ r) (sym (map_more g (map claim_seen (take i xs)) (claim_seen (slice_index_or xs i d))) ∙ ap (map g) (sym (seen_more xs i d l)))))
 
-pub written_more : (name : PathClaim → List ℕ) (xs : List Claim) (i : ℕ) (d : Claim) (old now new : List FileWrite) (n : List ℕ) → i < length xs → new ≡ now ++ write_by n (claim_seen (slice_index_or xs i d)) ∷ []
+pub written_more : (name : PathClaim → List ℕ) (xs : List Claim) (i : ℕ) (d : Claim) (old now new : List FileWrite) (n : List ℕ) → i < length xs → new ≡ now ++ write_of_claim_under n (claim_seen (slice_index_or xs i d)) ∷ []
     → n ≡ name (claim_seen (slice_index_or xs i d))
-    → now ≡ old ++ map (λ c. write_by (name c) c) (map claim_seen (take i xs)) → new ≡ old ++ map (λ c. write_by (name c) c) (map claim_seen (take (i + 1) xs))
+    → now ≡ old ++ map (λ c. write_of_claim_under (name c) c) (map claim_seen (take i xs)) → new ≡ old ++ map (λ c. write_of_claim_under (name c) c) (map claim_seen (take (i + 1) xs))
 written_more name xs i d old now new n l e is inv =
-    behind_more (λ c. write_by (name c) c) xs i d old now new (write_by n (claim_seen (slice_index_or xs i d))) l e (ap (λ m. write_by m (claim_seen (slice_index_or xs i d))) is) inv
+    behind_more (λ c. write_of_claim_under (name c) c) xs i d old now new (write_of_claim_under n (claim_seen (slice_index_or xs i d))) l e (ap (λ m. write_of_claim_under m (claim_seen (slice_index_or xs i d))) is) inv
 
 pub after_all : {Y : Type 0} (g : PathClaim → Y) (xs : List Claim) (i : ℕ) (old now : List Y) → length xs ≤ i → now ≡ old ++ map g (map claim_seen (take i xs)) → now ≡ old ++ map g (map claim_seen xs)
 after_all g xs i old now l inv = inv ∙ ap (λ (zs : List Claim). old ++ map g (map claim_seen zs)) (take_whole xs i l)

@@ -9,7 +9,7 @@ use Rattle.adb_view.specs.FieldIndexes.{DIR_FILES, PACKAGE_PATHS}
 use Rattle.adb_view.specs.Values.{count_of, entries_in, entry_in}
 use Rattle.change_files.specs.adb_schema.Reserved.{is_reserved}
 use Rattle.change_files.specs.db_core.Members.{Member, is_added}
-use Rattle.path_claim_lists.specs.path_claims.Claims.{PathClaim, is_member}
+use Rattle.path_claim_lists.specs.path_claims.Claims.{PathClaim, is_owning_member}
 use Rattle.change_files.specs.file_owners.Owners.{owner_of_path}
 
 -- ---- files
@@ -67,4 +67,4 @@ is_added_and_reserved members c = is_reserved c.path && is_added_at members c.me
 -- whether a claim is that of its path's owner, and this member is added
 unfoldable pub is_of_added_owner : List Member → PathClaim → Bool
 is_of_added_owner members c =
-    is_member c.member (owner_of_path members c.path) && is_added_at members c.member
+    is_owning_member c.member (owner_of_path members c.path) && is_added_at members c.member

@@ -4,25 +4,25 @@
 use Rattle.std.specs.Prelude.{ℕ, Bool, not, ◌&&◌, List, Option, option_and_then, is_some}
 use Rattle.std.specs.List.{find}
 use Rattle.change_files.specs.db_core.Members.{members_of_kept}
-use Rattle.path_claim_lists.specs.path_claims.Claims.{PathClaim, is_of_path}
-use Rattle.change_files.specs.Fate.{is_guarded}
+use Rattle.path_claim_lists.specs.path_claims.Claims.{PathClaim, is_claim_of_path}
+use Rattle.change_files.specs.Fate.{is_protected_path}
 use Rattle.change_files.specs.FileChange.{FileChange, is_claimed}
-use Rattle.change_files.specs.FilesAfter.{is_changed, path_beside}
+use Rattle.change_files.specs.FilesAfter.{is_modified_from_entry, path_of_apk_new_name}
 use Rattle.own_core.specs.ClaimEntries.{claim_entry}
 
 -- whether a name is the one beside the path of one of these claims
-abbrev pub is_beside : List PathClaim → List ℕ → Bool
-is_beside asides name =
-    is_some (option_and_then (λ path. find (is_of_path path) asides) (path_beside name))
+abbrev pub is_apk_new_name_of : List PathClaim → List ℕ → Bool
+is_apk_new_name_of asides name =
+    is_some (option_and_then (λ path. find (is_claim_of_path path) asides) (path_of_apk_new_name name))
 
 -- whether a path is left over: no package lists it any more, and nothing is laid beside another
 -- file there
 abbrev pub is_path_left_over : FileChange → List PathClaim → List ℕ → Bool
-is_path_left_over change asides path = not (is_claimed change path) && not (is_beside asides path)
+is_path_left_over change asides path = not (is_claimed change path) && not (is_apk_new_name_of asides path)
 
 -- whether the file of a claim of a package before the change is kept: it is configuration, the user
 -- changed it, and there is no `--purge`; `found` is the file under its path
 abbrev pub is_file_kept : FileChange → PathClaim → Option (List ℕ) → Bool
 is_file_kept change c found =
-    is_guarded c.path
-    && (not change.purge && is_changed (claim_entry (members_of_kept change.old) c) found)
+    is_protected_path c.path
+    && (not change.purge && is_modified_from_entry (claim_entry (members_of_kept change.old) c) found)

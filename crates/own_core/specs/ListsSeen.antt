@@ -3,18 +3,18 @@
 -- are those of `Parts`, and *ArePlanLists* of `Planned` defines the lists by the rule.
 use Rattle.std.specs.Prelude.{◌≡◌, Bool, List, ◌++◌, map}
 use Rattle.base_core.specs.Sorted.{sorted_by}
-use Rattle.own_core.specs.Parts.{asides_of, kept_of_parts, removed_of, written_claims_of}
-use Rattle.own_core.specs.WritesSeen.{aside_write, claim_write, write_cmp, writes_in}
+use Rattle.own_core.specs.Parts.{apk_new_claims_of, kept_claims_of, removed_claims_of, written_claims_of}
+use Rattle.own_core.specs.WritesSeen.{apk_new_write, claim_write, write_cmp, writes_in}
 use Rattle.own_core.specs.declared.planning.FilePlan.{FilePlan}
 use Rattle.own_core.specs.declared.parts.Parts.{Parts}
 
 -- the plan has the files that take their paths, are laid beside, removed and kept by these parts, and
 -- these flags; only the writes are sorted, since they join two of the parts
 pub record AreListsOfParts (parts : Parts) (flags : List Bool) (plan : FilePlan) : Type 0 where
-  pub removals : plan.removals ≡ map (λ c. c.path) (removed_of parts)
+  pub removals : plan.removals ≡ map (λ c. c.path) (removed_claims_of parts)
   pub writes : writes_in plan.writes
       ≡ sorted_by write_cmp (map claim_write (written_claims_of parts)
-      ++ map aside_write (asides_of parts))
+      ++ map apk_new_write (apk_new_claims_of parts))
   pub owned : plan.owned ≡ flags
-  pub aside : plan.aside ≡ map (λ c. c.path) (asides_of parts)
-  pub kept : plan.kept ≡ map (λ c. c.path) (kept_of_parts parts)
+  pub aside : plan.aside ≡ map (λ c. c.path) (apk_new_claims_of parts)
+  pub kept : plan.kept ≡ map (λ c. c.path) (kept_claims_of parts)

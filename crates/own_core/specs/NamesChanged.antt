@@ -6,36 +6,36 @@ use Rattle.std.specs.List.{filter, find, list_any}
 use Rattle.change_files.specs.db_core.Seen.{members_of}
 use Rattle.base_core.specs.ByteOrder.{bytes_cmp}
 use Rattle.base_core.specs.Sorted.{sorted_by}
-use Rattle.path_claim_lists.specs.path_claims.Claims.{is_of_path}
-use Rattle.change_files.specs.Fate.{aside_name}
+use Rattle.path_claim_lists.specs.path_claims.Claims.{is_claim_of_path}
+use Rattle.change_files.specs.Fate.{apk_new_name}
 use Rattle.change_files.specs.FilesAfter.{database_name, world_name}
 use Rattle.path_claim_lists.specs.path_clashes.Clash.{NameChange}
 use Rattle.own_core.specs.ClaimEntries.{is_added_at}
-use Rattle.own_core.specs.Parts.{asides_of, kept_of_parts}
+use Rattle.own_core.specs.Parts.{apk_new_claims_of, kept_claims_of}
 use Rattle.own_core.specs.Sides.{claims_after, claims_before}
 use Rattle.own_core.specs.declared.claim_change.ClaimChange.{ClaimChange}
 use Rattle.own_core.specs.declared.parts.Parts.{Parts}
 
 -- the names that count as written: the database, the world, the paths that added members list, and the
 -- names beside others
-abbrev pub names_written_by : ClaimChange → Parts → List (List ℕ)
-names_written_by change parts =
+abbrev pub written_names_of_parts : ClaimChange → Parts → List (List ℕ)
+written_names_of_parts change parts =
     database_name ∷ world_name ∷ [] ++ map (λ c. c.path)
     (filter (λ c. is_added_at (members_of change.members.now) c.member) (claims_after change))
-    ++ map (λ c. aside_name c.path) (asides_of parts)
+    ++ map (λ c. apk_new_name c.path) (apk_new_claims_of parts)
 
 -- whether a path is let go: packages before list it, no package lists it any more, and no file is
 -- kept there
-abbrev pub is_released_by : ClaimChange → Parts → List ℕ → Bool
-is_released_by change parts name =
-    is_some (find (is_of_path name) (claims_before change))
-    && not (is_some (find (is_of_path name) (claims_after change))
-    || is_some (find (is_of_path name) (kept_of_parts parts)))
+abbrev pub is_name_released_by_parts : ClaimChange → Parts → List ℕ → Bool
+is_name_released_by_parts change parts name =
+    is_some (find (is_claim_of_path name) (claims_before change))
+    && not (is_some (find (is_claim_of_path name) (claims_after change))
+    || is_some (find (is_claim_of_path name) (kept_claims_of parts)))
 
 -- which names count as written and which are let go, as the search for clashes needs them
-abbrev pub names_changed_by : ClaimChange → Parts → NameChange
-names_changed_by change parts = record {
+abbrev pub name_change_of_parts : ClaimChange → Parts → NameChange
+name_change_of_parts change parts = record {
   counts_as_written = λ name.
-      list_any (bytes_eq name) (sorted_by bytes_cmp (names_written_by change parts));
-  does_release = is_released_by change parts;
+      list_any (bytes_eq name) (sorted_by bytes_cmp (written_names_of_parts change parts));
+  does_release = is_name_released_by_parts change parts;
 }

@@ -7,7 +7,7 @@ use Rattle.change_files.specs.db_core.Members.{members_of_kept}
 use Rattle.change_files.specs.db_core.Seen.{members_of, packages_of}
 use Rattle.path_claim_lists.specs.path_claims.Claims.{PathClaim, claim_cmp}
 use Rattle.path_claim_lists.specs.path_claims.Seen.{claim_seen}
-use Rattle.path_claim_lists.specs.Once.{HasFirsts}
+use Rattle.path_claim_lists.specs.Once.{HasFirstClaimOfEachPath}
 use Rattle.change_files.specs.file_owners.Owners.{claims_in}
 use Rattle.change_files.specs.FileChange.{FileChange}
 use Rattle.own_core.specs.ClaimEntries.{AreClaimsOf}
@@ -27,8 +27,8 @@ abbrev pub claims_after : ClaimChange → List PathClaim
 claims_after c = map claim_seen c.after.now
 
 -- the claims of a change are those of its packages: before the change one for each path, after it all
-pub record HasClaims (c : ClaimChange) : Type 0 where
-  pub before : HasFirsts (sorted_by claim_cmp (claims_in (members_of_kept (packages_of c.db.now))))
+pub record HasClaimsOfPackages (c : ClaimChange) : Type 0 where
+  pub before : HasFirstClaimOfEachPath (sorted_by claim_cmp (claims_in (members_of_kept (packages_of c.db.now))))
       (claims_before c)
   pub after : claims_after c ≡ sorted_by claim_cmp (claims_in (members_of c.members.now))
   pub old_files : AreClaimsOf (members_of_kept (packages_of c.db.now)) (claims_before c)

@@ -7,7 +7,7 @@ use Rattle.std.specs.declared.cmp.Ordering.{Ordering}
 use Rattle.base_core.specs.Name.{IsName}
 use Rattle.base_core.specs.ByteOrder.{bytes_cmp}
 use Rattle.path_claim_lists.specs.path_claims.Claims.{PathClaim}
-use Rattle.change_files.specs.Fate.{aside_name, longest_name}
+use Rattle.change_files.specs.Fate.{apk_new_name, longest_name}
 use Rattle.change_files.specs.PlanLists.{FileWrite}
 use Rattle.own_core.specs.declared.writes.Write.{Write}
 use Rattle.own_core.specs.declared.writes.Writes.{Writes}
@@ -21,26 +21,26 @@ abbrev pub writes_in : Writes → List FileWrite
 writes_in writes = map write_seen writes.writes.items
 
 -- the write of the file of a claim, under a name
-abbrev pub write_by : List ℕ → PathClaim → FileWrite
-write_by name c = record { name = name; member = c.member; folder = c.folder; file = c.file }
+abbrev pub write_of_claim_under : List ℕ → PathClaim → FileWrite
+write_of_claim_under name c = record { name = name; member = c.member; folder = c.folder; file = c.file }
 
 -- the write of a file that takes its own path
 abbrev pub claim_write : PathClaim → FileWrite
-claim_write c = write_by c.path c
+claim_write c = write_of_claim_under c.path c
 
 -- the write of a file that is laid beside the one under its path
-abbrev pub aside_write : PathClaim → FileWrite
-aside_write c = write_by (aside_name c.path) c
+abbrev pub apk_new_write : PathClaim → FileWrite
+apk_new_write c = write_of_claim_under (apk_new_name c.path) c
 
 -- the order of writes: the byte order of their names
 abbrev pub write_cmp : FileWrite → FileWrite → Ordering
 write_cmp = on (λ w. w.name) bytes_cmp
 
 -- the path of a claim is a name, and so is the name beside it, which is not too long for one
-pub record HasNameBeside (c : PathClaim) : Type 0 where
+pub record CanHaveApkNewName (c : PathClaim) : Type 0 where
   pub name : IsName c.path
-  pub short : length (aside_name c.path) ≤ longest_name
+  pub short : length (apk_new_name c.path) ≤ longest_name
 
 -- each of these claims has a name beside its path
-abbrev pub HaveNamesBeside : List PathClaim → Type 0
-HaveNamesBeside claims = (i : ℕ) (c : PathClaim) → slice_get claims i ≡ Some c → HasNameBeside c
+abbrev pub CanHaveApkNewNames : List PathClaim → Type 0
+CanHaveApkNewNames claims = (i : ℕ) (c : PathClaim) → slice_get claims i ≡ Some c → CanHaveApkNewName c

@@ -1,6 +1,6 @@
 //! A change of packages, with the files that they list.
 //! `docs/commands.md`, "Files that several packages list", says which packages and files these are;
-//! *HasClaims* of `specs/Sides.antt`, what holds of the lists of claims.
+//! *HasClaimsOfPackages* of `specs/Sides.antt`, what holds of the lists of claims.
 
 use change_files::{Db, Members};
 use path_claim_lists::Claim;

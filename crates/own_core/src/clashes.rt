@@ -8,15 +8,15 @@ ghost use Rattle.std.specs.Prelude.{◌≡◌, ◌&&◌, ◌||◌, ◌++◌, ◌
 ghost use Rattle.std.specs.List.{filter, find};
 ghost use Rattle.std.specs.List.Sorted.{IsSorted};
 ghost use Rattle.path_claim_lists.specs.adb_fields.JoinedPath.{joined_path};
-ghost use Rattle.change_files.specs.Fate.{aside_name};
+ghost use Rattle.change_files.specs.Fate.{apk_new_name};
 ghost use Rattle.change_files.specs.FilesAfter.{database_name, world_name};
 ghost use Rattle.change_files.specs.db_core.Seen.{members_of};
 ghost use Rattle.base_core.specs.ByteOrder.{bytes_cmp};
 ghost use Rattle.base_core.specs.Sorted.{sorted_by};
-ghost use Rattle.path_claim_lists.specs.path_claims.Claims.{claim_cmp, is_of_path};
+ghost use Rattle.path_claim_lists.specs.path_claims.Claims.{claim_cmp, is_claim_of_path};
 ghost use Rattle.path_claim_lists.specs.path_claims.Seen.{claim_seen};
 ghost use Rattle.own_core.specs.ClaimEntries.{AreClaimsOf, is_added_at};
-ghost use Rattle.own_core.specs.WritesSeen.{HaveNamesBeside};
+ghost use Rattle.own_core.specs.WritesSeen.{CanHaveApkNewNames};
 
 use crate::coming::comes;
 use crate::guarded::name_beside;
@@ -28,9 +28,9 @@ use std::alloc::{AllocError, Global};
 
 /// The names beside the paths of claims, `PATH.apk-new` of each, in their order.
 pub(crate) fn names_beside(alloc: Global, asides: &[Claim<'_>]) -> Result<Names, AllocError>
-    requires { HaveNamesBeside (map claim_seen asides.now) }
+    requires { CanHaveApkNewNames (map claim_seen asides.now) }
     ensures { IfOk result
-        (λ names. names ≡ map (λ c. aside_name c.path) (map claim_seen asides.now)) }
+        (λ names. names ≡ map (λ c. apk_new_name c.path) (map claim_seen asides.now)) }
 {
     let mut names = Names::new(alloc);
     for claim in asides {
@@ -129,9 +129,9 @@ pub(crate) struct ReleasedPaths<'c, 'o, 'n> {
 
 impl<'c, 'o, 'n> IsReleased for ReleasedPaths<'c, 'o, 'n> {
     ghost does_release = { λ paths name.
-        is_some (find (is_of_path name) (map claim_seen paths.before.now))
-        && not (is_some (find (is_of_path name) (map claim_seen paths.after.now))
-        || is_some (find (is_of_path name) (map claim_seen paths.kept.now))) };
+        is_some (find (is_claim_of_path name) (map claim_seen paths.before.now))
+        && not (is_some (find (is_claim_of_path name) (map claim_seen paths.after.now))
+        || is_some (find (is_claim_of_path name) (map claim_seen paths.kept.now))) };
 
     /// Whether the old database lists the path, no package lists it after the change, and no file
     /// is kept there.

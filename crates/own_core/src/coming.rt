@@ -5,7 +5,7 @@
 ghost use Rattle.std.specs.Prelude.{◌≡◌, IfOk, map};
 ghost use Rattle.std.specs.List.{filter};
 ghost use Rattle.std.specs.List.Sorted.{IsSorted};
-ghost use Rattle.path_claim_lists.specs.Once.{HasFirsts};
+ghost use Rattle.path_claim_lists.specs.Once.{HasFirstClaimOfEachPath};
 ghost use Rattle.change_files.specs.db_core.Seen.{members_of};
 ghost use Rattle.change_files.specs.file_owners.Owners.{owner_of_path};
 ghost use Rattle.path_claim_lists.specs.path_claims.Claims.{claim_cmp};
@@ -73,7 +73,7 @@ pub fn added_claims<'n>(
     requires sorted { IsSorted claim_cmp (map claim_seen claims.now) }
     requires owners { owners.now
         ≡ map (λ c. owner_of_path (members_of members.now) c.path) (map claim_seen claims.now) }
-    ensures { IfOk result (λ coming. HasFirsts
+    ensures { IfOk result (λ coming. HasFirstClaimOfEachPath
         (filter (is_of_added_owner (members_of members.now)) (map claim_seen claims.now))
         (map claim_seen coming.items)) }
 {

@@ -9,7 +9,7 @@ ghost use Rattle.adb_view.specs.FieldIndexes.{PACKAGE_PATHS};
 ghost use Rattle.adb_view.specs.Values.{count_of, entries_in, entry_in};
 ghost use Rattle.change_files.specs.db_core.Members.{members_of_kept};
 ghost use Rattle.change_files.specs.db_core.Seen.{members_of, packages_of};
-ghost use Rattle.change_files.specs.file_guard.Listed.{IsOfEntry};
+ghost use Rattle.change_files.specs.file_guard.Listed.{DescribesEntry};
 ghost use Rattle.path_claim_lists.specs.path_claims.Seen.{claim_seen};
 ghost use Rattle.own_core.specs.ClaimEntries.{HasFileAt, IsClaimOf, claim_entry, listed_file_at};
 
@@ -21,7 +21,7 @@ use std::marker::PhantomData;
 fn listed_in_files<'a>(files: &List<'a, FileInfo<'a>>, file: u32) -> ListedFile<'a>
     requires low { 0 < file }
     requires high { file ≤ count_of (entries_in (list_value files.now)) }
-    ensures { IsOfEntry result (entry_in (list_value files.now) (file - 1)) }
+    ensures { DescribesEntry result (entry_in (list_value files.now) (file - 1)) }
 {
     let file = files.get(file as usize);
     listed_file(&file)
@@ -31,7 +31,7 @@ fn listed_in_files<'a>(files: &List<'a, FileInfo<'a>>, file: u32) -> ListedFile<
 /// count from 1.
 fn listed_in_folders<'a>(folders: &List<'a, DirInfo<'a>>, folder: u32, file: u32) -> ListedFile<'a>
     requires { HasFileAt (list_value folders.now) folder file }
-    ensures { IsOfEntry result (listed_file_at (list_value folders.now) folder file) }
+    ensures { DescribesEntry result (listed_file_at (list_value folders.now) folder file) }
 {
     let folder = folders.get(folder as usize);
     listed_in_files(&folder.files(), file)
@@ -41,7 +41,7 @@ fn listed_in_folders<'a>(folders: &List<'a, DirInfo<'a>>, folder: u32, file: u32
 fn listed_in<'a>(pkg: &PackageView<'a>, claim: &Claim<'_>) -> ListedFile<'a>
     requires { HasFileAt (entry_in (package_value pkg.now) PACKAGE_PATHS) claim.now.folder
         claim.now.file }
-    ensures { IsOfEntry result
+    ensures { DescribesEntry result
         (listed_file_at (entry_in (package_value pkg.now) PACKAGE_PATHS) claim.now.folder
         claim.now.file) }
 {
@@ -52,7 +52,7 @@ fn listed_in<'a>(pkg: &PackageView<'a>, claim: &Claim<'_>) -> ListedFile<'a>
 #[tactic(auto, unfolding(crate::specs::ClaimEntries::claim_entry))]
 pub(crate) fn listed_after<'a>(members: &Members<'a>, claim: &Claim<'_>) -> ListedFile<'a>
     requires { IsClaimOf (members_of members.now) (claim_seen claim.now) }
-    ensures { IsOfEntry result (claim_entry (members_of members.now) (claim_seen claim.now)) }
+    ensures { DescribesEntry result (claim_entry (members_of members.now) (claim_seen claim.now)) }
 {
     listed_in(members.view(claim.member as usize), claim)
 }
@@ -67,7 +67,7 @@ pub(crate) fn listed_before<'a>(
     _mark: PhantomData<PackageView<'a>>,
 ) -> ListedFile<'a>
     requires { IsClaimOf (members_of_kept (packages_of db.now)) (claim_seen claim.now) }
-    ensures { IsOfEntry result
+    ensures { DescribesEntry result
         (claim_entry (members_of_kept (packages_of db.now)) (claim_seen claim.now)) }
 {
     let pkg = db.package(claim.member as usize);

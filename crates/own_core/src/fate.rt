@@ -6,19 +6,19 @@ ghost use Rattle.std.specs.Prelude.{◌≡◌, ◌↔◌, ◌∷◌, ◌++◌, [
 ghost use Rattle.path_claim_lists.specs.adb_fields.JoinedPath.{joined_path};
 ghost use Rattle.adb_view.specs.Plain.{Plain};
 ghost use Rattle.base_core.specs.Read.{OnlyReads};
-ghost use Rattle.change_files.specs.Fate.{agrees_with_old, fate_beside, is_guarded};
+ghost use Rattle.change_files.specs.Fate.{agrees_with_old_entry, fate_of_protected_file, is_protected_path};
 ghost use Rattle.change_files.specs.FileChange.{old_entry};
 ghost use Rattle.change_files.specs.db_core.Seen.{members_of};
-ghost use Rattle.change_files.specs.file_guard.Listed.{IsOfEntry};
+ghost use Rattle.change_files.specs.file_guard.Listed.{DescribesEntry};
 ghost use Rattle.path_claim_lists.specs.path_claims.Seen.{claim_seen};
 ghost use Rattle.own_core.specs.ClaimEntries.{AreClaimsOf, IsClaimOf};
-ghost use Rattle.own_core.specs.Fates.{IsOfEntryIfAny, claim_fate, fate_seen, is_free_beside};
+ghost use Rattle.own_core.specs.Fates.{DescribesEntryIfAny, claim_fate, fate_seen, is_apk_new_name_free};
 ghost use Rattle.own_core.specs.Found.{AreAnswersByFiles, IsByFile};
-ghost use Rattle.own_core.specs.Sides.{HasClaims, file_change_of};
+ghost use Rattle.own_core.specs.Sides.{HasClaimsOfPackages, file_change_of};
 
 use crate::claim_change::ClaimChange;
 use crate::entries::{listed_after, listed_before};
-use crate::guarded::{LONGEST_NAME, aside_bytes, is_guarded};
+use crate::guarded::{LONGEST_NAME, aside_bytes, is_protected_path};
 use base_core::{Name, Tree, TreeFault};
 use change_files::{Comparison, ListedFile, compare_file};
 use path_claim_lists::{Claim, FilePath, find_claim, name_of_path};
@@ -41,8 +41,8 @@ fn listed_so_far<'o>(
     change: &ClaimChange<'_, 'o, '_>,
     path: &FilePath<'_>,
 ) -> Option<ListedFile<'o>>
-    requires { HasClaims change.now }
-    ensures { IsOfEntryIfAny result (old_entry (file_change_of change.now) (joined_path path.now)) }
+    requires { HasClaimsOfPackages change.now }
+    ensures { DescribesEntryIfAny result (old_entry (file_change_of change.now) (joined_path path.now)) }
 {
     match find_claim(change.before, path) {
         Some(i) => Some(listed_before(change.db, &change.before[i], PhantomData)),
@@ -51,13 +51,13 @@ fn listed_so_far<'o>(
 }
 
 /// Whether the name beside another one is short enough, and no package lists it after the change.
-fn is_free_beside(
+fn is_apk_new_name_free(
     alloc: Global,
     change: &ClaimChange<'_, '_, '_>,
     name: &Name,
 ) -> Result<bool, AllocError>
-    requires { HasClaims change.now }
-    ensures { IfOk result (λ free. free ≡ is_free_beside (file_change_of change.now) name.now) }
+    requires { HasClaimsOfPackages change.now }
+    ensures { IfOk result (λ free. free ≡ is_apk_new_name_free (file_change_of change.now) name.now) }
 {
     let bytes = aside_bytes(alloc, name.as_bytes())?;
     if bytes.len() > LONGEST_NAME {
@@ -72,9 +72,9 @@ fn is_free_beside(
 
 /// Whether the new entry agrees with the old one, if there was one: then the package's file did not
 /// change.
-fn agrees_with_old(new: &ListedFile<'_>, old: &Option<ListedFile<'_>>) -> bool
-    ensures { (entry : Plain) (before : Option Plain) → IsOfEntry new.now entry
-        → IsOfEntryIfAny old.now before → result ≡ agrees_with_old before entry }
+fn agrees_with_old_entry(new: &ListedFile<'_>, old: &Option<ListedFile<'_>>) -> bool
+    ensures { (entry : Plain) (before : Option Plain) → DescribesEntry new.now entry
+        → DescribesEntryIfAny old.now before → result ≡ agrees_with_old_entry before entry }
 {
     match old {
         Some(old) => old.agrees(new),
@@ -85,19 +85,19 @@ fn agrees_with_old(new: &ListedFile<'_>, old: &Option<ListedFile<'_>>) -> bool
 /// What is done with an added file if the user changed the one under its path. It is left out if it
 /// does not differ from the installed version, or cannot be laid beside; otherwise it is laid
 /// beside.
-fn fate_beside(
+fn fate_of_protected_file(
     alloc: Global,
     change: &ClaimChange<'_, '_, '_>,
     name: &Name,
     new: &ListedFile<'_>,
     old: &Option<ListedFile<'_>>,
 ) -> Result<AddedFileFate, AllocError>
-    requires claims { HasClaims change.now }
-    requires old { IsOfEntryIfAny old.now (old_entry (file_change_of change.now) name.now) }
-    ensures { IfOk result (λ fate. (entry : Plain) → IsOfEntry new.now entry
-        → fate_seen fate ≡ fate_beside (file_change_of change.now) name.now entry) }
+    requires claims { HasClaimsOfPackages change.now }
+    requires old { DescribesEntryIfAny old.now (old_entry (file_change_of change.now) name.now) }
+    ensures { IfOk result (λ fate. (entry : Plain) → DescribesEntry new.now entry
+        → fate_seen fate ≡ fate_of_protected_file (file_change_of change.now) name.now entry) }
 {
-    if agrees_with_old(new, old) || !is_free_beside(alloc, change, name)? {
+    if agrees_with_old_entry(new, old) || !is_apk_new_name_free(alloc, change, name)? {
         return Ok(AddedFileFate::GivesWay);
     }
     Ok(AddedFileFate::GoesAside)
@@ -105,7 +105,7 @@ fn fate_beside(
 
 /// Whether the file's bytes are neither those of the new entry nor those of the old one. `found` is
 /// none if there is no file.
-pub(crate) fn is_changed(found: Option<Comparison>) -> bool
+pub(crate) fn is_modified_from_entry(found: Option<Comparison>) -> bool
     ensures { IsTrue result ↔ IsSomeAnd found (λ c. (c.as_new ≡ false) × (c.as_old ≡ false)) }
 {
     match found {
@@ -122,9 +122,9 @@ fn guarded_fate<T: Tree>(
     change: &ClaimChange<'_, '_, '_>,
     claim: &Claim<'_>,
 ) -> Result<AddedFileFate, TreeFault>
-    requires claims { HasClaims change.now }
+    requires claims { HasClaimsOfPackages change.now }
     requires file { IsClaimOf (members_of change.now.members.now) (claim_seen claim.now) }
-    requires guarded { is_guarded (claim_seen claim.now).path ≡ true }
+    requires guarded { is_protected_path (claim_seen claim.now).path ≡ true }
     ensures fate { IfOk result (λ fate. IsByFile (claim_fate (file_change_of change.now))
         (T.history tree.old) (claim_seen claim.now) (fate_seen fate)) }
     ensures tree { OnlyReads TreeFault.Disk (T.history tree.old) (T.history tree.new)
@@ -135,8 +135,8 @@ fn guarded_fate<T: Tree>(
     let old = listed_so_far(change, &claim.path);
     let found = compare_file(tree, &name, Some(new), old)?;
     // The user changed the file: its bytes are kept.
-    if is_changed(found) {
-        let fate = fate_beside(alloc, change, &name, &new, &old)?;
+    if is_modified_from_entry(found) {
+        let fate = fate_of_protected_file(alloc, change, &name, &new, &old)?;
         return Ok(fate);
     }
     Ok(AddedFileFate::GoesIn)
@@ -150,14 +150,14 @@ fn fate_of<T: Tree>(
     change: &ClaimChange<'_, '_, '_>,
     claim: &Claim<'_>,
 ) -> Result<AddedFileFate, TreeFault>
-    requires claims { HasClaims change.now }
+    requires claims { HasClaimsOfPackages change.now }
     requires file { IsClaimOf (members_of change.now.members.now) (claim_seen claim.now) }
     ensures fate { IfOk result (λ fate. IsByFile (claim_fate (file_change_of change.now))
         (T.history tree.old) (claim_seen claim.now) (fate_seen fate)) }
     ensures tree { OnlyReads TreeFault.Disk (T.history tree.old) (T.history tree.new)
         (T.counts tree.old) (T.counts tree.new) result }
 {
-    if is_guarded(&claim.path) {
+    if is_protected_path(&claim.path) {
         return guarded_fate(alloc, tree, change, claim);
     }
     Ok(AddedFileFate::GoesIn)
@@ -178,7 +178,7 @@ pub(crate) fn fates_of<T: Tree>(
     change: &ClaimChange<'_, '_, '_>,
     coming: &[Claim<'_>],
 ) -> Result<Vec<AddedFileFate>, TreeFault>
-    requires claims { HasClaims change.now }
+    requires claims { HasClaimsOfPackages change.now }
     requires files { AreClaimsOf (members_of change.now.members.now) (map claim_seen coming.now) }
     ensures fates { IfOk result (λ fates. AreAnswersByFiles (claim_fate (file_change_of change.now))
         (T.history tree.old) (map claim_seen coming.now) (map fate_seen fates.items)) }

@@ -4,8 +4,8 @@
 
 ghost use Rattle.std.specs.Prelude.{◌≡◌, ◌≤◌, IfOk, length, option_map};
 ghost use Rattle.path_claim_lists.specs.adb_fields.JoinedPath.{joined_path};
-ghost use Rattle.change_files.specs.Fate.{aside_name, is_guarded, longest_name};
-ghost use Rattle.change_files.specs.FilesAfter.{path_beside};
+ghost use Rattle.change_files.specs.Fate.{apk_new_name, is_protected_path, longest_name};
+ghost use Rattle.change_files.specs.FilesAfter.{path_of_apk_new_name};
 
 use base_core::Name;
 use path_claim_lists::FilePath;
@@ -19,8 +19,8 @@ const ASIDE_ENDING: &[u8] = b".apk-new";
 
 /// Whether a path is that of configuration: it is below `etc`. The path has a folder and a name, or
 /// all of it is in the name.
-pub(crate) fn is_guarded(path: &FilePath<'_>) -> bool
-    ensures { result ≡ is_guarded (joined_path path.now) }
+pub(crate) fn is_protected_path(path: &FilePath<'_>) -> bool
+    ensures { result ≡ is_protected_path (joined_path path.now) }
 {
     if path.folder.is_empty() {
         return path.name.starts_with(b"etc/");
@@ -30,7 +30,7 @@ pub(crate) fn is_guarded(path: &FilePath<'_>) -> bool
 
 /// The bytes of the name beside a name, `NAME.apk-new`, however long.
 pub(crate) fn aside_bytes(alloc: Global, name: &[u8]) -> Result<Vec<u8>, AllocError>
-    ensures { IfOk result (λ bytes. bytes.items ≡ aside_name name.now) }
+    ensures { IfOk result (λ bytes. bytes.items ≡ apk_new_name name.now) }
 {
     let mut bytes = Vec::from_slice(alloc, name)?;
     bytes.extend_from_slice(ASIDE_ENDING)?;
@@ -39,8 +39,8 @@ pub(crate) fn aside_bytes(alloc: Global, name: &[u8]) -> Result<Vec<u8>, AllocEr
 
 /// The name beside a name, `NAME.apk-new`, if that is not too long for a name.
 pub fn name_beside(alloc: Global, name: &Name) -> Result<Name, AllocError>
-    requires { length (aside_name name.now) ≤ longest_name }
-    ensures { IfOk result (λ beside. beside ≡ aside_name name.now) }
+    requires { length (apk_new_name name.now) ≤ longest_name }
+    ensures { IfOk result (λ beside. beside ≡ apk_new_name name.now) }
 {
     let bytes = aside_bytes(alloc, name.as_bytes())?;
     Name::of(alloc, &bytes)
@@ -48,8 +48,8 @@ pub fn name_beside(alloc: Global, name: &Name) -> Result<Name, AllocError>
 
 /// The path beside which a file of this path would be laid: the part before the ending. None if the
 /// path does not have the ending.
-pub(crate) fn path_beside<'a>(path: &FilePath<'a>) -> Option<FilePath<'a>>
-    ensures { option_map joined_path result ≡ path_beside (joined_path path.now) }
+pub(crate) fn path_of_apk_new_name<'a>(path: &FilePath<'a>) -> Option<FilePath<'a>>
+    ensures { option_map joined_path result ≡ path_of_apk_new_name (joined_path path.now) }
 {
     match path.name.strip_suffix(ASIDE_ENDING) {
         Some(name) => Some(FilePath {

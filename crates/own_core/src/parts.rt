@@ -7,23 +7,23 @@ ghost use Rattle.std.specs.Prelude.{◌≡◌, IfOk, OnOk, Some, [], ◌∷◌, 
 ghost use Rattle.std.specs.List.{filter};
 ghost use Rattle.std.specs.List.Sorted.{IsSorted};
 ghost use Rattle.path_claim_lists.specs.adb_fields.JoinedPath.{joined_path};
-ghost use Rattle.base_core.specs.Listed.{IsRising};
+ghost use Rattle.base_core.specs.Listed.{AreSortedDistinctNames};
 ghost use Rattle.base_core.specs.Read.{OnlyReads};
 ghost use Rattle.change_files.specs.db_core.Members.{members_of_kept};
 ghost use Rattle.change_files.specs.db_core.Seen.{members_of, packages_of};
 ghost use Rattle.path_claim_lists.specs.path_claims.Claims.{claim_cmp};
 ghost use Rattle.path_claim_lists.specs.path_claims.Seen.{claim_seen};
 ghost use Rattle.own_core.specs.ClaimEntries.{AreClaimsOf, IsClaimOf};
-ghost use Rattle.own_core.specs.Fates.{fate_seen, is_fate, is_flag, marked_claims};
+ghost use Rattle.own_core.specs.Fates.{fate_seen, are_equal_fates, are_equal_flags, marked_claims};
 ghost use Rattle.own_core.specs.Found.{AreAnswersByFiles, IsByFile};
-ghost use Rattle.own_core.specs.Going.{is_file_kept, is_beside, is_path_left_over};
+ghost use Rattle.own_core.specs.Going.{is_file_kept, is_apk_new_name_of, is_path_left_over};
 ghost use Rattle.own_core.specs.Parts.{AreFilesByFate};
-ghost use Rattle.own_core.specs.Sides.{HasClaims, claims_before, file_change_of};
+ghost use Rattle.own_core.specs.Sides.{HasClaimsOfPackages, claims_before, file_change_of};
 
 use crate::claim_change::ClaimChange;
 use crate::entries::listed_before;
-use crate::fate::{AddedFileFate, fates_of, is_changed};
-use crate::guarded::{is_guarded, path_beside};
+use crate::fate::{AddedFileFate, fates_of, is_modified_from_entry};
+use crate::guarded::{is_protected_path, path_of_apk_new_name};
 use base_core::{Tree, TreeFault};
 use change_files::compare_file;
 use path_claim_lists::{Claim, FilePath, find_claim, find_next_claim, name_of_path};
@@ -31,8 +31,8 @@ use std::alloc::{AllocError, Global};
 use std::marker::PhantomData;
 
 /// Whether two fates are the same.
-fn is_fate(one: AddedFileFate, other: AddedFileFate) -> bool
-    ensures { result ≡ is_fate (fate_seen one) (fate_seen other) }
+fn are_equal_fates(one: AddedFileFate, other: AddedFileFate) -> bool
+    ensures { result ≡ are_equal_fates (fate_seen one) (fate_seen other) }
 {
     match (one, other) {
         (AddedFileFate::GoesIn, AddedFileFate::GoesIn) => true,
@@ -52,11 +52,11 @@ fn claims_with<'n>(
 ) -> Result<Vec<Claim<'n>>, AllocError>
     requires { length fates.now ≡ length coming.now }
     ensures { IfOk result (λ some. map claim_seen some.items ≡ marked_claims
-        (is_fate (fate_seen fate)) (map claim_seen coming.now) (map fate_seen fates.now)) }
+        (are_equal_fates (fate_seen fate)) (map claim_seen coming.now) (map fate_seen fates.now)) }
 {
     let mut some = Vec::new(alloc);
     for i in 0..coming.len() {
-        if is_fate(fate, fates[i]) {
+        if are_equal_fates(fate, fates[i]) {
             some.push(coming[i])?;
         }
     }
@@ -65,11 +65,11 @@ fn claims_with<'n>(
 
 /// Whether a file is laid beside another one under this path: the path is the name beside that of
 /// one of these claims.
-fn is_beside(asides: &[Claim<'_>], path: &FilePath<'_>) -> bool
+fn is_apk_new_name_of(asides: &[Claim<'_>], path: &FilePath<'_>) -> bool
     requires { IsSorted claim_cmp (map claim_seen asides.now) }
-    ensures { result ≡ is_beside (map claim_seen asides.now) (joined_path path.now) }
+    ensures { result ≡ is_apk_new_name_of (map claim_seen asides.now) (joined_path path.now) }
 {
-    match path_beside(path) {
+    match path_of_apk_new_name(path) {
         Some(beside) => find_claim(asides, &beside).is_some(),
         None => false,
     }
@@ -83,7 +83,7 @@ fn is_path_left_over(
     path: &FilePath<'_>,
     next: &mut usize,
 ) -> bool
-    requires claims { HasClaims change.now }
+    requires claims { HasClaimsOfPackages change.now }
     requires sorted { IsSorted claim_cmp (map claim_seen asides.now) }
     ensures { result ≡ is_path_left_over (file_change_of change.now) (map claim_seen asides.now)
         (joined_path path.now) }
@@ -91,7 +91,7 @@ fn is_path_left_over(
     if find_next_claim(change.after, path, next).is_some() {
         return false;
     }
-    !is_beside(asides, path)
+    !is_apk_new_name_of(asides, path)
 }
 
 /// The claims of the packages before the change whose paths are left over: no package lists them
@@ -101,7 +101,7 @@ fn left_over_claims<'o>(
     change: &ClaimChange<'_, 'o, '_>,
     asides: &[Claim<'_>],
 ) -> Result<Vec<Claim<'o>>, AllocError>
-    requires claims { HasClaims change.now }
+    requires claims { HasClaimsOfPackages change.now }
     requires sorted { IsSorted claim_cmp (map claim_seen asides.now) }
     ensures { IfOk result (λ left. map claim_seen left.items
         ≡ filter (λ c. is_path_left_over (file_change_of change.now) (map claim_seen asides.now)
@@ -134,13 +134,13 @@ fn is_file_kept<T: Tree>(
         (T.counts tree.old) (T.counts tree.new) result }
 {
     // Only configuration may be kept, and not with `--purge`: no file is read.
-    if change.purge || !is_guarded(&claim.path) {
+    if change.purge || !is_protected_path(&claim.path) {
         return Ok(false);
     }
     let name = name_of_path(alloc, &claim.path)?;
     let listed = listed_before(change.db, claim, PhantomData);
     let found = compare_file(tree, &name, None, Some(listed))?;
-    Ok(is_changed(found))
+    Ok(is_modified_from_entry(found))
 }
 
 /// Adds a flag to the others.
@@ -175,8 +175,8 @@ fn stays_of<T: Tree>(
 }
 
 /// Whether two flags are the same.
-fn is_flag(one: bool, other: bool) -> bool
-    ensures { result ≡ is_flag one other }
+fn are_equal_flags(one: bool, other: bool) -> bool
+    ensures { result ≡ are_equal_flags one other }
 {
     if one { other } else { !other }
 }
@@ -190,11 +190,11 @@ fn claims_where<'o>(
 ) -> Result<Vec<Claim<'o>>, AllocError>
     requires { length flags.now ≡ length left.now }
     ensures { IfOk result (λ some. map claim_seen some.items
-        ≡ marked_claims (is_flag flag) (map claim_seen left.now) flags.now) }
+        ≡ marked_claims (are_equal_flags flag) (map claim_seen left.now) flags.now) }
 {
     let mut some = Vec::new(alloc);
     for i in 0..left.len() {
-        if is_flag(flag, flags[i]) {
+        if are_equal_flags(flag, flags[i]) {
             some.push(left[i])?;
         }
     }
@@ -222,9 +222,9 @@ pub fn parts_of<'o, 'n, T: Tree>(
     change: &ClaimChange<'_, 'o, 'n>,
     coming: &[Claim<'n>],
 ) -> Result<Parts<'o, 'n>, TreeFault>
-    requires claims { HasClaims change.now }
+    requires claims { HasClaimsOfPackages change.now }
     requires files { AreClaimsOf (members_of change.now.members.now) (map claim_seen coming.now) }
-    requires rising { IsRising (map (λ c. c.path) (map claim_seen coming.now)) }
+    requires rising { AreSortedDistinctNames (map (λ c. c.path) (map claim_seen coming.now)) }
     ensures parts { IfOk result
         (AreFilesByFate change.now (T.history tree.old) (map claim_seen coming.now)) }
     ensures tree { OnlyReads TreeFault.Disk (T.history tree.old) (T.history tree.new)

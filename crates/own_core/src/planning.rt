@@ -9,25 +9,25 @@ ghost use Rattle.base_core.specs.Name.{IsName};
 ghost use Rattle.base_core.specs.Read.{OnlyReads};
 ghost use Rattle.base_core.specs.Tree.{files_of};
 ghost use Rattle.change_files.specs.NamesAfter.{name_change};
-ghost use Rattle.change_files.specs.PlanLists.{first_reserved};
-ghost use Rattle.path_claim_lists.specs.Named.{HaveNames};
-ghost use Rattle.path_claim_lists.specs.Once.{HasFirsts};
+ghost use Rattle.change_files.specs.PlanLists.{first_reserved_path};
+ghost use Rattle.path_claim_lists.specs.Named.{HaveValidPaths};
+ghost use Rattle.path_claim_lists.specs.Once.{HasFirstClaimOfEachPath};
 ghost use Rattle.change_files.specs.db_core.Members.{member_listings};
 ghost use Rattle.change_files.specs.db_core.Seen.{members_of};
-ghost use Rattle.change_files.specs.file_owners.Owners.{claims_in, contested_of, owned_of};
+ghost use Rattle.change_files.specs.file_owners.Owners.{claims_in, first_contested_path_of_members, owned_flags_of};
 ghost use Rattle.base_core.specs.Sorted.{sorted_by};
 ghost use Rattle.path_claim_lists.specs.path_claims.Claims.{claim_cmp};
 ghost use Rattle.path_claim_lists.specs.path_claims.ContestedSeen.{contested_seen};
 ghost use Rattle.path_claim_lists.specs.path_claims.Seen.{claim_seen};
 ghost use Rattle.path_claim_lists.specs.path_clashes.ClashSeen.{clash_seen};
-ghost use Rattle.path_claim_lists.specs.path_clashes.FirstClash.{IsClashOf, IsClashOverSomeFiles};
+ghost use Rattle.path_claim_lists.specs.path_clashes.FirstClash.{IsFirstClashOrNone, IsFirstClashOverSomeFiles};
 ghost use Rattle.own_core.specs.ClaimEntries.{AreClaimsOf, IsClaimOf, is_of_added_owner, is_added_and_reserved};
 ghost use Rattle.own_core.specs.ListsSeen.{AreListsOfParts};
-ghost use Rattle.own_core.specs.Parts.{AreFilesByFate, asides_of, kept_of_parts, removed_of, written_claims_of};
-ghost use Rattle.own_core.specs.NamesChanged.{names_changed_by};
-ghost use Rattle.own_core.specs.Planned.{HasOwnNames, HasSources, IsOwnedBy, IsPlanFor, IsPlanOf, IsRefusalFor, IsRefusalOf, MayBeRefusalOf, change_by, member_name_at};
-ghost use Rattle.own_core.specs.Sides.{HasClaims, claims_after, file_change_of};
-ghost use Rattle.own_core.specs.WritesSeen.{HaveNamesBeside};
+ghost use Rattle.own_core.specs.Parts.{AreFilesByFate, apk_new_claims_of, kept_claims_of, removed_claims_of, written_claims_of};
+ghost use Rattle.own_core.specs.NamesChanged.{name_change_of_parts};
+ghost use Rattle.own_core.specs.Planned.{HasDisjointUnreservedNames, HasSources, NamesRivalsIfContested, IsPlanFor, IsPlanOf, IsRefusalFor, IsRefusalOf, MayBeRefusalOf, file_change_between, member_name_at};
+ghost use Rattle.own_core.specs.Sides.{HasClaimsOfPackages, claims_after, file_change_of};
+ghost use Rattle.own_core.specs.WritesSeen.{CanHaveApkNewNames};
 
 use crate::claim_change::ClaimChange;
 use crate::clashes::{ReleasedPaths, names_beside, written_paths};
@@ -105,20 +105,20 @@ fn clash_of<T: Tree>(
     parts: &Parts<'_, '_>,
     coming: &[Claim<'_>],
 ) -> Result<Option<Clash>, TreeFault>
-    requires claims { HasClaims change.now }
+    requires claims { HasClaimsOfPackages change.now }
     requires files { AreClaimsOf (members_of change.now.members.now) (map claim_seen coming.now) }
-    requires firsts { HasFirsts
+    requires firsts { HasFirstClaimOfEachPath
         (filter (is_of_added_owner (members_of change.now.members.now)) (claims_after change.now))
         (map claim_seen coming.now) }
     requires parts { AreFilesByFate change.now (T.history tree.old) (map claim_seen coming.now)
         parts.now }
     // If the tree's files are observable, the answer is the first clash.
-    ensures clash { IfOk result (λ found. IfObservable (T.history tree.old) (λ v. IsClashOf
+    ensures clash { IfOk result (λ found. IfObservable (T.history tree.old) (λ v. IsFirstClashOrNone
         (name_change (file_change_of change.now) (files_of v)) (files_of v)
         (option_map clash_seen found))) }
     // Over any tree, even one whose files are not observable, the answer may be the first clash.
     ensures may { IfOk result (λ found.
-        IsClashOverSomeFiles (names_changed_by change.now parts.now) (option_map clash_seen found)) }
+        IsFirstClashOverSomeFiles (name_change_of_parts change.now parts.now) (option_map clash_seen found)) }
     ensures tree { OnlyReads TreeFault.Disk (T.history tree.old) (T.history tree.new)
         (T.counts tree.old) (T.counts tree.new) result }
 {
@@ -141,7 +141,7 @@ fn is_added_and_reserved(members: &Members<'_>, claim: &Claim<'_>) -> bool
 }
 
 /// The first reserved path in byte order that an added package lists.
-fn first_reserved(
+fn first_reserved_path(
     alloc: Global,
     members: &Members<'_>,
     claims: &[Claim<'_>],
@@ -149,7 +149,7 @@ fn first_reserved(
     requires files { AreClaimsOf (members_of members.now) (map claim_seen claims.now) }
     requires sorted { map claim_seen claims.now
         ≡ sorted_by claim_cmp (claims_in (members_of members.now)) }
-    ensures { IfOk result (λ found. found ≡ first_reserved (members_of members.now)) }
+    ensures { IfOk result (λ found. found ≡ first_reserved_path (members_of members.now)) }
 {
     for claim in claims {
         if is_added_and_reserved(members, claim) {
@@ -175,10 +175,10 @@ fn contest(
     members: &Members<'_>,
     contested: &Contested<'_>,
 ) -> Result<PlanFault, AllocError>
-    requires contested { contested_of (members_of members.now)
+    requires contested { first_contested_path_of_members (members_of members.now)
         ≡ Some (contested_seen contested.now) }
     requires named { All (λ l. IsName l.path) (member_listings (members_of members.now)) }
-    ensures { IfOk result (IsOwnedBy (members_of members.now)) }
+    ensures { IfOk result (NamesRivalsIfContested (members_of members.now)) }
 {
     let path = name_of_path(alloc, &contested.path)?;
     let first = member_name_at(alloc, members, contested.rivals.first)?;
@@ -192,10 +192,10 @@ fn contest(
 
 /// The plan of a change that is not refused: the lists of its parts, with the flags `owned`.
 fn lists_of(alloc: Global, parts: &Parts<'_, '_>, owned: Vec<bool>) -> Result<FilePlan, AllocError>
-    requires removed { HaveNames (removed_of parts.now) }
-    requires kept { HaveNames (kept_of_parts parts.now) }
-    requires ins { HaveNames (written_claims_of parts.now) }
-    requires asides { HaveNamesBeside (asides_of parts.now) }
+    requires removed { HaveValidPaths (removed_claims_of parts.now) }
+    requires kept { HaveValidPaths (kept_claims_of parts.now) }
+    requires ins { HaveValidPaths (written_claims_of parts.now) }
+    requires asides { CanHaveApkNewNames (apk_new_claims_of parts.now) }
     ensures { IfOk result (AreListsOfParts parts.now owned.items) }
 {
     let removals = names_of_claims(alloc, &parts.removed)?;
@@ -221,15 +221,15 @@ fn plan_of_claims<T: Tree>(
     contested: &Option<Contested<'_>>,
     owned: Vec<bool>,
 ) -> Result<FilePlan, PlanFault>
-    requires claims { HasClaims change.now }
-    requires firsts { HasFirsts
+    requires claims { HasClaimsOfPackages change.now }
+    requires firsts { HasFirstClaimOfEachPath
         (filter (is_of_added_owner (members_of change.now.members.now)) (claims_after change.now))
         (map claim_seen coming.now) }
     requires contested { option_map contested_seen contested.now
-        ≡ contested_of (members_of change.now.members.now) }
-    requires owned { owned.items ≡ owned_of (members_of change.now.members.now) }
+        ≡ first_contested_path_of_members (members_of change.now.members.now) }
+    requires owned { owned.items ≡ owned_flags_of (members_of change.now.members.now) }
     // Test 1 was passed: no added package lists a reserved path.
-    requires unreserved { first_reserved (members_of change.now.members.now) ≡ None }
+    requires unreserved { first_reserved_path (members_of change.now.members.now) ≡ None }
     requires named { All (λ l. IsName l.path)
         (member_listings (members_of change.now.members.now)) }
     ensures plan { IfOk result (IsPlanOf (file_change_of change.now) (T.history tree.old)) }
@@ -275,9 +275,9 @@ pub fn plan<'c, T: Tree>(
     // The lists are the change's over the tree's files if they are observable, and otherwise over
     // some.
     ensures plan { IfOk result
-        (IsPlanOf (change_by old.now after.now purge) (T.history tree.old)) }
+        (IsPlanOf (file_change_between old.now after.now purge) (T.history tree.old)) }
     // The removed and written names are names that a package may list, and none is both.
-    ensures names { IfOk result HasOwnNames }
+    ensures names { IfOk result HasDisjointUnreservedNames }
     // The contents of each write are a file of an added package.
     ensures sources { IfOk result (HasSources (members_of after.now)) }
     // Each file has its owner, and no path is reserved or contested.
@@ -285,10 +285,10 @@ pub fn plan<'c, T: Tree>(
     // If the tree's files are observable: a clash is the first one, and has priority over a
     // contested path.
     ensures refusal { IfErr result (λ fault. IfObservable (T.history tree.old) (λ v.
-        IsRefusalOf (change_by old.now after.now purge) (files_of v) fault)) }
+        IsRefusalOf (file_change_between old.now after.now purge) (files_of v) fault)) }
     // The same over some files, if the tree's are not observable.
     ensures may { IfErr result
-        (MayBeRefusalOf (change_by old.now after.now purge) (T.history tree.old)) }
+        (MayBeRefusalOf (file_change_between old.now after.now purge) (T.history tree.old)) }
     // What the packages alone show: a reserved path has priority, and a contested one has its
     // rivals.
     ensures cause { IfErr result (IsRefusalFor (members_of after.now)) }
@@ -302,7 +302,7 @@ pub fn plan<'c, T: Tree>(
     let found = owners_of_files(alloc, after)?;
     let owned = found.owned;
     let contested = found.contested;
-    let reserved = first_reserved(alloc, after, &found.claims)?;
+    let reserved = first_reserved_path(alloc, after, &found.claims)?;
     if let Some(path) = reserved {
         return Err(PlanFault::Reserved { path });
     }

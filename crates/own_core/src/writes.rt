@@ -6,8 +6,8 @@
 ghost use Rattle.std.specs.Prelude.{◌≡◌, ◌<◌, ◌==◌, ◌++◌, ◌∷◌, [], IfOk, OnOk, Some, length, map, slice_get};
 ghost use Rattle.base_core.specs.Sorted.{sorted_by};
 ghost use Rattle.path_claim_lists.specs.path_claims.Seen.{claim_seen};
-ghost use Rattle.path_claim_lists.specs.Named.{HaveNames};
-ghost use Rattle.own_core.specs.WritesSeen.{HaveNamesBeside, aside_write, claim_write, write_by, write_cmp, write_seen, writes_in};
+ghost use Rattle.path_claim_lists.specs.Named.{HaveValidPaths};
+ghost use Rattle.own_core.specs.WritesSeen.{CanHaveApkNewNames, apk_new_write, claim_write, write_of_claim_under, write_cmp, write_seen, writes_in};
 
 use crate::guarded::name_beside;
 use base_core::Name;
@@ -62,7 +62,7 @@ impl Writes {
 /// Adds a write of the file of a claim, under a name.
 fn add_write(writes: &mut Vec<Write>, name: Name, claim: &Claim<'_>) -> Result<(), AllocError>
     ensures { OnOk result (map write_seen writes.new.items
-        ≡ map write_seen writes.old.items ++ write_by name (claim_seen claim.now) ∷ []) }
+        ≡ map write_seen writes.old.items ++ write_of_claim_under name (claim_seen claim.now) ∷ []) }
 {
     writes.push(Write {
         name,
@@ -75,7 +75,7 @@ fn add_write(writes: &mut Vec<Write>, name: Name, claim: &Claim<'_>) -> Result<(
 
 /// Adds for each claim a write under its own path.
 fn add_in(alloc: Global, writes: &mut Vec<Write>, ins: &[Claim<'_>]) -> Result<(), AllocError>
-    requires { HaveNames (map claim_seen ins.now) }
+    requires { HaveValidPaths (map claim_seen ins.now) }
     ensures { OnOk result (map write_seen writes.new.items
         ≡ map write_seen writes.old.items ++ map claim_write (map claim_seen ins.now)) }
 {
@@ -92,9 +92,9 @@ fn add_beside(
     writes: &mut Vec<Write>,
     asides: &[Claim<'_>],
 ) -> Result<(), AllocError>
-    requires { HaveNamesBeside (map claim_seen asides.now) }
+    requires { CanHaveApkNewNames (map claim_seen asides.now) }
     ensures { OnOk result (map write_seen writes.new.items
-        ≡ map write_seen writes.old.items ++ map aside_write (map claim_seen asides.now)) }
+        ≡ map write_seen writes.old.items ++ map apk_new_write (map claim_seen asides.now)) }
 {
     for claim in asides {
         let name = name_of_path(alloc, &claim.path)?;
@@ -120,10 +120,10 @@ pub(crate) fn writes_of(
     ins: &[Claim<'_>],
     asides: &[Claim<'_>],
 ) -> Result<Writes, AllocError>
-    requires ins { HaveNames (map claim_seen ins.now) }
-    requires asides { HaveNamesBeside (map claim_seen asides.now) }
+    requires ins { HaveValidPaths (map claim_seen ins.now) }
+    requires asides { CanHaveApkNewNames (map claim_seen asides.now) }
     ensures { IfOk result (λ writes. writes_in writes ≡ sorted_by write_cmp
-        (map claim_write (map claim_seen ins.now) ++ map aside_write (map claim_seen asides.now))) }
+        (map claim_write (map claim_seen ins.now) ++ map apk_new_write (map claim_seen asides.now))) }
 {
     let mut writes = Vec::new(alloc);
     add_in(alloc, &mut writes, ins)?;

@@ -10,7 +10,7 @@ use Rattle.indexmap.specs.IndexMap.{insert_entry}
 use Rattle.base_core.proofs.AtName.{either_way}
 use Rattle.solve_core.specs.candidate_core.Candidates.{Candidate}
 use Rattle.package_changes.specs.Changes.{is_selected_named}
-use Rattle.package_changes.specs.SelectedNames.{names_and_places, place_beside}
+use Rattle.package_changes.specs.SelectedNames.{names_and_places, place_paired_with_name}
 use Rattle.package_changes.proofs.Lists.{left_at}
 
 abbrev pub Entries : Type 0
@@ -23,23 +23,23 @@ pub or_none : (o : Option ℕ) → o ≡ option_or o None
 or_none None = refl
 or_none (Some n) = refl
 
-pub looked_up : (name : List ℕ) (es : Entries) → lookup (is_key name) es ≡ place_beside name (names_and_places es)
+pub looked_up : (name : List ℕ) (es : Entries) → lookup (is_key name) es ≡ place_paired_with_name name (names_and_places es)
 looked_up name [] = refl
 looked_up name (e ∷ es) =
     ap (λ t. if t then Some e.1 else lookup (is_key name) es) (either_way name e.0.now)
     ∙ ap (λ o. if bytes_eq e.0.now name then Some e.1 else o) (looked_up name es)
 
 -- a name that is there stays as it is
-pub there_already : (name other : List ℕ) (place x : ℕ) (table : List (List ℕ × ℕ)) → Some x ≡ place_beside name table → place_beside other table ≡ option_or (place_beside other table) (if bytes_eq name other then Some place else None)
+pub there_already : (name other : List ℕ) (place x : ℕ) (table : List (List ℕ × ℕ)) → Some x ≡ place_paired_with_name name table → place_paired_with_name other table ≡ option_or (place_paired_with_name other table) (if bytes_eq name other then Some place else None)
 there_already name other place x table h = go (bytes_eq name other) refl
   where
-    go : (t : Bool) → bytes_eq name other ≡ t → place_beside other table ≡ option_or (place_beside other table) (if t then Some place else None)
+    go : (t : Bool) → bytes_eq name other ≡ t → place_paired_with_name other table ≡ option_or (place_paired_with_name other table) (if t then Some place else None)
     go true e =
-        subst (λ o. o ≡ option_or o (Some place)) (h ∙ ap (λ z. place_beside z table) ((bytes_decides name other).0 e)) refl
-    go false e = or_none (place_beside other table)
+        subst (λ o. o ≡ option_or o (Some place)) (h ∙ ap (λ z. place_paired_with_name z table) ((bytes_decides name other).0 e)) refl
+    go false e = or_none (place_paired_with_name other table)
 
 -- a new name stands behind the others
-pub one_more_name : (key : Bor (List ℕ)) (other : List ℕ) (place : ℕ) (es : Entries) → None ≡ lookup (is_key key.now) es → place_beside other (names_and_places (insert_entry (λ (a b : Bor (List ℕ)). bytes_eq a.now b.now) es key place)) ≡ option_or (place_beside other (names_and_places es)) (if bytes_eq key.now other then Some place else None)
+pub one_more_name : (key : Bor (List ℕ)) (other : List ℕ) (place : ℕ) (es : Entries) → None ≡ lookup (is_key key.now) es → place_paired_with_name other (names_and_places (insert_entry (λ (a b : Bor (List ℕ)). bytes_eq a.now b.now) es key place)) ≡ option_or (place_paired_with_name other (names_and_places es)) (if bytes_eq key.now other then Some place else None)
 one_more_name key other place [] h = refl
 one_more_name key other place (e ∷ es) h = go (bytes_eq key.now e.0.now) refl (one_more_name key other place es)
   where
@@ -48,8 +48,8 @@ one_more_name key other place (e ∷ es) h = go (bytes_eq key.now e.0.now) refl 
     behind false o p is = is
 
     go : (t : Bool) → bytes_eq key.now e.0.now ≡ t
-        → (None ≡ lookup (is_key key.now) es → place_beside other (names_and_places (insert_entry (λ (a b : Bor (List ℕ)). bytes_eq a.now b.now) es key place)) ≡ option_or (place_beside other (names_and_places es)) (if bytes_eq key.now other then Some place else None))
-        → place_beside other (names_and_places (if t then (e.0, place) ∷ es else e ∷ insert_entry (λ (a b : Bor (List ℕ)). bytes_eq a.now b.now) es key place)) ≡ option_or (place_beside other (names_and_places (e ∷ es))) (if bytes_eq key.now other then Some place else None)
+        → (None ≡ lookup (is_key key.now) es → place_paired_with_name other (names_and_places (insert_entry (λ (a b : Bor (List ℕ)). bytes_eq a.now b.now) es key place)) ≡ option_or (place_paired_with_name other (names_and_places es)) (if bytes_eq key.now other then Some place else None))
+        → place_paired_with_name other (names_and_places (if t then (e.0, place) ∷ es else e ∷ insert_entry (λ (a b : Bor (List ℕ)). bytes_eq a.now b.now) es key place)) ≡ option_or (place_paired_with_name other (names_and_places (e ∷ es))) (if bytes_eq key.now other then Some place else None)
     go true g more =
         let bad : None ≡ Some e.1 = h ∙ ap (λ t. if t then Some e.1 else lookup (is_key key.now) es) g in absurd (cc)
     go false g more =

@@ -4,7 +4,7 @@ use Rattle.std.specs.Prelude.{bytes_eq}
 use Rattle.std.specs.List.{dedup, dedup_from}
 use Rattle.std.specs.Cmp.Lexicographic.{bytes_decides}
 use Rattle.base_core.proofs.AtName.{either_way}
-use Rattle.change_files.specs.PlanLists.{unless_next, without_repeats}
+use Rattle.change_files.specs.PlanLists.{prepend_unless_repeated, without_repeats}
 
 abbrev pub is_same_name : Bor (List ℕ) → Bor (List ℕ) → Bool
 is_same_name a b = bytes_eq a.now b.now
@@ -18,22 +18,22 @@ begins : (x : List ℕ) (xs : List (List ℕ)) → Begins x (without_repeats (x 
 begins x [] = record { rest = []; is = refl }
 begins x (y ∷ ys) = go (begins y ys)
   where
-    go : Begins y (without_repeats (y ∷ ys)) → Begins x (unless_next x (without_repeats (y ∷ ys)))
-    go b = subst (λ r. Begins x (unless_next x r)) (sym b.is) (pick (bytes_eq x y) refl)
+    go : Begins y (without_repeats (y ∷ ys)) → Begins x (prepend_unless_repeated x (without_repeats (y ∷ ys)))
+    go b = subst (λ r. Begins x (prepend_unless_repeated x r)) (sym b.is) (pick (bytes_eq x y) refl)
       where
         pick : (t : Bool) → bytes_eq x y ≡ t → Begins x (cond t (y ∷ b.rest) (x ∷ y ∷ b.rest))
         pick true e = record { rest = b.rest; is = ap (λ z. z ∷ b.rest) (sym ((bytes_decides x y).0 e)) }
         pick false e = record { rest = y ∷ b.rest; is = refl }
 
-repeated : (x y : List ℕ) (ys : List (List ℕ)) → bytes_eq x y ≡ true → unless_next x (without_repeats (y ∷ ys)) ≡ without_repeats (y ∷ ys)
+repeated : (x y : List ℕ) (ys : List (List ℕ)) → bytes_eq x y ≡ true → prepend_unless_repeated x (without_repeats (y ∷ ys)) ≡ without_repeats (y ∷ ys)
 repeated x y ys e =
     let b = begins y ys in
-    subst (λ r. unless_next x r ≡ r) (sym b.is) (ap (λ t. cond t (y ∷ b.rest) (x ∷ y ∷ b.rest)) e)
+    subst (λ r. prepend_unless_repeated x r ≡ r) (sym b.is) (ap (λ t. cond t (y ∷ b.rest) (x ∷ y ∷ b.rest)) e)
 
-another : (x y : List ℕ) (ys : List (List ℕ)) → bytes_eq x y ≡ false → unless_next x (without_repeats (y ∷ ys)) ≡ x ∷ without_repeats (y ∷ ys)
+another : (x y : List ℕ) (ys : List (List ℕ)) → bytes_eq x y ≡ false → prepend_unless_repeated x (without_repeats (y ∷ ys)) ≡ x ∷ without_repeats (y ∷ ys)
 another x y ys e =
     let b = begins y ys in
-    subst (λ r. unless_next x r ≡ x ∷ r) (sym b.is) (ap (λ t. cond t (y ∷ b.rest) (x ∷ y ∷ b.rest)) e)
+    subst (λ r. prepend_unless_repeated x r ≡ x ∷ r) (sym b.is) (ap (λ t. cond t (y ∷ b.rest) (x ∷ y ∷ b.rest)) e)
 
 kept_from : (x : Bor (List ℕ)) (xs : List (Bor (List ℕ))) → map (λ n. n.now) (dedup_from is_same_name x xs) ≡ without_repeats (x.now ∷ map (λ n. n.now) xs)
 kept_from x [] = refl

@@ -8,11 +8,11 @@ use Rattle.std.proofs.lemmas.List.Sorted.{list_any-IsPermutation}
 use Rattle.adb_view.specs.Plain.{Plain}
 use Rattle.change_files.specs.db_core.Packages.{is_package_named}
 use Rattle.solve_core.specs.candidate_core.Candidates.{Candidate}
-use Rattle.solve_core.specs.candidate_core.Rank.{SealedPool, candidate_at, is_at}
+use Rattle.solve_core.specs.candidate_core.Rank.{SealedPool, candidate_at, candidate_at_passes}
 use Rattle.report_core.specs.Reports.{Change}
-use Rattle.package_changes.specs.Changes.{change_between, change_of_name, changes_of, is_selected_named, names_on_both_sides}
+use Rattle.package_changes.specs.Changes.{change_between, change_of_name, changes_of, is_selected_named, names_before_and_selected}
 use Rattle.package_changes.specs.Placed.{PlacedChange, PlacedName, PlacedReplacement, candidates_at, change_in, new_candidate, old_package, placed_change_of, placed_changes_of, placed_name_of, placed_name_with, placed_names_of, replacement_of, selected_place}
-use Rattle.package_changes.specs.SelectedNames.{place_beside, placed_name_at}
+use Rattle.package_changes.specs.SelectedNames.{place_paired_with_name, placed_name_at}
 
 -- ---- the first by its place
 
@@ -42,17 +42,17 @@ pub found_at_position : {X : Type 0} (p : X → Bool) (xs : List X) → option_a
 found_at_position p xs = at_position p [] xs
 
 -- the first of the candidates at places
-pub found_at_place : (pool : SealedPool) (p : Candidate → Bool) (places : List ℕ) → option_and_then (candidate_at pool) (find (is_at pool p) places) ≡ find p (candidates_at pool places)
+pub found_at_place : (pool : SealedPool) (p : Candidate → Bool) (places : List ℕ) → option_and_then (candidate_at pool) (find (candidate_at_passes pool p) places) ≡ find p (candidates_at pool places)
 found_at_place pool p [] = refl
 found_at_place pool p (n ∷ places) = go (candidate_at pool n) refl (found_at_place pool p places)
   where
-    pick : (t : Bool) (c : Candidate) → candidate_at pool n ≡ Some c → option_and_then (candidate_at pool) (find (is_at pool p) places) ≡ find p (candidates_at pool places)
-        → option_and_then (candidate_at pool) (cond t (Some n) (find (is_at pool p) places)) ≡ cond t (Some c) (find p (candidates_at pool places))
+    pick : (t : Bool) (c : Candidate) → candidate_at pool n ≡ Some c → option_and_then (candidate_at pool) (find (candidate_at_passes pool p) places) ≡ find p (candidates_at pool places)
+        → option_and_then (candidate_at pool) (cond t (Some n) (find (candidate_at_passes pool p) places)) ≡ cond t (Some c) (find p (candidates_at pool places))
     pick true c e rest = e
     pick false c e rest = rest
 
-    go : (c : Option Candidate) → candidate_at pool n ≡ c → option_and_then (candidate_at pool) (find (is_at pool p) places) ≡ find p (candidates_at pool places)
-        → option_and_then (candidate_at pool) (cond (option_map_or p c false) (Some n) (find (is_at pool p) places)) ≡ find p (cons_option c (candidates_at pool places))
+    go : (c : Option Candidate) → candidate_at pool n ≡ c → option_and_then (candidate_at pool) (find (candidate_at_passes pool p) places) ≡ find p (candidates_at pool places)
+        → option_and_then (candidate_at pool) (cond (option_map_or p c false) (Some n) (find (candidate_at_passes pool p) places)) ≡ find p (cons_option c (candidates_at pool places))
     go None e rest = rest
     go (Some c) e rest = pick (p c) c e rest
 
@@ -83,12 +83,12 @@ mapped f g h same (a ∷ xs) =
 
 pub changes_alone : (p : PlacedReplacement) → map (λ (c : PlacedChange). c.change) (placed_changes_of p) ≡ changes_of (replacement_of p)
 unfolding placed_changes_of changes_of
-changes_alone p = mapped (λ (c : PlacedChange). c.change) (placed_change_of p) (change_of_name (replacement_of p)) (one_change p) (names_on_both_sides (replacement_of p))
+changes_alone p = mapped (λ (c : PlacedChange). c.change) (placed_change_of p) (change_of_name (replacement_of p)) (one_change p) (names_before_and_selected (replacement_of p))
 
 -- ---- names with their places
 
 -- the table leads to the places of the selected candidates
-pub by_table : (p : PlacedReplacement) (table : List (List ℕ × ℕ)) → ((name : List ℕ) → place_beside name table ≡ selected_place p.pool p.trace name) → (names : List (List ℕ)) → map (placed_name_at p.before p.pool p.again table) names ≡ map (placed_name_of p) names
+pub by_table : (p : PlacedReplacement) (table : List (List ℕ × ℕ)) → ((name : List ℕ) → place_paired_with_name name table ≡ selected_place p.pool p.trace name) → (names : List (List ℕ)) → map (placed_name_at p.before p.pool p.again table) names ≡ map (placed_name_of p) names
 unfolding placed_name_of
 by_table p table leads [] = refl
 by_table p table leads (name ∷ names) =
@@ -105,9 +105,9 @@ by_sorted before pool again sorted table same (name ∷ names) =
     made : Bool → PlacedName
     made is_again = record {
       name = name;
-      change = change_between is_again name (option_and_then (slice_get before) (position_from (is_package_named name) 0 before)) (option_and_then (candidate_at pool) (place_beside name table));
+      change = change_between is_again name (option_and_then (slice_get before) (position_from (is_package_named name) 0 before)) (option_and_then (candidate_at pool) (place_paired_with_name name table));
       old = position_from (is_package_named name) 0 before;
-      new = place_beside name table;
+      new = place_paired_with_name name table;
     }
 
 changes_of_map : {A X Y : Type 0} (f : X → Option Y) (g : A → X) (h : A → Option Y) → ((a : A) → f (g a) ≡ h a) → (xs : List A) → filter_map f (map g xs) ≡ filter_map h xs
@@ -122,7 +122,7 @@ change_in_name p name = refl
 -- the changes among the names are the changes
 pub changes_among : (p : PlacedReplacement) → filter_map change_in (placed_names_of p) ≡ placed_changes_of p
 unfolding placed_names_of placed_changes_of
-changes_among p = changes_of_map change_in (placed_name_of p) (placed_change_of p) (change_in_name p) (names_on_both_sides (replacement_of p))
+changes_among p = changes_of_map change_in (placed_name_of p) (placed_change_of p) (change_in_name p) (names_before_and_selected (replacement_of p))
 
 -- ---- what the places of a name lead to
 

@@ -2,11 +2,11 @@
 use Rattle.std.proofs.Common.{◌≡◌, ℕ, false, true, List, [], ◌∷◌, Option, Some, None, refl}
 use Rattle.std.specs.Prelude.{codes}
 use Rattle.adb_view.specs.Plain.{Plain, blob, more, none, obj}
-use Rattle.change_files.specs.PlanLists.{names_in_order}
-use Rattle.dep_core.specs.Dependency.{Dependency, dependency_by}
+use Rattle.change_files.specs.PlanLists.{sorted_distinct_names}
+use Rattle.dep_core.specs.Dependency.{Dependency, dependency_from_parts}
 use Rattle.solve_core.specs.candidate_core.Candidates.{Candidate, candidate_by}
 use Rattle.package_changes.specs.Changes.{change_of_name, changes_of}
-use Rattle.package_changes.specs.Report.{stay_lines}
+use Rattle.package_changes.specs.Report.{still_needed_lines}
 use Rattle.report_core.specs.Reports.{Install, Purge, Reinstall, Replace, Upgrade}
 use Rattle.version_core.specs.Order.{is_version, tokens, version_cmp}
 use Rattle.version_core.specs.Token.{component_lexeme, next_lexeme, number_lexeme}
@@ -22,7 +22,7 @@ candidate_of repository name version depends =
     candidate_by (info_of name version) name (Some version) [] depends [] [] 0 repository None true
 
 abbrev needs : List ℕ → Dependency
-needs name = dependency_by name None 1 false None
+needs name = dependency_from_parts name None 1 false None
 
 abbrev a_and_b : List Plain
 a_and_b = package_of (codes "a") (codes "1") ∷ package_of (codes "b") (codes "1") ∷ []
@@ -33,41 +33,41 @@ both_selected =
 
 -- `del b`, where a needs b
 nothing_changes : changes_of (record { before = a_and_b; selected = both_selected; again = [] }) ≡ []
-unfolding changes_of change_of_name names_in_order
+unfolding changes_of change_of_name sorted_distinct_names
 nothing_changes = refl
 
-b_stays : stay_lines a_and_b both_selected (codes "b" ∷ []) ≡ codes "b stays; required by: a\n"
-unfolding names_in_order
+b_stays : still_needed_lines a_and_b both_selected (codes "b" ∷ []) ≡ codes "b stays; required by: a\n"
+unfolding sorted_distinct_names
 b_stays = refl
 
 -- `del a` then
 both_go : changes_of (record { before = a_and_b; selected = []; again = [] }) ≡ Purge (codes "a") (codes "1") ∷ Purge (codes "b") (codes "1") ∷ []
-unfolding changes_of change_of_name names_in_order
+unfolding changes_of change_of_name sorted_distinct_names
 both_go = refl
 
-none_stays : stay_lines a_and_b [] (codes "a" ∷ []) ≡ []
-unfolding names_in_order
+none_stays : still_needed_lines a_and_b [] (codes "a" ∷ []) ≡ []
+unfolding sorted_distinct_names
 none_stays = refl
 
 -- a name of world that no package had
 b_comes : changes_of (record { before = []; selected = candidate_of (Some 1) (codes "b") (codes "1") [] ∷ []; again = [] }) ≡ Install (codes "b") (codes "1") ∷ []
-unfolding changes_of change_of_name names_in_order
+unfolding changes_of change_of_name sorted_distinct_names
 b_comes = refl
 
-what_comes_does_not_stay : stay_lines [] (candidate_of (Some 1) (codes "b") (codes "1") [] ∷ []) (codes "b" ∷ []) ≡ []
-unfolding names_in_order
+what_comes_does_not_stay : still_needed_lines [] (candidate_of (Some 1) (codes "b") (codes "1") [] ∷ []) (codes "b" ∷ []) ≡ []
+unfolding sorted_distinct_names
 what_comes_does_not_stay = refl
 
 -- `fix b`
 b_comes_again : changes_of (record { before = package_of (codes "b") (codes "1.0-r0") ∷ []; selected = candidate_of None (codes "b") (codes "1.0-r0") [] ∷ []; again = codes "b" ∷ [] }) ≡ Reinstall (codes "b") (codes "1.0-r0") ∷ []
-unfolding changes_of change_of_name names_in_order
+unfolding changes_of change_of_name sorted_distinct_names
 b_comes_again = refl
 
 -- the same version with no id is another package
 b_is_replaced : changes_of (record { before = package_of (codes "b") (codes "1") ∷ []; selected = candidate_of (Some 1) (codes "b") (codes "1") [] ∷ []; again = [] }) ≡ Replace (codes "b") (codes "1") (codes "1") ∷ []
-unfolding changes_of change_of_name names_in_order is_version version_cmp tokens next_lexeme number_lexeme component_lexeme
+unfolding changes_of change_of_name sorted_distinct_names is_version version_cmp tokens next_lexeme number_lexeme component_lexeme
 b_is_replaced = refl
 
 b_is_upgraded : changes_of (record { before = package_of (codes "b") (codes "1.9") ∷ []; selected = candidate_of (Some 1) (codes "b") (codes "1.10") [] ∷ []; again = [] }) ≡ Upgrade (codes "b") (codes "1.9") (codes "1.10") ∷ []
-unfolding changes_of change_of_name names_in_order is_version version_cmp tokens next_lexeme number_lexeme component_lexeme
+unfolding changes_of change_of_name sorted_distinct_names is_version version_cmp tokens next_lexeme number_lexeme component_lexeme
 b_is_upgraded = refl

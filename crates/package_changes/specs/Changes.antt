@@ -12,7 +12,7 @@ use Rattle.adb_view.specs.Values.{entry_in, text_in}
 use Rattle.change_files.specs.adb_fields.Repeated.{package_name}
 use Rattle.change_files.specs.db_core.Packages.{installed_id, is_package_named}
 use Rattle.change_files.specs.file_owners.Replaces.{version_text}
-use Rattle.change_files.specs.PlanLists.{names_in_order}
+use Rattle.change_files.specs.PlanLists.{sorted_distinct_names}
 use Rattle.solve_core.specs.candidate_core.Candidates.{Candidate, is_same_id, version_of_text}
 use Rattle.std.specs.Option.{option_cmp}
 use Rattle.version_core.specs.Order.{version_cmp}
@@ -40,8 +40,8 @@ is_installed_as version id c =
     not (is_some c.repository) || (bytes_eq version (selected_version c) && is_same_id id c.id)
 
 -- whether a candidate is this very package of the database, so that the package is kept as it is
-abbrev pub is_same_selected : Plain → Candidate → Bool
-is_same_selected pkg c = is_installed_as (version_text pkg) (installed_id pkg) c
+abbrev pub is_candidate_this_package : Plain → Candidate → Bool
+is_candidate_this_package pkg c = is_installed_as (version_text pkg) (installed_id pkg) c
 
 -- the change of a package from one version to another, by their order
 abbrev pub version_change : List ℕ → List ℕ → List ℕ → Ordering → Change
@@ -56,8 +56,8 @@ version_text_cmp old new = option_cmp version_cmp (version_of_text old) (version
 
 -- the change of a package whose candidate is selected: none if the candidate is the package, unless it
 -- is to be installed again
-abbrev pub unless_same : List ℕ → Plain → Candidate → Bool → Bool → Option Change
-unless_same name pkg c is_same is_again =
+abbrev pub change_unless_same : List ℕ → Plain → Candidate → Bool → Bool → Option Change
+change_unless_same name pkg c is_same is_again =
     if not is_same then Some (version_change name (version_text pkg) (selected_version c)
     (version_text_cmp (version_text pkg) (selected_version c)))
     else if is_again then Some (Reinstall name (selected_version c)) else None
@@ -68,7 +68,7 @@ change_between is_again name None None = None
 change_between is_again name None (Some c) = Some (Install name (selected_version c))
 change_between is_again name (Some pkg) None = Some (Purge name (version_text pkg))
 change_between is_again name (Some pkg) (Some c) =
-    unless_same name pkg c (is_same_selected pkg c) is_again
+    change_unless_same name pkg c (is_candidate_this_package pkg c) is_again
 
 -- the change of the package of this name, if it changes
 unfoldable pub change_of_name : Replacement → List ℕ → Option Change
@@ -77,10 +77,10 @@ change_of_name r name =
     (find (is_package_named name) r.before) (find (is_selected_named name) r.selected)
 
 -- the names of the packages before and of the selected ones, in byte order, each once
-abbrev pub names_on_both_sides : Replacement → List (List ℕ)
-names_on_both_sides r =
-    names_in_order (map package_name r.before ++ map (λ (c : Candidate). c.name) r.selected)
+abbrev pub names_before_and_selected : Replacement → List (List ℕ)
+names_before_and_selected r =
+    sorted_distinct_names (map package_name r.before ++ map (λ (c : Candidate). c.name) r.selected)
 
 -- the changes of packages, in byte order of names
 unfoldable pub changes_of : Replacement → List Change
-changes_of r = filter_map (change_of_name r) (names_on_both_sides r)
+changes_of r = filter_map (change_of_name r) (names_before_and_selected r)

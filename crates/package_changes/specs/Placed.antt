@@ -5,9 +5,9 @@ use Rattle.std.specs.List.{filter_map, find, list_any, position_from}
 use Rattle.adb_view.specs.Plain.{Plain}
 use Rattle.change_files.specs.db_core.Packages.{is_package_named}
 use Rattle.solve_core.specs.candidate_core.Candidates.{Candidate}
-use Rattle.solve_core.specs.candidate_core.Rank.{SealedPool, candidate_at, is_at}
+use Rattle.solve_core.specs.candidate_core.Rank.{SealedPool, candidate_at, candidate_at_passes}
 use Rattle.report_core.specs.Reports.{Change}
-use Rattle.package_changes.specs.Changes.{Replacement, change_between, is_selected_named, names_on_both_sides}
+use Rattle.package_changes.specs.Changes.{Replacement, change_between, is_selected_named, names_before_and_selected}
 
 -- a replacement, by places: the packages before, the candidates, the places of the selected ones among
 -- them, and the names that are to be installed again
@@ -28,7 +28,7 @@ replacement_of p =
 
 -- the place among the candidates of the selected one with this name, if one has it
 abbrev pub selected_place : SealedPool → List ℕ → List ℕ → Option ℕ
-selected_place pool trace name = find (is_at pool (is_selected_named name)) trace
+selected_place pool trace name = find (candidate_at_passes pool (is_selected_named name)) trace
 
 -- the change of a package (`change`); its place among the packages before, counted from 0, if it was
 -- there (`old`); and the place of its candidate, if one is selected (`new`)
@@ -53,7 +53,7 @@ placed_change_of p name =
 
 -- the changes with their places, in byte order of names
 unfoldable pub placed_changes_of : PlacedReplacement → List PlacedChange
-placed_changes_of p = filter_map (placed_change_of p) (names_on_both_sides (replacement_of p))
+placed_changes_of p = filter_map (placed_change_of p) (names_before_and_selected (replacement_of p))
 
 -- ---- each name on both sides
 
@@ -84,7 +84,7 @@ placed_name_of p name =
 
 -- the names on both sides with their changes, in byte order
 unfoldable pub placed_names_of : PlacedReplacement → List PlacedName
-placed_names_of p = map (placed_name_of p) (names_on_both_sides (replacement_of p))
+placed_names_of p = map (placed_name_of p) (names_before_and_selected (replacement_of p))
 
 -- the package before that the first place of a name leads to, if there is one
 abbrev pub old_package : List Plain → PlacedName → Option Plain

@@ -5,11 +5,11 @@ use Rattle.std.specs.List.{filter, flat_map, list_any}
 use Rattle.adb_view.specs.Plain.{Plain}
 use Rattle.adb_view.specs.FieldIndexes.{INFO_INSTALLED_SIZE}
 use Rattle.adb_view.specs.Values.{entry_in, int_in}
-use Rattle.change_files.specs.PlanLists.{names_in_order}
+use Rattle.change_files.specs.PlanLists.{sorted_distinct_names}
 use Rattle.change_files.specs.db_core.Packages.{is_package_named}
 use Rattle.dep_core.specs.Dependency.{Dependency}
 use Rattle.solve_core.specs.candidate_core.Candidates.{Candidate, meets_dependency}
-use Rattle.report_core.specs.Reports.{change_lines, report_line, stays_text, sum_text}
+use Rattle.report_core.specs.Reports.{change_lines, report_line, still_needed_text, sum_text}
 use Rattle.package_changes.specs.Changes.{Replacement, changes_of, is_selected_named}
 
 -- the bytes that a candidate takes when it is installed, by its installed size
@@ -24,18 +24,18 @@ needs_candidate c needed =
     list_any (λ (d : Dependency). not d.conflict && meets_dependency d needed) c.depends
 
 -- whether another candidate needs the first one
-abbrev pub is_in_need : Candidate → Candidate → Bool
-is_in_need needed c = not (bytes_eq c.name needed.name) && needs_candidate c needed
+abbrev pub is_other_candidate_needing : Candidate → Candidate → Bool
+is_other_candidate_needing needed c = not (bytes_eq c.name needed.name) && needs_candidate c needed
 
 -- the names of the other selected candidates that need one, in byte order
-abbrev pub names_in_need : List Candidate → Candidate → List (List ℕ)
-names_in_need selected needed =
-    names_in_order (map (λ (c : Candidate). c.name) (filter (is_in_need needed) selected))
+abbrev pub names_needing_candidate : List Candidate → Candidate → List (List ℕ)
+names_needing_candidate selected needed =
+    sorted_distinct_names (map (λ (c : Candidate). c.name) (filter (is_other_candidate_needing needed) selected))
 
 -- a line for each selected package of this name, of which there is one at most
-abbrev pub selected_stay_lines : List Candidate → List ℕ → List ℕ
-selected_stay_lines selected name =
-    flat_map (λ (c : Candidate). report_line (stays_text name (names_in_need selected c)))
+abbrev pub still_needed_lines_of_name : List Candidate → List ℕ → List ℕ
+still_needed_lines_of_name selected name =
+    flat_map (λ (c : Candidate). report_line (still_needed_text name (names_needing_candidate selected c)))
     (filter (is_selected_named name) selected)
 
 -- whether a package before has the name
@@ -44,9 +44,9 @@ was_installed before name = list_any (is_package_named name) before
 
 -- The lines on the names that were to be removed, in byte order, each once: those that are kept. A name
 -- that was not installed has no line.
-abbrev pub stay_lines : List Plain → List Candidate → List (List ℕ) → List ℕ
-stay_lines before selected to_remove =
-    flat_map (selected_stay_lines selected) (filter (was_installed before) (names_in_order to_remove))
+abbrev pub still_needed_lines : List Plain → List Candidate → List (List ℕ) → List ℕ
+still_needed_lines before selected to_remove =
+    flat_map (still_needed_lines_of_name selected) (filter (was_installed before) (sorted_distinct_names to_remove))
 
 -- ---- the report
 
@@ -59,5 +59,5 @@ selected_sum_line selected = report_line (sum_text (sum_by candidate_size select
 -- were to be removed, and the sum
 unfoldable pub simulated_report : Replacement → List (List ℕ) → List ℕ
 simulated_report r to_remove =
-    change_lines (changes_of r) ++ stay_lines r.before r.selected to_remove ++ selected_sum_line
+    change_lines (changes_of r) ++ still_needed_lines r.before r.selected to_remove ++ selected_sum_line
     r.selected

@@ -44,6 +44,6 @@ abbrev pub placed_names_seen : PlacedNames → List PlacedName
 placed_names_seen names = map placed_name_seen names.list.items
 
 -- the replacement by a database, a pool, a selection and the names that are to be installed again
-abbrev pub replacement_by : Db → SealedPool → List ℕ → List (List ℕ) → PlacedReplacement
-replacement_by db pool trace again =
+abbrev pub placed_replacement_from_parts : Db → SealedPool → List ℕ → List (List ℕ) → PlacedReplacement
+placed_replacement_from_parts db pool trace again =
     record { before = packages_of db; pool = pool; trace = trace; again = again }

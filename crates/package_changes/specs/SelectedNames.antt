@@ -13,13 +13,13 @@ abbrev pub names_and_places : List (Bor (List ℕ) × ℕ) → List (List ℕ ×
 names_and_places entries = map (λ (e : Bor (List ℕ) × ℕ). (e.0.now, e.1)) entries
 
 -- the place beside a name in the table, if the name is there
-abbrev pub place_beside : List ℕ → List (List ℕ × ℕ) → Option ℕ
-place_beside name [] = None
-place_beside name (e ∷ es) = if bytes_eq e.0 name then Some e.1 else place_beside name es
+abbrev pub place_paired_with_name : List ℕ → List (List ℕ × ℕ) → Option ℕ
+place_paired_with_name name [] = None
+place_paired_with_name name (e ∷ es) = if bytes_eq e.0 name then Some e.1 else place_paired_with_name name es
 
 -- what happens to the package of a name, if the selected candidates have these names and places
 abbrev pub placed_name_at :
     List Plain → SealedPool → List (List ℕ) → List (List ℕ × ℕ) → List ℕ → PlacedName
 placed_name_at before pool again selected name =
     placed_name_with before pool again name (position_from (is_package_named name) 0 before)
-    (place_beside name selected)
+    (place_paired_with_name name selected)

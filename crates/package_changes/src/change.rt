@@ -128,7 +128,7 @@ pub(crate) fn replace<'a>(
 {
     let pkg = db.package(i);
     let old = OldPackage::of(&pkg, PhantomData);
-    if !is_same_selected(&old, new) {
+    if !is_candidate_this_package(&old, new) {
         return Some(version_change(name, old.version, new.info.version()));
     }
     if is_again {
@@ -139,7 +139,7 @@ pub(crate) fn replace<'a>(
 
 /// Whether the candidate is the installed package: it is of no repository, or has the same text of
 /// the version and the same id.
-fn is_same_selected(old: &OldPackage<'_>, new: &Candidate<'_>) -> bool
+fn is_candidate_this_package(old: &OldPackage<'_>, new: &Candidate<'_>) -> bool
     ensures { result
         ≡ is_installed_as old.now.version.now old.now.id.now (candidate_value new.now) }
 {

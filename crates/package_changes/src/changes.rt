@@ -3,7 +3,7 @@
 //! package that changes, in byte order of the names. `PlacedNames` has the kept packages, too.
 ghost use Rattle.package_changes.specs.Changes.{changes_of};
 ghost use Rattle.package_changes.specs.Placed.{change_in, placed_changes_of, replacement_of};
-ghost use Rattle.package_changes.specs.Seen.{changes_seen, placed_change_seen, placed_name_seen, placed_names_seen, replacement_by};
+ghost use Rattle.package_changes.specs.Seen.{changes_seen, placed_change_seen, placed_name_seen, placed_names_seen, placed_replacement_from_parts};
 ghost use Rattle.std.specs.List.{filter_map};
 ghost use Rattle.std.specs.Prelude.{◌≡◌, ◌<◌, ◌==◌, ◌++◌, Some, length, map, option_to_list, slice_get, IfOk, OnOk};
 
@@ -33,10 +33,10 @@ impl<'a> Changes<'a> {
     ) -> Result<Changes<'a>, AllocError>
         // The change of each package, by the rule.
         ensures changes { IfOk result (λ changes. map (λ c. c.change) (changes_seen changes)
-            ≡ changes_of (replacement_of (replacement_by db.now pool.now trace.now again.now))) }
+            ≡ changes_of (replacement_of (placed_replacement_from_parts db.now pool.now trace.now again.now))) }
         // The same with the places of each package on both sides.
         ensures places { IfOk result (λ changes. changes_seen changes
-            ≡ placed_changes_of (replacement_by db.now pool.now trace.now again.now)) }
+            ≡ placed_changes_of (placed_replacement_from_parts db.now pool.now trace.now again.now)) }
     {
         let names = PlacedNames::of(alloc, db, pool, trace, again)?;
         Changes::of_names(alloc, &names)

@@ -1,8 +1,8 @@
 //! Names in byte order, each once.
 //! Only their order has a rule in a document: `docs/commands.md`, "`add` and `del`", reports
-//! packages in byte order of their names. The contract is that of `names_in_order`, over the
+//! packages in byte order of their names. The contract is that of `sorted_distinct_names`, over the
 //! definition of that name in `change_files`.
-ghost use Rattle.change_files.specs.PlanLists.{names_in_order, without_repeats};
+ghost use Rattle.change_files.specs.PlanLists.{sorted_distinct_names, without_repeats};
 ghost use Rattle.base_core.specs.ByteOrder.{bytes_cmp};
 ghost use Rattle.base_core.specs.Sorted.{sorted_by};
 ghost use Rattle.std.specs.Prelude.{◌≡◌, map, IfOk};
@@ -11,10 +11,10 @@ use base_core::Words;
 use std::alloc::{AllocError, Global};
 
 /// The names in byte order, each once.
-#[tactic(auto, unfolding(change_files::specs::PlanLists::names_in_order))]
-pub fn names_in_order<'a>(names: Vec<&'a [u8]>) -> Result<Vec<&'a [u8]>, AllocError>
+#[tactic(auto, unfolding(change_files::specs::PlanLists::sorted_distinct_names))]
+pub fn sorted_distinct_names<'a>(names: Vec<&'a [u8]>) -> Result<Vec<&'a [u8]>, AllocError>
     ensures { IfOk result (λ sorted. map (λ n. n.now) sorted.items
-        ≡ names_in_order (map (λ n. n.now) names.entry.items)) }
+        ≡ sorted_distinct_names (map (λ n. n.now) names.entry.items)) }
 {
     let mut names = names;
     sort_names(&mut names)?;

@@ -3,12 +3,12 @@
 //! `fix`"; the terms in `docs/names.md`, "A change of what is installed".
 ghost use Rattle.change_files.specs.adb_fields.Repeated.{package_name};
 ghost use Rattle.change_files.specs.adb_schema.Views.{package_value};
-ghost use Rattle.change_files.specs.PlanLists.{names_in_order};
+ghost use Rattle.change_files.specs.PlanLists.{sorted_distinct_names};
 ghost use Rattle.change_files.specs.db_core.Packages.{is_package_named};
 ghost use Rattle.change_files.specs.db_core.Seen.{packages_of};
 ghost use Rattle.package_changes.specs.Changes.{change_between};
 ghost use Rattle.package_changes.specs.Placed.{candidates_at, new_candidate, placed_name_with, placed_names_of};
-ghost use Rattle.package_changes.specs.Seen.{change_seen, placed_name_seen, placed_names_seen, replacement_by};
+ghost use Rattle.package_changes.specs.Seen.{change_seen, placed_name_seen, placed_names_seen, placed_replacement_from_parts};
 ghost use Rattle.package_changes.specs.SelectedNames.{placed_name_at};
 ghost use Rattle.solve_core.specs.candidate_core.Candidates.{Candidate as CandidateValue};
 ghost use Rattle.solve_core.specs.candidate_core.Rank.{candidate_at};
@@ -18,7 +18,7 @@ ghost use Rattle.std.specs.List.{list_any, position_from};
 ghost use Rattle.std.specs.Prelude.{◌≡◌, ◌<◌, ◌==◌, ◌++◌, Some, length, map, bytes_eq, option_map, option_and_then, option_to_list, slice_get, IfOk, OnOk};
 
 use crate::change::{Change, install, purge, replace};
-use crate::names::names_in_order;
+use crate::names::sorted_distinct_names;
 use crate::selected::{SelectedNames, candidate_at};
 use base_core::Words;
 use change_files::{Db, PackageView};
@@ -69,10 +69,10 @@ impl<'a> PlacedNames<'a> {
         again: &Words,
     ) -> Result<PlacedNames<'a>, AllocError>
         ensures { IfOk result (λ names. placed_names_seen names
-            ≡ placed_names_of (replacement_by db.now pool.now trace.now again.now)) }
+            ≡ placed_names_of (placed_replacement_from_parts db.now pool.now trace.now again.now)) }
     {
         let selected = SelectedNames::of(alloc, pool, trace)?;
-        let names = names_on_both_sides(alloc, db, pool, trace)?;
+        let names = names_before_and_selected(alloc, db, pool, trace)?;
         let sorted = SortedWords::of(alloc, again)?;
         let list = placed_names(alloc, db, pool, &sorted, &selected, &names)?;
         Ok(PlacedNames { list })
@@ -103,20 +103,20 @@ impl<'a> PlacedNames<'a> {
 
 /// The names of the packages of a database and of the selected candidates, in byte order, each
 /// once.
-fn names_on_both_sides<'a>(
+fn names_before_and_selected<'a>(
     alloc: Global,
     db: &Db<'a>,
     pool: &Sealed<'a>,
     trace: &Trace,
 ) -> Result<Vec<&'a [u8]>, AllocError>
     ensures { IfOk result (λ names. map (λ n. n.now) names.items
-        ≡ names_in_order (map package_name (packages_of db.now)
+        ≡ sorted_distinct_names (map package_name (packages_of db.now)
         ++ map (λ (c : CandidateValue). c.name) (candidates_at pool.now trace.now))) }
 {
     let mut names = Vec::new(alloc);
     push_old_names(&mut names, db)?;
     push_selected_names(&mut names, pool, trace)?;
-    names_in_order(names)
+    sorted_distinct_names(names)
 }
 
 /// Adds the names of the packages of a database, in its order.

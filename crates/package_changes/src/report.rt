@@ -4,9 +4,9 @@
 ghost use Rattle.package_changes.specs.Changes.{changes_of};
 ghost use Rattle.package_changes.specs.Placed.{candidates_at, replacement_of};
 ghost use Rattle.package_changes.specs.Report.{candidate_size, selected_sum_line, simulated_report};
-ghost use Rattle.package_changes.specs.Seen.{change_seen, changes_seen, replacement_by};
+ghost use Rattle.package_changes.specs.Seen.{change_seen, changes_seen, placed_replacement_from_parts};
 ghost use Rattle.solve_core.specs.candidate_core.Rank.{candidate_at};
-ghost use Rattle.report_core.specs.Reports.{change_lines, change_text, from_version_to, name_and_version, numbered_change, report_line, sum_text};
+ghost use Rattle.report_core.specs.Reports.{change_lines, change_text, name_with_version_change, name_with_version_in_brackets, numbered_change, report_line, sum_text};
 ghost use Rattle.std.specs.Fmt.{decimal};
 ghost use Rattle.std.specs.Option.{option_map_or};
 ghost use Rattle.std.specs.Prelude.{◌≡◌, ◌+◌, ◌≤◌, ◌++◌, ℕ, List, codes, length, map, sum_by, IfOk, OnOk};
@@ -34,9 +34,9 @@ pub fn simulated_report(
 ) -> Result<Report, AllocError>
     ensures { IfOk result (λ report. (again : List (List ℕ))
         → map (λ c. c.change) (changes_seen changes.now)
-        ≡ changes_of (replacement_of (replacement_by db.now pool.now trace.now again))
+        ≡ changes_of (replacement_of (placed_replacement_from_parts db.now pool.now trace.now again))
         → report ≡ simulated_report
-        (replacement_of (replacement_by db.now pool.now trace.now again)) to_remove.now) }
+        (replacement_of (placed_replacement_from_parts db.now pool.now trace.now again)) to_remove.now) }
 {
     let mut report = Report::new(alloc);
     push_change_lines(&mut report, changes)?;
@@ -108,7 +108,7 @@ fn push_version(
     version: &[u8],
 ) -> Result<(), AllocError>
     ensures { OnOk result (report.new
-        ≡ report.old ++ (word.now ++ name_and_version name.now version.now)) }
+        ≡ report.old ++ (word.now ++ name_with_version_in_brackets name.now version.now)) }
 {
     report.push(word)?;
     report.push(name)?;
@@ -127,7 +127,7 @@ fn push_versions(
     new: &[u8],
 ) -> Result<(), AllocError>
     ensures { OnOk result (report.new
-        ≡ report.old ++ (word.now ++ from_version_to name.now old.now new.now)) }
+        ≡ report.old ++ (word.now ++ name_with_version_change name.now old.now new.now)) }
 {
     report.push(word)?;
     report.push(name)?;

@@ -4,9 +4,9 @@
 //! candidate of a name.
 ghost use Rattle.package_changes.specs.Changes.{is_selected_named};
 ghost use Rattle.package_changes.specs.Placed.{selected_place};
-ghost use Rattle.package_changes.specs.SelectedNames.{place_beside};
+ghost use Rattle.package_changes.specs.SelectedNames.{place_paired_with_name};
 ghost use Rattle.std.specs.Option.{option_or};
-ghost use Rattle.solve_core.specs.candidate_core.Rank.{candidate_at, is_at};
+ghost use Rattle.solve_core.specs.candidate_core.Rank.{candidate_at, candidate_at_passes};
 ghost use Rattle.solve_core.specs.candidate_core.Values.{candidate_value};
 ghost use Rattle.std.specs.Prelude.{◌≡◌, ℕ, List, [], Some, None, if◌then◌else◌, bytes_eq, option_map, IfOk, OnOk};
 
@@ -49,7 +49,7 @@ impl<'a> SelectedNames<'a> {
         trace: &Trace,
     ) -> Result<SelectedNames<'a>, AllocError>
         ensures { IfOk result (λ names. (name : List ℕ)
-            → place_beside name names ≡ selected_place pool.now trace.now name) }
+            → place_paired_with_name name names ≡ selected_place pool.now trace.now name) }
     {
         let mut names = SelectedNames::new(alloc);
         for i in 0..trace.len() {
@@ -69,7 +69,7 @@ impl<'a> SelectedNames<'a> {
 
     /// The place of the first selected candidate with this name, if one has it.
     pub fn place_of(&self, name: &[u8]) -> Option<u32>
-        ensures { result ≡ place_beside name.now self.now }
+        ensures { result ≡ place_paired_with_name name.now self.now }
     {
         match self.by_name.get(name) {
             Some(place) => Some(*place),
@@ -79,9 +79,9 @@ impl<'a> SelectedNames<'a> {
 
     // Adds the candidate at a place, if there is one and no other has its name.
     fn add(&mut self, pool: &Sealed<'a>, id: CandId) -> Result<(), AllocError>
-        ensures { OnOk result ((name : List ℕ) → place_beside name self.new
-            ≡ option_or (place_beside name self.old)
-            (if is_at pool.now (is_selected_named name) id then Some id else None)) }
+        ensures { OnOk result ((name : List ℕ) → place_paired_with_name name self.new
+            ≡ option_or (place_paired_with_name name self.old)
+            (if candidate_at_passes pool.now (is_selected_named name) id then Some id else None)) }
     {
         match pool.at(id) {
             None => Ok(()),
@@ -94,8 +94,8 @@ impl<'a> SelectedNames<'a> {
 
     // Adds a name with a place, unless the name is there.
     fn add_name(&mut self, name: &'a [u8], place: u32) -> Result<(), AllocError>
-        ensures { OnOk result ((other : List ℕ) → place_beside other self.new
-            ≡ option_or (place_beside other self.old)
+        ensures { OnOk result ((other : List ℕ) → place_paired_with_name other self.new
+            ≡ option_or (place_paired_with_name other self.old)
             (if bytes_eq name.entry.now other then Some place else None)) }
     {
         match self.by_name.get(name) {

@@ -1,18 +1,18 @@
 //! Packages that were to be removed and are kept, since others need them. The line is defined in
 //! `docs/commands.md`, "`add` and `del`", what is reported: `NAME stays`.
-ghost use Rattle.change_files.specs.PlanLists.{names_in_order};
+ghost use Rattle.change_files.specs.PlanLists.{sorted_distinct_names};
 ghost use Rattle.change_files.specs.db_core.Seen.{packages_of};
 ghost use Rattle.package_changes.specs.Changes.{is_selected_named};
 ghost use Rattle.package_changes.specs.Placed.{candidates_at};
-ghost use Rattle.package_changes.specs.SelectedNames.{place_beside};
-ghost use Rattle.package_changes.specs.Report.{is_in_need, names_in_need, selected_stay_lines, stay_lines, was_installed};
+ghost use Rattle.package_changes.specs.SelectedNames.{place_paired_with_name};
+ghost use Rattle.package_changes.specs.Report.{is_other_candidate_needing, names_needing_candidate, still_needed_lines_of_name, still_needed_lines, was_installed};
 ghost use Rattle.solve_core.specs.candidate_core.Candidates.{Candidate};
 ghost use Rattle.solve_core.specs.candidate_core.Rank.{candidate_at};
-ghost use Rattle.report_core.specs.Reports.{report_line, with_spaces_before, stays_text};
+ghost use Rattle.report_core.specs.Reports.{report_line, with_spaces_before, still_needed_text};
 ghost use Rattle.std.specs.List.{filter, flat_map};
 ghost use Rattle.std.specs.Prelude.{◌≡◌, ◌++◌, if◌then◌else◌, [], ◌∷◌, map, option_to_list, is_some, IfOk, OnOk};
 
-use crate::names::{names_in_order, names_of_words};
+use crate::names::{names_of_words, sorted_distinct_names};
 use crate::selected::SelectedNames;
 use base_core::Words;
 use change_files::Db;
@@ -31,11 +31,11 @@ pub fn push_stay_lines(
     trace: &Trace,
     to_remove: &Words,
 ) -> Result<(), AllocError>
-    ensures { OnOk result (report.new ≡ report.old ++ stay_lines (packages_of db.now)
+    ensures { OnOk result (report.new ≡ report.old ++ still_needed_lines (packages_of db.now)
         (candidates_at pool.now trace.now) to_remove.now) }
 {
     let names = names_of_words(alloc, to_remove)?;
-    let names = names_in_order(names)?;
+    let names = sorted_distinct_names(names)?;
     let selected = SelectedNames::of(alloc, pool, trace)?;
     let staying = selected_among(alloc, &names, &selected)?;
     push_lines_of_names(alloc, report, db, pool, trace, &staying)?;
@@ -49,7 +49,7 @@ fn selected_among<'n>(
     selected: &SelectedNames<'_>,
 ) -> Result<Vec<&'n [u8]>, AllocError>
     ensures { IfOk result (λ found. found.items
-        ≡ filter (λ name. is_some (place_beside name.now selected.now)) names.now) }
+        ≡ filter (λ name. is_some (place_paired_with_name name.now selected.now)) names.now) }
 {
     names
         .iter()
@@ -68,7 +68,7 @@ fn push_lines_of_names(
     names: &[&[u8]],
 ) -> Result<(), AllocError>
     ensures { OnOk result (report.new ≡ report.old
-        ++ flat_map (selected_stay_lines (candidates_at pool.now trace.now))
+        ++ flat_map (still_needed_lines_of_name (candidates_at pool.now trace.now))
         (filter (was_installed (packages_of db.now)) (map (λ n. n.now) names.now))) }
 {
     for name in names {
@@ -88,7 +88,7 @@ fn push_lines_of_name(
 ) -> Result<(), AllocError>
     ensures { OnOk result (report.new ≡ report.old
         ++ (if was_installed (packages_of db.now) name.now
-        then selected_stay_lines (candidates_at pool.now trace.now) name.now else [])) }
+        then still_needed_lines_of_name (candidates_at pool.now trace.now) name.now else [])) }
 {
     if was_installed(db, name) {
         push_selected_lines(alloc, report, pool, trace, name)?;
@@ -112,7 +112,7 @@ fn push_selected_lines(
     name: &[u8],
 ) -> Result<(), AllocError>
     ensures { OnOk result (report.new
-        ≡ report.old ++ selected_stay_lines (candidates_at pool.now trace.now) name.now) }
+        ≡ report.old ++ still_needed_lines_of_name (candidates_at pool.now trace.now) name.now) }
 {
     for i in 0..trace.len() {
         push_line_of(alloc, report, pool, trace, trace.get(i), name)?;
@@ -130,8 +130,8 @@ fn push_line_of(
     name: &[u8],
 ) -> Result<(), AllocError>
     ensures { OnOk result (report.new ≡ report.old
-        ++ flat_map (λ (c : Candidate). report_line (stays_text name.now
-        (names_in_need (candidates_at pool.now trace.now) c)))
+        ++ flat_map (λ (c : Candidate). report_line (still_needed_text name.now
+        (names_needing_candidate (candidates_at pool.now trace.now) c)))
         (filter (is_selected_named name.now) (option_to_list (candidate_at pool.now id)))) }
 {
     match pool.at(id) {
@@ -153,30 +153,30 @@ fn push_line_if_named(
     name: &[u8],
 ) -> Result<(), AllocError>
     ensures { OnOk result (report.new ≡ report.old
-        ++ (if is_selected_named name.now details.now then report_line (stays_text name.now
-        (names_in_need (candidates_at pool.now trace.now) details.now)) else [])) }
+        ++ (if is_selected_named name.now details.now then report_line (still_needed_text name.now
+        (names_needing_candidate (candidates_at pool.now trace.now) details.now)) else [])) }
 {
     if details.name() != name {
         return Ok(());
     }
-    let names = names_in_need(alloc, pool, trace, details)?;
+    let names = names_needing_candidate(alloc, pool, trace, details)?;
     push_stay_line(report, name, &names)?;
     Ok(())
 }
 
 /// The names of the other selected candidates that need one, in byte order.
-fn names_in_need<'a>(
+fn names_needing_candidate<'a>(
     alloc: Global,
     pool: &Sealed<'a>,
     trace: &Trace,
     needed: &Details<'_>,
 ) -> Result<Vec<&'a [u8]>, AllocError>
     ensures { IfOk result (λ names. map (λ n. n.now) names.items
-        ≡ names_in_need (candidates_at pool.now trace.now) needed.now) }
+        ≡ names_needing_candidate (candidates_at pool.now trace.now) needed.now) }
 {
     let mut names = Vec::new(alloc);
     push_names_in_need(&mut names, pool, trace, needed)?;
-    names_in_order(names)
+    sorted_distinct_names(names)
 }
 
 /// Adds the names of the other selected candidates that need one.
@@ -188,7 +188,7 @@ fn push_names_in_need<'a>(
 ) -> Result<(), AllocError>
     ensures { OnOk result (map (λ n. n.now) names.new.items ≡ map (λ n. n.now) names.old.items
         ++ map (λ (c : Candidate). c.name)
-        (filter (is_in_need needed.now) (candidates_at pool.now trace.now))) }
+        (filter (is_other_candidate_needing needed.now) (candidates_at pool.now trace.now))) }
 {
     for i in 0..trace.len() {
         push_name_if_it_needs(names, pool, trace.get(i), needed)?;
@@ -205,12 +205,16 @@ fn push_name_if_it_needs<'a>(
 ) -> Result<(), AllocError>
     ensures { OnOk result (map (λ n. n.now) names.new.items ≡ map (λ n. n.now) names.old.items
         ++ map (λ (c : Candidate). c.name)
-        (filter (is_in_need needed.now) (option_to_list (candidate_at pool.now id)))) }
+        (filter (is_other_candidate_needing needed.now) (option_to_list (candidate_at pool.now id)))) }
 {
     match pool.at(id) {
         None => Ok(()),
         Some(details) => {
-            push_name_if(names, details.name(), is_in_need(needed, &details))?;
+            push_name_if(
+                names,
+                details.name(),
+                is_other_candidate_needing(needed, &details),
+            )?;
             Ok(())
         }
     }
@@ -232,8 +236,8 @@ fn push_name_if<'a>(
 }
 
 /// Whether a candidate is another one and needs the first.
-fn is_in_need(needed: &Details<'_>, details: &Details<'_>) -> bool
-    ensures { result ≡ is_in_need needed.now details.now }
+fn is_other_candidate_needing(needed: &Details<'_>, details: &Details<'_>) -> bool
+    ensures { result ≡ is_other_candidate_needing needed.now details.now }
 {
     if details.name() == needed.name() {
         return false;
@@ -244,7 +248,7 @@ fn is_in_need(needed: &Details<'_>, details: &Details<'_>) -> bool
 /// Adds the line that says that a package is kept, and the names of those that need it.
 fn push_stay_line(report: &mut Report, name: &[u8], names: &[&[u8]]) -> Result<(), AllocError>
     ensures { OnOk result (report.new ≡ report.old
-        ++ report_line (stays_text name.now (map (λ n. n.now) names.now))) }
+        ++ report_line (still_needed_text name.now (map (λ n. n.now) names.now))) }
 {
     push_stay_text(report, name, names)?;
     report.push(b"\n")?;
@@ -254,7 +258,7 @@ fn push_stay_line(report: &mut Report, name: &[u8], names: &[&[u8]]) -> Result<(
 /// Adds the text of the line that says that a package is kept, without its line end.
 fn push_stay_text(report: &mut Report, name: &[u8], names: &[&[u8]]) -> Result<(), AllocError>
     ensures { OnOk result (report.new
-        ≡ report.old ++ stays_text name.now (map (λ n. n.now) names.now)) }
+        ≡ report.old ++ still_needed_text name.now (map (λ n. n.now) names.now)) }
 {
     report.push(name)?;
     if names.is_empty() {

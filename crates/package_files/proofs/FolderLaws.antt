@@ -10,7 +10,7 @@ use Rattle.std.proofs.lemmas.List.Sorted.{IsPermutation-append_right, IsPermutat
 use Rattle.std.proofs.lemmas.List.Sums.{suffix_len_is}
 use Rattle.std.proofs.lemmas.Map.Text.{is_eq-slice_cmp}
 use Rattle.std.proofs.lemmas.Slice.Eq.{bytes_eq-Decides}
-use Rattle.package_files.specs.Folders.{FolderListing, before_slashes, all_folders_above, folder_of, folders_of, folders_above, is_slash, listing_of, names_in_folder, path_below, with_folder, with_folder_by, with_folders}
+use Rattle.package_files.specs.Folders.{FolderListing, prefixes_before_slashes, all_folders_above, folder_of, folder_listings_of, folders_above, is_slash, folder_listing_of, names_in_folder, path_below, with_folder_inserted, with_folder_by, with_folders_inserted}
 use Rattle.package_files.proofs.FolderLemmas.{cmp, placed_sorted, turned}
 use Rattle.package_files.proofs.PlaceLemmas.{differs}
 
@@ -64,66 +64,66 @@ module _ {X Y : Type 0} (f : X → List Y) where
 exact : (x y : List ℕ) → cmp x y ≡ Equal → x ≡ y
 exact x y e = (bytes_eq-Decides x y).0 (sym (is_eq-slice_cmp x y) ∙ ap is_eq e)
 
-new_there : (x : List ℕ) (ys : List (List ℕ)) → Contains (with_folder x ys) x
+new_there : (x : List ℕ) (ys : List (List ℕ)) → Contains (with_folder_inserted x ys) x
 new_there x [] = here x []
 new_there x (y ∷ ys) = by (cmp x y) refl (new_there x ys)
   where
-    by : (o : Ordering) → cmp x y ≡ o → Contains (with_folder x ys) x → Contains (with_folder_by o x y ys (with_folder x ys)) x
+    by : (o : Ordering) → cmp x y ≡ o → Contains (with_folder_inserted x ys) x → Contains (with_folder_by o x y ys (with_folder_inserted x ys)) x
     by Less e h = here x (y ∷ ys)
     by Equal e h = (zero, omega arith, sym (exact x y e))
-    by Greater e h = there x y (with_folder x ys) h
+    by Greater e h = there x y (with_folder_inserted x ys) h
 
-old_there : (x z : List ℕ) (ys : List (List ℕ)) → Contains ys z → Contains (with_folder x ys) z
+old_there : (x z : List ℕ) (ys : List (List ℕ)) → Contains ys z → Contains (with_folder_inserted x ys) z
 old_there x z [] h = absurd (none_in z h)
 old_there x z (y ∷ ys) h = by (cmp x y) (old_there x z ys)
   where
-    further : (Contains ys z → Contains (with_folder x ys) z) → (y ≡ z) ⊎ Contains ys z → Contains (y ∷ with_folder x ys) z
+    further : (Contains ys z → Contains (with_folder_inserted x ys) z) → (y ≡ z) ⊎ Contains ys z → Contains (y ∷ with_folder_inserted x ys) z
     further f (inl e) = (zero, omega arith, e)
-    further f (inr t) = there z y (with_folder x ys) (f t)
+    further f (inr t) = there z y (with_folder_inserted x ys) (f t)
 
-    by : (o : Ordering) → (Contains ys z → Contains (with_folder x ys) z) → Contains (with_folder_by o x y ys (with_folder x ys)) z
+    by : (o : Ordering) → (Contains ys z → Contains (with_folder_inserted x ys) z) → Contains (with_folder_by o x y ys (with_folder_inserted x ys)) z
     by Less f = there z x (y ∷ ys) h
     by Equal f = h
     by Greater f = further f (either z y ys h)
 
-one_from : (x z : List ℕ) (ys : List (List ℕ)) → Contains (with_folder x ys) z → (x ≡ z) ⊎ Contains ys z
+one_from : (x z : List ℕ) (ys : List (List ℕ)) → Contains (with_folder_inserted x ys) z → (x ≡ z) ⊎ Contains ys z
 one_from x z [] h = either z x [] h
 one_from x z (y ∷ ys) h = by (cmp x y) (one_from x z ys) h
   where
-    further : (Contains (with_folder x ys) z → (x ≡ z) ⊎ Contains ys z) → (y ≡ z) ⊎ Contains (with_folder x ys) z → (x ≡ z) ⊎ Contains (y ∷ ys) z
+    further : (Contains (with_folder_inserted x ys) z → (x ≡ z) ⊎ Contains ys z) → (y ≡ z) ⊎ Contains (with_folder_inserted x ys) z → (x ≡ z) ⊎ Contains (y ∷ ys) z
     further f (inl e) = inr (zero, omega arith, e)
     further f (inr t) = ⊎_elim inl (λ g. inr (there z y ys g)) (f t)
 
-    by : (o : Ordering) → (Contains (with_folder x ys) z → (x ≡ z) ⊎ Contains ys z) → Contains (with_folder_by o x y ys (with_folder x ys)) z → (x ≡ z) ⊎ Contains (y ∷ ys) z
+    by : (o : Ordering) → (Contains (with_folder_inserted x ys) z → (x ≡ z) ⊎ Contains ys z) → Contains (with_folder_by o x y ys (with_folder_inserted x ys)) z → (x ≡ z) ⊎ Contains (y ∷ ys) z
     by Less f g = either z x (y ∷ ys) g
     by Equal f g = inr g
-    by Greater f g = further f (either z y (with_folder x ys) g)
+    by Greater f g = further f (either z y (with_folder_inserted x ys) g)
 
-all_there : (so_far names : List (List ℕ)) (z : List ℕ) → Contains so_far z ⊎ Contains names z → Contains (with_folders so_far names) z
+all_there : (so_far names : List (List ℕ)) (z : List ℕ) → Contains so_far z ⊎ Contains names z → Contains (with_folders_inserted so_far names) z
 all_there so_far [] z (inl h) = h
 all_there so_far [] z (inr h) = absurd (none_in z h)
-all_there so_far (x ∷ xs) z (inl h) = all_there (with_folder x so_far) xs z (inl (old_there x z so_far h))
-all_there so_far (x ∷ xs) z (inr h) = by (all_there (with_folder x so_far) xs z) (either z x xs h)
+all_there so_far (x ∷ xs) z (inl h) = all_there (with_folder_inserted x so_far) xs z (inl (old_there x z so_far h))
+all_there so_far (x ∷ xs) z (inr h) = by (all_there (with_folder_inserted x so_far) xs z) (either z x xs h)
   where
-    by : (Contains (with_folder x so_far) z ⊎ Contains xs z → Contains (with_folders (with_folder x so_far) xs) z) → (x ≡ z) ⊎ Contains xs z → Contains (with_folders (with_folder x so_far) xs) z
-    by f (inl e) = f (inl (subst (Contains (with_folder x so_far)) e (new_there x so_far)))
+    by : (Contains (with_folder_inserted x so_far) z ⊎ Contains xs z → Contains (with_folders_inserted (with_folder_inserted x so_far) xs) z) → (x ≡ z) ⊎ Contains xs z → Contains (with_folders_inserted (with_folder_inserted x so_far) xs) z
+    by f (inl e) = f (inl (subst (Contains (with_folder_inserted x so_far)) e (new_there x so_far)))
     by f (inr t) = f (inr t)
 
-all_from : (so_far names : List (List ℕ)) (z : List ℕ) → Contains (with_folders so_far names) z → Contains so_far z ⊎ Contains names z
+all_from : (so_far names : List (List ℕ)) (z : List ℕ) → Contains (with_folders_inserted so_far names) z → Contains so_far z ⊎ Contains names z
 all_from so_far [] z h = inl h
-all_from so_far (x ∷ xs) z h = by (all_from (with_folder x so_far) xs z h)
+all_from so_far (x ∷ xs) z h = by (all_from (with_folder_inserted x so_far) xs z h)
   where
     first : (x ≡ z) ⊎ Contains so_far z → Contains so_far z ⊎ Contains (x ∷ xs) z
     first (inl e) = inr (zero, omega arith, e)
     first (inr t) = inl t
 
-    by : Contains (with_folder x so_far) z ⊎ Contains xs z → Contains so_far z ⊎ Contains (x ∷ xs) z
+    by : Contains (with_folder_inserted x so_far) z ⊎ Contains xs z → Contains so_far z ⊎ Contains (x ∷ xs) z
     by (inl t) = first (one_from x z so_far t)
     by (inr t) = inr (there z x xs t)
 
-all_sorted : (so_far names : List (List ℕ)) → IsStrictlySortedBy cmp so_far → IsStrictlySortedBy cmp (with_folders so_far names)
+all_sorted : (so_far names : List (List ℕ)) → IsStrictlySortedBy cmp so_far → IsStrictlySortedBy cmp (with_folders_inserted so_far names)
 all_sorted so_far [] h = h
-all_sorted so_far (x ∷ xs) h = all_sorted (with_folder x so_far) xs (placed_sorted x so_far h)
+all_sorted so_far (x ∷ xs) h = all_sorted (with_folder_inserted x so_far) xs (placed_sorted x so_far h)
 
 none_sorted : IsStrictlySortedBy cmp []
 unfolding IsStrictlySortedBy
@@ -143,13 +143,13 @@ folder_over paths folder h =
 
 -- ---- a path stands in one of the folders over it
 
-pub before_slash : (path : List ℕ) (i : ℕ) → i < length path → is_slash (get_or path i 0) ≡ true → Contains (before_slashes path) (take i path)
+pub before_slash : (path : List ℕ) (i : ℕ) → i < length path → is_slash (get_or path i 0) ≡ true → Contains (prefixes_before_slashes path) (take i path)
 before_slash [] i l e = absurd (omega arith)
-before_slash (b ∷ bs) zero l e = subst (λ (c : Bool). Contains (if c then [] ∷ map (λ folder. b ∷ folder) (before_slashes bs) else map (λ folder. b ∷ folder) (before_slashes bs)) []) (sym e) (here [] (map (λ folder. b ∷ folder) (before_slashes bs)))
-before_slash (b ∷ bs) (suc i) l e = by (is_slash b) (mapped (λ folder. b ∷ folder) (take i bs) (before_slashes bs) (before_slash bs i (omega arith) e))
+before_slash (b ∷ bs) zero l e = subst (λ (c : Bool). Contains (if c then [] ∷ map (λ folder. b ∷ folder) (prefixes_before_slashes bs) else map (λ folder. b ∷ folder) (prefixes_before_slashes bs)) []) (sym e) (here [] (map (λ folder. b ∷ folder) (prefixes_before_slashes bs)))
+before_slash (b ∷ bs) (suc i) l e = by (is_slash b) (mapped (λ folder. b ∷ folder) (take i bs) (prefixes_before_slashes bs) (before_slash bs i (omega arith) e))
   where
-    by : (c : Bool) → Contains (map (λ folder. b ∷ folder) (before_slashes bs)) (b ∷ take i bs) → Contains (if c then [] ∷ map (λ folder. b ∷ folder) (before_slashes bs) else map (λ folder. b ∷ folder) (before_slashes bs)) (b ∷ take i bs)
-    by true h = there (b ∷ take i bs) [] (map (λ folder. b ∷ folder) (before_slashes bs)) h
+    by : (c : Bool) → Contains (map (λ folder. b ∷ folder) (prefixes_before_slashes bs)) (b ∷ take i bs) → Contains (if c then [] ∷ map (λ folder. b ∷ folder) (prefixes_before_slashes bs) else map (λ folder. b ∷ folder) (prefixes_before_slashes bs)) (b ∷ take i bs)
+    by true h = there (b ∷ take i bs) [] (map (λ folder. b ∷ folder) (prefixes_before_slashes bs)) h
     by false h = h
 
 -- where the last part of a path begins
@@ -195,11 +195,11 @@ in_folder path = by start.0 start.1
     by m s = subst (Contains (folders_above path)) (sym (of_start path m s)) (at m s.within s.stops)
       where
         at : (m : ℕ) → m ≤ length path → (0 < m → is_slash (get_or path (m - 1) 0) ≡ true) → Contains (folders_above path) (take (m - 1) path)
-        at zero le stops = here [] (before_slashes path)
+        at zero le stops = here [] (prefixes_before_slashes path)
         at (suc n) le stops =
             let back : suc n - 1 ≡ n = omega arith in
             let here_is = subst (λ i. is_slash (get_or path i 0) ≡ true) back (stops (omega arith)) in
-            subst (λ i. Contains (folders_above path) (take i path)) (sym back) (there (take n path) [] (before_slashes path) (before_slash path n (omega arith) here_is))
+            subst (λ i. Contains (folders_above path) (take i path)) (sym back) (there (take n path) [] (prefixes_before_slashes path) (before_slash path n (omega arith) here_is))
 
 -- ---- names parted by a key
 
@@ -254,13 +254,13 @@ module _ (key : List ℕ → List ℕ) where
 
 -- ---- the folders of a package
 
-files_in : (dir : List ℕ) (names ks : List (List ℕ)) → flat_map (λ (f : FolderListing). f.files) (map (listing_of dir names) ks) ≡ parts (λ n. folder_of (path_below dir n)) names ks
+files_in : (dir : List ℕ) (names ks : List (List ℕ)) → flat_map (λ (f : FolderListing). f.files) (map (folder_listing_of dir names) ks) ≡ parts (λ n. folder_of (path_below dir n)) names ks
 unfolding parts has
 files_in dir names [] = refl
 files_in dir names (k ∷ ks) = ap (λ l. names_in_folder dir names k ++ l) (files_in dir names ks)
 
-pub each_in_one : (dir : List ℕ) (names : List (List ℕ)) → IsPermutation names (flat_map (λ (f : FolderListing). f.files) (folders_of dir names))
-unfolding folders_of
+pub each_in_one : (dir : List ℕ) (names : List (List ℕ)) → IsPermutation names (flat_map (λ (f : FolderListing). f.files) (folder_listings_of dir names))
+unfolding folder_listings_of
 each_in_one dir names =
     let paths = map (path_below dir) names in
     let key : List ℕ → List ℕ = λ n. folder_of (path_below dir n) in
@@ -268,11 +268,11 @@ each_in_one dir names =
     (parted key names (all_folders_above paths) (rising paths)
     (λ n t. folder_there paths (path_below dir n) (key n) (mapped (path_below dir) n names t) (in_folder (path_below dir n))))
 
-names_are : (dir : List ℕ) (names ks : List (List ℕ)) → map (λ (f : FolderListing). f.name) (map (listing_of dir names) ks) ≡ ks
+names_are : (dir : List ℕ) (names ks : List (List ℕ)) → map (λ (f : FolderListing). f.name) (map (folder_listing_of dir names) ks) ≡ ks
 names_are dir names [] = refl
 names_are dir names (k ∷ ks) = ap (λ l. k ∷ l) (names_are dir names ks)
 
-pub folders_rise : (dir : List ℕ) (names : List (List ℕ)) → IsStrictlySortedBy cmp (map (λ (f : FolderListing). f.name) (folders_of dir names))
-unfolding folders_of
+pub folders_rise : (dir : List ℕ) (names : List (List ℕ)) → IsStrictlySortedBy cmp (map (λ (f : FolderListing). f.name) (folder_listings_of dir names))
+unfolding folder_listings_of
 folders_rise dir names =
     subst (IsStrictlySortedBy cmp) (sym (names_are dir names (all_folders_above (map (path_below dir) names)))) (rising (map (path_below dir) names))

@@ -11,7 +11,7 @@ use Rattle.std.proofs.lemmas.List.Concat.{flat_map-append}
 use Rattle.std.proofs.lemmas.Option.{get_or_from_slice_get, slice_get_within}
 use Rattle.std.proofs.lemmas.Slice.Eq.{bytes_eq-Decides}
 use borrow.Author.Tests.{eq-eqb}
-use Rattle.package_files.specs.Folders.{all_folders_above, before_slashes, folder_of, folders_above, is_slash, path_below, with_byte, with_folder, with_folders}
+use Rattle.package_files.specs.Folders.{all_folders_above, prefixes_before_slashes, folder_of, folders_above, is_slash, path_below, prefixes_with_first_byte, with_folder_inserted, with_folders_inserted}
 use Rattle.package_files.specs.BorrowedNames.{IsIndexOf}
 use Rattle.package_files.proofs.FolderLemmas.{all_placed_append, cmp, placed_as, turned}
 use Rattle.package_files.proofs.PlaceLemmas.{Tri, tri}
@@ -31,28 +31,28 @@ of_all : (P : List ℕ → Type 0) (x : List ℕ) (ys : List (List ℕ)) → All
 of_all P x [] all h = absurd (none_in x h)
 of_all P x (y ∷ ys) all h = ⊎_elim (λ e. subst P e all.0) (of_all P x ys all.1) (either x y ys h)
 
-folder_kept : (x : List ℕ) (ys : List (List ℕ)) → IsStrictlySortedBy cmp ys → Contains ys x → with_folder x ys ≡ ys
+folder_kept : (x : List ℕ) (ys : List (List ℕ)) → IsStrictlySortedBy cmp ys → Contains ys x → with_folder_inserted x ys ≡ ys
 unfolding IsStrictlySortedBy
 folder_kept x [] s h = absurd (none_in x h)
 folder_kept x (y ∷ ys) s h = by (folder_kept x ys s.1) (either x y ys h)
   where
-    by : (Contains ys x → with_folder x ys ≡ ys) → (y ≡ x) ⊎ Contains ys x → with_folder x (y ∷ ys) ≡ y ∷ ys
+    by : (Contains ys x → with_folder_inserted x ys ≡ ys) → (y ≡ x) ⊎ Contains ys x → with_folder_inserted x (y ∷ ys) ≡ y ∷ ys
     by further (inl e) = placed_as Equal x y ys (ap (cmp x) e ∙ same_bytes_equal x)
     by further (inr t) =
         placed_as Greater x y ys (turned y x Less (of_all (λ z. cmp y z ≡ Less) x ys s.0 t)) ∙ ap (λ (l : List (List ℕ)). y ∷ l) (further t)
 
-folders_kept : (ys names : List (List ℕ)) → IsStrictlySortedBy cmp ys → ((z : List ℕ) → Contains names z → Contains ys z) → with_folders ys names ≡ ys
+folders_kept : (ys names : List (List ℕ)) → IsStrictlySortedBy cmp ys → ((z : List ℕ) → Contains names z → Contains ys z) → with_folders_inserted ys names ≡ ys
 folders_kept ys [] s h = refl
 folders_kept ys (x ∷ xs) s h =
-    ap (λ (l : List (List ℕ)). with_folders l xs) (folder_kept x ys s (h x (here x xs)))
+    ap (λ (l : List (List ℕ)). with_folders_inserted l xs) (folder_kept x ys s (h x (here x xs)))
     ∙ folders_kept ys xs s (λ z t. h z (there z x xs t))
 
 -- ---- the folders over a path that begins with a byte
 
-root_first : (b : ℕ) (folders : List (List ℕ)) → is_slash b ≡ true → Contains (with_byte b folders) []
+root_first : (b : ℕ) (folders : List (List ℕ)) → is_slash b ≡ true → Contains (prefixes_with_first_byte b folders) []
 root_first b folders e = subst (λ (c : Bool). Contains (if c then [] ∷ map (λ folder. b ∷ folder) folders else map (λ folder. b ∷ folder) folders) []) (sym e) (here [] (map (λ folder. b ∷ folder) folders))
 
-further_in : (b : ℕ) (folder : List ℕ) (folders : List (List ℕ)) → Contains folders folder → Contains (with_byte b folders) (b ∷ folder)
+further_in : (b : ℕ) (folder : List ℕ) (folders : List (List ℕ)) → Contains folders folder → Contains (prefixes_with_first_byte b folders) (b ∷ folder)
 further_in b folder folders h = by (is_slash b) (mapped (λ f. b ∷ f) folder folders h)
   where
     by : (c : Bool) → Contains (map (λ f. b ∷ f) folders) (b ∷ folder) → Contains (if c then [] ∷ map (λ f. b ∷ f) folders else map (λ f. b ∷ f) folders) (b ∷ folder)
@@ -70,7 +70,7 @@ from_further b (f ∷ fs) z h = by (from_further b fs z) (either z (b ∷ f) (ma
     by more (inl e) = (f, here f fs, e)
     by more (inr t) = let w = more t in (w.0, there w.0 f fs w.1, w.2)
 
-root_or_further : (b : ℕ) (folders : List (List ℕ)) (z : List ℕ) → Contains (with_byte b folders) z → ((is_slash b ≡ true) × ([] ≡ z)) ⊎ Further b folders z
+root_or_further : (b : ℕ) (folders : List (List ℕ)) (z : List ℕ) → Contains (prefixes_with_first_byte b folders) z → ((is_slash b ≡ true) × ([] ≡ z)) ⊎ Further b folders z
 root_or_further b folders z h = by (is_slash b) refl h
   where
     by : (c : Bool) → is_slash b ≡ c → Contains (if c then [] ∷ map (λ f. b ∷ f) folders else map (λ f. b ∷ f) folders) z → ((is_slash b ≡ true) × ([] ≡ z)) ⊎ Further b folders z
@@ -78,36 +78,36 @@ root_or_further b folders z h = by (is_slash b) refl h
     by false e t = inr (from_further b folders z t)
 
 -- what is over a folder over a path is over the path
-over_over : (path folder z : List ℕ) → Contains (before_slashes path) folder → Contains (before_slashes folder) z → Contains (before_slashes path) z
+over_over : (path folder z : List ℕ) → Contains (prefixes_before_slashes path) folder → Contains (prefixes_before_slashes folder) z → Contains (prefixes_before_slashes path) z
 over_over [] folder z h g = absurd (none_in folder h)
-over_over (b ∷ bs) folder z h g = by (over_over bs) (root_or_further b (before_slashes bs) folder h)
+over_over (b ∷ bs) folder z h g = by (over_over bs) (root_or_further b (prefixes_before_slashes bs) folder h)
   where
-    inside : (f : List ℕ) → ((w : List ℕ) → Contains (before_slashes f) w → Contains (before_slashes bs) w)
-        → ((is_slash b ≡ true) × ([] ≡ z)) ⊎ Further b (before_slashes f) z → Contains (before_slashes (b ∷ bs)) z
-    inside f deeper (inl first) = subst (Contains (before_slashes (b ∷ bs))) first.1 (root_first b (before_slashes bs) first.0)
-    inside f deeper (inr more) = subst (Contains (before_slashes (b ∷ bs))) more.2 (further_in b more.0 (before_slashes bs) (deeper more.0 more.1))
+    inside : (f : List ℕ) → ((w : List ℕ) → Contains (prefixes_before_slashes f) w → Contains (prefixes_before_slashes bs) w)
+        → ((is_slash b ≡ true) × ([] ≡ z)) ⊎ Further b (prefixes_before_slashes f) z → Contains (prefixes_before_slashes (b ∷ bs)) z
+    inside f deeper (inl first) = subst (Contains (prefixes_before_slashes (b ∷ bs))) first.1 (root_first b (prefixes_before_slashes bs) first.0)
+    inside f deeper (inr more) = subst (Contains (prefixes_before_slashes (b ∷ bs))) more.2 (further_in b more.0 (prefixes_before_slashes bs) (deeper more.0 more.1))
 
-    by : ((f w : List ℕ) → Contains (before_slashes bs) f → Contains (before_slashes f) w → Contains (before_slashes bs) w)
-        → ((is_slash b ≡ true) × ([] ≡ folder)) ⊎ Further b (before_slashes bs) folder → Contains (before_slashes (b ∷ bs)) z
-    by rest (inl first) = absurd (none_in z (subst (λ f. Contains (before_slashes f) z) (sym first.1) g))
-    by rest (inr more) = inside more.0 (λ w. rest more.0 w more.1) (root_or_further b (before_slashes more.0) z (subst (λ f. Contains (before_slashes f) z) (sym more.2) g))
+    by : ((f w : List ℕ) → Contains (prefixes_before_slashes bs) f → Contains (prefixes_before_slashes f) w → Contains (prefixes_before_slashes bs) w)
+        → ((is_slash b ≡ true) × ([] ≡ folder)) ⊎ Further b (prefixes_before_slashes bs) folder → Contains (prefixes_before_slashes (b ∷ bs)) z
+    by rest (inl first) = absurd (none_in z (subst (λ f. Contains (prefixes_before_slashes f) z) (sym first.1) g))
+    by rest (inr more) = inside more.0 (λ w. rest more.0 w more.1) (root_or_further b (prefixes_before_slashes more.0) z (subst (λ f. Contains (prefixes_before_slashes f) z) (sym more.2) g))
 
 -- a folder over a path ends where a slash stands
 abbrev EndsAtSlash : List ℕ → List ℕ → Type 0
 EndsAtSlash path z = (i : ℕ) × (i < length path) × (is_slash (get_or path i 0) ≡ true) × (take i path ≡ z)
 
-ends_at_slash : (path z : List ℕ) → Contains (before_slashes path) z → EndsAtSlash path z
+ends_at_slash : (path z : List ℕ) → Contains (prefixes_before_slashes path) z → EndsAtSlash path z
 ends_at_slash [] z h = absurd (none_in z h)
-ends_at_slash (b ∷ bs) z h = by (ends_at_slash bs) (root_or_further b (before_slashes bs) z h)
+ends_at_slash (b ∷ bs) z h = by (ends_at_slash bs) (root_or_further b (prefixes_before_slashes bs) z h)
   where
-    by : ((f : List ℕ) → Contains (before_slashes bs) f → EndsAtSlash bs f) → ((is_slash b ≡ true) × ([] ≡ z)) ⊎ Further b (before_slashes bs) z → EndsAtSlash (b ∷ bs) z
+    by : ((f : List ℕ) → Contains (prefixes_before_slashes bs) f → EndsAtSlash bs f) → ((is_slash b ≡ true) × ([] ≡ z)) ⊎ Further b (prefixes_before_slashes bs) z → EndsAtSlash (b ∷ bs) z
     by f (inl first) = (zero, omega arith, first.0, first.1)
     by f (inr more) = let w = f more.0 more.1 in let lt = w.1 in (suc w.0, omega arith, w.2, ap (λ (l : List ℕ). b ∷ l) w.3 ∙ more.2)
 
 -- ---- the folder of a path
 
 -- what is over a path is its folder, or is over it
-own_or_over : (path z : List ℕ) → Contains (before_slashes path) z → (folder_of path ≡ z) ⊎ Contains (before_slashes (folder_of path)) z
+own_or_over : (path z : List ℕ) → Contains (prefixes_before_slashes path) z → (folder_of path ≡ z) ⊎ Contains (prefixes_before_slashes (folder_of path)) z
 own_or_over path z h = by start.0 start.1 ends.0 ends.1 ends.2 ends.3
   where
     start : (m : ℕ) × IsStart path m
@@ -117,35 +117,35 @@ own_or_over path z h = by start.0 start.1 ends.0 ends.1 ends.2 ends.3
     ends = ends_at_slash path z h
 
     by : (m : ℕ) → IsStart path m → (i : ℕ) → i < length path → is_slash (get_or path i 0) ≡ true → take i path ≡ z
-        → (folder_of path ≡ z) ⊎ Contains (before_slashes (folder_of path)) z
+        → (folder_of path ≡ z) ⊎ Contains (prefixes_before_slashes (folder_of path)) z
     by m s i lt e is = place (tri i (m - 1))
       where
-        place : Tri i (m - 1) → (folder_of path ≡ z) ⊎ Contains (before_slashes (folder_of path)) z
+        place : Tri i (m - 1) → (folder_of path ≡ z) ⊎ Contains (prefixes_before_slashes (folder_of path)) z
         place (inl below) =
             let le = s.within in
             let long : length (take (m - 1) path) ≡ m - 1 = length-take-le (m - 1) path (omega arith) in
-            let cut : Contains (before_slashes (take (m - 1) path)) (take i (take (m - 1) path)) =
+            let cut : Contains (prefixes_before_slashes (take (m - 1) path)) (take i (take (m - 1) path)) =
             before_slash (take (m - 1) path) i (omega arith) (ap is_slash (get_or-take (m - 1) path i 0 below) ∙ e) in
-            let over : Contains (before_slashes (folder_of path)) (take i (take (m - 1) path)) =
-            subst (λ f. Contains (before_slashes f) (take i (take (m - 1) path))) (sym (of_start path m s)) cut in
-            inr (subst (Contains (before_slashes (folder_of path))) (take-take i (m - 1) path (omega arith) ∙ is) over)
+            let over : Contains (prefixes_before_slashes (folder_of path)) (take i (take (m - 1) path)) =
+            subst (λ f. Contains (prefixes_before_slashes f) (take i (take (m - 1) path))) (sym (of_start path m s)) cut in
+            inr (subst (Contains (prefixes_before_slashes (folder_of path))) (take-take i (m - 1) path (omega arith) ∙ is) over)
         place (inr (inl last)) = inl (of_start path m s ∙ ap (λ n. take n path) (sym last) ∙ is)
         place (inr (inr more)) = absurd (true≢false (sym (s.passes i (omega arith) lt) ∙ ap not e))
 
 -- a path that has the folder of another above it has all folders over that other above it
 over_both : (path other z : List ℕ) → Contains (folders_above other) (folder_of path) → Contains (folders_above path) z → Contains (folders_above other) z
-over_both path other z h g = by (either z [] (before_slashes path) g)
+over_both path other z h g = by (either z [] (prefixes_before_slashes path) g)
   where
-    deeper : Contains (before_slashes (folder_of path)) z → ([] ≡ folder_of path) ⊎ Contains (before_slashes other) (folder_of path) → Contains (folders_above other) z
-    deeper t (inl root) = absurd (none_in z (subst (λ f. Contains (before_slashes f) z) (sym root) t))
-    deeper t (inr f) = there z [] (before_slashes other) (over_over other (folder_of path) z f t)
+    deeper : Contains (prefixes_before_slashes (folder_of path)) z → ([] ≡ folder_of path) ⊎ Contains (prefixes_before_slashes other) (folder_of path) → Contains (folders_above other) z
+    deeper t (inl root) = absurd (none_in z (subst (λ f. Contains (prefixes_before_slashes f) z) (sym root) t))
+    deeper t (inr f) = there z [] (prefixes_before_slashes other) (over_over other (folder_of path) z f t)
 
-    own : (folder_of path ≡ z) ⊎ Contains (before_slashes (folder_of path)) z → Contains (folders_above other) z
+    own : (folder_of path ≡ z) ⊎ Contains (prefixes_before_slashes (folder_of path)) z → Contains (folders_above other) z
     own (inl e) = subst (Contains (folders_above other)) e h
-    own (inr t) = deeper t (either (folder_of path) [] (before_slashes other) h)
+    own (inr t) = deeper t (either (folder_of path) [] (prefixes_before_slashes other) h)
 
-    by : ([] ≡ z) ⊎ Contains (before_slashes path) z → Contains (folders_above other) z
-    by (inl root) = subst (Contains (folders_above other)) root (here [] (before_slashes other))
+    by : ([] ≡ z) ⊎ Contains (prefixes_before_slashes path) z → Contains (folders_above other) z
+    by (inl root) = subst (Contains (folders_above other)) root (here [] (prefixes_before_slashes other))
     by (inr t) = own (own_or_over path z t)
 
 -- where the folder of a path is a folder of the package, so is each folder over the path
@@ -166,22 +166,22 @@ abbrev names_upto : List ℕ → List (List ℕ) → ℕ → List (List ℕ)
 names_upto dir names i = all_folders_above (map (path_below dir) (take i names))
 
 next_names : (dir : List ℕ) (names : List (List ℕ)) (i : ℕ) (name : List ℕ) → slice_get names i ≡ Some name
-    → names_upto dir names (i + 1) ≡ with_folders (names_upto dir names i) (folders_above (path_below dir name))
+    → names_upto dir names (i + 1) ≡ with_folders_inserted (names_upto dir names i) (folders_above (path_below dir name))
 next_names dir names i name at =
     let paths = map (path_below dir) (take i names) in
     let more : map (path_below dir) (take (i + 1) names) ≡ paths ++ path_below dir name ∷ [] =
     map_more (path_below dir) names i [] (slice_get_within names i name at)
     ∙ ap (λ n. paths ++ path_below dir n ∷ []) (get_or_from_slice_get names i name [] at) in
     ap all_folders_above more
-    ∙ ap (with_folders []) (flat_map-append folders_above paths (path_below dir name ∷ []))
+    ∙ ap (with_folders_inserted []) (flat_map-append folders_above paths (path_below dir name ∷ []))
     ∙ all_placed_append [] (flat_map folders_above paths) (folders_above (path_below dir name) ++ [])
-    ∙ ap (with_folders (all_folders_above paths)) (append-nil (folders_above (path_below dir name)))
+    ∙ ap (with_folders_inserted (all_folders_above paths)) (append-nil (folders_above (path_below dir name)))
 
 pub added_next : (dir : List ℕ) (names before later : List (List ℕ)) (i : ℕ) (name path : List ℕ) → slice_get names i ≡ Some name → path ≡ path_below dir name
-    → before ≡ names_upto dir names i → later ≡ with_folders before (folders_above path) → later ≡ names_upto dir names (i + 1)
+    → before ≡ names_upto dir names i → later ≡ with_folders_inserted before (folders_above path) → later ≡ names_upto dir names (i + 1)
 added_next dir names before later i name path at is so_far added =
-    added ∙ ap (λ l. with_folders l (folders_above path)) so_far
-    ∙ ap (λ p. with_folders (names_upto dir names i) (folders_above p)) is ∙ sym (next_names dir names i name at)
+    added ∙ ap (λ l. with_folders_inserted l (folders_above path)) so_far
+    ∙ ap (λ p. with_folders_inserted (names_upto dir names i) (folders_above p)) is ∙ sym (next_names dir names i name at)
 
 pub kept_next : (dir : List ℕ) (names before later : List (List ℕ)) (i : ℕ) (name path folder : List ℕ) (o : Option ℕ) → slice_get names i ≡ Some name → path ≡ path_below dir name
     → before ≡ names_upto dir names i → folder ≡ folder_of path → IsIndexOf folder before o → is_some o ≡ true → later ≡ before → later ≡ names_upto dir names (i + 1)

@@ -21,19 +21,19 @@ last_part_of path = after_last is_slash path
 
 -- the texts before each slash of a text, given its first byte and the texts before the slashes after
 -- that: nothing, if the byte is a slash; and each later one begins with the byte
-abbrev pub with_byte : ℕ → List (List ℕ) → List (List ℕ)
-with_byte b folders =
+abbrev pub prefixes_with_first_byte : ℕ → List (List ℕ) → List (List ℕ)
+prefixes_with_first_byte b folders =
     if is_slash b then [] ∷ map (λ folder. b ∷ folder) folders
     else map (λ folder. b ∷ folder) folders
 
 -- the texts before each slash of a text
-abbrev pub before_slashes : List ℕ → List (List ℕ)
-before_slashes [] = []
-before_slashes (b ∷ bs) = with_byte b (before_slashes bs)
+abbrev pub prefixes_before_slashes : List ℕ → List (List ℕ)
+prefixes_before_slashes [] = []
+prefixes_before_slashes (b ∷ bs) = prefixes_with_first_byte b (prefixes_before_slashes bs)
 
 -- the folders that contain a path, at any depth: the root, and the text before each slash
 abbrev pub folders_above : List ℕ → List (List ℕ)
-folders_above path = [] ∷ before_slashes path
+folders_above path = [] ∷ prefixes_before_slashes path
 
 -- ---- names in byte order, each once
 
@@ -47,19 +47,19 @@ with_folder_by Equal name x xs further = x ∷ xs
 with_folder_by Greater name x xs further = x ∷ further
 
 -- names that rise in byte order, with one more among them
-abbrev pub with_folder : List ℕ → List (List ℕ) → List (List ℕ)
-with_folder name [] = name ∷ []
-with_folder name (x ∷ xs) =
-    with_folder_by (slice_cmp nat_cmp name x) name x xs (with_folder name xs)
+abbrev pub with_folder_inserted : List ℕ → List (List ℕ) → List (List ℕ)
+with_folder_inserted name [] = name ∷ []
+with_folder_inserted name (x ∷ xs) =
+    with_folder_by (slice_cmp nat_cmp name x) name x xs (with_folder_inserted name xs)
 
 -- names that rise in byte order, with others put among them, one by one
-abbrev pub with_folders : List (List ℕ) → List (List ℕ) → List (List ℕ)
-with_folders so_far [] = so_far
-with_folders so_far (name ∷ names) = with_folders (with_folder name so_far) names
+abbrev pub with_folders_inserted : List (List ℕ) → List (List ℕ) → List (List ℕ)
+with_folders_inserted so_far [] = so_far
+with_folders_inserted so_far (name ∷ names) = with_folders_inserted (with_folder_inserted name so_far) names
 
 -- the names of a list, put into byte order one by one, each once
 abbrev pub sorted_names : List (List ℕ) → List (List ℕ)
-sorted_names names = with_folders [] names
+sorted_names names = with_folders_inserted [] names
 
 -- ---- the folders of a package
 
@@ -84,9 +84,9 @@ names_in_folder dir names folder =
     filter (λ name. bytes_eq (folder_of (path_below dir name)) folder) names
 
 -- a folder of the package, with the names of its files
-abbrev pub listing_of : List ℕ → List (List ℕ) → List ℕ → FolderListing
-listing_of dir names folder = record { name = folder; files = names_in_folder dir names folder }
+abbrev pub folder_listing_of : List ℕ → List (List ℕ) → List ℕ → FolderListing
+folder_listing_of dir names folder = record { name = folder; files = names_in_folder dir names folder }
 
 -- the folders of a package, by the names that are listed below a folder of the tree
-unfoldable pub folders_of : List ℕ → List (List ℕ) → List FolderListing
-folders_of dir names = map (listing_of dir names) (all_folders_above (map (path_below dir) names))
+unfoldable pub folder_listings_of : List ℕ → List (List ℕ) → List FolderListing
+folder_listings_of dir names = map (folder_listing_of dir names) (all_folders_above (map (path_below dir) names))

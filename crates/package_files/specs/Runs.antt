@@ -9,14 +9,14 @@ use Rattle.make_info.specs.declared.fault.MakeFault.{MakeFault}
 use Rattle.make_info.specs.declared.fault.MakeFault.TheVariants.{Disk, Memory}
 
 -- if the history of a tree is observable, each read finds the file of the tree under its name
-abbrev pub AreObserved : List TreeState → Reads → Type 0
-AreObserved history read =
+abbrev pub AreReadsOfTree : List TreeState → Reads → Type 0
+AreReadsOfTree history read =
     IfObservable history (λ v. (n : ℕ) (name : List ℕ) → read n name ≡ files_of v name)
 
 -- this holds of some reads, which are the tree's if it is observable: they explain what was found
-pub record Explains (history : List TreeState) (P : Reads → Type 0) : Type 0 where
+pub record IsExplainedBySomeReads (history : List TreeState) (P : Reads → Type 0) : Type 0 where
   pub read : Reads
-  pub observed : AreObserved history read
+  pub observed : AreReadsOfTree history read
   pub is : P read
 
 -- a result denotes the wanted value, or is the wanted fault; an I/O error of the tree and out of memory

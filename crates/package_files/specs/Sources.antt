@@ -5,18 +5,18 @@ use Rattle.std.specs.Prelude.{ℕ, ◌+◌, ◌==◌, List, [], ◌∷◌, lengt
 pub use Rattle.base_core.specs.Lists.{and_then}
 use Rattle.base_core.specs.Listed.{AreNamesBelow}
 use Rattle.command_core.specs.Values.{script_type, script_file}
-use Rattle.command_core.specs.Files.{without_dot}
+use Rattle.command_core.specs.Files.{without_dot_slash}
 use Rattle.command_core.specs.declared.values.OptionValue.{OptionValue}
 use Rattle.make_info.specs.Reads.{Reads}
 use Rattle.make_info.specs.declared.fault.MakeFault.{MakeFault}
 use Rattle.make_info.specs.declared.fault.MakeFault.TheVariants.{FileMissing}
-use Rattle.package_files.specs.Folders.{last_part_of, FolderListing, folders_of}
+use Rattle.package_files.specs.Folders.{last_part_of, FolderListing, folder_listings_of}
 use Rattle.package_files.specs.Package.{Source, SourceFolder, Script}
 
 -- the result of a read for the argument at a place: its bytes, or that the file is missing
-abbrev pub found_at : ℕ → Option (List ℕ) → Result (List ℕ) MakeFault
-found_at place None = Err (FileMissing place)
-found_at place (Some bytes) = Ok bytes
+abbrev pub found_bytes_or_missing : ℕ → Option (List ℕ) → Result (List ℕ) MakeFault
+found_bytes_or_missing place None = Err (FileMissing place)
+found_bytes_or_missing place (Some bytes) = Ok bytes
 
 -- the results of `of` for each element of a list, one after the other, or the first fault; an element
 -- makes `count` reads, and `of` gets the number of its first
@@ -30,8 +30,8 @@ each_from count of n (x ∷ xs) =
 -- ---- the values of options
 
 -- the values of the option with this letter, in the order given
-abbrev pub values_with : ℕ → List OptionValue → List OptionValue
-values_with letter values = filter (λ (v : OptionValue). v.letter == letter) values
+abbrev pub values_of_letter : ℕ → List OptionValue → List OptionValue
+values_of_letter letter values = filter (λ (v : OptionValue). v.letter == letter) values
 
 -- the texts of some values of an option: each is TYPE:FILE, or a pattern
 abbrev pub texts_of : List OptionValue → List (List ℕ)
@@ -40,7 +40,7 @@ texts_of values = map (λ (v : OptionValue). v.text) values
 -- the names are names below the folder that the first of some values gives, if there is one
 abbrev pub AreNamesBelowFirst : List OptionValue → List (List ℕ) → Type 0
 AreNamesBelowFirst [] names = Unit {0}
-AreNamesBelowFirst (folder ∷ others) names = AreNamesBelow (without_dot folder.text) names
+AreNamesBelowFirst (folder ∷ others) names = AreNamesBelow (without_dot_slash folder.text) names
 
 -- ---- scripts
 
@@ -51,7 +51,7 @@ script_with kind bytes = record { field = kind; bytes = bytes }
 -- the script that a value gives as TYPE:FILE, with its file by the read of number `n`
 abbrev pub script_at : Reads → ℕ → OptionValue → Result Script MakeFault
 script_at read n v =
-    and_then (found_at v.place (read n (without_dot (script_file v.text))))
+    and_then (found_bytes_or_missing v.place (read n (without_dot_slash (script_file v.text))))
     (λ bytes. Ok (script_with (script_type v.text) bytes))
 
 -- the scripts of some values of `-s`, from the read of number `n` on, or the fault of the first
@@ -66,18 +66,18 @@ abbrev pub source_of_read : List ℕ → List ℕ → Source
 source_of_read name bytes = record { name = last_part_of name; bytes = bytes }
 
 -- the file under a name in the tree by the read of number `n`; the argument at a place lists the name
-abbrev pub file_at : ℕ → Reads → ℕ → List ℕ → Result Source MakeFault
-file_at place read n name =
-    and_then (found_at place (read n name)) (λ bytes. Ok (source_of_read name bytes))
+abbrev pub source_file_read_at : ℕ → Reads → ℕ → List ℕ → Result Source MakeFault
+source_file_read_at place read n name =
+    and_then (found_bytes_or_missing place (read n name)) (λ bytes. Ok (source_of_read name bytes))
 
 -- the files under names in the tree, each with a read of its own; `place` is that of `-F`, at which a
 -- file that is gone is reported
 abbrev pub sources_from : ℕ → Reads → ℕ → List (List ℕ) → Result (List Source) MakeFault
-sources_from place read n names = each_from (λ name. 1) (file_at place read) n names
+sources_from place read n names = each_from (λ name. 1) (source_file_read_at place read) n names
 
 -- a folder with its files, the first of which is the read of number `n`
-abbrev pub folder_at : ℕ → Reads → ℕ → FolderListing → Result SourceFolder MakeFault
-folder_at place read n folder =
+abbrev pub source_folder_read_at : ℕ → Reads → ℕ → FolderListing → Result SourceFolder MakeFault
+source_folder_read_at place read n folder =
     and_then (sources_from place read n folder.files)
     (λ files. Ok (record { name = folder.name; files = files }))
 
@@ -85,7 +85,7 @@ folder_at place read n folder =
 abbrev pub source_folders_from :
     ℕ → Reads → ℕ → List FolderListing → Result (List SourceFolder) MakeFault
 source_folders_from place read n folders =
-    each_from (λ (folder : FolderListing). length folder.files) (folder_at place read) n folders
+    each_from (λ (folder : FolderListing). length folder.files) (source_folder_read_at place read) n folders
 
 -- the folders of a package, given the names that are listed below the folder of the first value of
 -- `-F`; no folders if it is not given
@@ -93,4 +93,4 @@ abbrev pub folders_below :
     Reads → ℕ → List OptionValue → List (List ℕ) → Result (List SourceFolder) MakeFault
 folders_below read n [] names = Ok []
 folders_below read n (v ∷ vs) names =
-    source_folders_from v.place read n (folders_of (without_dot v.text) names)
+    source_folders_from v.place read n (folder_listings_of (without_dot_slash v.text) names)

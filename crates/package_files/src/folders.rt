@@ -3,7 +3,7 @@
 //! the root and each folder that holds a file at any depth, in byte order".
 ghost use Rattle.std.specs.Prelude.{◌≡◌, ◌<◌, ◌≤◌, ◌+◌, ◌-◌, not, [], length, drop, map, replicate, slice_get, OnOk, IfOk};
 ghost use Rattle.std.specs.List.{suffix_len};
-ghost use Rattle.package_files.specs.Folders.{is_slash, folder_of, last_part_of, folders_above, with_folders, with_folder, path_below, all_folders_above, names_in_folder};
+ghost use Rattle.package_files.specs.Folders.{is_slash, folder_of, last_part_of, folders_above, with_folders_inserted, with_folder_inserted, path_below, all_folders_above, names_in_folder};
 ghost use Rattle.package_files.specs.BorrowedNames.{IsIndexOf, names_borrowed};
 
 use base_core::{Name, Names};
@@ -43,7 +43,7 @@ impl<'a> FolderNames<'a> {
 
     /// Adds the folders that contain a path, at any depth: the root, and the text before each `/`.
     pub(crate) fn add_over(&mut self, path: &'a [u8]) -> Result<(), AllocError>
-        ensures { OnOk result (self.new ≡ with_folders self.old (folders_above path.now)) }
+        ensures { OnOk result (self.new ≡ with_folders_inserted self.old (folders_above path.now)) }
     {
         self.add(&path[..0])?;
         for (i, b) in path.iter().enumerate() {
@@ -57,7 +57,7 @@ impl<'a> FolderNames<'a> {
     /// Adds a folder, unless it is there. For paths in byte order the folders are nearly in order:
     /// only those that begin with a folder's name can be before it too early, so few are moved.
     fn add(&mut self, folder: &'a [u8]) -> Result<(), AllocError>
-        ensures { OnOk result (self.new ≡ with_folder folder.now self.old) }
+        ensures { OnOk result (self.new ≡ with_folder_inserted folder.now self.old) }
     {
         let Err(at) = self.names.binary_search(&folder) else {
             return Ok(());

@@ -9,11 +9,11 @@ ghost use Rattle.base_core.specs.Calls.{IfObservable};
 ghost use Rattle.base_core.specs.Tree.{files_of};
 ghost use Rattle.package_files.specs.Blocks.{HasBlockFront, contents_front};
 ghost use Rattle.package_files.specs.BorrowedNames.{listings_of};
-ghost use Rattle.package_files.specs.Folders.{folders_of};
+ghost use Rattle.package_files.specs.Folders.{folder_listings_of};
 ghost use Rattle.package_files.specs.Package.{has_contents};
 ghost use Rattle.package_files.specs.Packed.{IsPackedFile, ArePackedFiles, IsPackedFolder, IsPacking};
-ghost use Rattle.package_files.specs.Runs.{AgreesOrIsFault, Explains};
-ghost use Rattle.package_files.specs.Sources.{found_at, file_at, sources_from, folder_at, source_folders_from};
+ghost use Rattle.package_files.specs.Runs.{AgreesOrIsFault, IsExplainedBySomeReads};
+ghost use Rattle.package_files.specs.Sources.{found_bytes_or_missing, source_file_read_at, sources_from, source_folder_read_at, source_folders_from};
 ghost use Rattle.std.specs.Option.{option_map};
 ghost use Rattle.std.specs.Prelude.{◌≡◌, ◌++◌, ◌≤◌, ◌-◌, length, take, drop, replicate, OnOk, IfOk, IfSome, [], ◌∷◌, ℕ, map, true, false};
 
@@ -110,11 +110,11 @@ pub fn pack_names<'a, T: Tree>(
     // The tree is only read, and `Disk` has a fault of the tree as its cause.
     ensures tree { OnlyReads MakeFault.Disk (T.history tree.old) (T.history tree.new)
         (T.counts tree.old) (T.counts tree.new) result }
-    // Some reads, from any number on, explain the result; if the tree's files are observable, the
-    // reads are theirs.
-    ensures read { (n : ℕ) → Explains (T.history tree.old) (λ read.
+    // For each number n there are reads, of which the first has the number n, that give this
+    // result. If the tree's files are observable, the reads find these files.
+    ensures read { (n : ℕ) → IsExplainedBySomeReads (T.history tree.old) (λ read.
         AgreesOrIsFault IsPacking result (source_folders_from place read n
-        (folders_of dir.now names.now))) }
+        (folder_listings_of dir.now names.now))) }
 {
     let folders = all_folders_above(alloc, dir, names)?;
     let files = names_in_folders(alloc, dir, names, &folders)?;
@@ -134,7 +134,7 @@ fn pack_folders<'a, T: Tree>(
     requires { length files.now ≡ length folders.now }
     ensures tree { OnlyReads MakeFault.Disk (T.history tree.old) (T.history tree.new)
         (T.counts tree.old) (T.counts tree.new) result }
-    ensures read { (n : ℕ) → Explains (T.history tree.old) (λ read.
+    ensures read { (n : ℕ) → IsExplainedBySomeReads (T.history tree.old) (λ read.
         AgreesOrIsFault IsPacking result (source_folders_from place read n
         (listings_of folders.now files.now))) }
 {
@@ -179,9 +179,9 @@ fn pack_folder<'a, T: Tree>(
 ) -> Result<Folder<'a>, MakeFault>
     ensures tree { OnlyReads MakeFault.Disk (T.history tree.old) (T.history tree.new)
         (T.counts tree.old) (T.counts tree.new) result }
-    ensures read { (n : ℕ) → Explains (T.history tree.old) (λ read.
+    ensures read { (n : ℕ) → IsExplainedBySomeReads (T.history tree.old) (λ read.
         AgreesOrIsFault (IsPackedFolder position blocks.old.items blocks.new.items) result
-        (folder_at place read n (record {
+        (source_folder_read_at place read n (record {
           name = name.now;
           files = map (λ name.
               name.now) names.now;
@@ -203,7 +203,7 @@ fn pack_files<'a, T: Tree>(
 ) -> Result<Vec<File<'a>>, MakeFault>
     ensures tree { OnlyReads MakeFault.Disk (T.history tree.old) (T.history tree.new)
         (T.counts tree.old) (T.counts tree.new) result }
-    ensures read { (n : ℕ) → Explains (T.history tree.old) (λ read.
+    ensures read { (n : ℕ) → IsExplainedBySomeReads (T.history tree.old) (λ read.
         AgreesOrIsFault (ArePackedFiles folder blocks.old.items blocks.new.items) result
         (sources_from place read n (map (λ name. name.now) names.now))) }
 {
@@ -235,10 +235,10 @@ fn pack_file<'a, T: Tree>(
 ) -> Result<File<'a>, MakeFault>
     ensures tree { OnlyReads MakeFault.Disk (T.history tree.old) (T.history tree.new)
         (T.counts tree.old) (T.counts tree.new) result }
-    ensures read { (n : ℕ) → Explains (T.history tree.old) (λ read.
+    ensures read { (n : ℕ) → IsExplainedBySomeReads (T.history tree.old) (λ read.
         AgreesOrIsFault
         (IsPackedFile position.0 position.1 blocks.old.items blocks.new.items) result
-        (file_at place read n name.now)) }
+        (source_file_read_at place read n name.now)) }
 {
     let start = blocks.len();
     let at = read_listed(tree, place, position, name, blocks)?;
@@ -257,13 +257,14 @@ fn read_listed<T: Tree>(
     name: &Name,
     blocks: &mut Vec<u8>,
 ) -> Result<usize, MakeFault>
+    // The tree is only read, and `Disk` has a counted fault of the tree as its cause.
     ensures tree { OnlyReads MakeFault.Disk (T.history tree.old) (T.history tree.new)
         (T.counts tree.old) (T.counts tree.new) result }
     ensures begun { IfOk result (λ at. HasBlockFront position.0 position.1 blocks.old.items
         blocks.new.items at) }
-    ensures read { (n : ℕ) → Explains (T.history tree.old) (λ read.
+    ensures read { (n : ℕ) → IsExplainedBySomeReads (T.history tree.old) (λ read.
         AgreesOrIsFault (λ at bytes. bytes ≡ drop at blocks.new.items) result
-        (found_at place (read n name.now))) }
+        (found_bytes_or_missing place (read n name.now))) }
 {
     match read_in_block(tree, position, name, blocks)? {
         Some(at) => Ok(at),
@@ -305,9 +306,9 @@ pub fn read_file<T: Tree>(
 ) -> Result<Vec<u8>, MakeFault>
     ensures tree { OnlyReads MakeFault.Disk (T.history tree.old) (T.history tree.new)
         (T.counts tree.old) (T.counts tree.new) result }
-    ensures read { (n : ℕ) → Explains (T.history tree.old) (λ read.
+    ensures read { (n : ℕ) → IsExplainedBySomeReads (T.history tree.old) (λ read.
         AgreesOrIsFault (λ bytes found. found ≡ bytes.items) result
-        (found_at place (read n name.now))) }
+        (found_bytes_or_missing place (read n name.now))) }
 {
     match read_all(alloc, tree, name)? {
         Some(bytes) => Ok(bytes),

@@ -8,14 +8,14 @@ use Rattle.base_core.specs.declared.cause.Cause.{Cause}
 use Rattle.adb_block.specs.Framing.{failed}
 use Rattle.adb_block.specs.Frames.{IsHeadPrefix, head_len, raw_size}
 use Rattle.adb_block.specs.declared.block.Frame.{Frame}
-use Rattle.pkg_core.specs.Opened.{left_in}
-use Rattle.pkg_core.specs.Seen.{AreBytesRead, HasAt, IsSeenIn}
+use Rattle.pkg_core.specs.Opened.{files_left_in_walk}
+use Rattle.pkg_core.specs.Seen.{AreBytesRead, HasBytesAtOffset, IsSeenIn}
 use Rattle.pkg_core.proofs.SeenBytes.{has_rest, seen_by_read, seen_then}
-use Rattle.pkg_core.specs.Pieces.{pieces_by_blocks, refusal}
-use Rattle.pkg_core.specs.Places.{HasPositions, pieces_at, reader_at_place, step_at}
+use Rattle.pkg_core.specs.Pieces.{pieces_read_from_blocks, refusal}
+use Rattle.pkg_core.specs.Places.{HasPositions, pieces_at, reader_at_place, block_step_at}
 use Rattle.pkg_core.specs.declared.place.BlockPlace.{BlockPlace}
 use Rattle.adb_block.proofs.Runs.{reading_failed}
-use Rattle.package_reader.specs.Blocks.{IsBlockRead, IsInBlock, SeesPositions, head_size}
+use Rattle.package_reader.specs.Blocks.{IsBlockRead, AreSeenWithinPositions, SeesPositions, head_size}
 use Rattle.package_reader.specs.declared.block.BlockRead.{BlockRead}
 use Rattle.package_reader.specs.declared.piece.PieceFault.{PieceFault}
 use Rattle.package_reader.specs.declared.piece.PieceFault.TheVariants.{Bad, Disk}
@@ -57,12 +57,12 @@ block_seen h later name head positions seen len at (Some frame) same le holds sh
 
 -- ---- a file
 
-pub positions_in : (place : BlockPlace) (file head positions seen : List ℕ) (left : ℕ) (framing : Option Frame) → IsHeadPrefix head left → length head ≤ head_len head → IfSome framing (λ frame. frame.head_len ≡ head_len head) → IfSome framing (λ frame. (0 < left) × (raw_size frame ≤ left)) → length positions ≡ 8 → SeesPositions framing positions seen → HasAt file place.at (head ++ seen)
+pub positions_in : (place : BlockPlace) (file head positions seen : List ℕ) (left : ℕ) (framing : Option Frame) → IsHeadPrefix head left → length head ≤ head_len head → IfSome framing (λ frame. frame.head_len ≡ head_len head) → IfSome framing (λ frame. (0 < left) × (raw_size frame ≤ left)) → length positions ≡ 8 → SeesPositions framing positions seen → HasBytesAtOffset file place.at (head ++ seen)
     → HasPositions framing positions place file
 positions_in place file head positions seen left None holds short is fits eight sees has = tt
 positions_in place file head positions seen left (Some frame) holds short is fits eight sees has = λ enough.
     let whole : frame.head_len ≡ length head = head_whole head frame left holds short is fits.1 in
-    let there : HasAt file (place.at + length head) positions = subst (λ (xs : List ℕ). HasAt file (place.at + length head) xs) (sees.1 enough) (has_rest file place.at head seen has) in
+    let there : HasBytesAtOffset file (place.at + length head) positions = subst (λ (xs : List ℕ). HasBytesAtOffset file (place.at + length head) xs) (sees.1 enough) (has_rest file place.at head seen has) in
     take-take 8 frame.payload_len (drop frame.head_len (drop place.at file)) enough
     ∙ (ap (take 8) (drop-drop frame.head_len place.at file ∙ ap (λ (n : ℕ). drop n file) (omega (arith, whole)))
     ∙ (ap (λ (n : ℕ). take n (drop (place.at + length head) file)) (sym eight) ∙ there))
@@ -76,7 +76,7 @@ positions_len false n positions seen e eight few same =
     let less : n < 8 = grind arith in
     omega (arith, less, few)
 
-pub in_block : (head positions seen : List ℕ) (left : ℕ) (framing : Option Frame) → IsHeadPrefix head left → length head ≤ head_len head → IfSome framing (λ frame. frame.head_len ≡ head_len head) → IfSome framing (λ frame. (0 < left) × (raw_size frame ≤ left)) → length positions ≡ 8 → SeesPositions framing positions seen → IsInBlock framing (length (head ++ seen))
+pub in_block : (head positions seen : List ℕ) (left : ℕ) (framing : Option Frame) → IsHeadPrefix head left → length head ≤ head_len head → IfSome framing (λ frame. frame.head_len ≡ head_len head) → IfSome framing (λ frame. (0 < left) × (raw_size frame ≤ left)) → length positions ≡ 8 → SeesPositions framing positions seen → AreSeenWithinPositions framing (length (head ++ seen))
 in_block head positions seen left None holds short is fits eight sees = tt
 in_block head positions seen left (Some frame) holds short is fits eight sees =
     let whole = head_whole head frame left holds short is fits.1 in
@@ -85,7 +85,7 @@ in_block head positions seen left (Some frame) holds short is fits eight sees =
     omega (arith, whole, all, few)
 
 -- nothing was seen
-nothing_in : (found : Option (List ℕ)) (len at : ℕ) → IfSome found (λ file. length file ≡ len → HasAt file at [])
+nothing_in : (found : Option (List ℕ)) (len at : ℕ) → IfSome found (λ file. length file ≡ len → HasBytesAtOffset file at [])
 nothing_in None len at = tt
 nothing_in (Some file) len at = λ same. refl
 
@@ -95,9 +95,9 @@ nothing_seen (v ∷ earlier) name len at le = record { seen = nothing_in (files_
 
 -- ---- what is answered
 
-pub block_failed : (place : BlockPlace) (file : List ℕ) (c : Cause) → step_at place file ≡ failed c → pieces_at place file ≡ refusal c
-unfolding pieces_by_blocks
-block_failed place file c step = ap (pieces_by_blocks (left_in place.walk)) (reading_failed (reader_at_place place file) c step)
+pub block_failed : (place : BlockPlace) (file : List ℕ) (c : Cause) → block_step_at place file ≡ failed c → pieces_at place file ≡ refusal c
+unfolding pieces_read_from_blocks
+block_failed place file c step = ap (pieces_read_from_blocks (files_left_in_walk place.walk)) (reading_failed (reader_at_place place file) c step)
 
 pub not_ok : {A : Type 0} (P : A → Type 0) (r : Result A PieceFault) (fault : PieceFault) → IsErrAnd r (λ other. other ≡ fault) → IfOk r P
 not_ok P (Ok value) fault is = absurd is

@@ -5,24 +5,24 @@ use Rattle.std.proofs.lemmas.List.{drop-drop, drop-take}
 use Rattle.base_core.specs.declared.Cause.{Cause}
 use Rattle.base_core.specs.declared.Cause.TheVariants.{BlockOrder}
 use Rattle.adb_block.specs.Framing.{HeadFields, block, failed, head_of, kind_of_number, next_step, step_at_end, step_by_head, step_by_order, step_by_size}
-use Rattle.adb_block.specs.Frames.{IsFramed, framed_piece, raw_size}
+use Rattle.adb_block.specs.Frames.{IsFrameOrEndOfStep, framed_piece, raw_size}
 use Rattle.adb_block.specs.Piece.{Piece, may_be_next_kind, least_payload, padding_of}
-use Rattle.adb_block.specs.Reading.{reading_of}
+use Rattle.adb_block.specs.Reading.{block_stream_from}
 use Rattle.adb_block.specs.declared.block.BlockKind.{BlockKind}
 use Rattle.adb_block.specs.declared.block.BlockKind.TheVariants as Kinds
 use Rattle.adb_block.proofs.Runs.{reading_more}
 use Rattle.adb_block.specs.declared.block.Frame.{Frame}
 use Rattle.pkg_core.specs.Contents.{contents_bytes}
 use Rattle.pkg_core.specs.Contents.{Expected}
-use Rattle.pkg_core.specs.Opened.{expected_of, left_in}
+use Rattle.pkg_core.specs.Opened.{expected_of, files_left_in_walk}
 use Rattle.pkg_core.specs.declared.walk.Walk.{Walk}
-use Rattle.pkg_core.specs.Pieces.{no_piece, pieces_by_blocks}
-use Rattle.pkg_core.specs.Places.{HasAllLeft, IsOfContents, IsStepped, WalksOn, payload_at, pieces_at, reader_at_place, step_at, whole_size}
+use Rattle.pkg_core.specs.Pieces.{no_piece, pieces_read_from_blocks}
+use Rattle.pkg_core.specs.Places.{HasWholeFileLeft, OpensOnlyContents, IsStepResult, IsWalkAfterStep, payload_at, pieces_at, reader_at_place, block_step_at, whole_size}
 use Rattle.pkg_core.specs.Taking.{HasTaken, file_bytes_left, pieces_in}
 use Rattle.pkg_core.specs.declared.file.FileCheck.{FileCheck}
 use Rattle.pkg_core.specs.declared.place.BlockPlace.{BlockPlace}
 use Rattle.pkg_core.specs.declared.place.Step.TheVariants.{End as EndStep, Opened as OpenedStep, Passed as PassedStep}
-use Rattle.package_reader.specs.Blocks.{IsInBlock, head_size}
+use Rattle.package_reader.specs.Blocks.{AreSeenWithinPositions, head_size}
 use Rattle.package_reader.specs.Opened.{IsOpenFile, unread_bytes}
 use Rattle.package_reader.specs.declared.open.OpenFile.{OpenFile}
 
@@ -34,7 +34,7 @@ contents_at place frame file n is =
     ∙ (ap (λ (xs : List ℕ). take n (drop 8 xs)) (drop-drop frame.head_len place.at file)
     ∙ ap (take n) (drop-drop 8 (place.at + frame.head_len) file)))
 
-pub opens : (before after : BlockPlace) (framing : Option Frame) (file : List ℕ) (o : OpenFile) (f : FileCheck) → o.file ≡ f → o.at ≡ before.at + head_size framing + 8 → IfSome framing (λ frame. HasAllLeft frame (OpenedStep f)) → IsStepped framing before file (Ok (OpenedStep f)) after → IsOpenFile o [] file (pieces_at after file) (pieces_at before file)
+pub opens : (before after : BlockPlace) (framing : Option Frame) (file : List ℕ) (o : OpenFile) (f : FileCheck) → o.file ≡ f → o.at ≡ before.at + head_size framing + 8 → IfSome framing (λ frame. HasWholeFileLeft frame (OpenedStep f)) → IsStepResult framing before file (Ok (OpenedStep f)) after → IsOpenFile o [] file (pieces_at after file) (pieces_at before file)
 opens before after None file o f is at left step = absurd step
 opens before after (Some frame) file o f is at left step = by_file o is at
   where
@@ -48,29 +48,29 @@ opens before after (Some frame) file o f is at left step = by_file o is at
         }
 
 -- an offset in a file fits in 64 bits, and so does that of the contents' own bytes
-pub opens_within : (framing : Option Frame) (at : ℕ) (f : FileCheck) → (framing ≡ None → OpenedStep f ≡ EndStep) → IfSome framing (λ frame. at + raw_size frame < 18446744073709551616) → IfSome framing (λ frame. HasAllLeft frame (OpenedStep f)) → at + head_size framing + 8 < 18446744073709551616
+pub opens_within : (framing : Option Frame) (at : ℕ) (f : FileCheck) → (framing ≡ None → OpenedStep f ≡ EndStep) → IfSome framing (λ frame. at + raw_size frame < 18446744073709551616) → IfSome framing (λ frame. HasWholeFileLeft frame (OpenedStep f)) → at + head_size framing + 8 < 18446744073709551616
 opens_within None at f ended small left = absurd (let e : OpenedStep f ≡ EndStep = ended refl in (cc))
 opens_within (Some frame) at f ended small left = omega (arith, small, left)
 
 -- ---- where what was seen ends
 
-pub passed_ends : (framing : Option Frame) (at to seen left : ℕ) → (framing ≡ None → PassedStep ≡ EndStep) → IsInBlock framing seen → IfSome framing (λ frame. to ≡ at + whole_size frame left) → at + seen ≤ to
+pub passed_ends : (framing : Option Frame) (at to seen left : ℕ) → (framing ≡ None → PassedStep ≡ EndStep) → AreSeenWithinPositions framing seen → IfSome framing (λ frame. to ≡ at + whole_size frame left) → at + seen ≤ to
 passed_ends None at to seen left ended within behind = absurd (let e : PassedStep ≡ EndStep = ended refl in (cc))
 passed_ends (Some frame) at to seen left ended within behind = omega (arith, within, behind)
 
-pub opened_ends : (framing : Option Frame) (f : FileCheck) (at to seen : ℕ) → (framing ≡ None → OpenedStep f ≡ EndStep) → IsInBlock framing seen → to ≡ at + head_size framing + 8 → at + seen ≤ to
+pub opened_ends : (framing : Option Frame) (f : FileCheck) (at to seen : ℕ) → (framing ≡ None → OpenedStep f ≡ EndStep) → AreSeenWithinPositions framing seen → to ≡ at + head_size framing + 8 → at + seen ≤ to
 opened_ends None f at to seen ended within located = absurd (let e : OpenedStep f ≡ EndStep = ended refl in (cc))
 opened_ends (Some frame) f at to seen ended within located = omega (arith, within, located)
 
 -- ---- the other answers
 
-pub passes : (framing : Option Frame) (before after : BlockPlace) (file : List ℕ) → IsStepped framing before file (Ok PassedStep) after → pieces_at before file ≡ pieces_at after file
+pub passes : (framing : Option Frame) (before after : BlockPlace) (file : List ℕ) → IsStepResult framing before file (Ok PassedStep) after → pieces_at before file ≡ pieces_at after file
 passes None before after file step = step
 passes (Some frame) before after file step = step
 
-pub ends : (framing : Option Frame) (before after : BlockPlace) (file : List ℕ) → IsStepped framing before file (Ok EndStep) after → pieces_at before file ≡ no_piece
+pub ends : (framing : Option Frame) (before after : BlockPlace) (file : List ℕ) → IsStepResult framing before file (Ok EndStep) after → pieces_at before file ≡ no_piece
 ends None before after file step = step
 ends (Some frame) before after file step = step
 
-pub walks_on : (before after : Walk) (f : FileCheck) (o : OpenFile) → o.file ≡ f → WalksOn before (OpenedStep f) after → left_in before ≡ expected_of o.file.wanted ∷ left_in after
-walks_on before after f o is on = on ∙ ap (λ (g : FileCheck). expected_of g.wanted ∷ left_in after) (sym is)
+pub walks_on : (before after : Walk) (f : FileCheck) (o : OpenFile) → o.file ≡ f → IsWalkAfterStep before (OpenedStep f) after → files_left_in_walk before ≡ expected_of o.file.wanted ∷ files_left_in_walk after
+walks_on before after f o is on = on ∙ ap (λ (g : FileCheck). expected_of g.wanted ∷ files_left_in_walk after) (sym is)

@@ -11,10 +11,10 @@ use Rattle.pkg_core.specs.adb_fields.Repeated.{files_in, folders_in}
 use Rattle.pkg_core.specs.adb_schema.Texts.{is_with_contents}
 use Rattle.adb_view.specs.Values.{entry_in, int_in, text_in}
 use Rattle.pkg_core.specs.Contents.{Expected, expected_at, expected_contents, expected_files, expected_folders, hash_fault}
-use Rattle.pkg_core.specs.Opened.{expected_file_at, expected_of, has_positions}
+use Rattle.pkg_core.specs.Opened.{expected_file_at, expected_of, is_expected_at}
 use Rattle.pkg_core.specs.declared.walk.Wanted.{Wanted}
-use Rattle.pkg_core.specs.Pieces.{PiecesRead, no_piece, pieces_from, refusal, whole_pieces}
-use Rattle.pkg_core.specs.Taking.{HasTaken, IsTaken, file_bytes_left, next_len}
+use Rattle.pkg_core.specs.Pieces.{PiecesRead, no_piece, pieces_of_one_file, refusal, whole_piece_count}
+use Rattle.pkg_core.specs.Taking.{HasTaken, IsTakeResult, file_bytes_left, next_piece_len}
 use Rattle.pkg_core.specs.declared.file.FileCheck.{FileCheck}
 
 -- ---- a file with contents has a size above 0
@@ -44,9 +44,9 @@ folders_sizes i (folder ∷ folders) = more_sizes (expected_files i 1 (files_in 
 
 found_size : (folder file : ℕ) (es : List Expected) (e : Expected) → HaveSizes es → expected_file_at folder file es ≡ Some e → 0 < e.size
 found_size folder file [] e sizes is = (cc)
-found_size folder file (d ∷ es) e sizes is = by (has_positions folder file d) is (found_size folder file es e sizes.1)
+found_size folder file (d ∷ es) e sizes is = by (is_expected_at folder file d) is (found_size folder file es e sizes.1)
   where
-    by : (b : Bool) → cond b (Some d) (find (has_positions folder file) es) ≡ Some e → (expected_file_at folder file es ≡ Some e → 0 < e.size) → 0 < e.size
+    by : (b : Bool) → cond b (Some d) (find (is_expected_at folder file) es) ≡ Some e → (expected_file_at folder file es ≡ Some e → 0 < e.size) → 0 < e.size
     by true h others = subst (λ (x : Expected). 0 < x.size) (let s : Some d ≡ Some e = h in let t : d ≡ e = (cc) in t) sizes.0
     by false h others = others h
 
@@ -56,12 +56,12 @@ wanted_size value folder file found w is some =
 
 -- ---- a piece that is refused is the last
 
-refused_none_left : (n : ℕ) (e : Expected) (digest : Option Cause) (bytes : List ℕ) (further : PiecesRead) (c : Cause) → pieces_from n e digest bytes further ≡ refusal c → (n ≡ 0) × (digest ≡ Some c)
+refused_none_left : (n : ℕ) (e : Expected) (digest : Option Cause) (bytes : List ℕ) (further : PiecesRead) (c : Cause) → pieces_of_one_file n e digest bytes further ≡ refusal c → (n ≡ 0) × (digest ≡ Some c)
 refused_none_left zero e None bytes further c is = absurd (cc)
 refused_none_left zero e (Some d) bytes further c is = (refl, (let s : refusal d ≡ refusal c = is in cc))
 refused_none_left (suc n) e digest bytes further c is = absurd (cc)
 
-pub refused_whole : (f : FileCheck) (so_far bytes : List ℕ) (c : Cause) → HasTaken f so_far → 0 < file_bytes_left f → length bytes ≡ next_len f → ((so_far left : List ℕ) (further : PiecesRead) → HasTaken f so_far → length (so_far ++ (bytes ++ left)) ≡ f.wanted.size → IsTaken f so_far bytes left further (Err c))
+pub refused_whole : (f : FileCheck) (so_far bytes : List ℕ) (c : Cause) → HasTaken f so_far → 0 < file_bytes_left f → length bytes ≡ next_piece_len f → ((so_far left : List ℕ) (further : PiecesRead) → HasTaken f so_far → length (so_far ++ (bytes ++ left)) ≡ f.wanted.size → IsTakeResult f so_far bytes left further (Err c))
     → (length (so_far ++ bytes) ≡ f.wanted.size) × (hash_fault f.wanted.hash.now (so_far ++ bytes) ≡ Some c)
 refused_whole f so_far bytes c has some len taken =
     let many = has.long in
@@ -70,7 +70,7 @@ refused_whole f so_far bytes c has some len taken =
     let b = length-append bytes left in
     let d = length-replicate {A = ℕ} (file_bytes_left f - length bytes) 0 in
     let whole : length (so_far ++ (bytes ++ left)) ≡ f.wanted.size = omega (arith, a, b, d, many, some, len) in
-    let is = refused_none_left (whole_pieces (length (bytes ++ left))) (expected_of f.wanted) (hash_fault f.wanted.hash.now (so_far ++ (bytes ++ left))) (bytes ++ left) no_piece c (taken so_far left no_piece has whole) in
+    let is = refused_none_left (whole_piece_count (length (bytes ++ left))) (expected_of f.wanted) (hash_fault f.wanted.hash.now (so_far ++ (bytes ++ left))) (bytes ++ left) no_piece c (taken so_far left no_piece has whole) in
     let zero_pieces = is.0 in
     let all : file_bytes_left f ≡ length bytes = omega (arith, b, d, len, zero_pieces, some) in
     let no_more : left ≡ [] = ap (λ (n : ℕ). replicate {A = ℕ} n 0) (let e : file_bytes_left f - length bytes ≡ 0 = omega (arith, all) in e) in

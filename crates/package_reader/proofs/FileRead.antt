@@ -8,19 +8,19 @@ use Rattle.base_core.specs.declared.cause.Cause.{Cause}
 use Rattle.pkg_core.specs.Contents.{Expected, hash_fault}
 use Rattle.pkg_core.specs.Opened.{expected_of}
 use Rattle.pkg_core.specs.declared.walk.Wanted.{Wanted}
-use Rattle.pkg_core.specs.Seen.{AreBytesRead, HasAt}
-use Rattle.pkg_core.specs.Pieces.{PiecesRead, no_piece, pieces_from, refusal, whole_pieces}
+use Rattle.pkg_core.specs.Seen.{AreBytesRead, HasBytesAtOffset}
+use Rattle.pkg_core.specs.Pieces.{PiecesRead, no_piece, pieces_of_one_file, refusal, whole_piece_count}
 use Rattle.pkg_core.specs.Taking.{file_bytes_left, pieces_in}
 use Rattle.pkg_core.specs.declared.file.Part.{Part}
-use Rattle.package_reader.specs.FileReading.{GivesBytes, HasUnreadBytes, package_name_of_file}
-use Rattle.package_reader.specs.Opened.{AreLeftOf, AreUnreadBytes, IsNextPiece, IsOpenFile, IsPieceOf, NotDisk, unread_bytes, open_end}
+use Rattle.package_reader.specs.FileReading.{ReturnsNextBytes, HasUnreadBytes, package_name_of_file}
+use Rattle.package_reader.specs.Opened.{AreLeftOf, AreUnreadBytes, IsNextPiece, IsOpenFile, IsPieceOf, IsNotDiskResult, unread_bytes, open_file_end}
 use Rattle.package_reader.specs.declared.piece.PieceFault.{PieceFault}
 use Rattle.package_reader.specs.declared.piece.PieceFault.TheVariants.{Bad, Disk}
 use Rattle.package_reader.specs.declared.one_file.FilePieces.{FilePieces}
 use Rattle.package_reader.specs.declared.open.OpenFile.{OpenFile}
 
-pub ends_within : (opened : Option OpenFile) (o : OpenFile) (len : ℕ) → opened ≡ Some o → open_end opened ≤ len → o.at + file_bytes_left o.file ≤ len
-ends_within opened o len is within = subst (λ (x : Option OpenFile). open_end x ≤ len) is within
+pub ends_within : (opened : Option OpenFile) (o : OpenFile) (len : ℕ) → opened ≡ Some o → open_file_end opened ≤ len → o.at + file_bytes_left o.file ≤ len
+ends_within opened o len is within = subst (λ (x : Option OpenFile). open_file_end x ≤ len) is within
 
 -- ---- a file that is open
 
@@ -46,14 +46,14 @@ as_open o pkg left is = record {
   come = ap (λ (xs : List ℕ). pieces_in o.file is.so_far xs no_piece) is.come;
 }
 
-never_refused : (n : ℕ) (e : Expected) (bytes : List ℕ) (further : PiecesRead) (c : Cause) → pieces_from n e None bytes further ≡ refusal c → ⊥
+never_refused : (n : ℕ) (e : Expected) (bytes : List ℕ) (further : PiecesRead) (c : Cause) → pieces_of_one_file n e None bytes further ≡ refusal c → ⊥
 never_refused zero e bytes further c is = (cc)
 never_refused (suc n) e bytes further c is = (cc)
 
 -- ---- the bytes that were read
 
-there_by : (told : Option (List ℕ)) (pkg bytes : List ℕ) (at : ℕ) → told ≡ Some pkg → IfSome told (λ file. length file ≡ length pkg → HasAt file at bytes) → HasAt pkg at bytes
-there_by told pkg bytes at is seen = subst (λ (x : Option (List ℕ)). IfSome x (λ file. length file ≡ length pkg → HasAt file at bytes)) is seen refl
+there_by : (told : Option (List ℕ)) (pkg bytes : List ℕ) (at : ℕ) → told ≡ Some pkg → IfSome told (λ file. length file ≡ length pkg → HasBytesAtOffset file at bytes) → HasBytesAtOffset pkg at bytes
+there_by told pkg bytes at is seen = subst (λ (x : Option (List ℕ)). IfSome x (λ file. length file ≡ length pkg → HasBytesAtOffset file at bytes)) is seen refl
 
 abbrev no_bytes : List ℕ
 no_bytes = []
@@ -73,15 +73,15 @@ split_at (suc n) (suc l) (x ∷ xs) few =
 
 -- what a call says of each package that has the bytes
 abbrev pub IsAnswerOf : OpenFile → List ℕ → Result (Part × Option OpenFile) PieceFault → Type 0
-IsAnswerOf o bytes result = (file so_far : List ℕ) (further before : PiecesRead) → HasAt file o.at bytes → o.at + file_bytes_left o.file ≤ length file → IsOpenFile o so_far file further before → IsNextPiece so_far file bytes further before result
+IsAnswerOf o bytes result = (file so_far : List ℕ) (further before : PiecesRead) → HasBytesAtOffset file o.at bytes → o.at + file_bytes_left o.file ≤ length file → IsOpenFile o so_far file further before → IsNextPiece so_far file bytes further before result
 
 abbrev GivesBytesOf : List TreeState → FilePieces → (List ℕ → List ℕ → Type 0) → List ℕ → Result Bool PieceFault → Type 0
-GivesBytesOf h old Then bytes r = IfObservable h (λ v. (pkg left : List ℕ) → files_of v (package_name_of_file old) ≡ Some pkg → HasUnreadBytes old pkg left → GivesBytes (Then pkg) left bytes r)
+GivesBytesOf h old Then bytes r = IfObservable h (λ v. (pkg left : List ℕ) → files_of v (package_name_of_file old) ≡ Some pkg → HasUnreadBytes old pkg left → ReturnsNextBytes (Then pkg) left bytes r)
 
-last_given : (o : OpenFile) (pkg left bytes : List ℕ) → AreLeftOf o pkg left → HasAt pkg o.at bytes → length bytes ≡ file_bytes_left o.file → left ≡ bytes ++ []
+last_given : (o : OpenFile) (pkg left bytes : List ℕ) → AreLeftOf o pkg left → HasBytesAtOffset pkg o.at bytes → length bytes ≡ file_bytes_left o.file → left ≡ bytes ++ []
 last_given o pkg left bytes is has all = is.come ∙ (ap (λ (n : ℕ). take n (drop o.at pkg)) (sym all) ∙ (has ∙ sym (append-nil bytes)))
 
-more_given : (o f : OpenFile) (pkg left bytes : List ℕ) → AreLeftOf o pkg left → HasAt pkg o.at bytes → f.at ≡ o.at + length bytes → f.at + file_bytes_left f.file ≡ o.at + file_bytes_left o.file → left ≡ bytes ++ unread_bytes f pkg
+more_given : (o f : OpenFile) (pkg left bytes : List ℕ) → AreLeftOf o pkg left → HasBytesAtOffset pkg o.at bytes → f.at ≡ o.at + length bytes → f.at + file_bytes_left f.file ≡ o.at + file_bytes_left o.file → left ≡ bytes ++ unread_bytes f pkg
 more_given o f pkg left bytes is has at room =
     let n : ℕ = length bytes in
     let l : ℕ = file_bytes_left o.file in
@@ -96,7 +96,7 @@ good_further o f so_far left bytes rest same whole good =
     ∙ (ap (λ (xs : List ℕ). hash_fault o.file.wanted.hash.now xs) (append_assoc so_far bytes rest ∙ ap (λ (xs : List ℕ). so_far ++ xs) (sym whole))
     ∙ good)
 
-given : (o : OpenFile) (rest : Option OpenFile) (pkg left bytes : List ℕ) (part : Part) → (is : AreLeftOf o pkg left) → HasAt pkg o.at bytes → IsNextPiece is.so_far pkg bytes no_piece (pieces_in o.file is.so_far left no_piece) (Ok (part, rest)) → IfNone rest (length bytes ≡ file_bytes_left o.file) → IsPieceOf o (length bytes) (part, rest)
+given : (o : OpenFile) (rest : Option OpenFile) (pkg left bytes : List ℕ) (part : Part) → (is : AreLeftOf o pkg left) → HasBytesAtOffset pkg o.at bytes → IsNextPiece is.so_far pkg bytes no_piece (pieces_in o.file is.so_far left no_piece) (Ok (part, rest)) → IfNone rest (length bytes ≡ file_bytes_left o.file) → IsPieceOf o (length bytes) (part, rest)
     → IfSome rest (λ further. further.at + file_bytes_left further.file ≡ o.at + file_bytes_left o.file) → (further : List ℕ) × (left ≡ bytes ++ further) × AreUnreadBytes rest pkg further
 given o None pkg left bytes part is has this all of room = ([], last_given o pkg left bytes is has all, refl)
 given o (Some f) pkg left bytes part is has this all of room =
@@ -118,12 +118,12 @@ pub gives_piece : (h : List TreeState) (old : FilePieces) (Then : List ℕ → L
 gives_piece [] old Then o rest bytes part is some then seen next all of room = tt
 gives_piece (v ∷ earlier) old Then o rest bytes part is some then seen next all of room = λ pkg left there reading.
     let left_of : AreLeftOf o pkg left = subst (λ (x : Option OpenFile). AreUnreadBytes x pkg left) is reading.1 in
-    let has : HasAt pkg o.at bytes = there_by (files_of v (package_name_of_file old)) pkg bytes o.at there (seen (length pkg)) in
+    let has : HasBytesAtOffset pkg o.at bytes = there_by (files_of v (package_name_of_file old)) pkg bytes o.at there (seen (length pkg)) in
     let this = next pkg left_of.so_far no_piece _ has (room_for o pkg left some left_of) (as_open o pkg left left_of) in
     let (further, is_split, come) = given o rest pkg left bytes part left_of has this all of room in
     (further, is_split, then pkg further come)
 
-pub gives_fault : (h : List TreeState) (old : FilePieces) (Then : List ℕ → List ℕ → Type 0) (o : OpenFile) (bytes : List ℕ) (fault : PieceFault) (r : Result Bool PieceFault) → old.opened ≡ Some o → 0 < file_bytes_left o.file → IsErrAnd r (λ other. other ≡ fault) → (NotDisk {A = Part × Option OpenFile} (Err fault) → (len : ℕ) → AreBytesRead h (package_name_of_file old) len o.at bytes)
+pub gives_fault : (h : List TreeState) (old : FilePieces) (Then : List ℕ → List ℕ → Type 0) (o : OpenFile) (bytes : List ℕ) (fault : PieceFault) (r : Result Bool PieceFault) → old.opened ≡ Some o → 0 < file_bytes_left o.file → IsErrAnd r (λ other. other ≡ fault) → (IsNotDiskResult {A = Part × Option OpenFile} (Err fault) → (len : ℕ) → AreBytesRead h (package_name_of_file old) len o.at bytes)
     → IsAnswerOf o bytes (Err fault) → GivesBytesOf h old Then bytes r
 gives_fault [] old Then o bytes fault r is some answer seen next = tt
 gives_fault (v ∷ earlier) old Then o bytes fault (Ok came) is some answer seen next = absurd answer
@@ -131,7 +131,7 @@ gives_fault (v ∷ earlier) old Then o bytes fault (Err Disk) is some answer see
 gives_fault (v ∷ earlier) old Then o bytes Disk (Err (Bad c)) is some answer seen next = absurd (let e : Bad c ≡ Disk = answer in (cc))
 gives_fault (v ∷ earlier) old Then o bytes (Bad d) (Err (Bad c)) is some answer seen next = λ pkg left there reading.
     let left_of : AreLeftOf o pkg left = subst (λ (x : Option OpenFile). AreUnreadBytes x pkg left) is reading.1 in
-    let has : HasAt pkg o.at bytes = there_by (files_of v (package_name_of_file old)) pkg bytes o.at there (seen tt (length pkg)) in
+    let has : HasBytesAtOffset pkg o.at bytes = there_by (files_of v (package_name_of_file old)) pkg bytes o.at there (seen tt (length pkg)) in
     let this = next pkg left_of.so_far no_piece _ has (room_for o pkg left some left_of) (as_open o pkg left left_of) in
-    never_refused (whole_pieces (length left)) (expected_of o.file.wanted) left no_piece d
-    (ap (λ (x : Option Cause). pieces_from (whole_pieces (length left)) (expected_of o.file.wanted) x left no_piece) (sym left_of.good) ∙ this)
+    never_refused (whole_piece_count (length left)) (expected_of o.file.wanted) left no_piece d
+    (ap (λ (x : Option Cause). pieces_of_one_file (whole_piece_count (length left)) (expected_of o.file.wanted) x left no_piece) (sym left_of.good) ∙ this)

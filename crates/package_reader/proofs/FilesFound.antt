@@ -4,9 +4,9 @@ use Rattle.std.specs.Prelude.{IfOk, IfSome, IsErrAnd}
 use Rattle.std.proofs.lemmas.List.{length-append}
 use Rattle.base_core.specs.declared.cause.Cause.{Cause}
 use Rattle.base_core.specs.Tree.{TreeState}
-use Rattle.pkg_core.specs.Opened.{left_in}
+use Rattle.pkg_core.specs.Opened.{files_left_in_walk}
 use Rattle.pkg_core.specs.declared.walk.Walk.{Walk}
-use Rattle.pkg_core.specs.Seen.{HasAt, IsSeenIn}
+use Rattle.pkg_core.specs.Seen.{HasBytesAtOffset, IsSeenIn}
 use Rattle.pkg_core.proofs.SeenBytes.{filled, has_front, has_rest, seen_then}
 use Rattle.pkg_core.specs.Pieces.{PiecesRead, no_piece, refusal}
 use Rattle.pkg_core.specs.Places.{pieces_at}
@@ -28,8 +28,8 @@ pub record IsSeenUpTo (h : List TreeState) (name : List ℕ) (len at to mid : �
   pub all : List ℕ
   pub is_seen : IsSeenIn h name len at all
   pub ends : at + length all ≡ to
-  pub has_first : (pkg : List ℕ) → HasAt pkg at all → HasAt pkg at first
-  pub has_second : (pkg : List ℕ) → HasAt pkg at all → HasAt pkg mid second
+  pub has_first : (pkg : List ℕ) → HasBytesAtOffset pkg at all → HasBytesAtOffset pkg at first
+  pub has_second : (pkg : List ℕ) → HasBytesAtOffset pkg at all → HasBytesAtOffset pkg mid second
 
 pub seen_up_to : (h later : List TreeState) (name : List ℕ) (len at to mid : ℕ) (first second : List ℕ) → later ≡ h → at + length first ≡ mid → mid + length second ≤ to → to ≤ len → IsSeenIn h name len at first → IsSeenIn later name len mid second → IsSeenUpTo h name len at to mid first second
 seen_up_to h later name len at to mid first second same located ends room seen then =
@@ -46,7 +46,7 @@ seen_up_to h later name len at to mid first second same located ends room seen t
       };
       ends = omega (arith, long, all, fill.long, located, ends);
       has_first = λ pkg has. has_front pkg at first (second ++ fill.further) has;
-      has_second = λ pkg has. has_front pkg mid second fill.further (subst (λ (k : ℕ). HasAt pkg k (second ++ fill.further)) located (has_rest pkg at first (second ++ fill.further) has));
+      has_second = λ pkg has. has_front pkg mid second fill.further (subst (λ (k : ℕ). HasBytesAtOffset pkg k (second ++ fill.further)) located (has_rest pkg at first (second ++ fill.further) has));
     }
 
 -- ---- blocks that were passed
@@ -56,12 +56,12 @@ pub record IsPassedTo (h : List TreeState) (name : List ℕ) (len : ℕ) (before
   pub seen : List ℕ
   pub is_seen : IsSeenIn h name len before.at seen
   pub ends : before.at + length seen ≡ now.at
-  pub same : (pkg : List ℕ) → length pkg ≡ len → HasAt pkg before.at seen → pieces_at before pkg ≡ pieces_at now pkg
+  pub same : (pkg : List ℕ) → length pkg ≡ len → HasBytesAtOffset pkg before.at seen → pieces_at before pkg ≡ pieces_at now pkg
 
 pub none_passed : (h : List TreeState) (name : List ℕ) (place : BlockPlace) → place.at ≤ place.len → IsPassedTo h name place.len place place
 none_passed h name place le = record { seen = []; is_seen = nothing_seen h name place.len place.at le; ends = omega arith; same = λ pkg long has. refl }
 
-pub one_passed : (h later : List TreeState) (name : List ℕ) (len : ℕ) (before now after : BlockPlace) (seen : List ℕ) → later ≡ h → now.len ≡ len → after.at ≤ len → IsPassedTo h name len before now → IsSeenIn later name now.len now.at seen → now.at + length seen ≤ after.at → ((pkg : List ℕ) → length pkg ≡ now.len → HasAt pkg now.at seen → pieces_at now pkg ≡ pieces_at after pkg)
+pub one_passed : (h later : List TreeState) (name : List ℕ) (len : ℕ) (before now after : BlockPlace) (seen : List ℕ) → later ≡ h → now.len ≡ len → after.at ≤ len → IsPassedTo h name len before now → IsSeenIn later name now.len now.at seen → now.at + length seen ≤ after.at → ((pkg : List ℕ) → length pkg ≡ now.len → HasBytesAtOffset pkg now.at seen → pieces_at now pkg ≡ pieces_at after pkg)
     → IsPassedTo h name len before after
 one_passed h later name len before now after seen same long room passed is_seen ends step =
     let to = seen_up_to h later name len before.at after.at now.at passed.seen seen same passed.ends ends room passed.is_seen (subst (λ (n : ℕ). IsSeenIn later name n now.at seen) long is_seen) in
@@ -79,9 +79,9 @@ abbrev pub IsFoundBy : List TreeState → List ℕ → ℕ → BlockPlace → Re
 IsFoundBy h name len before result after = (seen : List ℕ)
     × IsSeenIn h name len before.at seen
     × IfOk result (λ found. IfSome found (λ next. before.at + length seen ≡ next.at))
-    × ((pkg : List ℕ) → length pkg ≡ len → HasAt pkg before.at seen → IsFileFound before pkg result after)
+    × ((pkg : List ℕ) → length pkg ≡ len → HasBytesAtOffset pkg before.at seen → IsFileFound before pkg result after)
 
-pub found_end : (h later : List TreeState) (name : List ℕ) (len : ℕ) (before now after : BlockPlace) (seen : List ℕ) → later ≡ h → now.len ≡ len → IsPassedTo h name len before now → IsSeenIn later name now.len now.at seen → ((pkg : List ℕ) → length pkg ≡ now.len → HasAt pkg now.at seen → pieces_at now pkg ≡ no_piece)
+pub found_end : (h later : List TreeState) (name : List ℕ) (len : ℕ) (before now after : BlockPlace) (seen : List ℕ) → later ≡ h → now.len ≡ len → IsPassedTo h name len before now → IsSeenIn later name now.len now.at seen → ((pkg : List ℕ) → length pkg ≡ now.len → HasBytesAtOffset pkg now.at seen → pieces_at now pkg ≡ no_piece)
     → IsFoundBy h name len before (Ok None) after
 found_end h later name len before now after seen same long passed is_seen step =
     let here = subst (λ (n : ℕ). IsSeenIn later name n now.at seen) long is_seen in
@@ -94,7 +94,7 @@ by_fault before now after pkg (Bad d) (Err (Bad c)) is same step = let e : Bad c
 by_fault before now after pkg Disk (Err (Bad c)) is same step = absurd (let e : Bad c ≡ Disk = is in (cc))
 by_fault before now after pkg fault (Err Disk) is same step = tt
 
-pub found_err : (h later : List TreeState) (name : List ℕ) (len : ℕ) (before now after : BlockPlace) (seen : List ℕ) (fault : PieceFault) (r : Result (Option OpenFile) PieceFault) → later ≡ h → now.len ≡ len → IsErrAnd r (λ other. other ≡ fault) → IsPassedTo h name len before now → IsSeenIn later name now.len now.at seen → ((pkg : List ℕ) → length pkg ≡ now.len → HasAt pkg now.at seen → IsNextBlock now pkg (Err fault) after)
+pub found_err : (h later : List TreeState) (name : List ℕ) (len : ℕ) (before now after : BlockPlace) (seen : List ℕ) (fault : PieceFault) (r : Result (Option OpenFile) PieceFault) → later ≡ h → now.len ≡ len → IsErrAnd r (λ other. other ≡ fault) → IsPassedTo h name len before now → IsSeenIn later name now.len now.at seen → ((pkg : List ℕ) → length pkg ≡ now.len → HasBytesAtOffset pkg now.at seen → IsNextBlock now pkg (Err fault) after)
     → IsFoundBy h name len before r after
 found_err h later name len before now after seen fault r same long is passed is_seen step =
     let here = subst (λ (n : ℕ). IsSeenIn later name n now.at seen) long is_seen in
@@ -104,7 +104,7 @@ found_err h later name len before now after seen fault r same long is passed is_
 moved : (o : OpenFile) (so_far pkg : List ℕ) (further pieces others : PiecesRead) → others ≡ pieces → IsOpenFile o so_far pkg further pieces → IsOpenFile o so_far pkg further others
 moved o so_far pkg further pieces others same is = record { taken = is.taken; long = is.long; come = same ∙ is.come }
 
-pub found_file : (h later : List TreeState) (name : List ℕ) (len : ℕ) (before now after : BlockPlace) (seen : List ℕ) (o : OpenFile) → later ≡ h → now.len ≡ len → o.at ≤ len → IsPassedTo h name len before now → IsSeenIn later name now.len now.at seen → now.at + length seen ≤ o.at → ((pkg : List ℕ) → length pkg ≡ now.len → HasAt pkg now.at seen → IsNextBlock now pkg (Ok (Opened o)) after)
+pub found_file : (h later : List TreeState) (name : List ℕ) (len : ℕ) (before now after : BlockPlace) (seen : List ℕ) (o : OpenFile) → later ≡ h → now.len ≡ len → o.at ≤ len → IsPassedTo h name len before now → IsSeenIn later name now.len now.at seen → now.at + length seen ≤ o.at → ((pkg : List ℕ) → length pkg ≡ now.len → HasBytesAtOffset pkg now.at seen → IsNextBlock now pkg (Ok (Opened o)) after)
     → IsFoundBy h name len before (Ok (Some o)) after
 found_file h later name len before now after seen o same long room passed is_seen ends step =
     let to = seen_up_to h later name len before.at o.at now.at passed.seen seen same passed.ends ends room passed.is_seen (subst (λ (n : ℕ). IsSeenIn later name n now.at seen) long is_seen) in (

@@ -2,20 +2,20 @@
 use Rattle.std.proofs.Common.{◌≡◌, ℕ, ◌+◌, ◌-◌, ◌≤◌, List, ◌++◌, length, take, drop, Option, Some, Result, Ok, Err, ap, sym, ◌∙◌, arith}
 use Rattle.std.specs.Prelude.{IsErrAnd}
 use Rattle.std.proofs.lemmas.List.{length-append}
-use Rattle.pkg_core.specs.Seen.{HasAt}
+use Rattle.pkg_core.specs.Seen.{HasBytesAtOffset}
 use Rattle.pkg_core.proofs.SeenBytes.{drop_further, take_more}
 use Rattle.pkg_core.specs.Pieces.{PiecesRead}
-use Rattle.pkg_core.specs.Taking.{IsTaken, file_bytes_left, pieces_in}
+use Rattle.pkg_core.specs.Taking.{IsTakeResult, file_bytes_left, pieces_in}
 use Rattle.pkg_core.specs.declared.file.FileCheck.{FileCheck}
 use Rattle.pkg_core.specs.declared.file.Part.{Part}
-use Rattle.package_reader.specs.Opened.{IsNextPiece, IsOpenFile, NotDisk, unread_bytes}
+use Rattle.package_reader.specs.Opened.{IsNextPiece, IsOpenFile, IsNotDiskResult, unread_bytes}
 use Rattle.package_reader.specs.declared.piece.PieceFault.{PieceFault}
 use Rattle.package_reader.specs.declared.piece.PieceFault.TheVariants.{Bad, Disk}
 use Rattle.package_reader.specs.declared.open.OpenFile.{OpenFile}
 
 -- ---- the tree failed
 
-pub not_disk : {A : Type 0} (r : Result A PieceFault) (fault : PieceFault) → IsErrAnd r (λ other. other ≡ fault) → fault ≡ Disk → NotDisk r → ⊥
+pub not_disk : {A : Type 0} (r : Result A PieceFault) (fault : PieceFault) → IsErrAnd r (λ other. other ≡ fault) → fault ≡ Disk → IsNotDiskResult r → ⊥
 not_disk (Ok value) fault is disk h = is
 not_disk (Err (Bad c)) fault is disk h = let e : Bad c ≡ Disk = is ∙ disk in (cc)
 not_disk (Err Disk) fault is disk h = h
@@ -31,7 +31,7 @@ disk_piece so_far file bytes further before (Err Disk) fault is disk = tt
 abbrev pub behind_piece : OpenFile → List ℕ → List ℕ → List ℕ
 behind_piece o bytes file = take (file_bytes_left o.file - length bytes) (drop (o.at + length bytes) file)
 
-pub piece_first : (o : OpenFile) (file bytes : List ℕ) → length bytes ≤ file_bytes_left o.file → HasAt file o.at bytes → unread_bytes o file ≡ bytes ++ behind_piece o bytes file
+pub piece_first : (o : OpenFile) (file bytes : List ℕ) → length bytes ≤ file_bytes_left o.file → HasBytesAtOffset file o.at bytes → unread_bytes o file ≡ bytes ++ behind_piece o bytes file
 piece_first o file bytes few has =
     let n = file_bytes_left o.file in
     let both : n ≡ length bytes + (n - length bytes) = omega (arith, few) in
@@ -40,11 +40,11 @@ piece_first o file bytes few has =
     ∙ (ap (λ (xs : List ℕ). xs ++ take (n - length bytes) (drop (length bytes) (drop o.at file))) has
     ∙ ap (λ (xs : List ℕ). bytes ++ take (n - length bytes) xs) (drop_further o.at (length bytes) file)))
 
-pub all_long : (o : OpenFile) (so_far file bytes : List ℕ) (further before : PiecesRead) → length bytes ≤ file_bytes_left o.file → HasAt file o.at bytes → IsOpenFile o so_far file further before → length (so_far ++ (bytes ++ behind_piece o bytes file)) ≡ o.file.wanted.size
+pub all_long : (o : OpenFile) (so_far file bytes : List ℕ) (further before : PiecesRead) → length bytes ≤ file_bytes_left o.file → HasBytesAtOffset file o.at bytes → IsOpenFile o so_far file further before → length (so_far ++ (bytes ++ behind_piece o bytes file)) ≡ o.file.wanted.size
 all_long o so_far file bytes further before few has is =
     ap (λ (xs : List ℕ). length (so_far ++ xs)) (sym (piece_first o file bytes few has)) ∙ is.long
 
-pub before_is : (o : OpenFile) (so_far file bytes : List ℕ) (further before : PiecesRead) → length bytes ≤ file_bytes_left o.file → HasAt file o.at bytes → IsOpenFile o so_far file further before → before ≡ pieces_in o.file so_far (bytes ++ behind_piece o bytes file) further
+pub before_is : (o : OpenFile) (so_far file bytes : List ℕ) (further before : PiecesRead) → length bytes ≤ file_bytes_left o.file → HasBytesAtOffset file o.at bytes → IsOpenFile o so_far file further before → before ≡ pieces_in o.file so_far (bytes ++ behind_piece o bytes file) further
 before_is o so_far file bytes further before few has is =
     is.come ∙ ap (λ (xs : List ℕ). pieces_in o.file so_far xs further) (piece_first o file bytes few has)
 
@@ -57,7 +57,7 @@ append_assoc xs ys zs =
     omega (arith, a, b, c, d)
 
 -- a piece after which more is left
-pub next_further : (o : OpenFile) (g : FileCheck) (at : ℕ) (so_far file bytes : List ℕ) (part : Part) (further before : PiecesRead) → length bytes ≤ file_bytes_left o.file → HasAt file o.at bytes → IsOpenFile o so_far file further before → IsTaken o.file so_far bytes (behind_piece o bytes file) further (Ok (part, Some g)) → at ≡ o.at + length bytes → file_bytes_left g ≡ file_bytes_left o.file - length bytes
+pub next_further : (o : OpenFile) (g : FileCheck) (at : ℕ) (so_far file bytes : List ℕ) (part : Part) (further before : PiecesRead) → length bytes ≤ file_bytes_left o.file → HasBytesAtOffset file o.at bytes → IsOpenFile o so_far file further before → IsTakeResult o.file so_far bytes (behind_piece o bytes file) further (Ok (part, Some g)) → at ≡ o.at + length bytes → file_bytes_left g ≡ file_bytes_left o.file - length bytes
     → IsNextPiece so_far file bytes further before (Ok (part, Some (record { file = g; at = at })))
 next_further o g at so_far file bytes part further before few has is taken located left =
     let come : behind_piece o bytes file ≡ take (file_bytes_left g) (drop at file) = ap (λ (n : ℕ). take n (drop (o.at + length bytes) file)) (sym left) ∙ ap (λ (n : ℕ). take (file_bytes_left g) (drop n file)) (sym located) in

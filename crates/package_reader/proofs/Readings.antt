@@ -5,17 +5,17 @@ use Rattle.std.proofs.lemmas.Bool.{false≢true}
 use Rattle.base_core.specs.declared.cause.Cause.{Cause}
 use Rattle.base_core.specs.Faults.{Counts}
 use Rattle.base_core.specs.Tree.{TreeState}
-use Rattle.pkg_core.specs.Seen.{AreBytesRead, HasAt, IsSeenIn, ReadsFile}
-use Rattle.adb_block.specs.Reading.{reading_of}
+use Rattle.pkg_core.specs.Seen.{AreBytesRead, HasBytesAtOffset, IsSeenIn, ReadsFile}
+use Rattle.adb_block.specs.Reading.{block_stream_from}
 use Rattle.adb_block.specs.declared.block.BlockKind.{BlockKind}
 use Rattle.pkg_core.specs.Contents.{Expected}
-use Rattle.pkg_core.specs.Pieces.{PiecesRead, piece, pieces_by_blocks, refusal}
-use Rattle.pkg_core.specs.Taking.{file_bytes_left, next_len}
+use Rattle.pkg_core.specs.Pieces.{PiecesRead, piece, pieces_read_from_blocks, refusal}
+use Rattle.pkg_core.specs.Taking.{file_bytes_left, next_piece_len}
 use Rattle.pkg_core.specs.declared.file.Part.{Part}
 use Rattle.pkg_core.specs.Places.{pieces_at}
 use Rattle.pkg_core.specs.declared.place.BlockPlace.{BlockPlace}
-use Rattle.package_reader.specs.Opened.{IsNextPiece, IsOpenFile, IsPieceOf, NotDisk}
-use Rattle.package_reader.specs.Readers.{AreLeft, ArePiecesFrom, IsFileOpened, IsPieceRead, IsReading, offset_in}
+use Rattle.package_reader.specs.Opened.{IsNextPiece, IsOpenFile, IsPieceOf, IsNotDiskResult}
+use Rattle.package_reader.specs.Readers.{AreUnreadPieces, ArePiecesFrom, IsFileOpened, IsPieceRead, IsReading, next_read_offset}
 use Rattle.package_reader.specs.declared.piece.PieceFault.{PieceFault}
 use Rattle.package_reader.specs.declared.piece.PieceFault.TheVariants.{Bad, Disk}
 use Rattle.package_reader.specs.declared.open.OpenFile.{OpenFile}
@@ -25,13 +25,13 @@ use Rattle.package_reader.specs.declared.reader.PieceReader.{PieceReader}
 use Rattle.package_reader.proofs.FilesFound.{seen_up_to}
 
 -- the schema of a file plays no part after its first block
-pub any_schema : (es : List Expected) (schema at : ℕ) (last : Option BlockKind) (pkg : List ℕ) → pieces_by_blocks es (reading_of (record { schema = schema; last = last; at = at; left = drop at pkg })) ≡ pieces_by_blocks es (reading_of (record { schema = 0; last = last; at = at; left = drop at pkg }))
-unfolding reading_of
+pub any_schema : (es : List Expected) (schema at : ℕ) (last : Option BlockKind) (pkg : List ℕ) → pieces_read_from_blocks es (block_stream_from (record { schema = schema; last = last; at = at; left = drop at pkg })) ≡ pieces_read_from_blocks es (block_stream_from (record { schema = 0; last = last; at = at; left = drop at pkg }))
+unfolding block_stream_from
 any_schema es schema at last pkg = refl
 
 pub in_front : (reader : PieceReader) (place : BlockPlace) (pkg : List ℕ) (pieces : PiecesRead) → reader.place ≡ place → reader.opened ≡ None → reader.due ≡ Files → pieces ≡ pieces_at place pkg → IsReading reader pkg pieces
 in_front reader place pkg pieces same opened due is =
-    subst (λ (d : Due). AreLeft d reader.place reader.opened pkg pieces) (sym due)
+    subst (λ (d : Due). AreUnreadPieces d reader.place reader.opened pkg pieces) (sym due)
     (subst (λ (o : Option OpenFile). ArePiecesFrom reader.place o pkg pieces) (sym opened)
     (is ∙ ap (λ (p : BlockPlace). pieces_at p pkg) (sym same)))
 
@@ -44,10 +44,10 @@ renamed n m len e h0 h1 a b r same reads = subst (λ (k : List ℕ). ReadsFile k
 pub record IsSeenUnlessDisk (h : List TreeState) (name : List ℕ) (len at file_at : ℕ) (first bytes : List ℕ) (fault : PieceFault) : Type 0 where
   pub all : List ℕ
   pub is_seen : IsSeenIn h name len at all
-  pub has_first : (pkg : List ℕ) → HasAt pkg at all → HasAt pkg at first
-  pub has_bytes : (c : Cause) → fault ≡ Bad c → (pkg : List ℕ) → HasAt pkg at all → HasAt pkg file_at bytes
+  pub has_first : (pkg : List ℕ) → HasBytesAtOffset pkg at all → HasBytesAtOffset pkg at first
+  pub has_bytes : (c : Cause) → fault ≡ Bad c → (pkg : List ℕ) → HasBytesAtOffset pkg at all → HasBytesAtOffset pkg file_at bytes
 
-pub seen_unless_disk : (h later : List TreeState) (name : List ℕ) (len at file_at left : ℕ) (first bytes : List ℕ) (fault : PieceFault) → later ≡ h → at + length first ≡ file_at → file_at + left ≤ len → IsSeenIn h name len at first → (NotDisk {A = Part × Option OpenFile} (Err fault) → length bytes ≤ left) → (NotDisk {A = Part × Option OpenFile} (Err fault) → AreBytesRead later name len file_at bytes)
+pub seen_unless_disk : (h later : List TreeState) (name : List ℕ) (len at file_at left : ℕ) (first bytes : List ℕ) (fault : PieceFault) → later ≡ h → at + length first ≡ file_at → file_at + left ≤ len → IsSeenIn h name len at first → (IsNotDiskResult {A = Part × Option OpenFile} (Err fault) → length bytes ≤ left) → (IsNotDiskResult {A = Part × Option OpenFile} (Err fault) → AreBytesRead later name len file_at bytes)
     → IsSeenUnlessDisk h name len at file_at first bytes fault
 seen_unless_disk h later name len at file_at left first bytes (Bad d) same located room seen few then =
     let few_bytes = few tt in
@@ -57,16 +57,16 @@ seen_unless_disk h later name len at file_at left first bytes Disk same located 
     record { all = first; is_seen = seen; has_first = λ pkg has. has; has_bytes = λ c is pkg has. absurd (let e : Disk ≡ Bad c = is in (cc)) }
 
 -- where a reader follows a piece
-pub behind : (place : BlockPlace) (o : OpenFile) (rest : Option OpenFile) (part : Part) (n : ℕ) → o.at + file_bytes_left o.file ≤ place.at → n ≤ file_bytes_left o.file → IsPieceOf o n (part, rest) → o.at + n ≤ offset_in place rest
+pub behind : (place : BlockPlace) (o : OpenFile) (rest : Option OpenFile) (part : Part) (n : ℕ) → o.at + file_bytes_left o.file ≤ place.at → n ≤ file_bytes_left o.file → IsPieceOf o n (part, rest) → o.at + n ≤ next_read_offset place rest
 behind place o None part n room few is = omega (arith, room, few)
 behind place o (Some further) part n room few is = omega (arith, is.2)
 
-pub after_within : (place : BlockPlace) (o : OpenFile) (rest : Option OpenFile) (part : Part) (n : ℕ) → o.at + file_bytes_left o.file ≤ place.at → place.at ≤ place.len → n ≤ file_bytes_left o.file → IsPieceOf o n (part, rest) → offset_in place rest ≤ place.len
+pub after_within : (place : BlockPlace) (o : OpenFile) (rest : Option OpenFile) (part : Part) (n : ℕ) → o.at + file_bytes_left o.file ≤ place.at → place.at ≤ place.len → n ≤ file_bytes_left o.file → IsPieceOf o n (part, rest) → next_read_offset place rest ≤ place.len
 after_within place o None part n room within few is = within
 after_within place o (Some further) part n room within few is = omega (arith, is.2, room, within, few)
 
 -- after a piece that is not the last one of its file
-pub behind_part : (place : BlockPlace) (o : OpenFile) (rest : Option OpenFile) (part : Part) (n at : ℕ) → at ≤ o.at → IsPieceOf o n (part, rest) → part.last ≡ false → at + n ≤ offset_in place rest
+pub behind_part : (place : BlockPlace) (o : OpenFile) (rest : Option OpenFile) (part : Part) (n at : ℕ) → at ≤ o.at → IsPieceOf o n (part, rest) → part.last ≡ false → at + n ≤ next_read_offset place rest
 behind_part place o None part n at before is more = absurd (false≢true (sym more ∙ ap (λ (p : Part). p.last) is))
 behind_part place o (Some further) part n at before is more = omega (arith, before, is.2)
 

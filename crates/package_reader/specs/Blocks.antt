@@ -1,13 +1,13 @@
 -- The parts of a block that were read, and the result for a block. The rules are in `docs/formats.md`,
 -- "The other blocks"; the framing of a block in "Container". Serves the contracts of `block`.
 use Rattle.std.specs.Prelude.{◌≡◌, ◌≤◌, ◌<◌, ℕ, ◌+◌, min, List, [], ◌∷◌, length, drop, Option, Some, None, Result, Ok, Err}
-use Rattle.adb_block.specs.Frames.{IsFramed, raw_size}
+use Rattle.adb_block.specs.Frames.{IsFrameOrEndOfStep, raw_size}
 use Rattle.adb_block.specs.declared.block.Frame.{Frame}
 use Rattle.pkg_core.specs.Contents.{POSITIONS_LEN}
-use Rattle.pkg_core.specs.Opened.{expected_of, left_in}
+use Rattle.pkg_core.specs.Opened.{expected_of, files_left_in_walk}
 use Rattle.pkg_core.specs.declared.walk.Walk.{Walk}
 use Rattle.pkg_core.specs.Pieces.{no_piece, refusal}
-use Rattle.pkg_core.specs.Places.{HasPositions, pieces_at, step_at}
+use Rattle.pkg_core.specs.Places.{HasPositions, pieces_at, block_step_at}
 use Rattle.pkg_core.specs.declared.place.BlockPlace.{BlockPlace}
 use Rattle.pkg_core.specs.Taking.{file_bytes_left}
 use Rattle.package_reader.specs.Opened.{IsOpenFile}
@@ -30,15 +30,15 @@ SeesPositions (Some frame) positions seen =
     (length seen ≤ frame.payload_len) × (POSITIONS_LEN ≤ frame.payload_len → seen ≡ positions)
 
 -- no more bytes of a block were seen than its header and the positions
-abbrev pub IsInBlock : Option Frame → ℕ → Type 0
-IsInBlock None seen = Unit {0}
-IsInBlock (Some frame) seen = seen ≤ frame.head_len + min POSITIONS_LEN frame.payload_len
+abbrev pub AreSeenWithinPositions : Option Frame → ℕ → Type 0
+AreSeenWithinPositions None seen = Unit {0}
+AreSeenWithinPositions (Some frame) seen = seen ≤ frame.head_len + min POSITIONS_LEN frame.payload_len
 
 -- the parts that were read of the block at a place are those of this file; or the result is the first
 -- failed test
 abbrev pub IsBlockRead : BlockPlace → List ℕ → Result BlockRead PieceFault → Type 0
 IsBlockRead place file (Ok read) =
-    IsFramed (Ok read.framing) (drop place.at file) (step_at place file)
+    IsFrameOrEndOfStep (Ok read.framing) (drop place.at file) (block_step_at place file)
     × HasPositions read.framing read.positions place file
 IsBlockRead place file (Err (Bad c)) = pieces_at place file ≡ refusal c
 IsBlockRead place file (Err Disk) = Unit {0}
@@ -55,21 +55,21 @@ IsNextBlock before file (Err Disk) after = Unit {0}
 
 -- a reader is at a later place after a block, and within the package, and so are the unread bytes of an
 -- opened file
-abbrev pub GoesFurther : BlockPlace → BlockStep → BlockPlace → Type 0
-GoesFurther before End after = Unit {0}
-GoesFurther before Passed after = (before.at < after.at) × (after.at ≤ after.len)
-GoesFurther before (Opened o) after =
+abbrev pub IsAtLaterPlace : BlockPlace → BlockStep → BlockPlace → Type 0
+IsAtLaterPlace before End after = Unit {0}
+IsAtLaterPlace before Passed after = (before.at < after.at) × (after.at ≤ after.len)
+IsAtLaterPlace before (Opened o) after =
     (o.at + file_bytes_left o.file ≤ after.at) × (after.at ≤ after.len)
 
 -- the bytes that were read end, at this offset, no later than the next read begins
-abbrev pub EndsBefore : ℕ → BlockStep → BlockPlace → Type 0
-EndsBefore end End after = Unit {0}
-EndsBefore end Passed after = end ≤ after.at
-EndsBefore end (Opened o) after = end ≤ o.at
+abbrev pub ReadEndsBeforeNext : ℕ → BlockStep → BlockPlace → Type 0
+ReadEndsBeforeNext end End after = Unit {0}
+ReadEndsBeforeNext end Passed after = end ≤ after.at
+ReadEndsBeforeNext end (Opened o) after = end ≤ o.at
 
 -- the walk before and after a block: it advances over the opened file; at the end no file is expected
-abbrev pub GoesOnWith : Walk → BlockStep → Walk → Type 0
-GoesOnWith before End after = left_in before ≡ []
-GoesOnWith before Passed after = after ≡ before
-GoesOnWith before (Opened o) after =
-    left_in before ≡ expected_of o.file.wanted ∷ left_in after
+abbrev pub IsWalkAfterBlock : Walk → BlockStep → Walk → Type 0
+IsWalkAfterBlock before End after = files_left_in_walk before ≡ []
+IsWalkAfterBlock before Passed after = after ≡ before
+IsWalkAfterBlock before (Opened o) after =
+    files_left_in_walk before ≡ expected_of o.file.wanted ∷ files_left_in_walk after

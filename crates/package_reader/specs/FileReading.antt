@@ -18,8 +18,8 @@ abbrev pub package_name_of_file : FilePieces → List ℕ
 package_name_of_file file = file.name.now
 
 -- how many bytes the package has that a file is read from
-abbrev pub len_around_file : FilePieces → ℕ
-len_around_file file = file.len
+abbrev pub package_len_of_file : FilePieces → ℕ
+package_len_of_file file = file.len
 
 -- how many bytes of a file are still to be read; none if no file is open
 abbrev pub bytes_left_in : Option OpenFile → ℕ
@@ -36,8 +36,8 @@ abbrev pub expected_file_of : FilePieces → Option Expected
 expected_file_of file = option_map expected_of file.due
 
 -- the fault of the test that failed in the reading of a file, if one did
-abbrev pub kept_fault : FilePieces → Option Cause
-kept_fault file = file.refused
+abbrev pub remembered_fault : FilePieces → Option Cause
+remembered_fault file = file.refused
 
 -- ---- which bytes of the package are still to be read
 
@@ -50,12 +50,12 @@ HasUnreadBytes file pkg left = (file.refused ≡ None) × AreUnreadBytes file.op
 
 -- the result of a call for the next piece if the tree has the package: these bytes are the next of
 -- those that are left, and the rest is still to be read; or none is left
-abbrev pub GivesBytes : (List ℕ → Type 0) → List ℕ → List ℕ → Result Bool PieceFault → Type 0
-GivesBytes AreUnreadBytesThen left bytes (Ok true) =
+abbrev pub ReturnsNextBytes : (List ℕ → Type 0) → List ℕ → List ℕ → Result Bool PieceFault → Type 0
+ReturnsNextBytes AreUnreadBytesThen left bytes (Ok true) =
     (rest : List ℕ) × (left ≡ bytes ++ rest) × AreUnreadBytesThen rest
-GivesBytes AreUnreadBytesThen left bytes (Ok false) = (left ≡ []) × AreUnreadBytesThen []
-GivesBytes AreUnreadBytesThen left bytes (Err (Bad c)) = ⊥
-GivesBytes AreUnreadBytesThen left bytes (Err Disk) = Unit {0}
+ReturnsNextBytes AreUnreadBytesThen left bytes (Ok false) = (left ≡ []) × AreUnreadBytesThen []
+ReturnsNextBytes AreUnreadBytesThen left bytes (Err (Bad c)) = ⊥
+ReturnsNextBytes AreUnreadBytesThen left bytes (Err Disk) = Unit {0}
 
 -- ---- the tests of the bytes, whatever the tree has
 
@@ -71,14 +71,14 @@ HaveOtherDigest (Some e) bytes c = (length bytes ≡ e.size) × (hash_fault e.ha
 
 -- exactly these bytes were returned, by the state of a reader: more are to be read, or the bytes are as
 -- expected; after a failed test nothing is promised
-abbrev pub HaveBeenReturnedBy : Option Cause → Option OpenFile → Option Expected → List ℕ → Type 0
-HaveBeenReturnedBy (Some c) opened due bytes = Unit {0}
-HaveBeenReturnedBy None None due bytes = AreAsExpected due bytes
-HaveBeenReturnedBy None (Some o) due bytes = HasTaken o.file bytes
+abbrev pub HaveBeenReturnedInState : Option Cause → Option OpenFile → Option Expected → List ℕ → Type 0
+HaveBeenReturnedInState (Some c) opened due bytes = Unit {0}
+HaveBeenReturnedInState None None due bytes = AreAsExpected due bytes
+HaveBeenReturnedInState None (Some o) due bytes = HasTaken o.file bytes
 
 -- exactly these bytes of the file were returned so far
 abbrev pub HaveBeenReturned : FilePieces → List ℕ → Type 0
-HaveBeenReturned file bytes = HaveBeenReturnedBy (kept_fault file) file.opened (expected_file_of file)
+HaveBeenReturned file bytes = HaveBeenReturnedInState (remembered_fault file) file.opened (expected_file_of file)
     bytes
 
 -- The result of a call after these bytes (`so_far`) were returned. Without an error, no test has
@@ -86,11 +86,11 @@ HaveBeenReturned file bytes = HaveBeenReturnedBy (kept_fault file) file.opened (
 -- and the piece are complete and have another digest; or a test had failed before.
 abbrev pub IsTestedReturn : FilePieces → List ℕ → List ℕ → Result Bool PieceFault → FilePieces → Type 0
 IsTestedReturn old so_far bytes (Ok true) new =
-    (kept_fault new ≡ None) × HaveBeenReturned new (so_far ++ bytes)
+    (remembered_fault new ≡ None) × HaveBeenReturned new (so_far ++ bytes)
 IsTestedReturn old so_far bytes (Ok false) new =
-    (kept_fault new ≡ None) × AreAsExpected (expected_file_of old) so_far × HaveBeenReturned new so_far
+    (remembered_fault new ≡ None) × AreAsExpected (expected_file_of old) so_far × HaveBeenReturned new so_far
 IsTestedReturn old so_far bytes (Err (Bad c)) new =
-    (kept_fault old ≡ Some c) ⊎ HaveOtherDigest (expected_file_of old) (so_far ++ bytes) c
+    (remembered_fault old ≡ Some c) ⊎ HaveOtherDigest (expected_file_of old) (so_far ++ bytes) c
 IsTestedReturn old so_far bytes (Err Disk) new = Unit {0}
 
 -- if a piece was returned, it has `len` bytes, at least one, and that many fewer are left to be read; if

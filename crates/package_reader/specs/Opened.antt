@@ -51,10 +51,10 @@ AreTestedSoFar o bytes (Err (Bad c)) =
 AreTestedSoFar o bytes (Err Disk) = Unit {0}
 
 -- the result is not that the tree failed
-abbrev pub NotDisk : {A : Type 0} → Result A PieceFault → Type 0
-NotDisk (Ok value) = Unit {0}
-NotDisk (Err (Bad c)) = Unit {0}
-NotDisk (Err Disk) = ⊥
+abbrev pub IsNotDiskResult : {A : Type 0} → Result A PieceFault → Type 0
+IsNotDiskResult (Ok value) = Unit {0}
+IsNotDiskResult (Err (Bad c)) = Unit {0}
+IsNotDiskResult (Err Disk) = ⊥
 
 -- the result of a call for the next piece of an open file: these bytes are the next piece, followed by
 -- the rest of the file or, after its last piece, by the further ones; or the digest differs
@@ -76,9 +76,9 @@ IsPieceOf o len (part, Some further) =
 IsPieceOf o len (part, None) = part ≡ part_of (expected_of o.file.wanted) true
 
 -- the offset after the open file, or 0 if none is open
-abbrev pub open_end : Option OpenFile → ℕ
-open_end None = 0
-open_end (Some o) = o.at + file_bytes_left o.file
+abbrev pub open_file_end : Option OpenFile → ℕ
+open_file_end None = 0
+open_file_end (Some o) = o.at + file_bytes_left o.file
 
 -- why an expected file cannot be at an offset of a package of this length: no offset is given, which is
 -- reported with (0, 0), or fewer bytes are left than its size; None if it can

@@ -4,13 +4,13 @@
 use Rattle.std.specs.Prelude.{◌≡◌, ℕ, ◌+◌, ◌-◌, if◌then◌else◌, List, [], ◌∷◌, is_none, Option, Some, None, IfSome, Result, Ok, Err}
 use Rattle.base_core.specs.declared.cause.Cause.{Cause}
 use Rattle.pkg_core.specs.Contents.{Expected}
-use Rattle.pkg_core.specs.Opened.{expected_of, left_in}
+use Rattle.pkg_core.specs.Opened.{expected_of, files_left_in_walk}
 use Rattle.pkg_core.specs.declared.walk.Walk.{Walk}
 use Rattle.pkg_core.specs.Pieces.{PiecesRead, no_piece, part_of, piece, refusal}
 use Rattle.pkg_core.specs.Places.{pieces_at}
 use Rattle.pkg_core.specs.declared.file.Part.{Part}
 use Rattle.pkg_core.specs.declared.place.BlockPlace.{BlockPlace}
-use Rattle.pkg_core.specs.Seen.{HasAt}
+use Rattle.pkg_core.specs.Seen.{HasBytesAtOffset}
 use Rattle.package_reader.specs.Opened.{IsOpenFile}
 use Rattle.package_reader.specs.declared.piece.PieceFault.{PieceFault}
 use Rattle.package_reader.specs.declared.piece.PieceFault.TheVariants.{Bad, Disk}
@@ -30,28 +30,28 @@ abbrev pub package_len : PieceReader → ℕ
 package_len reader = reader.place.len
 
 -- the offset of the byte that is read next: in the file that is open, or else at the next block
-abbrev pub offset_in : BlockPlace → Option OpenFile → ℕ
-offset_in place None = place.at
-offset_in place (Some o) = o.at
+abbrev pub next_read_offset : BlockPlace → Option OpenFile → ℕ
+next_read_offset place None = place.at
+next_read_offset place (Some o) = o.at
 
 -- the offset of the byte that a reader reads next
 abbrev pub offset_of : PieceReader → ℕ
-offset_of reader = offset_in reader.place reader.opened
+offset_of reader = next_read_offset reader.place reader.opened
 
 -- the expected files: those whose last piece is still to be read
 abbrev pub files_to_read_in : BlockPlace → Option OpenFile → List Expected
-files_to_read_in place None = left_in place.walk
-files_to_read_in place (Some o) = expected_of o.file.wanted ∷ left_in place.walk
+files_to_read_in place None = files_left_in_walk place.walk
+files_to_read_in place (Some o) = expected_of o.file.wanted ∷ files_left_in_walk place.walk
 
 -- the expected files, by what is left of a reader: none after the last block, or after a failed test
-abbrev pub files_to_read_by : Due → BlockPlace → Option OpenFile → List Expected
-files_to_read_by Files place opened = files_to_read_in place opened
-files_to_read_by Nothing place opened = []
-files_to_read_by (Refused c) place opened = []
+abbrev pub files_to_read_in_state : Due → BlockPlace → Option OpenFile → List Expected
+files_to_read_in_state Files place opened = files_to_read_in place opened
+files_to_read_in_state Nothing place opened = []
+files_to_read_in_state (Refused c) place opened = []
 
 -- the files of a reader whose last piece is still to be read
 abbrev pub files_to_read : PieceReader → List Expected
-files_to_read reader = files_to_read_by reader.due reader.place reader.opened
+files_to_read reader = files_to_read_in_state reader.due reader.place reader.opened
 
 -- a reader can continue: no test failed, and the last block was not passed
 abbrev pub CanContinue : PieceReader → Type 0
@@ -71,27 +71,27 @@ ArePiecesFrom place (Some o) pkg pieces =
 
 -- these pieces are left, by what is left of a reader: none after the last block, only the fault after a
 -- failed test
-abbrev pub AreLeft : Due → BlockPlace → Option OpenFile → List ℕ → PiecesRead → Type 0
-AreLeft Files place opened pkg pieces = ArePiecesFrom place opened pkg pieces
-AreLeft Nothing place opened pkg pieces = pieces ≡ no_piece
-AreLeft (Refused c) place opened pkg pieces = pieces ≡ refusal c
+abbrev pub AreUnreadPieces : Due → BlockPlace → Option OpenFile → List ℕ → PiecesRead → Type 0
+AreUnreadPieces Files place opened pkg pieces = ArePiecesFrom place opened pkg pieces
+AreUnreadPieces Nothing place opened pkg pieces = pieces ≡ no_piece
+AreUnreadPieces (Refused c) place opened pkg pieces = pieces ≡ refusal c
 
 -- these pieces of a reader are still to be read, from a package of these bytes
 abbrev pub IsReading : PieceReader → List ℕ → PiecesRead → Type 0
-IsReading reader pkg pieces = AreLeft reader.due reader.place reader.opened pkg pieces
+IsReading reader pkg pieces = AreUnreadPieces reader.due reader.place reader.opened pkg pieces
 
 -- ---- the results
 
 -- the result of a call for the next piece: it has these bytes, and the rest is still to be read; no
 -- piece is left; or the first failed test, which each later call returns again
-abbrev pub AnswersNext : (PiecesRead → Type 0) → PiecesRead → List ℕ
+abbrev pub ReturnsNextPiece : (PiecesRead → Type 0) → PiecesRead → List ℕ
     → Result (Option Part) PieceFault → Type 0
-AnswersNext AreUnreadBytes before bytes (Ok (Some part)) =
+ReturnsNextPiece AreUnreadBytes before bytes (Ok (Some part)) =
     (after : PiecesRead) × (before ≡ piece part bytes after) × AreUnreadBytes after
-AnswersNext AreUnreadBytes before bytes (Ok None) = (before ≡ no_piece) × AreUnreadBytes no_piece
-AnswersNext AreUnreadBytes before bytes (Err (Bad c)) = (before ≡ refusal c)
+ReturnsNextPiece AreUnreadBytes before bytes (Ok None) = (before ≡ no_piece) × AreUnreadBytes no_piece
+ReturnsNextPiece AreUnreadBytes before bytes (Err (Bad c)) = (before ≡ refusal c)
     × AreUnreadBytes (refusal c)
-AnswersNext AreUnreadBytes before bytes (Err Disk) = Unit {0}
+ReturnsNextPiece AreUnreadBytes before bytes (Err Disk) = Unit {0}
 
 -- the piece is one of the first expected file, which is expected until its last piece was read
 pub record IsOfFirstExpected (before : List Expected) (part : Part)
@@ -137,11 +137,11 @@ returned_len reader = returned_len_from reader.start reader.opened
 -- the bytes of a piece are in the package, after those of its file that were returned before
 abbrev pub HasPieceAt : PieceReader → List ℕ → List ℕ → Option Part → PieceReader → Type 0
 HasPieceAt old pkg bytes None new = Unit {0}
-HasPieceAt old pkg bytes (Some part) new = HasAt pkg (start_of_file new + returned_len old) bytes
+HasPieceAt old pkg bytes (Some part) new = HasBytesAtOffset pkg (start_of_file new + returned_len old) bytes
 
 -- a piece of this length was returned of the open file, whose offset is unchanged; after the last piece
 -- none is open, and 0 bytes of it count as returned
-pub record KeepsStart (part : Part) (len : ℕ) (old new : PieceReader) : Type 0 where
+pub record KeepsFileStart (part : Part) (len : ℕ) (old new : PieceReader) : Type 0 where
   pub same : IfSome old.opened (λ o. start_of_file new ≡ start_of_file old)
   pub handed : returned_len new ≡ (if part.last then 0 else returned_len old + len)
 
@@ -149,10 +149,10 @@ pub record KeepsStart (part : Part) (len : ℕ) (old new : PieceReader) : Type 0
 
 -- the walk before and after the search for the next file: it advances over the file that was found;
 -- None if none is expected
-abbrev pub FindsFile : Walk → Option OpenFile → Walk → Type 0
-FindsFile before None after = left_in before ≡ []
-FindsFile before (Some found) after =
-    left_in before ≡ expected_of found.file.wanted ∷ left_in after
+abbrev pub FindsNextFile : Walk → Option OpenFile → Walk → Type 0
+FindsNextFile before None after = files_left_in_walk before ≡ []
+FindsNextFile before (Some found) after =
+    files_left_in_walk before ≡ expected_of found.file.wanted ∷ files_left_in_walk after
 
 -- the result of the search for the next file in this package: its contents begin, and the pieces after
 -- them are those from the new position; no piece is left; or the first failed test
@@ -179,7 +179,7 @@ pub record IsStartOf (old : PieceReader) (o : OpenFile) (start : ℕ) : Type 0 w
   pub located : o.at ≡ start + returned_len old
   pub same : IfSome old.opened (λ o. start ≡ start_of_file old)
 
--- the result of reading the next piece, as *AnswersNext*, without a promise after a failed test
+-- the result of reading the next piece, as *ReturnsNextPiece*, without a promise after a failed test
 abbrev pub IsPieceRead : PieceReader → List ℕ → PiecesRead → List ℕ
     → Result (Option Part) PieceFault → Type 0
 IsPieceRead new pkg before bytes (Ok (Some part)) = (after : PiecesRead)
@@ -190,7 +190,7 @@ IsPieceRead new pkg before bytes (Err Disk) = Unit {0}
 
 -- the expected files before a file was opened: this file, and those that the walk has left; none if
 -- none was opened
-abbrev pub OpensExpected : List Expected → Option OpenFile → BlockPlace → Type 0
-OpensExpected before None place = before ≡ []
-OpensExpected before (Some o) place =
-    before ≡ expected_of o.file.wanted ∷ left_in place.walk
+abbrev pub OpensFirstExpected : List Expected → Option OpenFile → BlockPlace → Type 0
+OpensFirstExpected before None place = before ≡ []
+OpensFirstExpected before (Some o) place =
+    before ≡ expected_of o.file.wanted ∷ files_left_in_walk place.walk

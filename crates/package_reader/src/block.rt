@@ -4,12 +4,12 @@
 
 ghost use Rattle.std.specs.Prelude.{◌≡◌, ◌≤◌, ◌<◌, ◌+◌, ◌-◌, ◌^◌, ℕ, List, length, IfErr, IfOk, IfSome, OnOk};
 ghost use Rattle.adb_block.specs.Frames.{raw_size};
-ghost use Rattle.pkg_core.specs.Seen.{AreBytesRead, HasAt, IsSeenIn, ReadsFile};
-ghost use Rattle.package_reader.specs.Blocks.{EndsBefore, GoesFurther, GoesOnWith, IsBlockRead, IsInBlock, IsNextBlock, SeesPositions, head_size};
+ghost use Rattle.pkg_core.specs.Seen.{AreBytesRead, HasBytesAtOffset, IsSeenIn, ReadsFile};
+ghost use Rattle.package_reader.specs.Blocks.{ReadEndsBeforeNext, IsAtLaterPlace, IsWalkAfterBlock, IsBlockRead, AreSeenWithinPositions, IsNextBlock, SeesPositions, head_size};
 ghost use Rattle.package_reader.specs.declared.piece.PieceFault.TheVariants.{Disk as DiskFault};
 ghost use Rattle.pkg_core.specs.Taking.{file_bytes_left};
 ghost use Rattle.pkg_core.specs.Contents.{POSITIONS_LEN};
-ghost use Rattle.package_reader.specs.Readers.{FindsFile, IsFileFound};
+ghost use Rattle.package_reader.specs.Readers.{FindsNextFile, IsFileFound};
 
 use crate::open::OpenFile;
 use crate::piece::PieceFault;
@@ -55,13 +55,13 @@ pub(crate) fn next_block<'a, T: Tree>(
     // For each package of this length that has the bytes that were read.
     ensures block { (seen : List ℕ)
         × IsSeenIn (T.history tree.old) name.now place.old.len place.old.at seen
-        × IfOk result (λ step. EndsBefore (place.old.at + length seen) step place.new)
-        × ((file : List ℕ) → length file ≡ place.old.len → HasAt file place.old.at seen
+        × IfOk result (λ step. ReadEndsBeforeNext (place.old.at + length seen) step place.new)
+        × ((file : List ℕ) → length file ≡ place.old.len → HasBytesAtOffset file place.old.at seen
         → IsNextBlock place.old file result place.new) }
     ensures len { place.new.len ≡ place.old.len }
     ensures within { place.new.at ≤ place.new.len }
-    ensures walk { IfOk result (λ step. GoesOnWith place.old.walk step place.new.walk) }
-    ensures further { IfOk result (λ step. GoesFurther place.old step place.new) }
+    ensures walk { IfOk result (λ step. IsWalkAfterBlock place.old.walk step place.new.walk) }
+    ensures further { IfOk result (λ step. IsAtLaterPlace place.old step place.new) }
     // The tree is unchanged. `Disk` is returned only if the tree failed, and no call is a misuse if
     // the file still has its length.
     ensures tree { ReadsFile name.now place.old.len DiskFault (T.history tree.old)
@@ -107,8 +107,8 @@ pub(crate) fn read_block<T: Tree>(
         place.now.at + raw_size frame < 2 ^ 64)) }
     ensures block { (seen : List ℕ)
         × IsSeenIn (T.history tree.old) name.now place.now.len place.now.at seen
-        × IfOk result (λ read. IsInBlock read.framing (length seen))
-        × ((file : List ℕ) → length file ≡ place.now.len → HasAt file place.now.at seen
+        × IfOk result (λ read. AreSeenWithinPositions read.framing (length seen))
+        × ((file : List ℕ) → length file ≡ place.now.len → HasBytesAtOffset file place.now.at seen
         → IsBlockRead place.now file result) }
     // The tree is unchanged. `Disk` is returned only if the tree failed, and no call is a misuse if
     // the file still has its length.
@@ -163,11 +163,11 @@ pub(crate) fn next_file<'a, T: Tree>(
         × IsSeenIn (T.history tree.old) name.now place.old.len place.old.at seen
         × IfOk result (λ found. IfSome found (λ next.
         place.old.at + length seen ≡ next.at))
-        × ((pkg : List ℕ) → length pkg ≡ place.old.len → HasAt pkg place.old.at seen
+        × ((pkg : List ℕ) → length pkg ≡ place.old.len → HasBytesAtOffset pkg place.old.at seen
         → IsFileFound place.old pkg result place.new) }
     ensures len { place.new.len ≡ place.old.len }
     ensures within { place.new.at ≤ place.new.len }
-    ensures walk { IfOk result (λ found. FindsFile place.old.walk found place.new.walk) }
+    ensures walk { IfOk result (λ found. FindsNextFile place.old.walk found place.new.walk) }
     ensures room { IfOk result (λ found. IfSome found (λ next.
         next.at + file_bytes_left next.file ≤ place.new.at)) }
     // The tree is unchanged. `Disk` is returned only if the tree failed, and no call is a misuse if

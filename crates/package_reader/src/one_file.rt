@@ -3,7 +3,7 @@
 
 ghost use Rattle.std.specs.Option.{ForSome};
 ghost use Rattle.std.specs.Prelude.{◌≡◌, ◌<◌, ◌≤◌, Some};
-ghost use Rattle.package_reader.specs.Opened.{open_end};
+ghost use Rattle.package_reader.specs.Opened.{open_file_end};
 ghost use Rattle.pkg_core.specs.Taking.{file_bytes_left};
 
 use crate::open::{OpenFile, open_at};
@@ -28,7 +28,7 @@ pub struct FilePieces<'a> {
     pub(crate) opened: Option<OpenFile<'a>>,
     // The test that failed, if one did.
     pub(crate) refused: Option<Cause>,
-    ghost within: { open_end opened ≤ len },
+    ghost within: { open_file_end opened ≤ len },
     ghost more: { ForSome opened (λ o. 0 < file_bytes_left o.file) },
     ghost same: { ForSome opened (λ o. due ≡ Some o.file.wanted) },
 }
@@ -39,9 +39,9 @@ impl<'a> FilePieces<'a> {
     ghost use Rattle.base_core.specs.Tree.{files_of};
     ghost use Rattle.pkg_core.specs.Contents.{Expected, expected_contents, hash_fault};
     ghost use Rattle.pkg_core.specs.Opened.{expected_file_at, expected_of};
-    ghost use Rattle.pkg_core.specs.Seen.{HasAt, ReadsFile};
+    ghost use Rattle.pkg_core.specs.Seen.{HasBytesAtOffset, ReadsFile};
     ghost use Rattle.pkg_core.specs.Values.{value_of_contents};
-    ghost use Rattle.package_reader.specs.FileReading.{IsTestedReturn, GivesBytes, HasFewerLeft, RemembersFileFault, HaveBeenReturned, HasUnreadBytes, bytes_left_of, expected_file_of, kept_fault, len_around_file, package_name_of_file};
+    ghost use Rattle.package_reader.specs.FileReading.{IsTestedReturn, ReturnsNextBytes, HasFewerLeft, RemembersFileFault, HaveBeenReturned, HasUnreadBytes, bytes_left_of, expected_file_of, remembered_fault, package_len_of_file, package_name_of_file};
     ghost use Rattle.package_reader.specs.Opened.{place_fault};
     ghost use Rattle.package_reader.specs.declared.piece.PieceFault.TheVariants.{Bad, Disk as DiskFault};
 
@@ -57,16 +57,16 @@ impl<'a> FilePieces<'a> {
         at: Option<u64>,
     ) -> FilePieces<'a>
         ensures name { package_name_of_file result ≡ name.entry.now }
-        ensures len { len_around_file result ≡ len }
+        ensures len { package_len_of_file result ≡ len }
         // The size and the digest that are compared are those that the values list for the file.
         ensures due { expected_file_of result ≡ expected_file_at folder file
             (expected_contents (value_of_contents contents.entry)) }
         ensures begun { HaveBeenReturned result [] }
-        ensures fault { kept_fault result ≡ place_fault (expected_file_of result) at len }
+        ensures fault { remembered_fault result ≡ place_fault (expected_file_of result) at len }
         ensures reading { (pkg bytes : List ℕ) (e : Expected) (start : ℕ) → length pkg ≡ len
             → at ≡ Some start → expected_file_at folder file
             (expected_contents (value_of_contents contents.entry)) ≡ Some e
-            → HasAt pkg start bytes → length bytes ≡ e.size → hash_fault e.hash bytes ≡ None
+            → HasBytesAtOffset pkg start bytes → length bytes ≡ e.size → hash_fault e.hash bytes ≡ None
             → HasUnreadBytes result pkg bytes }
         ensures empty { (pkg : List ℕ) → expected_file_of result ≡ None
             → HasUnreadBytes result pkg [] }
@@ -96,12 +96,12 @@ impl<'a> FilePieces<'a> {
     ) -> FilePieces<'a>
         requires { 0 < wanted.size }
         ensures name { package_name_of_file result ≡ name.entry.now }
-        ensures len { len_around_file result ≡ len }
+        ensures len { package_len_of_file result ≡ len }
         ensures due { expected_file_of result ≡ Some (expected_of wanted.entry) }
         ensures begun { HaveBeenReturned result [] }
-        ensures fault { kept_fault result ≡ place_fault (expected_file_of result) at len }
+        ensures fault { remembered_fault result ≡ place_fault (expected_file_of result) at len }
         ensures reading { (pkg bytes : List ℕ) (start : ℕ) → length pkg ≡ len → at ≡ Some start
-            → HasAt pkg start bytes → length bytes ≡ wanted.entry.size
+            → HasBytesAtOffset pkg start bytes → length bytes ≡ wanted.entry.size
             → hash_fault wanted.entry.hash.now bytes ≡ None → HasUnreadBytes result pkg bytes }
     {
         let due = Some(wanted);
@@ -144,7 +144,7 @@ impl<'a> FilePieces<'a> {
         ensures piece { IfObservable (T.history tree.old) (λ v. (pkg left : List ℕ)
             → files_of v (package_name_of_file self.old) ≡ Some pkg
             → HasUnreadBytes self.old pkg left
-            → GivesBytes (HasUnreadBytes self.new pkg) left piece.new result) }
+            → ReturnsNextBytes (HasUnreadBytes self.new pkg) left piece.new result) }
         // For each package, also one that was changed since: the last piece and the end are
         // returned only if all bytes together have the expected size and digest.
         ensures tested { (so_far : List ℕ) → HaveBeenReturned self.old so_far
@@ -153,12 +153,12 @@ impl<'a> FilePieces<'a> {
         ensures left { IfOk result (HasFewerLeft self.old (length piece.new) self.new) }
         ensures refused { IfErr result (λ fault. RemembersFileFault fault self.new) }
         // Each later call returns a test that failed.
-        ensures again { IfSome (kept_fault self.old) (λ cause. result ≡ Err (Bad cause)) }
+        ensures again { IfSome (remembered_fault self.old) (λ cause. result ≡ Err (Bad cause)) }
         ensures name { package_name_of_file self.new ≡ package_name_of_file self.old }
-        ensures len { len_around_file self.new ≡ len_around_file self.old }
+        ensures len { package_len_of_file self.new ≡ package_len_of_file self.old }
         // The tree is unchanged. `Disk` is returned only if the tree failed, and no call is a
         // misuse if the file still has its length.
-        ensures tree { ReadsFile (package_name_of_file self.old) (len_around_file self.old)
+        ensures tree { ReadsFile (package_name_of_file self.old) (package_len_of_file self.old)
             DiskFault
             (T.history tree.old) (T.history tree.new) (T.counts tree.old) (T.counts tree.new)
             result }
@@ -178,22 +178,22 @@ impl<'a> FilePieces<'a> {
     /// Reads the next piece, if no test failed. The clauses are those of `next_piece`, except that
     /// a failed test is not remembered yet.
     fn read_next<T: Tree>(&mut self, tree: &mut T, piece: &mut Piece) -> Result<bool, PieceFault>
-        requires { kept_fault self.old ≡ None }
+        requires { remembered_fault self.old ≡ None }
         // If the tree has the package: the piece is the next of the bytes that are left; or none
         // are left.
         ensures piece { IfObservable (T.history tree.old) (λ v. (pkg left : List ℕ)
             → files_of v (package_name_of_file self.old) ≡ Some pkg
             → HasUnreadBytes self.old pkg left
-            → GivesBytes (HasUnreadBytes self.new pkg) left piece.new result) }
+            → ReturnsNextBytes (HasUnreadBytes self.new pkg) left piece.new result) }
         ensures tested { (so_far : List ℕ) → HaveBeenReturned self.old so_far
             → IsTestedReturn self.old so_far piece.new result self.new }
         ensures due { expected_file_of self.new ≡ expected_file_of self.old }
         ensures left { IfOk result (HasFewerLeft self.old (length piece.new) self.new) }
         ensures name { package_name_of_file self.new ≡ package_name_of_file self.old }
-        ensures len { len_around_file self.new ≡ len_around_file self.old }
+        ensures len { package_len_of_file self.new ≡ package_len_of_file self.old }
         // The tree is unchanged. `Disk` is returned only if the tree failed, and no call is a
         // misuse if the file still has its length.
-        ensures tree { ReadsFile (package_name_of_file self.old) (len_around_file self.old)
+        ensures tree { ReadsFile (package_name_of_file self.old) (package_len_of_file self.old)
             DiskFault
             (T.history tree.old) (T.history tree.new) (T.counts tree.old) (T.counts tree.new)
             result }

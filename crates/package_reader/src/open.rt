@@ -4,11 +4,11 @@
 ghost use Rattle.std.specs.Prelude.{◌≡◌, ◌≤◌, ◌<◌, ◌+◌, ◌++◌, ◌^◌, [], ℕ, List, None, Some, length, IfNone, IfOk, IfSome, IsOkAnd};
 ghost use Rattle.std.specs.Result.{result_err};
 ghost use Rattle.pkg_core.specs.Pieces.{PiecesRead};
-ghost use Rattle.pkg_core.specs.Taking.{HasTaken, file_bytes_left, next_len};
+ghost use Rattle.pkg_core.specs.Taking.{HasTaken, file_bytes_left, next_piece_len};
 ghost use Rattle.pkg_core.specs.Contents.{hash_fault};
 ghost use Rattle.pkg_core.specs.Opened.{expected_of};
-ghost use Rattle.pkg_core.specs.Seen.{AreBytesRead, HasAt, ReadsFile};
-ghost use Rattle.package_reader.specs.Opened.{AreLeftOf, AreTestedSoFar, IsNextPiece, IsOpenFile, IsPieceOf, NotDisk, place_fault};
+ghost use Rattle.pkg_core.specs.Seen.{AreBytesRead, HasBytesAtOffset, ReadsFile};
+ghost use Rattle.package_reader.specs.Opened.{AreLeftOf, AreTestedSoFar, IsNextPiece, IsOpenFile, IsPieceOf, IsNotDiskResult, place_fault};
 ghost use Rattle.package_reader.specs.declared.piece.PieceFault.TheVariants.{Disk as DiskFault};
 
 use crate::piece::{Piece, PieceFault};
@@ -43,15 +43,15 @@ impl<'a> OpenFile<'a> {
     ) -> Result<(Part, Option<OpenFile<'a>>), PieceFault>
         // Offsets have 64 bits.
         requires { self.at + file_bytes_left self.file < 2 ^ 64 }
-        ensures seen { NotDisk result → (file_len : ℕ)
+        ensures seen { IsNotDiskResult result → (file_len : ℕ)
             → AreBytesRead (T.history tree.old) name.now file_len self.entry.at piece.new }
         // For each file that has the bytes that were seen.
         ensures piece { (file so_far : List ℕ) (further before : PiecesRead)
-            → HasAt file self.entry.at piece.new
+            → HasBytesAtOffset file self.entry.at piece.new
             → self.entry.at + file_bytes_left self.entry.file ≤ length file
             → IsOpenFile self.entry so_far file further before
             → IsNextPiece so_far file piece.new further before result }
-        ensures len { NotDisk result → length piece.new ≡ next_len self.entry.file }
+        ensures len { IsNotDiskResult result → length piece.new ≡ next_piece_len self.entry.file }
         ensures part { IfOk result (IsPieceOf self.entry (length piece.new)) }
         // Only the last piece ends the file, and after it all bytes together have its size and its
         // digest.
@@ -71,7 +71,7 @@ impl<'a> OpenFile<'a> {
             → ReadsFile name.now file_len DiskFault (T.history tree.old) (T.history tree.new)
             (T.counts tree.old) (T.counts tree.new) result }
     {
-        let len = self.file.next_len();
+        let len = self.file.next_piece_len();
         piece.read(tree, name, self.at, len)?;
         let at = self.at + len as u64;
         match self.file.take(piece.bytes()) {
@@ -100,7 +100,7 @@ pub(crate) fn open_at<'a>(
     ensures taken { IfOk result (λ o. HasTaken o.file []) }
     ensures more { IfOk result (λ o. 0 < file_bytes_left o.file) }
     ensures left { (pkg bytes : List ℕ) (start : ℕ) → length pkg ≡ len → at ≡ Some start
-        → HasAt pkg start bytes → length bytes ≡ wanted.entry.size
+        → HasBytesAtOffset pkg start bytes → length bytes ≡ wanted.entry.size
         → hash_fault wanted.entry.hash.now bytes ≡ None
         → IsOkAnd result (λ o. AreLeftOf o pkg bytes) }
 {

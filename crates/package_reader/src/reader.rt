@@ -3,10 +3,10 @@
 
 ghost use Rattle.std.specs.Option.{ForSome};
 ghost use Rattle.std.specs.Prelude.{◌≤◌, ◌≡◌, List};
-ghost use Rattle.package_reader.specs.Opened.{open_end};
+ghost use Rattle.package_reader.specs.Opened.{open_file_end};
 ghost use Rattle.adb_block.specs.Reading.{Reading};
 ghost use Rattle.pkg_core.specs.Contents.{Expected, contents_fault};
-ghost use Rattle.pkg_core.specs.Pieces.{pieces_by_blocks, refusal_in};
+ghost use Rattle.pkg_core.specs.Pieces.{pieces_read_from_blocks, refusal_of_pieces};
 
 use crate::block::next_file;
 use crate::open::OpenFile;
@@ -43,21 +43,21 @@ pub struct PieceReader<'a> {
     /// Whether files are left, the last block was passed, or a test failed.
     pub(crate) due: Due,
     ghost within: { place.at ≤ place.len },
-    ghost behind: { open_end opened ≤ place.at },
+    ghost behind: { open_file_end opened ≤ place.at },
     ghost begun: { ForSome opened (λ file. start ≤ file.at) },
 }
 
 impl<'a> PieceReader<'a> {
     ghost use Rattle.std.specs.Prelude.{◌≡◌, ◌≤◌, ◌+◌, ℕ, List, None, false, is_none, length, IfErr, IfOk, IfSome};
-    ghost use Rattle.adb_block.specs.Reading.{reading_of};
+    ghost use Rattle.adb_block.specs.Reading.{block_stream_from};
     ghost use Rattle.pkg_core.specs.Contents.{expected_contents};
-    ghost use Rattle.pkg_core.specs.Opened.{left_in};
-    ghost use Rattle.pkg_core.specs.Pieces.{PiecesRead, pieces_by_blocks};
+    ghost use Rattle.pkg_core.specs.Opened.{files_left_in_walk};
+    ghost use Rattle.pkg_core.specs.Pieces.{PiecesRead, pieces_read_from_blocks};
     ghost use Rattle.pkg_core.specs.Taking.{file_bytes_left};
-    ghost use Rattle.pkg_core.specs.Front.{behind_front, front_end, front_file_len};
-    ghost use Rattle.pkg_core.specs.Seen.{HasAt, IsSeenIn, ReadsFile};
+    ghost use Rattle.pkg_core.specs.Front.{position_after_front, front_end, front_file_len};
+    ghost use Rattle.pkg_core.specs.Seen.{HasBytesAtOffset, IsSeenIn, ReadsFile};
     ghost use Rattle.pkg_core.specs.Values.{value_of_contents};
-    ghost use Rattle.package_reader.specs.Readers.{AnswersNext, ArePiecesFrom, IsReturnedInOrder, CanContinueAfter, RemembersFault, IsFileOpened, CanContinue, IsPieceRead, IsReading, IsStartOf, KeepsStart, OpensExpected, HasPieceAt, IsBetweenFiles, files_to_read, files_to_read_in, name_in_tree, offset_of, package_len, start_of_file};
+    ghost use Rattle.package_reader.specs.Readers.{ReturnsNextPiece, ArePiecesFrom, IsReturnedInOrder, CanContinueAfter, RemembersFault, IsFileOpened, CanContinue, IsPieceRead, IsReading, IsStartOf, KeepsFileStart, OpensFirstExpected, HasPieceAt, IsBetweenFiles, files_to_read, files_to_read_in, name_in_tree, offset_of, package_len, start_of_file};
     ghost use Rattle.package_reader.specs.declared.reader.Due.TheVariants.{Files};
     ghost use Rattle.package_reader.specs.declared.piece.PieceFault.TheVariants.{Disk as DiskFault};
 
@@ -72,8 +72,8 @@ impl<'a> PieceReader<'a> {
         ensures start { IsBetweenFiles result }
         // The pieces to read are those of the blocks after the front.
         ensures pieces { (pkg : List ℕ) → IsReading result pkg
-            (pieces_by_blocks (expected_contents (value_of_contents contents.entry.now))
-            (reading_of (behind_front front.now pkg))) }
+            (pieces_read_from_blocks (expected_contents (value_of_contents contents.entry.now))
+            (block_stream_from (position_after_front front.now pkg))) }
     {
         let place = BlockPlace {
             len: front.file_len(),
@@ -130,9 +130,9 @@ impl<'a> PieceReader<'a> {
             × IfOk result (λ found. IfSome found (λ _.
             offset_of self.old + length seen ≡ offset_of self.new))
             × ((pkg : List ℕ) → length pkg ≡ package_len self.old
-            → HasAt pkg (offset_of self.old) seen
+            → HasBytesAtOffset pkg (offset_of self.old) seen
             → (before : PiecesRead) → IsReading self.old pkg before
-            → AnswersNext (IsReading self.new pkg) before piece.new result
+            → ReturnsNextPiece (IsReading self.new pkg) before piece.new result
             × IfOk result (λ found. HasPieceAt self.old pkg piece.new found self.new)) }
         // The pieces are in the order of the files in the package; after a piece the reader can
         // continue.
@@ -146,7 +146,7 @@ impl<'a> PieceReader<'a> {
         // The offset at which its file begins is unchanged, and the bytes returned so far grow by
         // the piece.
         ensures start { IfOk result (λ found. IfSome found (λ part.
-            KeepsStart part (length piece.new) self.old self.new)) }
+            KeepsFileStart part (length piece.new) self.old self.new)) }
         // A failed test is remembered, and each later call returns it.
         ensures refused { IfErr result (λ fault. RemembersFault fault self.new) }
         ensures name { name_in_tree self.new ≡ name_in_tree self.old }
@@ -178,9 +178,9 @@ impl<'a> PieceReader<'a> {
             × IfOk result (λ found. IfSome found (λ _.
             offset_of self.old + length seen ≡ offset_of self.new))
             × ((pkg : List ℕ) → length pkg ≡ package_len self.old
-            → HasAt pkg (offset_of self.old) seen
+            → HasBytesAtOffset pkg (offset_of self.old) seen
             → (before : PiecesRead) → IsReading self.old pkg before
-            → AnswersNext (IsReading self.new pkg) before piece.new result
+            → ReturnsNextPiece (IsReading self.new pkg) before piece.new result
             × IfOk result (λ found. HasPieceAt self.old pkg piece.new found self.new)) }
         ensures order { IfOk result (λ found.
             IsReturnedInOrder (files_to_read self.old) found (files_to_read self.new)) }
@@ -189,7 +189,7 @@ impl<'a> PieceReader<'a> {
         ensures bytes { IfOk result (λ found. IfSome found (λ part. part.last ≡ false
             → offset_of self.old + length piece.new ≤ offset_of self.new)) }
         ensures start { IfOk result (λ found. IfSome found (λ part.
-            KeepsStart part (length piece.new) self.old self.new)) }
+            KeepsFileStart part (length piece.new) self.old self.new)) }
         ensures refused { IfErr result (λ fault. RemembersFault fault self.new) }
         ensures name { name_in_tree self.new ≡ name_in_tree self.old }
         ensures len { package_len self.new ≡ package_len self.old }
@@ -226,7 +226,7 @@ impl<'a> PieceReader<'a> {
             × IfOk result (λ found. IfSome found (λ _.
             offset_of self.old + length seen ≡ offset_of self.new))
             × ((pkg : List ℕ) → length pkg ≡ package_len self.old
-            → HasAt pkg (offset_of self.old) seen
+            → HasBytesAtOffset pkg (offset_of self.old) seen
             → (before : PiecesRead) → ArePiecesFrom self.old.place self.old.opened pkg before
             → IsPieceRead self.new pkg before piece.new result
             × IfOk result (λ found. HasPieceAt self.old pkg piece.new found self.new)) }
@@ -236,7 +236,7 @@ impl<'a> PieceReader<'a> {
         ensures bytes { IfOk result (λ found. IfSome found (λ part. part.last ≡ false
             → offset_of self.old + length piece.new ≤ offset_of self.new)) }
         ensures start { IfOk result (λ found. IfSome found (λ part.
-            KeepsStart part (length piece.new) self.old self.new)) }
+            KeepsFileStart part (length piece.new) self.old self.new)) }
         ensures due { self.new.due ≡ self.old.due }
         ensures open { IfOk result (λ found. IfSome found (λ part.
             is_none self.new.opened ≡ part.last)) }
@@ -266,11 +266,11 @@ impl<'a> PieceReader<'a> {
             × IfOk result (λ found. IfSome found (λ file.
             offset_of self.old + length seen ≡ file.at))
             × ((pkg : List ℕ) → length pkg ≡ package_len self.old
-            → HasAt pkg (offset_of self.old) seen
+            → HasBytesAtOffset pkg (offset_of self.old) seen
             → (before : PiecesRead) → ArePiecesFrom self.old.place self.old.opened pkg before
             → IsFileOpened self.old pkg before result self.new) }
         ensures opens { IfOk result (λ found.
-            OpensExpected (files_to_read_in self.old.place self.old.opened) found self.new.place) }
+            OpensFirstExpected (files_to_read_in self.old.place self.old.opened) found self.new.place) }
         ensures room { IfOk result (λ found. IfSome found (λ file.
             file.at + file_bytes_left file.file ≤ self.new.place.at)) }
         ensures start { IfOk result (λ found. IfSome found (λ file.
@@ -300,5 +300,5 @@ impl<'a> PieceReader<'a> {
 /// `pkg_core` refuses the package in memory.
 pub fn the_pieces_are_refused_for_the_first_fault_of_the_blocks()
     ensures { (expected : List Expected) (r : Reading)
-        → refusal_in (pieces_by_blocks expected r) ≡ contents_fault expected r }
+        → refusal_of_pieces (pieces_read_from_blocks expected r) ≡ contents_fault expected r }
 {}

@@ -3,35 +3,35 @@ use Rattle.std.proofs.Common.{◌≡◌, ℕ, ◌==◌, ◌&&◌, Bool, true, fa
 use Rattle.std.specs.List.{find}
 use Rattle.base_core.specs.declared.cause.Cause.{Cause}
 use Rattle.adb_block.specs.Header.{header_of}
-use Rattle.adb_block.specs.Reading.{Reading, done, fault, more, reading_of}
-use Rattle.adb_block.specs.ReaderPosition.{start_of}
+use Rattle.adb_block.specs.Reading.{Reading, done, fault, more, block_stream_from}
+use Rattle.adb_block.specs.ReaderPosition.{first_block_position}
 use Rattle.adb_view.specs.Plain.{Plain}
 use Rattle.base_core.proofs.Causes.{second_none}
 use Rattle.adb_view.specs.declared.tables.Which.TheVariants.{Package}
-use Rattle.package_reader.specs.adb_schema.Soundness.{blocks_fault, file_fault, first_payload, payload_after_header, payload_fault, payload_in, root_value, schema_fault}
-use Rattle.package_reader.specs.pkg_core.Contents.{Contents, Expected, bytes_of_file, bytes_or_none, contents_in, expected_contents, hash_fault, is_of_file}
+use Rattle.package_reader.specs.adb_schema.Soundness.{blocks_fault, file_fault_after_header, first_block_payload, payload_after_header, payload_fault, payload_in, root_value, schema_fault}
+use Rattle.package_reader.specs.pkg_core.Contents.{Contents, Expected, bytes_of_file, bytes_or_none, contents_in, expected_contents, hash_fault, is_contents_of_file}
 use Rattle.package_reader.specs.pkg_core.GoodContents.{AreContentsOf, IsContentsOf}
-use Rattle.package_reader.specs.pkg_core.Opened.{expected_file_at, has_positions}
-use Rattle.package_reader.specs.pkg_core.Whole.{fault_after_first, files_after_first, files_by_header, files_in_file, package_fault, whole_fault}
+use Rattle.package_reader.specs.pkg_core.Opened.{expected_file_at, is_expected_at}
+use Rattle.package_reader.specs.pkg_core.Whole.{fault_of_further_blocks, files_after_first_block, files_after_header, files_in_file, package_fault, container_fault_of_table}
 use Rattle.package_reader.proofs.pkg_core.Given.{files_right, nothing_expected}
-use Rattle.package_reader.specs.pkg_core.Seen.{HasAt}
+use Rattle.package_reader.specs.pkg_core.Seen.{HasBytesAtOffset}
 use Rattle.package_verifier.specs.Places.{AreAtPlaces, AreInFileOrder, is_place_of, offset_of_file}
 use Rattle.package_verifier.specs.declared.places.FilePlace.{FilePlace}
 use Rattle.package_verifier.proofs.FileOrder.{expected_in_order, placed_in_order}
 
 -- ---- a package without fault has the contents of each file
 
-blocks_right : (r : Reading) → blocks_fault (fault_after_first Package) Package r ≡ None → AreContentsOf (expected_contents (root_value Package (first_payload r))) (contents_in (files_after_first r))
+blocks_right : (r : Reading) → blocks_fault (fault_of_further_blocks Package) Package r ≡ None → AreContentsOf (expected_contents (root_value Package (first_block_payload r))) (contents_in (files_after_first_block r))
 blocks_right done h = let A : List Expected → Type 0 = λ es. AreContentsOf es [] in subst A (sym nothing_expected) tt
 blocks_right (fault c) h = (cc)
 blocks_right (more b at r) h = files_right (expected_contents (root_value Package b.payload)) r (second_none (payload_fault Package b.payload) _ h)
 
-header_right : (file : List ℕ) (h : Result ℕ Cause) → file_fault (fault_after_first Package) Package file h ≡ None → AreContentsOf (expected_contents (root_value Package (payload_after_header file h))) (contents_in (files_by_header file h))
-header_right file (Ok schema) e = blocks_right (reading_of (start_of schema file)) (second_none (schema_fault Package schema) _ e)
+header_right : (file : List ℕ) (h : Result ℕ Cause) → file_fault_after_header (fault_of_further_blocks Package) Package file h ≡ None → AreContentsOf (expected_contents (root_value Package (payload_after_header file h))) (contents_in (files_after_header file h))
+header_right file (Ok schema) e = blocks_right (block_stream_from (first_block_position schema file)) (second_none (schema_fault Package schema) _ e)
 header_right file (Err c) e = (cc)
 
 pub package_right : (file : List ℕ) → package_fault file ≡ None → AreContentsOf (expected_contents (root_value Package (payload_in file))) (contents_in (files_in_file file))
-unfolding whole_fault files_in_file payload_in
+unfolding container_fault_of_table files_in_file payload_in
 package_right file h = header_right file (header_of file) h
 
 -- ---- the file with two positions
@@ -43,9 +43,9 @@ same_pair a b c d folder file x y = λ k. ((x k == folder) && (y k == file))
 record IsFoundThere (pkg : List ℕ) (folder file at : ℕ) (cs : List Contents) (es : List Expected) : Type 0 where
   contents : Contents
   expected : Expected
-  found : find (is_of_file folder file) cs ≡ Some contents
+  found : find (is_contents_of_file folder file) cs ≡ Some contents
   due : expected_file_at folder file es ≡ Some expected
-  located : HasAt pkg at contents.bytes
+  located : HasBytesAtOffset pkg at contents.bytes
   of : IsContentsOf expected contents
 
 found_there : (pkg : List ℕ) (folder file at : ℕ) (ps : List FilePlace) (cs : List Contents) (es : List Expected) → AreAtPlaces pkg ps cs → AreContentsOf es cs → Some at ≡ offset_of_file folder file ps → IsFoundThere pkg folder file at cs es
@@ -56,15 +56,15 @@ found_there pkg folder file at (p ∷ ps) (c ∷ cs) (e ∷ es) stand are is =
     by_test (is_place_of folder file p) (sym (same_pair p.folder p.file c.folder c.file folder file stand.0.folder stand.0.file)) (sym (same_pair p.folder p.file c.folder c.file folder file stand.0.folder stand.0.file ∙ same_pair c.folder c.file e.folder e.file folder file are.0.folder are.0.file)) is
     (found_there pkg folder file at ps cs es stand.1 are.1)
   where
-    by_test : (b : Bool) → is_of_file folder file c ≡ b → has_positions folder file e ≡ b → Some at ≡ option_map (λ (p : FilePlace). p.at) (cond b (Some p) (find (is_place_of folder file) ps)) → (Some at ≡ offset_of_file folder file ps → IsFoundThere pkg folder file at cs es) → IsFoundThere pkg folder file at (c ∷ cs) (e ∷ es)
+    by_test : (b : Bool) → is_contents_of_file folder file c ≡ b → is_expected_at folder file e ≡ b → Some at ≡ option_map (λ (p : FilePlace). p.at) (cond b (Some p) (find (is_place_of folder file) ps)) → (Some at ≡ offset_of_file folder file ps → IsFoundThere pkg folder file at cs es) → IsFoundThere pkg folder file at (c ∷ cs) (e ∷ es)
     by_test true t u here others =
         let same : at ≡ p.at = (let s : Some at ≡ Some p.at = here in (cc)) in
         record {
           contents = c;
           expected = e;
-          found = ap (λ (b : Bool). cond b (Some c) (find (is_of_file folder file) cs)) t;
-          due = ap (λ (b : Bool). cond b (Some e) (find (has_positions folder file) es)) u;
-          located = subst (λ (n : ℕ). HasAt pkg n c.bytes) (sym same) stand.0.located;
+          found = ap (λ (b : Bool). cond b (Some c) (find (is_contents_of_file folder file) cs)) t;
+          due = ap (λ (b : Bool). cond b (Some e) (find (is_expected_at folder file) es)) u;
+          located = subst (λ (n : ℕ). HasBytesAtOffset pkg n c.bytes) (sym same) stand.0.located;
           of = are.0;
         }
     by_test false t u here others =
@@ -72,38 +72,38 @@ found_there pkg folder file at (p ∷ ps) (c ∷ cs) (e ∷ es) stand are is =
         record {
           contents = further.contents;
           expected = further.expected;
-          found = ap (λ (b : Bool). cond b (Some c) (find (is_of_file folder file) cs)) t ∙ further.found;
-          due = ap (λ (b : Bool). cond b (Some e) (find (has_positions folder file) es)) u ∙ further.due;
+          found = ap (λ (b : Bool). cond b (Some c) (find (is_contents_of_file folder file) cs)) t ∙ further.found;
+          due = ap (λ (b : Bool). cond b (Some e) (find (is_expected_at folder file) es)) u ∙ further.due;
           located = further.located;
           of = further.of;
         }
 
-off_there : (pkg : List ℕ) (folder file : ℕ) (ps : List FilePlace) (cs : List Contents) → AreAtPlaces pkg ps cs → None ≡ offset_of_file folder file ps → find (is_of_file folder file) cs ≡ None
+off_there : (pkg : List ℕ) (folder file : ℕ) (ps : List FilePlace) (cs : List Contents) → AreAtPlaces pkg ps cs → None ≡ offset_of_file folder file ps → find (is_contents_of_file folder file) cs ≡ None
 off_there pkg folder file [] [] stand is = refl
 off_there pkg folder file [] (c ∷ cs) stand is = absurd stand
 off_there pkg folder file (p ∷ ps) [] stand is = absurd stand
 off_there pkg folder file (p ∷ ps) (c ∷ cs) stand is =
     by_test (is_place_of folder file p) (sym (same_pair p.folder p.file c.folder c.file folder file stand.0.folder stand.0.file)) is (off_there pkg folder file ps cs stand.1)
   where
-    by_test : (b : Bool) → is_of_file folder file c ≡ b → None ≡ option_map (λ (p : FilePlace). p.at) (cond b (Some p) (find (is_place_of folder file) ps)) → (None ≡ offset_of_file folder file ps → find (is_of_file folder file) cs ≡ None) → cond (is_of_file folder file c) (Some c) (find (is_of_file folder file) cs) ≡ None
+    by_test : (b : Bool) → is_contents_of_file folder file c ≡ b → None ≡ option_map (λ (p : FilePlace). p.at) (cond b (Some p) (find (is_place_of folder file) ps)) → (None ≡ offset_of_file folder file ps → find (is_contents_of_file folder file) cs ≡ None) → cond (is_contents_of_file folder file c) (Some c) (find (is_contents_of_file folder file) cs) ≡ None
     by_test true t here others = absurd (let s : None ≡ Some p.at = here in (cc))
-    by_test false t here others = ap (λ (b : Bool). cond b (Some c) (find (is_of_file folder file) cs)) t ∙ others here
+    by_test false t here others = ap (λ (b : Bool). cond b (Some c) (find (is_contents_of_file folder file) cs)) t ∙ others here
 
 -- ---- what a tested package gives
 
 abbrev pub IsReadFrom : (List ℕ → List ℕ → Type 0) → ℕ → Plain → ℕ → ℕ → Option ℕ → Type 0
-IsReadFrom Reads len value folder file at = (pkg bytes : List ℕ) (e : Expected) (start : ℕ) → length pkg ≡ len → at ≡ Some start → expected_file_at folder file (expected_contents value) ≡ Some e → HasAt pkg start bytes → length bytes ≡ e.size → hash_fault e.hash bytes ≡ None → Reads pkg bytes
+IsReadFrom Reads len value folder file at = (pkg bytes : List ℕ) (e : Expected) (start : ℕ) → length pkg ≡ len → at ≡ Some start → expected_file_at folder file (expected_contents value) ≡ Some e → HasBytesAtOffset pkg start bytes → length bytes ≡ e.size → hash_fault e.hash bytes ≡ None → Reads pkg bytes
 
-none_due : (folder file : ℕ) (cs : List Contents) (es : List Expected) → AreContentsOf es cs → find (is_of_file folder file) cs ≡ None → expected_file_at folder file es ≡ None
+none_due : (folder file : ℕ) (cs : List Contents) (es : List Expected) → AreContentsOf es cs → find (is_contents_of_file folder file) cs ≡ None → expected_file_at folder file es ≡ None
 none_due folder file [] [] are is = refl
 none_due folder file [] (e ∷ es) are is = absurd are
 none_due folder file (c ∷ cs) [] are is = absurd are
 none_due folder file (c ∷ cs) (e ∷ es) are is =
-    by_test (is_of_file folder file c) (sym (same_pair c.folder c.file e.folder e.file folder file are.0.folder are.0.file)) is (none_due folder file cs es are.1)
+    by_test (is_contents_of_file folder file c) (sym (same_pair c.folder c.file e.folder e.file folder file are.0.folder are.0.file)) is (none_due folder file cs es are.1)
   where
-    by_test : (b : Bool) → has_positions folder file e ≡ b → cond b (Some c) (find (is_of_file folder file) cs) ≡ None → (find (is_of_file folder file) cs ≡ None → expected_file_at folder file es ≡ None) → cond (has_positions folder file e) (Some e) (find (has_positions folder file) es) ≡ None
+    by_test : (b : Bool) → is_expected_at folder file e ≡ b → cond b (Some c) (find (is_contents_of_file folder file) cs) ≡ None → (find (is_contents_of_file folder file) cs ≡ None → expected_file_at folder file es ≡ None) → cond (is_expected_at folder file e) (Some e) (find (is_expected_at folder file) es) ≡ None
     by_test true t here others = absurd (let s : Some c ≡ None = here in (cc))
-    by_test false t here others = ap (λ (b : Bool). cond b (Some e) (find (has_positions folder file) es)) t ∙ others here
+    by_test false t here others = ap (λ (b : Bool). cond b (Some e) (find (is_expected_at folder file) es)) t ∙ others here
 
 pub gives_bytes : (Reads : List ℕ → List ℕ → Type 0) (due : Option Expected) (len folder file : ℕ) (at : Option ℕ) (value : Plain) (pkg : List ℕ) (places : List FilePlace) → package_fault pkg ≡ None → value ≡ root_value Package (payload_in pkg) → length pkg ≡ len → AreAtPlaces pkg places (contents_in (files_in_file pkg))
     → (AreInFileOrder places → at ≡ offset_of_file folder file places) → due ≡ expected_file_at folder file (expected_contents value) → IsReadFrom Reads len value folder file at → ((pkg : List ℕ) → due ≡ None → Reads pkg [])

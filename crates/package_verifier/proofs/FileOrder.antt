@@ -149,16 +149,16 @@ one_after : (x : Bool) (a b : ℕ) (e : Expected) → IsBeforeFile a b e.folder 
 one_after true a b e before = (before, tt)
 one_after false a b e before = tt
 
-files_after_first : (a b folder i : ℕ) (files : List Plain) → ((j : ℕ) → i ≤ j → IsBeforeFile a b folder j) → AreExpectedAfter a b (expected_files folder i files)
-files_after_first a b folder i [] before = tt
-files_after_first a b folder i (f ∷ fs) before =
+files_after_first_block : (a b folder i : ℕ) (files : List Plain) → ((j : ℕ) → i ≤ j → IsBeforeFile a b folder j) → AreExpectedAfter a b (expected_files folder i files)
+files_after_first_block a b folder i [] before = tt
+files_after_first_block a b folder i (f ∷ fs) before =
     after_joined a b (expected_at folder i f) (expected_files folder (i + 1) fs) (one_after (is_with_contents f) a b (expected_file folder i f) (before i (omega arith)))
-    (files_after_first a b folder (i + 1) fs (λ j le. before j (omega (arith, le))))
+    (files_after_first_block a b folder (i + 1) fs (λ j le. before j (omega (arith, le))))
 
 folders_behind : (a b i : ℕ) (folders : List Plain) → a < i → AreExpectedAfter a b (expected_folders i folders)
 folders_behind a b i [] less = tt
 folders_behind a b i (d ∷ ds) less =
-    after_joined a b (expected_files i 1 (files_in d)) (expected_folders (i + 1) ds) (files_after_first a b i 1 (files_in d) (λ j le. inl less))
+    after_joined a b (expected_files i 1 (files_in d)) (expected_folders (i + 1) ds) (files_after_first_block a b i 1 (files_in d) (λ j le. inl less))
     (folders_behind a b (i + 1) ds (omega (arith, less)))
 
 one_in_order : (x : Bool) (e : Expected) (rest : List Expected) → AreExpectedAfter e.folder e.file rest → AreExpectedInOrder rest → AreExpectedInOrder ((if x then e ∷ [] else []) ++ rest)
@@ -171,7 +171,7 @@ files_in_order folder i (f ∷ fs) rest behind order =
     let others : List Expected = expected_files folder (i + 1) fs in
     subst AreExpectedInOrder (sym (append_assoc (expected_at folder i f) others rest))
     (one_in_order (is_with_contents f) (expected_file folder i f) (others ++ rest)
-    (after_joined folder i others rest (files_after_first folder i folder (i + 1) fs (λ j le. inr (refl, omega (arith, le)))) (behind i))
+    (after_joined folder i others rest (files_after_first_block folder i folder (i + 1) fs (λ j le. inr (refl, omega (arith, le)))) (behind i))
     (files_in_order folder (i + 1) fs rest behind order))
 
 folders_in_order : (i : ℕ) (folders : List Plain) → AreExpectedInOrder (expected_folders i folders)

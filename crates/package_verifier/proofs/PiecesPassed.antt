@@ -8,12 +8,12 @@ use Rattle.base_core.specs.Faults.{Counts}
 use Rattle.base_core.specs.Tree.{TreeState}
 use Rattle.base_core.specs.declared.tree.TreeFault.{TreeFault}
 use Rattle.base_core.specs.declared.tree.TreeFault.TheVariants.{Disk as DiskFault}
-use Rattle.package_reader.specs.pkg_core.Contents.{Contents, Expected, FilesRead, contents_in, fault_in, given, no_more}
-use Rattle.package_reader.specs.pkg_core.Seen.{HasAt, IsSeenIn, IsSoLong, ReadsFile}
+use Rattle.package_reader.specs.pkg_core.Contents.{Contents, Expected, FilesRead, contents_in, fault_of_files_read, given, no_more}
+use Rattle.package_reader.specs.pkg_core.Seen.{HasBytesAtOffset, IsSeenIn, IsFileOfLength, ReadsFile}
 use Rattle.package_reader.proofs.pkg_core.SeenBytes.{file_with, has_rest, take_more, has_both}
-use Rattle.package_reader.specs.pkg_core.Pieces.{PiecesRead, file_given, files_joined, no_piece, piece, refusal, refusal_in}
+use Rattle.package_reader.specs.pkg_core.Pieces.{PiecesRead, files_from_piece, files_joined_from_pieces, no_piece, piece, refusal, refusal_of_pieces}
 use Rattle.package_reader.specs.pkg_core.declared.file.Part.{Part}
-use Rattle.package_reader.specs.Readers.{AnswersNext, HasPieceAt, IsOfFirstExpected, IsReading, KeepsStart, files_to_read, returned_len, returned_len_from, name_in_tree, offset_of, package_len, start_of_file}
+use Rattle.package_reader.specs.Readers.{ReturnsNextPiece, HasPieceAt, IsOfFirstExpected, IsReading, KeepsFileStart, files_to_read, returned_len, returned_len_from, name_in_tree, offset_of, package_len, start_of_file}
 use Rattle.package_reader.specs.declared.piece.PieceFault.{PieceFault}
 use Rattle.package_reader.specs.declared.piece.PieceFault.TheVariants.{Bad}
 use Rattle.package_reader.specs.declared.open.OpenFile.{OpenFile}
@@ -41,7 +41,7 @@ reads_as name len d e h0 h1 a b value other first = record {
 }
 
 -- if nothing is read
-proper_still : (h : List TreeState) (name : List ℕ) (len n : ℕ) → IfObservable h (λ v. IsSoLong name len v → n ≡ n)
+proper_still : (h : List TreeState) (name : List ℕ) (len n : ℕ) → IfObservable h (λ v. IsFileOfLength name len v → n ≡ n)
 proper_still [] name len n = tt
 proper_still (v ∷ earlier) name len n = λ long. refl
 
@@ -65,21 +65,21 @@ with_files (c ∷ cs) files = given c (with_files cs files)
 pub record IsLeft (now : PieceReader) (places : List FilePlace) (pkg : List ℕ) (all : PiecesRead) : Type 0 where
   pub rest : PiecesRead
   pub reading : IsReading now pkg rest
-  pub same : refusal_in all ≡ refusal_in rest
+  pub same : refusal_of_pieces all ≡ refusal_of_pieces rest
   pub full : AreFull all → AreFull rest
   pub files : List Contents
   pub so_far : List ℕ
   pub at_places : AreAtPlaces pkg places files
-  pub located : HasAt pkg (start_of_file now) so_far
+  pub located : HasBytesAtOffset pkg (start_of_file now) so_far
   pub long : length so_far ≡ returned_len now
-  pub joined : files_joined all [] ≡ with_files files (files_joined rest so_far)
+  pub joined : files_joined_from_pieces all [] ≡ with_files files (files_joined_from_pieces rest so_far)
 
 -- from where a reader began to where it stands now these bytes were seen
 pub record IsPassedTo (h : List TreeState) (name : List ℕ) (len : ℕ) (begun now : PieceReader) (places : List FilePlace) : Type 0 where
   pub seen : List ℕ
   pub is_seen : IsSeenIn h name len (offset_of begun) seen
   pub ends : offset_of begun + length seen ≡ offset_of now
-  pub left : (pkg : List ℕ) → length pkg ≡ len → HasAt pkg (offset_of begun) seen → (all : PiecesRead) → IsReading begun pkg all → IsLeft now places pkg all
+  pub left : (pkg : List ℕ) → length pkg ≡ len → HasBytesAtOffset pkg (offset_of begun) seen → (all : PiecesRead) → IsReading begun pkg all → IsLeft now places pkg all
 
 pub none_passed : (h : List TreeState) (name : List ℕ) (len : ℕ) (begun : PieceReader) (places : List FilePlace) → offset_of begun ≤ len → returned_len begun ≡ 0 → places ≡ [] → IsPassedTo h name len begun begun places
 none_passed h name len begun places within none_handed empty = record {
@@ -105,9 +105,9 @@ abbrev pub IsReadBy : List TreeState → PieceReader → List ℕ → Result (Op
 IsReadBy h old bytes result new = (seen : List ℕ)
     × IsSeenIn h (name_in_tree old) (package_len old) (offset_of old) seen
     × IfOk result (λ found. IfSome found (λ _. offset_of old + length seen ≡ offset_of new))
-    × ((pkg : List ℕ) → length pkg ≡ package_len old → HasAt pkg (offset_of old) seen
+    × ((pkg : List ℕ) → length pkg ≡ package_len old → HasBytesAtOffset pkg (offset_of old) seen
     → (before : PiecesRead) → IsReading old pkg before
-    → AnswersNext (IsReading new pkg) before bytes result
+    → ReturnsNextPiece (IsReading new pkg) before bytes result
     × IfOk result (λ found. HasPieceAt old pkg bytes found new))
 
 -- the bytes up to the end of the call
@@ -120,8 +120,8 @@ both_seen h later name len begun now places seen same named long passed is_seen 
 -- ---- one piece more
 
 -- bytes that came before stand where their file begins, also after the next piece
-still_stand : (opened : Option OpenFile) (pkg so_far : List ℕ) (before after : ℕ) → IfSome opened (λ o. after ≡ before) → length so_far ≡ returned_len_from before opened → HasAt pkg before so_far → HasAt pkg after so_far
-still_stand (Some o) pkg so_far before after same long has = subst (λ (n : ℕ). HasAt pkg n so_far) (sym same) has
+still_stand : (opened : Option OpenFile) (pkg so_far : List ℕ) (before after : ℕ) → IfSome opened (λ o. after ≡ before) → length so_far ≡ returned_len_from before opened → HasBytesAtOffset pkg before so_far → HasBytesAtOffset pkg after so_far
+still_stand (Some o) pkg so_far before after same long has = subst (λ (n : ℕ). HasBytesAtOffset pkg n so_far) (sym same) has
 still_stand None pkg [] before after same long has = refl
 still_stand None pkg (b ∷ bytes) before after same long has = absurd (omega (arith, long))
 
@@ -138,7 +138,7 @@ at_one_more pkg (q ∷ ps) (d ∷ cs) p c are is = (are.0, at_one_more pkg ps cs
 abbrev pub kept_places : Part → ℕ → List FilePlace → List FilePlace
 kept_places part at places = if part.last then places ++ place_of_part part at ∷ [] else places
 
-left_then : (now new : PieceReader) (places : List FilePlace) (pkg : List ℕ) (all after : PiecesRead) (part : Part) (bytes : List ℕ) (l : IsLeft now places pkg all) → l.rest ≡ piece part bytes after → IsReading new pkg after → HasAt pkg (start_of_file new + returned_len now) bytes → KeepsStart part (length bytes) now new
+left_then : (now new : PieceReader) (places : List FilePlace) (pkg : List ℕ) (all after : PiecesRead) (part : Part) (bytes : List ℕ) (l : IsLeft now places pkg all) → l.rest ≡ piece part bytes after → IsReading new pkg after → HasBytesAtOffset pkg (start_of_file new + returned_len now) bytes → KeepsFileStart part (length bytes) now new
     → IsLeft new (kept_places part (start_of_file new) places) pkg all
 left_then now new places pkg all after part bytes l next reading has start = by_last part.last refl
   where
@@ -148,42 +148,42 @@ left_then now new places pkg all after part bytes l next reading has start = by_
     long : length so_far ≡ returned_len now + length bytes
     long = length-append l.so_far bytes ∙ ap (λ (n : ℕ). n + length bytes) l.long
 
-    located : HasAt pkg (start_of_file new) so_far
+    located : HasBytesAtOffset pkg (start_of_file new) so_far
     located =
         has_both pkg (start_of_file new) l.so_far bytes (still_stand now.opened pkg l.so_far (start_of_file now) (start_of_file new) start.same l.long l.located)
-        (subst (λ (n : ℕ). HasAt pkg (start_of_file new + n) bytes) (sym l.long) has)
+        (subst (λ (n : ℕ). HasBytesAtOffset pkg (start_of_file new + n) bytes) (sym l.long) has)
 
-    joined : files_joined all [] ≡ with_files l.files (file_given part so_far (files_joined after))
-    joined = l.joined ∙ ap (λ (p : PiecesRead). with_files l.files (files_joined p l.so_far)) next
+    joined : files_joined_from_pieces all [] ≡ with_files l.files (files_from_piece part so_far (files_joined_from_pieces after))
+    joined = l.joined ∙ ap (λ (p : PiecesRead). with_files l.files (files_joined_from_pieces p l.so_far)) next
 
     by_last : (last : Bool) → part.last ≡ last → IsLeft new (kept_places part (start_of_file new) places) pkg all
     by_last true is =
         let c : Contents = record { folder = part.path; file = part.file; bytes = so_far } in record {
           rest = after;
           reading = reading;
-          same = l.same ∙ ap refusal_in next;
+          same = l.same ∙ ap refusal_of_pieces next;
           full = λ full. (subst AreFull next (l.full full)).1;
           files = l.files ++ c ∷ [];
           so_far = [];
           at_places = subst (λ (b : Bool). AreAtPlaces pkg (if b then places ++ place_of_part part (start_of_file new) ∷ [] else places) (l.files ++ c ∷ [])) (sym is) (at_one_more pkg places l.files (place_of_part part (start_of_file new)) c l.at_places (record { folder = refl; file = refl; located = located }));
           located = refl;
           long = sym (start.handed ∙ ap (λ (b : Bool). if b then 0 else returned_len now + length bytes) is);
-          joined = joined ∙ (ap (λ (b : Bool). with_files l.files (if b then given c (files_joined after []) else files_joined after so_far)) is ∙ with_one_more l.files c (files_joined after []));
+          joined = joined ∙ (ap (λ (b : Bool). with_files l.files (if b then given c (files_joined_from_pieces after []) else files_joined_from_pieces after so_far)) is ∙ with_one_more l.files c (files_joined_from_pieces after []));
         }
     by_last false is = record {
       rest = after;
       reading = reading;
-      same = l.same ∙ ap refusal_in next;
+      same = l.same ∙ ap refusal_of_pieces next;
       full = λ full. (subst AreFull next (l.full full)).1;
       files = l.files;
       so_far = so_far;
       at_places = subst (λ (b : Bool). AreAtPlaces pkg (if b then places ++ place_of_part part (start_of_file new) ∷ [] else places) l.files) (sym is) l.at_places;
       located = located;
       long = long ∙ sym (start.handed ∙ ap (λ (b : Bool). if b then 0 else returned_len now + length bytes) is);
-      joined = joined ∙ ap (λ (b : Bool). with_files l.files (if b then given (record { folder = part.path; file = part.file; bytes = so_far }) (files_joined after []) else files_joined after so_far)) is;
+      joined = joined ∙ ap (λ (b : Bool). with_files l.files (if b then given (record { folder = part.path; file = part.file; bytes = so_far }) (files_joined_from_pieces after []) else files_joined_from_pieces after so_far)) is;
     }
 
-pub one_passed : (h later : List TreeState) (name : List ℕ) (len : ℕ) (begun now new : PieceReader) (places : List FilePlace) (bytes : List ℕ) (part : Part) → later ≡ h → name_in_tree now ≡ name → package_len now ≡ len → IsPassedTo h name len begun now places → IsReadBy later now bytes (Ok (Some part)) new → KeepsStart part (length bytes) now new
+pub one_passed : (h later : List TreeState) (name : List ℕ) (len : ℕ) (begun now new : PieceReader) (places : List FilePlace) (bytes : List ℕ) (part : Part) → later ≡ h → name_in_tree now ≡ name → package_len now ≡ len → IsPassedTo h name len begun now places → IsReadBy later now bytes (Ok (Some part)) new → KeepsFileStart part (length bytes) now new
     → IsPassedTo h name len begun new (kept_places part (start_of_file new) places)
 one_passed h later name len begun now new places bytes part same named long passed (seen, is_seen, ends, each) start =
     let to = both_seen h later name len begun now places seen same named long passed is_seen in
@@ -203,11 +203,11 @@ one_passed h later name len begun now new places bytes part same named long pass
 -- of each package that is so long and has the bytes that were seen
 abbrev pub IsTold : List TreeState → List ℕ → ℕ → ℕ → (List ℕ → Type 0) → Type 0
 IsTold h name len at Tells = (seen : List ℕ) × IsSeenIn h name len at seen
-    × ((pkg : List ℕ) → length pkg ≡ len → HasAt pkg at seen → Tells pkg)
+    × ((pkg : List ℕ) → length pkg ≡ len → HasBytesAtOffset pkg at seen → Tells pkg)
 
 told : (h later : List TreeState) (name : List ℕ) (len : ℕ) (begun now new : PieceReader) (places : List FilePlace) (bytes : List ℕ) (result : Result (Option Part) PieceFault) (All : List ℕ → PiecesRead) (Tells : List ℕ → Type 0) → later ≡ h → name_in_tree now ≡ name → package_len now ≡ len
     → IsPassedTo h name len begun now places → IsReadBy later now bytes result new
-    → ((pkg : List ℕ) (l : IsLeft now places pkg (All pkg)) → AnswersNext (IsReading new pkg) l.rest bytes result → Tells pkg)
+    → ((pkg : List ℕ) (l : IsLeft now places pkg (All pkg)) → ReturnsNextPiece (IsReading new pkg) l.rest bytes result → Tells pkg)
     → ((pkg : List ℕ) → IsReading begun pkg (All pkg))
     → IsTold h name len (offset_of begun) Tells
 told h later name len begun now new places bytes result All Tells same named long passed (seen, is_seen, ends, each) says starts =
@@ -222,7 +222,7 @@ told h later name len begun now new places bytes result All Tells same named lon
 pub told_from : (h later : List TreeState) (name : List ℕ) (len at : ℕ) (begun now new : PieceReader) (places : List FilePlace) (bytes : List ℕ) (result : Result (Option Part) PieceFault) (All : List ℕ → PiecesRead) (Tells : List ℕ → Type 0) → later ≡ h → name_in_tree begun ≡ name → package_len begun ≡ len → offset_of begun ≡ at
     → name_in_tree now ≡ name_in_tree begun → package_len now ≡ package_len begun
     → IsPassedTo h (name_in_tree begun) (package_len begun) begun now places → IsReadBy later now bytes result new
-    → ((pkg : List ℕ) (l : IsLeft now places pkg (All pkg)) → AnswersNext (IsReading new pkg) l.rest bytes result → Tells pkg)
+    → ((pkg : List ℕ) (l : IsLeft now places pkg (All pkg)) → ReturnsNextPiece (IsReading new pkg) l.rest bytes result → Tells pkg)
     → ((pkg : List ℕ) → IsReading begun pkg (All pkg))
     → IsTold h name len at Tells
 told_from h later name len at begun now new places bytes result All Tells same names lens ats named long passed read says starts =
@@ -231,7 +231,7 @@ told_from h later name len at begun now new places bytes result All Tells same n
     (subst (λ (n : List ℕ). IsTold h n (package_len begun) (offset_of begun) Tells) names
     (told h later (name_in_tree begun) (package_len begun) begun now new places bytes result All Tells same named long passed read says starts)))
 
-no_fault_in : (cs : List Contents) → fault_in (with_files cs no_more) ≡ None
+no_fault_in : (cs : List Contents) → fault_of_files_read (with_files cs no_more) ≡ None
 no_fault_in [] = refl
 no_fault_in (c ∷ cs) = no_fault_in cs
 
@@ -240,13 +240,13 @@ all_contents [] = refl
 all_contents (c ∷ cs) = ap (λ (ds : List Contents). c ∷ ds) (all_contents cs)
 
 -- after the last piece all files are at their places
-pub all_stand : (now : PieceReader) (places : List FilePlace) (pkg : List ℕ) (all : PiecesRead) (files : FilesRead) (l : IsLeft now places pkg all) → files_joined all [] ≡ files → l.rest ≡ no_piece → (fault_in files ≡ None) × AreAtPlaces pkg places (contents_in files)
+pub all_stand : (now : PieceReader) (places : List FilePlace) (pkg : List ℕ) (all : PiecesRead) (files : FilesRead) (l : IsLeft now places pkg all) → files_joined_from_pieces all [] ≡ files → l.rest ≡ no_piece → (fault_of_files_read files ≡ None) × AreAtPlaces pkg places (contents_in files)
 all_stand now places pkg all files l whole end =
-    let same : files ≡ with_files l.files no_more = sym whole ∙ (l.joined ∙ ap (λ (p : PiecesRead). with_files l.files (files_joined p l.so_far)) end) in
-    (ap fault_in same ∙ no_fault_in l.files, subst (AreAtPlaces pkg places) (sym (ap contents_in same ∙ all_contents l.files)) l.at_places)
+    let same : files ≡ with_files l.files no_more = sym whole ∙ (l.joined ∙ ap (λ (p : PiecesRead). with_files l.files (files_joined_from_pieces p l.so_far)) end) in
+    (ap fault_of_files_read same ∙ no_fault_in l.files, subst (AreAtPlaces pkg places) (sym (ap contents_in same ∙ all_contents l.files)) l.at_places)
 
-pub one_fails : (now : PieceReader) (places : List FilePlace) (pkg : List ℕ) (all : PiecesRead) (c : Cause) (fault : Option Cause) (l : IsLeft now places pkg all) → refusal_in all ≡ fault → l.rest ≡ refusal c → fault ≡ Some c
-one_fails now places pkg all c fault l whole end = sym whole ∙ (l.same ∙ ap refusal_in end)
+pub one_fails : (now : PieceReader) (places : List FilePlace) (pkg : List ℕ) (all : PiecesRead) (c : Cause) (fault : Option Cause) (l : IsLeft now places pkg all) → refusal_of_pieces all ≡ fault → l.rest ≡ refusal c → fault ≡ Some c
+one_fails now places pkg all c fault l whole end = sym whole ∙ (l.same ∙ ap refusal_of_pieces end)
 
 -- ---- how many steps are left
 
@@ -255,13 +255,13 @@ abbrev pub steps_left : PieceReader → ℕ
 steps_left reader = length (files_to_read reader) * (package_len reader + 1) + (package_len reader - offset_of reader)
 
 -- some package has the bytes that were seen
-some_package : (len at : ℕ) (seen : List ℕ) → at + length seen ≤ len → (pkg : List ℕ) × (length pkg ≡ len) × HasAt pkg at seen
+some_package : (len at : ℕ) (seen : List ℕ) → at + length seen ≤ len → (pkg : List ℕ) × (length pkg ≡ len) × HasBytesAtOffset pkg at seen
 some_package len at seen within =
     let zeros : List ℕ = replicate at 0 in
     let many : length zeros ≡ at = let z : ℕ = 0 in length-replicate at z in
     let all = length-append zeros seen in
     let f = file_with [] [] len (zeros ++ seen) tt (record { seen = tt; within = omega (arith, all, many, within) }) in
-    (f.file, f.long, subst (λ (n : ℕ). HasAt f.file n seen) (let e : 0 + length zeros ≡ at = omega (arith, many) in e) (has_rest f.file 0 zeros seen f.has))
+    (f.file, f.long, subst (λ (n : ℕ). HasBytesAtOffset f.file n seen) (let e : 0 + length zeros ≡ at = omega (arith, many) in e) (has_rest f.file 0 zeros seen f.has))
 
 -- a piece that is not the last one of its file has bytes
 some_bytes : (h later : List TreeState) (name : List ℕ) (len : ℕ) (begun now new : PieceReader) (places : List FilePlace) (bytes : List ℕ) (part : Part) → later ≡ h → name_in_tree now ≡ name → package_len now ≡ len → IsPassedTo h name len begun now places → IsReadBy later now bytes (Ok (Some part)) new

@@ -11,20 +11,20 @@ use Rattle.base_core.specs.declared.cause.Cause.{Cause}
 use Rattle.base_core.specs.declared.cause.Cause.TheVariants.{WrongSchema}
 use Rattle.base_core.specs.declared.tree.TreeFault.{TreeFault}
 use Rattle.adb_block.specs.Header.{header_of}
-use Rattle.adb_block.specs.Reading.{Reading, reading_of}
-use Rattle.adb_block.specs.ReaderPosition.{start_of}
+use Rattle.adb_block.specs.Reading.{Reading, block_stream_from}
+use Rattle.adb_block.specs.ReaderPosition.{first_block_position}
 use Rattle.adb_view.specs.Plain.{Plain}
 use Rattle.adb_view.specs.declared.tables.Which.TheVariants.{Package}
-use Rattle.package_reader.specs.adb_schema.Soundness.{blocks_fault, file_fault, payload_fault, payload_in, root_value}
+use Rattle.package_reader.specs.adb_schema.Soundness.{blocks_fault, file_fault_after_header, payload_fault, payload_in, root_value}
 use Rattle.package_reader.specs.adb_schema.declared.read.TheConstants.{PACKAGE_WORD}
-use Rattle.package_reader.specs.pkg_core.Contents.{FilesRead, contents_in, expected_contents, fault_in, files_by_blocks}
+use Rattle.package_reader.specs.pkg_core.Contents.{FilesRead, contents_in, expected_contents, fault_of_files_read, files_read_from_blocks}
 use Rattle.package_reader.specs.pkg_core.Refusals.{IsFaultOf}
-use Rattle.package_reader.specs.pkg_core.Whole.{fault_after_first, container_fault, fault_by_header, files_after_first, files_by_header, files_in_file, package_fault, whole_fault}
+use Rattle.package_reader.specs.pkg_core.Whole.{fault_of_further_blocks, container_fault, container_fault_after_header, files_after_first_block, files_after_header, files_in_file, package_fault, container_fault_of_table}
 use Rattle.package_reader.specs.pkg_core.declared.pack.PackageFault.{PackageFault}
 use Rattle.package_reader.specs.pkg_core.declared.pack.PackageFault.TheVariants as PackageFaults
 use Rattle.package_reader.proofs.pkg_core.Steps.{package_steps, values_first}
-use Rattle.package_reader.specs.pkg_core.Front.{IsFrontOf, IsFrontRead, behind_front, front_end, front_fault, front_file_len, front_payload}
-use Rattle.package_reader.specs.pkg_core.Seen.{HasAt, IsSeenIn}
+use Rattle.package_reader.specs.pkg_core.Front.{IsFrontOf, IsFrontRead, position_after_front, front_end, front_fault, front_file_len, front_payload}
+use Rattle.package_reader.specs.pkg_core.Seen.{HasBytesAtOffset, IsSeenIn}
 use Rattle.package_reader.specs.pkg_core.declared.front.Front.{Front}
 use Rattle.package_reader.specs.pkg_core.declared.front.FrontFault.{FrontFault}
 use Rattle.package_reader.specs.pkg_core.declared.front.FrontFault.TheVariants.{Bad}
@@ -32,8 +32,8 @@ use Rattle.package_reader.proofs.pkg_core.SeenBytes.{file_with, has_front, has_r
 use Rattle.package_reader.proofs.pkg_core.WholeTests.{front_alike, same_payload, values_alike}
 use Rattle.package_reader.proofs.BlockSeen.{nothing_seen}
 use Rattle.package_verifier.specs.Places.{AreAtPlaces, AreFilesTested, IsWholeTested}
-use Rattle.package_verifier.specs.Tested.{IsReadOf, IsTestedOf}
-use Rattle.package_verifier.specs.Tests.{IsTestOf}
+use Rattle.package_verifier.specs.Tested.{IsPackageReadResult, IsTestedOf}
+use Rattle.package_verifier.specs.Tests.{IsPackageTestResult}
 use Rattle.package_verifier.specs.declared.files.FilesTest.{FilesTest}
 use Rattle.package_verifier.specs.declared.files.FilesTest.TheVariants as Tests
 use Rattle.package_verifier.specs.declared.package.TestedPackage.{TestedPackage}
@@ -44,26 +44,26 @@ use Rattle.package_verifier.specs.declared.test.PackageTest.TheVariants as Says
 
 -- ---- by the front
 
-package_by_front : (pkg : List ℕ) (front : Front) → IsFrontOf PACKAGE_WORD pkg front → package_fault pkg ≡ option_or (payload_fault Package (front_payload front)) (fault_in (files_in_file pkg))
-package_by_front pkg front is = package_steps pkg ∙ ap (λ (o : Option Cause). option_or o (fault_in (files_in_file pkg))) (values_alike pkg front is)
+package_by_front : (pkg : List ℕ) (front : Front) → IsFrontOf PACKAGE_WORD pkg front → package_fault pkg ≡ option_or (payload_fault Package (front_payload front)) (fault_of_files_read (files_in_file pkg))
+package_by_front pkg front is = package_steps pkg ∙ ap (λ (o : Option Cause). option_or o (fault_of_files_read (files_in_file pkg))) (values_alike pkg front is)
 
-files_by_front : (pkg : List ℕ) (front : Front) → IsFrontOf PACKAGE_WORD pkg front → files_in_file pkg ≡ files_by_blocks (expected_contents (root_value Package (front_payload front))) (reading_of (behind_front front pkg))
+files_by_front : (pkg : List ℕ) (front : Front) → IsFrontOf PACKAGE_WORD pkg front → files_in_file pkg ≡ files_read_from_blocks (expected_contents (root_value Package (front_payload front))) (block_stream_from (position_after_front front pkg))
 unfolding files_in_file
-files_by_front pkg front is = ap (files_by_header pkg) is.header ∙ ap files_after_first is.blocks
+files_by_front pkg front is = ap (files_after_header pkg) is.header ∙ ap files_after_first_block is.blocks
 
 whole_by_files : (pkg : List ℕ) (front : Front) (files : FilesRead) (test : FilesTest) → IsFrontOf PACKAGE_WORD pkg front → payload_fault Package (front_payload front) ≡ None → files_in_file pkg ≡ files → AreFilesTested files pkg test → IsWholeTested pkg test
 whole_by_files pkg front files (Tests.Sound places) is sound same tested = (
-  package_by_front pkg front is ∙ (ap (λ (o : Option Cause). option_or o (fault_in (files_in_file pkg))) sound ∙ (ap fault_in same ∙ tested.0)),
+  package_by_front pkg front is ∙ (ap (λ (o : Option Cause). option_or o (fault_of_files_read (files_in_file pkg))) sound ∙ (ap fault_of_files_read same ∙ tested.0)),
   subst (λ (f : FilesRead). AreAtPlaces pkg places.items (contents_in f)) (sym same) tested.1,
 )
 whole_by_files pkg front files (Tests.Bad c) is sound same tested =
-    package_by_front pkg front is ∙ (ap (λ (o : Option Cause). option_or o (fault_in (files_in_file pkg))) sound ∙ (ap fault_in same ∙ tested))
+    package_by_front pkg front is ∙ (ap (λ (o : Option Cause). option_or o (fault_of_files_read (files_in_file pkg))) sound ∙ (ap fault_of_files_read same ∙ tested))
 
 -- the tests of each package with this front, by the bytes that were seen after it
 abbrev pub IsWholeTold : List TreeState → List ℕ → Front → FilesTest → Type 0
 IsWholeTold h name front test = (seen : List ℕ)
     × IsSeenIn h name (front_file_len front) (front_end front) seen
-    × ((pkg : List ℕ) → IsFrontOf PACKAGE_WORD pkg front → HasAt pkg (front_end front) seen → IsWholeTested pkg test)
+    × ((pkg : List ℕ) → IsFrontOf PACKAGE_WORD pkg front → HasBytesAtOffset pkg (front_end front) seen → IsWholeTested pkg test)
 
 pub whole_by_values : (h : List TreeState) (name : List ℕ) (front : Front) (cause first : Cause) (why : PackageFault) → cause ≡ first → why ≡ PackageFaults.Bad first → front_end front ≤ front_file_len front → IsFaultOf why (payload_fault Package (front_payload front)) → IsWholeTold h name front (Tests.Bad cause)
 whole_by_values h name front cause first why same is within of =
@@ -72,24 +72,24 @@ whole_by_values h name front cause first why same is within of =
       nothing_seen h name (front_file_len front) (front_end front) within,
       λ pkg front_of has.
           package_by_front pkg front front_of
-          ∙ ap (λ (o : Option Cause). option_or o (fault_in (files_in_file pkg))) (bad ∙ ap (λ (c : Cause). Some c) (sym same)),
+          ∙ ap (λ (o : Option Cause). option_or o (fault_of_files_read (files_in_file pkg))) (bad ∙ ap (λ (c : Cause). Some c) (sym same)),
     )
 
 pub whole_by_contents : (h : List TreeState) (name : List ℕ) (front : Front) (value : Plain) (result : Result FilesTest TreeFault) → payload_fault Package (front_payload front) ≡ None → value ≡ root_value Package (front_payload front)
-    → IfOk result (λ test. (seen : List ℕ) × IsSeenIn h name (front_file_len front) (front_end front) seen × ((pkg : List ℕ) → length pkg ≡ front_file_len front → HasAt pkg (front_end front) seen → AreFilesTested (files_by_blocks (expected_contents value) (reading_of (behind_front front pkg))) pkg test))
+    → IfOk result (λ test. (seen : List ℕ) × IsSeenIn h name (front_file_len front) (front_end front) seen × ((pkg : List ℕ) → length pkg ≡ front_file_len front → HasBytesAtOffset pkg (front_end front) seen → AreFilesTested (files_read_from_blocks (expected_contents value) (block_stream_from (position_after_front front pkg))) pkg test))
     → IfOk result (IsWholeTold h name front)
 whole_by_contents h name front value (Err fault) sound is told = tt
 whole_by_contents h name front value (Ok test) sound is (seen, is_seen, each) = (
   seen,
   is_seen,
   λ pkg of has.
-      whole_by_files pkg front _ test of sound (files_by_front pkg front of ∙ ap (λ (v : Plain). files_by_blocks (expected_contents v) (reading_of (behind_front front pkg))) (sym is)) (each pkg of.long has),
+      whole_by_files pkg front _ test of sound (files_by_front pkg front of ∙ ap (λ (v : Plain). files_read_from_blocks (expected_contents v) (block_stream_from (position_after_front front pkg))) (sym is)) (each pkg of.long has),
 )
 
 -- ---- of some file, the one under the name where the tree tells it
 
 abbrev pub IsReadOfSome : List TreeState → List ℕ → PackageRead → Type 0
-IsReadOfSome h name read = (found : Option (List ℕ)) × IfObservable h (λ v. found ≡ files_of v name) × IsReadOf name found read
+IsReadOfSome h name read = (found : Option (List ℕ)) × IfObservable h (λ v. found ≡ files_of v name) × IsPackageReadResult name found read
 
 long_in : (found told : Option (List ℕ)) (front : Front) → found ≡ told → IsFrontRead PACKAGE_WORD found (Ok (Some front)) → Some (front_file_len front) ≡ option_map length told
 long_in None told front same is = absurd is
@@ -100,8 +100,8 @@ long_told [] name front found told is = tt
 long_told (v ∷ earlier) name front found told is = long_in found (files_of v name) front told is
 
 pub read_whole : (h later : List TreeState) (name own : List ℕ) (front : Front) (test : FilesTest) (read : PackageRead) → own ≡ name → later ≡ h → (found : Option (List ℕ)) × IfObservable h (λ v. found ≡ files_of v name) × IsFrontRead PACKAGE_WORD found (Ok (Some front))
-    → (seen : List ℕ) × IsSeenIn h name (front_file_len front) 0 seen × (front_end front ≡ length seen) × ((file : List ℕ) → length file ≡ front_file_len front → HasAt file 0 seen → IsFrontOf PACKAGE_WORD file front)
-    → IsWholeTold later name front test → ((pkg : List ℕ) → IsFrontOf PACKAGE_WORD pkg front → IsWholeTested pkg test → IsReadOf own (Some pkg) read) → IsReadOfSome h name read
+    → (seen : List ℕ) × IsSeenIn h name (front_file_len front) 0 seen × (front_end front ≡ length seen) × ((file : List ℕ) → length file ≡ front_file_len front → HasBytesAtOffset file 0 seen → IsFrontOf PACKAGE_WORD file front)
+    → IsWholeTold later name front test → ((pkg : List ℕ) → IsFrontOf PACKAGE_WORD pkg front → IsWholeTested pkg test → IsPackageReadResult own (Some pkg) read) → IsReadOfSome h name read
 read_whole h later name own front test read named same (found, told, is_read) (seen, is_seen, ends, each) (behind, is_behind, whole) reads =
     let here : IsSeenIn h name (front_file_len front) (front_end front) behind = subst (λ (g : List TreeState). IsSeenIn g name (front_file_len front) (front_end front) behind) same is_behind in
     let starts : front_end front ≡ 0 + length seen = omega (arith, ends) in
@@ -112,8 +112,8 @@ read_whole h later name own front test read named same (found, told, is_read) (s
       within = omega (arith, all, room, ends);
     }) in
     let is = each f.file f.long (has_front f.file 0 seen behind f.has) in
-    let has = subst (λ (n : ℕ). HasAt f.file n behind) (sym starts) (has_rest f.file 0 seen behind f.has) in
-    (Some f.file, f.told, subst (λ (n : List ℕ). IsReadOf n (Some f.file) read) named (reads f.file is (whole f.file is has)))
+    let has = subst (λ (n : ℕ). HasBytesAtOffset f.file n behind) (sym starts) (has_rest f.file 0 seen behind f.has) in
+    (Some f.file, f.told, subst (λ (n : List ℕ). IsPackageReadResult n (Some f.file) read) named (reads f.file is (whole f.file is has)))
 
 refused_by : (h : List TreeState) (name : List ℕ) (cause : Cause) → (found : Option (List ℕ)) × IfObservable h (λ v. found ≡ files_of v name) × IsFrontRead PACKAGE_WORD found (Err (Bad cause)) → IsReadOfSome h name (Reads.Bad cause)
 refused_by h name cause (None, told, bad) = absurd bad
@@ -126,28 +126,28 @@ refused h name cause first why same is front =
 
 -- ---- a package as a container
 
-by_schema : (wanted : Bool) (schema : ℕ) (r : Reading) (fault : Option Cause) → ((found : ℕ) → fault ≢ Some (WrongSchema found)) → option_or (if wanted then None else Some (WrongSchema schema)) (blocks_fault (fault_after_first Package) Package r) ≡ fault → wanted ≡ true
+by_schema : (wanted : Bool) (schema : ℕ) (r : Reading) (fault : Option Cause) → ((found : ℕ) → fault ≢ Some (WrongSchema found)) → option_or (if wanted then None else Some (WrongSchema schema)) (blocks_fault (fault_of_further_blocks Package) Package r) ≡ fault → wanted ≡ true
 by_schema true schema r fault other is = refl
 by_schema false schema r fault other is = absurd (other schema (sym is))
 
-container_by_header : (file : List ℕ) (header : Result ℕ Cause) (fault : Option Cause) → ((found : ℕ) → fault ≢ Some (WrongSchema found)) → header_of file ≡ header → file_fault (fault_after_first Package) Package file header ≡ fault → fault_by_header file header ≡ fault
-unfolding whole_fault
+container_by_header : (file : List ℕ) (header : Result ℕ Cause) (fault : Option Cause) → ((found : ℕ) → fault ≢ Some (WrongSchema found)) → header_of file ≡ header → file_fault_after_header (fault_of_further_blocks Package) Package file header ≡ fault → container_fault_after_header file header ≡ fault
+unfolding container_fault_of_table
 container_by_header file (Err c) fault other is told = told
 container_by_header file (Ok schema) fault other is told =
-    let same : PACKAGE_WORD ≡ schema = eqb-true PACKAGE_WORD schema (by_schema (PACKAGE_WORD == schema) schema (reading_of (start_of schema file)) fault other told) in
-    ap (λ (n : ℕ). fault_by_header file (Ok n)) (sym same)
-    ∙ (ap (file_fault (fault_after_first Package) Package file) (is ∙ ap (λ (n : ℕ). Ok n) (sym same))
-    ∙ subst (λ (n : ℕ). file_fault (fault_after_first Package) Package file (Ok n) ≡ fault) (sym same) told)
+    let same : PACKAGE_WORD ≡ schema = eqb-true PACKAGE_WORD schema (by_schema (PACKAGE_WORD == schema) schema (block_stream_from (first_block_position schema file)) fault other told) in
+    ap (λ (n : ℕ). container_fault_after_header file (Ok n)) (sym same)
+    ∙ (ap (file_fault_after_header (fault_of_further_blocks Package) Package file) (is ∙ ap (λ (n : ℕ). Ok n) (sym same))
+    ∙ subst (λ (n : ℕ). file_fault_after_header (fault_of_further_blocks Package) Package file (Ok n) ≡ fault) (sym same) told)
 
 pub as_container : (file : List ℕ) (fault : Option Cause) → ((found : ℕ) → fault ≢ Some (WrongSchema found)) → package_fault file ≡ fault → container_fault file ≡ fault
-unfolding container_fault whole_fault
+unfolding container_fault container_fault_of_table
 as_container file fault other told = container_by_header file (header_of file) fault other refl told
 
-pub said_sound : (pkg : TestedPackage) (name : List ℕ) (found : Option (List ℕ)) → IsReadOf name found (Reads.Sound pkg) → IsTestOf found Says.Sound
+pub said_sound : (pkg : TestedPackage) (name : List ℕ) (found : Option (List ℕ)) → IsPackageReadResult name found (Reads.Sound pkg) → IsPackageTestResult found Says.Sound
 said_sound pkg name None is = absurd is
 said_sound pkg name (Some file) is = as_container file None (λ n e. (cc)) is.sound
 
-pub said_by : (c : Cause) (test : PackageTest) (name : List ℕ) (found : Option (List ℕ)) → ((file : List ℕ) → package_fault file ≡ Some c → IsTestOf (Some file) test) → IsReadOf name found (Reads.Bad c) → IsTestOf found test
+pub said_by : (c : Cause) (test : PackageTest) (name : List ℕ) (found : Option (List ℕ)) → ((file : List ℕ) → package_fault file ≡ Some c → IsPackageTestResult (Some file) test) → IsPackageReadResult name found (Reads.Bad c) → IsPackageTestResult found test
 said_by c test name None says is = absurd is
 said_by c test name (Some file) says is = says file is
 

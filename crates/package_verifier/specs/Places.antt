@@ -5,10 +5,10 @@ use Rattle.std.specs.List.{find}
 use Rattle.package_reader.specs.adb_schema.Soundness.{payload_fault}
 use Rattle.adb_view.specs.declared.tables.Which.TheVariants.{Package}
 use Rattle.package_reader.specs.pkg_core.declared.file.Part.{Part}
-use Rattle.package_reader.specs.pkg_core.Contents.{Contents, FilesRead, contents_in, fault_in}
+use Rattle.package_reader.specs.pkg_core.Contents.{Contents, FilesRead, contents_in, fault_of_files_read}
 use Rattle.package_reader.specs.pkg_core.Whole.{files_in_file, package_fault}
 use Rattle.package_reader.specs.pkg_core.Front.{front_payload}
-use Rattle.package_reader.specs.pkg_core.Seen.{HasAt}
+use Rattle.package_reader.specs.pkg_core.Seen.{HasBytesAtOffset}
 use Rattle.package_reader.specs.pkg_core.declared.front.Front.{Front}
 use Rattle.package_verifier.specs.declared.files.FilesTest.{FilesTest}
 use Rattle.package_verifier.specs.declared.files.FilesTest.TheVariants.{Bad, Sound}
@@ -20,7 +20,7 @@ use Rattle.package_verifier.specs.declared.places.FilePlace.{FilePlace}
 pub record IsAtPlace (pkg : List ℕ) (place : FilePlace) (contents : Contents) : Type 0 where
   pub folder : place.folder ≡ contents.folder
   pub file : place.file ≡ contents.file
-  pub located : HasAt pkg place.at contents.bytes
+  pub located : HasBytesAtOffset pkg place.at contents.bytes
 
 -- there is a place for each file with contents, in order, and no other
 abbrev pub AreAtPlaces : List ℕ → List FilePlace → List Contents → Type 0
@@ -36,8 +36,8 @@ AreAtPlaces pkg (place ∷ places) (contents ∷ others) =
 -- failed test
 abbrev pub AreFilesTested : FilesRead → List ℕ → FilesTest → Type 0
 AreFilesTested files pkg (Sound places) =
-    (fault_in files ≡ None) × AreAtPlaces pkg places.items (contents_in files)
-AreFilesTested files pkg (Bad c) = fault_in files ≡ Some c
+    (fault_of_files_read files ≡ None) × AreAtPlaces pkg places.items (contents_in files)
+AreFilesTested files pkg (Bad c) = fault_of_files_read files ≡ Some c
 
 -- the result of the tests for a whole package: no test fails, and each file has its contents at its
 -- place, or the first failed test

@@ -49,10 +49,10 @@ pub record IsTestedOf (name file : List ℕ) (pkg : TestedPackage) : Type 0 wher
   pub places : AreAtPlaces file pkg.places.items (contents_in (files_in_file file))
 
 -- the result of `read_package` for a file under this name, or for none
-abbrev pub IsReadOf : List ℕ → Option (List ℕ) → PackageRead → Type 0
-IsReadOf name None Absent = Unit {0}
-IsReadOf name None (Bad c) = ⊥
-IsReadOf name None (Sound pkg) = ⊥
-IsReadOf name (Some file) Absent = ⊥
-IsReadOf name (Some file) (Bad c) = package_fault file ≡ Some c
-IsReadOf name (Some file) (Sound pkg) = IsTestedOf name file pkg
+abbrev pub IsPackageReadResult : List ℕ → Option (List ℕ) → PackageRead → Type 0
+IsPackageReadResult name None Absent = Unit {0}
+IsPackageReadResult name None (Bad c) = ⊥
+IsPackageReadResult name None (Sound pkg) = ⊥
+IsPackageReadResult name (Some file) Absent = ⊥
+IsPackageReadResult name (Some file) (Bad c) = package_fault file ≡ Some c
+IsPackageReadResult name (Some file) (Sound pkg) = IsTestedOf name file pkg

@@ -13,12 +13,12 @@ HasOtherSchema file = (found : ℕ) × (package_fault file ≡ Some (WrongSchema
 
 -- the result of `test_package` for a file, or for none; a fault is that of the file as a container of
 -- any schema
-abbrev pub IsTestOf : Option (List ℕ) → PackageTest → Type 0
-IsTestOf None Absent = Unit {0}
-IsTestOf None OtherSchema = ⊥
-IsTestOf None Sound = ⊥
-IsTestOf None (Bad c) = ⊥
-IsTestOf (Some file) Absent = ⊥
-IsTestOf (Some file) OtherSchema = HasOtherSchema file
-IsTestOf (Some file) Sound = container_fault file ≡ None
-IsTestOf (Some file) (Bad c) = container_fault file ≡ Some c
+abbrev pub IsPackageTestResult : Option (List ℕ) → PackageTest → Type 0
+IsPackageTestResult None Absent = Unit {0}
+IsPackageTestResult None OtherSchema = ⊥
+IsPackageTestResult None Sound = ⊥
+IsPackageTestResult None (Bad c) = ⊥
+IsPackageTestResult (Some file) Absent = ⊥
+IsPackageTestResult (Some file) OtherSchema = HasOtherSchema file
+IsPackageTestResult (Some file) Sound = container_fault file ≡ None
+IsPackageTestResult (Some file) (Bad c) = container_fault file ≡ Some c

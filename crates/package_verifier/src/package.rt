@@ -28,7 +28,7 @@ pub struct TestedPackage {
 impl TestedPackage {
     ghost use Rattle.std.specs.Prelude.{◌≡◌, [], ℕ, List};
     ghost use Rattle.package_verifier.specs.Tested.{IsTestedOf, tested_id, tested_len, tested_name, tested_payload, tested_value};
-    ghost use Rattle.package_reader.specs.FileReading.{HasUnreadBytes, HaveBeenReturned, expected_file_of, len_around_file, package_name_of_file};
+    ghost use Rattle.package_reader.specs.FileReading.{HasUnreadBytes, HaveBeenReturned, expected_file_of, package_len_of_file, package_name_of_file};
     ghost use Rattle.package_reader.specs.pkg_core.Contents.{bytes_of_file, contents_in, expected_contents};
     ghost use Rattle.package_reader.specs.pkg_core.Opened.{expected_file_at};
     ghost use Rattle.package_reader.specs.pkg_core.Whole.{files_in_file};
@@ -55,7 +55,7 @@ impl TestedPackage {
     /// contents has no pieces.
     pub fn file(&self, folder: u32, file: u32) -> FilePieces<'_>
         ensures name { package_name_of_file result ≡ tested_name self.now }
-        ensures len { len_around_file result ≡ tested_len self.now }
+        ensures len { package_len_of_file result ≡ tested_len self.now }
         // Whatever the tree has, its bytes are compared with the size and the digest that the
         // package's value lists for it.
         ensures due { expected_file_of result ≡ expected_file_at folder file

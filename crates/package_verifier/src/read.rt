@@ -9,9 +9,9 @@ ghost use Rattle.base_core.specs.Read.{OnlyReads};
 ghost use Rattle.base_core.specs.Tree.{files_of};
 ghost use Rattle.base_core.specs.declared.tree.TreeFault.TheVariants.{Disk as DiskFault};
 ghost use Rattle.package_verifier.specs.Places.{HasSoundPayload, IsWholeTested};
-ghost use Rattle.package_verifier.specs.Tested.{IsReadOf};
+ghost use Rattle.package_verifier.specs.Tested.{IsPackageReadResult};
 ghost use Rattle.package_reader.specs.pkg_core.Front.{IsFrontOf, front_end, front_file_len, front_payload};
-ghost use Rattle.package_reader.specs.pkg_core.Seen.{HasAt, IsSeenIn, ReadsFile};
+ghost use Rattle.package_reader.specs.pkg_core.Seen.{HasBytesAtOffset, IsSeenIn, ReadsFile};
 
 use crate::files::{FilesTest, read_files};
 use crate::package::TestedPackage;
@@ -45,7 +45,7 @@ pub fn read_package<T: Tree>(
     // The result is that for some file, which is the one under the name if the tree is observable.
     ensures read { IfOk result (λ read. (found : Option (List ℕ))
         × IfObservable (T.history tree.old) (λ v. found ≡ files_of v name.now)
-        × IsReadOf name.now found read) }
+        × IsPackageReadResult name.now found read) }
     // The tree is unchanged. `Disk` is returned only if the tree failed, and no call is a misuse if
     // the tree is observable.
     ensures tree { OnlyReads DiskFault (T.history tree.old) (T.history tree.new)
@@ -66,7 +66,7 @@ fn read_named<T: Tree>(
     requires { own_name ≡ name.now }
     ensures read { IfOk result (λ read. (found : Option (List ℕ))
         × IfObservable (T.history tree.old) (λ v. found ≡ files_of v name.now)
-        × IsReadOf name.now found read) }
+        × IsPackageReadResult name.now found read) }
     // The tree is unchanged. `Disk` is returned only if the tree failed, and no call is a misuse if
     // the tree is observable.
     ensures tree { OnlyReads DiskFault (T.history tree.old) (T.history tree.new)
@@ -88,7 +88,7 @@ fn read_named<T: Tree>(
 fn read_by(name: Name, front: Front, test: FilesTest) -> PackageRead
     requires { HasSoundPayload front test }
     ensures { (pkg : List ℕ) → IsFrontOf PACKAGE_WORD pkg front → IsWholeTested pkg test
-        → IsReadOf name (Some pkg) result }
+        → IsPackageReadResult name (Some pkg) result }
 {
     match test {
         FilesTest::Sound(places) => PackageRead::Sound(TestedPackage {
@@ -112,7 +112,7 @@ fn test_values_and_files<T: Tree>(
         × IsSeenIn (T.history tree.old) name.now (front_file_len front.now) (front_end front.now)
         seen
         × ((pkg : List ℕ) → IsFrontOf PACKAGE_WORD pkg front.now
-        → HasAt pkg (front_end front.now) seen → IsWholeTested pkg test)) }
+        → HasBytesAtOffset pkg (front_end front.now) seen → IsWholeTested pkg test)) }
     ensures payload { IfOk result (HasSoundPayload front.now) }
     // The tree is unchanged. `Disk` is returned only if the tree failed, and no call is a misuse if
     // the file still has its length.

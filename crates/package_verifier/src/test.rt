@@ -7,8 +7,8 @@ ghost use Rattle.base_core.specs.Read.{OnlyReads};
 ghost use Rattle.base_core.specs.Tree.{files_of};
 ghost use Rattle.base_core.specs.declared.tree.TreeFault.TheVariants.{Disk as DiskFault};
 ghost use Rattle.package_reader.specs.pkg_core.Whole.{package_fault};
-ghost use Rattle.package_verifier.specs.Tested.{IsReadOf};
-ghost use Rattle.package_verifier.specs.Tests.{IsTestOf};
+ghost use Rattle.package_verifier.specs.Tested.{IsPackageReadResult};
+ghost use Rattle.package_verifier.specs.Tests.{IsPackageTestResult};
 
 use crate::read::{PackageRead, read_package};
 use base_core::{Cause, Name, Tree, TreeFault};
@@ -43,7 +43,7 @@ pub fn test_package<T: Tree>(
     // The result is that for some file, which is the one under the name if the tree is observable.
     ensures tests { IfOk result (λ test. (found : Option (List ℕ))
         × IfObservable (T.history tree.old) (λ v. found ≡ files_of v name.now)
-        × IsTestOf found test) }
+        × IsPackageTestResult found test) }
     // The tree is unchanged. `Disk` is returned only if the tree failed, and no call is a misuse if
     // the tree is observable.
     ensures tree { OnlyReads DiskFault (T.history tree.old) (T.history tree.new)
@@ -55,8 +55,8 @@ pub fn test_package<T: Tree>(
 
 /// The result of the tests, by the result of the read.
 fn test_of(read: &PackageRead) -> PackageTest
-    ensures { (name : List ℕ) (found : Option (List ℕ)) → IsReadOf name found read.now
-        → IsTestOf found result }
+    ensures { (name : List ℕ) (found : Option (List ℕ)) → IsPackageReadResult name found read.now
+        → IsPackageTestResult found result }
 {
     match read {
         PackageRead::Absent => PackageTest::Absent,
@@ -67,7 +67,7 @@ fn test_of(read: &PackageRead) -> PackageTest
 
 /// The result of the tests with this first failed test.
 fn test_by(cause: Cause) -> PackageTest
-    ensures { (file : List ℕ) → package_fault file ≡ Some cause → IsTestOf (Some file) result }
+    ensures { (file : List ℕ) → package_fault file ≡ Some cause → IsPackageTestResult (Some file) result }
 {
     match cause {
         Cause::WrongSchema { .. } => PackageTest::OtherSchema,

@@ -10,7 +10,7 @@ use Rattle.std.proofs.lemmas.List.Sorted.{sorted_far}
 use Rattle.path_claims.specs.adb_fields.JoinedPath.{joined_path}
 use Rattle.base_core.specs.ByteOrder.{bytes_cmp, precedes}
 use Rattle.base_core.proofs.Sorting.{Each, Rises, ranks, rises_sorted}
-use Rattle.path_claims.specs.Claims.{PathClaim, claim_cmp, is_of_path}
+use Rattle.path_claims.specs.Claims.{PathClaim, claim_cmp, is_claim_of_path}
 use Rattle.path_claims.specs.Seen.{claim_seen}
 use Rattle.path_claims.specs.declared.claim.Claim.{Claim}
 use Rattle.path_claims.proofs.ClaimOrder.{claims_total}
@@ -55,23 +55,23 @@ above a b c h g = go (precedes a c) refl
 abbrev pub IsPlace : List PathClaim → List ℕ → ℕ → Type 0
 IsPlace cs path i = IsPartitionPoint (λ (c : PathClaim). precedes c.path path ≡ true) (λ (c : PathClaim). precedes c.path path ≡ false) cs i
 
-within_place : (cs : List PathClaim) (path : List ℕ) (i : ℕ) → i ≤ length cs → IsPlace cs path i → find (is_of_path path) cs ≡ find (is_of_path path) (drop i cs)
-within_place cs path i l h = found_skip (is_of_path path) i cs (lower (take i cs) (each_below (λ (c : PathClaim). precedes c.path path ≡ true) cs i l h.0))
+within_place : (cs : List PathClaim) (path : List ℕ) (i : ℕ) → i ≤ length cs → IsPlace cs path i → find (is_claim_of_path path) cs ≡ find (is_claim_of_path path) (drop i cs)
+within_place cs path i l h = found_skip (is_claim_of_path path) i cs (lower (take i cs) (each_below (λ (c : PathClaim). precedes c.path path ≡ true) cs i l h.0))
   where
     lower : (xs : List PathClaim) → Each (λ (c : PathClaim). precedes c.path path ≡ true) xs → Each (λ (c : PathClaim). bytes_eq c.path path ≡ false) xs
     lower [] e = tt
     lower (x ∷ xs) e = (less_apart x.path path e.0, lower xs e.1)
 
 pub found_there : (cs : List PathClaim) (path : List ℕ) (i : ℕ) (c : PathClaim) → IsPlace cs path i → i ≤ length cs → slice_get cs i ≡ Some c → bytes_eq c.path path ≡ true
-    → Some c ≡ find (is_of_path path) cs
+    → Some c ≡ find (is_claim_of_path path) cs
 found_there cs path i c h l g e =
-    sym (within_place cs path i l h ∙ (ap (find (is_of_path path)) (drop_at cs i c g) ∙ ap (λ b. cond b (Some c) (find (is_of_path path) (drop (suc i) cs))) e))
+    sym (within_place cs path i l h ∙ (ap (find (is_claim_of_path path)) (drop_at cs i c g) ∙ ap (λ b. cond b (Some c) (find (is_claim_of_path path) (drop (suc i) cs))) e))
 
-pub none_past : (cs : List PathClaim) (path : List ℕ) (i : ℕ) → IsPlace cs path i → i ≤ length cs → length cs ≤ i → None ≡ find (is_of_path path) cs
-none_past cs path i h l m = sym (within_place cs path i l h ∙ ap (find (is_of_path path)) (drop_past cs i m))
+pub none_past : (cs : List PathClaim) (path : List ℕ) (i : ℕ) → IsPlace cs path i → i ≤ length cs → length cs ≤ i → None ≡ find (is_claim_of_path path) cs
+none_past cs path i h l m = sym (within_place cs path i l h ∙ ap (find (is_claim_of_path path)) (drop_past cs i m))
 
 pub none_there : (cs : List PathClaim) (path : List ℕ) (i : ℕ) (c : PathClaim) → IsSorted claim_cmp cs → IsPlace cs path i → i ≤ length cs → slice_get cs i ≡ Some c → bytes_eq c.path path ≡ false
-    → None ≡ find (is_of_path path) cs
+    → None ≡ find (is_claim_of_path path) cs
 unfolding claim_cmp
 none_there cs path i c up h l g e =
     let back : Each (λ (d : PathClaim). precedes d.path path ≡ false) (drop i cs) = each_above (λ (d : PathClaim). precedes d.path path ≡ false) cs i h.1 in
@@ -79,8 +79,8 @@ none_there cs path i c up h l g e =
     let rises : Rises (λ x y. is_lt (claim_cmp x y)) (ranks claim_cmp claims_total) (c ∷ drop (suc i) cs) =
     subst (Rises (λ x y. is_lt (claim_cmp x y)) (ranks claim_cmp claims_total)) (drop_at cs i c g) (rises_drop i cs (rises_sorted (λ x y. is_lt (claim_cmp x y)) (ranks claim_cmp claims_total) cs up)) in
     let first : precedes path c.path ≡ true = behind c.path path here.0 e in
-    sym (within_place cs path i l h ∙ (ap (find (is_of_path path)) (drop_at cs i c g)
-    ∙ found_none (is_of_path path) (c ∷ drop (suc i) cs) (e, higher first (drop (suc i) cs) rises.0)))
+    sym (within_place cs path i l h ∙ (ap (find (is_claim_of_path path)) (drop_at cs i c g)
+    ∙ found_none (is_claim_of_path path) (c ∷ drop (suc i) cs) (e, higher first (drop (suc i) cs) rises.0)))
   where
     rises_drop : (i : ℕ) (xs : List PathClaim) → Rises (λ x y. is_lt (claim_cmp x y)) (ranks claim_cmp claims_total) xs → Rises (λ x y. is_lt (claim_cmp x y)) (ranks claim_cmp claims_total) (drop i xs)
     rises_drop zero xs r = r

@@ -6,5 +6,5 @@ use Rattle.base_core.specs.Name.{IsName}
 use Rattle.path_claims.specs.Claims.{PathClaim}
 
 -- each path of these claims is a name: UTF-8 of 1 to 1,024 bytes in sound parts
-abbrev pub HaveNames : List PathClaim → Type 0
-HaveNames claims = (i : ℕ) (c : PathClaim) → slice_get claims i ≡ Some c → IsName c.path
+abbrev pub HaveValidPaths : List PathClaim → Type 0
+HaveValidPaths claims = (i : ℕ) (c : PathClaim) → slice_get claims i ≡ Some c → IsName c.path

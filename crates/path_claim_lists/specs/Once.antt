@@ -3,10 +3,10 @@
 -- searched once for all packages that claim it.
 use Rattle.std.specs.Prelude.{◌≡◌, ℕ, List, map}
 use Rattle.std.specs.List.{find}
-use Rattle.base_core.specs.Listed.{IsRising}
-use Rattle.path_claims.specs.Claims.{PathClaim, is_of_path}
+use Rattle.base_core.specs.Listed.{AreSortedDistinctNames}
+use Rattle.path_claims.specs.Claims.{PathClaim, is_claim_of_path}
 
 -- the second list has the first claim of each path of the first list, in byte order of the paths
-pub record HasFirsts (all firsts : List PathClaim) : Type 0 where
-  pub rising : IsRising (map (λ c. c.path) firsts)
-  pub each : (path : List ℕ) → find (is_of_path path) firsts ≡ find (is_of_path path) all
+pub record HasFirstClaimOfEachPath (all firsts : List PathClaim) : Type 0 where
+  pub rising : AreSortedDistinctNames (map (λ c. c.path) firsts)
+  pub each : (path : List ℕ) → find (is_claim_of_path path) firsts ≡ find (is_claim_of_path path) all

@@ -9,11 +9,11 @@ ghost use Rattle.std.specs.List.{find};
 ghost use Rattle.std.specs.List.Sorted.{IsPartitionPoint, IsSorted};
 ghost use Rattle.base_core.specs.ByteOrder.{precedes};
 ghost use Rattle.path_claims.specs.adb_fields.JoinedPath.{joined_path};
-ghost use Rattle.path_claims.specs.Claims.{claim_cmp, is_of_path};
+ghost use Rattle.path_claims.specs.Claims.{claim_cmp, is_claim_of_path};
 ghost use Rattle.path_claims.specs.Seen.{claim_seen};
-ghost use Rattle.path_claim_lists.specs.Once.{HasFirsts};
+ghost use Rattle.path_claim_lists.specs.Once.{HasFirstClaimOfEachPath};
 ghost use Rattle.base_core.specs.Name.{IsName};
-ghost use Rattle.path_claim_lists.specs.Named.{HaveNames};
+ghost use Rattle.path_claim_lists.specs.Named.{HaveValidPaths};
 
 use base_core::{Name, Names};
 use path_claims::{Claim, FilePath, begins_path};
@@ -26,7 +26,7 @@ pub fn find_claim(claims: &[Claim<'_>], path: &FilePath<'_>) -> Option<usize>
     requires { IsSorted claim_cmp (map claim_seen claims.now) }
     ensures within { IfSome result (λ i. i < length claims.now) }
     ensures found { option_and_then (slice_get (map claim_seen claims.now)) result
-        ≡ find (is_of_path (joined_path path.now)) (map claim_seen claims.now) }
+        ≡ find (is_claim_of_path (joined_path path.now)) (map claim_seen claims.now) }
 {
     let at = place_of(claims, path);
     claim_at(claims, path, at)
@@ -40,7 +40,7 @@ pub fn find_next_claim(claims: &[Claim<'_>], path: &FilePath<'_>, next: &mut usi
     requires { IsSorted claim_cmp (map claim_seen claims.now) }
     ensures within { IfSome result (λ i. i < length claims.now) }
     ensures found { option_and_then (slice_get (map claim_seen claims.now)) result
-        ≡ find (is_of_path (joined_path path.now)) (map claim_seen claims.now) }
+        ≡ find (is_claim_of_path (joined_path path.now)) (map claim_seen claims.now) }
 {
     let at = place_near(claims, path, *next);
     let found = claim_at(claims, path, at);
@@ -60,7 +60,7 @@ fn claim_at(claims: &[Claim<'_>], path: &FilePath<'_>, at: usize) -> Option<usiz
         (λ c. precedes c.path (joined_path path.now) ≡ false) (map claim_seen claims.now) at }
     ensures within { IfSome result (λ i. i < length claims.now) }
     ensures found { option_and_then (slice_get (map claim_seen claims.now)) result
-        ≡ find (is_of_path (joined_path path.now)) (map claim_seen claims.now) }
+        ≡ find (is_claim_of_path (joined_path path.now)) (map claim_seen claims.now) }
 {
     if at == claims.len() {
         return None;
@@ -112,7 +112,7 @@ pub fn one_of_each_path<'a>(
 ) -> Result<Vec<Claim<'a>>, AllocError>
     requires { IsSorted claim_cmp (map claim_seen claims.now) }
     ensures { IfOk result
-        (λ firsts. HasFirsts (map claim_seen claims.now) (map claim_seen firsts.items)) }
+        (λ firsts. HasFirstClaimOfEachPath (map claim_seen claims.now) (map claim_seen firsts.items)) }
 {
     let mut firsts = Vec::new(alloc);
     for i in 0..claims.len() {
@@ -142,7 +142,7 @@ pub fn name_of_path(alloc: Global, path: &FilePath<'_>) -> Result<Name, AllocErr
 ///
 /// Out of memory.
 pub fn names_of_claims(alloc: Global, claims: &[Claim<'_>]) -> Result<Names, AllocError>
-    requires { HaveNames (map claim_seen claims.now) }
+    requires { HaveValidPaths (map claim_seen claims.now) }
     ensures { IfOk result (λ names. names ≡ map (λ c. c.path) (map claim_seen claims.now)) }
 {
     let mut names = Names::new(alloc);

@@ -5,8 +5,8 @@ use Rattle.std.specs.List.{find, list_any}
 use Rattle.std.proofs.lemmas.List.{take_all}
 use borrow.Author.Tests.{eqb-true}
 use Rattle.base_core.proofs.Numbers.{not_first}
-use Rattle.path_claims.specs.Contest.{beats_each, first_unbeaten, rivals_of, winner, IsOneWay}
-use Rattle.path_claims.specs.LeftOver.{left_over}
+use Rattle.path_claims.specs.Contest.{beats_each, first_with_unbeaten_rival, rivals_of, winner, IsAsymmetric}
+use Rattle.path_claims.specs.LeftOver.{last_unbeaten_member}
 
 abbrev pub Among : ℕ → List ℕ → Type 0
 Among x [] = ⊥
@@ -37,7 +37,7 @@ none_found p (y ∷ ys) x h a = go (none_found p ys x) (p y) refl h a
     go rest false e q (inl r) = ap p r ∙ e
     go rest false e q (inr r) = rest q r
 
-module _ (beats : ℕ → ℕ → Bool) (one_way : IsOneWay beats) where
+module _ (beats : ℕ → ℕ → Bool) (one_way : IsAsymmetric beats) where
   beaten : (x : ℕ) (all : List ℕ) (y : ℕ) → beats_each beats all x ≡ true → Among y all → ((x == y) || beats x y) ≡ true
   beaten x [] y w h = absurd h
   beaten x (z ∷ zs) y w (inl e) = subst (λ v. ((x == v) || beats x v) ≡ true) (sym e) (first ((x == z) || beats x z) (beats_each beats zs x) w)
@@ -63,7 +63,7 @@ module _ (beats : ℕ → ℕ → Bool) (one_way : IsOneWay beats) where
 
   -- a winner of all is never passed over
   stays_left : (all : List ℕ) (x : ℕ) → beats_each beats all x ≡ true → (c : ℕ) (rest : List ℕ)
-      → ((y : ℕ) → Among y (c ∷ rest) → Among y all) → Among x (c ∷ rest) → left_over beats c rest ≡ x
+      → ((y : ℕ) → Among y (c ∷ rest) → Among y all) → Among x (c ∷ rest) → last_unbeaten_member beats c rest ≡ x
   stays_left all x w c [] within (inl e) = sym e
   stays_left all x w c [] within (inr h) = absurd h
   stays_left all x w c (y ∷ ys) within here =
@@ -73,7 +73,7 @@ module _ (beats : ℕ → ℕ → Bool) (one_way : IsOneWay beats) where
       skip z (inl q) = inl q
       skip z (inr q) = inr (inr q)
 
-      go : (Among x (c ∷ ys) → left_over beats c ys ≡ x) → (Among x (y ∷ ys) → left_over beats y ys ≡ x) → (b : Bool) → beats c y ≡ b → Among x (c ∷ y ∷ ys) → (if b then left_over beats c ys else left_over beats y ys) ≡ x
+      go : (Among x (c ∷ ys) → last_unbeaten_member beats c ys ≡ x) → (Among x (y ∷ ys) → last_unbeaten_member beats y ys ≡ x) → (b : Bool) → beats c y ≡ b → Among x (c ∷ y ∷ ys) → (if b then last_unbeaten_member beats c ys else last_unbeaten_member beats y ys) ≡ x
       go stay next true e (inl h) = stay (inl h)
       go stay next true e (inr (inl h)) = stay (inl (by_winner (same_or_beats x c (beaten x all c w (within c (inl refl))))))
         where
@@ -90,29 +90,29 @@ module _ (beats : ℕ → ℕ → Bool) (one_way : IsOneWay beats) where
           by_winner (inr q) = absurd (true≢false (sym q ∙ subst (λ v. beats v y ≡ false) (sym h) e))
       go stay next false e (inr h) = next h
 
-  left_among : (c : ℕ) (rest : List ℕ) → Among (left_over beats c rest) (c ∷ rest)
+  left_among : (c : ℕ) (rest : List ℕ) → Among (last_unbeaten_member beats c rest) (c ∷ rest)
   left_among c [] = inl refl
   left_among c (y ∷ ys) = go (beats c y) (left_among c ys) (left_among y ys)
     where
-      go : (b : Bool) → Among (left_over beats c ys) (c ∷ ys) → Among (left_over beats y ys) (y ∷ ys) → Among (if b then left_over beats c ys else left_over beats y ys) (c ∷ y ∷ ys)
+      go : (b : Bool) → Among (last_unbeaten_member beats c ys) (c ∷ ys) → Among (last_unbeaten_member beats y ys) (y ∷ ys) → Among (if b then last_unbeaten_member beats c ys else last_unbeaten_member beats y ys) (c ∷ y ∷ ys)
       go true (inl q) n = inl q
       go true (inr q) n = inr (inr q)
       go false q n = inr n
 
   -- the one that is left is the winner if it wins, and else there is none
   winner_is : (c : ℕ) (rest : List ℕ)
-      → winner beats (c ∷ rest) ≡ (if beats_each beats (c ∷ rest) (left_over beats c rest) then Some (left_over beats c rest) else None)
+      → winner beats (c ∷ rest) ≡ (if beats_each beats (c ∷ rest) (last_unbeaten_member beats c rest) then Some (last_unbeaten_member beats c rest) else None)
   unfolding winner
   winner_is c rest = go (find (beats_each beats (c ∷ rest)) (c ∷ rest)) refl
     where
-      go : (o : Option ℕ) → find (beats_each beats (c ∷ rest)) (c ∷ rest) ≡ o → o ≡ (if beats_each beats (c ∷ rest) (left_over beats c rest) then Some (left_over beats c rest) else None)
-      go None e = sym (ap (λ b. if b then Some (left_over beats c rest) else None) (none_found (beats_each beats (c ∷ rest)) (c ∷ rest) (left_over beats c rest) e (left_among c rest)))
+      go : (o : Option ℕ) → find (beats_each beats (c ∷ rest)) (c ∷ rest) ≡ o → o ≡ (if beats_each beats (c ∷ rest) (last_unbeaten_member beats c rest) then Some (last_unbeaten_member beats c rest) else None)
+      go None e = sym (ap (λ b. if b then Some (last_unbeaten_member beats c rest) else None) (none_found (beats_each beats (c ∷ rest)) (c ∷ rest) (last_unbeaten_member beats c rest) e (left_among c rest)))
       go (Some x) e =
           let f = found (beats_each beats (c ∷ rest)) (c ∷ rest) x e in
-          let is : left_over beats c rest ≡ x = stays_left (c ∷ rest) x f.0 c rest (λ y a. a) f.1 in
+          let is : last_unbeaten_member beats c rest ≡ x = stays_left (c ∷ rest) x f.0 c rest (λ y a. a) f.1 in
           sym (subst (λ l. (if beats_each beats (c ∷ rest) l then Some l else None) ≡ Some x) (sym is) (ap (λ b. if b then Some x else None) f.0))
 
-  pub winner_by : (c : ℕ) (rest : List ℕ) (left : ℕ) (b : Bool) → left ≡ left_over beats c rest → b ≡ beats_each beats (c ∷ rest) left
+  pub winner_by : (c : ℕ) (rest : List ℕ) (left : ℕ) (b : Bool) → left ≡ last_unbeaten_member beats c rest → b ≡ beats_each beats (c ∷ rest) left
       → (if b then Some left else None) ≡ winner beats (c ∷ rest)
   winner_by c rest left b l w =
       ap (λ x. if x then Some left else None) w
@@ -128,7 +128,7 @@ is_among (z ∷ zs) x h = go (x == z) refl (is_among zs x)
     go true e f = inl (eqb-true x z e)
     go false e f = inr (f (sym (ap (λ b. b || list_any (λ z. x == z) zs) e) ∙ h))
 
-pub one_owner : (beats : ℕ → ℕ → Bool) → IsOneWay beats → (members : List ℕ) (x y : ℕ) → list_any (λ z. x == z) members ≡ true → list_any (λ z. y == z) members ≡ true
+pub one_owner : (beats : ℕ → ℕ → Bool) → IsAsymmetric beats → (members : List ℕ) (x y : ℕ) → list_any (λ z. x == z) members ≡ true → list_any (λ z. y == z) members ≡ true
     → beats_each beats members x ≡ true → beats_each beats members y ≡ true → x ≡ y
 one_owner beats w members x y h k p q =
     go (same_or_beats beats w x y (beaten beats w x members y p (is_among members y k))) (same_or_beats beats w y x (beaten beats w y members x q (is_among members x h)))
@@ -145,12 +145,12 @@ unfolding winner
 none_wins beats f [] h = refl
 none_wins beats f (x ∷ xs) h = absurd (not_first (length xs) (eqb-true _ _ h))
 
-pub one_wins : {X : Type 0} (beats : ℕ → ℕ → Bool) → IsOneWay beats → (f : X → ℕ) (xs : List X) (d : X) (left : ℕ) (b : Bool) → (length xs == 0) ≡ false
-    → left ≡ left_over beats (f (slice_index_or xs 0 d)) (map f (take (length xs - 1) (drop 1 xs))) → b ≡ beats_each beats (map f xs) left
+pub one_wins : {X : Type 0} (beats : ℕ → ℕ → Bool) → IsAsymmetric beats → (f : X → ℕ) (xs : List X) (d : X) (left : ℕ) (b : Bool) → (length xs == 0) ≡ false
+    → left ≡ last_unbeaten_member beats (f (slice_index_or xs 0 d)) (map f (take (length xs - 1) (drop 1 xs))) → b ≡ beats_each beats (map f xs) left
     → (if b then Some left else None) ≡ winner beats (map f xs)
 one_wins beats w f [] d left b h l t = absurd (true≢false h)
 one_wins beats w f (x ∷ xs) d left b h l t =
-    winner_by beats w (f x) (map f xs) left b (l ∙ ap (λ r. left_over beats (f x) (map f r)) (take_all (length (x ∷ xs) - 1) xs (omega arith))) t
+    winner_by beats w (f x) (map f xs) left b (l ∙ ap (λ r. last_unbeaten_member beats (f x) (map f r)) (take_all (length (x ∷ xs) - 1) xs (omega arith))) t
 
 -- ---- the first that passes
 
@@ -166,8 +166,8 @@ find_past f p [] (suc i) l = refl
 find_past f p (x ∷ xs) zero l = absurd (omega arith)
 find_past f p (x ∷ xs) (suc i) l = find_past f p xs i (omega arith)
 
-pub no_rivals : {X : Type 0} (beats : ℕ → ℕ → Bool) (f : X → ℕ) (xs : List X) → (length xs == 0) ≡ true → None ≡ first_unbeaten beats (map f xs)
-unfolding first_unbeaten
+pub no_rivals : {X : Type 0} (beats : ℕ → ℕ → Bool) (f : X → ℕ) (xs : List X) → (length xs == 0) ≡ true → None ≡ first_with_unbeaten_rival beats (map f xs)
+unfolding first_with_unbeaten_rival
 no_rivals beats f [] h = refl
 no_rivals beats f (x ∷ xs) h = absurd (not_first (length xs) (eqb-true _ _ h))
 
@@ -176,7 +176,7 @@ test beats x y = not ((x == y) || beats x y)
 
 pub two_rivals : {X : Type 0} (beats : ℕ → ℕ → Bool) (f : X → ℕ) (xs : List X) (d : X) (o : Option ℕ) → (length xs == 0) ≡ false
     → find (test beats (f (slice_index_or xs 0 d))) (map f xs) ≡ o
-    → option_map (rivals_of (f (slice_index_or xs 0 d))) o ≡ first_unbeaten beats (map f xs)
-unfolding first_unbeaten
+    → option_map (rivals_of (f (slice_index_or xs 0 d))) o ≡ first_with_unbeaten_rival beats (map f xs)
+unfolding first_with_unbeaten_rival
 two_rivals beats f [] d o h e = absurd (true≢false h)
 two_rivals beats f (x ∷ xs) d o h e = ap (option_map (rivals_of (f x))) (sym e)

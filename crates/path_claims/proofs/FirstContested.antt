@@ -6,9 +6,9 @@ use Rattle.std.specs.Cmp.Lexicographic.{bytes_decides}
 use Rattle.std.specs.List.{find}
 use Rattle.std.specs.List.Sorted.{IsSorted}
 use Rattle.adb_fields.specs.JoinedPath.{joined_path}
-use Rattle.path_claims.specs.Claims.{ContestedPath, PathClaim, claim_cmp, contested_at, is_of_path}
-use Rattle.path_claims.specs.Contest.{first_unbeaten}
-use Rattle.path_claims.specs.Runs.{differ_in_path, is_first_of_path, passing_front}
+use Rattle.path_claims.specs.Claims.{ContestedPath, PathClaim, claim_cmp, contested_path_at, is_claim_of_path}
+use Rattle.path_claims.specs.Contest.{first_with_unbeaten_rival}
+use Rattle.path_claims.specs.Runs.{differ_in_path, is_first_of_path, passing_prefix}
 use Rattle.path_claims.specs.Seen.{claim_seen}
 use Rattle.path_claims.specs.declared.claim.Claim.{Claim}
 use Rattle.path_claims.specs.declared.contest.Rivals.{Rivals}
@@ -17,22 +17,22 @@ use Rattle.path_claims.proofs.Places.{map_len, no_some, seen_at, value_or}
 
 pub rivals_here : (beats : ℕ → ℕ → Bool) (xs run : List Claim) (i : ℕ) (d : Claim) (o : Option Rivals) → i < length xs → IsSorted claim_cmp (map claim_seen xs)
     → is_first_of_path (map claim_seen xs) i ≡ true
-    → ((c : PathClaim) → slice_get (map claim_seen xs) i ≡ Some c → map claim_seen run ≡ passing_front (is_of_path c.path) (drop i (map claim_seen xs)))
-    → o ≡ first_unbeaten beats (map (λ c. c.member) run)
+    → ((c : PathClaim) → slice_get (map claim_seen xs) i ≡ Some c → map claim_seen run ≡ passing_prefix (is_claim_of_path c.path) (drop i (map claim_seen xs)))
+    → o ≡ first_with_unbeaten_rival beats (map (λ c. c.member) run)
     → (c : PathClaim) → slice_get (map claim_seen xs) i ≡ Some c
-    → option_map (λ r. record { path = joined_path (slice_index_or xs i d).path; rivals = r }) o ≡ contested_at beats (map claim_seen xs) c.path
+    → option_map (λ r. record { path = joined_path (slice_index_or xs i d).path; rivals = r }) o ≡ contested_path_at beats (map claim_seen xs) c.path
 rivals_here beats xs run i d o l up s h r c g =
     let is : claim_seen (slice_index_or xs i d) ≡ c = ap (value_or c) (sym (seen_at claim_seen xs i d l) ∙ g) in
-    let all : o ≡ first_unbeaten beats _ = r ∙ ap (first_unbeaten beats) (run_claimants xs run i up s h c g) in
+    let all : o ≡ first_with_unbeaten_rival beats _ = r ∙ ap (first_with_unbeaten_rival beats) (run_claimants xs run i up s h c g) in
     λ j. option_map (λ r. record { path = (is j).path; rivals = r }) (all j)
 
 pub no_rivals_here : (beats : ℕ → ℕ → Bool) (xs run : List Claim) (i : ℕ) → IsSorted claim_cmp (map claim_seen xs)
     → is_first_of_path (map claim_seen xs) i ≡ true
-    → ((c : PathClaim) → slice_get (map claim_seen xs) i ≡ Some c → map claim_seen run ≡ passing_front (is_of_path c.path) (drop i (map claim_seen xs)))
-    → None ≡ first_unbeaten beats (map (λ c. c.member) run)
-    → (c : PathClaim) → slice_get (map claim_seen xs) i ≡ Some c → None ≡ contested_at beats (map claim_seen xs) c.path
+    → ((c : PathClaim) → slice_get (map claim_seen xs) i ≡ Some c → map claim_seen run ≡ passing_prefix (is_claim_of_path c.path) (drop i (map claim_seen xs)))
+    → None ≡ first_with_unbeaten_rival beats (map (λ c. c.member) run)
+    → (c : PathClaim) → slice_get (map claim_seen xs) i ≡ Some c → None ≡ contested_path_at beats (map claim_seen xs) c.path
 no_rivals_here beats xs run i up s h r c g =
-    let all : None ≡ first_unbeaten beats _ = r ∙ ap (first_unbeaten beats) (run_claimants xs run i up s h c g) in
+    let all : None ≡ first_with_unbeaten_rival beats _ = r ∙ ap (first_with_unbeaten_rival beats) (run_claimants xs run i up s h c g) in
     λ j. option_map (λ r. record { path = c.path; rivals = r }) (all j)
 
 some_at : (cs : List PathClaim) (i : ℕ) → i < length cs → (c : PathClaim) × (slice_get cs i ≡ Some c)

@@ -2,7 +2,7 @@
 use Rattle.std.proofs.Common.{◌≡◌, ℕ, suc, zero, ◌+◌, ◌<◌, ◌≤◌, Bool, true, false, List, [], ◌∷◌, length, map, Option, Some, refl, ap, sym, ◌∙◌, subst, arith, true≢false}
 use Rattle.std.specs.Prelude.{◌==◌, slice_get, slice_set, slice_index_or}
 use borrow.Author.Tests.{eqb-true}
-use Rattle.path_claims.specs.Claims.{PathClaim, is_member}
+use Rattle.path_claims.specs.Claims.{PathClaim, is_owning_member}
 use Rattle.path_claims.specs.Seen.{claim_seen}
 use Rattle.path_claims.specs.declared.claim.Claim.{Claim}
 use Rattle.path_claims.proofs.Places.{no_some, seen_at, value_or}
@@ -25,12 +25,12 @@ set_other (x ∷ xs) (suc i) zero v n = refl
 set_other (x ∷ xs) (suc i) (suc j) v n = set_other xs i j v (λ e. n (ap suc e))
 
 abbrev pub AreMarked : List PathClaim → List (Option ℕ) → List Bool → ℕ → Type 0
-AreMarked cs owners flags n = (j : ℕ) (c : PathClaim) (o : Option ℕ) → j < n → slice_get cs j ≡ Some c → slice_get owners j ≡ Some o → slice_get flags c.number ≡ Some (is_member c.member o)
+AreMarked cs owners flags n = (j : ℕ) (c : PathClaim) (o : Option ℕ) → j < n → slice_get cs j ≡ Some c → slice_get owners j ≡ Some o → slice_get flags c.number ≡ Some (is_owning_member c.member o)
 
 abbrev pub AreAlike : List PathClaim → List (Option ℕ) → Type 0
 AreAlike cs owners = (j k : ℕ) (c d : PathClaim) (o p : Option ℕ)
     → slice_get cs j ≡ Some c → slice_get owners j ≡ Some o → slice_get cs k ≡ Some d → slice_get owners k ≡ Some p
-    → c.number ≡ d.number → is_member c.member o ≡ is_member d.member p
+    → c.number ≡ d.number → is_owning_member c.member o ≡ is_owning_member d.member p
 
 apart : (m n : ℕ) → (m == n) ≡ false → m ≡ n → ⊥
 apart m n f e = true≢false (sym (itself n) ∙ (ap (λ k. k == n) (sym e) ∙ f))
@@ -43,7 +43,7 @@ number_below xs i d m n l h e = subst (λ k. (slice_index_or xs i d).number < k)
 
 pub one_marked : (xs : List Claim) (owners : List (Option ℕ)) (flags : List Bool) (i : ℕ) (d : Claim) (e : Option ℕ) (b : Bool)
     → i < length xs → length owners ≡ length xs → (slice_index_or xs i d).number < length flags
-    → AreAlike (map claim_seen xs) owners → b ≡ is_member (slice_index_or xs i d).member (slice_index_or owners i e)
+    → AreAlike (map claim_seen xs) owners → b ≡ is_owning_member (slice_index_or xs i d).member (slice_index_or owners i e)
     → AreMarked (map claim_seen xs) owners flags i
     → AreMarked (map claim_seen xs) owners (slice_set flags (slice_index_or xs i d).number b) (i + 1)
 one_marked xs owners flags i d e b l m w alike is inv j c o low g k = go (c.number == (slice_index_or xs i d).number) refl
@@ -60,7 +60,7 @@ one_marked xs owners flags i d e b l m w alike is inv j c o low g k = go (c.numb
     under : (j i : ℕ) → j < i + 1 → (j ≡ i → ⊥) → j < i
     under j i l n = grind (arith, l, n)
 
-    go : (t : Bool) → (c.number == (slice_index_or xs i d).number) ≡ t → slice_get (slice_set flags (slice_index_or xs i d).number b) c.number ≡ Some (is_member c.member o)
+    go : (t : Bool) → (c.number == (slice_index_or xs i d).number) ≡ t → slice_get (slice_set flags (slice_index_or xs i d).number b) c.number ≡ Some (is_owning_member c.member o)
     go true q =
         let one : c.number ≡ (slice_index_or xs i d).number = eqb-true _ _ q in
         ap (slice_get (slice_set flags (slice_index_or xs i d).number b)) one
@@ -72,7 +72,7 @@ one_marked xs owners flags i d e b l m w alike is inv j c o low g k = go (c.numb
 
 pub all_marked : (xs : List Claim) (owners : List (Option ℕ)) (flags : List Bool) (i : ℕ) → length xs ≤ i
     → AreMarked (map claim_seen xs) owners flags i
-    → (j : ℕ) (c : PathClaim) (o : Option ℕ) → slice_get (map claim_seen xs) j ≡ Some c → slice_get owners j ≡ Some o → slice_get flags c.number ≡ Some (is_member c.member o)
+    → (j : ℕ) (c : PathClaim) (o : Option ℕ) → slice_get (map claim_seen xs) j ≡ Some c → slice_get owners j ≡ Some o → slice_get flags c.number ≡ Some (is_owning_member c.member o)
 all_marked xs owners flags i l inv j c o g k = inv j c o (within xs i j c l g) g k
   where
     within : (xs : List Claim) (i j : ℕ) (c : PathClaim) → length xs ≤ i → slice_get (map claim_seen xs) j ≡ Some c → j < i

@@ -11,9 +11,9 @@ use Rattle.std.proofs.lemmas.Cmp.{nat_list_cmp_total}
 use Rattle.std.proofs.lemmas.Bool.{not-true, not-false}
 use Rattle.base_core.specs.ByteOrder.{bytes_cmp}
 use Rattle.base_core.proofs.Sorting.{ranks, rises_sorted}
-use Rattle.path_claims.specs.Claims.{PathClaim, claim_cmp, claimants, is_of_path, owner_by}
+use Rattle.path_claims.specs.Claims.{PathClaim, claim_cmp, claimants, is_claim_of_path, owner_among}
 use Rattle.path_claims.specs.Contest.{winner}
-use Rattle.path_claims.specs.Runs.{differ_in_path, is_first_of_path, passing_front}
+use Rattle.path_claims.specs.Runs.{differ_in_path, is_first_of_path, passing_prefix}
 use Rattle.path_claims.specs.Seen.{claim_seen}
 use Rattle.path_claims.specs.declared.claim.Claim.{Claim}
 use Rattle.path_claims.proofs.ClaimOrder.{claims_total}
@@ -26,19 +26,19 @@ tied_by Equal = refl
 tied_by Greater = refl
 
 -- claims tie where their paths are one
-pub ties_path : (z x : PathClaim) → ties (λ x y. is_lt (claim_cmp x y)) z x ≡ is_of_path z.path x
+pub ties_path : (z x : PathClaim) → ties (λ x y. is_lt (claim_cmp x y)) z x ≡ is_claim_of_path z.path x
 unfolding claim_cmp
 ties_path z x =
     ap (λ r. not (is_lt r) && not (is_lt (bytes_cmp x.path z.path))) (nat_list_cmp_total.antisymm z.path x.path)
     ∙ (tied_by (bytes_cmp x.path z.path) ∙ sym (texts_ties x.path z.path))
 
 pub all_of_path : (cs : List PathClaim) → IsSorted claim_cmp cs → (i : ℕ) (c : PathClaim) → slice_get cs i ≡ Some c → is_first_of_path cs i ≡ true
-    → filter (is_of_path c.path) cs ≡ passing_front (is_of_path c.path) (drop i cs)
+    → filter (is_claim_of_path c.path) cs ≡ passing_prefix (is_claim_of_path c.path) (drop i cs)
 all_of_path cs up i c g s =
     let lt : PathClaim → PathClaim → Bool = λ x y. is_lt (claim_cmp x y) in
-    sym (filter_ext (ties lt c) (is_of_path c.path) (ties_path c) cs)
+    sym (filter_ext (ties lt c) (is_claim_of_path c.path) (ties_path c) cs)
     ∙ (run_is_all lt (ranks claim_cmp claims_total) cs (rises_sorted lt (ranks claim_cmp claims_total) cs up) i c g (apart i c g s)
-    ∙ run_ext (ties lt c) (is_of_path c.path) (ties_path c) (drop i cs))
+    ∙ run_ext (ties lt c) (is_claim_of_path c.path) (ties_path c) (drop i cs))
   where
     apart : (i : ℕ) (c : PathClaim) → slice_get cs i ≡ Some c → is_first_of_path cs i ≡ true → (j : ℕ) (y : PathClaim) → suc j ≡ i → slice_get cs j ≡ Some y → ties (λ x y. is_lt (claim_cmp x y)) c y ≡ false
     apart zero c g s j y e h = absurd (omega arith)
@@ -53,7 +53,7 @@ map_seen f g (x ∷ xs) = ap (λ r. g (f x) ∷ r) (map_seen f g xs)
 
 -- the members of the run that begins at a claim are all that claim its path
 pub run_claimants : (xs run : List Claim) (i : ℕ) → IsSorted claim_cmp (map claim_seen xs) → is_first_of_path (map claim_seen xs) i ≡ true
-    → ((c : PathClaim) → slice_get (map claim_seen xs) i ≡ Some c → map claim_seen run ≡ passing_front (is_of_path c.path) (drop i (map claim_seen xs)))
+    → ((c : PathClaim) → slice_get (map claim_seen xs) i ≡ Some c → map claim_seen run ≡ passing_prefix (is_claim_of_path c.path) (drop i (map claim_seen xs)))
     → (c : PathClaim) → slice_get (map claim_seen xs) i ≡ Some c → map (λ c. c.member) run ≡ claimants (map claim_seen xs) c.path
 run_claimants xs run i up s h c g =
     sym (map_seen claim_seen (λ c. c.member) run)
@@ -61,24 +61,24 @@ run_claimants xs run i up s h c g =
 
 -- the winner of the run that begins at a claim owns its path
 pub run_owner : (beats : ℕ → ℕ → Bool) (xs run : List Claim) (i : ℕ) (o : Option ℕ) → IsSorted claim_cmp (map claim_seen xs) → true ≡ is_first_of_path (map claim_seen xs) i
-    → ((c : PathClaim) → slice_get (map claim_seen xs) i ≡ Some c → map claim_seen run ≡ passing_front (is_of_path c.path) (drop i (map claim_seen xs)))
+    → ((c : PathClaim) → slice_get (map claim_seen xs) i ≡ Some c → map claim_seen run ≡ passing_prefix (is_claim_of_path c.path) (drop i (map claim_seen xs)))
     → o ≡ winner beats (map (λ c. c.member) run)
-    → (c : PathClaim) → slice_get (map claim_seen xs) i ≡ Some c → o ≡ owner_by beats (map claim_seen xs) c.path
+    → (c : PathClaim) → slice_get (map claim_seen xs) i ≡ Some c → o ≡ owner_among beats (map claim_seen xs) c.path
 run_owner beats xs run i o up s h w c g =
     w ∙ ap (winner beats) (run_claimants xs run i up (sym s) h c g)
 
 -- a claim of the path before has the owner before
 pub same_owner : (beats : ℕ → ℕ → Bool) (cs : List PathClaim) (i : ℕ) (o : Option ℕ) → false ≡ is_first_of_path cs i
-    → ((j : ℕ) (c : PathClaim) → j + 1 ≡ i → slice_get cs j ≡ Some c → o ≡ owner_by beats cs c.path)
-    → (c : PathClaim) → slice_get cs i ≡ Some c → o ≡ owner_by beats cs c.path
+    → ((j : ℕ) (c : PathClaim) → j + 1 ≡ i → slice_get cs j ≡ Some c → o ≡ owner_among beats cs c.path)
+    → (c : PathClaim) → slice_get cs i ≡ Some c → o ≡ owner_among beats cs c.path
 same_owner beats cs zero o s h c g = absurd (true≢false (sym s))
 same_owner beats cs (suc i) o s h c g = go (slice_get cs i) refl
   where
-    go : (b : Option PathClaim) → slice_get cs i ≡ b → o ≡ owner_by beats cs c.path
+    go : (b : Option PathClaim) → slice_get cs i ≡ b → o ≡ owner_among beats cs c.path
     go None e = absurd (true≢false (sym (s ∙ (λ n. differ_in_path (e n) (g n)))))
     go (Some y) e =
         let one : y.path ≡ c.path = (bytes_decides y.path c.path).0 (not-false (bytes_eq y.path c.path) (sym (s ∙ (λ n. differ_in_path (e n) (g n))))) in
-        h i y (omega arith) e ∙ ap (owner_by beats cs) one
+        h i y (omega arith) e ∙ ap (owner_among beats cs) one
 
 -- ---- the list of owners, one more
 

@@ -5,8 +5,8 @@ use Rattle.std.specs.Cmp.Lexicographic.{slice_cmp, texts_ties}
 use Rattle.std.specs.Ordering.{nat_cmp, is_eq}
 use Rattle.std.proofs.lemmas.List.{take_all}
 use Rattle.adb_fields.specs.JoinedPath.{joined_path}
-use Rattle.path_claims.specs.Claims.{PathClaim, is_of_path}
-use Rattle.path_claims.specs.Runs.{differ_in_path, is_first_of_path, passing_front}
+use Rattle.path_claims.specs.Claims.{PathClaim, is_claim_of_path}
+use Rattle.path_claims.specs.Runs.{differ_in_path, is_first_of_path, passing_prefix}
 use Rattle.path_claims.specs.Seen.{claim_seen}
 use Rattle.path_claims.specs.declared.claim.Claim.{Claim}
 
@@ -43,17 +43,17 @@ map_len f (x ∷ xs) = ap suc (map_len f xs)
 -- ---- a run, one element more
 
 run_step : {X : Type 0} (p : X → Bool) (xs : List X) (n : ℕ) (z : X) → slice_get xs n ≡ Some z → p z ≡ true
-    → take n xs ++ passing_front p (drop n xs) ≡ take (suc n) xs ++ passing_front p (drop (suc n) xs)
+    → take n xs ++ passing_prefix p (drop n xs) ≡ take (suc n) xs ++ passing_prefix p (drop (suc n) xs)
 run_step p [] n z g h = absurd (no_some z g)
-run_step p (x ∷ xs) zero z g h = ap (λ b. cond b (x ∷ passing_front p xs) []) (ap p (ap (value_or x) g) ∙ h)
+run_step p (x ∷ xs) zero z g h = ap (λ b. cond b (x ∷ passing_prefix p xs) []) (ap p (ap (value_or x) g) ∙ h)
 run_step p (x ∷ xs) (suc n) z g h = ap (λ r. x ∷ r) (run_step p xs n z g h)
 
-run_stop : {X : Type 0} (p : X → Bool) (xs : List X) (n : ℕ) (z : X) → slice_get xs n ≡ Some z → p z ≡ false → passing_front p (drop n xs) ≡ []
+run_stop : {X : Type 0} (p : X → Bool) (xs : List X) (n : ℕ) (z : X) → slice_get xs n ≡ Some z → p z ≡ false → passing_prefix p (drop n xs) ≡ []
 run_stop p [] n z g h = absurd (no_some z g)
-run_stop p (x ∷ xs) zero z g h = ap (λ b. cond b (x ∷ passing_front p xs) []) (ap p (ap (value_or x) g) ∙ h)
+run_stop p (x ∷ xs) zero z g h = ap (λ b. cond b (x ∷ passing_prefix p xs) []) (ap p (ap (value_or x) g) ∙ h)
 run_stop p (x ∷ xs) (suc n) z g h = run_stop p xs n z g h
 
-run_past : {X : Type 0} (p : X → Bool) (xs : List X) (n : ℕ) → length xs ≤ n → passing_front p (drop n xs) ≡ []
+run_past : {X : Type 0} (p : X → Bool) (xs : List X) (n : ℕ) → length xs ≤ n → passing_prefix p (drop n xs) ≡ []
 run_past p [] zero l = refl
 run_past p [] (suc n) l = refl
 run_past p (x ∷ xs) zero l = absurd (omega arith)
@@ -63,34 +63,34 @@ no_more : {X : Type 0} (xs : List X) → xs ++ [] ≡ xs
 no_more [] = refl
 no_more (x ∷ xs) = ap (λ r. x ∷ r) (no_more xs)
 
-has_path : (xs : List Claim) (n : ℕ) (d : Claim) (k : List ℕ) (t : Bool) → t ≡ is_eq (slice_cmp nat_cmp (joined_path (slice_index_or xs n d).path) k) → is_of_path k (claim_seen (slice_index_or xs n d)) ≡ t
+has_path : (xs : List Claim) (n : ℕ) (d : Claim) (k : List ℕ) (t : Bool) → t ≡ is_eq (slice_cmp nat_cmp (joined_path (slice_index_or xs n d).path) k) → is_claim_of_path k (claim_seen (slice_index_or xs n d)) ≡ t
 has_path xs n d k t h = texts_ties (joined_path (slice_index_or xs n d).path) k ∙ sym h
 
 pub run_more : (xs : List Claim) (n : ℕ) (d : Claim) (k : List ℕ) (t : Bool) (all : List PathClaim) → n < length xs
     → t ≡ is_eq (slice_cmp nat_cmp (joined_path (slice_index_or xs n d).path) k) → t ≡ true
-    → all ≡ take n (map claim_seen xs) ++ passing_front (is_of_path k) (drop n (map claim_seen xs))
-    → all ≡ take (n + 1) (map claim_seen xs) ++ passing_front (is_of_path k) (drop (n + 1) (map claim_seen xs))
+    → all ≡ take n (map claim_seen xs) ++ passing_prefix (is_claim_of_path k) (drop n (map claim_seen xs))
+    → all ≡ take (n + 1) (map claim_seen xs) ++ passing_prefix (is_claim_of_path k) (drop (n + 1) (map claim_seen xs))
 run_more xs n d k t all l h e inv =
     let s : n + 1 ≡ suc n = omega arith in
-    inv ∙ (run_step (is_of_path k) (map claim_seen xs) n (claim_seen (slice_index_or xs n d)) (seen_at claim_seen xs n d l) (has_path xs n d k t h ∙ e)
-    ∙ ap (λ m. take m (map claim_seen xs) ++ passing_front (is_of_path k) (drop m (map claim_seen xs))) (sym s))
+    inv ∙ (run_step (is_claim_of_path k) (map claim_seen xs) n (claim_seen (slice_index_or xs n d)) (seen_at claim_seen xs n d l) (has_path xs n d k t h ∙ e)
+    ∙ ap (λ m. take m (map claim_seen xs) ++ passing_prefix (is_claim_of_path k) (drop m (map claim_seen xs))) (sym s))
 
 ended : (xs : List Claim) (n : ℕ) (rest all : List PathClaim) → rest ≡ [] → all ≡ take n (map claim_seen xs) ++ rest → map claim_seen (take n xs) ≡ all
 ended xs n rest all r inv = map_take claim_seen n xs ∙ (sym (no_more (take n (map claim_seen xs))) ∙ (ap (λ r. take n (map claim_seen xs) ++ r) (sym r) ∙ sym inv))
 
 pub run_ended : (xs : List Claim) (n : ℕ) (d : Claim) (k : List ℕ) (t : Bool) (all : List PathClaim) → n < length xs
     → t ≡ is_eq (slice_cmp nat_cmp (joined_path (slice_index_or xs n d).path) k) → t ≡ false
-    → all ≡ take n (map claim_seen xs) ++ passing_front (is_of_path k) (drop n (map claim_seen xs))
+    → all ≡ take n (map claim_seen xs) ++ passing_prefix (is_claim_of_path k) (drop n (map claim_seen xs))
     → map claim_seen (take n xs) ≡ all
 run_ended xs n d k t all l h e inv =
-    ended xs n _ all (run_stop (is_of_path k) (map claim_seen xs) n (claim_seen (slice_index_or xs n d)) (seen_at claim_seen xs n d l) (has_path xs n d k t h ∙ e)) inv
+    ended xs n _ all (run_stop (is_claim_of_path k) (map claim_seen xs) n (claim_seen (slice_index_or xs n d)) (seen_at claim_seen xs n d l) (has_path xs n d k t h ∙ e)) inv
 
 pub run_whole : (xs : List Claim) (n : ℕ) (k : List ℕ) (all : List PathClaim) → length xs ≤ n
-    → all ≡ take n (map claim_seen xs) ++ passing_front (is_of_path k) (drop n (map claim_seen xs))
+    → all ≡ take n (map claim_seen xs) ++ passing_prefix (is_claim_of_path k) (drop n (map claim_seen xs))
     → map claim_seen (take n xs) ≡ all
 run_whole xs n k all l inv =
     let m : length (map claim_seen xs) ≤ n = subst (λ i. i ≤ n) (sym (map_len claim_seen xs)) l in
-    ended xs n _ all (run_past (is_of_path k) (map claim_seen xs) n m) inv
+    ended xs n _ all (run_past (is_claim_of_path k) (map claim_seen xs) n m) inv
 
 tail_whole : {X : Type 0} (xs : List X) (i : ℕ) → take (length xs - i) (drop i xs) ≡ drop i xs
 tail_whole xs zero = take_all (length xs - 0) xs (omega arith)
@@ -99,11 +99,11 @@ tail_whole (x ∷ xs) (suc i) = let s : length (x ∷ xs) - suc i ≡ length xs 
 
 -- the run that begins at a place
 pub run_from : (xs : List Claim) (i : ℕ) (d : Claim) (run : List PathClaim) → i < length xs
-    → run ≡ passing_front (is_of_path (joined_path (slice_index_or xs i d).path)) (map claim_seen (take (length xs - i) (drop i xs)))
-    → (c : PathClaim) → slice_get (map claim_seen xs) i ≡ Some c → run ≡ passing_front (is_of_path c.path) (drop i (map claim_seen xs))
+    → run ≡ passing_prefix (is_claim_of_path (joined_path (slice_index_or xs i d).path)) (map claim_seen (take (length xs - i) (drop i xs)))
+    → (c : PathClaim) → slice_get (map claim_seen xs) i ≡ Some c → run ≡ passing_prefix (is_claim_of_path c.path) (drop i (map claim_seen xs))
 run_from xs i d run l h c g =
     let is : claim_seen (slice_index_or xs i d) ≡ c = ap (value_or c) (sym (seen_at claim_seen xs i d l) ∙ g) in
-    h ∙ (λ j. passing_front (is_of_path (is j).path) ((ap (map claim_seen) (tail_whole xs i) ∙ map_drop claim_seen i xs) j))
+    h ∙ (λ j. passing_prefix (is_claim_of_path (is j).path) ((ap (map claim_seen) (tail_whole xs i) ∙ map_drop claim_seen i xs) j))
 
 -- ---- where a path begins
 

@@ -5,7 +5,7 @@ use Rattle.std.specs.Cmp.{IsStrictWeakOrder}
 use Rattle.std.specs.List.{filter}
 use Rattle.std.specs.List.Sorted.{ties}
 use Rattle.base_core.proofs.Sorting.{Each, Rises}
-use Rattle.path_claims.specs.Runs.{passing_front}
+use Rattle.path_claims.specs.Runs.{passing_prefix}
 use Rattle.path_claims.proofs.Places.{no_some, value_or}
 
 -- ---- tests that agree
@@ -14,7 +14,7 @@ pub filter_ext : {X : Type 0} (p q : X → Bool) → ((x : X) → p x ≡ q x) �
 filter_ext p q h [] = refl
 filter_ext p q h (x ∷ xs) = λ j. cond (h x j) (x ∷ filter_ext p q h xs j) (filter_ext p q h xs j)
 
-pub run_ext : {X : Type 0} (p q : X → Bool) → ((x : X) → p x ≡ q x) → (xs : List X) → passing_front p xs ≡ passing_front q xs
+pub run_ext : {X : Type 0} (p q : X → Bool) → ((x : X) → p x ≡ q x) → (xs : List X) → passing_prefix p xs ≡ passing_prefix q xs
 run_ext p q h [] = refl
 run_ext p q h (x ∷ xs) = λ j. cond (h x j) (x ∷ run_ext p q h xs j) []
 
@@ -102,11 +102,11 @@ module _ {X : Type 0} (lt : X → X → Bool) (o : IsStrictWeakOrder lt) where
       (below_all x y z up.0.0 rest.0, rest)
 
   -- from its first element on, a run is all that ties
-  front_run : (z : X) (xs : List X) → Rises lt o xs → Each (λ y. lt y z ≡ false) xs → filter (ties lt z) xs ≡ passing_front (ties lt z) xs
+  front_run : (z : X) (xs : List X) → Rises lt o xs → Each (λ y. lt y z ≡ false) xs → filter (ties lt z) xs ≡ passing_prefix (ties lt z) xs
   front_run z [] up h = refl
   front_run z (x ∷ xs) up h = go (front_run z xs up.1 h.1) (ties lt z x) refl
     where
-      go : filter (ties lt z) xs ≡ passing_front (ties lt z) xs → (b : Bool) → ties lt z x ≡ b → cond b (x ∷ filter (ties lt z) xs) (filter (ties lt z) xs) ≡ cond b (x ∷ passing_front (ties lt z) xs) []
+      go : filter (ties lt z) xs ≡ passing_prefix (ties lt z) xs → (b : Bool) → ties lt z x ≡ b → cond b (x ∷ filter (ties lt z) xs) (filter (ties lt z) xs) ≡ cond b (x ∷ passing_prefix (ties lt z) xs) []
       go rest true e = ap (λ r. x ∷ r) rest
       go rest false e =
           let l : lt z x ≡ true = above (lt z x) (sym (ap (λ b. not (lt z x) && not b) h.0) ∙ e) in
@@ -127,7 +127,7 @@ module _ {X : Type 0} (lt : X → X → Bool) (o : IsStrictWeakOrder lt) where
   -- the run that begins at a place is all that ties with its first element
   pub run_is_all : (xs : List X) → Rises lt o xs → (i : ℕ) (z : X) → slice_get xs i ≡ Some z
       → ((j : ℕ) (y : X) → suc j ≡ i → slice_get xs j ≡ Some y → ties lt z y ≡ false)
-      → filter (ties lt z) xs ≡ passing_front (ties lt z) (drop i xs)
+      → filter (ties lt z) xs ≡ passing_prefix (ties lt z) (drop i xs)
   run_is_all xs up i z g s =
       filter_skip (ties lt z) i xs (each_to (λ y. lt y z ≡ true) (λ y. ties lt z y ≡ false) (λ y l. apart_below z y l) (take i xs) (front_below xs up i z g s))
       ∙ front_run z (drop i xs) (rises_drop i xs up) (at_drop xs i z up g)

@@ -9,8 +9,8 @@ use Rattle.base_core.specs.ByteOrder.{bytes_cmp}
 use Rattle.base_core.specs.Sorted.{sorted_by, with_element}
 use Rattle.base_core.proofs.Sorting.{sort_seen, sorted_up, stable, stable_in_order}
 use Rattle.base_core.proofs.Orderings.{names_total}
-use Rattle.path_claims.specs.Claims.{AreNumbered, ContestedPath, PathClaim, claim_cmp, claimants, contested_at, contested_by, is_member, is_of_path, is_owner_by, owner_by}
-use Rattle.path_claims.specs.Contest.{first_unbeaten, winner}
+use Rattle.path_claims.specs.Claims.{AreNumberedByPlace, ContestedPath, PathClaim, claim_cmp, claimants, contested_path_at, first_contested_path, is_owning_member, is_claim_of_path, is_claim_of_owner, owner_among}
+use Rattle.path_claims.specs.Contest.{first_with_unbeaten_rival, winner}
 use Rattle.path_claims.proofs.ClaimOrder.{claims_total}
 use Rattle.path_claims.proofs.Marks.{AreAlike}
 use Rattle.path_claims.proofs.Owned.{ties_path}
@@ -85,12 +85,12 @@ within_by (y ∷ xs) zero x g = omega arith
 within_by (y ∷ xs) (suc i) x g = let r = within_by xs i x g in omega arith
 
 -- a sorted claim stands at its number in the list of all
-by_number : (all cs : List PathClaim) → AreNumbered all → cs ≡ sorted_by claim_cmp all → (j : ℕ) (c : PathClaim) → slice_get cs j ≡ Some c → slice_get all c.number ≡ Some c
+by_number : (all cs : List PathClaim) → AreNumberedByPlace all → cs ≡ sorted_by claim_cmp all → (j : ℕ) (c : PathClaim) → slice_get cs j ≡ Some c → slice_get all c.number ≡ Some c
 by_number all cs n s j c g =
     let h = from_sorted claim_cmp all c j (ap (λ xs. slice_get xs j) (sym s) ∙ g) in
     ap (slice_get all) (n h.0 c h.1) ∙ h.1
 
-pub numbers_below : (all cs : List PathClaim) → AreNumbered all → cs ≡ sorted_by claim_cmp all → (m : ℕ) → length cs ≡ m → (j : ℕ) (c : PathClaim) → slice_get cs j ≡ Some c → c.number < m
+pub numbers_below : (all cs : List PathClaim) → AreNumberedByPlace all → cs ≡ sorted_by claim_cmp all → (m : ℕ) → length cs ≡ m → (j : ℕ) (c : PathClaim) → slice_get cs j ≡ Some c → c.number < m
 numbers_below all cs n s m l j c g =
     let e : length all ≡ m = sym (len_sorted claim_cmp all) ∙ (ap length (sym s) ∙ l) in
     subst (λ k. c.number < k) e (within_by all c.number c (by_number all cs n s j c g))
@@ -104,24 +104,24 @@ mapped : {X Y : Type 0} (f : X → Y) (xs : List X) (ys : List Y) (i : ℕ) (x :
 mapped f xs ys i x y e g h = ap (value_or y) (sym h ∙ (ap (λ l. slice_get l i) e ∙ map_at f xs i x g))
 
 -- claims of one number are one claim, and so have one owner
-pub alike : (f : PathClaim → Option ℕ) (all cs : List PathClaim) (os : List (Option ℕ)) → AreNumbered all → cs ≡ sorted_by claim_cmp all → os ≡ map f cs → AreAlike cs os
+pub alike : (f : PathClaim → Option ℕ) (all cs : List PathClaim) (os : List (Option ℕ)) → AreNumberedByPlace all → cs ≡ sorted_by claim_cmp all → os ≡ map f cs → AreAlike cs os
 alike f all cs os n s e j k c d o p g a h b q =
     let one : c ≡ d = ap (value_or c) (sym (by_number all cs n s j c g) ∙ (ap (slice_get all) q ∙ by_number all cs n s k d h)) in
-    ap (is_member c.member) (mapped f cs os j c o e g a) ∙ (ap (λ v. is_member v.member (f v)) one ∙ sym (ap (is_member d.member) (mapped f cs os k d p e h b)))
+    ap (is_owning_member c.member) (mapped f cs os j c o e g a) ∙ (ap (λ v. is_owning_member v.member (f v)) one ∙ sym (ap (is_owning_member d.member) (mapped f cs os k d p e h b)))
 
 -- ---- each path has the claimants that it has in the list of all
 
 pub same_claimants : (all cs : List PathClaim) → cs ≡ sorted_by claim_cmp all → (path : List ℕ) → claimants cs path ≡ claimants all path
 same_claimants all cs s path =
     let z : PathClaim = record { path = path; member = 0; folder = 0; file = 0; number = 0 } in
-    ap (map (λ c. c.member)) (ap (filter (is_of_path path)) s
-    ∙ (sym (filter_ext (ties (λ x y. is_lt (claim_cmp x y)) z) (is_of_path path) (ties_path z) (sorted_by claim_cmp all))
-    ∙ (stable_in_order claim_cmp claims_total z all ∙ filter_ext (ties (λ x y. is_lt (claim_cmp x y)) z) (is_of_path path) (ties_path z) all)))
+    ap (map (λ c. c.member)) (ap (filter (is_claim_of_path path)) s
+    ∙ (sym (filter_ext (ties (λ x y. is_lt (claim_cmp x y)) z) (is_claim_of_path path) (ties_path z) (sorted_by claim_cmp all))
+    ∙ (stable_in_order claim_cmp claims_total z all ∙ filter_ext (ties (λ x y. is_lt (claim_cmp x y)) z) (is_claim_of_path path) (ties_path z) all)))
 
-pub same_owners : (beats : ℕ → ℕ → Bool) (all cs : List PathClaim) → cs ≡ sorted_by claim_cmp all → (os : List (Option ℕ)) → os ≡ map (λ c. owner_by beats cs c.path) cs → os ≡ map (λ c. owner_by beats all c.path) cs
+pub same_owners : (beats : ℕ → ℕ → Bool) (all cs : List PathClaim) → cs ≡ sorted_by claim_cmp all → (os : List (Option ℕ)) → os ≡ map (λ c. owner_among beats cs c.path) cs → os ≡ map (λ c. owner_among beats all c.path) cs
 same_owners beats all cs s os e = e ∙ go cs
   where
-    go : (xs : List PathClaim) → map (λ c. owner_by beats cs c.path) xs ≡ map (λ c. owner_by beats all c.path) xs
+    go : (xs : List PathClaim) → map (λ c. owner_among beats cs c.path) xs ≡ map (λ c. owner_among beats all c.path) xs
     go [] = refl
     go (x ∷ xs) = λ j. winner beats (same_claimants all cs s x.path j) ∷ go xs j
 
@@ -133,19 +133,19 @@ lists_same g [] (y ∷ ys) l h = absurd (omega arith)
 lists_same g (x ∷ xs) [] l h = absurd (omega arith)
 lists_same g (x ∷ xs) (y ∷ ys) l h = λ j. value_or y (h zero x refl j) ∷ lists_same g xs ys (omega arith) (λ k z e. h (suc k) z e) j
 
-pub flags_are : (beats : ℕ → ℕ → Bool) (all cs : List PathClaim) (os : List (Option ℕ)) (flags : List Bool) → AreNumbered all → cs ≡ sorted_by claim_cmp all
-    → os ≡ map (λ c. owner_by beats cs c.path) cs → (m : ℕ) → length flags ≡ m → length cs ≡ m
-    → ((j : ℕ) (c : PathClaim) (o : Option ℕ) → slice_get cs j ≡ Some c → slice_get os j ≡ Some o → slice_get flags c.number ≡ Some (is_member c.member o))
-    → flags ≡ map (is_owner_by beats all) all
+pub flags_are : (beats : ℕ → ℕ → Bool) (all cs : List PathClaim) (os : List (Option ℕ)) (flags : List Bool) → AreNumberedByPlace all → cs ≡ sorted_by claim_cmp all
+    → os ≡ map (λ c. owner_among beats cs c.path) cs → (m : ℕ) → length flags ≡ m → length cs ≡ m
+    → ((j : ℕ) (c : PathClaim) (o : Option ℕ) → slice_get cs j ≡ Some c → slice_get os j ≡ Some o → slice_get flags c.number ≡ Some (is_owning_member c.member o))
+    → flags ≡ map (is_claim_of_owner beats all) all
 flags_are beats all cs os flags n s e m l k marked =
-    lists_same (is_owner_by beats all) all flags (l ∙ (sym k ∙ (ap length s ∙ len_sorted claim_cmp all))) at
+    lists_same (is_claim_of_owner beats all) all flags (l ∙ (sym k ∙ (ap length s ∙ len_sorted claim_cmp all))) at
   where
-    at : (i : ℕ) (x : PathClaim) → slice_get all i ≡ Some x → slice_get flags i ≡ Some (is_owner_by beats all x)
+    at : (i : ℕ) (x : PathClaim) → slice_get all i ≡ Some x → slice_get flags i ≡ Some (is_claim_of_owner beats all x)
     at i x g =
         let h = in_sorted claim_cmp all x i g in
         let here : slice_get cs h.0 ≡ Some x = ap (λ xs. slice_get xs h.0) s ∙ h.1 in
-        let owner : slice_get os h.0 ≡ Some (owner_by beats all x.path) = ap (λ xs. slice_get xs h.0) (same_owners beats all cs s os e) ∙ map_at (λ c. owner_by beats all c.path) cs h.0 x here in
-        ap (slice_get flags) (sym (n i x g)) ∙ marked h.0 x (owner_by beats all x.path) here owner
+        let owner : slice_get os h.0 ≡ Some (owner_among beats all x.path) = ap (λ xs. slice_get xs h.0) (same_owners beats all cs s os e) ∙ map_at (λ c. owner_among beats all c.path) cs h.0 x here in
+        ap (slice_get flags) (sym (n i x g)) ∙ marked h.0 x (owner_among beats all x.path) here owner
 
 -- ---- the contested path
 
@@ -154,18 +154,18 @@ unfolding claim_cmp
 paths_in_order all = sort_seen (λ c. c.path) bytes_cmp names_total all (sorted_by claim_cmp all) (sorted_up claim_cmp claims_total all) (stable claim_cmp claims_total all)
 
 pub contested_is : (beats : ℕ → ℕ → Bool) (all cs : List PathClaim) (o : Option ContestedPath) → cs ≡ sorted_by claim_cmp all
-    → o ≡ option_and_then (contested_at beats cs) (find (λ path. is_none (owner_by beats cs path)) (map (λ c. c.path) cs))
-    → o ≡ contested_by beats all
-unfolding contested_by
+    → o ≡ option_and_then (contested_path_at beats cs) (find (λ path. is_none (owner_among beats cs path)) (map (λ c. c.path) cs))
+    → o ≡ first_contested_path beats all
+unfolding first_contested_path
 contested_is beats all cs o s e =
-    e ∙ (and_ext (find (λ path. is_none (owner_by beats cs path)) (map (λ c. c.path) cs))
-    ∙ ap (option_and_then (contested_at beats all)) (find_ext (map (λ c. c.path) cs) ∙ ap (find (λ path. is_none (owner_by beats all path))) (paths_sorted all cs s)))
+    e ∙ (and_ext (find (λ path. is_none (owner_among beats cs path)) (map (λ c. c.path) cs))
+    ∙ ap (option_and_then (contested_path_at beats all)) (find_ext (map (λ c. c.path) cs) ∙ ap (find (λ path. is_none (owner_among beats all path))) (paths_sorted all cs s)))
   where
-    and_ext : (p : Option (List ℕ)) → option_and_then (contested_at beats cs) p ≡ option_and_then (contested_at beats all) p
+    and_ext : (p : Option (List ℕ)) → option_and_then (contested_path_at beats cs) p ≡ option_and_then (contested_path_at beats all) p
     and_ext None = refl
-    and_ext (Some path) = ap (λ ms. option_map (λ rivals. record { path = path; rivals = rivals }) (first_unbeaten beats ms)) (same_claimants all cs s path)
+    and_ext (Some path) = ap (λ ms. option_map (λ rivals. record { path = path; rivals = rivals }) (first_with_unbeaten_rival beats ms)) (same_claimants all cs s path)
 
-    find_ext : (ps : List (List ℕ)) → find (λ path. is_none (owner_by beats cs path)) ps ≡ find (λ path. is_none (owner_by beats all path)) ps
+    find_ext : (ps : List (List ℕ)) → find (λ path. is_none (owner_among beats cs path)) ps ≡ find (λ path. is_none (owner_among beats all path)) ps
     find_ext [] = refl
     find_ext (p ∷ ps) = λ j. cond (is_none (winner beats (same_claimants all cs s p j))) (Some p) (find_ext ps j)
 

@@ -7,7 +7,7 @@ use Rattle.std.specs.Ordering.{on}
 use Rattle.std.specs.declared.cmp.Ordering.{Ordering}
 use Rattle.base_core.specs.ByteOrder.{bytes_cmp}
 use Rattle.base_core.specs.Sorted.{sorted_by}
-use Rattle.path_claims.specs.Contest.{winner, first_unbeaten}
+use Rattle.path_claims.specs.Contest.{winner, first_with_unbeaten_rival}
 use Rattle.path_claims.specs.declared.contest.Rivals.{Rivals}
 
 -- a claim: a file that a member lists. The member's place counts from 0, those of the folder and of the
@@ -20,39 +20,39 @@ pub record PathClaim : Type 0 where
   pub number : ℕ
 
 -- the number of each claim is its place in the list
-abbrev pub AreNumbered : List PathClaim → Type 0
-AreNumbered claims = (i : ℕ) (c : PathClaim) → slice_get claims i ≡ Some c → c.number ≡ i
+abbrev pub AreNumberedByPlace : List PathClaim → Type 0
+AreNumberedByPlace claims = (i : ℕ) (c : PathClaim) → slice_get claims i ≡ Some c → c.number ≡ i
 
 -- whether a claim is of this path
-abbrev pub is_of_path : List ℕ → PathClaim → Bool
-is_of_path path c = bytes_eq c.path path
+abbrev pub is_claim_of_path : List ℕ → PathClaim → Bool
+is_claim_of_path path c = bytes_eq c.path path
 
 -- the members that claim a path, in the order of the claims
 abbrev pub claimants : List PathClaim → List ℕ → List ℕ
-claimants claims path = map (λ c. c.member) (filter (is_of_path path) claims)
+claimants claims path = map (λ c. c.member) (filter (is_claim_of_path path) claims)
 
 -- the owner of a path among some claims: the candidate owner that beats every other one, if there is
 -- one
-abbrev pub owner_by : (ℕ → ℕ → Bool) → List PathClaim → List ℕ → Option ℕ
-owner_by beats claims path = winner beats (claimants claims path)
+abbrev pub owner_among : (ℕ → ℕ → Bool) → List PathClaim → List ℕ → Option ℕ
+owner_among beats claims path = winner beats (claimants claims path)
 
 -- whether a member is the owner; a path without owner has none
-abbrev pub is_member : ℕ → Option ℕ → Bool
-is_member m None = false
-is_member m (Some owner) = m == owner
+abbrev pub is_owning_member : ℕ → Option ℕ → Bool
+is_owning_member m None = false
+is_owning_member m (Some owner) = m == owner
 
 -- whether a claim's member owns its path
-abbrev pub is_owner_by : (ℕ → ℕ → Bool) → List PathClaim → PathClaim → Bool
-is_owner_by beats claims c = is_member c.member (owner_by beats claims c.path)
+abbrev pub is_claim_of_owner : (ℕ → ℕ → Bool) → List PathClaim → PathClaim → Bool
+is_claim_of_owner beats claims c = is_owning_member c.member (owner_among beats claims c.path)
 
 -- the order of claims: the byte order of their paths
 unfoldable pub claim_cmp : PathClaim → PathClaim → Ordering
 claim_cmp = on (λ c. c.path) bytes_cmp
 
 -- the first path in byte order that no candidate owns, if there is one
-abbrev pub contested_path : (ℕ → ℕ → Bool) → List PathClaim → Option (List ℕ)
-contested_path beats claims =
-    find (λ path. is_none (owner_by beats claims path))
+abbrev pub first_path_without_owner : (ℕ → ℕ → Bool) → List PathClaim → Option (List ℕ)
+first_path_without_owner beats claims =
+    find (λ path. is_none (owner_among beats claims path))
     (sorted_by bytes_cmp (map (λ c. c.path) claims))
 
 -- a contested path, and its rivals: two candidate owners, the first of which does not beat the second
@@ -61,12 +61,12 @@ pub record ContestedPath : Type 0 where
   pub rivals : Rivals
 
 -- a path with its rivals, if no member owns it
-abbrev pub contested_at : (ℕ → ℕ → Bool) → List PathClaim → List ℕ → Option ContestedPath
-contested_at beats claims path =
+abbrev pub contested_path_at : (ℕ → ℕ → Bool) → List PathClaim → List ℕ → Option ContestedPath
+contested_path_at beats claims path =
     option_map (λ rivals. record { path = path; rivals = rivals })
-    (first_unbeaten beats (claimants claims path))
+    (first_with_unbeaten_rival beats (claimants claims path))
 
 -- the first path in byte order that no candidate owns, with its rivals
-unfoldable pub contested_by : (ℕ → ℕ → Bool) → List PathClaim → Option ContestedPath
-contested_by beats claims =
-    option_and_then (contested_at beats claims) (contested_path beats claims)
+unfoldable pub first_contested_path : (ℕ → ℕ → Bool) → List PathClaim → Option ContestedPath
+first_contested_path beats claims =
+    option_and_then (contested_path_at beats claims) (first_path_without_owner beats claims)

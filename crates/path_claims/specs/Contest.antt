@@ -17,11 +17,11 @@ abbrev pub rivals_of : ℕ → ℕ → Rivals
 rivals_of x y = record { first = x; second = y }
 
 -- the first of some members, and the first other one that it does not beat; none if it beats all others
-unfoldable pub first_unbeaten : (ℕ → ℕ → Bool) → List ℕ → Option Rivals
-first_unbeaten beats [] = None
-first_unbeaten beats (x ∷ members) =
+unfoldable pub first_with_unbeaten_rival : (ℕ → ℕ → Bool) → List ℕ → Option Rivals
+first_with_unbeaten_rival beats [] = None
+first_with_unbeaten_rival beats (x ∷ members) =
     option_map (rivals_of x) (find (λ y. not ((x == y) || beats x y)) (x ∷ members))
 
 -- of two members at most one beats the other
-abbrev pub IsOneWay : (ℕ → ℕ → Bool) → Type 0
-IsOneWay beats = (x y : ℕ) → beats x y ≡ true → beats y x ≡ false
+abbrev pub IsAsymmetric : (ℕ → ℕ → Bool) → Type 0
+IsAsymmetric beats = (x y : ℕ) → beats x y ≡ true → beats y x ≡ false

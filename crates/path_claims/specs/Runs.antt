@@ -5,9 +5,9 @@ use Rattle.std.specs.Prelude.{ℕ, zero, suc, Bool, true, not, List, [], ◌∷�
 use Rattle.path_claims.specs.Claims.{PathClaim}
 
 -- the first elements of a list that pass, up to the first that does not
-abbrev pub passing_front : {X : Type 0} → (X → Bool) → List X → List X
-passing_front p [] = []
-passing_front p (x ∷ xs) = cond (p x) (x ∷ passing_front p xs) []
+abbrev pub passing_prefix : {X : Type 0} → (X → Bool) → List X → List X
+passing_prefix p [] = []
+passing_prefix p (x ∷ xs) = cond (p x) (x ∷ passing_prefix p xs) []
 
 -- whether two claims have different paths; a missing claim differs from each
 abbrev pub differ_in_path : Option PathClaim → Option PathClaim → Bool

@@ -6,8 +6,8 @@
 ghost use Rattle.std.specs.Prelude.{◌≡◌, ◌<◌, Some, IfOk, drop, length, map, slice_get};
 ghost use Rattle.adb_fields.specs.JoinedPath.{joined_path};
 ghost use Rattle.base_core.specs.Sorted.{sorted_by};
-ghost use Rattle.path_claims.specs.Claims.{PathClaim, claim_cmp, is_of_path};
-ghost use Rattle.path_claims.specs.Runs.{is_first_of_path, passing_front};
+ghost use Rattle.path_claims.specs.Claims.{PathClaim, claim_cmp, is_claim_of_path};
+ghost use Rattle.path_claims.specs.Runs.{is_first_of_path, passing_prefix};
 ghost use Rattle.path_claims.specs.Seen.{claim_seen};
 
 use adb_fields::FilePath;
@@ -52,7 +52,7 @@ pub fn begins_path(claims: &[Claim<'_>], i: usize) -> bool
 /// The first claims of a list, up to the first that has another path.
 fn run_in_front<'c, 'a>(claims: &'c [Claim<'a>], path: &FilePath<'_>) -> &'c [Claim<'a>]
     ensures { map claim_seen result.now
-        ≡ passing_front (is_of_path (joined_path path.now)) (map claim_seen claims.now) }
+        ≡ passing_prefix (is_claim_of_path (joined_path path.now)) (map claim_seen claims.now) }
 {
     let mut end = 0;
     while end < claims.len() && claims[end].path.compare(path).is_eq() {
@@ -66,7 +66,7 @@ pub fn run_at<'c, 'a>(claims: &'c [Claim<'a>], from: usize) -> &'c [Claim<'a>]
     requires { from < length claims.now }
     ensures { (c : PathClaim) → slice_get (map claim_seen claims.now) from ≡ Some c
         → map claim_seen result.now
-        ≡ passing_front (is_of_path c.path) (drop from (map claim_seen claims.now)) }
+        ≡ passing_prefix (is_claim_of_path c.path) (drop from (map claim_seen claims.now)) }
 {
     let path = claims[from].path;
     run_in_front(&claims[from..], &path)

@@ -4,8 +4,8 @@
 //! beats which.
 
 ghost use Rattle.std.specs.Prelude.{◌≡◌, ◌==◌, ◌||◌, ℕ, Bool, map};
-ghost use Rattle.path_claims.specs.Contest.{IsOneWay, beats_each, first_unbeaten, winner};
-ghost use Rattle.path_claims.specs.LeftOver.{left_over};
+ghost use Rattle.path_claims.specs.Contest.{IsAsymmetric, beats_each, first_with_unbeaten_rival, winner};
+ghost use Rattle.path_claims.specs.LeftOver.{last_unbeaten_member};
 
 use crate::claim::Claim;
 
@@ -30,8 +30,8 @@ pub struct Rivals {
 
 /// The only one of the members that claim a path that can beat all others: each member that the
 /// current one does not beat replaces it.
-fn left_over<C: Contest>(contest: &C, first: u32, claims: &[Claim<'_>]) -> u32
-    ensures { result ≡ left_over (C.beats contest.now) first (map (λ c. c.member) claims.now) }
+fn last_unbeaten_member<C: Contest>(contest: &C, first: u32, claims: &[Claim<'_>]) -> u32
+    ensures { result ≡ last_unbeaten_member (C.beats contest.now) first (map (λ c. c.member) claims.now) }
 {
     let mut left = first;
     for claim in claims {
@@ -68,13 +68,13 @@ fn is_same_or_beaten<C: Contest>(contest: &C, one: u32, other: u32) -> bool
 /// at most twice for each claim.
 pub(crate) fn winner<C: Contest>(contest: &C, claims: &[Claim<'_>]) -> Option<u32>
     // No two members beat each other: so only one can be left over.
-    requires { IsOneWay (C.beats contest.now) }
+    requires { IsAsymmetric (C.beats contest.now) }
     ensures { result ≡ winner (C.beats contest.now) (map (λ c. c.member) claims.now) }
 {
     if claims.is_empty() {
         return None;
     }
-    let left = left_over(contest, claims[0].member, &claims[1..]);
+    let left = last_unbeaten_member(contest, claims[0].member, &claims[1..]);
     if is_winner(contest, left, claims) {
         Some(left)
     } else {
@@ -84,8 +84,11 @@ pub(crate) fn winner<C: Contest>(contest: &C, claims: &[Claim<'_>]) -> Option<u3
 
 /// The first of the members that claim a path, and the first other one that it does not beat; none
 /// if it beats all others.
-pub(crate) fn first_unbeaten<C: Contest>(contest: &C, claims: &[Claim<'_>]) -> Option<Rivals>
-    ensures { result ≡ first_unbeaten (C.beats contest.now) (map (λ c. c.member) claims.now) }
+pub(crate) fn first_with_unbeaten_rival<C: Contest>(
+    contest: &C,
+    claims: &[Claim<'_>],
+) -> Option<Rivals>
+    ensures { result ≡ first_with_unbeaten_rival (C.beats contest.now) (map (λ c. c.member) claims.now) }
 {
     if claims.is_empty() {
         return None;

@@ -5,15 +5,15 @@
 ghost use Rattle.std.specs.Prelude.{◌≡◌, ◌+◌, ◌<◌, ℕ, Bool, Option, Some, true, IfOk, is_none, length, map, option_and_then, option_map, slice_get, ◌==◌, List};
 ghost use Rattle.std.specs.List.Sorted.{IsSorted};
 ghost use Rattle.base_core.specs.Sorted.{sorted_by};
-ghost use Rattle.path_claims.specs.Claims.{AreNumbered, PathClaim, claim_cmp, contested_at, contested_by, is_member, is_owner_by, owner_by};
-ghost use Rattle.path_claims.specs.Contest.{IsOneWay, beats_each};
+ghost use Rattle.path_claims.specs.Claims.{AreNumberedByPlace, PathClaim, claim_cmp, contested_path_at, first_contested_path, is_owning_member, is_claim_of_owner, owner_among};
+ghost use Rattle.path_claims.specs.Contest.{IsAsymmetric, beats_each};
 ghost use Rattle.path_claims.specs.Runs.{is_first_of_path};
 ghost use Rattle.path_claims.specs.Seen.{claim_seen};
 ghost use Rattle.path_claims.specs.ContestedSeen.{contested_seen};
 ghost use Rattle.std.specs.List.{find, list_any};
 
 use crate::claim::{Claim, begins_path, run_at, sort_claims};
-use crate::contest::{Contest, Rivals, first_unbeaten, winner};
+use crate::contest::{Contest, Rivals, first_with_unbeaten_rival, winner};
 use adb_fields::FilePath;
 use std::alloc::{AllocError, Global};
 
@@ -49,13 +49,13 @@ fn owner_at<C: Contest>(
     before: Option<u32>,
 ) -> Option<u32>
     requires at { i < length claims.now }
-    requires one_way { IsOneWay (C.beats contest.now) }
+    requires one_way { IsAsymmetric (C.beats contest.now) }
     requires sorted { IsSorted claim_cmp (map claim_seen claims.now) }
     requires before { (j : ℕ) (c : PathClaim) → j + 1 ≡ i
         → slice_get (map claim_seen claims.now) j ≡ Some c
-        → before ≡ owner_by (C.beats contest.now) (map claim_seen claims.now) c.path }
+        → before ≡ owner_among (C.beats contest.now) (map claim_seen claims.now) c.path }
     ensures { (c : PathClaim) → slice_get (map claim_seen claims.now) i ≡ Some c
-        → result ≡ owner_by (C.beats contest.now) (map claim_seen claims.now) c.path }
+        → result ≡ owner_among (C.beats contest.now) (map claim_seen claims.now) c.path }
 {
     // Claims of one path are adjacent, so the owner is that of the claim before.
     if !begins_path(claims, i) {
@@ -70,10 +70,10 @@ fn owners_in_order<C: Contest>(
     contest: &C,
     claims: &[Claim<'_>],
 ) -> Result<Vec<Option<u32>>, AllocError>
-    requires one_way { IsOneWay (C.beats contest.now) }
+    requires one_way { IsAsymmetric (C.beats contest.now) }
     requires sorted { IsSorted claim_cmp (map claim_seen claims.now) }
     ensures { IfOk result (λ owners. owners.items
-        ≡ map (λ c. owner_by (C.beats contest.now) (map claim_seen claims.now) c.path)
+        ≡ map (λ c. owner_among (C.beats contest.now) (map claim_seen claims.now) c.path)
         (map claim_seen claims.now)) }
 {
     let mut owners = Vec::new(alloc);
@@ -86,8 +86,8 @@ fn owners_in_order<C: Contest>(
 }
 
 /// Whether a member is the owner, if there is one.
-fn is_member(member: u32, owner: Option<u32>) -> bool
-    ensures { result ≡ is_member member owner }
+fn is_owning_member(member: u32, owner: Option<u32>) -> bool
+    ensures { result ≡ is_owning_member member owner }
 {
     match owner {
         Some(owner) => member == owner,
@@ -104,14 +104,14 @@ fn mark_owned(flags: &mut [bool], claims: &[Claim<'_>], owners: &[Option<u32>])
     requires same { (j k : ℕ) (c d : PathClaim) (o p : Option ℕ)
         → slice_get (map claim_seen claims.now) j ≡ Some c → slice_get owners.now j ≡ Some o
         → slice_get (map claim_seen claims.now) k ≡ Some d → slice_get owners.now k ≡ Some p
-        → c.number ≡ d.number → is_member c.member o ≡ is_member d.member p }
+        → c.number ≡ d.number → is_owning_member c.member o ≡ is_owning_member d.member p }
     ensures len { length flags.new ≡ length flags.old }
     ensures marked { (j : ℕ) (c : PathClaim) (o : Option ℕ)
         → slice_get (map claim_seen claims.now) j ≡ Some c → slice_get owners.now j ≡ Some o
-        → slice_get flags.new c.number ≡ Some (is_member c.member o) }
+        → slice_get flags.new c.number ≡ Some (is_owning_member c.member o) }
 {
     for i in 0..claims.len() {
-        flags[claims[i].number] = is_member(claims[i].member, owners[i]);
+        flags[claims[i].number] = is_owning_member(claims[i].member, owners[i]);
     }
 }
 
@@ -127,9 +127,9 @@ fn contested_from<'a, C: Contest>(
     requires first { is_first_of_path (map claim_seen claims.now) i ≡ true }
     ensures { (c : PathClaim) → slice_get (map claim_seen claims.now) i ≡ Some c
         → option_map contested_seen result
-        ≡ contested_at (C.beats contest.now) (map claim_seen claims.now) c.path }
+        ≡ contested_path_at (C.beats contest.now) (map claim_seen claims.now) c.path }
 {
-    match first_unbeaten(contest, run_at(claims, i)) {
+    match first_with_unbeaten_rival(contest, run_at(claims, i)) {
         Some(rivals) => Some(Contested {
             path: claims[i].path,
             rivals,
@@ -146,12 +146,12 @@ fn first_contested<'a, C: Contest>(
 ) -> Option<Contested<'a>>
     requires sorted { IsSorted claim_cmp (map claim_seen claims.now) }
     requires owners { owners.now
-        ≡ map (λ c. owner_by (C.beats contest.now) (map claim_seen claims.now) c.path)
+        ≡ map (λ c. owner_among (C.beats contest.now) (map claim_seen claims.now) c.path)
         (map claim_seen claims.now) }
     ensures { option_map contested_seen result
-        ≡ option_and_then (contested_at (C.beats contest.now) (map claim_seen claims.now))
+        ≡ option_and_then (contested_path_at (C.beats contest.now) (map claim_seen claims.now))
         (find
-        (λ path. is_none (owner_by (C.beats contest.now) (map claim_seen claims.now) path))
+        (λ path. is_none (owner_among (C.beats contest.now) (map claim_seen claims.now) path))
         (map (λ c. c.path) (map claim_seen claims.now))) }
 {
     for i in 0..claims.len() {
@@ -174,11 +174,11 @@ fn owned_flags(
     requires same { (j k : ℕ) (c d : PathClaim) (o p : Option ℕ)
         → slice_get (map claim_seen claims.now) j ≡ Some c → slice_get owners.now j ≡ Some o
         → slice_get (map claim_seen claims.now) k ≡ Some d → slice_get owners.now k ≡ Some p
-        → c.number ≡ d.number → is_member c.member o ≡ is_member d.member p }
+        → c.number ≡ d.number → is_owning_member c.member o ≡ is_owning_member d.member p }
     ensures len { IfOk result (λ flags. length flags.items ≡ length claims.now) }
     ensures marked { IfOk result (λ flags. (j : ℕ) (c : PathClaim) (o : Option ℕ)
         → slice_get (map claim_seen claims.now) j ≡ Some c → slice_get owners.now j ≡ Some o
-        → slice_get flags.items c.number ≡ Some (is_member c.member o)) }
+        → slice_get flags.items c.number ≡ Some (is_owning_member c.member o)) }
 {
     let mut flags = Vec::new(alloc);
     flags.resize(claims.len(), false)?;
@@ -198,22 +198,22 @@ pub fn owners_of<'a, C: Contest>(
     contest: &C,
     claims: Vec<Claim<'a>>,
 ) -> Result<Owners<'a>, AllocError>
-    requires one_way { IsOneWay (C.beats contest.now) }
-    requires numbered { AreNumbered (map claim_seen claims.items) }
+    requires one_way { IsAsymmetric (C.beats contest.now) }
+    requires numbered { AreNumberedByPlace (map claim_seen claims.items) }
     // The claims in the order of their paths; those of one path keep their order.
     ensures claims { IfOk result (λ found. map claim_seen found.claims.items
         ≡ sorted_by claim_cmp (map claim_seen claims.entry.items)) }
     // For each of these the place of the member that owns its path, or none.
     ensures owners { IfOk result (λ found. found.owners.items
-        ≡ map (λ c. owner_by (C.beats contest.now) (map claim_seen claims.entry.items) c.path)
+        ≡ map (λ c. owner_among (C.beats contest.now) (map claim_seen claims.entry.items) c.path)
         (map claim_seen found.claims.items)) }
     // For each claim, in the order of the call's claims, whether its member owns its path.
     ensures owned { IfOk result (λ found. found.owned.items
-        ≡ map (is_owner_by (C.beats contest.now) (map claim_seen claims.entry.items))
+        ≡ map (is_claim_of_owner (C.beats contest.now) (map claim_seen claims.entry.items))
         (map claim_seen claims.entry.items)) }
     // The first path in byte order that no member owns, with its rivals.
     ensures contested { IfOk result (λ found. option_map contested_seen found.contested
-        ≡ contested_by (C.beats contest.now) (map claim_seen claims.entry.items)) }
+        ≡ first_contested_path (C.beats contest.now) (map claim_seen claims.entry.items)) }
 {
     let mut claims = claims;
     sort_claims(&mut claims)?;
@@ -231,7 +231,7 @@ pub fn owners_of<'a, C: Contest>(
 /// Two members that claim a path, each of which beats every other one, are the same member: so no
 /// path has two owners.
 pub fn a_path_has_one_owner()
-    ensures { (beats : ℕ → ℕ → Bool) (members : List ℕ) (x y : ℕ) → IsOneWay beats
+    ensures { (beats : ℕ → ℕ → Bool) (members : List ℕ) (x y : ℕ) → IsAsymmetric beats
         → list_any (λ z. x == z) members ≡ true → list_any (λ z. y == z) members ≡ true
         → beats_each beats members x ≡ true → beats_each beats members y ≡ true → x ≡ y }
 {}

@@ -8,7 +8,7 @@ use Rattle.std.proofs.lemmas.List.{at_drop_more, get_or_default}
 use Rattle.std.proofs.lemmas.Option.{get_or_from_slice_get, slice_get_within}
 use Rattle.base_core.specs.Files.{IsFolderOf}
 use Rattle.base_core.specs.Listed.{IsListOf}
-use Rattle.base_core.specs.Tree.{File, TreeState, bytes_at, files_of}
+use Rattle.base_core.specs.Tree.{File, TreeState, bytes_of_file_number, files_of}
 use Rattle.base_core.specs.ByteOrder.{bytes_cmp, precedes}
 use Rattle.base_core.proofs.Orderings.{precedes_one_way}
 use Rattle.path_clashes.specs.NearName.{IsNameFound, is_name_present}
@@ -66,11 +66,11 @@ fails_here p names i x here fails so_far =
 
 -- ---- in a listing
 
-there : (files : ℕ → File) (o : Option ℕ) → IsSome o → is_some (bytes_at files o) ≡ true
+there : (files : ℕ → File) (o : Option ℕ) → IsSome o → is_some (bytes_of_file_number files o) ≡ true
 there files None some = absurd (cc)
 there files (Some n) some = refl
 
-pub is_present : (files : ℕ → File) (o : Option ℕ) → is_some (bytes_at files o) ≡ true → IsSome o
+pub is_present : (files : ℕ → File) (o : Option ℕ) → is_some (bytes_of_file_number files o) ≡ true → IsSome o
 is_present files None some = absurd (cc)
 is_present files (Some n) some = refl
 

@@ -11,7 +11,7 @@ use Rattle.base_core.specs.Files.{IsFolderOf, no_names}
 use Rattle.base_core.specs.Name.{IsName}
 use Rattle.base_core.specs.ByteOrder.{bytes_cmp, precedes}
 use Rattle.path_clashes.specs.Clash.{NameChange, NamePair, precedes_pair}
-use Rattle.path_clashes.specs.FirstClash.{IsClashOverSomeFiles}
+use Rattle.path_clashes.specs.FirstClash.{IsFirstClashOverSomeFiles}
 use Rattle.path_clashes.specs.NearName.{IsFreshClash, MayBeClashNear, earlier_pair}
 use Rattle.path_clashes.proofs.Between.{between_names}
 use Rattle.path_clashes.proofs.Paths.{place_of}
@@ -90,9 +90,9 @@ module _ (change : NameChange) (names : List (List ℕ)) where
         at : MayBeClashNear change (name_before names i) name found
         at = subst (λ (l : List ℕ). MayBeClashNear change l name found) last near
 
-    pub all_may : (i : ℕ) (found : Option NamePair) → i ≡ length names → MayBeFirstSoFar i found → IsClashOverSomeFiles change found
+    pub all_may : (i : ℕ) (found : Option NamePair) → i ≡ length names → MayBeFirstSoFar i found → IsFirstClashOverSomeFiles change found
     all_may i found is so_far = by found (subst (λ n. MayBeFirstSoFar n found) is so_far)
       where
-        by : (found : Option NamePair) → MayBeFirstSoFar (length names) found → IsClashOverSomeFiles change found
+        by : (found : Option NamePair) → MayBeFirstSoFar (length names) found → IsFirstClashOverSomeFiles change found
         by None all = (no_names, λ pair clash. in_all change no_names names counting None all.none pair.path pair.other clash)
         by (Some pair) all = (files_of_pair pair, first_over_pair change pair all.one (λ other clash. in_all change no_names names counting (Some pair) all.none other.path other.other clash))

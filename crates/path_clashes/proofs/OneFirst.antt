@@ -11,7 +11,7 @@ use Rattle.std.proofs.lemmas.Map.Lookups.{exact_bytes}
 use Rattle.base_core.specs.Files.{Files}
 use Rattle.base_core.specs.ByteOrder.{bytes_cmp, precedes}
 use Rattle.path_clashes.specs.Clash.{NameChange, NamePair, precedes_pair}
-use Rattle.path_clashes.specs.FirstClash.{IsClashOf}
+use Rattle.path_clashes.specs.FirstClash.{IsFirstClashOrNone}
 
 pub one_name : (a b : List ℕ) → precedes a b ≡ false → precedes b a ≡ false → a ≡ b
 one_name a b first second = by (bytes_cmp a b) refl
@@ -40,7 +40,7 @@ one_pair a b first second = (λ i. record { path = path i; other = other i })
     other : a.other ≡ b.other
     other = one_name a.other b.other (by_other a.path b.path a.other b.other path ahead.1) (by_other b.path a.path b.other a.other (sym path) behind.1)
 
-pub one_first : (change : NameChange) (files : Files) (a b : Option NamePair) → IsClashOf change files a → IsClashOf change files b → a ≡ b
+pub one_first : (change : NameChange) (files : Files) (a b : Option NamePair) → IsFirstClashOrNone change files a → IsFirstClashOrNone change files b → a ≡ b
 one_first change files None None h g = refl
 one_first change files None (Some b) h g = absurd (h b g.is_one)
 one_first change files (Some a) None h g = absurd (g a h.is_one)
@@ -49,6 +49,6 @@ one_first change files (Some a) (Some b) h g =
     (one_pair a b (false_from_ne_true (precedes_pair a b) (g.first a h.is_one)) (false_from_ne_true (precedes_pair b a) (h.first b g.is_one)))
 
 pub same_first : (one other : NameChange) (files : Files) (found : Option NamePair) → ((name : List ℕ) → one.counts_as_written name ≡ other.counts_as_written name)
-    → ((name : List ℕ) → one.does_release name ≡ other.does_release name) → IsClashOf one files found → IsClashOf other files found
+    → ((name : List ℕ) → one.does_release name ≡ other.does_release name) → IsFirstClashOrNone one files found → IsFirstClashOrNone other files found
 same_first one other files found counts goes =
-    subst (λ (c : NameChange). IsClashOf c files found) (λ i. record { counts_as_written = λ name. counts name i; does_release = λ name. goes name i })
+    subst (λ (c : NameChange). IsFirstClashOrNone c files found) (λ i. record { counts_as_written = λ name. counts name i; does_release = λ name. goes name i })

@@ -18,7 +18,7 @@ use Rattle.adb_fields.specs.JoinedPath.{joined_path}
 use Rattle.adb_fields.specs.declared.file_path.FilePath.{FilePath}
 use Rattle.base_core.specs.Name.{IsName, is_name}
 use Rattle.base_core.specs.ByteOrder.{bytes_cmp}
-use Rattle.path_clashes.specs.WrittenPaths.{is_path_of}
+use Rattle.path_clashes.specs.WrittenPaths.{is_one_of_paths}
 
 -- ---- a path has a place
 
@@ -28,7 +28,7 @@ place_of names name any = Contains-from_any {eq = bytes_eq} (λ x y same. (bytes
 pub is_at : (names : List (List ℕ)) (k : ℕ) (d : List ℕ) → k < length names → list_any (bytes_eq (get_or names k d)) names ≡ true
 is_at names k d within = list_any_at (bytes_eq (get_or names k d)) names k d within ((bytes_decides (get_or names k d) (get_or names k d)).1 refl)
 
-pub path_is_name : (paths : List FilePath) (name : List ℕ) → All IsName (map joined_path paths) → is_path_of paths name ≡ true → IsName name
+pub path_is_name : (paths : List FilePath) (name : List ℕ) → All IsName (map joined_path paths) → is_one_of_paths paths name ≡ true → IsName name
 path_is_name paths name names any =
     let at = place_of (map joined_path paths) name any in
     subst IsName at.2 (names at.0 name at.1)
@@ -54,21 +54,21 @@ by_paths paths up k d low high =
 pub path_here : (paths : List FilePath) (k : ℕ) (d : FilePath) (name : List ℕ) → k < length paths → name ≡ joined_path (get_or paths k d) → (e : List ℕ) → get_or (map joined_path paths) k e ≡ name
 path_here paths k d name within is e = path_at paths k d e within ∙ sym is
 
-pub path_counts : (paths : List FilePath) (k : ℕ) (d : FilePath) (name : List ℕ) → k < length paths → name ≡ joined_path (get_or paths k d) → is_path_of paths name ≡ true
+pub path_counts : (paths : List FilePath) (k : ℕ) (d : FilePath) (name : List ℕ) → k < length paths → name ≡ joined_path (get_or paths k d) → is_one_of_paths paths name ≡ true
 path_counts paths k d name within is =
-    subst (λ (l : List ℕ). is_path_of paths l ≡ true) (path_here paths k d name within is []) (is_at (map joined_path paths) k [] (omega (arith, within, long paths)))
+    subst (λ (l : List ℕ). is_one_of_paths paths l ≡ true) (path_here paths k d name within is []) (is_at (map joined_path paths) k [] (omega (arith, within, long paths)))
 
 -- the order from the other side
 eq_by : (a name : List ℕ) (o : Ordering) → bytes_cmp a name ≡ o → bytes_eq name a ≡ is_eq (ordering_reverse o)
 eq_by a name o is = sym (is_eq-slice_cmp name a) ∙ ap is_eq (nat_list_cmp_total.antisymm name a ∙ ap ordering_reverse is)
 
-found_at : (paths : List FilePath) (name : List ℕ) (i : ℕ) → i < length paths → HoldsAt (λ (p : FilePath). bytes_cmp (joined_path p) name ≡ Equal) paths i → is_path_of paths name ≡ true
+found_at : (paths : List FilePath) (name : List ℕ) (i : ℕ) → i < length paths → HoldsAt (λ (p : FilePath). bytes_cmp (joined_path p) name ≡ Equal) paths i → is_one_of_paths paths name ≡ true
 found_at [] name i within here = absurd (omega arith)
 found_at (p ∷ paths) name i within here =
     list_any_at (bytes_eq name) (map joined_path (p ∷ paths)) i name (omega (arith, within, long (p ∷ paths)))
     (ap (bytes_eq name) (path_at (p ∷ paths) i p name within) ∙ eq_by (joined_path (get_or (p ∷ paths) i p)) name Equal (here p))
 
-found_nowhere : (paths : List FilePath) (name : List ℕ) (i : ℕ) → IsPartitionPoint (λ (p : FilePath). bytes_cmp (joined_path p) name ≡ Less) (λ (p : FilePath). bytes_cmp (joined_path p) name ≡ Greater) paths i → is_path_of paths name ≡ false
+found_nowhere : (paths : List FilePath) (name : List ℕ) (i : ℕ) → IsPartitionPoint (λ (p : FilePath). bytes_cmp (joined_path p) name ≡ Less) (λ (p : FilePath). bytes_cmp (joined_path p) name ≡ Greater) paths i → is_one_of_paths paths name ≡ false
 found_nowhere [] name i point = refl
 found_nowhere (p ∷ paths) name i point = list_any_none (bytes_eq name) (map joined_path (p ∷ paths)) each
   where
@@ -80,7 +80,7 @@ found_nowhere (p ∷ paths) name i point = list_any_none (bytes_eq name) (map jo
         (cases_lt k i)
 
 pub searched_paths : (paths : List FilePath) (name : List ℕ) (r : Result ℕ ℕ) → IsSorted bytes_cmp (map joined_path paths) → IsSearchInRange r (length paths)
-    → IsBinarySearchResult (λ (p : FilePath). bytes_cmp (joined_path p) name) paths r → is_ok r ≡ is_path_of paths name
+    → IsBinarySearchResult (λ (p : FilePath). bytes_cmp (joined_path p) name) paths r → is_ok r ≡ is_one_of_paths paths name
 searched_paths paths name (Ok i) up bound found = sym (found_at paths name i bound found)
 searched_paths paths name (Err i) up bound found =
     sym (found_nowhere paths name i (found (searchable_from_sorted nat_list_cmp_total joined_path paths name (by_paths paths up))))

@@ -8,7 +8,7 @@ use Rattle.base_core.specs.Files.{Files, IsFolderOf}
 use Rattle.base_core.specs.Name.{IsName}
 use Rattle.base_core.specs.ByteOrder.{bytes_cmp, precedes}
 use Rattle.path_clashes.specs.Clash.{NameChange, NamePair, precedes_pair}
-use Rattle.path_clashes.specs.FirstClash.{IsClashOf}
+use Rattle.path_clashes.specs.FirstClash.{IsFirstClashOrNone}
 use Rattle.path_clashes.specs.NearName.{IsClashIfSome, IsClashNear, IsNoEarlierClash, IsNotBefore, earlier_pair, is_name_present}
 use Rattle.path_clashes.proofs.Above.{nothing_above}
 use Rattle.path_clashes.proofs.NearClash.{clash_above}
@@ -157,12 +157,12 @@ module _ (change : NameChange) (files : Files) where
         present_files : change.counts_as_written other ≡ false → (is_name_present change.does_release files other || change.counts_as_written other) ≡ true → is_name_present change.does_release files other ≡ true
         present_files off after = ⊎_elim (λ s. s) (λ counts. absurd (true≢false (sym counts ∙ off))) (or_cases (is_name_present change.does_release files other) (change.counts_as_written other) after)
 
-    pub first_of_all : (found : Option NamePair) → IsFirstSoFar names (length names) found → IsClashOf change files found
+    pub first_of_all : (found : Option NamePair) → IsFirstSoFar names (length names) found → IsFirstClashOrNone change files found
     first_of_all None so_far = λ pair clash. in_all None so_far.none pair.path pair.other clash
     first_of_all (Some pair) so_far = record {
       is_one = so_far.is_one;
       first = λ other clash earlier. true≢false (sym earlier ∙ in_all (Some pair) so_far.none other.path other.other clash);
     }
 
-    pub all_told : (i : ℕ) (found : Option NamePair) → i ≡ length names → IsFirstSoFar names i found → IsClashOf change files found
+    pub all_told : (i : ℕ) (found : Option NamePair) → i ≡ length names → IsFirstSoFar names i found → IsFirstClashOrNone change files found
     all_told i found is so_far = first_of_all found (subst (λ n. IsFirstSoFar names n found) is so_far)

@@ -15,9 +15,9 @@ abbrev pub name_if : Bool → List ℕ → Option (List ℕ)
 name_if b name = if b then Some name else None
 
 -- files of which exactly this name, if there is one, is present
-abbrev pub files_with : Option (List ℕ) → Files
-files_with None q = None
-files_with (Some name) q = if bytes_eq q name then Some [] else None
+abbrev pub files_with_only_name : Option (List ℕ) → Files
+files_with_only_name None q = None
+files_with_only_name (Some name) q = if bytes_eq q name then Some [] else None
 
 -- ---- above
 

@@ -8,10 +8,10 @@ use Rattle.adb_fields.specs.declared.file_path.FilePath.{FilePath}
 use Rattle.path_clashes.specs.Clash.{NameChange}
 
 -- whether one of the paths is this name
-abbrev pub is_path_of : List FilePath → List ℕ → Bool
-is_path_of paths name = list_any (bytes_eq name) (map joined_path paths)
+abbrev pub is_one_of_paths : List FilePath → List ℕ → Bool
+is_one_of_paths paths name = list_any (bytes_eq name) (map joined_path paths)
 
 -- the change of names by which exactly these paths count as written
-abbrev pub change_by_paths : List FilePath → (List ℕ → Bool) → NameChange
-change_by_paths written does_release =
-    record { counts_as_written = is_path_of written; does_release = does_release }
+abbrev pub name_change_of_paths : List FilePath → (List ℕ → Bool) → NameChange
+name_change_of_paths written does_release =
+    record { counts_as_written = is_one_of_paths written; does_release = does_release }

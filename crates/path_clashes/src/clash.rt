@@ -13,9 +13,9 @@ ghost use Rattle.base_core.specs.Tree.{files_of};
 ghost use Rattle.base_core.specs.ByteOrder.{bytes_cmp};
 ghost use Rattle.path_clashes.specs.Clash.{precedes_pair, HasNoClash, NameChange, NamePair, is_name_after};
 ghost use Rattle.path_clashes.specs.ClashSeen.{clash_seen};
-ghost use Rattle.path_clashes.specs.FirstClash.{IsClashOf, IsClashOverSomeFiles};
+ghost use Rattle.path_clashes.specs.FirstClash.{IsFirstClashOrNone, IsFirstClashOverSomeFiles};
 ghost use Rattle.path_clashes.specs.NearName.{IsClashNear, MayBeClashNear, earlier_pair};
-ghost use Rattle.path_clashes.specs.WrittenPaths.{change_by_paths, is_path_of};
+ghost use Rattle.path_clashes.specs.WrittenPaths.{name_change_of_paths, is_one_of_paths};
 
 use crate::near::{first_below, first_folder};
 use adb_fields::FilePath;
@@ -105,14 +105,14 @@ fn clash_near<T: Tree, G: IsReleased>(
 ) -> Result<Option<Clash>, TreeFault>
     requires sorted { IsSorted bytes_cmp (map joined_path written.now) }
     requires names { All IsName (map joined_path written.now) }
-    requires written { is_path_of written.now bytes.now ≡ true }
+    requires written { is_one_of_paths written.now bytes.now ≡ true }
     // If the tree's files are observable.
     ensures near { IfOk result (λ found. IfObservable (T.history tree.old) (λ v.
-        IsClashNear (change_by_paths written.now (G.does_release let_go.now)) (files_of v)
+        IsClashNear (name_change_of_paths written.now (G.does_release let_go.now)) (files_of v)
         before.now bytes.now (option_map clash_seen found))) }
     // Over any tree, even one whose files are not observable.
     ensures may { IfOk result (λ found. MayBeClashNear
-        (change_by_paths written.now (G.does_release let_go.now))
+        (name_change_of_paths written.now (G.does_release let_go.now))
         before.now bytes.now (option_map clash_seen found)) }
     ensures tree { OnlyReads TreeFault.Disk (T.history tree.old) (T.history tree.new)
         (T.counts tree.old) (T.counts tree.new) result }
@@ -151,12 +151,12 @@ pub fn first_clash<T: Tree, G: IsReleased>(
     requires names { All IsName (map joined_path written.now) }
     // If the tree's files are observable.
     ensures first { IfOk result (λ found. IfObservable (T.history tree.old) (λ v.
-        IsClashOf (change_by_paths written.now (G.does_release let_go.now)) (files_of v)
+        IsFirstClashOrNone (name_change_of_paths written.now (G.does_release let_go.now)) (files_of v)
         (option_map clash_seen found))) }
     // Over any tree, even one whose files are not observable: it is the first clash over some
     // files, or there is none over some.
-    ensures may { IfOk result (λ found. IsClashOverSomeFiles
-        (change_by_paths written.now (G.does_release let_go.now)) (option_map clash_seen found)) }
+    ensures may { IfOk result (λ found. IsFirstClashOverSomeFiles
+        (name_change_of_paths written.now (G.does_release let_go.now)) (option_map clash_seen found)) }
     ensures tree { OnlyReads TreeFault.Disk (T.history tree.old) (T.history tree.new)
         (T.counts tree.old) (T.counts tree.new) result }
 {
@@ -198,7 +198,7 @@ pub fn files_without_a_clash_have_no_file_as_folder()
 /// A change has one first clash, or none: so the refusal is a function of the change and the files.
 pub fn a_change_has_one_first_clash()
     ensures { (change : NameChange) (files : Files) (one other : Option NamePair)
-        → IsClashOf change files one → IsClashOf change files other → one ≡ other }
+        → IsFirstClashOrNone change files one → IsFirstClashOrNone change files other → one ≡ other }
 {}
 
 /// Changes that agree on each name have the same first clash: so names may be given as lists or by
@@ -207,5 +207,5 @@ pub fn changes_that_agree_clash_alike()
     ensures { (one other : NameChange) (files : Files) (found : Option NamePair)
         → ((name : List ℕ) → one.counts_as_written name ≡ other.counts_as_written name)
         → ((name : List ℕ) → one.does_release name ≡ other.does_release name)
-        → IsClashOf one files found → IsClashOf other files found }
+        → IsFirstClashOrNone one files found → IsFirstClashOrNone other files found }
 {}

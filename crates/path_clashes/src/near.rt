@@ -12,8 +12,8 @@ ghost use Rattle.base_core.specs.Read.{OnlyReads};
 ghost use Rattle.base_core.specs.Tree.{files_of};
 ghost use Rattle.base_core.specs.ByteOrder.{bytes_cmp};
 ghost use Rattle.path_clashes.specs.Clash.{is_name_after};
-ghost use Rattle.path_clashes.specs.NearName.{IsFolderFound, IsNameFound, files_with, is_name_present, name_if};
-ghost use Rattle.path_clashes.specs.WrittenPaths.{change_by_paths, is_path_of};
+ghost use Rattle.path_clashes.specs.NearName.{IsFolderFound, IsNameFound, files_with_only_name, is_name_present, name_if};
+ghost use Rattle.path_clashes.specs.WrittenPaths.{name_change_of_paths, is_one_of_paths};
 
 use crate::clash::IsReleased;
 use adb_fields::FilePath;
@@ -21,9 +21,9 @@ use base_core::{Name, Names, Tree, TreeFault};
 use std::alloc::{AllocError, Global};
 
 /// Whether a name is one of these paths, by binary search.
-fn is_path_of(paths: &[FilePath<'_>], name: &[u8]) -> bool
+fn is_one_of_paths(paths: &[FilePath<'_>], name: &[u8]) -> bool
     requires { IsSorted bytes_cmp (map joined_path paths.now) }
-    ensures { result ≡ is_path_of paths.now name.now }
+    ensures { result ≡ is_one_of_paths paths.now name.now }
 {
     let path = FilePath { folder: b"", name };
     paths.binary_search_by(|other| other.compare(&path)).is_ok()
@@ -62,18 +62,18 @@ fn folder_after<T: Tree, G: IsReleased>(
     requires sorted { IsSorted bytes_cmp (map joined_path written.now) }
     requires names { All IsName (map joined_path written.now) }
     ensures found { IfOk result (λ found. IfObservable (T.history tree.old) (λ v.
-        found ≡ name_if (is_name_after (change_by_paths written.now (G.does_release let_go.now))
+        found ≡ name_if (is_name_after (name_change_of_paths written.now (G.does_release let_go.now))
         (files_of v) folder.now) folder.now)) }
     ensures may { IfOk result (λ found.
-        found ≡ name_if (is_name_after (change_by_paths written.now (G.does_release let_go.now))
-        (files_with found) folder.now) folder.now) }
+        found ≡ name_if (is_name_after (name_change_of_paths written.now (G.does_release let_go.now))
+        (files_with_only_name found) folder.now) folder.now) }
     ensures tree { OnlyReads TreeFault.Disk (T.history tree.old) (T.history tree.new)
         (T.counts tree.old) (T.counts tree.new) result }
 {
     let Some(name) = Name::read(alloc, folder)? else {
         return Ok(None);
     };
-    if is_path_of(written, folder) || is_name_present(tree, let_go, &name)? {
+    if is_one_of_paths(written, folder) || is_name_present(tree, let_go, &name)? {
         return Ok(Some(name));
     }
     Ok(None)
@@ -92,10 +92,10 @@ pub(crate) fn first_folder<T: Tree, G: IsReleased>(
     requires sorted { IsSorted bytes_cmp (map joined_path written.now) }
     requires names { All IsName (map joined_path written.now) }
     ensures found { IfOk result (λ found. IfObservable (T.history tree.old) (λ v.
-        IsFolderFound (change_by_paths written.now (G.does_release let_go.now)) (files_of v)
+        IsFolderFound (name_change_of_paths written.now (G.does_release let_go.now)) (files_of v)
         name.now len found)) }
     ensures may { IfOk result (λ found.
-        IsFolderFound (change_by_paths written.now (G.does_release let_go.now)) (files_with found)
+        IsFolderFound (name_change_of_paths written.now (G.does_release let_go.now)) (files_with_only_name found)
         name.now len found) }
     ensures tree { OnlyReads TreeFault.Disk (T.history tree.old) (T.history tree.new)
         (T.counts tree.old) (T.counts tree.new) result }
@@ -138,7 +138,7 @@ pub(crate) fn first_below<T: Tree, G: IsReleased>(
     ensures found { IfOk result (λ found. IfObservable (T.history tree.old) (λ v.
         IsNameFound (G.does_release let_go.now) (files_of v) folder.now found)) }
     ensures may { IfOk result (λ found.
-        IsNameFound (G.does_release let_go.now) (files_with found) folder.now found) }
+        IsNameFound (G.does_release let_go.now) (files_with_only_name found) folder.now found) }
     ensures tree { OnlyReads TreeFault.Disk (T.history tree.old) (T.history tree.new)
         (T.counts tree.old) (T.counts tree.new) result }
 {

@@ -140,7 +140,7 @@ fn add_each(
         let Some(file) = left.take() else {
             return add_word(answer, b"end");
         };
-        let len = file.next_len();
+        let len = file.next_piece_len();
         if len > rest.len() {
             return add_word(answer, b"too few bytes");
         }
@@ -203,7 +203,7 @@ fn add_opened(alloc: Global, words: &Words, answer: &mut Vec<u8>) -> Result<(), 
         match open_file(&mut walk, len, &positions) {
             Ok(file) => {
                 add_word(answer, b"a piece of ")?;
-                add_number(alloc, answer, file.next_len() as u128)?;
+                add_number(alloc, answer, file.next_piece_len() as u128)?;
             }
             Err(cause) => add_cause(alloc, cause, answer)?,
         }

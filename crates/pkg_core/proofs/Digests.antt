@@ -17,24 +17,24 @@ use Rattle.adb_schema.specs.adb_fields.Repeated.{list_of, files_in}
 use Rattle.adb_schema.specs.Rules.{is_digest_length, is_digest_length_or_none}
 use Rattle.adb_view.specs.Schema.{shape_of, shapes_of, table}
 use Rattle.adb_schema.specs.Texts.{Surroundings, Leaf, text_leaf, keeps_rule, leaves, field_leaves, each_leaf, surroundings_of_fields, surroundings_of_root, leaves_of, text_fault, text_rule, is_with_contents, needs_hash}
-use Rattle.adb_schema.specs.FirstBad.{IsFirstBadOf}
+use Rattle.adb_schema.specs.FirstBad.{IsFirstBadLeafIfAny}
 use Rattle.adb_view.specs.Values.{nth, entries_in, entry_in, int_in, text_in}
 use Rattle.adb_view.specs.declared.tables.Which.{Which}
 use Rattle.adb_view.specs.declared.tables.Kind.TheVariants.{Obj}
 use Rattle.adb_view.specs.declared.tables.Which.TheVariants as Tables
 use Rattle.pkg_core.specs.Contents.{Contents, Expected, digest_fault, expected_at, expected_contents, expected_files, expected_folders, hash_fault}
-use Rattle.pkg_core.specs.GoodContents.{AreContentsOf, AreTrueTo, HaveDigests, IsDigestOf}
+use Rattle.pkg_core.specs.GoodContents.{AreContentsOf, MatchEachExpected, HaveDigests, IsDigestOf}
 
 -- ---- if nothing is told, each text and number keeps its rule
 
 -- what is told of texts, as adb_schema's law says
 abbrev pub HasFirstValue : Type 0
-HasFirstValue = (which : Which) (v : Plain) → IsFirstBadOf (leaves_of which v) (text_fault which v)
+HasFirstValue = (which : Which) (v : Plain) → IsFirstBadLeafIfAny (leaves_of which v) (text_fault which v)
 
 abbrev Keep : List Leaf → Type 0
 Keep all = list_all keeps_rule all ≡ true
 
-none_told : (all : List Leaf) (o : Option Cause) → IsFirstBadOf all o → o ≡ None → Keep all
+none_told : (all : List Leaf) (o : Option Cause) → IsFirstBadLeafIfAny all o → o ≡ None → Keep all
 none_told all None t e = t
 none_told all (Some c) t e = (cc)
 
@@ -144,7 +144,7 @@ digest_is wanted bytes h e =
       ]
     ]
 
-pub true_contents : (es : List Expected) (all : List Contents) → HaveDigests es → AreContentsOf es all → AreTrueTo es all
+pub true_contents : (es : List Expected) (all : List Contents) → HaveDigests es → AreContentsOf es all → MatchEachExpected es all
 true_contents [] [] d h = tt
 true_contents [] (c ∷ cs) d h = h
 true_contents (e ∷ es) [] d h = h

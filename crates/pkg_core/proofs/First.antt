@@ -4,14 +4,14 @@ use Rattle.std.specs.Prelude.{Result, Ok, Err, slice_get}
 use Rattle.std.specs.Result.{result_err}
 use Rattle.base_core.specs.declared.cause.Cause.{Cause}
 use Rattle.base_core.specs.declared.cause.Cause.TheVariants.{Truncated}
-use Rattle.adb_block.specs.AllBlocks.{pieces_of, with_block}
+use Rattle.adb_block.specs.AllBlocks.{blocks_of_stream, with_block}
 use Rattle.adb_block.specs.Piece.{Piece}
 use Rattle.adb_block.specs.Reading.{Reading, done, fault, more}
 use Rattle.adb_block.specs.declared.block.BlockKind.{BlockKind}
 use Rattle.adb_block.specs.declared.block.BlockKind.TheVariants as Kinds
 use Rattle.pkg_core.specs.Contents as C
-use Rattle.pkg_core.specs.Contents.{Expected, FilesRead, contents_fault, fault_in, files_by_blocks}
-use Rattle.pkg_core.specs.FirstContents.{PlacedPayload, blocks_of_contents, contents_test, with_contents, IsFirstContentsFault}
+use Rattle.pkg_core.specs.Contents.{Expected, FilesRead, contents_fault, fault_of_files_read, files_read_from_blocks}
+use Rattle.pkg_core.specs.FirstContents.{PlacedPayload, blocks_of_contents, contents_test, with_block_if_contents, IsFirstContentsFault}
 
 -- the first of the tests of these blocks, with this framing after them
 record IsFirst (blocks : List PlacedPayload) (framing : Option Cause) (es : List Expected) (c : Cause) : Type 0 where
@@ -20,7 +20,7 @@ record IsFirst (blocks : List PlacedPayload) (framing : Option Cause) (es : List
   pub fault : contents_test framing (drop k es) (slice_get blocks k) ≡ Some c
   pub before : (j : ℕ) → j < k → contents_test framing (drop j es) (slice_get blocks j) ≡ None
 
-end_fault : (es : List Expected) (c : Cause) → fault_in (C.unless_fault (C.missing_fault es) C.no_more) ≡ Some c → C.missing_fault es ≡ Some c
+end_fault : (es : List Expected) (c : Cause) → fault_of_files_read (C.unless_fault (C.missing_contents_fault es) C.no_more) ≡ Some c → C.missing_contents_fault es ≡ Some c
 end_fault [] c h = absurd cc
 end_fault (e ∷ es) c h = h
 
@@ -39,15 +39,15 @@ one_later block blocks framing e es c good f =
     earlier (suc j) lt = f.before j (omega arith)
 
 at_contents : (payload : List ℕ) (at : ℕ) (further : List Expected → FilesRead) (blocks : List PlacedPayload) (framing : Option Cause) (es : List Expected) (c : Cause)
-    → ((left : List Expected) → fault_in (further left) ≡ Some c → IsFirst blocks framing left c)
-    → (o : Option Cause) → C.contents_block_fault payload at es ≡ o → fault_in (C.unless_fault o (C.with_next payload further es)) ≡ Some c → IsFirst ((payload, at) ∷ blocks) framing es c
+    → ((left : List Expected) → fault_of_files_read (further left) ≡ Some c → IsFirst blocks framing left c)
+    → (o : Option Cause) → C.contents_block_fault payload at es ≡ o → fault_of_files_read (C.unless_fault o (C.with_contents_of_next payload further es)) ≡ Some c → IsFirst ((payload, at) ∷ blocks) framing es c
 at_contents payload at further blocks framing es c ih (Some d) e h = record { k = 0; reached = omega arith; fault = e ∙ h; before = λ j lt. absurd (omega arith) }
-at_contents payload at further blocks framing [] c ih None e h = absurd (let n = whole_block (nat_lt (length payload) 8) (Truncated at) (C.next_fault payload []) e in cc)
+at_contents payload at further blocks framing [] c ih None e h = absurd (let n = whole_block (nat_lt (length payload) 8) (Truncated at) (C.next_contents_fault payload []) e in cc)
 at_contents payload at further blocks framing (x ∷ es) c ih None e h = one_later (payload, at) blocks framing x es c e (ih es h)
 
 at_block : (kind : BlockKind) (payload : List ℕ) (at : ℕ) (further : List Expected → FilesRead) (blocks : List PlacedPayload) (framing : Option Cause) (es : List Expected) (c : Cause)
-    → ((left : List Expected) → fault_in (further left) ≡ Some c → IsFirst blocks framing left c)
-    → fault_in (C.files_at_block kind payload at further es) ≡ Some c → IsFirst (with_contents kind (payload, at) blocks) framing es c
+    → ((left : List Expected) → fault_of_files_read (further left) ≡ Some c → IsFirst blocks framing left c)
+    → fault_of_files_read (C.files_at_block kind payload at further es) ≡ Some c → IsFirst (with_block_if_contents kind (payload, at) blocks) framing es c
 at_block Kinds.Adb payload at further blocks framing es c ih h = ih es h
 at_block Kinds.Signature payload at further blocks framing es c ih h = ih es h
 at_block Kinds.Contents payload at further blocks framing es c ih h = at_contents payload at further blocks framing es c ih (C.contents_block_fault payload at es) refl h
@@ -56,13 +56,13 @@ framed_after : (b : Piece) (r : Result (List Piece) Cause) → result_err r ≡ 
 framed_after b (Ok bs) = refl
 framed_after b (Err c) = refl
 
-first_of : (es : List Expected) (r : Reading) (c : Cause) → contents_fault es r ≡ Some c → IsFirst (blocks_of_contents r) (result_err (pieces_of r)) es c
-unfolding files_by_blocks
+first_of : (es : List Expected) (r : Reading) (c : Cause) → contents_fault es r ≡ Some c → IsFirst (blocks_of_contents r) (result_err (blocks_of_stream r)) es c
+unfolding files_read_from_blocks
 first_of es done c h = record { k = 0; reached = omega arith; fault = end_fault es c h; before = λ j lt. absurd (omega arith) }
 first_of es (fault d) c h = record { k = 0; reached = omega arith; fault = h; before = λ j lt. absurd (omega arith) }
 first_of es (more b at r) c h =
-    subst (λ (f : Option Cause). IsFirst (blocks_of_contents (more b at r)) f es c) (framed_after b (pieces_of r))
-    (at_block b.kind b.payload at (λ left. files_by_blocks left r) (blocks_of_contents r) (result_err (pieces_of r)) es c (λ left g. first_of left r c g) h)
+    subst (λ (f : Option Cause). IsFirst (blocks_of_contents (more b at r)) f es c) (framed_after b (blocks_of_stream r))
+    (at_block b.kind b.payload at (λ left. files_read_from_blocks left r) (blocks_of_contents r) (result_err (blocks_of_stream r)) es c (λ left g. first_of left r c g) h)
 
 pub first_told : (es : List Expected) (r : Reading) (c : Cause) → contents_fault es r ≡ Some c → IsFirstContentsFault es r c
 first_told es r c h = let f = first_of es r c h in record { k = f.k; reached = f.reached; fault = f.fault; before = f.before }

@@ -4,8 +4,8 @@ use Rattle.std.specs.Prelude.{IsErrAnd}
 use Rattle.std.proofs.lemmas.List.{length-append}
 use Rattle.base_core.specs.declared.cause.Cause.{Cause}
 use Rattle.base_core.specs.Tree.{TreeState}
-use Rattle.pkg_core.specs.Front.{IsPresentRead, front_fault}
-use Rattle.pkg_core.specs.Seen.{AreBytesRead, HasAt, IsSeenIn}
+use Rattle.pkg_core.specs.Front.{IsFrontReadOfFile, front_fault}
+use Rattle.pkg_core.specs.Seen.{AreBytesRead, HasBytesAtOffset, IsSeenIn}
 use Rattle.pkg_core.specs.declared.front.Front.{Front}
 use Rattle.pkg_core.specs.declared.front.FrontFault.{FrontFault}
 use Rattle.pkg_core.specs.declared.front.FrontFault.TheVariants.{Bad, Disk, Memory}
@@ -36,13 +36,13 @@ payload_seen h later name front payload len at same n le seen further =
 
 -- ---- what is answered
 
-pub present_bad : (schema : ℕ) (r : Result Front FrontFault) (seen : ℕ) (file : List ℕ) (c : Cause) → IsErrAnd r (λ fault. fault ≡ Bad c) → front_fault schema file ≡ Some c → IsPresentRead schema r seen file
+pub present_bad : (schema : ℕ) (r : Result Front FrontFault) (seen : ℕ) (file : List ℕ) (c : Cause) → IsErrAnd r (λ fault. fault ≡ Bad c) → front_fault schema file ≡ Some c → IsFrontReadOfFile schema r seen file
 present_bad schema (Ok front) seen file c is bad = absurd is
 present_bad schema (Err (Bad d)) seen file c is bad = let e : Bad d ≡ Bad c = is in let same : c ≡ d = (cc) in subst (λ (x : Cause). front_fault schema file ≡ Some x) same bad
 present_bad schema (Err Disk) seen file c is bad = tt
 present_bad schema (Err Memory) seen file c is bad = tt
 
-pub present_disk : (schema : ℕ) (r : Result Front FrontFault) (seen : ℕ) (file : List ℕ) (fault : FrontFault) → IsErrAnd r (λ other. other ≡ fault) → fault ≡ Disk → IsPresentRead schema r seen file
+pub present_disk : (schema : ℕ) (r : Result Front FrontFault) (seen : ℕ) (file : List ℕ) (fault : FrontFault) → IsErrAnd r (λ other. other ≡ fault) → fault ≡ Disk → IsFrontReadOfFile schema r seen file
 present_disk schema (Ok front) seen file fault is disk = absurd is
 present_disk schema (Err (Bad d)) seen file fault is disk = absurd (let e : Bad d ≡ Disk = is ∙ disk in (cc))
 present_disk schema (Err Disk) seen file fault is disk = tt
@@ -53,7 +53,7 @@ bad_not_disk c e = (cc)
 
 -- ---- the header
 
-pub header_is : (file header : List ℕ) (len schema found : ℕ) → length header ≡ min len 8 → length file ≡ len → HasAt file 0 header → header_of header ≡ Ok found → found ≡ schema → header_of file ≡ Ok schema
+pub header_is : (file header : List ℕ) (len schema found : ℕ) → length header ≡ min len 8 → length file ≡ len → HasBytesAtOffset file 0 header → header_of header ≡ Ok found → found ≡ schema → header_of file ≡ Ok schema
 header_is file header len schema found n long has is same = sym (header_front file header len n long has) ∙ (is ∙ ap (λ (k : ℕ). Ok k) same)
 
 -- ---- the padding, which nobody reads

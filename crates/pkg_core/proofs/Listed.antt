@@ -6,7 +6,7 @@ use Rattle.adb_schema.specs.Texts.{is_with_contents}
 use Rattle.adb_schema.specs.adb_fields.Repeated.{list_of}
 use Rattle.adb_schema.proofs.adb_fields.Listed.{next_listed, none_listed}
 use Rattle.pkg_core.specs.Contents.{Expected, expected_at, expected_files, expected_folders}
-use Rattle.pkg_core.specs.Opened.{left_from}
+use Rattle.pkg_core.specs.Opened.{files_left_from}
 
 -- a file more, with contents or without
 file_more : (d i : ℕ) (vs : Plains) → i < count_of vs → expected_files d (i + 1) (drop i (list_of vs)) ≡ expected_at d (i + 1) (nth vs i) ++ expected_files d (i + 1 + 1) (drop (i + 1) (list_of vs))
@@ -37,20 +37,20 @@ pub no_file : (d j i : ℕ) (v : Plain) → count_of (entries_in v) ≤ i → ex
 no_file d j i v h = ap (expected_files d j) (none_listed (entries_in v) i h)
 
 -- a folder more
-at_folder : (i : ℕ) (folders : List Plain) → left_from i 0 folders ≡ expected_folders i folders
+at_folder : (i : ℕ) (folders : List Plain) → files_left_from i 0 folders ≡ expected_folders i folders
 at_folder i [] = refl
 at_folder i (d ∷ ds) = refl
 
 folder_more : (i j : ℕ) (v d fs : Plain) → i < count_of (entries_in v) → d ≡ entry_in v (i + 1 - 1) → fs ≡ entry_in d 2
-    → left_from (i + 1) j (drop i (list_of (entries_in v))) ≡ expected_files (i + 1) (j + 1) (drop j (list_of (entries_in fs))) ++ expected_folders (i + 1 + 1) (drop (i + 1) (list_of (entries_in v)))
+    → files_left_from (i + 1) j (drop i (list_of (entries_in v))) ≡ expected_files (i + 1) (j + 1) (drop j (list_of (entries_in fs))) ++ expected_folders (i + 1 + 1) (drop (i + 1) (list_of (entries_in v)))
 folder_more i j v d fs lt is files =
     let at : fs ≡ entry_in (entry_in v i) 2 = files ∙ (ap (λ (g : Plain). entry_in g 2) is ∙ ap (λ n. entry_in (entry_in v n) 2) (omega arith)) in
-    ap (left_from (i + 1) j) (next_listed (entries_in v) i lt)
+    ap (files_left_from (i + 1) j) (next_listed (entries_in v) i lt)
     ∙ ap (λ (g : Plain). expected_files (i + 1) (j + 1) (drop j (list_of (entries_in g))) ++ expected_folders (i + 1 + 1) (drop (i + 1) (list_of (entries_in v)))) (sym at)
 
 pub some_left : (i j k : ℕ) (v d fs : Plain) (w : Expected) → i < count_of (entries_in v) → d ≡ entry_in v (i + 1 - 1) → fs ≡ entry_in d 2
     → expected_files (i + 1) (j + 1) (drop j (list_of (entries_in fs))) ≡ w ∷ expected_files (i + 1) (k + 1) (drop k (list_of (entries_in fs)))
-    → left_from (i + 1) j (drop i (list_of (entries_in v))) ≡ w ∷ left_from (i + 1) k (drop i (list_of (entries_in v)))
+    → files_left_from (i + 1) j (drop i (list_of (entries_in v))) ≡ w ∷ files_left_from (i + 1) k (drop i (list_of (entries_in v)))
 some_left i j k v d fs w lt is files e =
     let others : List Expected = expected_folders (i + 1 + 1) (drop (i + 1) (list_of (entries_in v))) in
     folder_more i j v d fs lt is files
@@ -59,11 +59,11 @@ some_left i j k v d fs w lt is files e =
 
 pub folder_left : (i j : ℕ) (v d fs : Plain) → i < count_of (entries_in v) → d ≡ entry_in v (i + 1 - 1) → fs ≡ entry_in d 2
     → expected_files (i + 1) (j + 1) (drop j (list_of (entries_in fs))) ≡ []
-    → left_from (i + 1) j (drop i (list_of (entries_in v))) ≡ left_from (i + 1 + 1) 0 (drop (i + 1) (list_of (entries_in v)))
+    → files_left_from (i + 1) j (drop i (list_of (entries_in v))) ≡ files_left_from (i + 1 + 1) 0 (drop (i + 1) (list_of (entries_in v)))
 folder_left i j v d fs lt is files e =
     folder_more i j v d fs lt is files
     ∙ (ap (λ es. es ++ expected_folders (i + 1 + 1) (drop (i + 1) (list_of (entries_in v)))) e
     ∙ sym (at_folder (i + 1 + 1) (drop (i + 1) (list_of (entries_in v)))))
 
-pub none_left : (i j : ℕ) (v : Plain) → count_of (entries_in v) ≤ i → left_from (i + 1) j (drop i (list_of (entries_in v))) ≡ []
-none_left i j v h = ap (left_from (i + 1) j) (none_listed (entries_in v) i h)
+pub none_left : (i j : ℕ) (v : Plain) → count_of (entries_in v) ≤ i → files_left_from (i + 1) j (drop i (list_of (entries_in v))) ≡ []
+none_left i j v h = ap (files_left_from (i + 1) j) (none_listed (entries_in v) i h)

@@ -7,7 +7,7 @@ use Rattle.adb_view.specs.Values.{nth, count_of, entries_in, entry_in, int_in, t
 use Rattle.adb_schema.specs.Texts.{is_with_contents}
 use Rattle.adb_schema.specs.adb_fields.Repeated.{files_in, list_of}
 use Rattle.pkg_core.specs.Contents.{Expected, expected_at, expected_files, expected_folders}
-use Rattle.pkg_core.specs.Opened.{expected_file_at, has_positions}
+use Rattle.pkg_core.specs.Opened.{expected_file_at, is_expected_at}
 
 -- ---- lists
 
@@ -26,20 +26,20 @@ find_by_first {X} p (x ∷ xs) ys absent = ap (λ (o : Option X). cond (p x) (So
 apart : (a b : ℕ) → (a ≡ b → ⊥) → (a == b) ≡ false
 apart a b other = false_from_ne_true (a == b) (λ e. other (eqb-true a b e))
 
-other_folder : (folder file : ℕ) (e : Expected) → (e.folder ≡ folder → ⊥) → has_positions folder file e ≡ false
+other_folder : (folder file : ℕ) (e : Expected) → (e.folder ≡ folder → ⊥) → is_expected_at folder file e ≡ false
 other_folder folder file e other = ap (λ (b : Bool). b && (e.file == file)) (apart e.folder folder other)
 
 and_false : (b : Bool) → b && false ≡ false
 and_false true = refl
 and_false false = refl
 
-other_file_of : (folder file : ℕ) (e : Expected) → (e.file ≡ file → ⊥) → has_positions folder file e ≡ false
+other_file_of : (folder file : ℕ) (e : Expected) → (e.file ≡ file → ⊥) → is_expected_at folder file e ≡ false
 other_file_of folder file e other = ap (λ (b : Bool). (e.folder == folder) && b) (apart e.file file other) ∙ and_false (e.folder == folder)
 
 -- ---- a file that may have contents
 
-passed_by : (b : Bool) (folder file : ℕ) (e : Expected) (es : List Expected) → has_positions folder file e ≡ false → expected_file_at folder file ((if b then e ∷ [] else []) ++ es) ≡ expected_file_at folder file es
-passed_by true folder file e es other = ap (λ (t : Bool). cond t (Some e) (find (has_positions folder file) es)) other
+passed_by : (b : Bool) (folder file : ℕ) (e : Expected) (es : List Expected) → is_expected_at folder file e ≡ false → expected_file_at folder file ((if b then e ∷ [] else []) ++ es) ≡ expected_file_at folder file es
+passed_by true folder file e es other = ap (λ (t : Bool). cond t (Some e) (find (is_expected_at folder file) es)) other
 passed_by false folder file e es other = refl
 
 abbrev expected_file : ℕ → ℕ → Plain → Expected
@@ -62,8 +62,8 @@ none_of_folder d folder file i (f ∷ fs) other =
     passed_by (is_with_contents f) folder file (expected_file d i f) (expected_files d (i + 1) fs) (other_folder folder file (expected_file d i f) other)
     ∙ none_of_folder d folder file (i + 1) fs other
 
-met : (b : Bool) (folder file : ℕ) (e : Expected) (es : List Expected) → has_positions folder file e ≡ true → expected_file_at folder file es ≡ None → expected_file_at folder file ((if b then e ∷ [] else []) ++ es) ≡ (if b then Some e else None)
-met true folder file e es is absent = ap (λ (t : Bool). cond t (Some e) (find (has_positions folder file) es)) is
+met : (b : Bool) (folder file : ℕ) (e : Expected) (es : List Expected) → is_expected_at folder file e ≡ true → expected_file_at folder file es ≡ None → expected_file_at folder file ((if b then e ∷ [] else []) ++ es) ≡ (if b then Some e else None)
+met true folder file e es is absent = ap (λ (t : Bool). cond t (Some e) (find (is_expected_at folder file) es)) is
 met false folder file e es is absent = absent
 
 same_positions : (folder file : ℕ) → ((folder == folder) && (file == file)) ≡ true
@@ -95,7 +95,7 @@ file_before folder file i vs before = none_behind folder folder file i vs before
 folders_behind : (folder file i : ℕ) (ds : List Plain) → folder < i → expected_file_at folder file (expected_folders i ds) ≡ None
 folders_behind folder file i [] behind = refl
 folders_behind folder file i (d ∷ ds) behind =
-    find_joined (has_positions folder file) (expected_files i 1 (files_in d)) (expected_folders (i + 1) ds) (none_of_folder i folder file 1 (files_in d) (λ e. omega (arith, e, behind)))
+    find_joined (is_expected_at folder file) (expected_files i 1 (files_in d)) (expected_folders (i + 1) ds) (none_of_folder i folder file 1 (files_in d) (λ e. omega (arith, e, behind)))
     ∙ folders_behind folder file (i + 1) ds (omega (arith, behind))
 
 pub folder_at : (file i k : ℕ) (vs : Plains) → k < count_of vs → expected_file_at (i + k) file (expected_folders i (list_of vs)) ≡ expected_file_at (i + k) file (expected_files (i + k) 1 (files_in (nth vs k)))
@@ -103,17 +103,17 @@ folder_at file i k none within = absurd (omega (arith, within))
 folder_at file i zero (more d vs) within =
     let at : i + 0 ≡ i = omega arith in
     subst (λ (n : ℕ). expected_file_at n file (expected_folders i (d ∷ list_of vs)) ≡ expected_file_at n file (expected_files n 1 (files_in d))) (sym at)
-    (find_by_first (has_positions i file) (expected_files i 1 (files_in d)) (expected_folders (i + 1) (list_of vs)) (folders_behind i file (i + 1) (list_of vs) (omega arith)))
+    (find_by_first (is_expected_at i file) (expected_files i 1 (files_in d)) (expected_folders (i + 1) (list_of vs)) (folders_behind i file (i + 1) (list_of vs) (omega arith)))
 folder_at file i (suc k) (more d vs) within =
     let at : i + suc k ≡ (i + 1) + k = omega arith in
     subst (λ (n : ℕ). expected_file_at n file (expected_folders i (d ∷ list_of vs)) ≡ expected_file_at n file (expected_files n 1 (files_in (nth vs k)))) (sym at)
-    (find_joined (has_positions (i + 1 + k) file) (expected_files i 1 (files_in d)) (expected_folders (i + 1) (list_of vs)) (none_of_folder i (i + 1 + k) file 1 (files_in d) (λ e. omega (arith, e)))
+    (find_joined (is_expected_at (i + 1 + k) file) (expected_files i 1 (files_in d)) (expected_folders (i + 1) (list_of vs)) (none_of_folder i (i + 1 + k) file 1 (files_in d) (λ e. omega (arith, e)))
     ∙ folder_at file (i + 1) k vs (omega (arith, within)))
 
 pub folder_past : (folder file i : ℕ) (vs : Plains) → i + count_of vs ≤ folder → expected_file_at folder file (expected_folders i (list_of vs)) ≡ None
 folder_past folder file i none past = refl
 folder_past folder file i (more d vs) past =
-    find_joined (has_positions folder file) (expected_files i 1 (files_in d)) (expected_folders (i + 1) (list_of vs)) (none_of_folder i folder file 1 (files_in d) (λ e. omega (arith, e, past)))
+    find_joined (is_expected_at folder file) (expected_files i 1 (files_in d)) (expected_folders (i + 1) (list_of vs)) (none_of_folder i folder file 1 (files_in d) (λ e. omega (arith, e, past)))
     ∙ folder_past folder file (i + 1) vs (omega (arith, past))
 
 pub folder_before : (folder file i : ℕ) (ds : List Plain) → folder < i → expected_file_at folder file (expected_folders i ds) ≡ None

@@ -4,11 +4,11 @@ use Rattle.std.specs.Int.{w32, from_le_bytes}
 use Rattle.std.proofs.lemmas.Bool.{eqb-true, not-false}
 use Rattle.std.proofs.lemmas.List.{take-take, drop-take, length-drop}
 use Rattle.base_core.specs.declared.cause.Cause.{Cause}
-use Rattle.adb_schema.specs.Soundness.{file_pair}
+use Rattle.adb_schema.specs.Soundness.{contents_positions}
 use Rattle.pkg_core.specs.Contents.{Expected, contents_bytes}
 use Rattle.pkg_core.specs.Pieces.{PiecesRead, refusal, pieces_of_bytes, pieces_of_payload, position_or_size_fault, unless_refusal}
 
-pub pair_alike : (payload pair : List ℕ) → take 8 payload ≡ pair → file_pair payload ≡ file_pair pair
+pub pair_alike : (payload pair : List ℕ) → take 8 payload ≡ pair → contents_positions payload ≡ contents_positions pair
 pair_alike payload pair begins =
     let front : take 4 payload ≡ take 4 pair = sym (take-take 4 8 payload (lit≤ tt)) ∙ ap (take 4) begins in
     let back : take 4 (drop 4 payload) ≡ take 4 (drop 4 pair) = sym (take-take 4 4 (drop 4 payload) (lit≤ tt)) ∙ (ap (take 4) (sym (drop-take 4 4 payload)) ∙ ap (λ (xs : List ℕ). take 4 (drop 4 xs)) begins) in

@@ -10,7 +10,7 @@ use Rattle.base_core.specs.Calls.{IfObservable}
 use Rattle.base_core.specs.Faults.{Counts, IsNoFault}
 use Rattle.base_core.specs.Tree.{TreeState, CanRead, files_of}
 use Rattle.base_core.proofs.Counting.{goes_on_twice, no_fault_twice, cause_later}
-use Rattle.pkg_core.specs.Seen.{AreBytesRead, HasAt, IsSeenIn, IsSoLong, ReadsFile}
+use Rattle.pkg_core.specs.Seen.{AreBytesRead, HasBytesAtOffset, IsSeenIn, IsFileOfLength, ReadsFile}
 
 -- ---- a file
 
@@ -24,20 +24,20 @@ take_more (suc a) b (x ∷ xs) =
 pub drop_further : (at n : ℕ) (xs : List ℕ) → drop n (drop at xs) ≡ drop (at + n) xs
 drop_further at n xs = drop-drop n at xs ∙ ap (λ (k : ℕ). drop k xs) (omega arith)
 
-pub has_both : (file : List ℕ) (at : ℕ) (xs ys : List ℕ) → HasAt file at xs → HasAt file (at + length xs) ys → HasAt file at (xs ++ ys)
+pub has_both : (file : List ℕ) (at : ℕ) (xs ys : List ℕ) → HasBytesAtOffset file at xs → HasBytesAtOffset file (at + length xs) ys → HasBytesAtOffset file at (xs ++ ys)
 has_both file at xs ys h g =
     ap (λ (n : ℕ). take n (drop at file)) (length-append xs ys)
     ∙ (take_more (length xs) (length ys) (drop at file)
     ∙ (ap (λ (zs : List ℕ). zs ++ take (length ys) (drop (length xs) (drop at file))) h
     ∙ ap (λ (zs : List ℕ). xs ++ zs) (ap (take (length ys)) (drop_further at (length xs) file) ∙ g)))
 
-pub has_front : (file : List ℕ) (at : ℕ) (xs ys : List ℕ) → HasAt file at (xs ++ ys) → HasAt file at xs
+pub has_front : (file : List ℕ) (at : ℕ) (xs ys : List ℕ) → HasBytesAtOffset file at (xs ++ ys) → HasBytesAtOffset file at xs
 has_front file at xs ys h =
     let n = length-append xs ys in
     sym (take-take (length xs) (length (xs ++ ys)) (drop at file) (omega arith))
     ∙ (ap (take (length xs)) h ∙ take-append_seam xs ys)
 
-pub has_rest : (file : List ℕ) (at : ℕ) (xs ys : List ℕ) → HasAt file at (xs ++ ys) → HasAt file (at + length xs) ys
+pub has_rest : (file : List ℕ) (at : ℕ) (xs ys : List ℕ) → HasBytesAtOffset file at (xs ++ ys) → HasBytesAtOffset file (at + length xs) ys
 has_rest file at xs ys h =
     ap (take (length ys)) (sym (drop_further at (length xs) file))
     ∙ (sym (drop-take (length xs) (length ys) (drop at file))
@@ -46,7 +46,7 @@ has_rest file at xs ys h =
 
 -- ---- under a name of a tree
 
-both_in : (found : Option (List ℕ)) (len at : ℕ) (xs ys : List ℕ) → IfSome found (λ file. length file ≡ len → HasAt file at xs) → IfSome found (λ file. length file ≡ len → HasAt file (at + length xs) ys) → IfSome found (λ file. length file ≡ len → HasAt file at (xs ++ ys))
+both_in : (found : Option (List ℕ)) (len at : ℕ) (xs ys : List ℕ) → IfSome found (λ file. length file ≡ len → HasBytesAtOffset file at xs) → IfSome found (λ file. length file ≡ len → HasBytesAtOffset file (at + length xs) ys) → IfSome found (λ file. length file ≡ len → HasBytesAtOffset file at (xs ++ ys))
 both_in None len at xs ys h g = h
 both_in (Some file) len at xs ys h g = λ same. has_both file at xs ys (h same) (g same)
 
@@ -58,7 +58,7 @@ pub seen_then : (history : List TreeState) (name : List ℕ) (len at to : ℕ) (
 seen_then history name len at to xs ys e h g = seen_both history name len at xs ys h (subst (λ (n : ℕ). AreBytesRead history name len n ys) e g)
 
 -- what a read filled a buffer with
-read_in : (found : Option (List ℕ)) (len at n : ℕ) (bytes : List ℕ) → length bytes ≡ n → IfSome found (λ file. bytes ≡ take n (drop at file)) → IfSome found (λ file. length file ≡ len → HasAt file at bytes)
+read_in : (found : Option (List ℕ)) (len at n : ℕ) (bytes : List ℕ) → length bytes ≡ n → IfSome found (λ file. bytes ≡ take n (drop at file)) → IfSome found (λ file. length file ≡ len → HasBytesAtOffset file at bytes)
 read_in None len at n bytes e h = h
 read_in (Some file) len at n bytes e h = λ same. ap (λ (k : ℕ). take k (drop at file)) e ∙ sym h
 
@@ -75,10 +75,10 @@ seen_by_two history later name len at n m xs ys all same is first second h g =
 
 -- ---- what reads make of a tree
 
-can_read : (name : List ℕ) (at n len : ℕ) (v : TreeState) → IsSoLong name len v → at + n ≤ len → CanRead name at n v
+can_read : (name : List ℕ) (at n len : ℕ) (v : TreeState) → IsFileOfLength name len v → at + n ≤ len → CanRead name at n v
 can_read name at n len v long h = (long.file, long.present, subst (λ (k : ℕ). at + n ≤ k) (sym long.long) h)
 
-pub proper_where_long : (history : List TreeState) (name : List ℕ) (at n len a b : ℕ) → IfObservable history (λ v. CanRead name at n v → a ≡ b) → at + n ≤ len → IfObservable history (λ v. IsSoLong name len v → a ≡ b)
+pub proper_where_long : (history : List TreeState) (name : List ℕ) (at n len a b : ℕ) → IfObservable history (λ v. CanRead name at n v → a ≡ b) → at + n ≤ len → IfObservable history (λ v. IsFileOfLength name len v → a ≡ b)
 proper_where_long [] name at n len a b h le = h
 proper_where_long (v ∷ earlier) name at n len a b h le = λ long. h (can_read name at n len v long le)
 
@@ -97,7 +97,7 @@ zeros_filled : (n : ℕ) → length (zeros n) ≡ n
 unfolding zeros
 zeros_filled n = let z : ℕ = 0 in length-replicate n z
 
-file_filled : (file : List ℕ) (at n : ℕ) (bytes : List ℕ) → at + length bytes + n ≤ length file → HasAt file at bytes → HasAt file at (bytes ++ take n (drop (at + length bytes) file))
+file_filled : (file : List ℕ) (at n : ℕ) (bytes : List ℕ) → at + length bytes + n ≤ length file → HasBytesAtOffset file at bytes → HasBytesAtOffset file at (bytes ++ take n (drop (at + length bytes) file))
 file_filled file at n bytes le h =
     let rest : List ℕ = drop (at + length bytes) file in
     let few = length-take n rest in
@@ -105,11 +105,11 @@ file_filled file at n bytes le h =
     let long : length (take n rest) ≡ n = omega arith in
     has_both file at bytes (take n rest) h (ap (λ (k : ℕ). take k rest) long)
 
-fill_in : (found : Option (List ℕ)) (len at n : ℕ) (bytes : List ℕ) → at + length bytes + n ≤ len → IfSome found (λ file. length file ≡ len → HasAt file at bytes) → (further : List ℕ) × (length further ≡ n) × IfSome found (λ file. length file ≡ len → HasAt file at (bytes ++ further))
+fill_in : (found : Option (List ℕ)) (len at n : ℕ) (bytes : List ℕ) → at + length bytes + n ≤ len → IfSome found (λ file. length file ≡ len → HasBytesAtOffset file at bytes) → (further : List ℕ) × (length further ≡ n) × IfSome found (λ file. length file ≡ len → HasBytesAtOffset file at (bytes ++ further))
 fill_in None len at n bytes le h = (zeros n, zeros_filled n, h)
 fill_in (Some file) len at n bytes le h = by_length (length file == len) refl
   where
-    by_length : (b : Bool) → (length file == len) ≡ b → (further : List ℕ) × (length further ≡ n) × (length file ≡ len → HasAt file at (bytes ++ further))
+    by_length : (b : Bool) → (length file == len) ≡ b → (further : List ℕ) × (length further ≡ n) × (length file ≡ len → HasBytesAtOffset file at (bytes ++ further))
     by_length true e =
         let same : length file ≡ len = eqb-true (length file) len e in
         let few = length-take n (drop (at + length bytes) file) in
@@ -131,7 +131,7 @@ zeros_behind len seen le =
     let z = zeros_filled (len - length seen) in
     omega arith
 
-begins_so : (seen rest : List ℕ) → HasAt (seen ++ rest) 0 seen
+begins_so : (seen rest : List ℕ) → HasBytesAtOffset (seen ++ rest) 0 seen
 begins_so seen rest = take-append_seam seen rest
 
 -- a file that is so long, and has the bytes that were seen: the one under the name, where the tree
@@ -140,9 +140,9 @@ pub record IsSomeFile (history : List TreeState) (name : List ℕ) (len : ℕ) (
   pub file : List ℕ
   pub told : IfObservable history (λ v. Some file ≡ files_of v name)
   pub long : length file ≡ len
-  pub has : HasAt file 0 seen
+  pub has : HasBytesAtOffset file 0 seen
 
-file_in : (found : Option (List ℕ)) (len : ℕ) (seen : List ℕ) → Some len ≡ option_map length found → IfSome found (λ file. length file ≡ len → HasAt file 0 seen) → (file : List ℕ) × (Some file ≡ found) × (length file ≡ len) × HasAt file 0 seen
+file_in : (found : Option (List ℕ)) (len : ℕ) (seen : List ℕ) → Some len ≡ option_map length found → IfSome found (λ file. length file ≡ len → HasBytesAtOffset file 0 seen) → (file : List ℕ) × (Some file ≡ found) × (length file ≡ len) × HasBytesAtOffset file 0 seen
 file_in None len seen e h = absurd (cc)
 file_in (Some file) len seen e h = let long : length file ≡ len = (cc) in (file, refl, long, h long)
 
@@ -155,7 +155,7 @@ file_with (v ∷ earlier) name len seen e h =
 
 -- ---- calls in a row
 
-proper_both : (history : List TreeState) (name : List ℕ) (len a b c : ℕ) → IfObservable history (λ v. IsSoLong name len v → b ≡ a) → IfObservable history (λ v. IsSoLong name len v → c ≡ b) → IfObservable history (λ v. IsSoLong name len v → c ≡ a)
+proper_both : (history : List TreeState) (name : List ℕ) (len a b c : ℕ) → IfObservable history (λ v. IsFileOfLength name len v → b ≡ a) → IfObservable history (λ v. IsFileOfLength name len v → c ≡ b) → IfObservable history (λ v. IsFileOfLength name len v → c ≡ a)
 proper_both [] name len a b c h g = h
 proper_both (v ∷ earlier) name len a b c h g = λ long. g long ∙ h long
 
@@ -174,7 +174,7 @@ reads_in_a_row name len d e h0 h1 h2 a b c value then first second = record {
   disk = λ failed. cause_later a b c first.goes_on (second.disk failed);
   kept = kept_both a b c then first.kept second.kept;
   others = others_both e a b c then first.kept second.others;
-  proper = proper_both h0 name len a.misuses b.misuses c.misuses first.proper (subst (λ (h : List TreeState). IfObservable h (λ v. IsSoLong name len v → c.misuses ≡ b.misuses)) first.same second.proper);
+  proper = proper_both h0 name len a.misuses b.misuses c.misuses first.proper (subst (λ (h : List TreeState). IfObservable h (λ v. IsFileOfLength name len v → c.misuses ≡ b.misuses)) first.same second.proper);
 }
 
 of_err : {A E : Type 0} (x y : E) → IsErrOf {T = A} {E = E} (Err x) y → x ≡ y

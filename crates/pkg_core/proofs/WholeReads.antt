@@ -5,8 +5,8 @@ use Rattle.std.specs.Option.{option_map}
 use Rattle.base_core.specs.Calls.{IfObservable}
 use Rattle.base_core.specs.Tree.{TreeState, files_of}
 use Rattle.base_core.proofs.Observed.{found_there}
-use Rattle.pkg_core.specs.Front.{IsFrontOf, IsFrontRead, IsPresentRead}
-use Rattle.pkg_core.specs.Seen.{HasAt, IsSeenIn}
+use Rattle.pkg_core.specs.Front.{IsFrontOf, IsFrontRead, IsFrontReadOfFile}
+use Rattle.pkg_core.specs.Seen.{HasBytesAtOffset, IsSeenIn}
 use Rattle.pkg_core.specs.declared.front.Front.{Front}
 use Rattle.pkg_core.specs.declared.front.FrontFault.{FrontFault}
 use Rattle.pkg_core.specs.declared.front.FrontFault.TheVariants.{Bad, Disk, Memory}
@@ -24,7 +24,7 @@ no_bad schema (Some file) (Err Memory) is = tt
 pub disk_read : (schema : ℕ) (h : List TreeState) (name : List ℕ) (r : Result (Option Front) FrontFault) → IsErrAnd r (λ fault. fault ≡ Disk) → (found : Option (List ℕ)) × IfObservable h (λ v. found ≡ files_of v name) × IsFrontRead schema found r
 disk_read schema h name r is = let (found, told) = found_there h name in (found, told, no_bad schema found r is)
 
-err_in : (schema : ℕ) (file : List ℕ) (seen : ℕ) (fault : FrontFault) (r : Result (Option Front) FrontFault) → IsErrAnd r (λ other. other ≡ fault) → IsPresentRead schema (Err fault) seen file → IsFrontRead schema (Some file) r
+err_in : (schema : ℕ) (file : List ℕ) (seen : ℕ) (fault : FrontFault) (r : Result (Option Front) FrontFault) → IsErrAnd r (λ other. other ≡ fault) → IsFrontReadOfFile schema (Err fault) seen file → IsFrontRead schema (Some file) r
 err_in schema file seen fault (Ok front) is h = absurd is
 err_in schema file seen (Bad c) (Err (Bad d)) is h = let e : Bad d ≡ Bad c = is in let same : c ≡ d = (cc) in h ∙ (λ k. Some (same k))
 err_in schema file seen Disk (Err (Bad d)) is h = absurd (let e : Bad d ≡ Disk = is in (cc))
@@ -32,17 +32,17 @@ err_in schema file seen Memory (Err (Bad d)) is h = absurd (let e : Bad d ≡ Me
 err_in schema file seen fault (Err Disk) is h = tt
 err_in schema file seen fault (Err Memory) is h = tt
 
-pub err_read : (schema : ℕ) (h later : List TreeState) (name seen : List ℕ) (len : ℕ) (fault : FrontFault) (r : Result (Option Front) FrontFault) → later ≡ h → IfObservable h (λ v. Some len ≡ option_map length (files_of v name)) → IsSeenIn later name len 0 seen → ((file : List ℕ) → length file ≡ len → HasAt file 0 seen → IsPresentRead schema (Err fault) (length seen) file) → IsErrAnd r (λ other. other ≡ fault) → (found : Option (List ℕ)) × IfObservable h (λ v. found ≡ files_of v name) × IsFrontRead schema found r
+pub err_read : (schema : ℕ) (h later : List TreeState) (name seen : List ℕ) (len : ℕ) (fault : FrontFault) (r : Result (Option Front) FrontFault) → later ≡ h → IfObservable h (λ v. Some len ≡ option_map length (files_of v name)) → IsSeenIn later name len 0 seen → ((file : List ℕ) → length file ≡ len → HasBytesAtOffset file 0 seen → IsFrontReadOfFile schema (Err fault) (length seen) file) → IsErrAnd r (λ other. other ≡ fault) → (found : Option (List ℕ)) × IfObservable h (λ v. found ≡ files_of v name) × IsFrontRead schema found r
 err_read schema h later name seen len fault r same size is_seen each is =
     let f = file_with h name len seen size (subst (λ (g : List TreeState). IsSeenIn g name len 0 seen) same is_seen) in
     (Some f.file, f.told, err_in schema f.file (length seen) fault r is (each f.file f.long f.has))
 
-pub ok_read : (schema : ℕ) (h later : List TreeState) (name seen : List ℕ) (len : ℕ) (front : Front) → later ≡ h → IfObservable h (λ v. Some len ≡ option_map length (files_of v name)) → IsSeenIn later name len 0 seen → ((file : List ℕ) → length file ≡ len → HasAt file 0 seen → IsPresentRead schema (Ok front) (length seen) file) → (found : Option (List ℕ)) × IfObservable h (λ v. found ≡ files_of v name) × IsFrontRead schema found (Ok (Some front))
+pub ok_read : (schema : ℕ) (h later : List TreeState) (name seen : List ℕ) (len : ℕ) (front : Front) → later ≡ h → IfObservable h (λ v. Some len ≡ option_map length (files_of v name)) → IsSeenIn later name len 0 seen → ((file : List ℕ) → length file ≡ len → HasBytesAtOffset file 0 seen → IsFrontReadOfFile schema (Ok front) (length seen) file) → (found : Option (List ℕ)) × IfObservable h (λ v. found ≡ files_of v name) × IsFrontRead schema found (Ok (Some front))
 ok_read schema h later name seen len front same size is_seen each =
     let f = file_with h name len seen size (subst (λ (g : List TreeState). IsSeenIn g name len 0 seen) same is_seen) in
     (Some f.file, f.told, (each f.file f.long f.has).0)
 
-pub ok_seen : (schema : ℕ) (h later : List TreeState) (name seen : List ℕ) (len : ℕ) (front : Front) → later ≡ h → IfObservable h (λ v. Some len ≡ option_map length (files_of v name)) → IsSeenIn later name len 0 seen → ((file : List ℕ) → length file ≡ len → HasAt file 0 seen → IsPresentRead schema (Ok front) (length seen) file) → front.len ≡ len → (all : List ℕ) × IsSeenIn h name front.len 0 all × (front.at ≡ length all) × ((file : List ℕ) → length file ≡ front.len → HasAt file 0 all → IsFrontOf schema file front)
+pub ok_seen : (schema : ℕ) (h later : List TreeState) (name seen : List ℕ) (len : ℕ) (front : Front) → later ≡ h → IfObservable h (λ v. Some len ≡ option_map length (files_of v name)) → IsSeenIn later name len 0 seen → ((file : List ℕ) → length file ≡ len → HasBytesAtOffset file 0 seen → IsFrontReadOfFile schema (Ok front) (length seen) file) → front.len ≡ len → (all : List ℕ) × IsSeenIn h name front.len 0 all × (front.at ≡ length all) × ((file : List ℕ) → length file ≡ front.len → HasBytesAtOffset file 0 all → IsFrontOf schema file front)
 ok_seen schema h later name seen len front same size is_seen each long =
     let here = subst (λ (g : List TreeState). IsSeenIn g name len 0 seen) same is_seen in
     let f = file_with h name len seen size here in

@@ -4,16 +4,16 @@ use Rattle.std.proofs.lemmas.Bool.{eqb-true}
 use Rattle.base_core.specs.declared.cause.Cause.{Cause}
 use Rattle.base_core.specs.declared.cause.Cause.TheVariants.{WrongSchema}
 use Rattle.adb_block.specs.Header.{header_of}
-use Rattle.adb_block.specs.Reading.{Reading, done, fault, more, reading_of}
-use Rattle.adb_block.specs.ReaderPosition.{start_of}
+use Rattle.adb_block.specs.Reading.{Reading, done, fault, more, block_stream_from}
+use Rattle.adb_block.specs.ReaderPosition.{first_block_position}
 use Rattle.adb_view.specs.Head.{head_fault}
 use Rattle.std.specs.Option.{option_or}
 use Rattle.adb_view.specs.declared.tables.Which.TheVariants.{Package}
-use Rattle.adb_schema.specs.Soundness.{blocks_fault, fault_with, file_fault, first_fault, first_payload, payload_after_header, payload_fault, payload_in, rest_fault, root_value}
+use Rattle.adb_schema.specs.Soundness.{blocks_fault, file_fault_with_rest_test, file_fault_after_header, first_fault, first_block_payload, payload_after_header, payload_fault, payload_in, fault_after_first_block, root_value}
 use Rattle.adb_schema.specs.declared.read.TheConstants.{PACKAGE_WORD}
 use Rattle.pkg_core.specs.Contents.{contents_fault, expected_contents}
-use Rattle.pkg_core.specs.Whole.{fault_after_first, container_fault, fault_by_header, whole_fault}
-use Rattle.pkg_core.specs.Front.{IsFrontOf, behind_front, front_block_fault, front_fault, front_fault_by, front_payload}
+use Rattle.pkg_core.specs.Whole.{fault_of_further_blocks, container_fault, container_fault_after_header, container_fault_of_table}
+use Rattle.pkg_core.specs.Front.{IsFrontOf, position_after_front, front_block_fault, front_fault, front_fault_after_header, front_payload}
 use Rattle.pkg_core.specs.declared.front.Front.{Front}
 
 told_first : (x y : Option Cause) (c : Cause) → x ≡ Some c → option_or (option_or x y) None ≡ Some c
@@ -24,18 +24,18 @@ pub or_none : (x : Option Cause) → option_or x None ≡ x
 or_none None = refl
 or_none (Some c) = refl
 
-blocks_alike : (r : Reading) (c : Cause) → front_block_fault r ≡ Some c → blocks_fault (λ v r. rest_fault Package r) Package r ≡ Some c
+blocks_alike : (r : Reading) (c : Cause) → front_block_fault r ≡ Some c → blocks_fault (λ v r. fault_after_first_block Package r) Package r ≡ Some c
 blocks_alike done c h = (cc)
 blocks_alike (fault d) c h = h
 blocks_alike (more b at r) c h = told_first (head_fault b.payload) _ c h
 
-schema_alike : (wanted : Bool) (found : ℕ) (r : Reading) (c : Cause) → (if wanted then front_block_fault r else Some (WrongSchema found)) ≡ Some c → option_or (if wanted then None else Some (WrongSchema found)) (blocks_fault (λ v r. rest_fault Package r) Package r) ≡ Some c
+schema_alike : (wanted : Bool) (found : ℕ) (r : Reading) (c : Cause) → (if wanted then front_block_fault r else Some (WrongSchema found)) ≡ Some c → option_or (if wanted then None else Some (WrongSchema found)) (blocks_fault (λ v r. fault_after_first_block Package r) Package r) ≡ Some c
 schema_alike true found r c h = blocks_alike r c h
 schema_alike false found r c h = h
 
-header_alike : (file : List ℕ) (header : Result ℕ Cause) (c : Cause) → front_fault_by PACKAGE_WORD file header ≡ Some c → file_fault (λ v r. rest_fault Package r) Package file header ≡ Some c
+header_alike : (file : List ℕ) (header : Result ℕ Cause) (c : Cause) → front_fault_after_header PACKAGE_WORD file header ≡ Some c → file_fault_after_header (λ v r. fault_after_first_block Package r) Package file header ≡ Some c
 header_alike file (Err d) c h = h
-header_alike file (Ok found) c h = schema_alike (PACKAGE_WORD == found) found (reading_of (start_of found file)) c h
+header_alike file (Ok found) c h = schema_alike (PACKAGE_WORD == found) found (block_stream_from (first_block_position found file)) c h
 
 pub front_alike : (file : List ℕ) (c : Cause) → front_fault PACKAGE_WORD file ≡ Some c → first_fault Package file ≡ Some c
 unfolding front_fault first_fault
@@ -44,48 +44,48 @@ front_alike file c h = header_alike file (header_of file) c h
 pub values_alike : (file : List ℕ) (front : Front) → IsFrontOf PACKAGE_WORD file front → first_fault Package file ≡ payload_fault Package (front_payload front)
 unfolding first_fault
 values_alike file front is =
-    ap (file_fault (λ v r. rest_fault Package r) Package file) is.header
-    ∙ (ap (blocks_fault (λ v r. rest_fault Package r) Package) is.blocks
+    ap (file_fault_after_header (λ v r. fault_after_first_block Package r) Package file) is.header
+    ∙ (ap (blocks_fault (λ v r. fault_after_first_block Package r) Package) is.blocks
     ∙ or_none (payload_fault Package (front_payload front)))
 
 -- ---- the payload
 
 pub same_payload : (file : List ℕ) (front : Front) → IsFrontOf PACKAGE_WORD file front → payload_in file ≡ front_payload front
 unfolding payload_in
-same_payload file front is = ap (payload_after_header file) is.header ∙ ap first_payload is.blocks
+same_payload file front is = ap (payload_after_header file) is.header ∙ ap first_block_payload is.blocks
 
 -- ---- a container
 
-pub whole_by_front : (file : List ℕ) (front : Front) → IsFrontOf PACKAGE_WORD file front → container_fault file ≡ option_or (payload_fault Package (front_payload front)) (contents_fault (expected_contents (root_value Package (front_payload front))) (reading_of (behind_front front file)))
-unfolding container_fault whole_fault
+pub whole_by_front : (file : List ℕ) (front : Front) → IsFrontOf PACKAGE_WORD file front → container_fault file ≡ option_or (payload_fault Package (front_payload front)) (contents_fault (expected_contents (root_value Package (front_payload front))) (block_stream_from (position_after_front front file)))
+unfolding container_fault container_fault_of_table
 whole_by_front file front is =
-    ap (fault_by_header file) is.header
-    ∙ (ap (file_fault (fault_after_first Package) Package file) is.header
-    ∙ ap (blocks_fault (fault_after_first Package) Package) is.blocks)
+    ap (container_fault_after_header file) is.header
+    ∙ (ap (file_fault_after_header (fault_of_further_blocks Package) Package file) is.header
+    ∙ ap (blocks_fault (fault_of_further_blocks Package) Package) is.blocks)
 
 told_before : (x y : Option Cause) (c : Cause) → x ≡ Some c → option_or x y ≡ Some c
 told_before None y c h = (cc)
 told_before (Some d) y c h = h
 
-front_first : (r : Reading) (c : Cause) → front_block_fault r ≡ Some c → blocks_fault (fault_after_first Package) Package r ≡ Some c
+front_first : (r : Reading) (c : Cause) → front_block_fault r ≡ Some c → blocks_fault (fault_of_further_blocks Package) Package r ≡ Some c
 front_first done c h = (cc)
 front_first (fault d) c h = h
 front_first (more b at r) c h = told_before _ _ c (told_before (head_fault b.payload) _ c h)
 
-package_by_schema : (wanted : Bool) (file : List ℕ) (found : ℕ) (r : Reading) (c : Cause) → (if wanted then front_block_fault r else Some (WrongSchema found)) ≡ Some c → ((other : ℕ) → c ≢ WrongSchema other) → (wanted ≡ true) × (blocks_fault (fault_after_first Package) Package r ≡ Some c)
+package_by_schema : (wanted : Bool) (file : List ℕ) (found : ℕ) (r : Reading) (c : Cause) → (if wanted then front_block_fault r else Some (WrongSchema found)) ≡ Some c → ((other : ℕ) → c ≢ WrongSchema other) → (wanted ≡ true) × (blocks_fault (fault_of_further_blocks Package) Package r ≡ Some c)
 package_by_schema true file found r c h other = (refl, front_first r c h)
 package_by_schema false file found r c h other = absurd (other found (let e : Some (WrongSchema found) ≡ Some c = h in (cc)))
 
-whole_by_header : (file : List ℕ) (header : Result ℕ Cause) (c : Cause) → header_of file ≡ header → front_fault_by PACKAGE_WORD file header ≡ Some c → ((other : ℕ) → c ≢ WrongSchema other) → fault_by_header file header ≡ Some c
-unfolding whole_fault
+whole_by_header : (file : List ℕ) (header : Result ℕ Cause) (c : Cause) → header_of file ≡ header → front_fault_after_header PACKAGE_WORD file header ≡ Some c → ((other : ℕ) → c ≢ WrongSchema other) → container_fault_after_header file header ≡ Some c
+unfolding container_fault_of_table
 whole_by_header file (Err d) c is h other = h
 whole_by_header file (Ok found) c is h other =
-    let (wanted, first) = package_by_schema (PACKAGE_WORD == found) file found (reading_of (start_of found file)) c h other in
+    let (wanted, first) = package_by_schema (PACKAGE_WORD == found) file found (block_stream_from (first_block_position found file)) c h other in
     let same : PACKAGE_WORD ≡ found = eqb-true PACKAGE_WORD found wanted in
     let header : header_of file ≡ Ok PACKAGE_WORD = is ∙ ap (λ (n : ℕ). Ok n) (sym same) in
-    ap (λ (n : ℕ). fault_by_header file (Ok n)) (sym same)
-    ∙ (ap (file_fault (fault_after_first Package) Package file) header
-    ∙ subst (λ (n : ℕ). blocks_fault (fault_after_first Package) Package (reading_of (start_of n file)) ≡ Some c) (sym same) first)
+    ap (λ (n : ℕ). container_fault_after_header file (Ok n)) (sym same)
+    ∙ (ap (file_fault_after_header (fault_of_further_blocks Package) Package file) header
+    ∙ subst (λ (n : ℕ). blocks_fault (fault_of_further_blocks Package) Package (block_stream_from (first_block_position n file)) ≡ Some c) (sym same) first)
 
 pub front_is_first : (file : List ℕ) (c : Cause) → front_fault PACKAGE_WORD file ≡ Some c → ((other : ℕ) → c ≢ WrongSchema other) → container_fault file ≡ Some c
 unfolding front_fault container_fault

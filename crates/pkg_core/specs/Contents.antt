@@ -17,7 +17,7 @@ use Rattle.adb_view.specs.Plain.{Plain}
 use Rattle.adb_view.specs.FieldIndexes.{FILE_HASHES, FILE_SIZE}
 use Rattle.adb_view.specs.Values.{entry_in, int_in, text_in}
 use Rattle.adb_schema.specs.adb_fields.Repeated.{folders_in, files_in}
-use Rattle.adb_schema.specs.Soundness.{file_pair}
+use Rattle.adb_schema.specs.Soundness.{contents_positions}
 use Rattle.adb_schema.specs.Texts.{is_with_contents}
 
 -- ---- the expected files
@@ -87,33 +87,33 @@ hash_fault hash bytes =
 -- whether contents begin with the positions of the expected file
 abbrev pub has_positions_of : List ℕ → Expected → Bool
 has_positions_of payload e =
-    ((file_pair payload).0 == e.folder) && ((file_pair payload).1 == e.file)
+    ((contents_positions payload).0 == e.folder) && ((contents_positions payload).1 == e.file)
 
 -- the first failed test of contents against an expected file: the positions, then the size, then the
 -- digest
 abbrev pub expected_fault : List ℕ → Expected → Option Cause
 expected_fault payload e =
-    if not (has_positions_of payload e) then Some (DataOrder (e.folder, e.file) (file_pair payload))
+    if not (has_positions_of payload e) then Some (DataOrder (e.folder, e.file) (contents_positions payload))
     else if not (length (contents_bytes payload) == e.size)
     then Some (DataSize e.size (length (contents_bytes payload)))
     else hash_fault e.hash (contents_bytes payload)
 
 -- the first failed test of contents against the next expected file; if none is expected, any contents
 -- are out of order, and (0, 0) was expected
-abbrev pub next_fault : List ℕ → List Expected → Option Cause
-next_fault payload [] = Some (DataOrder (0, 0) (file_pair payload))
-next_fault payload (e ∷ es) = expected_fault payload e
+abbrev pub next_contents_fault : List ℕ → List Expected → Option Cause
+next_contents_fault payload [] = Some (DataOrder (0, 0) (contents_positions payload))
+next_contents_fault payload (e ∷ es) = expected_fault payload e
 
 -- the first failed test of a block of contents at an offset: it has the bytes of the positions, and its
 -- contents are those of the next expected file
 abbrev pub contents_block_fault : List ℕ → ℕ → List Expected → Option Cause
 contents_block_fault payload at es =
-    if nat_lt (length payload) POSITIONS_LEN then Some (Truncated at) else next_fault payload es
+    if nat_lt (length payload) POSITIONS_LEN then Some (Truncated at) else next_contents_fault payload es
 
 -- the fault at the end of the blocks if a file is left: (0, 0) was found in the place of its contents
-abbrev pub missing_fault : List Expected → Option Cause
-missing_fault [] = None
-missing_fault (e ∷ es) = Some (DataOrder (e.folder, e.file) (0, 0))
+abbrev pub missing_contents_fault : List Expected → Option Cause
+missing_contents_fault [] = None
+missing_contents_fault (e ∷ es) = Some (DataOrder (e.folder, e.file) (0, 0))
 
 -- ---- all of them
 
@@ -135,33 +135,33 @@ unless_fault None files = files
 unless_fault (Some c) files = refused c
 
 -- the contents of an expected file: the bytes after its positions
-abbrev pub contents_by : List ℕ → Expected → Contents
-contents_by payload e = record { folder = e.folder; file = e.file; bytes = contents_bytes payload }
+abbrev pub contents_of_expected : List ℕ → Expected → Contents
+contents_of_expected payload e = record { folder = e.folder; file = e.file; bytes = contents_bytes payload }
 
 -- the contents of the file that is expected next, and the further ones
-abbrev pub with_next : List ℕ → (List Expected → FilesRead) → List Expected → FilesRead
-with_next payload further [] = no_more
-with_next payload further (e ∷ es) = given (contents_by payload e) (further es)
+abbrev pub with_contents_of_next : List ℕ → (List Expected → FilesRead) → List Expected → FilesRead
+with_contents_of_next payload further [] = no_more
+with_contents_of_next payload further (e ∷ es) = given (contents_of_expected payload e) (further es)
 
 -- the files from a block on, with `further` for those after it; a block without contents is skipped
 abbrev pub files_at_block :
     BlockKind → List ℕ → ℕ → (List Expected → FilesRead) → List Expected → FilesRead
 files_at_block Kinds.Contents payload at further es =
-    unless_fault (contents_block_fault payload at es) (with_next payload further es)
+    unless_fault (contents_block_fault payload at es) (with_contents_of_next payload further es)
 files_at_block kind payload at further es = further es
 
 -- the files of the blocks, against those that are expected
-unfoldable pub files_by_blocks : List Expected → Reading → FilesRead
-files_by_blocks es done = unless_fault (missing_fault es) no_more
-files_by_blocks es (fault c) = refused c
-files_by_blocks es (more b at r) =
-    files_at_block b.kind b.payload at (λ left. files_by_blocks left r) es
+unfoldable pub files_read_from_blocks : List Expected → Reading → FilesRead
+files_read_from_blocks es done = unless_fault (missing_contents_fault es) no_more
+files_read_from_blocks es (fault c) = refused c
+files_read_from_blocks es (more b at r) =
+    files_at_block b.kind b.payload at (λ left. files_read_from_blocks left r) es
 
 -- the fault that ended the reading, if one did
-abbrev pub fault_in : FilesRead → Option Cause
-fault_in no_more = None
-fault_in (refused c) = Some c
-fault_in (given contents files) = fault_in files
+abbrev pub fault_of_files_read : FilesRead → Option Cause
+fault_of_files_read no_more = None
+fault_of_files_read (refused c) = Some c
+fault_of_files_read (given contents files) = fault_of_files_read files
 
 -- the contents that were read, up to the end or to the fault
 abbrev pub contents_in : FilesRead → List Contents
@@ -171,13 +171,13 @@ contents_in (given contents files) = contents ∷ contents_in files
 
 -- the first failed test of the blocks after a package's values, block by block
 abbrev pub contents_fault : List Expected → Reading → Option Cause
-contents_fault es r = fault_in (files_by_blocks es r)
+contents_fault es r = fault_of_files_read (files_read_from_blocks es r)
 
 -- ---- the bytes of one file
 
 -- whether contents are of the file at these positions
-abbrev pub is_of_file : ℕ → ℕ → Contents → Bool
-is_of_file folder file contents = (contents.folder == folder) && (contents.file == file)
+abbrev pub is_contents_of_file : ℕ → ℕ → Contents → Bool
+is_contents_of_file folder file contents = (contents.folder == folder) && (contents.file == file)
 
 -- the bytes of some contents; none if there are none
 abbrev pub bytes_or_none : Option Contents → List ℕ
@@ -187,4 +187,4 @@ bytes_or_none (Some contents) = contents.bytes
 -- the bytes of the file with these positions, among the contents of a package; a file without contents
 -- is empty
 abbrev pub bytes_of_file : ℕ → ℕ → List Contents → List ℕ
-bytes_of_file folder file contents = bytes_or_none (find (is_of_file folder file) contents)
+bytes_of_file folder file contents = bytes_or_none (find (is_contents_of_file folder file) contents)

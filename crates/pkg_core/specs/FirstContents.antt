@@ -5,37 +5,37 @@ use Rattle.std.specs.Prelude.{◌≡◌, ℕ, ◌<◌, ◌≤◌, List, [], ◌�
 use Rattle.std.specs.Option.{option_or}
 use Rattle.std.specs.Result.{result_err}
 use Rattle.base_core.specs.declared.cause.Cause.{Cause}
-use Rattle.adb_block.specs.AllBlocks.{pieces_of}
+use Rattle.adb_block.specs.AllBlocks.{blocks_of_stream}
 use Rattle.adb_block.specs.Reading.{Reading, done, fault, more}
 use Rattle.adb_block.specs.declared.block.BlockKind.{BlockKind}
 use Rattle.adb_block.specs.declared.block.BlockKind.TheVariants as Kinds
-use Rattle.pkg_core.specs.Contents.{Expected, contents_block_fault, missing_fault}
+use Rattle.pkg_core.specs.Contents.{Expected, contents_block_fault, missing_contents_fault}
 
 -- a block's payload and its offset
 abbrev pub PlacedPayload : Type 0
 PlacedPayload = List ℕ × ℕ
 
 -- the blocks, and this one before them if it is contents
-abbrev pub with_contents : BlockKind → PlacedPayload → List PlacedPayload → List PlacedPayload
-with_contents Kinds.Contents block blocks = block ∷ blocks
-with_contents kind block blocks = blocks
+abbrev pub with_block_if_contents : BlockKind → PlacedPayload → List PlacedPayload → List PlacedPayload
+with_block_if_contents Kinds.Contents block blocks = block ∷ blocks
+with_block_if_contents kind block blocks = blocks
 
 -- the blocks of contents that are read
 abbrev pub blocks_of_contents : Reading → List PlacedPayload
 blocks_of_contents done = []
 blocks_of_contents (fault c) = []
-blocks_of_contents (more b at r) = with_contents b.kind (b.payload, at) (blocks_of_contents r)
+blocks_of_contents (more b at r) = with_block_if_contents b.kind (b.payload, at) (blocks_of_contents r)
 
 -- a test by its block: the block against the files that are still expected; or, if no block is left,
 -- the framing after the last one and then that no file is left
 abbrev pub contents_test : Option Cause → List Expected → Option PlacedPayload → Option Cause
 contents_test framing es (Some block) = contents_block_fault block.0 block.1 es
-contents_test framing es None = option_or framing (missing_fault es)
+contents_test framing es None = option_or framing (missing_contents_fault es)
 
 -- the k-th test, counted from 0: block k against the files from k on
 abbrev pub contents_test_at : List Expected → Reading → ℕ → Option Cause
 contents_test_at es r k =
-    contents_test (result_err (pieces_of r)) (drop k es) (slice_get (blocks_of_contents r) k)
+    contents_test (result_err (blocks_of_stream r)) (drop k es) (slice_get (blocks_of_contents r) k)
 
 -- one of the tests has this fault, and none before it has one
 pub record IsFirstContentsFault (es : List Expected) (r : Reading) (c : Cause) : Type 0 where

@@ -5,8 +5,8 @@ use Rattle.std.specs.Prelude.{◌≡◌, ℕ, ◌==◌, if◌then◌else◌, Lis
 use Rattle.base_core.specs.declared.cause.Cause.{Cause}
 use Rattle.base_core.specs.declared.cause.Cause.TheVariants.{WrongSchema}
 use Rattle.adb_block.specs.Header.{header_of}
-use Rattle.adb_block.specs.Reading.{Reading, done, fault, more, reading_of}
-use Rattle.adb_block.specs.ReaderPosition.{ReaderPosition, start_of}
+use Rattle.adb_block.specs.Reading.{Reading, done, fault, more, block_stream_from}
+use Rattle.adb_block.specs.ReaderPosition.{ReaderPosition, first_block_position}
 use Rattle.adb_block.specs.declared.block.BlockKind.TheVariants.{Adb}
 use Rattle.adb_view.specs.Head.{head_fault}
 use Rattle.pkg_core.specs.declared.front.Front.{Front}
@@ -22,15 +22,15 @@ front_block_fault (fault c) = Some c
 front_block_fault (more b at r) = head_fault b.payload
 
 -- the first failed test of a file's front, by its header, which must have this schema
-abbrev pub front_fault_by : ℕ → List ℕ → Result ℕ Cause → Option Cause
-front_fault_by schema file (Err c) = Some c
-front_fault_by schema file (Ok found) =
-    if schema == found then front_block_fault (reading_of (start_of found file))
+abbrev pub front_fault_after_header : ℕ → List ℕ → Result ℕ Cause → Option Cause
+front_fault_after_header schema file (Err c) = Some c
+front_fault_after_header schema file (Ok found) =
+    if schema == found then front_block_fault (block_stream_from (first_block_position found file))
     else Some (WrongSchema found)
 
 -- the first failed test of a file's front
 unfoldable pub front_fault : ℕ → List ℕ → Option Cause
-front_fault schema file = front_fault_by schema file (header_of file)
+front_fault schema file = front_fault_after_header schema file (header_of file)
 
 -- ---- the contents of a front
 
@@ -47,8 +47,8 @@ abbrev pub front_end : Front → ℕ
 front_end front = front.at
 
 -- the position of a reader of blocks after a front, in this file
-abbrev pub behind_front : Front → List ℕ → ReaderPosition
-behind_front front file = record {
+abbrev pub position_after_front : Front → List ℕ → ReaderPosition
+position_after_front front file = record {
   schema = front.schema;
   last = Some Adb;
   at = front.at;
@@ -61,9 +61,9 @@ pub record IsFrontOf (schema : ℕ) (file : List ℕ) (front : Front) : Type 0 w
   pub header : header_of file ≡ Ok schema
   pub same_schema : front.schema ≡ schema
   pub long : length file ≡ front.len
-  pub blocks : reading_of (start_of schema file)
+  pub blocks : block_stream_from (first_block_position schema file)
       ≡ more (record { kind = Adb; payload = front_payload front }) 8
-      (reading_of (behind_front front file))
+      (block_stream_from (position_after_front front file))
   pub head : head_fault (front_payload front) ≡ None
 
 -- the result of reading a front, for a file or for none; an I/O error of the tree and running out of
@@ -83,20 +83,20 @@ IsFrontRead schema (Some file) (Err Memory) = Unit {0}
 -- ---- part by part
 
 -- the position of a reader of blocks after the first block of a file, which ends at this offset
-abbrev pub behind_first : ℕ → ℕ → List ℕ → ReaderPosition
-behind_first schema at file =
+abbrev pub position_after_first_block : ℕ → ℕ → List ℕ → ReaderPosition
+position_after_first_block schema at file =
     record { schema = schema; last = Some Adb; at = at; left = drop at file }
 
 -- an I/O error of the tree, or out of memory; it says nothing about the container
-abbrev pub IsNotBad : FrontFault → Type 0
-IsNotBad (Bad c) = ⊥
-IsNotBad Disk = Unit {0}
-IsNotBad Memory = Unit {0}
+abbrev pub IsDiskOrMemoryFault : FrontFault → Type 0
+IsDiskOrMemoryFault (Bad c) = ⊥
+IsDiskOrMemoryFault Disk = Unit {0}
+IsDiskOrMemoryFault Memory = Unit {0}
 
 -- the result of reading the front of a file that exists, of which this many bytes were read: the front
 -- takes exactly these
-abbrev pub IsPresentRead : ℕ → Result Front FrontFault → ℕ → List ℕ → Type 0
-IsPresentRead schema (Ok front) seen file = IsFrontOf schema file front × (front.at ≡ seen)
-IsPresentRead schema (Err (Bad c)) seen file = front_fault schema file ≡ Some c
-IsPresentRead schema (Err Disk) seen file = Unit {0}
-IsPresentRead schema (Err Memory) seen file = Unit {0}
+abbrev pub IsFrontReadOfFile : ℕ → Result Front FrontFault → ℕ → List ℕ → Type 0
+IsFrontReadOfFile schema (Ok front) seen file = IsFrontOf schema file front × (front.at ≡ seen)
+IsFrontReadOfFile schema (Err (Bad c)) seen file = front_fault schema file ≡ Some c
+IsFrontReadOfFile schema (Err Disk) seen file = Unit {0}
+IsFrontReadOfFile schema (Err Memory) seen file = Unit {0}

@@ -29,7 +29,7 @@ abbrev pub IsDigestOf : List ℕ → List ℕ → Type 0
 IsDigestOf hash bytes = (hash ≡ sha1 bytes) ⊎ ((hash ≡ sha256 bytes) ⊎ (hash ≡ sha512 bytes))
 
 -- the contents are those of the file's entry
-pub record IsTrueTo (e : Expected) (contents : Contents) : Type 0 where
+pub record MatchesExpected (e : Expected) (contents : Contents) : Type 0 where
   pub folder : contents.folder ≡ e.folder
   pub file : contents.file ≡ e.file
   pub size : length contents.bytes ≡ e.size
@@ -37,11 +37,11 @@ pub record IsTrueTo (e : Expected) (contents : Contents) : Type 0 where
 
 -- there are contents for each expected file, in order and no others, and each are those of the file's
 -- entry
-abbrev pub AreTrueTo : List Expected → List Contents → Type 0
-AreTrueTo [] [] = Unit {0}
-AreTrueTo [] (contents ∷ others) = ⊥
-AreTrueTo (e ∷ es) [] = ⊥
-AreTrueTo (e ∷ es) (contents ∷ others) = IsTrueTo e contents × AreTrueTo es others
+abbrev pub MatchEachExpected : List Expected → List Contents → Type 0
+MatchEachExpected [] [] = Unit {0}
+MatchEachExpected [] (contents ∷ others) = ⊥
+MatchEachExpected (e ∷ es) [] = ⊥
+MatchEachExpected (e ∷ es) (contents ∷ others) = MatchesExpected e contents × MatchEachExpected es others
 
 -- the digest of each expected file has the length of one of the three functions
 abbrev pub HaveDigests : List Expected → Type 0

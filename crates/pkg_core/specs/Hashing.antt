@@ -9,8 +9,8 @@ use Rattle.pkg_core.specs.declared.hasher.Hasher.TheVariants as Hashers
 
 -- a hasher has taken this message, to be compared with this digest: it is of the function that the
 -- digest's length selects; for another length no bytes have a fault
-abbrev pub HoldsFor : Hasher → List ℕ → List ℕ → Type 0
-HoldsFor (Hashers.Sha1 hasher) hash message = (length hash ≡ 20) × Holds hasher message
-HoldsFor (Hashers.Sha256 hasher) hash message = (length hash ≡ 32) × Holds256 hasher message
-HoldsFor (Hashers.Sha512 hasher) hash message = (length hash ≡ 64) × Holds512 hasher message
-HoldsFor Hashers.Other hash message = (bytes : List ℕ) → hash_fault hash bytes ≡ None
+abbrev pub HasHashedMessage : Hasher → List ℕ → List ℕ → Type 0
+HasHashedMessage (Hashers.Sha1 hasher) hash message = (length hash ≡ 20) × Holds hasher message
+HasHashedMessage (Hashers.Sha256 hasher) hash message = (length hash ≡ 32) × Holds256 hasher message
+HasHashedMessage (Hashers.Sha512 hasher) hash message = (length hash ≡ 64) × Holds512 hasher message
+HasHashedMessage Hashers.Other hash message = (bytes : List ℕ) → hash_fault hash bytes ≡ None

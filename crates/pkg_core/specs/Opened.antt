@@ -4,13 +4,13 @@
 use Rattle.std.specs.Prelude.{◌≡◌, ℕ, ◌+◌, ◌==◌, ◌&&◌, Bool, List, [], ◌∷◌, ◌++◌, drop, Option, Some, None, Result, Ok, Err}
 use Rattle.std.specs.List.{find}
 use Rattle.base_core.specs.declared.cause.Cause.{Cause}
-use Rattle.adb_block.specs.Reading.{reading_of}
+use Rattle.adb_block.specs.Reading.{block_stream_from}
 use Rattle.adb_view.specs.Plain.{Plain}
 use Rattle.adb_view.specs.Values.{entries_in}
 use Rattle.adb_schema.specs.Checked.{checked_value}
 use Rattle.adb_schema.specs.adb_fields.ListValue.{list_value}
 use Rattle.adb_schema.specs.adb_fields.Repeated.{list_of, files_in}
-use Rattle.pkg_core.specs.Contents.{Expected, Contents, FilesRead, no_more, refused, given, expected_files, expected_folders, files_by_blocks, contents_by, contents_block_fault}
+use Rattle.pkg_core.specs.Contents.{Expected, Contents, FilesRead, no_more, refused, given, expected_files, expected_folders, files_read_from_blocks, contents_of_expected, contents_block_fault}
 use Rattle.pkg_core.specs.declared.pack.Package.{Package}
 use Rattle.pkg_core.specs.declared.walk.Walk.{Walk}
 use Rattle.pkg_core.specs.declared.walk.Wanted.{Wanted}
@@ -36,38 +36,38 @@ expected_of w = record { folder = w.folder; file = w.file; size = w.size; hash =
 
 -- the files with contents that are left of folders, the first of which has position i, after the first
 -- j files of that folder
-abbrev pub left_from : ℕ → ℕ → List Plain → List Expected
-left_from i j [] = []
-left_from i j (folder ∷ folders) =
+abbrev pub files_left_from : ℕ → ℕ → List Plain → List Expected
+files_left_from i j [] = []
+files_left_from i j (folder ∷ folders) =
     expected_files i (j + 1) (drop j (files_in folder)) ++ expected_folders (i + 1) folders
 
 -- the files with contents that a walk has still before it
-abbrev pub left_in : Walk → List Expected
-left_in walk =
-    left_from (walk.folder + 1) walk.file
+abbrev pub files_left_in_walk : Walk → List Expected
+files_left_in_walk walk =
+    files_left_from (walk.folder + 1) walk.file
     (drop walk.folder (list_of (entries_in (list_value walk.folders))))
 
 -- the walk takes the first of the files before it and has the others after it, or returns None if there
 -- is none
-abbrev pub TakesFirst : List Expected → Option Wanted → List Expected → Type 0
-TakesFirst before None after = (before ≡ []) × (after ≡ [])
-TakesFirst before (Some w) after = before ≡ expected_of w ∷ after
+abbrev pub TakesFirstExpected : List Expected → Option Wanted → List Expected → Type 0
+TakesFirstExpected before None after = (before ≡ []) × (after ≡ [])
+TakesFirstExpected before (Some w) after = before ≡ expected_of w ∷ after
 
 -- ---- one file
 
 -- whether a file is the one at these positions
-abbrev pub has_positions : ℕ → ℕ → Expected → Bool
-has_positions folder file e = (e.folder == folder) && (e.file == file)
+abbrev pub is_expected_at : ℕ → ℕ → Expected → Bool
+is_expected_at folder file e = (e.folder == folder) && (e.file == file)
 
 -- the file with these positions among files that have contents, if it is there
 abbrev pub expected_file_at : ℕ → ℕ → List Expected → Option Expected
-expected_file_at folder file es = find (has_positions folder file) es
+expected_file_at folder file es = find (is_expected_at folder file) es
 
 -- ---- the blocks with it
 
 -- the files of a package that are still to be read, ignoring an earlier error
 abbrev pub files_left : Rest → FilesRead
-files_left rest = files_by_blocks (left_in rest.walk) (reading_of rest.blocks)
+files_left rest = files_read_from_blocks (files_left_in_walk rest.walk) (block_stream_from rest.blocks)
 
 -- the files, unless a test failed before: then that fault alone
 abbrev pub unless_refused : Option Cause → FilesRead → FilesRead
@@ -81,17 +81,17 @@ ReadsNext before (Ok (Some f)) after = before ≡ given (contents_view f) after
 ReadsNext before (Err c) after = before ≡ refused c
 
 -- the contents in a payload are those of the first expected file, and the others are left
-abbrev pub GivesFirst : List ℕ → FileContents → List Expected → List Expected → Type 0
-GivesFirst payload f [] after = ⊥
-GivesFirst payload f (e ∷ es) after = (contents_view f ≡ contents_by payload e) × (es ≡ after)
+abbrev pub ReturnsContentsOfFirst : List ℕ → FileContents → List Expected → List Expected → Type 0
+ReturnsContentsOfFirst payload f [] after = ⊥
+ReturnsContentsOfFirst payload f (e ∷ es) after = (contents_view f ≡ contents_of_expected payload e) × (es ≡ after)
 
 -- the result of the walk for a block of contents at an offset: those of the next file, if no test
 -- fails, or the first failed test
-abbrev pub GivesContents : List ℕ → ℕ → List Expected → Result FileContents Cause → List Expected
+abbrev pub ReturnsNextContents : List ℕ → ℕ → List Expected → Result FileContents Cause → List Expected
     → Type 0
-GivesContents payload at before (Ok f) after =
-    (contents_block_fault payload at before ≡ None) × GivesFirst payload f before after
-GivesContents payload at before (Err c) after = contents_block_fault payload at before ≡ Some c
+ReturnsNextContents payload at before (Ok f) after =
+    (contents_block_fault payload at before ≡ None) × ReturnsContentsOfFirst payload f before after
+ReturnsNextContents payload at before (Err c) after = contents_block_fault payload at before ≡ Some c
 
 -- ---- a package
 

@@ -7,8 +7,8 @@ use Rattle.base_core.specs.declared.cause.Cause.TheVariants.{Truncated, DataOrde
 use Rattle.adb_block.specs.Reading.{Reading, done, fault, more}
 use Rattle.adb_block.specs.declared.block.BlockKind.{BlockKind}
 use Rattle.adb_block.specs.declared.block.BlockKind.TheVariants as Kinds
-use Rattle.adb_schema.specs.Soundness.{file_pair}
-use Rattle.pkg_core.specs.Contents.{Expected, FilesRead, POSITIONS_LEN, no_more, refused, given, contents_bytes, has_positions_of, hash_fault, missing_fault}
+use Rattle.adb_schema.specs.Soundness.{contents_positions}
+use Rattle.pkg_core.specs.Contents.{Expected, FilesRead, POSITIONS_LEN, no_more, refused, given, contents_bytes, has_positions_of, hash_fault, missing_contents_fault}
 use Rattle.pkg_core.specs.declared.file.Part.{Part}
 use Rattle.pkg_core.specs.declared.file.TheConstants.{PIECE_LEN}
 
@@ -32,27 +32,27 @@ last_piece e (Some c) bytes further = refusal c
 
 -- the pieces of a file's bytes: this many whole ones, then the last one, and then further pieces of
 -- other files
-abbrev pub pieces_from : ℕ → Expected → Option Cause → List ℕ → PiecesRead → PiecesRead
-pieces_from zero e digest bytes further = last_piece e digest bytes further
-pieces_from (suc n) e digest bytes further =
+abbrev pub pieces_of_one_file : ℕ → Expected → Option Cause → List ℕ → PiecesRead → PiecesRead
+pieces_of_one_file zero e digest bytes further = last_piece e digest bytes further
+pieces_of_one_file (suc n) e digest bytes further =
     piece (part_of e false) (take PIECE_LEN bytes)
-    (pieces_from n e digest (drop PIECE_LEN bytes) further)
+    (pieces_of_one_file n e digest (drop PIECE_LEN bytes) further)
 
 -- how many whole pieces of a file of this length precede its last one, which is not empty
-abbrev pub whole_pieces : ℕ → ℕ
-whole_pieces len = (len - 1) / PIECE_LEN
+abbrev pub whole_piece_count : ℕ → ℕ
+whole_piece_count len = (len - 1) / PIECE_LEN
 
 -- the pieces of all bytes of a file, and then further ones
 abbrev pub pieces_of_bytes : Expected → List ℕ → PiecesRead → PiecesRead
 pieces_of_bytes e bytes further =
-    pieces_from (whole_pieces (length bytes)) e (hash_fault e.hash bytes) bytes further
+    pieces_of_one_file (whole_piece_count (length bytes)) e (hash_fault e.hash bytes) bytes further
 
 -- ---- one block
 
 -- the first failed test before a file's first piece: the positions, then the size
 abbrev pub position_or_size_fault : List ℕ → Expected → Option Cause
 position_or_size_fault payload e =
-    if not (has_positions_of payload e) then Some (DataOrder (e.folder, e.file) (file_pair payload))
+    if not (has_positions_of payload e) then Some (DataOrder (e.folder, e.file) (contents_positions payload))
     else if not (length (contents_bytes payload) == e.size)
     then Some (DataSize e.size (length (contents_bytes payload)))
     else None
@@ -65,7 +65,7 @@ unless_refusal (Some c) pieces = refusal c
 -- the pieces of a payload of contents against the next expected file, and then further ones; if none is
 -- expected any contents are out of order, and (0, 0) was expected
 abbrev pub pieces_of_payload : List ℕ → (List Expected → PiecesRead) → List Expected → PiecesRead
-pieces_of_payload payload further [] = refusal (DataOrder (0, 0) (file_pair payload))
+pieces_of_payload payload further [] = refusal (DataOrder (0, 0) (contents_positions payload))
 pieces_of_payload payload further (e ∷ es) =
     unless_refusal (position_or_size_fault payload e)
     (pieces_of_bytes e (contents_bytes payload) (further es))
@@ -82,31 +82,31 @@ pieces_at_block kind payload at further es = further es
 -- ---- all of them
 
 -- the pieces of the blocks, against the files that are expected
-unfoldable pub pieces_by_blocks : List Expected → Reading → PiecesRead
-pieces_by_blocks es done = unless_refusal (missing_fault es) no_piece
-pieces_by_blocks es (fault c) = refusal c
-pieces_by_blocks es (more b at r) =
-    pieces_at_block b.kind b.payload at (λ left. pieces_by_blocks left r) es
+unfoldable pub pieces_read_from_blocks : List Expected → Reading → PiecesRead
+pieces_read_from_blocks es done = unless_refusal (missing_contents_fault es) no_piece
+pieces_read_from_blocks es (fault c) = refusal c
+pieces_read_from_blocks es (more b at r) =
+    pieces_at_block b.kind b.payload at (λ left. pieces_read_from_blocks left r) es
 
 -- the fault that ended the pieces, if one did
-abbrev pub refusal_in : PiecesRead → Option Cause
-refusal_in no_piece = None
-refusal_in (refusal c) = Some c
-refusal_in (piece part bytes pieces) = refusal_in pieces
+abbrev pub refusal_of_pieces : PiecesRead → Option Cause
+refusal_of_pieces no_piece = None
+refusal_of_pieces (refusal c) = Some c
+refusal_of_pieces (piece part bytes pieces) = refusal_of_pieces pieces
 
 -- ---- joined
 
 -- the files from a piece on, after these bytes of its file were gathered: the file is complete with its
 -- last part, and until then `further` continues with the bytes
-abbrev pub file_given : Part → List ℕ → (List ℕ → FilesRead) → FilesRead
-file_given part bytes further =
+abbrev pub files_from_piece : Part → List ℕ → (List ℕ → FilesRead) → FilesRead
+files_from_piece part bytes further =
     if part.last
     then given (record { folder = part.path; file = part.file; bytes = bytes }) (further [])
     else further bytes
 
 -- the files whose pieces these are, after these bytes of the first file were gathered
-abbrev pub files_joined : PiecesRead → List ℕ → FilesRead
-files_joined no_piece so_far = no_more
-files_joined (refusal c) so_far = refused c
-files_joined (piece part bytes pieces) so_far =
-    file_given part (so_far ++ bytes) (files_joined pieces)
+abbrev pub files_joined_from_pieces : PiecesRead → List ℕ → FilesRead
+files_joined_from_pieces no_piece so_far = no_more
+files_joined_from_pieces (refusal c) so_far = refused c
+files_joined_from_pieces (piece part bytes pieces) so_far =
+    files_from_piece part (so_far ++ bytes) (files_joined_from_pieces pieces)

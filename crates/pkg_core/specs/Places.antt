@@ -6,14 +6,14 @@ use Rattle.base_core.specs.declared.cause.Cause.{Cause}
 use Rattle.adb_block.specs.Framing.{Step as BlockStep, next_step}
 use Rattle.adb_block.specs.Frames.{framed_piece, raw_size}
 use Rattle.adb_block.specs.Piece.{padding_of}
-use Rattle.adb_block.specs.Reading.{reading_of}
+use Rattle.adb_block.specs.Reading.{block_stream_from}
 use Rattle.adb_block.specs.ReaderPosition.{ReaderPosition}
 use Rattle.adb_block.specs.declared.block.BlockKind.TheVariants as Kinds
 use Rattle.adb_block.specs.declared.block.Frame.{Frame}
 use Rattle.pkg_core.specs.Contents.{POSITIONS_LEN, contents_bytes}
-use Rattle.pkg_core.specs.Opened.{expected_of, left_in}
+use Rattle.pkg_core.specs.Opened.{expected_of, files_left_in_walk}
 use Rattle.pkg_core.specs.declared.walk.Walk.{Walk}
-use Rattle.pkg_core.specs.Pieces.{PiecesRead, no_piece, refusal, pieces_by_blocks}
+use Rattle.pkg_core.specs.Pieces.{PiecesRead, no_piece, refusal, pieces_read_from_blocks}
 use Rattle.pkg_core.specs.Taking.{HasTaken, file_bytes_left, pieces_in}
 use Rattle.pkg_core.specs.declared.place.BlockPlace.{BlockPlace}
 use Rattle.pkg_core.specs.declared.place.Step.{Step}
@@ -28,13 +28,13 @@ reader_at_place place file =
     record { schema = 0; last = Some place.last; at = place.at; left = drop place.at file }
 
 -- the result at a place of this file: a block, the end or a fault
-abbrev pub step_at : BlockPlace → List ℕ → BlockStep
-step_at place file = next_step (Some place.last) place.at (drop place.at file)
+abbrev pub block_step_at : BlockPlace → List ℕ → BlockStep
+block_step_at place file = next_step (Some place.last) place.at (drop place.at file)
 
 -- the pieces of the blocks of this file from a place on
 abbrev pub pieces_at : BlockPlace → List ℕ → PiecesRead
 pieces_at place file =
-    pieces_by_blocks (left_in place.walk) (reading_of (reader_at_place place file))
+    pieces_read_from_blocks (files_left_in_walk place.walk) (block_stream_from (reader_at_place place file))
 
 -- the payload of the block of this frame that is at a place of this file
 abbrev pub payload_at : Frame → BlockPlace → List ℕ → List ℕ
@@ -63,32 +63,32 @@ place_after place frame = record {
 
 -- all bytes of a file that a step opened are still to be taken: those of the block's payload after the
 -- positions
-abbrev pub HasAllLeft : Frame → Step → Type 0
-HasAllLeft frame End = Unit {0}
-HasAllLeft frame Passed = Unit {0}
-HasAllLeft frame (Opened f) = POSITIONS_LEN + file_bytes_left f ≡ frame.payload_len
+abbrev pub HasWholeFileLeft : Frame → Step → Type 0
+HasWholeFileLeft frame End = Unit {0}
+HasWholeFileLeft frame Passed = Unit {0}
+HasWholeFileLeft frame (Opened f) = POSITIONS_LEN + file_bytes_left f ≡ frame.payload_len
 
 -- a step opens a file only by a block of contents
-abbrev pub IsOfContents : Frame → Step → Type 0
-IsOfContents frame End = Unit {0}
-IsOfContents frame Passed = Unit {0}
-IsOfContents frame (Opened f) = frame.kind ≡ Kinds.Contents
+abbrev pub OpensOnlyContents : Frame → Step → Type 0
+OpensOnlyContents frame End = Unit {0}
+OpensOnlyContents frame Passed = Unit {0}
+OpensOnlyContents frame (Opened f) = frame.kind ≡ Kinds.Contents
 
 -- the walk before and after a step: it advances over the opened file; at the end no file is expected
-abbrev pub WalksOn : Walk → Step → Walk → Type 0
-WalksOn before End after = (left_in before ≡ []) × (left_in after ≡ [])
-WalksOn before Passed after = after ≡ before
-WalksOn before (Opened f) after = left_in before ≡ expected_of f.wanted ∷ left_in after
+abbrev pub IsWalkAfterStep : Walk → Step → Walk → Type 0
+IsWalkAfterStep before End after = (files_left_in_walk before ≡ []) × (files_left_in_walk after ≡ [])
+IsWalkAfterStep before Passed after = after ≡ before
+IsWalkAfterStep before (Opened f) after = files_left_in_walk before ≡ expected_of f.wanted ∷ files_left_in_walk after
 
 -- the result of a step at a place of this file: no block is left; a block was passed; the contents of a
 -- file begin, and the pieces after them are those from the new position; or the first failed test
-abbrev pub IsStepped : Option Frame → BlockPlace → List ℕ → Result Step Cause → BlockPlace → Type 0
-IsStepped framing before file (Ok End) after = pieces_at before file ≡ no_piece
-IsStepped framing before file (Ok Passed) after = pieces_at before file ≡ pieces_at after file
-IsStepped None before file (Ok (Opened f)) after = ⊥
-IsStepped (Some frame) before file (Ok (Opened f)) after =
+abbrev pub IsStepResult : Option Frame → BlockPlace → List ℕ → Result Step Cause → BlockPlace → Type 0
+IsStepResult framing before file (Ok End) after = pieces_at before file ≡ no_piece
+IsStepResult framing before file (Ok Passed) after = pieces_at before file ≡ pieces_at after file
+IsStepResult None before file (Ok (Opened f)) after = ⊥
+IsStepResult (Some frame) before file (Ok (Opened f)) after =
     (pieces_at before file
     ≡ pieces_in f [] (contents_bytes (payload_at frame before file)) (pieces_at after file))
     × HasTaken f []
     × (length (contents_bytes (payload_at frame before file)) ≡ f.wanted.size)
-IsStepped framing before file (Err c) after = pieces_at before file ≡ refusal c
+IsStepResult framing before file (Err c) after = pieces_at before file ≡ refusal c

@@ -8,15 +8,15 @@ use Rattle.base_core.specs.Tree.{TreeState, files_of}
 use Rattle.base_core.specs.declared.tree.Disk.{Disk}
 
 -- the file has these bytes at an offset
-abbrev pub HasAt : List ℕ → ℕ → List ℕ → Type 0
-HasAt file at bytes = take (length bytes) (drop at file) ≡ bytes
+abbrev pub HasBytesAtOffset : List ℕ → ℕ → List ℕ → Type 0
+HasBytesAtOffset file at bytes = take (length bytes) (drop at file) ≡ bytes
 
 -- a read saw these bytes: if the tree is observable, and the file under this name has this length, it
 -- has them at this offset
 abbrev pub AreBytesRead : List TreeState → List ℕ → ℕ → ℕ → List ℕ → Type 0
 AreBytesRead history name len at bytes =
     IfObservable history
-    (λ v. IfSome (files_of v name) (λ file. length file ≡ len → HasAt file at bytes))
+    (λ v. IfSome (files_of v name) (λ file. length file ≡ len → HasBytesAtOffset file at bytes))
 
 -- a read saw these bytes, and they are within a file of this length
 pub record IsSeenIn (history : List TreeState) (name : List ℕ) (len at : ℕ)
@@ -25,7 +25,7 @@ pub record IsSeenIn (history : List TreeState) (name : List ℕ) (len at : ℕ)
   pub within : at + length bytes ≤ len
 
 -- the file under this name exists and has this length
-pub record IsSoLong (name : List ℕ) (len : ℕ) (v : TreeState) : Type 0 where
+pub record IsFileOfLength (name : List ℕ) (len : ℕ) (v : TreeState) : Type 0 where
   pub file : List ℕ
   pub present : files_of v name ≡ Some file
   pub long : length file ≡ len
@@ -47,4 +47,4 @@ pub record ReadsFile {A E : Type 0} (name : List ℕ) (len : ℕ) (disk_fault : 
   -- a result that is no failure of the tree raised neither the count of faults nor that of wants
   pub kept : OnOk result (IsNoFault before now)
   pub others : IfErr result (λ fault. (fault ≡ disk_fault → ⊥) → IsNoFault before now)
-  pub proper : IfObservable old (λ v. IsSoLong name len v → now.misuses ≡ before.misuses)
+  pub proper : IfObservable old (λ v. IsFileOfLength name len v → now.misuses ≡ before.misuses)

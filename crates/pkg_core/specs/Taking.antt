@@ -4,8 +4,8 @@ use Rattle.std.specs.Prelude.{◌≡◌, ℕ, ◌-◌, min, true, false, List, [
 use Rattle.base_core.specs.declared.cause.Cause.{Cause}
 use Rattle.pkg_core.specs.Contents.{contents_bytes, hash_fault}
 use Rattle.pkg_core.specs.Opened.{expected_of}
-use Rattle.pkg_core.specs.Hashing.{HoldsFor}
-use Rattle.pkg_core.specs.Pieces.{PiecesRead, piece, refusal, part_of, pieces_from, whole_pieces}
+use Rattle.pkg_core.specs.Hashing.{HasHashedMessage}
+use Rattle.pkg_core.specs.Pieces.{PiecesRead, piece, refusal, part_of, pieces_of_one_file, whole_piece_count}
 use Rattle.pkg_core.specs.declared.file.FileCheck.{FileCheck}
 use Rattle.pkg_core.specs.declared.file.Part.{Part}
 use Rattle.pkg_core.specs.declared.file.TheConstants.{PIECE_LEN}
@@ -15,48 +15,48 @@ abbrev pub file_bytes_left : FileCheck → ℕ
 file_bytes_left f = f.wanted.size - f.done
 
 -- how many bytes the next piece of a file has
-abbrev pub next_len : FileCheck → ℕ
-next_len f = min (file_bytes_left f) PIECE_LEN
+abbrev pub next_piece_len : FileCheck → ℕ
+next_piece_len f = min (file_bytes_left f) PIECE_LEN
 
 -- exactly these bytes of a file were taken
 pub record HasTaken (f : FileCheck) (so_far : List ℕ) : Type 0 where
-  pub hashed : HoldsFor f.hasher f.wanted.hash.now so_far
+  pub hashed : HasHashedMessage f.hasher f.wanted.hash.now so_far
   pub long : length so_far ≡ f.done
 
 -- these bytes of a file with this digest were taken; if none are left (None) they have the digest
-abbrev pub IsTested : List ℕ → List ℕ → Option FileCheck → Type 0
-IsTested hash bytes None = hash_fault hash bytes ≡ None
-IsTested hash bytes (Some f) = HasTaken f bytes
+abbrev pub HasTakenOrPassedDigest : List ℕ → List ℕ → Option FileCheck → Type 0
+HasTakenOrPassedDigest hash bytes None = hash_fault hash bytes ≡ None
+HasTakenOrPassedDigest hash bytes (Some f) = HasTaken f bytes
 
 -- the pieces of the rest of a file, after the bytes that were taken so far, and then further ones
 abbrev pub pieces_in : FileCheck → List ℕ → List ℕ → PiecesRead → PiecesRead
 pieces_in f so_far left further =
-    pieces_from (whole_pieces (length left)) (expected_of f.wanted)
+    pieces_of_one_file (whole_piece_count (length left)) (expected_of f.wanted)
     (hash_fault f.wanted.hash.now (so_far ++ left)) left further
 
 -- the result for the bytes of a call: they are the next piece, followed by the pieces of the rest or,
 -- after the last piece, by the further ones; or the digest differs
-abbrev pub IsTaken : FileCheck → List ℕ → List ℕ → List ℕ → PiecesRead
+abbrev pub IsTakeResult : FileCheck → List ℕ → List ℕ → List ℕ → PiecesRead
     → Result (Part × Option FileCheck) Cause → Type 0
-IsTaken f so_far bytes left further (Ok (part, Some g)) =
+IsTakeResult f so_far bytes left further (Ok (part, Some g)) =
     (pieces_in f so_far (bytes ++ left) further
     ≡ piece part bytes (pieces_in g (so_far ++ bytes) left further))
     × HasTaken g (so_far ++ bytes) × (g.wanted ≡ f.wanted)
-IsTaken f so_far bytes left further (Ok (part, None)) =
+IsTakeResult f so_far bytes left further (Ok (part, None)) =
     pieces_in f so_far (bytes ++ left) further ≡ piece part bytes further
-IsTaken f so_far bytes left further (Err c) =
+IsTakeResult f so_far bytes left further (Err c) =
     pieces_in f so_far (bytes ++ left) further ≡ refusal c
 
 -- the result is a part of this file, and, unless it is the last, the same file with its rest
-abbrev pub IsPartOf : FileCheck → Part × Option FileCheck → Type 0
-IsPartOf f (part, Some g) =
+abbrev pub IsPartOfCheckedFile : FileCheck → Part × Option FileCheck → Type 0
+IsPartOfCheckedFile f (part, Some g) =
     (part ≡ part_of (expected_of f.wanted) false) × (g.wanted ≡ f.wanted)
-IsPartOf f (part, None) = part ≡ part_of (expected_of f.wanted) true
+IsPartOfCheckedFile f (part, None) = part ≡ part_of (expected_of f.wanted) true
 
 -- the result of opening a file for a block of contents with this payload: the contents are those of a
 -- file of which nothing was taken yet; or the first failed test
-abbrev pub IsOpened : PiecesRead → List ℕ → PiecesRead → Result FileCheck Cause → Type 0
-IsOpened before payload further (Ok f) =
+abbrev pub IsOpenResult : PiecesRead → List ℕ → PiecesRead → Result FileCheck Cause → Type 0
+IsOpenResult before payload further (Ok f) =
     (before ≡ pieces_in f [] (contents_bytes payload) further) × HasTaken f []
     × (length (contents_bytes payload) ≡ f.wanted.size)
-IsOpened before payload further (Err c) = before ≡ refusal c
+IsOpenResult before payload further (Err c) = before ≡ refusal c

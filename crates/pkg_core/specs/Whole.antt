@@ -5,20 +5,20 @@ use Rattle.sha2.specs.Sha256.{sha256}
 use Rattle.base_core.specs.declared.cause.Cause.{Cause}
 use Rattle.base_core.specs.declared.cause.Cause.TheVariants.{WrongSchema}
 use Rattle.adb_block.specs.Header.{header_of}
-use Rattle.adb_block.specs.ReaderPosition.{start_of}
-use Rattle.adb_block.specs.Reading.{Reading, done, fault, more, reading_of}
+use Rattle.adb_block.specs.ReaderPosition.{first_block_position}
+use Rattle.adb_block.specs.Reading.{Reading, done, fault, more, block_stream_from}
 use Rattle.adb_view.specs.Plain.{Plain}
-use Rattle.adb_schema.specs.Soundness.{fault_with, rest_fault, payload_in, root_value}
+use Rattle.adb_schema.specs.Soundness.{file_fault_with_rest_test, fault_after_first_block, payload_in, root_value}
 use Rattle.adb_view.specs.declared.tables.Which.{Which}
 use Rattle.adb_view.specs.declared.tables.Which.TheVariants.{Package, Index, Idb, Intent}
 use Rattle.adb_schema.specs.declared.read.TheConstants.{PACKAGE_WORD, INDEX_WORD, IDB_WORD, INTENT_WORD}
-use Rattle.pkg_core.specs.Contents.{Contents, FilesRead, no_more, refused, files_by_blocks, contents_in, contents_fault, expected_contents}
+use Rattle.pkg_core.specs.Contents.{Contents, FilesRead, no_more, refused, files_read_from_blocks, contents_in, contents_fault, expected_contents}
 
 -- ---- a container of any schema
 
 -- the table at the root of a container with this schema
-abbrev pub root_of_schema : ℕ → Option Which
-root_of_schema schema =
+abbrev pub table_of_schema : ℕ → Option Which
+table_of_schema schema =
     if schema == PACKAGE_WORD then Some Package
     else if schema == INDEX_WORD then Some Index
     else if schema == IDB_WORD then Some Idb
@@ -27,33 +27,33 @@ root_of_schema schema =
 
 -- the first failed test of the blocks after the first: for a package the contents of its files, for
 -- another container that it has no contents
-abbrev pub fault_after_first : Which → Plain → Reading → Option Cause
-fault_after_first Package value r = contents_fault (expected_contents value) r
-fault_after_first which value r = rest_fault which r
+abbrev pub fault_of_further_blocks : Which → Plain → Reading → Option Cause
+fault_of_further_blocks Package value r = contents_fault (expected_contents value) r
+fault_of_further_blocks which value r = fault_after_first_block which r
 
 -- the first failed test of a file that is to be a container with this table at its root
-unfoldable pub whole_fault : Which → List ℕ → Option Cause
-whole_fault which file = fault_with (fault_after_first which) which file
+unfoldable pub container_fault_of_table : Which → List ℕ → Option Cause
+container_fault_of_table which file = file_fault_with_rest_test (fault_of_further_blocks which) which file
 
 -- the first failed test of a file of this schema, which has to be one of the four
-abbrev pub fault_by_schema : List ℕ → ℕ → Option Which → Option Cause
-fault_by_schema file schema None = Some (WrongSchema schema)
-fault_by_schema file schema (Some which) = whole_fault which file
+abbrev pub container_fault_after_schema : List ℕ → ℕ → Option Which → Option Cause
+container_fault_after_schema file schema None = Some (WrongSchema schema)
+container_fault_after_schema file schema (Some which) = container_fault_of_table which file
 
 -- the first failed test of a file, by its header
-abbrev pub fault_by_header : List ℕ → Result ℕ Cause → Option Cause
-fault_by_header file (Err c) = Some c
-fault_by_header file (Ok schema) = fault_by_schema file schema (root_of_schema schema)
+abbrev pub container_fault_after_header : List ℕ → Result ℕ Cause → Option Cause
+container_fault_after_header file (Err c) = Some c
+container_fault_after_header file (Ok schema) = container_fault_after_schema file schema (table_of_schema schema)
 
 -- the first failed test of a file as a container of one of the four schemas
 unfoldable pub container_fault : List ℕ → Option Cause
-container_fault file = fault_by_header file (header_of file)
+container_fault file = container_fault_after_header file (header_of file)
 
 -- ---- a package
 
 -- the first failed test of a file that is to be a package
 abbrev pub package_fault : List ℕ → Option Cause
-package_fault file = whole_fault Package file
+package_fault file = container_fault_of_table Package file
 
 -- the id of a package: the SHA-256 of its ADB payload
 abbrev pub package_id : List ℕ → List ℕ
@@ -61,19 +61,19 @@ package_id file = sha256 (payload_in file)
 
 -- the files of a package's blocks: the value of the first block has the expected files, and the blocks
 -- after it their contents
-abbrev pub files_after_first : Reading → FilesRead
-files_after_first done = no_more
-files_after_first (fault c) = refused c
-files_after_first (more b at r) = files_by_blocks (expected_contents (root_value Package b.payload)) r
+abbrev pub files_after_first_block : Reading → FilesRead
+files_after_first_block done = no_more
+files_after_first_block (fault c) = refused c
+files_after_first_block (more b at r) = files_read_from_blocks (expected_contents (root_value Package b.payload)) r
 
 -- the files of a package, by its header
-abbrev pub files_by_header : List ℕ → Result ℕ Cause → FilesRead
-files_by_header file (Ok schema) = files_after_first (reading_of (start_of schema file))
-files_by_header file (Err c) = refused c
+abbrev pub files_after_header : List ℕ → Result ℕ Cause → FilesRead
+files_after_header file (Ok schema) = files_after_first_block (block_stream_from (first_block_position schema file))
+files_after_header file (Err c) = refused c
 
 -- the files of a package with their contents
 unfoldable pub files_in_file : List ℕ → FilesRead
-files_in_file file = files_by_header file (header_of file)
+files_in_file file = files_after_header file (header_of file)
 
 -- the value of a package, with the contents of its files
 pub record Packed : Type 0 where

@@ -5,9 +5,9 @@
 ghost use Rattle.std.specs.Prelude.{◌≡◌, ◌≢◌, None, IfOk, IfErr, IfSome, IsTrue, is_some, length, ℕ, List, Some};
 ghost use Rattle.std.specs.Option.{option_or};
 ghost use Rattle.std.specs.Result.{result_err};
-ghost use Rattle.pkg_core.specs.Contents.{fault_in, digest_fault, hash_fault, contents_fault, contents_in, expected_contents, files_by_blocks, Expected};
+ghost use Rattle.pkg_core.specs.Contents.{fault_of_files_read, digest_fault, hash_fault, contents_fault, contents_in, expected_contents, files_read_from_blocks, Expected};
 ghost use Rattle.pkg_core.specs.Opened.{opened_files};
-ghost use Rattle.pkg_core.specs.Whole.{container_fault, package_fault, root_of_schema, whole_fault, files_in_file, package_with_contents};
+ghost use Rattle.pkg_core.specs.Whole.{container_fault, package_fault, table_of_schema, container_fault_of_table, files_in_file, package_with_contents};
 ghost use Rattle.pkg_core.specs.Refusals.{IsFaultOf};
 ghost use Rattle.sha1.specs.Sha1.{sha1};
 ghost use Rattle.sha2.specs.Sha256.{sha256};
@@ -18,7 +18,7 @@ ghost use Rattle.base_core.specs.declared.cause.Cause.{Cause};
 ghost use Rattle.adb_block.specs.Reading.{Reading};
 ghost use Rattle.adb_schema.specs.Soundness.{first_fault, schema_word};
 ghost use Rattle.pkg_core.specs.FirstContents.{IsFirstContentsFault};
-ghost use Rattle.pkg_core.specs.GoodContents.{AreContentsOf, AreTrueTo};
+ghost use Rattle.pkg_core.specs.GoodContents.{AreContentsOf, MatchEachExpected};
 
 use crate::pack::{Package, PackageFault};
 use adb_block::Blocks;
@@ -45,7 +45,7 @@ pub fn verify(alloc: Global, bytes: &[u8]) -> Result<(), PackageFault>
     ensures sound { IfOk result (λ _. container_fault bytes.now ≡ None) }
 {
     let found = Blocks::new(bytes)?.schema();
-    match root_of_schema(found) {
+    match table_of_schema(found) {
         Some(which) => verify_as(alloc, bytes, which),
         None => Err(PackageFault::Bad(Cause::WrongSchema { found })),
     }
@@ -53,8 +53,8 @@ pub fn verify(alloc: Global, bytes: &[u8]) -> Result<(), PackageFault>
 
 /// The table at the root of a container with this schema (apk-v3(5)); None if the schema is none of
 /// the four.
-pub fn root_of_schema(schema: u32) -> Option<Which>
-    ensures root { result ≡ root_of_schema schema }
+pub fn table_of_schema(schema: u32) -> Option<Which>
+    ensures root { result ≡ table_of_schema schema }
     ensures known { IfSome result (λ which. IsTrue (is_some (schema_word which))) }
 {
     match schema {
@@ -68,8 +68,8 @@ pub fn root_of_schema(schema: u32) -> Option<Which>
 
 /// Tests a container that must have this table at its root.
 fn verify_as(alloc: Global, bytes: &[u8], which: Which) -> Result<(), PackageFault>
-    ensures bad { IfErr result (λ fault. IsFaultOf fault (whole_fault which bytes.now)) }
-    ensures sound { IfOk result (λ _. whole_fault which bytes.now ≡ None) }
+    ensures bad { IfErr result (λ fault. IsFaultOf fault (container_fault_of_table which bytes.now)) }
+    ensures sound { IfOk result (λ _. container_fault_of_table which bytes.now ≡ None) }
 {
     match which {
         Which::Package => verify_package(alloc, bytes),
@@ -90,7 +90,7 @@ fn verify_package(alloc: Global, bytes: &[u8]) -> Result<(), PackageFault>
 
 /// Reads the files of a package to the last.
 fn check_files(pkg: &mut Package<'_>) -> Result<(), Cause>
-    ensures { result_err result ≡ fault_in (opened_files pkg.old) }
+    ensures { result_err result ≡ fault_of_files_read (opened_files pkg.old) }
 {
     while pkg.next_file()?.is_some() {}
     Ok(())
@@ -100,8 +100,8 @@ fn check_files(pkg: &mut Package<'_>) -> Result<(), Cause>
 #[tactic(auto, using(crate::proofs::Steps::other_fault))]
 fn verify_other(alloc: Global, bytes: &[u8], which: Which) -> Result<(), PackageFault>
     requires { which ≢ Tables.Package }
-    ensures bad { IfErr result (λ fault. IsFaultOf fault (whole_fault which bytes.now)) }
-    ensures sound { IfOk result (λ _. whole_fault which bytes.now ≡ None) }
+    ensures bad { IfErr result (λ fault. IsFaultOf fault (container_fault_of_table which bytes.now)) }
+    ensures sound { IfOk result (λ _. container_fault_of_table which bytes.now ≡ None) }
 {
     read_adb(alloc, bytes, which)?;
     Ok(())
@@ -177,7 +177,7 @@ pub fn sha512_fault(hash: &[u8], found: [u8; 64]) -> Option<Cause>
 /// others: each with the positions, the size and the digest of its file.
 pub fn good_blocks_give_the_contents_of_each_file()
     ensures { (expected : List Expected) (r : Reading) → contents_fault expected r ≡ None
-        → AreContentsOf expected (contents_in (files_by_blocks expected r)) }
+        → AreContentsOf expected (contents_in (files_read_from_blocks expected r)) }
 {}
 
 /// The fault of the blocks that is reported is the first. Each block of contents is tested against
@@ -192,7 +192,7 @@ pub fn the_first_fault_of_contents_is_reported()
 pub fn a_package_is_tested_by_its_values_and_then_its_files()
     ensures { (file : List ℕ)
         → package_fault file
-        ≡ option_or (first_fault Tables.Package file) (fault_in (files_in_file file)) }
+        ≡ option_or (first_fault Tables.Package file) (fault_of_files_read (files_in_file file)) }
 {}
 
 /// A package in which no test fails has the contents of each of its files that has no target and a
@@ -200,7 +200,7 @@ pub fn a_package_is_tested_by_its_values_and_then_its_files()
 /// or SHA-512 (FIPS 180-4) its digest.
 pub fn a_package_has_the_contents_of_its_files()
     ensures { (file : List ℕ) → package_fault file ≡ None
-        → AreTrueTo (expected_contents (package_with_contents file).value)
+        → MatchEachExpected (expected_contents (package_with_contents file).value)
         (package_with_contents file).contents }
 {
     // A law that the proof needs; it has no effect at run time.

@@ -3,16 +3,16 @@
 //! blocks of contents above it.
 
 ghost use Rattle.std.specs.Prelude.{◌≡◌, ◌<◌, ◌≤◌, ◌+◌, ◌-◌, ℕ, List, [], ◌∷◌, ◌++◌, length, take, None, IfNone, IfOk, IfSome};
-ghost use Rattle.adb_schema.specs.Soundness.{file_pair};
-ghost use Rattle.pkg_core.specs.Contents.{Expected, POSITIONS_LEN, contents_bytes, files_by_blocks};
-ghost use Rattle.pkg_core.specs.Opened.{expected_of, left_in};
-ghost use Rattle.pkg_core.specs.Pieces.{PiecesRead, part_of, pieces_of_payload, position_or_size_fault, files_joined, pieces_by_blocks};
-ghost use Rattle.pkg_core.specs.Taking.{HasTaken, IsOpened, IsPartOf, IsTaken, IsTested, file_bytes_left, next_len};
+ghost use Rattle.adb_schema.specs.Soundness.{contents_positions};
+ghost use Rattle.pkg_core.specs.Contents.{Expected, POSITIONS_LEN, contents_bytes, files_read_from_blocks};
+ghost use Rattle.pkg_core.specs.Opened.{expected_of, files_left_in_walk};
+ghost use Rattle.pkg_core.specs.Pieces.{PiecesRead, part_of, pieces_of_payload, position_or_size_fault, files_joined_from_pieces, pieces_read_from_blocks};
+ghost use Rattle.pkg_core.specs.Taking.{HasTaken, IsOpenResult, IsPartOfCheckedFile, IsTakeResult, HasTakenOrPassedDigest, file_bytes_left, next_piece_len};
 ghost use Rattle.adb_block.specs.Reading.{Reading};
 
 use crate::hasher::Hasher;
 use crate::walk::{POSITIONS_LEN, Walk, Wanted};
-use adb_schema::file_pair;
+use adb_schema::contents_positions;
 use base_core::Cause;
 
 /// The check of one file whose contents are taken in pieces: the expected file, and how many of its
@@ -42,8 +42,8 @@ impl<'a> FileCheck<'a> {
     }
 
     /// The length of the next piece in bytes: 65,536, or the rest of the file.
-    pub fn next_len(&self) -> usize
-        ensures { result ≡ next_len self.now }
+    pub fn next_piece_len(&self) -> usize
+        ensures { result ≡ next_piece_len self.now }
     {
         let left = self.wanted.size.saturating_sub(self.done);
         left.min(PIECE_LEN as u64) as usize
@@ -57,16 +57,16 @@ impl<'a> FileCheck<'a> {
     /// `HashDiffers`, after the last piece, if all bytes together do not have the file's digest.
     #[tactic(auto, using(crate::proofs::Taken::more_left, crate::proofs::Taken::last_good, crate::proofs::Taken::last_bad))]
     pub fn take(self, bytes: &[u8]) -> Result<(Part, Option<FileCheck<'a>>), Cause>
-        requires { length bytes.now ≡ next_len self }
+        requires { length bytes.now ≡ next_piece_len self }
         // If `so_far` was taken of a file, these bytes are the next piece, and `left` remains.
         ensures taken { (so_far left : List ℕ) (further : PiecesRead) → HasTaken self.entry so_far
             → length (so_far ++ (bytes.now ++ left)) ≡ self.entry.wanted.size
-            → IsTaken self.entry so_far bytes.now left further result }
+            → IsTakeResult self.entry so_far bytes.now left further result }
         // After the last piece all bytes that were taken have the file's digest.
         ensures digest { (so_far : List ℕ) → HasTaken self.entry so_far → IfOk result (λ taken.
-            IsTested self.entry.wanted.hash.now (so_far ++ bytes.now) taken.1) }
+            HasTakenOrPassedDigest self.entry.wanted.hash.now (so_far ++ bytes.now) taken.1) }
         // The piece is a part of this file, and its length is subtracted from the rest.
-        ensures part { IfOk result (IsPartOf self.entry) }
+        ensures part { IfOk result (IsPartOfCheckedFile self.entry) }
         ensures left { IfOk result (λ taken. IfSome taken.1 (λ further.
             file_bytes_left further ≡ file_bytes_left self.entry - length bytes.now)) }
         // Only the last piece ends the file.
@@ -123,13 +123,13 @@ pub fn open_file<'a>(
     // Of each payload of this length that begins with these positions.
     ensures opened { (payload : List ℕ) (further : List Expected → PiecesRead)
         → length payload ≡ len → take POSITIONS_LEN payload ≡ positions.now
-        → IsOpened (pieces_of_payload payload further (left_in walk.old)) payload
-        (further (left_in walk.new)) result }
+        → IsOpenResult (pieces_of_payload payload further (files_left_in_walk walk.old)) payload
+        (further (files_left_in_walk walk.new)) result }
     ensures left { IfOk result (λ file. POSITIONS_LEN + file_bytes_left file ≡ len) }
     ensures walk { IfOk result (λ file.
-        left_in walk.old ≡ expected_of file.wanted ∷ left_in walk.new) }
+        files_left_in_walk walk.old ≡ expected_of file.wanted ∷ files_left_in_walk walk.new) }
 {
-    let found = file_pair(positions);
+    let found = contents_positions(positions);
     let Some(wanted) = walk.next() else {
         return Err(Cause::DataOrder {
             expected: (0, 0),
@@ -146,7 +146,7 @@ pub fn open_file<'a>(
 /// positions are compared, then the size.
 fn position_or_size_fault(found: (u32, u32), size: u64, wanted: Wanted<'_>) -> Option<Cause>
     ensures exact { (payload : List ℕ) → length (contents_bytes payload) ≡ size
-        → file_pair payload ≡ found
+        → contents_positions payload ≡ found
         → result ≡ position_or_size_fault payload (expected_of wanted.entry) }
     ensures size { result ≡ None → size ≡ wanted.entry.size }
 {
@@ -182,5 +182,5 @@ pub struct Part {
 /// same: blocks read in pieces give the same result as blocks read as whole files.
 pub fn the_pieces_of_each_file_joined_are_its_contents()
     ensures { (expected : List Expected) (r : Reading)
-        → files_joined (pieces_by_blocks expected r) [] ≡ files_by_blocks expected r }
+        → files_joined_from_pieces (pieces_read_from_blocks expected r) [] ≡ files_read_from_blocks expected r }
 {}

@@ -3,7 +3,7 @@
 
 ghost use Rattle.std.specs.Prelude.{◌≡◌, ℕ, List, [], ◌++◌};
 ghost use Rattle.pkg_core.specs.Contents.{hash_fault};
-ghost use Rattle.pkg_core.specs.Hashing.{HoldsFor};
+ghost use Rattle.pkg_core.specs.Hashing.{HasHashedMessage};
 
 use crate::checks::{sha1_fault, sha256_fault, sha512_fault};
 use base_core::Cause;
@@ -29,7 +29,7 @@ impl Hasher {
     /// those of SHA-1, SHA-256 and SHA-512.
     #[tactic(auto, unfolding(crate::specs::Contents::hash_fault))]
     pub fn new(hash: &[u8]) -> Hasher
-        ensures { HoldsFor result hash.now [] }
+        ensures { HasHashedMessage result hash.now [] }
     {
         match hash.len() {
             20 => Hasher::Sha1(Sha1::new()),
@@ -41,8 +41,8 @@ impl Hasher {
 
     /// Takes further bytes of the message.
     pub fn update(&mut self, bytes: &[u8])
-        ensures { (hash so_far : List ℕ) → HoldsFor self.old hash so_far
-            → HoldsFor self.new hash (so_far ++ bytes.now) }
+        ensures { (hash so_far : List ℕ) → HasHashedMessage self.old hash so_far
+            → HasHashedMessage self.new hash (so_far ++ bytes.now) }
     {
         match self {
             Hasher::Sha1(hasher) => hasher.update(bytes),
@@ -55,7 +55,7 @@ impl Hasher {
     /// Why the bytes that were taken do not have the digest, if they do not.
     #[tactic(auto, unfolding(crate::specs::Contents::hash_fault))]
     pub fn fault(self, hash: &[u8]) -> Option<Cause>
-        ensures { (so_far : List ℕ) → HoldsFor self hash.now so_far
+        ensures { (so_far : List ℕ) → HasHashedMessage self hash.now so_far
             → result ≡ hash_fault hash.now so_far }
     {
         match self {

@@ -2,7 +2,7 @@
 //! the rules are in `docs/formats.md`, "Tests of a container".
 ghost use Rattle.std.specs.Prelude.{◌≡◌, ◌≢◌, ◌<◌, ℕ, All, List, None, Some};
 ghost use Rattle.std.specs.Option.{option_or};
-ghost use Rattle.adb_block.specs.Reading.{reading_of};
+ghost use Rattle.adb_block.specs.Reading.{block_stream_from};
 ghost use Rattle.adb_schema.specs.SoundContainers.{IsSoundValue};
 ghost use Rattle.adb_schema.specs.Soundness.{first_fault, payload_fault, payload_in, root_value};
 ghost use Rattle.adb_schema.specs.declared.read.TheConstants.{PACKAGE_WORD};
@@ -13,7 +13,7 @@ ghost use Rattle.base_core.specs.declared.cause.Cause.{Cause};
 ghost use Rattle.base_core.specs.declared.cause.Cause.TheVariants.{WrongSchema};
 ghost use Rattle.pkg_core.specs.Contents.{contents_fault, expected_contents};
 ghost use Rattle.pkg_core.specs.Whole.{container_fault};
-ghost use Rattle.pkg_core.specs.Front.{IsFrontOf, behind_front, front_fault, front_payload};
+ghost use Rattle.pkg_core.specs.Front.{IsFrontOf, position_after_front, front_fault, front_payload};
 ghost use Rattle.pkg_core.specs.declared.front.Front.{Front};
 
 use adb_schema::{
@@ -46,7 +46,7 @@ pub fn a_package_is_tested_by_its_front_and_then_by_its_contents()
         → container_fault file
         ≡ option_or (payload_fault Tables.Package (front_payload front))
         (contents_fault (expected_contents (root_value Tables.Package (front_payload front)))
-        (reading_of (behind_front front file))) }
+        (block_stream_from (position_after_front front file))) }
 {}
 
 /// A payload that passes every test contains a value with the shape of its table, in which each

@@ -50,8 +50,8 @@ pub use adb_schema::{
 };
 pub use checks::{
     a_package_has_the_contents_of_its_files, a_package_is_tested_by_its_values_and_then_its_files,
-    good_blocks_give_the_contents_of_each_file, root_of_schema, sha1_fault, sha256_fault,
-    sha512_fault, the_first_fault_of_contents_is_reported, verify,
+    good_blocks_give_the_contents_of_each_file, sha1_fault, sha256_fault, sha512_fault,
+    table_of_schema, the_first_fault_of_contents_is_reported, verify,
 };
 pub use contents::Contents;
 pub use file::{

@@ -3,11 +3,11 @@
 
 ghost use Rattle.std.specs.Prelude.{◌≡◌, None, IfOk, IfErr};
 ghost use Rattle.sha2.specs.Sha256.{sha256};
-ghost use Rattle.adb_block.specs.Reading.{reading_of};
+ghost use Rattle.adb_block.specs.Reading.{block_stream_from};
 ghost use Rattle.adb_schema.specs.Checked.{table_of_checked};
 ghost use Rattle.adb_schema.specs.Soundness.{first_fault, payload_in, root_value};
 ghost use Rattle.adb_view.specs.declared.tables.Which.TheVariants as Tables;
-ghost use Rattle.pkg_core.specs.Contents.{expected_contents, files_by_blocks};
+ghost use Rattle.pkg_core.specs.Contents.{expected_contents, files_read_from_blocks};
 ghost use Rattle.pkg_core.specs.Whole.{files_in_file};
 
 use crate::walk::{FileContents, Rest, Walk};
@@ -164,8 +164,8 @@ impl<'a> Package<'a> {
 fn first_block<'a>(bytes: &'a [u8]) -> (&'a [u8], Blocks<'a>)
     requires { first_fault Tables.Package bytes.now ≡ None }
     ensures payload { result.0.now ≡ payload_in bytes.entry.now }
-    ensures files { files_by_blocks (expected_contents (root_value Tables.Package result.0.now))
-        (reading_of result.1) ≡ files_in_file bytes.entry.now }
+    ensures files { files_read_from_blocks (expected_contents (root_value Tables.Package result.0.now))
+        (block_stream_from result.1) ≡ files_in_file bytes.entry.now }
 {
     // No test of the values failed, so that the header is good and the first block is there.
     let Ok(mut blocks) = Blocks::new(bytes) else {

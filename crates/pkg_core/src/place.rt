@@ -3,9 +3,9 @@
 
 ghost use Rattle.std.specs.Prelude.{◌≡◌, ◌≤◌, ◌+◌, ◌-◌, ℕ, List, None, Some, Ok, length, drop, IfOk, IfSome, OnOk};
 ghost use Rattle.adb_block.specs.Framing.{ended};
-ghost use Rattle.adb_block.specs.Frames.{IsFramed, raw_size};
+ghost use Rattle.adb_block.specs.Frames.{IsFrameOrEndOfStep, raw_size};
 ghost use Rattle.adb_block.specs.declared.block.BlockKind.TheVariants as Kinds;
-ghost use Rattle.pkg_core.specs.Places.{HasAllLeft, HasPositions, IsOfContents, IsStepped, WalksOn, place_after, step_at, whole_size};
+ghost use Rattle.pkg_core.specs.Places.{HasWholeFileLeft, HasPositions, OpensOnlyContents, IsStepResult, IsWalkAfterStep, place_after, block_step_at, whole_size};
 ghost use Rattle.pkg_core.specs.declared.place.Step.TheVariants.{End as Ended};
 
 use crate::file::{FileCheck, open_file};
@@ -58,9 +58,9 @@ impl<'a> BlockPlace<'a> {
         requires fits { IfSome framing (λ frame. raw_size frame ≤ self.old.len - self.old.at) }
         // For each file of this length with this block there.
         ensures step { (file : List ℕ) → length file ≡ self.old.len
-            → IsFramed (Ok framing) (drop self.old.at file) (step_at self.old file)
+            → IsFrameOrEndOfStep (Ok framing) (drop self.old.at file) (block_step_at self.old file)
             → HasPositions framing positions.now self.old file
-            → IsStepped framing self.old file result self.new }
+            → IsStepResult framing self.old file result self.new }
         // A reader follows the block then, unless a test failed.
         ensures len { self.new.len ≡ self.old.len }
         ensures behind { IfSome framing (λ frame. OnOk result (self.new.at
@@ -68,9 +68,9 @@ impl<'a> BlockPlace<'a> {
         ensures within { self.new.at ≤ self.new.len }
         // All bytes of an opened file are still to be taken. Only contents open a file, which is
         // the next of the walk. `End` is returned only if no block is left.
-        ensures left { IfSome framing (λ frame. IfOk result (HasAllLeft frame)) }
-        ensures kind { IfSome framing (λ frame. IfOk result (IsOfContents frame)) }
-        ensures walk { IfOk result (λ step. WalksOn self.old.walk step self.new.walk) }
+        ensures left { IfSome framing (λ frame. IfOk result (HasWholeFileLeft frame)) }
+        ensures kind { IfSome framing (λ frame. IfOk result (OpensOnlyContents frame)) }
+        ensures walk { IfOk result (λ step. IsWalkAfterStep self.old.walk step self.new.walk) }
         ensures ended { framing ≡ None → IfOk result (λ step. step ≡ Ended) }
     {
         match framing {
@@ -83,11 +83,11 @@ impl<'a> BlockPlace<'a> {
     /// `step`.
     #[tactic(auto, using(crate::proofs::Placed::end_good, crate::proofs::Placed::end_bad))]
     fn end(&mut self) -> Result<Step<'a>, Cause>
-        ensures step { (file : List ℕ) → step_at self.old file ≡ ended
-            → IsStepped None self.old file result self.new }
+        ensures step { (file : List ℕ) → block_step_at self.old file ≡ ended
+            → IsStepResult None self.old file result self.new }
         ensures len { self.new.len ≡ self.old.len }
         ensures at { self.new.at ≡ self.old.at }
-        ensures walk { IfOk result (λ step. WalksOn self.old.walk step self.new.walk) }
+        ensures walk { IfOk result (λ step. IsWalkAfterStep self.old.walk step self.new.walk) }
         ensures ended { IfOk result (λ step. step ≡ Ended) }
     {
         match self.walk.end() {
@@ -106,16 +106,16 @@ impl<'a> BlockPlace<'a> {
         requires at { self.old.at ≤ self.old.len }
         requires fits { raw_size frame ≤ self.old.len - self.old.at }
         ensures step { (file : List ℕ) → length file ≡ self.old.len
-            → IsFramed (Ok (Some frame)) (drop self.old.at file) (step_at self.old file)
+            → IsFrameOrEndOfStep (Ok (Some frame)) (drop self.old.at file) (block_step_at self.old file)
             → HasPositions (Some frame) positions.now self.old file
-            → IsStepped (Some frame) self.old file result self.new }
+            → IsStepResult (Some frame) self.old file result self.new }
         ensures len { self.new.len ≡ self.old.len }
         ensures behind { OnOk result (self.new.at
             ≡ self.old.at + whole_size frame (self.old.len - self.old.at)) }
         ensures within { self.new.at ≤ self.new.len }
-        ensures left { IfOk result (HasAllLeft frame) }
-        ensures kind { IfOk result (IsOfContents frame) }
-        ensures walk { IfOk result (λ step. WalksOn self.old.walk step self.new.walk) }
+        ensures left { IfOk result (HasWholeFileLeft frame) }
+        ensures kind { IfOk result (OpensOnlyContents frame) }
+        ensures walk { IfOk result (λ step. IsWalkAfterStep self.old.walk step self.new.walk) }
     {
         match frame.kind {
             BlockKind::Contents => self.open(frame, positions),
@@ -132,16 +132,16 @@ impl<'a> BlockPlace<'a> {
         requires fits { raw_size frame ≤ self.old.len - self.old.at }
         requires kind { frame.kind ≡ Kinds.Contents }
         ensures step { (file : List ℕ) → length file ≡ self.old.len
-            → IsFramed (Ok (Some frame)) (drop self.old.at file) (step_at self.old file)
+            → IsFrameOrEndOfStep (Ok (Some frame)) (drop self.old.at file) (block_step_at self.old file)
             → HasPositions (Some frame) positions.now self.old file
-            → IsStepped (Some frame) self.old file result self.new }
+            → IsStepResult (Some frame) self.old file result self.new }
         ensures len { self.new.len ≡ self.old.len }
         ensures behind { OnOk result (self.new.at
             ≡ self.old.at + whole_size frame (self.old.len - self.old.at)) }
         ensures within { self.new.at ≤ self.new.len }
-        ensures left { IfOk result (HasAllLeft frame) }
-        ensures kind { IfOk result (IsOfContents frame) }
-        ensures walk { IfOk result (λ step. WalksOn self.old.walk step self.new.walk) }
+        ensures left { IfOk result (HasWholeFileLeft frame) }
+        ensures kind { IfOk result (OpensOnlyContents frame) }
+        ensures walk { IfOk result (λ step. IsWalkAfterStep self.old.walk step self.new.walk) }
     {
         if frame.payload_len < POSITIONS_LEN as u64 {
             return Err(Cause::Truncated { at: self.at });

@@ -3,14 +3,14 @@
 
 ghost use Rattle.std.specs.Prelude.{◌≡◌, ◌≤◌, ◌+◌, ◌-◌, ℕ, List, Option, None, true, length, min, take, IfOk, IfErr, IfSome};
 ghost use Rattle.adb_block.specs.Framing.{next_step};
-ghost use Rattle.adb_block.specs.Frames.{IsHeadPrefix, IsFramedBy, head_len, raw_size};
+ghost use Rattle.adb_block.specs.Frames.{IsHeadPrefix, IsFrameOfStep, head_len, raw_size};
 ghost use Rattle.adb_block.specs.Header.{header_of};
 ghost use Rattle.adb_block.specs.Piece.{may_be_next_kind, padding_of};
 ghost use Rattle.base_core.specs.Calls.{IfObservable};
 ghost use Rattle.base_core.specs.Read.{OnlyReads};
 ghost use Rattle.base_core.specs.Tree.{files_of};
-ghost use Rattle.pkg_core.specs.Front.{IsFrontOf, IsFrontRead, IsNotBad, IsPresentRead, front_end, front_file_len};
-ghost use Rattle.pkg_core.specs.Seen.{AreBytesRead, HasAt, IsSeenIn, ReadsFile};
+ghost use Rattle.pkg_core.specs.Front.{IsFrontOf, IsFrontRead, IsDiskOrMemoryFault, IsFrontReadOfFile, front_end, front_file_len};
+ghost use Rattle.pkg_core.specs.Seen.{AreBytesRead, HasBytesAtOffset, IsSeenIn, ReadsFile};
 ghost use Rattle.pkg_core.specs.declared.front.FrontFault.TheVariants.{Disk as DiskFault};
 
 use crate::front::{Front, FrontFault};
@@ -41,7 +41,7 @@ pub fn read_front<T: Tree>(
     ensures seen { IfOk result (λ found. IfSome found (λ front. (seen : List ℕ)
         × IsSeenIn (T.history tree.old) name.now (front_file_len front) 0 seen
         × (front_end front ≡ length seen)
-        × ((file : List ℕ) → length file ≡ front_file_len front → HasAt file 0 seen
+        × ((file : List ℕ) → length file ≡ front_file_len front → HasBytesAtOffset file 0 seen
         → IsFrontOf schema file front))) }
     // The tree is unchanged. `Disk` is returned only if the tree failed, and no call is a misuse if
     // the tree is observable.
@@ -117,7 +117,7 @@ fn read_payload<T: Tree>(
     ensures len { IfOk result (λ payload. length payload.items ≡ len) }
     ensures seen { IfOk result (λ payload. (file_len : ℕ)
         → AreBytesRead (T.history tree.old) name.now file_len at payload.items) }
-    ensures good { IfErr result (λ fault. IsNotBad fault) }
+    ensures good { IfErr result (λ fault. IsDiskOrMemoryFault fault) }
     // The tree is unchanged. `Disk` is returned only if the tree failed, and no call is a misuse if
     // the file still has its length.
     ensures tree { (file_len : ℕ) → at + len ≤ file_len → ReadsFile name.now file_len DiskFault
@@ -139,8 +139,8 @@ fn read_present<T: Tree>(
 ) -> Result<Front, FrontFault>
     ensures len { IfOk result (λ front. front.len ≡ len) }
     ensures front { (seen : List ℕ) × IsSeenIn (T.history tree.old) name.now len 0 seen
-        × ((file : List ℕ) → length file ≡ len → HasAt file 0 seen
-        → IsPresentRead schema result (length seen) file) }
+        × ((file : List ℕ) → length file ≡ len → HasBytesAtOffset file 0 seen
+        → IsFrontReadOfFile schema result (length seen) file) }
     // The tree is unchanged. `Disk` is returned only if the tree failed, and no call is a misuse if
     // the file still has its length.
     ensures tree { ReadsFile name.now len DiskFault (T.history tree.old) (T.history tree.new)
@@ -172,7 +172,7 @@ fn first_framed(left: u64, head: &HeadBytes) -> Result<Frame, Cause>
     requires holds { IsHeadPrefix head.now left }
     requires short { length head.now ≤ head_len head.now }
     ensures exact { (bytes : List ℕ) → length bytes ≡ left → take (length head.now) bytes ≡ head.now
-        → IsFramedBy result bytes (next_step None 8 bytes) }
+        → IsFrameOfStep result bytes (next_step None 8 bytes) }
     ensures order { IfOk result (λ framed. may_be_next_kind None framed.kind ≡ true) }
     ensures within { IfOk result (λ framed. (raw_size framed ≤ left)
         × (framed.head_len ≡ length head.now)) }

@@ -8,16 +8,16 @@ ghost use Rattle.adb_schema.specs.Views.{file_value, package_value};
 ghost use Rattle.adb_schema.specs.adb_fields.ListValue.{list_value};
 ghost use Rattle.adb_schema.specs.adb_fields.Repeated.{list_of};
 ghost use Rattle.adb_schema.specs.Texts.{is_with_contents};
-ghost use Rattle.pkg_core.specs.Contents.{POSITIONS_LEN, expected_contents, expected_files, expected_folders, contents_bytes, expected_fault, missing_fault};
+ghost use Rattle.pkg_core.specs.Contents.{POSITIONS_LEN, expected_contents, expected_files, expected_folders, contents_bytes, expected_fault, missing_contents_fault};
 ghost use Rattle.pkg_core.specs.Opened.{expected_file_at, expected_of};
 
 use crate::checks::hash_fault;
 use adb_block::{BlockKind, Blocks};
-use adb_schema::{DirInfo, FileInfo, List, PackageView, file_pair};
+use adb_schema::{DirInfo, FileInfo, List, PackageView, contents_positions};
 use base_core::Cause;
 
 /// A walk over the files of a package that have contents: its position, after this many folders,
-/// and after this many files of the next one. Contracts see the files that are left, by `left_in`
+/// and after this many files of the next one. Contracts see the files that are left, by `files_left_in_walk`
 /// of `specs/`.
 #[derive(Clone, Copy)]
 pub struct Walk<'a> {
@@ -45,11 +45,11 @@ pub struct Wanted<'a> {
 
 impl<'a> Walk<'a> {
     ghost use Rattle.adb_schema.specs.adb_fields.Repeated.{files_in};
-    ghost use Rattle.pkg_core.specs.Opened.{left_in, TakesFirst};
+    ghost use Rattle.pkg_core.specs.Opened.{files_left_in_walk, TakesFirstExpected};
 
     /// A walk before the first of these folders.
     pub fn new(folders: List<'a, DirInfo<'a>>) -> Walk<'a>
-        ensures { left_in result
+        ensures { files_left_in_walk result
             ≡ expected_folders 1 (list_of (entries_in (list_value folders.entry))) }
     {
         Walk {
@@ -61,7 +61,7 @@ impl<'a> Walk<'a> {
 
     /// Goes on to the next file that has contents, or None after the last.
     pub fn next(&mut self) -> Option<Wanted<'a>>
-        ensures { TakesFirst (left_in self.old) result (left_in self.new) }
+        ensures { TakesFirstExpected (files_left_in_walk self.old) result (files_left_in_walk self.new) }
     {
         while self.folder < self.folders.len() {
             let files = self.folders.get(self.folder + 1).files();
@@ -82,7 +82,7 @@ impl<'a> Walk<'a> {
         requires { self.old.folder + 1 < 2 ^ 32 }
         ensures folders { self.new.folders ≡ self.old.folders }
         ensures folder { self.new.folder ≡ self.old.folder }
-        ensures taken { TakesFirst (expected_files (self.old.folder + 1) (self.old.file + 1)
+        ensures taken { TakesFirstExpected (expected_files (self.old.folder + 1) (self.old.file + 1)
             (drop self.old.file (list_of (entries_in (list_value files.entry))))) result
             (expected_files (self.old.folder + 1) (self.new.file + 1)
             (drop self.new.file (list_of (entries_in (list_value files.entry))))) }
@@ -191,7 +191,7 @@ impl<'a> Rest<'a> {
     ghost use Rattle.pkg_core.specs.Opened.{files_left, ReadsNext};
 
     /// Reads on to the next contents, and tests them; None after the last block.
-    #[tactic(auto, unfolding(crate::specs::Contents::files_by_blocks))]
+    #[tactic(auto, unfolding(crate::specs::Contents::files_read_from_blocks))]
     pub(crate) fn next(&mut self) -> Result<Option<FileContents<'a>>, Cause>
         ensures { ReadsNext (files_left self.old) result (files_left self.new) }
     {
@@ -209,12 +209,12 @@ impl<'a> Rest<'a> {
 }
 
 impl<'a> Walk<'a> {
-    ghost use Rattle.pkg_core.specs.Opened.{left_in, GivesContents};
+    ghost use Rattle.pkg_core.specs.Opened.{files_left_in_walk, ReturnsNextContents};
 
     /// Ends the walk at the end of the blocks; then no file may be left.
     pub fn end(&mut self) -> Result<(), Cause>
-        ensures exact { result_err result ≡ missing_fault (left_in self.old) }
-        ensures end { IfOk result (λ _. left_in self.new ≡ []) }
+        ensures exact { result_err result ≡ missing_contents_fault (files_left_in_walk self.old) }
+        ensures end { IfOk result (λ _. files_left_in_walk self.new ≡ []) }
     {
         match self.next() {
             Some(wanted) => Err(Cause::DataOrder {
@@ -227,7 +227,7 @@ impl<'a> Walk<'a> {
 
     /// Tests a block of contents against the next file, and returns them.
     pub(crate) fn give(&mut self, payload: &'a [u8], at: u64) -> Result<FileContents<'a>, Cause>
-        ensures { GivesContents payload.entry.now at (left_in self.old) result (left_in self.new) }
+        ensures { ReturnsNextContents payload.entry.now at (files_left_in_walk self.old) result (files_left_in_walk self.new) }
     {
         if payload.len() < POSITIONS_LEN {
             return Err(Cause::Truncated { at });
@@ -235,7 +235,7 @@ impl<'a> Walk<'a> {
         let Some(wanted) = self.next() else {
             return Err(Cause::DataOrder {
                 expected: (0, 0),
-                found: file_pair(payload),
+                found: contents_positions(payload),
             });
         };
         match expected_fault(payload, wanted) {
@@ -256,7 +256,7 @@ fn expected_fault(payload: &[u8], wanted: Wanted<'_>) -> Option<Cause>
     ensures { result ≡ expected_fault payload.now (expected_of wanted.entry) }
 {
     let expected = (wanted.folder, wanted.file);
-    let found = file_pair(payload);
+    let found = contents_positions(payload);
     if found != expected {
         return Some(Cause::DataOrder { expected, found });
     }

@@ -12,59 +12,59 @@ use Rattle.dep_core.specs.Dependency.{Dependency}
 use Rattle.pool_core.specs.declared.marks.Effect.{Effect}
 use Rattle.pool_core.specs.declared.marks.Effect.TheVariants.{Bar, Pin}
 use Rattle.option_ranks.specs.candidate_core.Candidates.{Candidate, is_allowed, is_barred_by, offers_name}
-use Rattle.pool_core.specs.Marks.{affects, is_affected, mark_at, marks_with}
-use Rattle.option_ranks.specs.candidate_core.Options.{places_from}
+use Rattle.pool_core.specs.Marks.{affects, is_affected, with_mark_set_at, with_marks_set}
+use Rattle.option_ranks.specs.candidate_core.Options.{places_passing_from}
 use Rattle.option_ranks.specs.candidate_core.Rank.{is_pinned, is_pinned_to}
 use Rattle.pool_core.proofs.Filtered.{meeting_offers}
 use Rattle.option_ranks.proofs.candidate_core.Steps.{any_snoc}
 
-pub length-marks_with : (test : Candidate → Bool) (ms : List Bool) (cs : List Candidate) → length (marks_with test ms cs) ≡ length ms
-length-marks_with test [] cs = refl
-length-marks_with test (m ∷ ms) [] = refl
-length-marks_with test (m ∷ ms) (c ∷ cs) = ap suc (length-marks_with test ms cs)
+pub length-with_marks_set : (test : Candidate → Bool) (ms : List Bool) (cs : List Candidate) → length (with_marks_set test ms cs) ≡ length ms
+length-with_marks_set test [] cs = refl
+length-with_marks_set test (m ∷ ms) [] = refl
+length-with_marks_set test (m ∷ ms) (c ∷ cs) = ap suc (length-with_marks_set test ms cs)
 
-length-mark_at : (test : Candidate → Bool) (k : ℕ) (ms : List Bool) (cs : List Candidate) → length (mark_at test k ms cs) ≡ length ms
-length-mark_at test k [] cs = refl
-length-mark_at test k (m ∷ ms) [] = refl
-length-mark_at test zero (m ∷ ms) (c ∷ cs) = refl
-length-mark_at test (suc k) (m ∷ ms) (c ∷ cs) = ap suc (length-mark_at test k ms cs)
+length-with_mark_set_at : (test : Candidate → Bool) (k : ℕ) (ms : List Bool) (cs : List Candidate) → length (with_mark_set_at test k ms cs) ≡ length ms
+length-with_mark_set_at test k [] cs = refl
+length-with_mark_set_at test k (m ∷ ms) [] = refl
+length-with_mark_set_at test zero (m ∷ ms) (c ∷ cs) = refl
+length-with_mark_set_at test (suc k) (m ∷ ms) (c ∷ cs) = ap suc (length-with_mark_set_at test k ms cs)
 
 -- ---- one place
 
-pub mark_at-passed : (test : Candidate → Bool) (k : ℕ) (ms : List Bool) (cs : List Candidate) (c : Candidate) → slice_get cs k ≡ Some c → test c ≡ true → length ms ≡ length cs → mark_at test k ms cs ≡ set ms k true
-mark_at-passed test zero [] cs c h e l = refl
-mark_at-passed test (suc k) [] cs c h e l = refl
-mark_at-passed test k (m ∷ ms) [] c h e l = absurd (omega (arith, l))
-mark_at-passed test zero (m ∷ ms) (d ∷ cs) c h e l =
+pub with_mark_set_at-passed : (test : Candidate → Bool) (k : ℕ) (ms : List Bool) (cs : List Candidate) (c : Candidate) → slice_get cs k ≡ Some c → test c ≡ true → length ms ≡ length cs → with_mark_set_at test k ms cs ≡ set ms k true
+with_mark_set_at-passed test zero [] cs c h e l = refl
+with_mark_set_at-passed test (suc k) [] cs c h e l = refl
+with_mark_set_at-passed test k (m ∷ ms) [] c h e l = absurd (omega (arith, l))
+with_mark_set_at-passed test zero (m ∷ ms) (d ∷ cs) c h e l =
     let s : c ≡ d = cc in
     let is : test d ≡ true = subst (λ (z : Candidate). test z ≡ true) s e in
     ap (λ (b : Bool). b ∷ ms) (ap (λ (b : Bool). m || b) is ∙ or-true m)
-mark_at-passed test (suc k) (m ∷ ms) (d ∷ cs) c h e l = ap (λ (z : List Bool). m ∷ z) (mark_at-passed test k ms cs c h e (omega (arith, l)))
+with_mark_set_at-passed test (suc k) (m ∷ ms) (d ∷ cs) c h e l = ap (λ (z : List Bool). m ∷ z) (with_mark_set_at-passed test k ms cs c h e (omega (arith, l)))
 
-pub mark_at-failed : (test : Candidate → Bool) (k : ℕ) (ms : List Bool) (cs : List Candidate) (c : Candidate) → slice_get cs k ≡ Some c → test c ≡ false → mark_at test k ms cs ≡ ms
-mark_at-failed test k [] cs c h e = refl
-mark_at-failed test k (m ∷ ms) [] c h e = refl
-mark_at-failed test zero (m ∷ ms) (d ∷ cs) c h e =
+pub with_mark_set_at-failed : (test : Candidate → Bool) (k : ℕ) (ms : List Bool) (cs : List Candidate) (c : Candidate) → slice_get cs k ≡ Some c → test c ≡ false → with_mark_set_at test k ms cs ≡ ms
+with_mark_set_at-failed test k [] cs c h e = refl
+with_mark_set_at-failed test k (m ∷ ms) [] c h e = refl
+with_mark_set_at-failed test zero (m ∷ ms) (d ∷ cs) c h e =
     let s : c ≡ d = cc in
     let is : test d ≡ false = subst (λ (z : Candidate). test z ≡ false) s e in
     ap (λ (b : Bool). b ∷ ms) (ap (λ (b : Bool). m || b) is ∙ or-false m)
-mark_at-failed test (suc k) (m ∷ ms) (d ∷ cs) c h e = ap (λ (z : List Bool). m ∷ z) (mark_at-failed test k ms cs c h e)
+with_mark_set_at-failed test (suc k) (m ∷ ms) (d ∷ cs) c h e = ap (λ (z : List Bool). m ∷ z) (with_mark_set_at-failed test k ms cs c h e)
 
 -- ---- some places
 
 abbrev pub marks_among : (Candidate → Bool) → List ℕ → List Bool → List Candidate → List Bool
 marks_among test [] ms cs = ms
-marks_among test (k ∷ ks) ms cs = marks_among test ks (mark_at test k ms cs) cs
+marks_among test (k ∷ ks) ms cs = marks_among test ks (with_mark_set_at test k ms cs) cs
 
-pub marks_among-snoc : (test : Candidate → Bool) (ks : List ℕ) (k : ℕ) (ms : List Bool) (cs : List Candidate) → marks_among test (ks ++ k ∷ []) ms cs ≡ mark_at test k (marks_among test ks ms cs) cs
+pub marks_among-snoc : (test : Candidate → Bool) (ks : List ℕ) (k : ℕ) (ms : List Bool) (cs : List Candidate) → marks_among test (ks ++ k ∷ []) ms cs ≡ with_mark_set_at test k (marks_among test ks ms cs) cs
 marks_among-snoc test [] k ms cs = refl
-marks_among-snoc test (j ∷ ks) k ms cs = marks_among-snoc test ks k (mark_at test j ms cs) cs
+marks_among-snoc test (j ∷ ks) k ms cs = marks_among-snoc test ks k (with_mark_set_at test j ms cs) cs
 
 pub length-marks_among : (test : Candidate → Bool) (ks : List ℕ) (ms : List Bool) (cs : List Candidate) → length (marks_among test ks ms cs) ≡ length ms
 length-marks_among test [] ms cs = refl
-length-marks_among test (k ∷ ks) ms cs = length-marks_among test ks (mark_at test k ms cs) cs ∙ length-mark_at test k ms cs
+length-marks_among test (k ∷ ks) ms cs = length-marks_among test ks (with_mark_set_at test k ms cs) cs ∙ length-with_mark_set_at test k ms cs
 
-later_places : (n : ℕ) (test : Candidate → Bool) (cs : List Candidate) → places_from (suc n) test cs ≡ map suc (places_from n test cs)
+later_places : (n : ℕ) (test : Candidate → Bool) (cs : List Candidate) → places_passing_from (suc n) test cs ≡ map suc (places_passing_from n test cs)
 later_places n test [] = refl
 later_places n test (c ∷ cs) = elim (cases_Bool (test c)) [
   | inl e ↦ rw e (ap (λ (z : List ℕ). suc n ∷ z) (later_places (suc n) test cs))
@@ -73,20 +73,20 @@ later_places n test (c ∷ cs) = elim (cases_Bool (test c)) [
 
 later_marks : (test : Candidate → Bool) (ks : List ℕ) (m : Bool) (ms : List Bool) (c : Candidate) (cs : List Candidate) → marks_among test (map suc ks) (m ∷ ms) (c ∷ cs) ≡ m ∷ marks_among test ks ms cs
 later_marks test [] m ms c cs = refl
-later_marks test (k ∷ ks) m ms c cs = later_marks test ks m (mark_at test k ms cs) c cs
+later_marks test (k ∷ ks) m ms c cs = later_marks test ks m (with_mark_set_at test k ms cs) c cs
 
 -- marking at the places that pass a weaker test marks all that pass
-marks_at_places : (weak test : Candidate → Bool) → ((c : Candidate) → weak c ≡ false → test c ≡ false) → (ms : List Bool) (cs : List Candidate) → length ms ≡ length cs → marks_among test (places_from 0 weak cs) ms cs ≡ marks_with test ms cs
+marks_at_places : (weak test : Candidate → Bool) → ((c : Candidate) → weak c ≡ false → test c ≡ false) → (ms : List Bool) (cs : List Candidate) → length ms ≡ length cs → marks_among test (places_passing_from 0 weak cs) ms cs ≡ with_marks_set test ms cs
 marks_at_places weak test out [] [] h = refl
 marks_at_places weak test out [] (c ∷ cs) h = absurd (omega (arith, h))
 marks_at_places weak test out (m ∷ ms) [] h = refl
 marks_at_places weak test out (m ∷ ms) (c ∷ cs) h =
-    let rest : marks_among test (places_from 0 weak cs) ms cs ≡ marks_with test ms cs = marks_at_places weak test out ms cs (omega (arith, h)) in
-    let behind : (b : Bool) → marks_among test (places_from 1 weak cs) (b ∷ ms) (c ∷ cs) ≡ b ∷ marks_with test ms cs =
-    λ b. ap (λ (ks : List ℕ). marks_among test ks (b ∷ ms) (c ∷ cs)) (later_places 0 weak cs) ∙ (later_marks test (places_from 0 weak cs) b ms c cs ∙ ap (λ (z : List Bool). b ∷ z) rest) in
+    let rest : marks_among test (places_passing_from 0 weak cs) ms cs ≡ with_marks_set test ms cs = marks_at_places weak test out ms cs (omega (arith, h)) in
+    let behind : (b : Bool) → marks_among test (places_passing_from 1 weak cs) (b ∷ ms) (c ∷ cs) ≡ b ∷ with_marks_set test ms cs =
+    λ b. ap (λ (ks : List ℕ). marks_among test ks (b ∷ ms) (c ∷ cs)) (later_places 0 weak cs) ∙ (later_marks test (places_passing_from 0 weak cs) b ms c cs ∙ ap (λ (z : List Bool). b ∷ z) rest) in
     elim (cases_Bool (weak c)) [
       | inl e ↦ rw e (behind (m || test c))
-      | inr e ↦ rw e (behind m ∙ ap (λ (b : Bool). b ∷ marks_with test ms cs) (sym (ap (λ (b : Bool). m || b) (out c e) ∙ or-false m)))
+      | inr e ↦ rw e (behind m ∙ ap (λ (b : Bool). b ∷ with_marks_set test ms cs) (sym (ap (λ (b : Bool). m || b) (out c e) ∙ or-false m)))
     ]
 
 -- ---- what an entry affects offers its name
@@ -111,30 +111,30 @@ not_affected effect d c h = elim (cases_Bool (affects effect d c)) [
   | inr e ↦ e
 ]
 
-pub marks_at_offers : (effect : Effect) (d : Dependency) (ms : List Bool) (cs : List Candidate) → length ms ≡ length cs → marks_among (affects effect d) (places_from 0 (offers_name d.name) cs) ms cs ≡ marks_with (affects effect d) ms cs
+pub marks_at_offers : (effect : Effect) (d : Dependency) (ms : List Bool) (cs : List Candidate) → length ms ≡ length cs → marks_among (affects effect d) (places_passing_from 0 (offers_name d.name) cs) ms cs ≡ with_marks_set (affects effect d) ms cs
 marks_at_offers effect d ms cs h = marks_at_places (offers_name d.name) (affects effect d) (not_affected effect d) ms cs h
 
 -- ---- some entries
 
-pub no_entry : (effect : Effect) (ms : List Bool) (cs : List Candidate) → marks_with (is_affected effect []) ms cs ≡ ms
+pub no_entry : (effect : Effect) (ms : List Bool) (cs : List Candidate) → with_marks_set (is_affected effect []) ms cs ≡ ms
 no_entry effect [] cs = refl
 no_entry effect (m ∷ ms) [] = refl
-no_entry effect (m ∷ ms) (c ∷ cs) = ap (λ (b : Bool). b ∷ marks_with (is_affected effect []) ms cs) (or-false m) ∙ ap (λ (z : List Bool). m ∷ z) (no_entry effect ms cs)
+no_entry effect (m ∷ ms) (c ∷ cs) = ap (λ (b : Bool). b ∷ with_marks_set (is_affected effect []) ms cs) (or-false m) ∙ ap (λ (z : List Bool). m ∷ z) (no_entry effect ms cs)
 
-pub one_entry_more : (effect : Effect) (ds : List Dependency) (d : Dependency) (ms : List Bool) (cs : List Candidate) → marks_with (affects effect d) (marks_with (is_affected effect ds) ms cs) cs ≡ marks_with (is_affected effect (ds ++ d ∷ [])) ms cs
+pub one_entry_more : (effect : Effect) (ds : List Dependency) (d : Dependency) (ms : List Bool) (cs : List Candidate) → with_marks_set (affects effect d) (with_marks_set (is_affected effect ds) ms cs) cs ≡ with_marks_set (is_affected effect (ds ++ d ∷ [])) ms cs
 one_entry_more effect ds d [] cs = refl
 one_entry_more effect ds d (m ∷ ms) [] = refl
 one_entry_more effect ds d (m ∷ ms) (c ∷ cs) =
     let here : ((m || is_affected effect ds c) || affects effect d c) ≡ (m || is_affected effect (ds ++ d ∷ []) c) =
     or_assoc m (is_affected effect ds c) (affects effect d c) ∙ ap (λ (b : Bool). m || b) (sym (any_snoc (λ (e : Dependency). affects effect e c) ds d)) in
-    ap (λ (b : Bool). b ∷ marks_with (affects effect d) (marks_with (is_affected effect ds) ms cs) cs) here
+    ap (λ (b : Bool). b ∷ with_marks_set (affects effect d) (with_marks_set (is_affected effect ds) ms cs) cs) here
     ∙ ap (λ (z : List Bool). (m || is_affected effect (ds ++ d ∷ []) c) ∷ z) (one_entry_more effect ds d ms cs)
 
 -- ---- all candidates
 
-marks_with-map : (test f : Candidate → Bool) (cs : List Candidate) → marks_with test (map f cs) cs ≡ map (λ (c : Candidate). f c || test c) cs
-marks_with-map test f [] = refl
-marks_with-map test f (c ∷ cs) = ap (λ (z : List Bool). (f c || test c) ∷ z) (marks_with-map test f cs)
+with_marks_set-map : (test f : Candidate → Bool) (cs : List Candidate) → with_marks_set test (map f cs) cs ≡ map (λ (c : Candidate). f c || test c) cs
+with_marks_set-map test f [] = refl
+with_marks_set-map test f (c ∷ cs) = ap (λ (z : List Bool). (f c || test c) ∷ z) (with_marks_set-map test f cs)
 
 not_or : (a e : Bool) → not (not a || e) ≡ (a && not e)
 not_or true e = refl
@@ -146,9 +146,9 @@ opposite allowed excluded (c ∷ cs) =
     ap (λ (b : Bool). b ∷ map not (map (λ (c : Candidate). not (allowed c) || excluded c) cs)) (not_or (allowed c) (excluded c))
     ∙ ap (λ (z : List Bool). (allowed c && not (excluded c)) ∷ z) (opposite allowed excluded cs)
 
-pub eligible_by_marks : (tagged conflicts : List Dependency) (cs : List Candidate) (barred marked : List Bool) → barred ≡ map (λ (c : Candidate). not (is_allowed tagged c)) cs → marked ≡ marks_with (is_affected Bar conflicts) barred cs → map not marked ≡ map (λ (c : Candidate). is_allowed tagged c && not (is_barred_by conflicts c)) cs
+pub eligible_by_marks : (tagged conflicts : List Dependency) (cs : List Candidate) (barred marked : List Bool) → barred ≡ map (λ (c : Candidate). not (is_allowed tagged c)) cs → marked ≡ with_marks_set (is_affected Bar conflicts) barred cs → map not marked ≡ map (λ (c : Candidate). is_allowed tagged c && not (is_barred_by conflicts c)) cs
 eligible_by_marks tagged conflicts cs barred marked start is =
-    ap (map not) (is ∙ (ap (λ (ms : List Bool). marks_with (is_affected Bar conflicts) ms cs) start ∙ marks_with-map (is_affected Bar conflicts) (λ (c : Candidate). not (is_allowed tagged c)) cs))
+    ap (map not) (is ∙ (ap (λ (ms : List Bool). with_marks_set (is_affected Bar conflicts) ms cs) start ∙ with_marks_set-map (is_affected Bar conflicts) (λ (c : Candidate). not (is_allowed tagged c)) cs))
     ∙ opposite (is_allowed tagged) (is_barred_by conflicts) cs
 
 no_pin : (ds : List Dependency) → list_any (λ (d : Dependency). false) ds ≡ false
@@ -165,9 +165,9 @@ each_pinned ds (c ∷ cs) =
     ap (λ (b : Bool). b ∷ map (λ (c : Candidate). false || is_affected Pin ds c) cs) (pinned_by_any c.name c.tag ds)
     ∙ ap (λ (z : List Bool). is_pinned ds c ∷ z) (each_pinned ds cs)
 
-pub pinned_by_marks : (tagged : List Dependency) (cs : List Candidate) (none marked : List Bool) → none ≡ map (λ (c : Candidate). false) cs → marked ≡ marks_with (is_affected Pin tagged) none cs → marked ≡ map (λ (c : Candidate). is_pinned tagged c) cs
+pub pinned_by_marks : (tagged : List Dependency) (cs : List Candidate) (none marked : List Bool) → none ≡ map (λ (c : Candidate). false) cs → marked ≡ with_marks_set (is_affected Pin tagged) none cs → marked ≡ map (λ (c : Candidate). is_pinned tagged c) cs
 pinned_by_marks tagged cs none marked start is =
-    is ∙ (ap (λ (ms : List Bool). marks_with (is_affected Pin tagged) ms cs) start ∙ (marks_with-map (is_affected Pin tagged) (λ (c : Candidate). false) cs ∙ each_pinned tagged cs))
+    is ∙ (ap (λ (ms : List Bool). with_marks_set (is_affected Pin tagged) ms cs) start ∙ (with_marks_set-map (is_affected Pin tagged) (λ (c : Candidate). false) cs ∙ each_pinned tagged cs))
 
 pub map-snoc : {X Y : Type 0} (f : X → Y) (xs : List X) (x : X) → map f (xs ++ x ∷ []) ≡ map f xs ++ f x ∷ []
 map-snoc f [] x = refl

@@ -25,14 +25,14 @@ is_affected effect entries c = list_any (λ (d : Dependency). affects effect d c
 
 -- the marks, with those of the candidates that pass a test set too; there is one mark for each
 -- candidate
-abbrev pub marks_with : (Candidate → Bool) → List Bool → List Candidate → List Bool
-marks_with test [] cs = []
-marks_with test (m ∷ ms) [] = m ∷ ms
-marks_with test (m ∷ ms) (c ∷ cs) = (m || test c) ∷ marks_with test ms cs
+abbrev pub with_marks_set : (Candidate → Bool) → List Bool → List Candidate → List Bool
+with_marks_set test [] cs = []
+with_marks_set test (m ∷ ms) [] = m ∷ ms
+with_marks_set test (m ∷ ms) (c ∷ cs) = (m || test c) ∷ with_marks_set test ms cs
 
 -- the marks, with that of the candidate at a place set too if it passes a test
-abbrev pub mark_at : (Candidate → Bool) → ℕ → List Bool → List Candidate → List Bool
-mark_at test place [] cs = []
-mark_at test place (m ∷ ms) [] = m ∷ ms
-mark_at test zero (m ∷ ms) (c ∷ cs) = (m || test c) ∷ ms
-mark_at test (suc place) (m ∷ ms) (c ∷ cs) = m ∷ mark_at test place ms cs
+abbrev pub with_mark_set_at : (Candidate → Bool) → ℕ → List Bool → List Candidate → List Bool
+with_mark_set_at test place [] cs = []
+with_mark_set_at test place (m ∷ ms) [] = m ∷ ms
+with_mark_set_at test zero (m ∷ ms) (c ∷ cs) = (m || test c) ∷ ms
+with_mark_set_at test (suc place) (m ∷ ms) (c ∷ cs) = m ∷ with_mark_set_at test place ms cs

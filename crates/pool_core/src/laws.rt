@@ -10,8 +10,8 @@ ghost use Rattle.adb_view.specs.Plain.{Plain};
 ghost use Rattle.adb_view.specs.Values.{int_in, text_in};
 ghost use Rattle.option_ranks.specs.candidate_core.Candidates.{Candidate, Need, as_installed, candidate_by, candidate_of, dependencies_in, is_same_id, is_same_package, need_name, offers_name, version_of_text, with_installed};
 ghost use Rattle.pool_core.specs.FieldNames.{info_under_name};
-ghost use Rattle.option_ranks.specs.candidate_core.Rank.{SealedPool, is_at, is_better, is_eligible_at, meets_at, rank_cmp};
-ghost use Rattle.option_ranks.specs.candidate_core.Options.{AreRising, IsBestFirst, IsIn, options_for, places_offering};
+ghost use Rattle.option_ranks.specs.candidate_core.Rank.{SealedPool, candidate_at_passes, is_better, is_eligible_at, meets_at, rank_cmp};
+ghost use Rattle.option_ranks.specs.candidate_core.Options.{AreStrictlyIncreasing, IsSortedBestFirst, IsIn, options_for, places_offering};
 
 use version_core::order_is_total;
 
@@ -33,7 +33,7 @@ pub fn options_are_the_best_first()
     ensures each { (pool : SealedPool) (need : Need) (c : ℕ) → is_eligible_at pool c ≡ true →
         meets_at pool c need ≡ true → IsIn c (options_for pool need) }
     ensures best_first { (pool : SealedPool) (need : Need) →
-        IsBestFirst (is_better pool need) (options_for pool need) }
+        IsSortedBestFirst (is_better pool need) (options_for pool need) }
 {
     rank_is_total();
 }
@@ -42,11 +42,11 @@ pub fn options_are_the_best_first()
 pub fn offers_are_the_places()
     ensures those { (pool : SealedPool) (name : List ℕ) (c : ℕ) →
         IsIn c (places_offering name pool.candidates) →
-        (is_at pool (offers_name name) c ≡ true) × (c < length pool.candidates) }
+        (candidate_at_passes pool (offers_name name) c ≡ true) × (c < length pool.candidates) }
     ensures each { (pool : SealedPool) (name : List ℕ) (c : ℕ) →
-        is_at pool (offers_name name) c ≡ true → IsIn c (places_offering name pool.candidates) }
+        candidate_at_passes pool (offers_name name) c ≡ true → IsIn c (places_offering name pool.candidates) }
     ensures rising { (pool : SealedPool) (name : List ℕ) →
-        AreRising (places_offering name pool.candidates) }
+        AreStrictlyIncreasing (places_offering name pool.candidates) }
 {}
 
 /// The offers of a need's name include each candidate that meets the need.

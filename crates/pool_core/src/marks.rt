@@ -9,12 +9,12 @@ ghost use Rattle.std.specs.List.{list_any};
 ghost use Rattle.std.specs.Str.{bytes_eq};
 ghost use Rattle.dep_core.specs.Meets.{dependency};
 ghost use Rattle.option_ranks.specs.candidate_core.Candidates.{is_allowed, is_barred_by, meets_dependency, uses_tag};
-ghost use Rattle.option_ranks.specs.candidate_core.Matches.{AreMatchesOf};
-ghost use Rattle.pool_core.specs.Marks.{affects, is_affected, mark_at, marks_with};
+ghost use Rattle.option_ranks.specs.candidate_core.Matches.{AreRememberedMatchesOf};
+ghost use Rattle.pool_core.specs.Marks.{affects, is_affected, with_mark_set_at, with_marks_set};
 ghost use Rattle.option_ranks.specs.candidate_core.Options.{places_offering};
 ghost use Rattle.option_ranks.specs.candidate_core.Packages.{candidates_of_packages};
 ghost use Rattle.option_ranks.specs.candidate_core.Rank.{is_pinned};
-ghost use Rattle.option_ranks.specs.candidate_core.Table.{LeadsToOffers};
+ghost use Rattle.option_ranks.specs.candidate_core.Table.{HasPlacesOfEachName};
 ghost use Rattle.option_ranks.specs.candidate_core.VersionTexts.{source_text};
 
 use dep_core::Dep;
@@ -39,7 +39,7 @@ pub(crate) fn eligible_marks(
     tagged: &[Dep<'_>],
     conflicts: &[Dep<'_>],
 ) -> Result<Vec<bool>, AllocError>
-    requires { LeadsToOffers table.now (candidates_of_packages packages.now) }
+    requires { HasPlacesOfEachName table.now (candidates_of_packages packages.now) }
     ensures { IfOk result (λ marks. marks.items ≡ map (λ one.
         is_allowed (map dependency tagged.now) one
         && not (is_barred_by (map dependency conflicts.now) one))
@@ -65,7 +65,7 @@ pub(crate) fn pinned_marks(
     table: &Table<'_>,
     tagged: &[Dep<'_>],
 ) -> Result<Vec<bool>, AllocError>
-    requires { LeadsToOffers table.now (candidates_of_packages packages.now) }
+    requires { HasPlacesOfEachName table.now (candidates_of_packages packages.now) }
     ensures { IfOk result (λ marks. marks.items
         ≡ map (λ one. is_pinned (map dependency tagged.now) one)
         (candidates_of_packages packages.now)) }
@@ -122,10 +122,10 @@ fn mark_affected(
     entries: &[Dep<'_>],
     effect: Effect,
 ) -> Result<(), AllocError>
-    requires leads { LeadsToOffers table.now (candidates_of_packages packages.now) }
+    requires leads { HasPlacesOfEachName table.now (candidates_of_packages packages.now) }
     requires each { length marks.old.items ≡ length (candidates_of_packages packages.now) }
     ensures { OnOk result (marks.new.items
-        ≡ marks_with (is_affected effect (map dependency entries.now))
+        ≡ with_marks_set (is_affected effect (map dependency entries.now))
         marks.old.items (candidates_of_packages packages.now)) }
 {
     for entry in entries {
@@ -148,7 +148,7 @@ fn mark_among(
     requires offers { ids.now
         ≡ places_offering (dependency entry.now).name (candidates_of_packages packages.now) }
     requires each { length marks.old.items ≡ length (candidates_of_packages packages.now) }
-    ensures { OnOk result (marks.new.items ≡ marks_with (affects effect (dependency entry.now))
+    ensures { OnOk result (marks.new.items ≡ with_marks_set (affects effect (dependency entry.now))
         marks.old.items (candidates_of_packages packages.now)) }
 {
     let mut known = KnownMatches::new(alloc);
@@ -170,12 +170,12 @@ fn mark_one(
 ) -> Result<(), AllocError>
     requires within { id < length (candidates_of_packages packages.now) }
     requires each { length marks.old.items ≡ length (candidates_of_packages packages.now) }
-    requires known { AreMatchesOf (source_text packages.now.sources.items)
+    requires known { AreRememberedMatchesOf (source_text packages.now.sources.items)
         (dependency entry.now) known.old }
     ensures marks { OnOk result (marks.new.items
-        ≡ mark_at (affects effect (dependency entry.now)) id
+        ≡ with_mark_set_at (affects effect (dependency entry.now)) id
         marks.old.items (candidates_of_packages packages.now)) }
-    ensures known { OnOk result (AreMatchesOf (source_text packages.now.sources.items)
+    ensures known { OnOk result (AreRememberedMatchesOf (source_text packages.now.sources.items)
         (dependency entry.now) known.new) }
 {
     let place = id.place as usize;
@@ -199,11 +199,11 @@ fn affects(
 ) -> Result<bool, AllocError>
     requires within { place < length (candidates_of_packages packages.now) }
     requires here { slice_get (candidates_of_packages packages.now) place ≡ Some one.now }
-    requires known { AreMatchesOf (source_text packages.now.sources.items)
+    requires known { AreRememberedMatchesOf (source_text packages.now.sources.items)
         (dependency entry.now) known.old }
     ensures affects { IfOk result (λ answer. answer
         ≡ affects effect (dependency entry.now) one.now) }
-    ensures known { OnOk result (AreMatchesOf (source_text packages.now.sources.items)
+    ensures known { OnOk result (AreRememberedMatchesOf (source_text packages.now.sources.items)
         (dependency entry.now) known.new) }
 {
     match effect {
@@ -223,11 +223,11 @@ fn bars(
 ) -> Result<bool, AllocError>
     requires within { place < length (candidates_of_packages packages.now) }
     requires here { slice_get (candidates_of_packages packages.now) place ≡ Some one.now }
-    requires known { AreMatchesOf (source_text packages.now.sources.items)
+    requires known { AreRememberedMatchesOf (source_text packages.now.sources.items)
         (dependency entry.now) known.old }
     ensures bars { IfOk result (λ answer. answer ≡ ((dependency entry.now).conflict
         && meets_dependency (dependency entry.now) one.now)) }
-    ensures known { OnOk result (AreMatchesOf (source_text packages.now.sources.items)
+    ensures known { OnOk result (AreRememberedMatchesOf (source_text packages.now.sources.items)
         (dependency entry.now) known.new) }
 {
     if !entry.conflict {

@@ -7,7 +7,7 @@ ghost use Rattle.option_ranks.specs.candidate_core.declared.candidate_list.TheCo
 ghost use Rattle.option_ranks.specs.candidate_core.Candidates.{candidate_of, candidates_of_index, with_installed};
 ghost use Rattle.option_ranks.specs.candidate_core.CandidateList.{IsCandidateList};
 ghost use Rattle.option_ranks.specs.candidate_core.Packages.{candidates_of_packages};
-ghost use Rattle.option_ranks.specs.candidate_core.Rank.{sealed_pool_by};
+ghost use Rattle.option_ranks.specs.candidate_core.Rank.{sealed_pool_from_parts};
 ghost use Rattle.option_ranks.specs.candidate_core.Values.{IsPoolFault, names_upgraded_by};
 
 use crate::sealed::{Sealed, seal_list};
@@ -142,7 +142,7 @@ impl<'a> Pool<'a> {
     /// Joins the candidates to a world and to the names that a command upgrades.
     pub fn seal(self, world: &'a World, upgrade: Upgrade<'a>) -> Result<Sealed<'a>, AllocError>
         ensures { IfOk result (λ sealed. sealed
-            ≡ sealed_pool_by self.entry world.entry.now (names_upgraded_by upgrade.entry)) }
+            ≡ sealed_pool_from_parts self.entry world.entry.now (names_upgraded_by upgrade.entry)) }
     {
         let mut pool = self;
         let alloc = pool.alloc;

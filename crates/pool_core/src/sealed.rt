@@ -7,13 +7,13 @@ ghost use Rattle.dep_core.specs.Meets.{dependency};
 ghost use Rattle.option_ranks.specs.candidate_core.Candidates.{has_usable_install_if, is_eligible};
 ghost use Rattle.option_ranks.specs.candidate_core.CandidateList.{IsCandidateList};
 ghost use Rattle.option_ranks.specs.candidate_core.Matches.{AreMatchesFor};
-ghost use Rattle.option_ranks.specs.candidate_core.Options.{may_meet, places_offering, options_for, places_from};
+ghost use Rattle.option_ranks.specs.candidate_core.Options.{is_eligible_for_need, places_offering, options_for, places_passing_from};
 ghost use Rattle.option_ranks.specs.candidate_core.Packages.{candidates_of_packages};
-ghost use Rattle.option_ranks.specs.candidate_core.Rank.{candidate_at, is_at, is_kept_installed, is_pinned, is_pinned_at, sealed_pool_by};
+ghost use Rattle.option_ranks.specs.candidate_core.Rank.{candidate_at, candidate_at_passes, is_kept_installed, is_pinned, is_pinned_at, sealed_pool_from_parts};
 ghost use Rattle.option_ranks.specs.Ranking.{IsRankingIn};
-ghost use Rattle.option_ranks.specs.candidate_core.Values.{candidate_value, names_upgraded_by, need_by, need_of};
+ghost use Rattle.option_ranks.specs.candidate_core.Values.{candidate_value, names_upgraded_by, need_of_ref, need_of};
 ghost use Rattle.option_ranks.specs.candidate_core.VersionTexts.{source_text};
-ghost use Rattle.option_ranks.specs.VersionRanks.{AreReadAlike, IsReadFrom};
+ghost use Rattle.option_ranks.specs.VersionRanks.{HaveVersionsFromSameTexts, HasVersionTextsOfSources};
 ghost use Rattle.option_ranks.specs.candidate_core.declared.versions.VersionKind.TheVariants as Kinds;
 
 use crate::keeping::kept_marks;
@@ -55,10 +55,10 @@ impl<'a> Model for Sealed<'a> {
     ghost use Rattle.option_ranks.specs.candidate_core.PlainCode.{plain_code};
     ghost use Rattle.std.specs.Prelude.{◌≡◌, map};
     ghost use Rattle.option_ranks.specs.candidate_core.Candidates.{has_usable_install_if, is_eligible};
-    ghost use Rattle.option_ranks.specs.candidate_core.Options.{places_from};
+    ghost use Rattle.option_ranks.specs.candidate_core.Options.{places_passing_from};
     ghost use Rattle.option_ranks.specs.candidate_core.Packages.{candidates_of_packages};
-    ghost use Rattle.option_ranks.specs.candidate_core.Rank.{SealedPool, is_kept_installed, is_pinned, sealed_pool_by};
-    ghost use Rattle.option_ranks.specs.candidate_core.Table.{LeadsToOffers};
+    ghost use Rattle.option_ranks.specs.candidate_core.Rank.{SealedPool, is_kept_installed, is_pinned, sealed_pool_from_parts};
+    ghost use Rattle.option_ranks.specs.candidate_core.Table.{HasPlacesOfEachName};
     ghost use Rattle.option_ranks.specs.candidate_core.Values.{names_upgraded_by};
 
     ghost Value = { SealedPool };
@@ -66,16 +66,16 @@ impl<'a> Model for Sealed<'a> {
     ghost coded = { Prim.hlevel (codes, plain_code) };
 
     ghost view = { λ s.
-        sealed_pool_by (candidates_of_packages s.packages) s.world.now
+        sealed_pool_from_parts (candidates_of_packages s.packages) s.world.now
         (names_upgraded_by s.upgrade) };
 
-    ghost invariant = { λ s. LeadsToOffers s.table (candidates_of_packages s.packages)
+    ghost invariant = { λ s. HasPlacesOfEachName s.table (candidates_of_packages s.packages)
         × (s.eligible.items ≡ map (is_eligible s.world.now) (candidates_of_packages s.packages))
         × (s.pinned.items ≡ map (is_pinned s.world.now) (candidates_of_packages s.packages))
         × (s.kept.items ≡ map (is_kept_installed (names_upgraded_by s.upgrade))
         (candidates_of_packages s.packages))
         × (s.install_ifs.items
-        ≡ places_from 0 (has_usable_install_if s.world.now) (candidates_of_packages s.packages)) };
+        ≡ places_passing_from 0 (has_usable_install_if s.world.now) (candidates_of_packages s.packages)) };
 }
 
 impl<'a> Sealed<'a> {
@@ -138,7 +138,7 @@ impl<'a> Sealed<'a> {
     /// The places of the candidates whose install-if can apply, in rising order.
     pub fn install_ifs(&self) -> &[CandId]
         ensures { result.now
-            ≡ places_from 0 (has_usable_install_if self.now.world) self.now.candidates }
+            ≡ places_passing_from 0 (has_usable_install_if self.now.world) self.now.candidates }
     {
         self.install_ifs.as_slice()
     }
@@ -157,7 +157,7 @@ impl<'a> Sealed<'a> {
     /// The options of a need whose dependency is borrowed: the candidates that may be selected and
     /// meet the need, best first.
     pub fn options_for(&self, alloc: Global, need: &NeedRef<'_>) -> Result<Options, AllocError>
-        ensures { IfOk result (λ options. options ≡ options_for self.now (need_by need.now)) }
+        ensures { IfOk result (λ options. options ≡ options_for self.now (need_of_ref need.now)) }
     {
         self.options_among(alloc, need, &self.packages)
     }
@@ -171,7 +171,7 @@ impl<'a> Sealed<'a> {
         packages: &Packages<'a>,
     ) -> Result<Options, AllocError>
         requires { candidates_of_packages packages.now ≡ self.now.candidates }
-        ensures { IfOk result (λ options. options ≡ options_for self.now (need_by need.now)) }
+        ensures { IfOk result (λ options. options ≡ options_for self.now (need_of_ref need.now)) }
     {
         let mut known = KnownMatches::new(alloc);
         let ids = self.fitting(alloc, need, packages, &mut known)?;
@@ -193,11 +193,11 @@ impl<'a> Sealed<'a> {
         known: &KnownMatches,
     ) -> Result<Options, AllocError>
         requires those { ids.now
-            ≡ places_from 0 (may_meet self.now (need_by need.now)) self.now.candidates }
+            ≡ places_passing_from 0 (is_eligible_for_need self.now (need_of_ref need.now)) self.now.candidates }
         requires own { candidates_of_packages packages.now ≡ self.now.candidates }
-        requires known { AreMatchesFor (source_text packages.now.sources.items) (need_by need.now)
+        requires known { AreMatchesFor (source_text packages.now.sources.items) (need_of_ref need.now)
             known.now }
-        ensures { IfOk result (λ options. options ≡ options_for self.now (need_by need.now)) }
+        ensures { IfOk result (λ options. options ≡ options_for self.now (need_of_ref need.now)) }
     {
         rank_is_total();
         order_is_total();
@@ -218,15 +218,15 @@ impl<'a> Sealed<'a> {
         known: &KnownMatches,
     ) -> Result<Vec<RankedOption<'a>>, AllocError>
         requires those { ids.now
-            ≡ places_from 0 (may_meet self.now (need_by need.now)) self.now.candidates }
+            ≡ places_passing_from 0 (is_eligible_for_need self.now (need_of_ref need.now)) self.now.candidates }
         requires own { candidates_of_packages packages.now ≡ self.now.candidates }
-        requires known { AreMatchesFor (source_text packages.now.sources.items) (need_by need.now)
+        requires known { AreMatchesFor (source_text packages.now.sources.items) (need_of_ref need.now)
             known.now }
         ensures each { IfOk result (λ rankings.
-            All (IsRankingIn self.now (need_by need.now)) rankings.items) }
+            All (IsRankingIn self.now (need_of_ref need.now)) rankings.items) }
         ensures places { IfOk result (λ rankings. map (λ r. r.place) rankings.items ≡ ids.now) }
-        ensures under { IfOk result (λ rankings. AreReadAlike Kinds.Under rankings.items) }
-        ensures version { IfOk result (λ rankings. AreReadAlike Kinds.Own rankings.items) }
+        ensures under { IfOk result (λ rankings. HaveVersionsFromSameTexts Kinds.Under rankings.items) }
+        ensures version { IfOk result (λ rankings. HaveVersionsFromSameTexts Kinds.Own rankings.items) }
     {
         let mut rankings = Vec::with_capacity(alloc, ids.len())?;
         for id in ids {
@@ -245,11 +245,11 @@ impl<'a> Sealed<'a> {
     ) -> RankedOption<'a>
         requires within { id < length self.now.candidates }
         requires own { candidates_of_packages packages.now ≡ self.now.candidates }
-        requires known { AreMatchesFor (source_text packages.now.sources.items) (need_by need.now)
+        requires known { AreMatchesFor (source_text packages.now.sources.items) (need_of_ref need.now)
             known.now }
         ensures place { result.place ≡ id }
-        ensures ranking { IsRankingIn self.now (need_by need.now) result }
-        ensures texts { IsReadFrom packages.now.sources.items result }
+        ensures ranking { IsRankingIn self.now (need_of_ref need.now) result }
+        ensures texts { HasVersionTextsOfSources packages.now.sources.items result }
     {
         let place = id.place as usize;
         let details = self.details(id);
@@ -258,7 +258,7 @@ impl<'a> Sealed<'a> {
             untagged: details.is_untagged(),
             named: need.name() == details.name(),
             kept: self.is_kept(id),
-            under: packages.version_under(place, need, known),
+            under: packages.version_meeting_need(place, need, known),
             priority: details.priority(),
             name: details.name(),
             version: packages.version(place),
@@ -277,12 +277,12 @@ impl<'a> Sealed<'a> {
         known: &mut KnownMatches,
     ) -> Result<Vec<CandId>, AllocError>
         requires own { candidates_of_packages packages.now ≡ self.now.candidates }
-        requires known { AreMatchesFor (source_text packages.now.sources.items) (need_by need.now)
+        requires known { AreMatchesFor (source_text packages.now.sources.items) (need_of_ref need.now)
             known.old }
         ensures places { IfOk result (λ ids. ids.items
-            ≡ places_from 0 (may_meet self.now (need_by need.now)) self.now.candidates) }
+            ≡ places_passing_from 0 (is_eligible_for_need self.now (need_of_ref need.now)) self.now.candidates) }
         ensures known { IfOk result (λ _.
-            AreMatchesFor (source_text packages.now.sources.items) (need_by need.now) known.new) }
+            AreMatchesFor (source_text packages.now.sources.items) (need_of_ref need.now) known.new) }
     {
         let places = self.offers(need.name());
         let ids = self.fitting_among(alloc, need, places, packages, known)?;
@@ -299,12 +299,12 @@ impl<'a> Sealed<'a> {
         known: &mut KnownMatches,
     ) -> Result<Vec<CandId>, AllocError>
         requires own { candidates_of_packages packages.now ≡ self.now.candidates }
-        requires known { AreMatchesFor (source_text packages.now.sources.items) (need_by need.now)
+        requires known { AreMatchesFor (source_text packages.now.sources.items) (need_of_ref need.now)
             known.old }
         ensures places { IfOk result (λ ids. ids.items
-            ≡ filter (λ id. is_at self.now (may_meet self.now (need_by need.now)) id) places.now) }
+            ≡ filter (λ id. candidate_at_passes self.now (is_eligible_for_need self.now (need_of_ref need.now)) id) places.now) }
         ensures known { IfOk result (λ _.
-            AreMatchesFor (source_text packages.now.sources.items) (need_by need.now) known.new) }
+            AreMatchesFor (source_text packages.now.sources.items) (need_of_ref need.now) known.new) }
     {
         let mut ids = Vec::new(alloc);
         for id in places {
@@ -324,12 +324,12 @@ impl<'a> Sealed<'a> {
         known: &mut KnownMatches,
     ) -> Result<bool, AllocError>
         requires own { candidates_of_packages packages.now ≡ self.now.candidates }
-        requires known { AreMatchesFor (source_text packages.now.sources.items) (need_by need.now)
+        requires known { AreMatchesFor (source_text packages.now.sources.items) (need_of_ref need.now)
             known.old }
         ensures fits { IfOk result (λ fits. fits
-            ≡ is_at self.now (may_meet self.now (need_by need.now)) id) }
+            ≡ candidate_at_passes self.now (is_eligible_for_need self.now (need_of_ref need.now)) id) }
         ensures known { IfOk result (λ _.
-            AreMatchesFor (source_text packages.now.sources.items) (need_by need.now) known.new) }
+            AreMatchesFor (source_text packages.now.sources.items) (need_of_ref need.now) known.new) }
     {
         let place = id.place as usize;
         if place >= packages.len() {
@@ -357,7 +357,7 @@ impl<'a> Sealed<'a> {
 
     // Whether the candidate at a place is installed and the command does not upgrade its name.
     fn is_kept(&self, id: CandId) -> bool
-        ensures { result ≡ is_at self.now (is_kept_installed self.now.upgraded) id }
+        ensures { result ≡ candidate_at_passes self.now (is_kept_installed self.now.upgraded) id }
     {
         let place = id.place as usize;
         if place >= self.kept.len() {
@@ -394,7 +394,7 @@ pub(crate) fn seal_list<'a>(
 ) -> Result<Sealed<'a>, AllocError>
     requires { IsCandidateList list }
     ensures { IfOk result (λ sealed. sealed
-        ≡ sealed_pool_by (candidates_of_packages list.entry.packages) world.entry.now
+        ≡ sealed_pool_from_parts (candidates_of_packages list.entry.packages) world.entry.now
         (names_upgraded_by upgrade.entry)) }
 {
     let marks = marks_by_world(alloc, &list, world)?;

@@ -6,10 +6,10 @@ ghost use Rattle.std.specs.Prelude.{◌≡◌, ◌<◌, ◌^◌, ◌++◌, ◌�
 ghost use Rattle.dep_core.specs.Meets.{dependency};
 ghost use Rattle.option_ranks.specs.candidate_core.Candidates.{has_usable_install_if, is_eligible};
 ghost use Rattle.option_ranks.specs.candidate_core.CandidateList.{IsCandidateList};
-ghost use Rattle.option_ranks.specs.candidate_core.Options.{places_from};
+ghost use Rattle.option_ranks.specs.candidate_core.Options.{places_passing_from};
 ghost use Rattle.option_ranks.specs.candidate_core.Packages.{candidates_of_packages};
 ghost use Rattle.option_ranks.specs.candidate_core.Rank.{is_pinned};
-ghost use Rattle.option_ranks.specs.candidate_core.PositiveInstallIfs.{has_positive_install_if, places_marked};
+ghost use Rattle.option_ranks.specs.candidate_core.PositiveInstallIfs.{has_positive_install_if, places_marked_with_install_if};
 ghost use Rattle.pool_core.specs.World.{entries_of_kind, is_entry_of_kind};
 
 use crate::marks::{eligible_marks, pinned_marks};
@@ -49,7 +49,7 @@ pub(crate) fn marks_by_world(
     ensures pinned { IfOk result (λ marks. marks.pinned.items
         ≡ map (is_pinned world.now) (candidates_of_packages list.now.packages)) }
     ensures install_ifs { IfOk result (λ marks. marks.install_ifs.items
-        ≡ places_from 0 (has_usable_install_if world.now)
+        ≡ places_passing_from 0 (has_usable_install_if world.now)
         (candidates_of_packages list.now.packages)) }
 {
     let conflicts = entries_of_kind(alloc, world, EntryKind::Conflict)?;
@@ -112,7 +112,7 @@ fn install_ifs_among(
     requires few { length (candidates_of_packages packages.now) < 2 ^ 32 }
     requires marked { length eligible.now ≡ length (candidates_of_packages packages.now) }
     ensures { IfOk result (λ ids. ids.items
-        ≡ places_marked 0 eligible.now
+        ≡ places_marked_with_install_if 0 eligible.now
         (candidates_of_packages packages.now)) }
 {
     let mut ids = Vec::new(alloc);

@@ -9,9 +9,9 @@ use Rattle.pool_core.specs.candidate_core.Candidates.{Candidate}
 use Rattle.pool_core.specs.candidate_core.Options.{IsIn}
 use Rattle.command_core.specs.declared.operands.Operand.{Operand}
 use Rattle.dep_core.specs.Dependency.{Dependency}
-use Rattle.star_patterns.specs.Fills.{IsFilledTo}
-use Rattle.star_patterns.specs.Patterns.{is_matched, is_matched_within}
-use Rattle.query_core.specs.Asked.{IsNameOf, IsNameAsked, IsPartAsked, ProvidesName}
+use Rattle.star_patterns.specs.Fills.{MatchesByFillingStars}
+use Rattle.star_patterns.specs.Patterns.{is_matched, matches_some_part}
+use Rattle.query_core.specs.Asked.{IsOwnOrProvidedName, MatchesNamePattern, MatchesPartOfName, ProvidesName}
 use Rattle.query_core.specs.List.{is_list_candidate, is_name_matched}
 use Rattle.query_core.specs.Search.{candidate_names, is_name_found, is_search_candidate, provided_names}
 use Rattle.query_core.proofs.Parts.{found_in_part, part_found}
@@ -26,18 +26,18 @@ empty : (patterns : List Operand) → (length patterns == 0) ≡ true → patter
 empty [] h = refl
 empty (o ∷ patterns) h = let bad : suc (length patterns) ≡ 0 = (Decides-eqb (suc (length patterns)) 0).0 h in absurd (omega (arith, bad))
 
-module _ (law : (pattern text : List ℕ) → (is_matched pattern text ≡ true) ↔ IsFilledTo pattern text) where
-  name_asked : (patterns : List Operand) (name : List ℕ) → is_name_matched patterns name ≡ true → IsNameAsked patterns name
+module _ (law : (pattern text : List ℕ) → (is_matched pattern text ≡ true) ↔ MatchesByFillingStars pattern text) where
+  name_asked : (patterns : List Operand) (name : List ℕ) → is_name_matched patterns name ≡ true → MatchesNamePattern patterns name
   name_asked patterns name h =
       let found = passes_at (λ (o : Operand). is_matched o.text name) patterns h in
       record { pattern = found.1.0; given = is_in_at patterns found.0 found.1.0 found.1.1.0; filled = (law found.1.0.text name).0 found.1.1.1 }
 
-  asked_name : (patterns : List Operand) (name : List ℕ) → IsNameAsked patterns name → is_name_matched patterns name ≡ true
+  asked_name : (patterns : List Operand) (name : List ℕ) → MatchesNamePattern patterns name → is_name_matched patterns name ≡ true
   asked_name patterns name asked = any_in (λ (o : Operand). is_matched o.text name) patterns asked.pattern asked.given ((law asked.pattern.text name).1 asked.filled)
 
-  part_asked : (patterns : List Operand) (name : List ℕ) → is_name_found patterns name ≡ true → IsPartAsked patterns name
+  part_asked : (patterns : List Operand) (name : List ℕ) → is_name_found patterns name ≡ true → MatchesPartOfName patterns name
   part_asked patterns name h =
-      let found = passes_at (λ (o : Operand). is_matched_within o.text name) patterns h in
+      let found = passes_at (λ (o : Operand). matches_some_part o.text name) patterns h in
       let part = part_found found.1.0.text name found.1.1.1 in
       record {
         pattern = found.1.0;
@@ -49,12 +49,12 @@ module _ (law : (pattern text : List ℕ) → (is_matched pattern text ≡ true)
         filled = (law found.1.0.text part.part).0 part.matched;
       }
 
-  asked_part : (patterns : List Operand) (name : List ℕ) → IsPartAsked patterns name → is_name_found patterns name ≡ true
+  asked_part : (patterns : List Operand) (name : List ℕ) → MatchesPartOfName patterns name → is_name_found patterns name ≡ true
   asked_part patterns name asked =
-      any_in (λ (o : Operand). is_matched_within o.text name) patterns asked.pattern asked.given
+      any_in (λ (o : Operand). matches_some_part o.text name) patterns asked.pattern asked.given
       (found_in_part asked.pattern.text asked.before asked.part asked.after name asked.name_is ((law asked.pattern.text asked.part).1 asked.filled))
 
-  pub listed_if_asked : (patterns : List Operand) (installed_only : Bool) (c : Candidate) → (is_list_candidate patterns installed_only c ≡ true) ↔ (((patterns ≡ []) ⊎ IsNameAsked patterns c.name) × (installed_only ≡ true → c.installed ≡ true))
+  pub listed_if_asked : (patterns : List Operand) (installed_only : Bool) (c : Candidate) → (is_list_candidate patterns installed_only c ≡ true) ↔ (((patterns ≡ []) ⊎ MatchesNamePattern patterns c.name) × (installed_only ≡ true → c.installed ≡ true))
   listed_if_asked patterns installed_only c = (
     (λ h.
         let both = and_parts (length patterns == 0 || is_name_matched patterns c.name) (not installed_only || c.installed) h in (
@@ -87,15 +87,15 @@ module _ (law : (pattern text : List ℕ) → (is_matched pattern text ≡ true)
   in_provided (q ∷ ps) p (inl is) e = rw (subst (λ (r : Dependency). r.conflict ≡ false) is e) (inl (ap (λ (r : Dependency). r.name) is))
   in_provided (q ∷ ps) p (inr m) e = elim (cases_Bool (q.conflict)) [ inl t ↦ rw t (in_provided ps p m e) | inr t ↦ rw t (inr (in_provided ps p m e)) ]
 
-  has_name : (c : Candidate) (name : List ℕ) → IsIn name (candidate_names c) → IsNameOf c name
+  has_name : (c : Candidate) (name : List ℕ) → IsIn name (candidate_names c) → IsOwnOrProvidedName c name
   has_name c name (inl is) = inl (sym is)
   has_name c name (inr m) = inr (provided c c.provides name (λ q k. k) m)
 
-  name_in : (c : Candidate) (name : List ℕ) → IsNameOf c name → IsIn name (candidate_names c)
+  name_in : (c : Candidate) (name : List ℕ) → IsOwnOrProvidedName c name → IsIn name (candidate_names c)
   name_in c name (inl is) = inl (sym is)
   name_in c name (inr p) = inr (subst (λ (n : List ℕ). IsIn n (provided_names c.provides)) p.name_is (in_provided c.provides p.entry p.provided p.no_conflict))
 
-  pub searched_if_asked : (patterns : List Operand) (c : Candidate) → (is_search_candidate patterns c ≡ true) ↔ ((is_some c.repository ≡ true) × ((name : List ℕ) × (IsNameOf c name × IsPartAsked patterns name)))
+  pub searched_if_asked : (patterns : List Operand) (c : Candidate) → (is_search_candidate patterns c ≡ true) ↔ ((is_some c.repository ≡ true) × ((name : List ℕ) × (IsOwnOrProvidedName c name × MatchesPartOfName patterns name)))
   searched_if_asked patterns c = (
     (λ h.
         let both = and_parts (is_some c.repository) (list_any (is_name_found patterns) (candidate_names c)) h in

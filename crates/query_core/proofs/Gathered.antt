@@ -14,7 +14,7 @@ use Rattle.pool_core.specs.candidate_core.Options.{IsIn}
 use Rattle.pool_core.proofs.candidate_core.Steps.{any_snoc, take_one_more}
 use Rattle.pool_core.specs.option_ranks.Ranking.{Ranking}
 use Rattle.pool_core.proofs.option_ranks.MovedMembers.{moved_member}
-use Rattle.query_core.specs.VersionPlaces.{NeverFall, SaysPlacesOf, version_places_by}
+use Rattle.query_core.specs.VersionPlaces.{AreNonDecreasing, ListsPlacesOf, version_places_from_parts}
 use Rattle.query_core.proofs.RisingLines.{has_number, numbered, numbers_of}
 
 -- the candidates of rankings
@@ -49,11 +49,11 @@ each_in P [] x all h = absurd h
 each_in P (y ∷ xs) x all (inl e) = subst P (sym e) all.0
 each_in P (y ∷ xs) x all (inr h) = each_in P xs x all.1 h
 
-never_fall : (ns : List ℕ) → Rises (λ m n. is_lt (nat_cmp m n)) (ranks nat_cmp nat_cmp_total) ns → NeverFall ns
+never_fall : (ns : List ℕ) → Rises (λ m n. is_lt (nat_cmp m n)) (ranks nat_cmp nat_cmp_total) ns → AreNonDecreasing ns
 never_fall [] h = tt
 never_fall (n ∷ ns) h = ((λ m g. ge_from_not_lt m n (each_in (λ (k : ℕ). is_lt (nat_cmp k n) ≡ false) ns m h.0 g)), never_fall ns h.1)
 
-pub gathered : (those : List Candidate) (version : Option (List ℕ)) (is_installed : Bool) (numbers sorted : List ℕ) → is_installed ≡ list_any (λ (c : Candidate). c.installed) those → numbers ≡ numbers_of those → IsPermutation numbers sorted → IsSorted nat_cmp sorted → SaysPlacesOf those (version_places_by version is_installed sorted)
+pub gathered : (those : List Candidate) (version : Option (List ℕ)) (is_installed : Bool) (numbers sorted : List ℕ) → is_installed ≡ list_any (λ (c : Candidate). c.installed) those → numbers ≡ numbers_of those → IsPermutation numbers sorted → IsSorted nat_cmp sorted → ListsPlacesOf those (version_places_from_parts version is_installed sorted)
 gathered those version is_installed numbers sorted installed is moved up = record {
   installed = sym installed;
   order = never_fall sorted (rises_sorted (λ m n. is_lt (nat_cmp m n)) (ranks nat_cmp nat_cmp_total) sorted up);

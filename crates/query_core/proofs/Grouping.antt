@@ -17,7 +17,7 @@ use Rattle.std.proofs.lemmas.List.Sorted.{IsPermutation-sym}
 use Rattle.std.proofs.lemmas.Bool.{and_parts, cases_Bool, ltb-true, ltb-false}
 use Rattle.pool_core.proofs.SamePackage.{same_version}
 use Rattle.pool_core.specs.candidate_core.Candidates.{Candidate, is_same_version}
-use Rattle.pool_core.specs.candidate_core.Options.{IsIn, places_from}
+use Rattle.pool_core.specs.candidate_core.Options.{IsIn, places_passing_from}
 use Rattle.pool_core.specs.candidate_core.Rank.{bytes_cmp, greater_version}
 use Rattle.pool_core.proofs.candidate_core.OptionLists.{in_places, places_in}
 use Rattle.pool_core.proofs.candidate_core.LoopTests.{any_at}
@@ -27,10 +27,10 @@ use Rattle.pool_core.specs.option_ranks.declared.rank.VersionKey.{VersionKey}
 use Rattle.pool_core.proofs.option_ranks.CountedRanks.{here_is}
 use Rattle.pool_core.proofs.option_ranks.MovedMembers.{member_of_all, moved_member}
 use Rattle.pool_core.proofs.option_ranks.RankedOptions.{place_of}
-use Rattle.query_core.specs.Order.{name_and_version_cmp, query_cmp, selected_places}
-use Rattle.query_core.specs.Policy.{has_name_and_version, has_own_name, is_of_repository, versions_of_name, versions_once}
-use Rattle.query_core.specs.QueryRanking.{AreInQueryOrder, IsQueryRanking, have_one_version}
-use Rattle.query_core.specs.VersionPlaces.{SaysPlacesOf, VersionPlaces}
+use Rattle.query_core.specs.Order.{name_and_version_cmp, query_cmp, sorted_places_passing}
+use Rattle.query_core.specs.Policy.{has_name_and_version, has_own_name, is_of_repository, versions_of_name, versions_without_repeats}
+use Rattle.query_core.specs.QueryRanking.{AreInQueryOrder, IsQueryRanking, have_same_version}
+use Rattle.query_core.specs.VersionPlaces.{ListsPlacesOf, VersionPlaces}
 use Rattle.query_core.proofs.Gathered.{candidates_of}
 use Rattle.query_core.proofs.QueryOrder.{candidates_total, last_decides, query_total, texts_same}
 use Rattle.query_core.proofs.Runs.{any_filtered, any_found_at, at_some_place, below_length, below_taken, bool_same, dropped_at, dropped_twice, found_any_at, from_mapped, is_in_at, mapped_at, mapped_drop, once_run, passes_at, same_text, taken_at}
@@ -88,11 +88,11 @@ first_candidate : (cs : List Candidate) (rs : List Ranking) (r : Ranking) (c : C
 first_candidate cs [] r c h e = absurd (cc)
 first_candidate cs (q ∷ rs) r c h e = let s : q ≡ r = cc in rw (ap (λ (a : Ranking). slice_get cs a.place) s ∙ e) refl
 
-module _ (versions : IsTotalOrder version_cmp) (cs : List Candidate) (name : List ℕ) (rs : List Ranking) (read : All (IsQueryRanking cs) rs) (places : map place_of rs ≡ selected_places (has_own_name name) cs) where
+module _ (versions : IsTotalOrder version_cmp) (cs : List Candidate) (name : List ℕ) (rs : List Ranking) (read : All (IsQueryRanking cs) rs) (places : map place_of rs ≡ sorted_places_passing (has_own_name name) cs) where
   -- what is printed of the name are the versions of the rankings
-  pub versions_are : versions_of_name cs name ≡ versions_once (map version_of rs)
+  pub versions_are : versions_of_name cs name ≡ versions_without_repeats (map version_of rs)
   versions_are =
-      ap versions_once
+      ap versions_without_repeats
       (ap (λ (ps : List ℕ). map (λ (c : Candidate). c.version) (filter_map (slice_get cs) ps)) (sym places)
       ∙ (ap (map (λ (c : Candidate). c.version)) (found_at_places cs rs) ∙ versions_found cs rs read))
 
@@ -101,8 +101,8 @@ module _ (versions : IsTotalOrder version_cmp) (cs : List Candidate) (name : Lis
 
   own_name : (i : ℕ) (r : Ranking) (c : Candidate) → slice_get rs i ≡ Some r → slice_get cs r.place ≡ Some c → has_own_name name c ≡ true
   own_name i r c h e =
-      let there : IsIn r.place (selected_places (has_own_name name) cs) = subst (λ (ps : List ℕ). IsIn r.place ps) places (is_in_at (map place_of rs) i r.place (mapped_at place_of rs i r h)) in
-      let unsorted : List ℕ = places_from 0 (has_own_name name) cs in
+      let there : IsIn r.place (sorted_places_passing (has_own_name name) cs) = subst (λ (ps : List ℕ). IsIn r.place ps) places (is_in_at (map place_of rs) i r.place (mapped_at place_of rs i r h)) in
+      let unsorted : List ℕ = places_passing_from 0 (has_own_name name) cs in
       let place = places_in 0 (has_own_name name) cs r.place (moved_member (sorted_by (query_cmp cs) unsorted) unsorted r.place (IsPermutation-sym unsorted (sorted_by (query_cmp cs) unsorted) (sorted_same (query_cmp cs) unsorted)) there) in
       let z : place.0 ≡ r.place = omega (arith, place.1) in
       let passes : option_map_or (has_own_name name) (slice_get cs r.place) false ≡ true = subst (λ (k : ℕ). option_map_or (has_own_name name) (slice_get cs k) false ≡ true) z place.2 in
@@ -119,7 +119,7 @@ module _ (versions : IsTotalOrder version_cmp) (cs : List Candidate) (name : Lis
   not_before i j a b x y low h g e f =
       let ps : List ℕ = map place_of rs in
       let total = query_total versions cs in
-      let up : IsSorted (query_cmp cs) ps = subst (IsSorted (query_cmp cs)) (sym places) (sorted_up (query_cmp cs) total (places_from 0 (has_own_name name) cs)) in
+      let up : IsSorted (query_cmp cs) ps = subst (IsSorted (query_cmp cs)) (sym places) (sorted_up (query_cmp cs) total (places_passing_from 0 (has_own_name name) cs)) in
       let at_i : slice_get ps i ≡ Some a.place = mapped_at place_of rs i a h in
       let at_j : slice_get ps j ≡ Some b.place = mapped_at place_of rs j b g in
       let high : j < length ps = below_length ps j b.place at_j in
@@ -135,7 +135,7 @@ module _ (versions : IsTotalOrder version_cmp) (cs : List Candidate) (name : Lis
 
   module _ (key : VersionKey) (ordered : AreInQueryOrder cs key rs) where
     -- after the first one with another version, none has the version
-    past_run : (start end j : ℕ) (s e x : Ranking) → start ≤ end → end ≤ j → slice_get rs start ≡ Some s → slice_get rs end ≡ Some e → slice_get rs j ≡ Some x → have_one_version key s e ≡ false → version_of s ≡ version_of x → ⊥
+    past_run : (start end j : ℕ) (s e x : Ranking) → start ≤ end → end ≤ j → slice_get rs start ≡ Some s → slice_get rs end ≡ Some e → slice_get rs j ≡ Some x → have_same_version key s e ≡ false → version_of s ≡ version_of x → ⊥
     past_run start end j s e x low high hs he hx other same =
         let rs_s = is_read start s hs in
         let rs_e = is_read end e he in
@@ -149,13 +149,13 @@ module _ (versions : IsTotalOrder version_cmp) (cs : List Candidate) (name : Lis
         let middle : cs_s.version ≡ cs_e.version =
         between versions cs_s cs_e cs_x (not_before start end s e cs_s cs_e low hs he rs_s.1.0 rs_e.1.0) (not_before end j e x cs_e cs_x high he hx rs_e.1.0 rs_x.1.0)
         (same_names cs_s cs_x (own_name start s cs_s hs rs_s.1.0) (own_name j x cs_x hx rs_x.1.0)) (sym vs ∙ (same ∙ vx)) in
-        let alike : have_one_version key s e ≡ true = ordered.same s e (is_in_at rs start s hs) (is_in_at rs end e he) (vs ∙ (middle ∙ sym ve)) in
+        let alike : have_same_version key s e ≡ true = ordered.same s e (is_in_at rs start s hs) (is_in_at rs end e he) (vs ∙ (middle ∙ sym ve)) in
         let bad : true ≡ false = sym alike ∙ other in
         absurd (cc)
 
     module _ (start end : ℕ) (s : Ranking) (some : start < end) (within : end ≤ length rs) (first : slice_get rs start ≡ Some s)
-        (one : (i : ℕ) (a b : Ranking) → start ≤ i → i < end → slice_get rs start ≡ Some a → slice_get rs i ≡ Some b → have_one_version key a b ≡ true)
-        (other : (a b : Ranking) → slice_get rs start ≡ Some a → slice_get rs end ≡ Some b → have_one_version key a b ≡ false)
+        (one : (i : ℕ) (a b : Ranking) → start ≤ i → i < end → slice_get rs start ≡ Some a → slice_get rs i ≡ Some b → have_same_version key a b ≡ true)
+        (other : (a b : Ranking) → slice_get rs start ≡ Some a → slice_get rs end ≡ Some b → have_same_version key a b ≡ false)
         (apart : (i j : ℕ) (a b : Ranking) → i < start → start ≤ j → slice_get rs i ≡ Some a → slice_get rs j ≡ Some b → version_of a ≡ version_of b → ⊥) where
       in_run : (i : ℕ) (b : Ranking) → start ≤ i → i < end → slice_get rs i ≡ Some b → version_of s ≡ version_of b
       in_run i b low high h = ordered.alike s b (is_in_at rs start s first) (is_in_at rs i b h) (one i s b low high first h)
@@ -175,7 +175,7 @@ module _ (versions : IsTotalOrder version_cmp) (cs : List Candidate) (name : Lis
       ]
 
       -- the version of the run is left once
-      pub next_version : versions_once (map version_of (drop start rs)) ≡ version_of s ∷ versions_once (map version_of (drop end rs))
+      pub next_version : versions_without_repeats (map version_of (drop start rs)) ≡ version_of s ∷ versions_without_repeats (map version_of (drop end rs))
       next_version =
           let n : ℕ = end - start in
           let z : start + n ≡ end = omega (arith, some) in
@@ -187,7 +187,7 @@ module _ (versions : IsTotalOrder version_cmp) (cs : List Candidate) (name : Lis
           (λ m low h.
           let found = from_mapped version_of (drop start rs) m (version_of s) h in
           none_after (start + m) found.0 (omega (arith, low)) (sym (dropped_at rs start m) ∙ found.1.0) (sym found.1.1))
-          ∙ ap (λ (vs : List (Option (List ℕ))). version_of s ∷ versions_once vs) (sym (mapped_drop version_of (drop start rs) n) ∙ ap (map version_of) (dropped_twice rs start n ∙ ap (λ (k : ℕ). drop k rs) z))
+          ∙ ap (λ (vs : List (Option (List ℕ))). version_of s ∷ versions_without_repeats vs) (sym (mapped_drop version_of (drop start rs) n) ∙ ap (map version_of) (dropped_twice rs start n ∙ ap (λ (k : ℕ). drop k rs) z))
 
       run_at : (m : ℕ) (r : Ranking) → slice_get (take (end - start) (drop start rs)) m ≡ Some r → (m < end - start) × (slice_get rs (start + m) ≡ Some r)
       run_at m r h =
@@ -208,7 +208,7 @@ module _ (versions : IsTotalOrder version_cmp) (cs : List Candidate) (name : Lis
           let here : slice_get cs k ≡ Some x = found.1.1.0 in
           let pq = and_parts (p x) (q x) found.1.1.1 in
           let named = and_parts (has_own_name name x) (is_same_version (version_of s) x.version) pq.0 in
-          let unsorted : List ℕ = places_from 0 (has_own_name name) cs in
+          let unsorted : List ℕ = places_passing_from 0 (has_own_name name) cs in
           let passes : option_map_or (has_own_name name) (slice_get cs k) false ≡ true = ap (λ (o : Option Candidate). option_map_or (has_own_name name) o false) here ∙ named.0 in
           let z : 0 + k ≡ k = omega arith in
           let placed : IsIn k unsorted = subst (λ (m : ℕ). IsIn m unsorted) z (in_places 0 (has_own_name name) cs k passes) in
@@ -263,7 +263,7 @@ module _ (versions : IsTotalOrder version_cmp) (cs : List Candidate) (name : Lis
           (here.0, (first_candidate cs (take (end - start) (drop start rs)) s here.0 at here.1.0, sym (version_is start s here.0 first here.1.0)))
 
 -- what is gathered of some candidates is so of others that pass the same tests
-pub says_same : (xs ys : List Candidate) (v : VersionPlaces) → ((q : Candidate → Bool) → list_any q xs ≡ list_any q ys) → SaysPlacesOf ys v → SaysPlacesOf xs v
+pub says_same : (xs ys : List Candidate) (v : VersionPlaces) → ((q : Candidate → Bool) → list_any q xs ≡ list_any q ys) → ListsPlacesOf ys v → ListsPlacesOf xs v
 says_same xs ys v same says = record {
   installed = same (λ (c : Candidate). c.installed) ∙ says.installed;
   order = says.order;

@@ -17,7 +17,7 @@ use Rattle.version_core.specs.Order.{version_cmp}
 use Rattle.base_core.specs.Sorted.{sorted_by, with_element}
 use Rattle.base_core.proofs.Sorting.{Rises, ranks, rises_in_order, sorted_same}
 use Rattle.pool_core.specs.candidate_core.Candidates.{Candidate, is_same_version}
-use Rattle.pool_core.specs.candidate_core.Options.{AreDistinct, IsIn, places_from}
+use Rattle.pool_core.specs.candidate_core.Options.{AreDistinct, IsIn, places_passing_from}
 use Rattle.pool_core.specs.candidate_core.Rank.{bytes_cmp, greater_version}
 use Rattle.pool_core.proofs.candidate_core.OptionLists.{in_places, places_apart, places_in}
 use Rattle.dep_core.specs.Repositories.{Repository}
@@ -25,8 +25,8 @@ use Rattle.pool_core.proofs.option_ranks.MovedMembers.{moved_member}
 use Rattle.pool_core.proofs.option_ranks.RankOrder.{versions_back}
 use Rattle.report_core.specs.QueryReports.{policy_heading}
 use Rattle.query_core.specs.Asked.{AreInOrderBy, IsVersionOfName}
-use Rattle.query_core.specs.Order.{query_cmp, selected_candidates, selected_places}
-use Rattle.query_core.specs.Policy.{has_own_name, name_policy, version_policy, versions_of_name, versions_once}
+use Rattle.query_core.specs.Order.{query_cmp, sorted_candidates_passing, sorted_places_passing}
+use Rattle.query_core.specs.Policy.{has_own_name, name_policy, version_policy, versions_of_name, versions_without_repeats}
 use Rattle.query_core.proofs.AskedFor.{any_in}
 use Rattle.query_core.proofs.Gathered.{each_in}
 use Rattle.query_core.proofs.QueryOrder.{last_decides, one_place, query_total, texts_same}
@@ -67,16 +67,16 @@ module _ (versions : IsTotalOrder version_cmp) where
 
 -- ---- what is selected
 
-pub passes : (test : Candidate → Bool) (cs : List Candidate) (place : ℕ) → IsIn place (selected_places test cs) → option_map_or test (slice_get cs place) false ≡ true
+pub passes : (test : Candidate → Bool) (cs : List Candidate) (place : ℕ) → IsIn place (sorted_places_passing test cs) → option_map_or test (slice_get cs place) false ≡ true
 passes test cs place h =
-    let unsorted : List ℕ = places_from 0 test cs in
+    let unsorted : List ℕ = places_passing_from 0 test cs in
     let found = places_in 0 test cs place (moved_member (sorted_by (query_cmp cs) unsorted) unsorted place (IsPermutation-sym unsorted (sorted_by (query_cmp cs) unsorted) (sorted_same (query_cmp cs) unsorted)) h) in
     let z : found.0 ≡ place = omega (arith, found.1) in
     subst (λ (k : ℕ). option_map_or test (slice_get cs k) false ≡ true) z found.2
 
-pub selects : (test : Candidate → Bool) (cs : List Candidate) (place : ℕ) → option_map_or test (slice_get cs place) false ≡ true → IsIn place (selected_places test cs)
+pub selects : (test : Candidate → Bool) (cs : List Candidate) (place : ℕ) → option_map_or test (slice_get cs place) false ≡ true → IsIn place (sorted_places_passing test cs)
 selects test cs place h =
-    let unsorted : List ℕ = places_from 0 test cs in
+    let unsorted : List ℕ = places_passing_from 0 test cs in
     let z : 0 + place ≡ place = omega arith in
     moved_member unsorted (sorted_by (query_cmp cs) unsorted) place (sorted_same (query_cmp cs) unsorted) (subst (λ (k : ℕ). IsIn k unsorted) z (in_places 0 test cs place h))
 
@@ -122,14 +122,14 @@ module _ (cmp : ℕ → ℕ → Ordering) (total : IsTotalOrder cmp) (one : (a b
     in_order xs up.1 d.1,
   )
 
-pub selected_in_order : IsTotalOrder version_cmp → (test : Candidate → Bool) (cs : List Candidate) → AreInOrderBy (query_cmp cs) (selected_places test cs)
+pub selected_in_order : IsTotalOrder version_cmp → (test : Candidate → Bool) (cs : List Candidate) → AreInOrderBy (query_cmp cs) (sorted_places_passing test cs)
 selected_in_order versions test cs =
     let total = query_total versions cs in
-    in_order (query_cmp cs) total (one_place cs) (selected_places test cs) (rises_in_order (query_cmp cs) total (places_from 0 test cs)) (sorted_distinct (query_cmp cs) (places_from 0 test cs) (places_apart 0 test cs))
+    in_order (query_cmp cs) total (one_place cs) (sorted_places_passing test cs) (rises_in_order (query_cmp cs) total (places_passing_from 0 test cs)) (sorted_distinct (query_cmp cs) (places_passing_from 0 test cs) (places_apart 0 test cs))
 
 -- ---- versions
 
-once_in : (v : Option (List ℕ)) (vs : List (Option (List ℕ))) → IsIn v (versions_once vs) → IsIn v vs
+once_in : (v : Option (List ℕ)) (vs : List (Option (List ℕ))) → IsIn v (versions_without_repeats vs) → IsIn v vs
 once_in v [] h = h
 once_in v (w ∷ vs) h = elim (cases_Bool (list_any (is_same_version w) vs)) [
   | inl e ↦ inr (once_in v vs (rw e at h))
@@ -140,7 +140,7 @@ same_in : (v : Option (List ℕ)) (vs : List (Option (List ℕ))) → list_any (
 same_in v [] h = absurd (cc)
 same_in v (w ∷ vs) h = elim (cases_Bool (is_same_version v w)) [ inl e ↦ inl (same_version v w e) | inr e ↦ inr (same_in v vs (rw e at h)) ]
 
-in_once : (v : Option (List ℕ)) (vs : List (Option (List ℕ))) → IsIn v vs → IsIn v (versions_once vs)
+in_once : (v : Option (List ℕ)) (vs : List (Option (List ℕ))) → IsIn v vs → IsIn v (versions_without_repeats vs)
 in_once v [] h = h
 in_once v (w ∷ vs) (inl s) = elim (cases_Bool (list_any (is_same_version w) vs)) [
   | inl e ↦ rw e (in_once v vs (subst (λ (x : Option (List ℕ)). IsIn x vs) (sym s) (same_in w vs e)))
@@ -177,8 +177,8 @@ own_name_is cs name place c e h = sym ((bytes_eq-Decides name c.name).0 (ap (λ 
 
 pub versions_those : (cs : List Candidate) (name : List ℕ) (version : Option (List ℕ)) → IsIn version (versions_of_name cs name) → IsVersionOfName cs name version
 versions_those cs name version h =
-    let places : List ℕ = selected_places (has_own_name name) cs in
-    let found = found_place cs version places (once_in version (map (λ (c : Candidate). c.version) (selected_candidates (has_own_name name) cs)) h) in
+    let places : List ℕ = sorted_places_passing (has_own_name name) cs in
+    let found = found_place cs version places (once_in version (map (λ (c : Candidate). c.version) (sorted_candidates_passing (has_own_name name) cs)) h) in
     record {
       place = found.0;
       candidate = found.1.0;
@@ -191,8 +191,8 @@ pub versions_each : (cs : List Candidate) (name : List ℕ) (version : Option (L
 versions_each cs name version is =
     let own : has_own_name name is.candidate ≡ true = (bytes_eq-Decides name is.candidate.name).1 (sym is.name_is) in
     let test : option_map_or (has_own_name name) (slice_get cs is.place) false ≡ true = ap (λ (o : Option Candidate). option_map_or (has_own_name name) o false) is.here ∙ own in
-    let there = place_found cs is.place is.candidate (selected_places (has_own_name name) cs) (selects (has_own_name name) cs is.place test) is.here in
-    subst (λ (v : Option (List ℕ)). IsIn v (versions_of_name cs name)) is.version_is (in_once is.candidate.version (map (λ (c : Candidate). c.version) (selected_candidates (has_own_name name) cs)) there)
+    let there = place_found cs is.place is.candidate (sorted_places_passing (has_own_name name) cs) (selects (has_own_name name) cs is.place test) is.here in
+    subst (λ (v : Option (List ℕ)). IsIn v (versions_of_name cs name)) is.version_is (in_once is.candidate.version (map (λ (c : Candidate). c.version) (sorted_candidates_passing (has_own_name name) cs)) there)
 
 abbrev version_text_cmp : Option (List ℕ) → Option (List ℕ) → Ordering
 version_text_cmp = then_cmp greater_version (option_cmp bytes_cmp)
@@ -202,7 +202,7 @@ abbrev NeverBefore : List (Option (List ℕ)) → Type 0
 NeverBefore [] = Unit {0}
 NeverBefore (v ∷ vs) = ((w : Option (List ℕ)) → IsIn w vs → (version_text_cmp v w ≡ Less) ⊎ (v ≡ w)) × NeverBefore vs
 
-once_in_order : (vs : List (Option (List ℕ))) → NeverBefore vs → AreInOrderBy version_text_cmp (versions_once vs)
+once_in_order : (vs : List (Option (List ℕ))) → NeverBefore vs → AreInOrderBy version_text_cmp (versions_without_repeats vs)
 once_in_order [] h = tt
 once_in_order (v ∷ vs) h = elim (cases_Bool (list_any (is_same_version v) vs)) [
   | inl e ↦ rw e (once_in_order vs h.1)
@@ -248,8 +248,8 @@ module _ (versions : IsTotalOrder version_cmp) (cs : List Candidate) (name : Lis
 
   pub versions_in_order : AreInOrderBy version_text_cmp (versions_of_name cs name)
   versions_in_order =
-      let places : List ℕ = selected_places (has_own_name name) cs in
-      once_in_order (map (λ (c : Candidate). c.version) (selected_candidates (has_own_name name) cs))
+      let places : List ℕ = sorted_places_passing (has_own_name name) cs in
+      once_in_order (map (λ (c : Candidate). c.version) (sorted_candidates_passing (has_own_name name) cs))
       (never_before places (selected_in_order versions (has_own_name name) cs) (λ p c m e. own_name_is cs name p c e (passes (has_own_name name) cs p m)))
 
 nothing_printed : (candidates : List Candidate) (repositories : List Repository) (name : List ℕ) (vs : List (Option (List ℕ))) → ((v : Option (List ℕ)) → IsIn v vs → ⊥) → policy_heading name ++ flat_map (version_policy candidates repositories name) vs ≡ policy_heading name

@@ -8,10 +8,10 @@ use Rattle.pool_core.specs.option_ranks.Ranking.{Ranking}
 use Rattle.pool_core.proofs.option_ranks.RankedOptions.{place_of}
 use Rattle.query_core.specs.Lines.{line_in_form}
 use Rattle.query_core.specs.QueryRanking.{IsQueryRanking}
-use Rattle.report_core.specs.QueryReports.{database_line, version_heading}
+use Rattle.report_core.specs.QueryReports.{policy_database_line, version_heading}
 use Rattle.query_core.specs.Order.{printed_version}
 use Rattle.query_core.specs.Policy.{has_name_and_version, version_policy}
-use Rattle.query_core.specs.VersionPlaces.{IsVersionOf, VersionPlaces, numbered_line, rising_lines, version_lines}
+use Rattle.query_core.specs.VersionPlaces.{ListsPlacesOfVersion, VersionPlaces, repository_line_numbered, distinct_repository_lines, version_lines}
 use Rattle.query_core.specs.declared.candidates.LineForm.{LineForm}
 use Rattle.query_core.proofs.RisingLines.{lines_of_numbers}
 use Rattle.query_core.proofs.Runs.{below_length}
@@ -46,22 +46,22 @@ lines_left form cs rs i r c h e = ap (lines_of form cs) (left_at rs i r h) ∙ r
 pub versions_left : (repositories : List Repository) (vs : List VersionPlaces) (i : ℕ) (v : VersionPlaces) → slice_get vs i ≡ Some v → flat_map (version_lines repositories) (drop i vs) ≡ version_lines repositories v ++ flat_map (version_lines repositories) (drop (i + 1) vs)
 versions_left repositories vs i v h = ap (flat_map (version_lines repositories)) (left_at vs i v h)
 
-pub numbers_left : (repositories : List Repository) (last : ℕ) (ns : List ℕ) (i n : ℕ) → slice_get ns i ≡ Some n → rising_lines repositories last (drop i ns) ≡ (if nat_lt last n then numbered_line repositories n else []) ++ rising_lines repositories (if nat_lt last n then n else last) (drop (i + 1) ns)
-numbers_left repositories last ns i n h = ap (rising_lines repositories last) (left_at ns i n h) ∙ elim (cases_Bool (nat_lt last n)) [ inl e ↦ rw e refl | inr e ↦ rw e refl ]
+pub numbers_left : (repositories : List Repository) (last : ℕ) (ns : List ℕ) (i n : ℕ) → slice_get ns i ≡ Some n → distinct_repository_lines repositories last (drop i ns) ≡ (if nat_lt last n then repository_line_numbered repositories n else []) ++ distinct_repository_lines repositories (if nat_lt last n then n else last) (drop (i + 1) ns)
+numbers_left repositories last ns i n h = ap (distinct_repository_lines repositories last) (left_at ns i n h) ∙ elim (cases_Bool (nat_lt last n)) [ inl e ↦ rw e refl | inr e ↦ rw e refl ]
 
 -- what is read of candidates is at their places
 pub read_within : (cs : List Candidate) (rs : List Ranking) → All (IsQueryRanking cs) rs → All (λ (r : Ranking). r.place < length cs) rs
 read_within cs rs all = λ i d h. let p = all i d h in below_length cs (get_or rs i d).place p.0 p.1.0
 
 -- what is printed of versions that are gathered is what is printed of the name
-pub printed_places : (candidates : List Candidate) (repositories : List Repository) (name : List ℕ) (v : VersionPlaces) → IsVersionOf candidates name v → version_lines repositories v ≡ version_policy candidates repositories name v.version
+pub printed_places : (candidates : List Candidate) (repositories : List Repository) (name : List ℕ) (v : VersionPlaces) → ListsPlacesOfVersion candidates name v → version_lines repositories v ≡ version_policy candidates repositories name v.version
 printed_places candidates repositories name v says =
     let those : List Candidate = filter (has_name_and_version name v.version) candidates in
-    append_assoc (version_heading (printed_version v.version)) (if v.is_installed then database_line else []) (rising_lines repositories 0 v.repositories)
-    ∙ ap (λ (b : Bool). version_heading (printed_version v.version) ++ ((if b then database_line else []) ++ rising_lines repositories 0 v.repositories)) (sym says.installed)
-    ∙ ap (λ (lines : List ℕ). version_heading (printed_version v.version) ++ ((if list_any (λ (c : Candidate). c.installed) those then database_line else []) ++ lines)) (lines_of_numbers repositories those v.repositories says.order says.each says.all)
+    append_assoc (version_heading (printed_version v.version)) (if v.is_installed then policy_database_line else []) (distinct_repository_lines repositories 0 v.repositories)
+    ∙ ap (λ (b : Bool). version_heading (printed_version v.version) ++ ((if b then policy_database_line else []) ++ distinct_repository_lines repositories 0 v.repositories)) (sym says.installed)
+    ∙ ap (λ (lines : List ℕ). version_heading (printed_version v.version) ++ ((if list_any (λ (c : Candidate). c.installed) those then policy_database_line else []) ++ lines)) (lines_of_numbers repositories those v.repositories says.order says.each says.all)
 
-pub printed_versions : (candidates : List Candidate) (repositories : List Repository) (name : List ℕ) (vs : List VersionPlaces) → All (IsVersionOf candidates name) vs → flat_map (version_lines repositories) vs ≡ flat_map (version_policy candidates repositories name) (map (λ (v : VersionPlaces). v.version) vs)
+pub printed_versions : (candidates : List Candidate) (repositories : List Repository) (name : List ℕ) (vs : List VersionPlaces) → All (ListsPlacesOfVersion candidates name) vs → flat_map (version_lines repositories) vs ≡ flat_map (version_policy candidates repositories name) (map (λ (v : VersionPlaces). v.version) vs)
 printed_versions candidates repositories name [] all = refl
 printed_versions candidates repositories name (v ∷ vs) all =
     (λ j. printed_places candidates repositories name v (all 0 v (omega arith)) j ++ printed_versions candidates repositories name vs (λ i d h. all (suc i) d (omega (arith, h))) j)

@@ -3,14 +3,14 @@ use Rattle.std.proofs.Common.{◌≡◌, inl, inr, ℕ, true, false, List, [], �
 use Rattle.std.specs.Prelude.{◌==◌, ◌&&◌, if◌then◌else◌}
 use Rattle.std.specs.List.{list_any}
 use Rattle.std.proofs.lemmas.Bool.{and_parts, cases_Bool}
-use Rattle.star_patterns.specs.Ends.{is_end_matched}
-use Rattle.star_patterns.specs.Patterns.{is_byte_then, is_matched, is_matched_within, suffixes_of}
+use Rattle.star_patterns.specs.Ends.{matches_some_suffix}
+use Rattle.star_patterns.specs.Patterns.{is_byte_then, is_matched, matches_some_part, suffixes_of}
 use Rattle.star_patterns.proofs.Pieces.{end_found, literal_byte, whole_end, end_matched, empty_end}
 
-star_matched : (b : ℕ) (p text : List ℕ) → (b == 42) ≡ true → is_end_matched p text ≡ true → is_matched (b ∷ p) text ≡ true
+star_matched : (b : ℕ) (p text : List ℕ) → (b == 42) ≡ true → matches_some_suffix p text ≡ true → is_matched (b ∷ p) text ≡ true
 star_matched b p text e m = ap (λ t. if t then list_any (is_matched p) (suffixes_of text) else is_byte_then b (is_matched p) text) e ∙ m
 
-matched_star : (b : ℕ) (p text : List ℕ) → (b == 42) ≡ true → is_matched (b ∷ p) text ≡ true → is_end_matched p text ≡ true
+matched_star : (b : ℕ) (p text : List ℕ) → (b == 42) ≡ true → is_matched (b ∷ p) text ≡ true → matches_some_suffix p text ≡ true
 matched_star b p text e m = sym (ap (λ t. if t then list_any (is_matched p) (suffixes_of text) else is_byte_then b (is_matched p) text) e) ∙ m
 
 -- a text begins with a part that the pattern matches
@@ -20,7 +20,7 @@ pub record BeginsWithMatch (p text : List ℕ) : Type 0 where
   pub is : text ≡ part ++ after
   pub matched : is_matched p part ≡ true
 
-front_star : (b : ℕ) (p text : List ℕ) → (b == 42) ≡ true → ((rest : List ℕ) → is_matched (p ++ 42 ∷ []) rest ≡ true → BeginsWithMatch p rest) → is_end_matched (p ++ 42 ∷ []) text ≡ true → BeginsWithMatch (b ∷ p) text
+front_star : (b : ℕ) (p text : List ℕ) → (b == 42) ≡ true → ((rest : List ℕ) → is_matched (p ++ 42 ∷ []) rest ≡ true → BeginsWithMatch p rest) → matches_some_suffix (p ++ 42 ∷ []) text ≡ true → BeginsWithMatch (b ∷ p) text
 front_star b p text e again m =
     let found = end_found (p ++ 42 ∷ []) text m in
     let further = again found.rest found.matched in
@@ -63,7 +63,7 @@ back (b ∷ p) part after m = elim (cases_Bool (b == 42)) [
       let found = end_found p part (matched_star b p part e m) in
       let text : part ++ after ≡ found.front ++ (found.rest ++ after) = ap (λ z. z ++ after) found.is ∙ append_assoc found.front found.rest after in
       star_matched b (p ++ 42 ∷ []) (part ++ after) e
-      (ap (is_end_matched (p ++ 42 ∷ [])) text ∙ end_matched (p ++ 42 ∷ []) found.front (found.rest ++ after) (whole_end (p ++ 42 ∷ []) (found.rest ++ after) (back p found.rest after found.matched)))
+      (ap (matches_some_suffix (p ++ 42 ∷ [])) text ∙ end_matched (p ++ 42 ∷ []) found.front (found.rest ++ after) (whole_end (p ++ 42 ∷ []) (found.rest ++ after) (back p found.rest after found.matched)))
   | inr e ↦ back_byte b p part after e (λ rest h. back p rest after h) (sym (literal_byte b p part e) ∙ m)
 ]
 
@@ -75,7 +75,7 @@ pub record HasMatchedPart (p name : List ℕ) : Type 0 where
   pub is : name ≡ before ++ part ++ after
   pub matched : is_matched p part ≡ true
 
-pub part_found : (p name : List ℕ) → is_matched_within p name ≡ true → HasMatchedPart p name
+pub part_found : (p name : List ℕ) → matches_some_part p name ≡ true → HasMatchedPart p name
 part_found p name m =
     let found = end_found (p ++ 42 ∷ []) name m in
     let further = front p found.rest found.matched in
@@ -87,7 +87,7 @@ part_found p name m =
       matched = further.matched;
     }
 
-pub found_in_part : (p before part after name : List ℕ) → name ≡ before ++ part ++ after → is_matched p part ≡ true → is_matched_within p name ≡ true
+pub found_in_part : (p before part after name : List ℕ) → name ≡ before ++ part ++ after → is_matched p part ≡ true → matches_some_part p name ≡ true
 found_in_part p before part after name is m =
     let text : name ≡ before ++ (part ++ after) = is ∙ append_assoc before part after in
-    ap (is_end_matched (p ++ 42 ∷ [])) text ∙ end_matched (p ++ 42 ∷ []) before (part ++ after) (whole_end (p ++ 42 ∷ []) (part ++ after) (back p part after m))
+    ap (matches_some_suffix (p ++ 42 ∷ [])) text ∙ end_matched (p ++ 42 ∷ []) before (part ++ after) (whole_end (p ++ 42 ∷ []) (part ++ after) (back p part after m))

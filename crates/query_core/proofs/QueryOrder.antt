@@ -20,8 +20,8 @@ use Rattle.pool_core.specs.candidate_core.Candidates.{Candidate, is_same_version
 use Rattle.pool_core.specs.candidate_core.Rank.{bytes_cmp, greater_version}
 use Rattle.pool_core.specs.candidate_core.declared.versions.VersionKind.{VersionKind}
 use Rattle.pool_core.specs.candidate_core.declared.versions.VersionKind.TheVariants.{Under, Own}
-use Rattle.pool_core.specs.option_ranks.Ranking.{Ranking, ranking_by, ranking_cmp, version_order}
-use Rattle.pool_core.specs.option_ranks.VersionRanks.{AreRankedTwice, AreReadyFor, rank_among, with_rank}
+use Rattle.pool_core.specs.option_ranks.Ranking.{Ranking, ranking_from_parts, ranking_cmp, version_order}
+use Rattle.pool_core.specs.option_ranks.VersionRanks.{AreRankedTwice, AreComparableByKey, rank_among, with_version_rank}
 use Rattle.pool_core.specs.option_ranks.declared.rank.VersionKey.{VersionKey}
 use Rattle.pool_core.specs.option_ranks.declared.rank.VersionKey.TheVariants.{ByRank, ByText}
 use Rattle.pool_core.proofs.option_ranks.CountedRanks.{nat_same}
@@ -118,7 +118,7 @@ module _ (versions : IsTotalOrder version_cmp) (owns : List (Option (List ℕ)))
 -- ---- sorted rankings
 
 pub none_read : Ranking
-none_read = ranking_by false false false false (record { version = None; source = 0; word = 0; rank = 0 }) 0 [] (record { version = None; source = 0; word = 0; rank = 0 }) None 0
+none_read = ranking_from_parts false false false false (record { version = None; source = 0; word = 0; rank = 0 }) 0 [] (record { version = None; source = 0; word = 0; rank = 0 }) None 0
 
 sorted_places : (cs : List Candidate) (key : VersionKey) (P : Ranking → Type 0) → ((a b : Ranking) → P a → P b → ranking_cmp key a b ≡ query_cmp cs a.place b.place)
     → (rs : List Ranking) → All P rs → IsSortedBy (comes_before key) rs → IsSortedBy (λ a b. is_lt (query_cmp cs a b)) (map place_of rs)
@@ -134,9 +134,9 @@ sorted_places cs key P same rs all up = λ k d low high.
     ∙ (ap (λ (n : ℕ). is_lt (query_cmp cs a.place n)) is_b
     ∙ (ap is_lt (sym (same a b (all (k + 1) none_read next) (all k none_read here))) ∙ up k none_read low (omega (arith, high, len))))
 
-ranking_kept : (cs : List Candidate) (kind : VersionKind) (n : ℕ) (r : Ranking) → IsQueryRanking cs r → IsQueryRanking cs (with_rank kind n r)
-ranking_kept cs Under n r p = (p.0, (p.1.0, ap (with_rank Under n) p.1.1))
-ranking_kept cs Own n r p = (p.0, (p.1.0, ap (with_rank Own n) p.1.1))
+ranking_kept : (cs : List Candidate) (kind : VersionKind) (n : ℕ) (r : Ranking) → IsQueryRanking cs r → IsQueryRanking cs (with_version_rank kind n r)
+ranking_kept cs Under n r p = (p.0, (p.1.0, ap (with_version_rank Under n) p.1.1))
+ranking_kept cs Own n r p = (p.0, (p.1.0, ap (with_version_rank Own n) p.1.1))
 
 module _ (versions : IsTotalOrder version_cmp) (cs : List Candidate) (read : List Ranking) (each : All (IsQueryRanking cs) read) where
   ranked_twice : (second : List Ranking) (twice : AreRankedTwice read second) → All (IsRanked cs versions twice.under.versions twice.own.versions) second
@@ -150,7 +150,7 @@ module _ (versions : IsTotalOrder version_cmp) (cs : List Candidate) (read : Lis
       λ i d h. record { read = each_second i d h; under = under i d h; own = own i d h }
 
   -- what is ready for a key and sorted by it is in the order of queries
-  pub sorted_by_key : (key : VersionKey) (ready sorted : List Ranking) → AreReadyFor key read ready → IsPermutation ready sorted → IsSortedBy (comes_before key) sorted → IsSortedBy (λ a b. is_lt (query_cmp cs a b)) (map place_of sorted)
+  pub sorted_by_key : (key : VersionKey) (ready sorted : List Ranking) → AreComparableByKey key read ready → IsPermutation ready sorted → IsSortedBy (comes_before key) sorted → IsSortedBy (λ a b. is_lt (query_cmp cs a b)) (map place_of sorted)
   sorted_by_key ByRank ready sorted twice moved up =
       let P : Ranking → Type 0 = IsRanked cs versions twice.under.versions twice.own.versions in
       sorted_places cs ByRank P (same_order cs versions twice.under.versions twice.own.versions) sorted (All-permutation P ready sorted moved (ranked_twice ready twice)) up
@@ -159,14 +159,14 @@ module _ (versions : IsTotalOrder version_cmp) (cs : List Candidate) (read : Lis
       sorted_places cs ByText P (same_by_text cs) sorted (All-permutation P ready sorted moved (subst (λ (rs : List Ranking). All P rs) (sym same) each)) up
 
   -- it has the places that were read
-  pub places_ready : (key : VersionKey) (ready : List Ranking) → AreReadyFor key read ready → IsPermutation (map place_of read) (map place_of ready)
+  pub places_ready : (key : VersionKey) (ready : List Ranking) → AreComparableByKey key read ready → IsPermutation (map place_of read) (map place_of ready)
   places_ready ByRank ready twice =
       IsPermutation-trans (map place_of read) (map place_of twice.between) (map place_of ready) (places_kept Under read twice.between twice.under) (places_kept Own twice.between ready twice.own)
   places_ready ByText ready same =
       subst (λ (rs : List Ranking). IsPermutation (map place_of read) (map place_of rs)) (sym same) (IsPermutation-map place_of read read (IsPermutation-refl read))
 
   -- and its versions are parted by the key
-  pub in_query_order : (key : VersionKey) (ready sorted : List Ranking) → AreReadyFor key read ready → IsPermutation ready sorted → AreInQueryOrder cs key sorted
+  pub in_query_order : (key : VersionKey) (ready sorted : List Ranking) → AreComparableByKey key read ready → IsPermutation ready sorted → AreInQueryOrder cs key sorted
   in_query_order ByRank ready sorted twice moved =
       let owns : List (Option (List ℕ)) = twice.own.versions in
       let P : Ranking → Type 0 = IsRanked cs versions twice.under.versions owns in

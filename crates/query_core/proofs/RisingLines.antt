@@ -10,11 +10,11 @@ use Rattle.pool_core.specs.candidate_core.Options.{IsIn}
 use Rattle.dep_core.specs.Repositories.{Repository}
 use Rattle.report_core.specs.QueryReports.{repository_line}
 use Rattle.query_core.specs.Policy.{is_of_repository, repository_lines}
-use Rattle.query_core.specs.VersionPlaces.{NeverFall, numbered_line, rising_lines}
+use Rattle.query_core.specs.VersionPlaces.{AreNonDecreasing, repository_line_numbered, distinct_repository_lines}
 
 module _ (all : List Repository) where
   -- past the last repository there is no line
-  no_lines : (last : ℕ) (ns : List ℕ) → ((n : ℕ) → last < n → numbered_line all n ≡ []) → rising_lines all last ns ≡ []
+  no_lines : (last : ℕ) (ns : List ℕ) → ((n : ℕ) → last < n → repository_line_numbered all n ≡ []) → distinct_repository_lines all last ns ≡ []
   no_lines last [] out = refl
   no_lines last (n ∷ ns) out = elim (cases_Bool (nat_lt last n)) [
     | inl e ↦ let low = ltb-true last n e in rw (e, out n low) (no_lines n ns (λ m h. out m (omega (arith, low, h))))
@@ -22,7 +22,7 @@ module _ (all : List Repository) where
   ]
 
   -- a number that is not among them is passed over
-  not_among : (last : ℕ) (ns : List ℕ) → (IsIn (suc last) ns → ⊥) → rising_lines all last ns ≡ rising_lines all (suc last) ns
+  not_among : (last : ℕ) (ns : List ℕ) → (IsIn (suc last) ns → ⊥) → distinct_repository_lines all last ns ≡ distinct_repository_lines all (suc last) ns
   not_among last [] out = refl
   not_among last (n ∷ ns) out = elim (cases_Bool (nat_lt last n)) [
     | inl e ↦ elim (cases_Bool (nat_lt (suc last) n)) [
@@ -36,13 +36,13 @@ module _ (all : List Repository) where
   ]
 
   -- the next number has its line first
-  among : (last : ℕ) (ns : List ℕ) → NeverFall ns → IsIn (suc last) ns → rising_lines all last ns ≡ numbered_line all (suc last) ++ rising_lines all (suc last) ns
+  among : (last : ℕ) (ns : List ℕ) → AreNonDecreasing ns → IsIn (suc last) ns → distinct_repository_lines all last ns ≡ repository_line_numbered all (suc last) ++ distinct_repository_lines all (suc last) ns
   among last [] up h = absurd h
   among last (n ∷ ns) up h = elim (cases_Bool (nat_lt last n)) [
     | inl e ↦
         let low = ltb-true last n e in
         let is : n ≡ suc last = first low h in
-        rw (e, le-ltb (suc last) n (omega (arith, is))) (ap (λ (m : ℕ). numbered_line all m ++ rising_lines all m ns) is)
+        rw (e, le-ltb (suc last) n (omega (arith, is))) (ap (λ (m : ℕ). repository_line_numbered all m ++ distinct_repository_lines all m ns) is)
     | inr e ↦
         let high = ltb-false last n e in
         rw (e, le-ltb (suc last) n (omega (arith, high))) (among last ns up.1 (later high h))
@@ -56,26 +56,26 @@ module _ (all : List Repository) where
       later high (inl is) = absurd (omega (arith, high, is))
       later high (inr more) = more
 
-module _ (all : List Repository) (those : List Candidate) (ns : List ℕ) (up : NeverFall ns) (each : (n : ℕ) → IsIn n ns → list_any (is_of_repository n) those ≡ true) (every : (n : ℕ) → list_any (is_of_repository n) those ≡ true → IsIn n ns) where
-  lines_from : (last : ℕ) (rs : List Repository) → ((j : ℕ) → slice_get all (last + j) ≡ slice_get rs j) → rising_lines all last ns ≡ repository_lines those (last + 1) rs
+module _ (all : List Repository) (those : List Candidate) (ns : List ℕ) (up : AreNonDecreasing ns) (each : (n : ℕ) → IsIn n ns → list_any (is_of_repository n) those ≡ true) (every : (n : ℕ) → list_any (is_of_repository n) those ≡ true → IsIn n ns) where
+  lines_from : (last : ℕ) (rs : List Repository) → ((j : ℕ) → slice_get all (last + j) ≡ slice_get rs j) → distinct_repository_lines all last ns ≡ repository_lines those (last + 1) rs
   lines_from last [] there = no_lines all last ns (λ n low.
       let e : n - 1 ≡ last + (n - 1 - last) = omega (arith, low) in
       ap (λ (o : Option Repository). option_map_or (λ (r : Repository). repository_line r.tag r.path) o []) (ap (slice_get all) e ∙ there (n - 1 - last)))
   lines_from last (r ∷ rs) there =
       let k : last + 1 ≡ suc last = omega arith in
       let here : slice_get all last ≡ Some r = subst (λ (m : ℕ). slice_get all m ≡ Some r) (omega arith) (there 0) in
-      let rest : rising_lines all (suc last) ns ≡ repository_lines those (suc last + 1) rs =
+      let rest : distinct_repository_lines all (suc last) ns ≡ repository_lines those (suc last + 1) rs =
       lines_from (suc last) rs (λ j. let z : suc last + j ≡ last + suc j = omega arith in ap (slice_get all) z ∙ there (suc j)) in
       let less : suc last - 1 ≡ last = omega arith in
-      let line : numbered_line all (suc last) ≡ repository_line r.tag r.path =
+      let line : repository_line_numbered all (suc last) ≡ repository_line r.tag r.path =
       ap (λ (o : Option Repository). option_map_or (λ (q : Repository). repository_line q.tag q.path) o []) (ap (slice_get all) less ∙ here) in
-      subst (λ (m : ℕ). rising_lines all last ns ≡ repository_lines those m (r ∷ rs)) (sym k)
+      subst (λ (m : ℕ). distinct_repository_lines all last ns ≡ repository_lines those m (r ∷ rs)) (sym k)
       (elim (cases_Bool (list_any (is_of_repository (suc last)) those)) [
-        | inl e ↦ rw e (among all last ns up (every (suc last) e) ∙ (ap (λ (z : List ℕ). z ++ rising_lines all (suc last) ns) line ∙ ap (λ (z : List ℕ). repository_line r.tag r.path ++ z) rest))
+        | inl e ↦ rw e (among all last ns up (every (suc last) e) ∙ (ap (λ (z : List ℕ). z ++ distinct_repository_lines all (suc last) ns) line ∙ ap (λ (z : List ℕ). repository_line r.tag r.path ++ z) rest))
         | inr e ↦ rw e (not_among all last ns (λ h. let bad : false ≡ true = sym e ∙ each (suc last) h in absurd (cc)) ∙ rest)
       ])
 
-  pub lines_of_numbers : rising_lines all 0 ns ≡ repository_lines those 1 all
+  pub lines_of_numbers : distinct_repository_lines all 0 ns ≡ repository_lines those 1 all
   lines_of_numbers = lines_from 0 all (λ j. ap (slice_get all) (omega arith))
 
 -- ---- the numbers of repositories that have a candidate

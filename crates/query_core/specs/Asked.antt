@@ -7,23 +7,23 @@ use Rattle.pool_core.specs.candidate_core.Candidates.{Candidate}
 use Rattle.pool_core.specs.candidate_core.Options.{IsIn}
 use Rattle.command_core.specs.declared.operands.Operand.{Operand}
 use Rattle.dep_core.specs.Dependency.{Dependency}
-use Rattle.star_patterns.specs.Fills.{IsFilledTo}
+use Rattle.star_patterns.specs.Fills.{MatchesByFillingStars}
 
 -- the stars of one of the patterns can be replaced by bytes so that it reads as the name
-pub record IsNameAsked (patterns : List Operand) (name : List ℕ) : Type 0 where
+pub record MatchesNamePattern (patterns : List Operand) (name : List ℕ) : Type 0 where
   pub pattern : Operand
   pub given : IsIn pattern patterns
-  pub filled : IsFilledTo pattern.text name
+  pub filled : MatchesByFillingStars pattern.text name
 
 -- the stars of one of the patterns can be replaced by bytes so that it reads as a part of the name
-pub record IsPartAsked (patterns : List Operand) (name : List ℕ) : Type 0 where
+pub record MatchesPartOfName (patterns : List Operand) (name : List ℕ) : Type 0 where
   pub pattern : Operand
   pub given : IsIn pattern patterns
   pub before : List ℕ
   pub part : List ℕ
   pub after : List ℕ
   pub name_is : name ≡ before ++ part ++ after
-  pub filled : IsFilledTo pattern.text part
+  pub filled : MatchesByFillingStars pattern.text part
 
 -- a candidate provides a name: an entry of its provides has the name and is no conflict
 pub record ProvidesName (c : Candidate) (name : List ℕ) : Type 0 where
@@ -33,8 +33,8 @@ pub record ProvidesName (c : Candidate) (name : List ℕ) : Type 0 where
   pub name_is : entry.name ≡ name
 
 -- a candidate has a name: its own, or one that it provides
-abbrev pub IsNameOf : Candidate → List ℕ → Type 0
-IsNameOf c name = (c.name ≡ name) ⊎ ProvidesName c name
+abbrev pub IsOwnOrProvidedName : Candidate → List ℕ → Type 0
+IsOwnOrProvidedName c name = (c.name ≡ name) ⊎ ProvidesName c name
 
 -- there is a candidate of this name of its own with this version
 pub record IsVersionOfName (candidates : List Candidate) (name : List ℕ) (version : Option (List ℕ))

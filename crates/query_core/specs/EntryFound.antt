@@ -6,5 +6,5 @@ use Rattle.dep_core.specs.Dependency.{Dependency}
 use Rattle.query_core.specs.Search.{is_name_found}
 
 -- whether an entry is no conflict, and one of the patterns matches some part of its name
-abbrev pub is_entry_found : List Operand → Dependency → Bool
-is_entry_found patterns p = not p.conflict && is_name_found patterns p.name
+abbrev pub is_provides_entry_found : List Operand → Dependency → Bool
+is_provides_entry_found patterns p = not p.conflict && is_name_found patterns p.name

@@ -7,7 +7,7 @@ use Rattle.pool_core.specs.candidate_core.Candidates.{Candidate}
 use Rattle.command_core.specs.declared.operands.Operand.{Operand}
 use Rattle.report_core.specs.QueryReports.{list_line}
 use Rattle.star_patterns.specs.Patterns.{is_matched}
-use Rattle.query_core.specs.Order.{printed_version, selected_candidates}
+use Rattle.query_core.specs.Order.{printed_version, sorted_candidates_passing}
 
 -- whether one of the patterns matches a name
 abbrev pub is_name_matched : List Operand → List ℕ → Bool
@@ -30,4 +30,4 @@ candidate_line c =
 abbrev pub list_report : List Candidate → List Operand → Bool → List ℕ
 list_report candidates patterns installed_only =
     flat_map candidate_line
-    (selected_candidates (is_list_candidate patterns installed_only) candidates)
+    (sorted_candidates_passing (is_list_candidate patterns installed_only) candidates)

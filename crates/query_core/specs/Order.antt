@@ -5,7 +5,7 @@ use Rattle.std.specs.Option.{option_cmp}
 use Rattle.std.specs.Ordering.{nat_cmp, on, then_cmp}
 use Rattle.std.specs.declared.cmp.Ordering.{Ordering}
 use Rattle.pool_core.specs.candidate_core.Candidates.{Candidate}
-use Rattle.pool_core.specs.candidate_core.Options.{places_from}
+use Rattle.pool_core.specs.candidate_core.Options.{places_passing_from}
 use Rattle.pool_core.specs.candidate_core.Rank.{bytes_cmp, greater_version}
 use Rattle.base_core.specs.Sorted.{sorted_by}
 
@@ -29,11 +29,11 @@ query_cmp candidates =
     then_cmp (on (slice_get candidates) (option_cmp name_and_version_cmp)) nat_cmp
 
 -- the places, counted from 0, of the candidates that pass a test, in the order of queries
-abbrev pub selected_places : (Candidate → Bool) → List Candidate → List ℕ
-selected_places test candidates =
-    sorted_by (query_cmp candidates) (places_from 0 test candidates)
+abbrev pub sorted_places_passing : (Candidate → Bool) → List Candidate → List ℕ
+sorted_places_passing test candidates =
+    sorted_by (query_cmp candidates) (places_passing_from 0 test candidates)
 
 -- the candidates that pass a test, in the order of queries
-abbrev pub selected_candidates : (Candidate → Bool) → List Candidate → List Candidate
-selected_candidates test candidates =
-    filter_map (slice_get candidates) (selected_places test candidates)
+abbrev pub sorted_candidates_passing : (Candidate → Bool) → List Candidate → List Candidate
+sorted_candidates_passing test candidates =
+    filter_map (slice_get candidates) (sorted_places_passing test candidates)

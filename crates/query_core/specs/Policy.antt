@@ -6,8 +6,8 @@ use Rattle.std.specs.Str.{bytes_eq}
 use Rattle.pool_core.specs.candidate_core.Candidates.{Candidate, is_same_version}
 use Rattle.command_core.specs.declared.operands.Operand.{Operand}
 use Rattle.dep_core.specs.Repositories.{Repository}
-use Rattle.report_core.specs.QueryReports.{database_line, policy_heading, repository_line, version_heading}
-use Rattle.query_core.specs.Order.{printed_version, selected_candidates}
+use Rattle.report_core.specs.QueryReports.{policy_database_line, policy_heading, repository_line, version_heading}
+use Rattle.query_core.specs.Order.{printed_version, sorted_candidates_passing}
 
 -- ---- the versions of a name
 
@@ -16,17 +16,17 @@ abbrev pub has_own_name : List ℕ → Candidate → Bool
 has_own_name name c = bytes_eq name c.name
 
 -- versions, of which those with one text are left once
-abbrev pub versions_once : List (Option (List ℕ)) → List (Option (List ℕ))
-versions_once [] = []
-versions_once (version ∷ versions) =
-    if list_any (is_same_version version) versions then versions_once versions
-    else version ∷ versions_once versions
+abbrev pub versions_without_repeats : List (Option (List ℕ)) → List (Option (List ℕ))
+versions_without_repeats [] = []
+versions_without_repeats (version ∷ versions) =
+    if list_any (is_same_version version) versions then versions_without_repeats versions
+    else version ∷ versions_without_repeats versions
 
 -- the versions of the candidates with a name, in the order of queries, each text once
 abbrev pub versions_of_name : List Candidate → List ℕ → List (Option (List ℕ))
 versions_of_name candidates name =
-    versions_once
-    (map (λ (c : Candidate). c.version) (selected_candidates (has_own_name name) candidates))
+    versions_without_repeats
+    (map (λ (c : Candidate). c.version) (sorted_candidates_passing (has_own_name name) candidates))
 
 -- ---- where a version is
 
@@ -47,9 +47,9 @@ repository_lines candidates number (r ∷ repositories) =
     ++ repository_lines candidates (number + 1) repositories
 
 -- the lines on where these candidates are, which have one name and version
-abbrev pub place_lines : List Repository → List Candidate → List ℕ
-place_lines repositories candidates =
-    (if list_any (λ (c : Candidate). c.installed) candidates then database_line else [])
+abbrev pub policy_origin_lines : List Repository → List Candidate → List ℕ
+policy_origin_lines repositories candidates =
+    (if list_any (λ (c : Candidate). c.installed) candidates then policy_database_line else [])
     ++ repository_lines candidates 1 repositories
 
 -- ---- the report
@@ -59,7 +59,7 @@ abbrev pub version_policy :
     List Candidate → List Repository → List ℕ → Option (List ℕ) → List ℕ
 version_policy candidates repositories name version =
     version_heading (printed_version version)
-    ++ place_lines repositories (filter (has_name_and_version name version) candidates)
+    ++ policy_origin_lines repositories (filter (has_name_and_version name version) candidates)
 
 -- what is printed of a name
 abbrev pub name_policy : List Candidate → List Repository → List ℕ → List ℕ

@@ -21,5 +21,5 @@ applet_query Policy command pool repositories =
 applet_query applet command pool repositories = []
 
 -- what a query prints of a pool and repositories
-unfoldable pub queried : CommandLine → SealedPool → List Repository → List ℕ
-queried command pool repositories = applet_query command.applet command pool repositories
+unfoldable pub text_of_query : CommandLine → SealedPool → List Repository → List ℕ
+text_of_query command pool repositories = applet_query command.applet command pool repositories

@@ -3,7 +3,7 @@
 use Rattle.std.specs.Prelude.{◌≡◌, ◌==◌, Bool, true, false, All, List, None, Some, slice_get}
 use Rattle.pool_core.specs.candidate_core.Candidates.{Candidate, is_same_version}
 use Rattle.pool_core.specs.candidate_core.Options.{IsIn}
-use Rattle.pool_core.specs.option_ranks.Ranking.{Ranking, ranking_by, with_version}
+use Rattle.pool_core.specs.option_ranks.Ranking.{Ranking, ranking_from_parts, with_version}
 use Rattle.pool_core.specs.option_ranks.declared.rank.VersionKey.{VersionKey}
 use Rattle.pool_core.specs.option_ranks.declared.rank.VersionKey.TheVariants.{ByRank, ByText}
 
@@ -11,7 +11,7 @@ use Rattle.pool_core.specs.option_ranks.declared.rank.VersionKey.TheVariants.{By
 -- ranking
 abbrev pub query_ranking : Candidate → Ranking → Ranking
 query_ranking c r =
-    ranking_by false false false false (with_version r.under None) 0 c.name
+    ranking_from_parts false false false false (with_version r.under None) 0 c.name
     (with_version r.version c.version) None r.place
 
 -- there is a candidate at the place of the ranking, and the ranking is what is read of it
@@ -20,16 +20,16 @@ IsQueryRanking candidates r = (c : Candidate)
     × ((slice_get candidates r.place ≡ Some c) × (r ≡ query_ranking c r))
 
 -- whether two rankings have one version, by what versions are compared by
-abbrev pub have_one_version : VersionKey → Ranking → Ranking → Bool
-have_one_version ByRank a b = a.version.rank == b.version.rank
-have_one_version ByText a b = is_same_version a.version.version b.version.version
+abbrev pub have_same_version : VersionKey → Ranking → Ranking → Bool
+have_same_version ByRank a b = a.version.rank == b.version.rank
+have_same_version ByText a b = is_same_version a.version.version b.version.version
 
 -- these rankings are read of candidates, and what their versions are compared by parts just the
 -- versions that have other texts
 pub record AreInQueryOrder (candidates : List Candidate) (key : VersionKey) (rs : List Ranking)
     : Type 0 where
   pub read : All (IsQueryRanking candidates) rs
-  pub alike : (a b : Ranking) → IsIn a rs → IsIn b rs → have_one_version key a b ≡ true
+  pub alike : (a b : Ranking) → IsIn a rs → IsIn b rs → have_same_version key a b ≡ true
       → a.version.version ≡ b.version.version
   pub same : (a b : Ranking) → IsIn a rs → IsIn b rs → a.version.version ≡ b.version.version
-      → have_one_version key a b ≡ true
+      → have_same_version key a b ≡ true

@@ -5,8 +5,8 @@ use Rattle.pool_core.specs.candidate_core.Candidates.{Candidate}
 use Rattle.command_core.specs.declared.operands.Operand.{Operand}
 use Rattle.dep_core.specs.Dependency.{Dependency}
 use Rattle.report_core.specs.QueryReports.{search_line}
-use Rattle.star_patterns.specs.Patterns.{is_matched_within}
-use Rattle.query_core.specs.Order.{printed_version, selected_candidates}
+use Rattle.star_patterns.specs.Patterns.{matches_some_part}
+use Rattle.query_core.specs.Order.{printed_version, sorted_candidates_passing}
 
 -- the names that a list of provides provides: those of its entries that are no conflicts
 abbrev pub provided_names : List Dependency → List (List ℕ)
@@ -19,7 +19,7 @@ candidate_names c = c.name ∷ provided_names c.provides
 
 -- whether one of the patterns matches some part of a name
 abbrev pub is_name_found : List Operand → List ℕ → Bool
-is_name_found patterns name = list_any (λ (o : Operand). is_matched_within o.text name) patterns
+is_name_found patterns name = list_any (λ (o : Operand). matches_some_part o.text name) patterns
 
 -- whether `search` prints a candidate: it is of a repository, and one of its names is found
 abbrev pub is_search_candidate : List Operand → Candidate → Bool
@@ -30,4 +30,4 @@ is_search_candidate patterns c =
 abbrev pub search_report : List Candidate → List Operand → List ℕ
 search_report candidates patterns =
     flat_map (λ (c : Candidate). search_line c.name (printed_version c.version))
-    (selected_candidates (is_search_candidate patterns) candidates)
+    (sorted_candidates_passing (is_search_candidate patterns) candidates)

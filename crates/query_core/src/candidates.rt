@@ -4,7 +4,7 @@ ghost use Rattle.query_core.specs.Appends.{Appends};
 ghost use Rattle.query_core.specs.Lines.{description_part, line_in_form};
 ghost use Rattle.query_core.specs.Order.{printed_version, query_cmp};
 ghost use Rattle.report_core.specs.QueryReports.{installed_mark, text_between};
-ghost use Rattle.report_core.specs.Reports.{name_version};
+ghost use Rattle.report_core.specs.Reports.{name_dash_version};
 ghost use Rattle.base_core.specs.Sorted.{sorted_by};
 ghost use Rattle.std.specs.List.{filter_map, flat_map};
 ghost use Rattle.std.specs.Prelude.{◌≡◌, ◌<◌, ◌∷◌, ◌++◌, [], All, IfOk, OnOk, if◌then◌else◌, length, map, slice_get};
@@ -111,7 +111,7 @@ fn put_line<O: ReportOut>(
 // Puts name and version of a candidate.
 fn put_name_version<O: ReportOut>(out: &mut O, details: &Details<'_>) -> Result<(), AllocError>
     ensures { OnOk result (Appends O.holds out.old out.new
-        (name_version details.now.name (printed_version details.now.version))) }
+        (name_dash_version details.now.name (printed_version details.now.version))) }
 {
     out.put(details.name())?;
     out.put(b"-")?;

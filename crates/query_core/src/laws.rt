@@ -2,16 +2,16 @@
 //! The rules are in `docs/commands.md`, "`list`", "`search`" and "`policy`".
 ghost use Rattle.pool_core.specs.candidate_core.Candidates.{Candidate};
 ghost use Rattle.pool_core.specs.candidate_core.Options.{IsIn};
-ghost use Rattle.pool_core.specs.candidate_core.Rank.{UpgradedNames, bytes_cmp, greater_version, sealed_pool_by};
+ghost use Rattle.pool_core.specs.candidate_core.Rank.{UpgradedNames, bytes_cmp, greater_version, sealed_pool_from_parts};
 ghost use Rattle.command_core.specs.Command.{CommandLine};
 ghost use Rattle.command_core.specs.declared.operands.Operand.{Operand};
 ghost use Rattle.dep_core.specs.Dependency.{Dependency};
 ghost use Rattle.dep_core.specs.Repositories.{Repository};
-ghost use Rattle.query_core.specs.Asked.{AreInOrderBy, IsNameOf, IsNameAsked, IsPartAsked, IsVersionOfName};
+ghost use Rattle.query_core.specs.Asked.{AreInOrderBy, IsOwnOrProvidedName, MatchesNamePattern, MatchesPartOfName, IsVersionOfName};
 ghost use Rattle.query_core.specs.List.{is_list_candidate};
-ghost use Rattle.query_core.specs.Order.{query_cmp, selected_places};
+ghost use Rattle.query_core.specs.Order.{query_cmp, sorted_places_passing};
 ghost use Rattle.query_core.specs.Policy.{name_policy, versions_of_name};
-ghost use Rattle.query_core.specs.Queries.{queried};
+ghost use Rattle.query_core.specs.Queries.{text_of_query};
 ghost use Rattle.query_core.specs.Search.{is_search_candidate};
 ghost use Rattle.report_core.specs.QueryReports.{policy_heading};
 ghost use Rattle.std.specs.Cmp.{IsTotalOrder};
@@ -54,13 +54,13 @@ pub fn the_order_of_queries_is_total()
 /// A query selects just the candidates that pass its test, each once and in the order of queries.
 pub fn a_query_selects_what_passes_its_test()
     ensures those { (test : Candidate → Bool) (cs : List Candidate) (place : ℕ)
-        → IsIn place (selected_places test cs) →
+        → IsIn place (sorted_places_passing test cs) →
         option_map_or test (slice_get cs place) false ≡ true }
     ensures each { (test : Candidate → Bool) (cs : List Candidate) (place : ℕ)
         → option_map_or test (slice_get cs place) false ≡ true →
-        IsIn place (selected_places test cs) }
+        IsIn place (sorted_places_passing test cs) }
     ensures order { (test : Candidate → Bool) (cs : List Candidate)
-        → AreInOrderBy (query_cmp cs) (selected_places test cs) }
+        → AreInOrderBy (query_cmp cs) (sorted_places_passing test cs) }
 {
     order_is_total();
 }
@@ -70,7 +70,7 @@ pub fn a_query_selects_what_passes_its_test()
 pub fn list_prints_what_is_asked_for()
     ensures { (patterns : List Operand) (installed_only : Bool) (c : Candidate)
         → (is_list_candidate patterns installed_only c ≡ true)
-        ↔ (((patterns ≡ []) ⊎ IsNameAsked patterns c.name)
+        ↔ (((patterns ≡ []) ⊎ MatchesNamePattern patterns c.name)
         × (installed_only ≡ true → c.installed ≡ true)) }
 {
     a_pattern_matches_what_its_stars_are_filled_to();
@@ -82,7 +82,7 @@ pub fn search_prints_what_is_asked_for()
     ensures { (patterns : List Operand) (c : Candidate)
         → (is_search_candidate patterns c ≡ true)
         ↔ ((is_some c.repository ≡ true)
-        × ((name : List ℕ) × (IsNameOf c name × IsPartAsked patterns name))) }
+        × ((name : List ℕ) × (IsOwnOrProvidedName c name × MatchesPartOfName patterns name))) }
 {
     a_pattern_matches_what_its_stars_are_filled_to();
 }
@@ -109,6 +109,6 @@ pub fn policy_prints_each_version_once()
 pub fn world_changes_no_query()
     ensures { (command : CommandLine) (cs : List Candidate) (repositories : List Repository)
         (one other : List Dependency) (upgraded others : UpgradedNames) →
-        queried command (sealed_pool_by cs one upgraded) repositories
-        ≡ queried command (sealed_pool_by cs other others) repositories }
+        text_of_query command (sealed_pool_from_parts cs one upgraded) repositories
+        ≡ text_of_query command (sealed_pool_from_parts cs other others) repositories }
 {}

@@ -1,5 +1,5 @@
 //! What `list` prints (apk(8)). The rule is in `docs/commands.md`, "`list`".
-ghost use Rattle.pool_core.specs.candidate_core.Options.{places_from};
+ghost use Rattle.pool_core.specs.candidate_core.Options.{places_passing_from};
 ghost use Rattle.query_core.specs.List.{is_list_candidate, is_name_matched, list_report};
 ghost use Rattle.std.specs.Prelude.{◌≡◌, IfOk};
 
@@ -36,7 +36,7 @@ fn listed_places(
     installed_only: bool,
 ) -> Result<Vec<CandId>, AllocError>
     ensures { IfOk result (λ places. places.items
-        ≡ places_from 0 (is_list_candidate patterns.now installed_only) pool.now.candidates) }
+        ≡ places_passing_from 0 (is_list_candidate patterns.now installed_only) pool.now.candidates) }
 {
     let mut places = Vec::new(alloc);
     for number in 0..pool.len() {

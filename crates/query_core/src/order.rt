@@ -4,7 +4,7 @@
 ghost use Rattle.pool_core.specs.candidate_core.declared.versions.VersionKind.TheVariants as Kinds;
 ghost use Rattle.pool_core.specs.candidate_core.Packages.{candidates_of_packages};
 ghost use Rattle.base_core.specs.Sorted.{sorted_by};
-ghost use Rattle.pool_core.specs.option_ranks.VersionRanks.{AreReadAlike, IsReadFrom};
+ghost use Rattle.pool_core.specs.option_ranks.VersionRanks.{HaveVersionsFromSameTexts, HasVersionTextsOfSources};
 ghost use Rattle.query_core.specs.Order.{query_cmp};
 ghost use Rattle.query_core.specs.QueryRanking.{AreInQueryOrder, IsQueryRanking};
 ghost use Rattle.std.specs.Prelude.{◌≡◌, ◌<◌, All, IfOk, length, map};
@@ -57,8 +57,8 @@ fn rankings<'a>(
     ensures each { IfOk result (λ rankings.
         All (IsQueryRanking pool.now.candidates) rankings.items) }
     ensures places { IfOk result (λ rankings. map (λ r. r.place) rankings.items ≡ places.now) }
-    ensures under { IfOk result (λ rankings. AreReadAlike Kinds.Under rankings.items) }
-    ensures version { IfOk result (λ rankings. AreReadAlike Kinds.Own rankings.items) }
+    ensures under { IfOk result (λ rankings. HaveVersionsFromSameTexts Kinds.Under rankings.items) }
+    ensures version { IfOk result (λ rankings. HaveVersionsFromSameTexts Kinds.Own rankings.items) }
 {
     let mut rankings = Vec::with_capacity(alloc, places.len())?;
     for place in places {
@@ -74,7 +74,7 @@ fn ranking<'a>(pool: &Sealed<'a>, packages: &Packages<'a>, id: CandId) -> Ranked
     requires own { candidates_of_packages packages.now ≡ pool.now.candidates }
     ensures place { result.place ≡ id }
     ensures ranking { IsQueryRanking pool.now.candidates result }
-    ensures texts { IsReadFrom packages.now.sources.items result }
+    ensures texts { HasVersionTextsOfSources packages.now.sources.items result }
 {
     RankedOption {
         pinned: false,

@@ -1,8 +1,8 @@
 //! What `policy` prints (apk(8)). The rule is in `docs/commands.md`, "`policy`".
 ghost use Rattle.query_core.specs.Appends.{Appends};
 ghost use Rattle.query_core.specs.Policy.{name_policy, policy_report};
-ghost use Rattle.query_core.specs.VersionPlaces.{numbered_line, rising_lines, version_lines};
-ghost use Rattle.report_core.specs.QueryReports.{database_line, place_line, policy_heading, repository_line, version_heading};
+ghost use Rattle.query_core.specs.VersionPlaces.{repository_line_numbered, distinct_repository_lines, version_lines};
+ghost use Rattle.report_core.specs.QueryReports.{policy_database_line, policy_origin_line, policy_heading, repository_line, version_heading};
 ghost use Rattle.std.specs.List.{flat_map};
 ghost use Rattle.std.specs.Prelude.{◌≡◌, ◌<◌, ◌++◌, [], IfOk, OnOk, codes, if◌then◌else◌, nat_lt, option_copied};
 
@@ -91,7 +91,7 @@ fn put_version<O: ReportOut>(
 // Puts the line of the database of installed packages if a version is installed.
 fn put_database<O: ReportOut>(out: &mut O, is_installed: bool) -> Result<(), AllocError>
     ensures { OnOk result (Appends O.holds out.old out.new
-        (if is_installed then database_line else [])) }
+        (if is_installed then policy_database_line else [])) }
 {
     if !is_installed {
         return Ok(());
@@ -116,7 +116,7 @@ fn put_repositories<O: ReportOut>(
     numbers: &[u64],
 ) -> Result<(), AllocError>
     ensures { OnOk result (Appends O.holds out.old out.new
-        (rising_lines repositories.now 0 numbers.now)) }
+        (distinct_repository_lines repositories.now 0 numbers.now)) }
 {
     let mut last = 0;
     for i in 0..numbers.len() {
@@ -135,7 +135,7 @@ fn put_greater<O: ReportOut>(
 ) -> Result<u64, AllocError>
     ensures last { IfOk result (λ now. now ≡ (if nat_lt last number then number else last)) }
     ensures put { OnOk result (Appends O.holds out.old out.new
-        (if nat_lt last number then numbered_line repositories.now number else [])) }
+        (if nat_lt last number then repository_line_numbered repositories.now number else [])) }
 {
     if last < number {
         put_numbered(out, repositories, number)?;
@@ -152,7 +152,7 @@ fn put_numbered<O: ReportOut>(
 ) -> Result<(), AllocError>
     requires { 0 < number }
     ensures { OnOk result (Appends O.holds out.old out.new
-        (numbered_line repositories.now number)) }
+        (repository_line_numbered repositories.now number)) }
 {
     let place = number as usize - 1;
     if place >= repositories.len() {
@@ -183,7 +183,7 @@ fn put_repository<O: ReportOut>(
 // Puts the line of a repository with a tag.
 fn put_tagged<O: ReportOut>(out: &mut O, tag: &[u8], path: &[u8]) -> Result<(), AllocError>
     ensures { OnOk result (Appends O.holds out.old out.new
-        (place_line (codes "@" ++ tag.now ++ codes " " ++ path.now))) }
+        (policy_origin_line (codes "@" ++ tag.now ++ codes " " ++ path.now))) }
 {
     out.put(b"    @")?;
     out.put(tag)?;
@@ -194,7 +194,7 @@ fn put_tagged<O: ReportOut>(out: &mut O, tag: &[u8], path: &[u8]) -> Result<(), 
 
 // Puts a line on where a version is.
 fn put_place<O: ReportOut>(out: &mut O, text: &[u8]) -> Result<(), AllocError>
-    ensures { OnOk result (Appends O.holds out.old out.new (place_line text.now)) }
+    ensures { OnOk result (Appends O.holds out.old out.new (policy_origin_line text.now)) }
 {
     out.put(b"    ")?;
     out.put(text)?;

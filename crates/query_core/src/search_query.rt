@@ -1,7 +1,7 @@
 //! What `search` prints (apk(8)). The rule is in `docs/commands.md`, "`search`".
-ghost use Rattle.pool_core.specs.candidate_core.Options.{places_from};
+ghost use Rattle.pool_core.specs.candidate_core.Options.{places_passing_from};
 ghost use Rattle.dep_core.specs.Meets.{dependency};
-ghost use Rattle.query_core.specs.EntryFound.{is_entry_found};
+ghost use Rattle.query_core.specs.EntryFound.{is_provides_entry_found};
 ghost use Rattle.query_core.specs.Search.{is_name_found, is_search_candidate, provided_names, search_report};
 ghost use Rattle.std.specs.List.{list_any};
 ghost use Rattle.std.specs.Prelude.{◌≡◌, IfOk};
@@ -34,7 +34,7 @@ fn found_places(
     patterns: &Operands,
 ) -> Result<Vec<CandId>, AllocError>
     ensures { IfOk result (λ places. places.items
-        ≡ places_from 0 (is_search_candidate patterns.now) pool.now.candidates) }
+        ≡ places_passing_from 0 (is_search_candidate patterns.now) pool.now.candidates) }
 {
     let mut places = Vec::new(alloc);
     for number in 0..pool.len() {
@@ -63,7 +63,7 @@ fn is_provided_name_found(patterns: &Operands, provides: &Deps<'_>) -> bool
     ensures { result ≡ list_any (is_name_found patterns.now) (provided_names provides.now) }
 {
     for i in 0..provides.len() {
-        if is_entry_found(patterns, &provides.get(i)) {
+        if is_provides_entry_found(patterns, &provides.get(i)) {
             return true;
         }
     }
@@ -72,8 +72,8 @@ fn is_provided_name_found(patterns: &Operands, provides: &Deps<'_>) -> bool
 
 // Whether an entry of provides is no conflict, and one of the patterns matches some part of its
 // name.
-fn is_entry_found(patterns: &Operands, entry: &Dep<'_>) -> bool
-    ensures { result ≡ is_entry_found patterns.now (dependency entry.now) }
+fn is_provides_entry_found(patterns: &Operands, entry: &Dep<'_>) -> bool
+    ensures { result ≡ is_provides_entry_found patterns.now (dependency entry.now) }
 {
     if entry.conflict {
         return false;

@@ -2,13 +2,13 @@
 //! and which repositories have it.
 //! The rule is in `docs/commands.md`, "`policy`".
 ghost use Rattle.pool_core.specs.candidate_core.Candidates.{Candidate, is_same_version};
-ghost use Rattle.pool_core.specs.candidate_core.Options.{places_from};
-ghost use Rattle.pool_core.specs.candidate_core.Rank.{is_at};
+ghost use Rattle.pool_core.specs.candidate_core.Options.{places_passing_from};
+ghost use Rattle.pool_core.specs.candidate_core.Rank.{candidate_at_passes};
 ghost use Rattle.pool_core.specs.option_ranks.Ranking.{Ranking};
-ghost use Rattle.query_core.specs.Order.{selected_places};
+ghost use Rattle.query_core.specs.Order.{sorted_places_passing};
 ghost use Rattle.query_core.specs.Policy.{has_own_name, versions_of_name};
-ghost use Rattle.query_core.specs.QueryRanking.{AreInQueryOrder, have_one_version};
-ghost use Rattle.query_core.specs.VersionPlaces.{IsVersionOf, SaysPlacesOf};
+ghost use Rattle.query_core.specs.QueryRanking.{AreInQueryOrder, have_same_version};
+ghost use Rattle.query_core.specs.VersionPlaces.{ListsPlacesOfVersion, ListsPlacesOf};
 ghost use Rattle.std.specs.List.{filter, filter_map};
 ghost use Rattle.std.specs.Prelude.{◌≡◌, ◌<◌, ◌≤◌, ◌++◌, ℕ, All, IfOk, OnOk, Some, length, map, option_to_list, slice_get, true, false};
 
@@ -32,11 +32,11 @@ pub(crate) struct PlacedVersion<'a> {
 }
 
 impl<'a> Model for PlacedVersion<'a> {
-    ghost use Rattle.query_core.specs.VersionPlaces.{VersionPlaces, version_places_by};
+    ghost use Rattle.query_core.specs.VersionPlaces.{VersionPlaces, version_places_from_parts};
 
     ghost Value = { VersionPlaces };
 
-    ghost view = { λ v. version_places_by v.version v.is_installed v.repositories.items };
+    ghost view = { λ v. version_places_from_parts v.version v.is_installed v.repositories.items };
 }
 
 /// The versions of the candidates with a name, each once and in the order of queries, and where
@@ -49,7 +49,7 @@ pub(crate) fn placed_versions<'a>(
     ensures versions { IfOk result (λ versions. map (λ v. v.version) versions.items
         ≡ versions_of_name pool.now.candidates name.now) }
     ensures places { IfOk result (λ versions.
-        All (IsVersionOf pool.now.candidates name.now) versions.items) }
+        All (ListsPlacesOfVersion pool.now.candidates name.now) versions.items) }
 {
     let places = named_places(alloc, pool, name)?;
     let ordered = in_order(alloc, pool, &places)?;
@@ -59,7 +59,7 @@ pub(crate) fn placed_versions<'a>(
 // The places of the candidates that have a name of their own.
 fn named_places(alloc: Global, pool: &Sealed<'_>, name: &[u8]) -> Result<Vec<CandId>, AllocError>
     ensures { IfOk result (λ places. places.items
-        ≡ places_from 0 (has_own_name name.now) pool.now.candidates) }
+        ≡ places_passing_from 0 (has_own_name name.now) pool.now.candidates) }
 {
     let offers = pool.offers(name);
     let places = named_among(alloc, pool, name, offers)?;
@@ -74,7 +74,7 @@ fn named_among(
     offers: &[CandId],
 ) -> Result<Vec<CandId>, AllocError>
     ensures { IfOk result (λ places. places.items
-        ≡ filter (λ place. is_at pool.now (has_own_name name.now) place) offers.now) }
+        ≡ filter (λ place. candidate_at_passes pool.now (has_own_name name.now) place) offers.now) }
 {
     let mut places = Vec::new(alloc);
     for place in offers {
@@ -86,7 +86,7 @@ fn named_among(
 
 // Whether there is a candidate at a place that has a name of its own.
 fn is_named_at(pool: &Sealed<'_>, place: CandId, name: &[u8]) -> bool
-    ensures { result ≡ is_at pool.now (has_own_name name.now) place }
+    ensures { result ≡ candidate_at_passes pool.now (has_own_name name.now) place }
 {
     match pool.at(place) {
         Some(details) => name == details.name(),
@@ -103,13 +103,13 @@ fn grouped<'a>(
     ordered: &Ordered<'a>,
 ) -> Result<Vec<PlacedVersion<'a>>, AllocError>
     requires places { map (λ r. r.place) ordered.now.rankings.items
-        ≡ selected_places (has_own_name name.now) pool.now.candidates }
+        ≡ sorted_places_passing (has_own_name name.now) pool.now.candidates }
     requires versions { AreInQueryOrder pool.now.candidates ordered.now.key
         ordered.now.rankings.items }
     ensures versions { IfOk result (λ versions. map (λ v. v.version) versions.items
         ≡ versions_of_name pool.now.candidates name.now) }
     ensures places { IfOk result (λ versions.
-        All (IsVersionOf pool.now.candidates name.now) versions.items) }
+        All (ListsPlacesOfVersion pool.now.candidates name.now) versions.items) }
 {
     order_is_total();
     let rankings = ordered.rankings.as_slice();
@@ -130,12 +130,12 @@ fn end_of_version(rankings: &[RankedOption<'_>], key: VersionKey, start: usize) 
     ensures within { result ≤ length rankings.now }
     ensures one { (i : ℕ) (a b : Ranking) → start ≤ i → i < result
         → slice_get rankings.now start ≡ Some a → slice_get rankings.now i ≡ Some b
-        → have_one_version key a b ≡ true }
+        → have_same_version key a b ≡ true }
     ensures other { (a b : Ranking) → slice_get rankings.now start ≡ Some a
-        → slice_get rankings.now result ≡ Some b → have_one_version key a b ≡ false }
+        → slice_get rankings.now result ≡ Some b → have_same_version key a b ≡ false }
 {
     for end in start + 1..rankings.len() {
-        if !have_one_version(&rankings[start], &rankings[end], key) {
+        if !have_same_version(&rankings[start], &rankings[end], key) {
             return end;
         }
     }
@@ -143,8 +143,8 @@ fn end_of_version(rankings: &[RankedOption<'_>], key: VersionKey, start: usize) 
 }
 
 // Whether two candidates have one version.
-fn have_one_version(one: &RankedOption<'_>, other: &RankedOption<'_>, key: VersionKey) -> bool
-    ensures { result ≡ have_one_version key one.now other.now }
+fn have_same_version(one: &RankedOption<'_>, other: &RankedOption<'_>, key: VersionKey) -> bool
+    ensures { result ≡ have_same_version key one.now other.now }
 {
     match key {
         VersionKey::ByRank => one.version.rank == other.version.rank,
@@ -175,7 +175,7 @@ fn placed_version<'a>(
     ensures version { IfOk result (λ placed. (c : Candidate)
         → slice_get (filter_map (λ r. slice_get pool.now.candidates r.place) rankings.now) 0
         ≡ Some c → placed.version ≡ c.version) }
-    ensures places { IfOk result (λ placed. SaysPlacesOf
+    ensures places { IfOk result (λ placed. ListsPlacesOf
         (filter_map (λ r. slice_get pool.now.candidates r.place) rankings.now) placed) }
 {
     let mut is_installed = false;

@@ -4,21 +4,21 @@ use Rattle.std.specs.Prelude.{if◌then◌else◌}
 use Rattle.std.proofs.lemmas.Bool.{and_parts}
 use Rattle.outcome.specs.adb_fields.FirstPair.{IsIn}
 use Rattle.adb_view.specs.Plain.{Plain}
-use Rattle.outcome.specs.adb_write.Canonical.{PayloadCounts, counts_after_values, empty_layout, exceeds_a_limit, overflow_of, written_of}
+use Rattle.outcome.specs.adb_write.Canonical.{PayloadCounts, counts_after_values, empty_layout, exceeds_a_limit, overflow_of, payload_or_overflow}
 use Rattle.base_core.specs.Files.{Files}
 use Rattle.outcome.specs.change_files.FileChange.{FileChange}
-use Rattle.outcome.specs.change_files.PlanLists.{first_reserved}
+use Rattle.outcome.specs.change_files.PlanLists.{first_reserved_path}
 use Rattle.outcome.proofs.change_files.InOrder.{from_order}
 use Rattle.outcome.specs.change_inputs.Chains.{and_then}
 use Rattle.outcome.specs.change_inputs.Inputs.{Inputs}
-use Rattle.outcome.specs.change_outcome.ChangeOutcome.{ChangeDone, ChangeWishes, IsClashFound, IsClashOfChange, actions_of, change_done, change_members, change_or_refusal, change_with_members, file_change, name_at_place, new_records, touched_paths, unless_clash, unless_contested, unless_large, unless_overflow, unless_reserved_path, unless_too_large}
+use Rattle.outcome.specs.change_outcome.ChangeOutcome.{ChangeDone, ChangeWishes, IsClashFound, IsClashOfChange, actions_of, change_done, change_members, change_or_refusal, change_with_members, file_change, member_name_at_place, new_records, touched_paths, unless_clash, unless_contested, or_result_too_large, unless_overflow, unless_reserved_path, unless_too_large}
 use Rattle.outcome.specs.change_outcome.MembersAfter.{MemberFound}
 use Rattle.outcome.specs.change_outcome.PackageFiles.{has_script_of}
 use Rattle.report_core.specs.Numbers.{TRIGGER_SCRIPT}
-use Rattle.outcome.specs.change_outcome.Triggers.{folders_of_paths, has_due_trigger, is_due, is_folder_matched, is_watched, patterns_of, unless_trigger}
+use Rattle.outcome.specs.change_outcome.Triggers.{folders_of_paths, has_due_trigger, is_trigger_due, is_folder_matched, watches_folder, patterns_of, unless_trigger_due}
 use Rattle.outcome.specs.db_core.Members.{Member, member_name}
 use Rattle.outcome.specs.db_write.NewDatabase.{database_container, database_of, database_value}
-use Rattle.outcome.specs.file_owners.Owners.{contested_of, owned_of}
+use Rattle.outcome.specs.file_owners.Owners.{first_contested_path_of_members, owned_flags_of}
 use Rattle.outcome.specs.journal_intent.IntentValue.{intent_of_lists, value_of_intent}
 use Rattle.outcome.proofs.journal_intent.Rooted.{payload_large}
 use Rattle.outcome.specs.make_info.Reads.{Reads}
@@ -38,19 +38,19 @@ use Rattle.refusal_laws.proofs.Paths.{contested_is, first_reserved_is}
 pub too_large : (v : Plain) (counts : PayloadCounts) → overflow_of v ≡ Some counts → IsTooLarge v counts.0 counts.1
 too_large v counts e = (e, (found_in exceeds_a_limit (counts_after_values v empty_layout) counts e).1)
 
-database_err : (members : List Member) (flags : List Bool) (counts : PayloadCounts) → database_of members flags ≡ Err counts → written_of (database_value members flags) ≡ Err counts
+database_err : (members : List Member) (flags : List Bool) (counts : PayloadCounts) → database_of members flags ≡ Err counts → payload_or_overflow (database_value members flags) ≡ Err counts
 unfolding database_of
-database_err members flags counts e = by_written (written_of (database_value members flags)) refl e
+database_err members flags counts e = by_written (payload_or_overflow (database_value members flags)) refl e
   where
-    by_written : (w : Result (List ℕ) PayloadCounts) → written_of (database_value members flags) ≡ w → database_container w ≡ Err counts → written_of (database_value members flags) ≡ Err counts
+    by_written : (w : Result (List ℕ) PayloadCounts) → payload_or_overflow (database_value members flags) ≡ w → database_container w ≡ Err counts → payload_or_overflow (database_value members flags) ≡ Err counts
     by_written (Ok payload) is e = absurd (cc (e))
     by_written (Err first) is e = let same : first ≡ counts = cc in is ∙ ap (λ (c : PayloadCounts). Err c) same
 
-large_err : {A : Type 0} (w : Result A PayloadCounts) (refusal : Refusal) → unless_large w ≡ Err refusal → (counts : PayloadCounts) × (w ≡ Err counts) × (ResultTooLarge counts.0 counts.1 ≡ refusal)
+large_err : {A : Type 0} (w : Result A PayloadCounts) (refusal : Refusal) → or_result_too_large w ≡ Err refusal → (counts : PayloadCounts) × (w ≡ Err counts) × (ResultTooLarge counts.0 counts.1 ≡ refusal)
 large_err (Ok a) refusal e = absurd (cc (e))
 large_err (Err counts) refusal e = (counts, refl, (let same : ResultTooLarge counts.0 counts.1 ≡ refusal = cc in same))
 
-large_ok : {A : Type 0} (w : Result A PayloadCounts) (a : A) → unless_large w ≡ Ok a → w ≡ Ok a
+large_ok : {A : Type 0} (w : Result A PayloadCounts) (a : A) → or_result_too_large w ≡ Ok a → w ≡ Ok a
 large_ok (Ok x) a e = let same : x ≡ a = cc in ap (λ y. Ok y) same
 large_ok (Err counts) a e = absurd (cc (e))
 
@@ -63,21 +63,21 @@ overflow_err (Some counts) a refusal e = (counts, refl, (let same : ResultTooLar
 abbrev pub kept_test : Result Bool Refusal → Result Bool Refusal
 kept_test r = r
 
-pub trigger_of : (paths : List (List ℕ)) (members : List Member) (refusal : Refusal) → unless_trigger false paths members ≡ Err refusal
+pub trigger_of : (paths : List (List ℕ)) (members : List Member) (refusal : Refusal) → unless_trigger_due false paths members ≡ Err refusal
     → (m : Member) × IsIn m members × (has_due_trigger (folders_of_paths paths) m.pkg ≡ true) × (TriggerNeeded (member_name m) ≡ refusal)
 trigger_of paths [] refusal e = absurd (cc (e))
 trigger_of paths (m ∷ members) refusal e = by_test (has_due_trigger (folders_of_paths paths) m.pkg) refl e (trigger_of paths members refusal)
   where
-    by_test : (b : Bool) → has_due_trigger (folders_of_paths paths) m.pkg ≡ b → kept_test (if b then Err (TriggerNeeded (member_name m)) else unless_trigger false paths members) ≡ Err refusal
-        → (unless_trigger false paths members ≡ Err refusal → (n : Member) × IsIn n members × (has_due_trigger (folders_of_paths paths) n.pkg ≡ true) × (TriggerNeeded (member_name n) ≡ refusal))
+    by_test : (b : Bool) → has_due_trigger (folders_of_paths paths) m.pkg ≡ b → kept_test (if b then Err (TriggerNeeded (member_name m)) else unless_trigger_due false paths members) ≡ Err refusal
+        → (unless_trigger_due false paths members ≡ Err refusal → (n : Member) × IsIn n members × (has_due_trigger (folders_of_paths paths) n.pkg ≡ true) × (TriggerNeeded (member_name n) ≡ refusal))
         → (n : Member) × IsIn n (m ∷ members) × (has_due_trigger (folders_of_paths paths) n.pkg ≡ true) × (TriggerNeeded (member_name n) ≡ refusal)
     by_test true due e more = (m, inl refl, due, (let same : TriggerNeeded (member_name m) ≡ refusal = cc in same))
     by_test false due e more = let other = more e in (other.0, inr other.1, other.2, other.3)
 
 watches : (change : FileChange) (files : Files) (pkg : Plain) → has_due_trigger (folders_of_paths (touched_paths change files)) pkg ≡ true → (has_script_of pkg TRIGGER_SCRIPT ≡ true) × IsWatchedFor change files pkg
 watches change files pkg due =
-    let folder = any_in (is_due pkg) (folders_of_paths (touched_paths change files)) due in
-    let both = and_parts (has_script_of pkg TRIGGER_SCRIPT) (is_watched pkg folder.0) folder.2 in
+    let folder = any_in (is_trigger_due pkg) (folders_of_paths (touched_paths change files)) due in
+    let both = and_parts (has_script_of pkg TRIGGER_SCRIPT) (watches_folder pkg folder.0) folder.2 in
     let pattern = any_in (is_folder_matched folder.0) (patterns_of pkg) both.1 in
     let path = mapped_in folder_of (touched_paths change files) folder.0 (from_order folder.0 (map folder_of (touched_paths change files)) (in_names folder.0 (folders_of_paths (touched_paths change files)) folder.1)) in (
       both.0,
@@ -90,11 +90,11 @@ watches change files pkg due =
       },
     )
 
-trigger_err : (wishes : ChangeWishes) (change : FileChange) (files : Files) (no_scripts : Bool) (refusal : Refusal) → wishes.no_scripts ≡ no_scripts → unless_trigger no_scripts (touched_paths change files) change.members ≡ Err refusal
+trigger_err : (wishes : ChangeWishes) (change : FileChange) (files : Files) (no_scripts : Bool) (refusal : Refusal) → wishes.no_scripts ≡ no_scripts → unless_trigger_due no_scripts (touched_paths change files) change.members ≡ Err refusal
     → (name : List ℕ) × IsTriggerNeeded wishes change files name × (TriggerNeeded name ≡ refusal)
 trigger_err wishes change files true refusal asked e = absurd (true_err change.members e)
   where
-    true_err : (members : List Member) → unless_trigger true (touched_paths change files) members ≡ Err refusal → ⊥
+    true_err : (members : List Member) → unless_trigger_due true (touched_paths change files) members ≡ Err refusal → ⊥
     true_err [] e = cc (e)
     true_err (m ∷ members) e = cc (e)
 trigger_err wishes change files false refusal asked e =
@@ -114,10 +114,10 @@ module _ (inputs : Inputs) (r : Replacement) (wishes : ChangeWishes) (files : Fi
   -- it tells of counts
   pub large_told : (refusal : Refusal) → unless_too_large inputs r wishes found files ≡ Err refusal → (bytes : ℕ) × (values : ℕ) × (ResultTooLarge bytes values ≡ refusal)
   large_told refusal e =
-      elim (and_then_err (unless_large (database_of change.members (owned_of change.members))) (λ database.
+      elim (and_then_err (or_result_too_large (database_of change.members (owned_flags_of change.members))) (λ database.
       unless_overflow (overflow_of (value_of_intent (intent_of_lists (actions_of inputs change files (new_records inputs database)).removals (actions_of inputs change files (new_records inputs database)).writes)))
       (change_done inputs r wishes found files (new_records inputs database))) refusal e) [
-        | inl first ↦ (let large = large_err (database_of change.members (owned_of change.members)) refusal first in (large.0.0, large.0.1, large.2))
+        | inl first ↦ (let large = large_err (database_of change.members (owned_flags_of change.members)) refusal first in (large.0.0, large.0.1, large.2))
         | inr next ↦ (let intent : Plain = value_of_intent (intent_of_lists (actions_of inputs change files (new_records inputs next.0)).removals (actions_of inputs change files (new_records inputs next.0)).writes) in
             let over = overflow_err (overflow_of intent) (change_done inputs r wishes found files (new_records inputs next.0)) refusal next.2 in
             (over.0.0, over.0.1, over.2))
@@ -128,45 +128,45 @@ module _ (inputs : Inputs) (r : Replacement) (wishes : ChangeWishes) (files : Fi
 
   large_fault : (refusal : Refusal) → unless_too_large inputs r wishes found files ≡ Err refusal → IsSo refusal
   large_fault refusal e =
-      elim (and_then_err (unless_large (database_of change.members (owned_of change.members))) (λ database.
+      elim (and_then_err (or_result_too_large (database_of change.members (owned_flags_of change.members))) (λ database.
       unless_overflow (overflow_of (value_of_intent (intent_of_lists (actions_of inputs change files (new_records inputs database)).removals (actions_of inputs change files (new_records inputs database)).writes)))
       (change_done inputs r wishes found files (new_records inputs database))) refusal e) [
-        | inl first ↦ (let large = large_err (database_of change.members (owned_of change.members)) refusal first in
+        | inl first ↦ (let large = large_err (database_of change.members (owned_flags_of change.members)) refusal first in
             result_fault large.0.0 large.0.1 refusal
-            (inl (too_large (database_value change.members (owned_of change.members)) large.0
-            (payload_large (database_value change.members (owned_of change.members)) large.0 (database_err change.members (owned_of change.members) large.0 large.1)))) large.2)
+            (inl (too_large (database_value change.members (owned_flags_of change.members)) large.0
+            (payload_large (database_value change.members (owned_flags_of change.members)) large.0 (database_err change.members (owned_flags_of change.members) large.0 large.1)))) large.2)
         | inr next ↦ (let intent : Plain = value_of_intent (intent_of_lists (actions_of inputs change files (new_records inputs next.0)).removals (actions_of inputs change files (new_records inputs next.0)).writes) in
             let over = overflow_err (overflow_of intent) (change_done inputs r wishes found files (new_records inputs next.0)) refusal next.2 in
             result_fault over.0.0 over.0.1 refusal
-            (inr (record { database = next.0; fits = large_ok (database_of change.members (owned_of change.members)) next.0 next.1; passes = too_large intent over.0 over.1 })) over.2)
+            (inr (record { database = next.0; fits = large_ok (database_of change.members (owned_flags_of change.members)) next.0 next.1; passes = too_large intent over.0 over.1 })) over.2)
       ]
 
-  trigger_fault : (refusal : Refusal) → and_then (unless_trigger wishes.no_scripts (touched_paths change files) change.members) (λ is_allowed. unless_too_large inputs r wishes found files) ≡ Err refusal → IsSo refusal
+  trigger_fault : (refusal : Refusal) → and_then (unless_trigger_due wishes.no_scripts (touched_paths change files) change.members) (λ is_allowed. unless_too_large inputs r wishes found files) ≡ Err refusal → IsSo refusal
   trigger_fault refusal e =
-      elim (and_then_err (unless_trigger wishes.no_scripts (touched_paths change files) change.members) (λ is_allowed. unless_too_large inputs r wishes found files) refusal e) [
+      elim (and_then_err (unless_trigger_due wishes.no_scripts (touched_paths change files) change.members) (λ is_allowed. unless_too_large inputs r wishes found files) refusal e) [
         | inl first ↦ (let needed = trigger_err wishes change files wishes.no_scripts refusal refl first in subst IsSo needed.2 needed.1)
         | inr next ↦ large_fault refusal next.2
       ]
 
   abbrev after_owners : Result ChangeDone Refusal
-  after_owners = and_then (unless_trigger wishes.no_scripts (touched_paths change files) change.members) (λ is_allowed. unless_too_large inputs r wishes found files)
+  after_owners = and_then (unless_trigger_due wishes.no_scripts (touched_paths change files) change.members) (λ is_allowed. unless_too_large inputs r wishes found files)
 
-  owned_fault : (o : Option ContestedPath) (refusal : Refusal) → contested_of change.members ≡ o → unless_contested change.members o after_owners ≡ Err refusal → IsSo refusal
+  owned_fault : (o : Option ContestedPath) (refusal : Refusal) → first_contested_path_of_members change.members ≡ o → unless_contested change.members o after_owners ≡ Err refusal → IsSo refusal
   owned_fault None refusal is e = trigger_fault refusal e
   owned_fault (Some c) refusal is e =
-      let same : Owned c.path (name_at_place change.members c.rivals.first) (name_at_place change.members c.rivals.second) ≡ refusal = cc in
+      let same : Owned c.path (member_name_at_place change.members c.rivals.first) (member_name_at_place change.members c.rivals.second) ≡ refusal = cc in
       subst IsSo same (contested_is change.members c is)
 
-  clash_fault : (o : Option NamePair) (refusal : Refusal) → IsClashFound inputs wishes files (Ok found) o → unless_clash o (unless_contested change.members (contested_of change.members) after_owners) ≡ Err refusal → IsSo refusal
-  clash_fault None refusal is e = owned_fault (contested_of change.members) refusal refl e
+  clash_fault : (o : Option NamePair) (refusal : Refusal) → IsClashFound inputs wishes files (Ok found) o → unless_clash o (unless_contested change.members (first_contested_path_of_members change.members) after_owners) ≡ Err refusal → IsSo refusal
+  clash_fault None refusal is e = owned_fault (first_contested_path_of_members change.members) refusal refl e
   clash_fault (Some pair) refusal is e =
       let same : PathClash pair.path pair.other ≡ refusal = cc in
       subst IsSo same is
 
   pub files_fault : (clash : Option NamePair) (refusal : Refusal) → IsClashFound inputs wishes files (Ok found) clash → change_with_members inputs r wishes clash files found ≡ Err refusal → IsFaultOfFiles inputs wishes files found refusal
-  files_fault clash refusal is e = by_path (first_reserved change.members) refl e
+  files_fault clash refusal is e = by_path (first_reserved_path change.members) refl e
     where
-      by_path : (o : Option (List ℕ)) → first_reserved change.members ≡ o → unless_reserved_path o (unless_clash clash (unless_contested change.members (contested_of change.members) after_owners)) ≡ Err refusal → IsSo refusal
+      by_path : (o : Option (List ℕ)) → first_reserved_path change.members ≡ o → unless_reserved_path o (unless_clash clash (unless_contested change.members (first_contested_path_of_members change.members) after_owners)) ≡ Err refusal → IsSo refusal
       by_path None none e = clash_fault clash refusal is e
       by_path (Some path) first e =
           let same : Reserved path ≡ refusal = cc in

@@ -9,10 +9,10 @@ use Rattle.base_core.specs.declared.cause.Cause.{Cause}
 use Rattle.outcome.specs.change_inputs.Inputs.{Inputs, first_index_read}
 use Rattle.outcome.specs.change_outcome.ChangeOutcome.{ChangeWishes}
 use Rattle.outcome.specs.change_outcome.MembersAfter.{added_package_by_path}
-use Rattle.outcome.specs.change_outcome.PackageFiles.{AddedPackage, first_script_of, has_script_of, package_file_of, package_found, package_in_file, scripts_of_change, unless_different, unless_script_number, unless_package_bad, unless_script}
+use Rattle.outcome.specs.change_outcome.PackageFiles.{AddedPackage, first_script_of, has_script_of, package_file_of, added_package_or_refusal, package_in_file, scripts_of_change, unless_different, unless_script_number, unless_package_bad, unless_script}
 use Rattle.outcome.specs.file_owners.Replaces.{version_text}
 use Rattle.outcome.specs.make_info.Reads.{Reads}
-use Rattle.outcome.specs.package_changes.Changes.{Replacement, change_of_name, is_selected_named, names_on_both_sides, selected_version}
+use Rattle.outcome.specs.package_changes.Changes.{Replacement, change_of_name, is_selected_named, names_before_and_selected, selected_version}
 use Rattle.outcome.specs.pkg_core.Whole.{package_fault}
 use Rattle.outcome.specs.candidate_core.Candidates.{Candidate, is_same_id}
 use Rattle.report_core.specs.Numbers.{HASHES_FIELD, NAME_FIELD, VERSION_FIELD}
@@ -81,7 +81,7 @@ module _ (c : Candidate) (pkg : AddedPackage) where
         sym ((bytes_eq-Decides (selected_version c) (version_text pkg.value)).0 w),
       )
 
-pub found_ok : (c : Candidate) (file : List ℕ) (pkg : AddedPackage) → package_found c (Some file) ≡ Ok pkg → IsAsSelected c file × (pkg ≡ package_in_file file)
+pub found_ok : (c : Candidate) (file : List ℕ) (pkg : AddedPackage) → added_package_or_refusal c (Some file) ≡ Ok pkg → IsAsSelected c file × (pkg ≡ package_in_file file)
 found_ok c file pkg e = by_fault (package_fault file) refl e
   where
     by_fault : (fault : Option Cause) → package_fault file ≡ fault → unless_package_bad c fault (package_in_file file) ≡ Ok pkg → IsAsSelected c file × (pkg ≡ package_in_file file)
@@ -90,7 +90,7 @@ found_ok c file pkg e = by_fault (package_fault file) refl e
         (record { sound = sound; id = ok.1; name = ok.2; version = ok.3 }, ok.0)
     by_fault (Some cause) sound e = absurd (cc (e))
 
-pub path_is : (read : Reads) (n : ℕ) (c : Candidate) (path : Option (List ℕ)) → added_package_by_path read n c path ≡ package_found c (option_and_then (read n) path)
+pub path_is : (read : Reads) (n : ℕ) (c : Candidate) (path : Option (List ℕ)) → added_package_by_path read n c path ≡ added_package_or_refusal c (option_and_then (read n) path)
 path_is read n c None = refl
 path_is read n c (Some path) = refl
 
@@ -130,7 +130,7 @@ first_has pkg (number ∷ numbers) script e = by_test (has_script_of pkg number)
 -- a name of both sides, for which this is the number of the read
 pub record IsNameAt (inputs : Inputs) (r : Replacement) (n : ℕ) (name : List ℕ) : Type 0 where
   pub place : ℕ
-  pub is_place : slice_get (names_on_both_sides r) place ≡ Some name
+  pub is_place : slice_get (names_before_and_selected r) place ≡ Some name
   pub is_number : first_index_read + length inputs.root.repositories + place ≡ n
 
 module _ (inputs : Inputs) (r : Replacement) (wishes : ChangeWishes) (read : Reads) where
@@ -166,7 +166,7 @@ module _ (inputs : Inputs) (r : Replacement) (wishes : ChangeWishes) (read : Rea
         let same : PackageDiffers name (selected_version c) why.0 why.1 why.2 ≡ refusal = ap (λ q. PackageDiffers q (selected_version c) why.0 why.1 why.2) (sym named) ∙ why.4 in
         subst IsTrue same (record { file = file; is_read = read_for (Some file) is; sound = sound; other = why.3 })
 
-    file_fault : (file : Option (List ℕ)) (refusal : Refusal) → package_file_read read n inputs.root.repositories c ≡ file → package_found c file ≡ Err refusal → IsTrue refusal
+    file_fault : (file : Option (List ℕ)) (refusal : Refusal) → package_file_read read n inputs.root.repositories c ≡ file → added_package_or_refusal c file ≡ Err refusal → IsTrue refusal
     file_fault None refusal is e =
         let told : PackageMissing c.name (selected_version c) ≡ refusal = cc in
         let same : PackageMissing name (selected_version c) ≡ refusal = ap (λ q. PackageMissing q (selected_version c)) (sym named) ∙ told in
@@ -187,7 +187,7 @@ module _ (inputs : Inputs) (r : Replacement) (wishes : ChangeWishes) (read : Rea
     pub brought : (pkg : AddedPackage) → added_package_by_path read n c (package_file_of inputs.root.repositories c) ≡ Ok pkg → IsAddedAsSelected inputs r read name pkg
     brought pkg e = by_file (package_file_read read n inputs.root.repositories c) refl (sym (path_is read n c (package_file_of inputs.root.repositories c)) ∙ e)
       where
-        by_file : (file : Option (List ℕ)) → package_file_read read n inputs.root.repositories c ≡ file → package_found c file ≡ Ok pkg → IsAddedAsSelected inputs r read name pkg
+        by_file : (file : Option (List ℕ)) → package_file_read read n inputs.root.repositories c ≡ file → added_package_or_refusal c file ≡ Ok pkg → IsAddedAsSelected inputs r read name pkg
         by_file None is e = absurd (cc (e))
         by_file (Some file) is e =
             let ok = found_ok c file pkg e in

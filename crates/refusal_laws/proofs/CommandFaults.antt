@@ -15,16 +15,16 @@ use Rattle.command_core.specs.declared.operands.Operand.{Operand}
 use Rattle.dep_core.specs.World.{has_name}
 use Rattle.outcome.specs.engine_core.Changed.{IsClashFor, IsClashOfSelected, IsClashUnlessSimulated, Selected, change_of_selected, change_of_command, selected_by, selected_for, selected_of_inputs, simulated_change}
 use Rattle.outcome.specs.engine_core.Choice.{IsChoiceFrom}
-use Rattle.outcome.specs.engine_core.Selecting.{pool_by, pool_for}
+use Rattle.outcome.specs.engine_core.Selecting.{pool_of_inputs, pool_of_command}
 use Rattle.outcome.specs.engine_core.Wishes.{first_unknown, is_installed_name, is_known_name, names_to_upgrade, unknown_operand_place, unless_unknown_operand, wishes_of}
 use Rattle.outcome.specs.make_info.Reads.{Reads}
 use Rattle.outcome.specs.path_clashes.Clash.{NamePair}
-use Rattle.outcome.specs.candidate_core.Rank.{SealedPool, UpgradedNames, sealed_pool_by}
+use Rattle.outcome.specs.candidate_core.Rank.{SealedPool, UpgradedNames, sealed_pool_from_parts}
 use Rattle.outcome.specs.candidate_core.declared.candidate_list.TheConstants.{MOST_CANDIDATES}
 use Rattle.report_core.specs.declared.refusal.Refusal.{Refusal}
 use Rattle.report_core.specs.declared.refusal.Refusal.TheVariants.{NotInstalled, TooMany, Unsatisfied}
 use Rattle.refusal_laws.specs.CommandFaults.{IsChangeRefused, IsFaultOfCommand, IsFaultOfSelection, IsUnknownTo}
-use Rattle.refusal_laws.specs.InputFaults.{AreTooMany}
+use Rattle.refusal_laws.specs.InputFaults.{AreTooManyCandidates}
 use Rattle.refusal_laws.proofs.ChangeFaults.{change_fault}
 use Rattle.refusal_laws.proofs.InputFaults.{input_fault}
 use Rattle.refusal_laws.proofs.Lists.{and_then_err}
@@ -37,13 +37,13 @@ kept_done r = r
 abbrev kept_pool : Result SealedPool Refusal → Result SealedPool Refusal
 kept_pool r = r
 
-pub pool_fault : (inputs : Inputs) (upgraded : UpgradedNames) (refusal : Refusal) → root_pool inputs upgraded ≡ Err refusal → (count : ℕ) × AreTooMany inputs count × (TooMany count ≡ refusal)
+pub pool_fault : (inputs : Inputs) (upgraded : UpgradedNames) (refusal : Refusal) → root_pool inputs upgraded ≡ Err refusal → (count : ℕ) × AreTooManyCandidates inputs count × (TooMany count ≡ refusal)
 unfolding root_pool
 pool_fault inputs upgraded refusal e = by_count (nat_lt MOST_CANDIDATES (length (candidates_of inputs))) refl e
   where
     by_count : (b : Bool) → nat_lt MOST_CANDIDATES (length (candidates_of inputs)) ≡ b
-        → kept_pool (if b then Err (TooMany (MOST_CANDIDATES + 1)) else Ok (sealed_pool_by (candidates_of inputs) inputs.root.new_world upgraded)) ≡ Err refusal
-        → (count : ℕ) × AreTooMany inputs count × (TooMany count ≡ refusal)
+        → kept_pool (if b then Err (TooMany (MOST_CANDIDATES + 1)) else Ok (sealed_pool_from_parts (candidates_of inputs) inputs.root.new_world upgraded)) ≡ Err refusal
+        → (count : ℕ) × AreTooManyCandidates inputs count × (TooMany count ≡ refusal)
     by_count true more e = (MOST_CANDIDATES + 1, record { more = ltb-true MOST_CANDIDATES (length (candidates_of inputs)) more; told = refl }, (let same : TooMany (MOST_CANDIDATES + 1) ≡ refusal = cc in same))
     by_count false more e = absurd (cc (e))
 
@@ -69,17 +69,17 @@ unknown_fault applet inputs operands place e = absurd (cc (e))
 
 -- ---- the selection
 
-module _ (command : CommandLine) (read : Reads) (chosen : Option (List ℕ)) (choice : IsChoiceFrom (pool_for command read) chosen) where
+module _ (command : CommandLine) (read : Reads) (chosen : Option (List ℕ)) (choice : IsChoiceFrom (pool_of_command command read) chosen) where
   abbrev IsSo : Inputs → Refusal → Type 0
   IsSo inputs refusal = IsFaultOfSelection command inputs refusal
 
-  none_chosen : (inputs : Inputs) (pool : SealedPool) (o : Option (List ℕ)) (refusal : Refusal) → pool_by command inputs ≡ Ok pool → IsChoiceFrom (Ok pool) o → selected_by command inputs pool o ≡ Err refusal → IsSo inputs refusal
+  none_chosen : (inputs : Inputs) (pool : SealedPool) (o : Option (List ℕ)) (refusal : Refusal) → pool_of_inputs command inputs ≡ Ok pool → IsChoiceFrom (Ok pool) o → selected_by command inputs pool o ≡ Err refusal → IsSo inputs refusal
   none_chosen inputs pool None refusal is none e =
       let same : Unsatisfied ≡ refusal = cc in
       subst (IsSo inputs) same (record { pool = pool; is_pool = is; none = none })
   none_chosen inputs pool (Some trace) refusal is none e = absurd (cc (e))
 
-  place_fault : (inputs : Inputs) (pool : SealedPool) (o : Option ℕ) (refusal : Refusal) → pool_by command inputs ≡ Ok pool → IsChoiceFrom (Ok pool) chosen → unknown_operand_place command.applet inputs command.operands ≡ o
+  place_fault : (inputs : Inputs) (pool : SealedPool) (o : Option ℕ) (refusal : Refusal) → pool_of_inputs command inputs ≡ Ok pool → IsChoiceFrom (Ok pool) chosen → unknown_operand_place command.applet inputs command.operands ≡ o
       → unless_unknown_operand o (selected_by command inputs pool chosen) ≡ Err refusal → IsSo inputs refusal
   place_fault inputs pool None refusal is from known e = none_chosen inputs pool chosen refusal is from e
   place_fault inputs pool (Some place) refusal is from unknown e =
@@ -87,14 +87,14 @@ module _ (command : CommandLine) (read : Reads) (chosen : Option (List ℕ)) (ch
       let same : NotInstalled place ≡ refusal = cc in
       subst (IsSo inputs) same (record { operand = found.0; given = found.1; at = found.2; unknown = found.3 })
 
-  choice_of : (inputs : Inputs) (pool : SealedPool) → inputs_of command read ≡ Ok inputs → pool_by command inputs ≡ Ok pool → IsChoiceFrom (Ok pool) chosen
+  choice_of : (inputs : Inputs) (pool : SealedPool) → inputs_of command read ≡ Ok inputs → pool_of_inputs command inputs ≡ Ok pool → IsChoiceFrom (Ok pool) chosen
   choice_of inputs pool is has =
-      let same : pool_for command read ≡ Ok pool = ap (λ (x : Result Inputs Refusal). and_then x (pool_by command)) is ∙ has in
+      let same : pool_of_command command read ≡ Ok pool = ap (λ (x : Result Inputs Refusal). and_then x (pool_of_inputs command)) is ∙ has in
       subst (λ (x : Result SealedPool Refusal). IsChoiceFrom x chosen) same choice
 
   selection_fault : (inputs : Inputs) (refusal : Refusal) → inputs_of command read ≡ Ok inputs → selected_of_inputs command chosen inputs ≡ Err refusal → IsSo inputs refusal
   selection_fault inputs refusal is e =
-      elim (and_then_err (pool_by command inputs) (λ pool. unless_unknown_operand (unknown_operand_place command.applet inputs command.operands) (selected_by command inputs pool chosen)) refusal e) [
+      elim (and_then_err (pool_of_inputs command inputs) (λ pool. unless_unknown_operand (unknown_operand_place command.applet inputs command.operands) (selected_by command inputs pool chosen)) refusal e) [
         | inl first ↦ (let many = pool_fault inputs (names_to_upgrade command.applet command.operands) refusal first in subst (IsSo inputs) many.2 many.1)
         | inr next ↦ place_fault inputs next.0 (unknown_operand_place command.applet inputs command.operands) refusal next.1 (choice_of inputs next.0 is next.1) refl next.2
       ]

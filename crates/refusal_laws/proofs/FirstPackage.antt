@@ -15,13 +15,13 @@ use Rattle.outcome.specs.change_inputs.Chains.{and_then}
 use Rattle.outcome.specs.change_inputs.Inputs.{Inputs, first_index_read}
 use Rattle.outcome.specs.change_outcome.ChangeOutcome.{ChangeWishes, change_members}
 use Rattle.outcome.specs.change_outcome.MembersAfter.{MemberFound, added_package_by_path, added_member_found, members_after, name_after, name_by_change, name_by_selected, member_of_added_name, member_of_removed_name, names_after}
-use Rattle.outcome.specs.change_outcome.PackageFiles.{AddedPackage, first_script_of, package_file_of, package_found, package_in_file, scripts_of_change, unless_script_number, unless_package_bad, unless_script}
+use Rattle.outcome.specs.change_outcome.PackageFiles.{AddedPackage, first_script_of, package_file_of, added_package_or_refusal, package_in_file, scripts_of_change, unless_script_number, unless_package_bad, unless_script}
 use Rattle.outcome.specs.db_core.Packages.{is_package_named}
 use Rattle.outcome.specs.file_owners.Replaces.{version_text}
 use Rattle.base_core.specs.ByteOrder.{precedes}
 use Rattle.base_core.proofs.Orderings.{precedes_one_way}
 use Rattle.outcome.specs.make_info.Reads.{Reads}
-use Rattle.outcome.specs.package_changes.Changes.{Replacement, change_of_name, is_selected_named, names_on_both_sides, selected_version}
+use Rattle.outcome.specs.package_changes.Changes.{Replacement, change_of_name, is_selected_named, names_before_and_selected, selected_version}
 use Rattle.outcome.proofs.path_clashes.PairOrder.{precedes_itself}
 use Rattle.outcome.specs.pkg_core.Whole.{package_fault}
 use Rattle.outcome.specs.candidate_core.Candidates.{Candidate, is_same_id}
@@ -33,7 +33,7 @@ use Rattle.refusal_laws.specs.AddedPackages.{IsAsSelected, IsReadFor, selected_o
 use Rattle.refusal_laws.specs.FirstPackage.{IsFirstRefused, refused_name}
 use Rattle.refusal_laws.specs.PackageFaults.{IsAddedOrRemoved, IsOtherPackage}
 use Rattle.refusal_laws.proofs.Coming.{by_fields, different_err, path_is, script_err}
-use Rattle.refusal_laws.proofs.FoundPackages.{name_at_place}
+use Rattle.refusal_laws.proofs.FoundPackages.{member_name_at_place}
 use Rattle.refusal_laws.proofs.Lists.{and_then_err, found_in, in_mapped}
 
 -- ---- the name that a refusal tells
@@ -41,7 +41,7 @@ use Rattle.refusal_laws.proofs.Lists.{and_then_err, found_in, in_mapped}
 candidate_named : (name : List ℕ) (cs : List Candidate) (c : Candidate) → find (is_selected_named name) cs ≡ Some c → c.name ≡ name
 candidate_named name cs c e = (bytes_eq-Decides c.name name).0 (found_in (is_selected_named name) cs c e).1
 
-found_name : (c : Candidate) (file : Option (List ℕ)) (refusal : Refusal) → package_found c file ≡ Err refusal → refused_name refusal ≡ c.name
+found_name : (c : Candidate) (file : Option (List ℕ)) (refusal : Refusal) → added_package_or_refusal c file ≡ Err refusal → refused_name refusal ≡ c.name
 found_name c None refusal e = let told : PackageMissing c.name (selected_version c) ≡ refusal = cc in ap refused_name (sym told)
 found_name c (Some file) refusal e = by_fault (package_fault file) e
   where
@@ -57,7 +57,7 @@ script_is : {A : Type 0} (no_scripts : Bool) (name : List ℕ) (pkg : Plain) (nu
 script_is no_scripts name pkg numbers a script asked first = ap (λ b. unless_script b name pkg numbers a) asked ∙ ap (λ o. unless_script_number name o a) first
 
 -- what passes all tests is found
-found_so : (c : Candidate) (file : List ℕ) → IsAsSelected c file → package_found c (Some file) ≡ Ok (package_in_file file)
+found_so : (c : Candidate) (file : List ℕ) → IsAsSelected c file → added_package_or_refusal c (Some file) ≡ Ok (package_in_file file)
 found_so c file is =
     ap (λ o. unless_package_bad c o (package_in_file file)) is.sound
     ∙ (λ i. by_fields c (package_in_file file) (is.id i) ((bytes_eq-Decides c.name (package_name (package_in_file file).value)).1 (sym is.name) i)
@@ -144,7 +144,7 @@ module _ (inputs : Inputs) (r : Replacement) (wishes : ChangeWishes) (read : Rea
 
   record IsToldAt (refusal : Refusal) : Type 0 where
     pub place : ℕ
-    pub at : slice_get (names_on_both_sides r) place ≡ Some (refused_name refusal)
+    pub at : slice_get (names_before_and_selected r) place ≡ Some (refused_name refusal)
     pub told : of_name (first_read + place) (refused_name refusal) ≡ Err refusal
 
   comes_is : (n : ℕ) (name : List ℕ) (change : Change) (c : Candidate) → change_of_name r name ≡ Some change → selected_of_name r name ≡ Some c
@@ -153,16 +153,16 @@ module _ (inputs : Inputs) (r : Replacement) (wishes : ChangeWishes) (read : Rea
       ap (λ ch. name_by_change read inputs.root.repositories wishes.no_scripts n name ch (find (is_package_named name) r.before) (find (is_selected_named name) r.selected)) becomes
       ∙ ap (λ s. name_by_selected read inputs.root.repositories wishes.no_scripts n name change (find (is_package_named name) r.before) s) selected
 
-  file_is : (name version : List ℕ) (file : Option (List ℕ)) (is : IsReadFor inputs r read name version file) → of_name (first_read + is.place) name ≡ and_then (package_found is.candidate file) (with_scripts name is.change)
+  file_is : (name version : List ℕ) (file : Option (List ℕ)) (is : IsReadFor inputs r read name version file) → of_name (first_read + is.place) name ≡ and_then (added_package_or_refusal is.candidate file) (with_scripts name is.change)
   file_is name version file is =
       comes_is (first_read + is.place) name is.change is.candidate is.becomes is.selected
-      ∙ ap (λ p. and_then p (with_scripts name is.change)) (path_is read (first_read + is.place) is.candidate (package_file_of inputs.root.repositories is.candidate) ∙ ap (package_found is.candidate) is.is_file)
+      ∙ ap (λ p. and_then p (with_scripts name is.change)) (path_is read (first_read + is.place) is.candidate (package_file_of inputs.root.repositories is.candidate) ∙ ap (added_package_or_refusal is.candidate) is.is_file)
 
   named : (name version : List ℕ) (file : Option (List ℕ)) (is : IsReadFor inputs r read name version file) → is.candidate.name ≡ name
   named name version file is = candidate_named name r.selected is.candidate is.selected
 
   different_told : (name version file : List ℕ) (is : IsReadFor inputs r read name version (Some file)) (field : ℕ) (wanted found : List ℕ) → package_fault file ≡ None
-      → IsOtherPackage is.candidate (package_in_file file) field wanted found → package_found is.candidate (Some file) ≡ Err (PackageDiffers name version field wanted found)
+      → IsOtherPackage is.candidate (package_in_file file) field wanted found → added_package_or_refusal is.candidate (Some file) ≡ Err (PackageDiffers name version field wanted found)
   different_told name version file is field wanted found sound other = ap (λ o. unless_package_bad is.candidate o (package_in_file file)) sound ∙ by other
     where
       by : IsOtherPackage is.candidate (package_in_file file) field wanted found
@@ -198,7 +198,7 @@ module _ (inputs : Inputs) (r : Replacement) (wishes : ChangeWishes) (read : Rea
       let named_so : package_name pkg ≡ name = (bytes_eq-Decides (package_name pkg) name).0 here.1 in
       let among = in_order (package_name pkg) (map package_name r.before ++ map (λ (c : Candidate). c.name) r.selected)
       (in_left (package_name pkg) (map package_name r.before) (map (λ (c : Candidate). c.name) r.selected) (in_mapped package_name r.before pkg here.0)) in
-      let place = name_at_place (names_on_both_sides r) (package_name pkg) among in
+      let place = member_name_at_place (names_before_and_selected r) (package_name pkg) among in
       record {
         place = place.0;
         at = place.1 ∙ ap (λ (q : List ℕ). Some q) named_so;
@@ -239,13 +239,13 @@ module _ (inputs : Inputs) (r : Replacement) (wishes : ChangeWishes) (read : Rea
 
   -- ---- the first
 
-  in_order_so : (p q : ℕ) (a b : List ℕ) → p < q → slice_get (names_on_both_sides r) p ≡ Some a → slice_get (names_on_both_sides r) q ≡ Some b → precedes a b ≡ true
+  in_order_so : (p q : ℕ) (a b : List ℕ) → p < q → slice_get (names_before_and_selected r) p ≡ Some a → slice_get (names_before_and_selected r) q ≡ Some b → precedes a b ≡ true
   in_order_so p q a b less at_a at_b =
-      let names = names_on_both_sides r in
+      let names = names_before_and_selected r in
       let pairs = Names.pairs_from_rises names (order_rises (map package_name r.before ++ map (λ (c : Candidate). c.name) r.selected)) in
       (λ i. precedes (sym (get_or_from_slice_get names p a [] at_a) i) (sym (get_or_from_slice_get names q b [] at_b) i)) ∙ ap is_lt (pairs p q [] less (slice_get_within names q b at_b))
 
-  module _ (refusal : Refusal) (at : IsRefusedAt first_read (names_on_both_sides r) refusal) where
+  module _ (refusal : Refusal) (at : IsRefusedAt first_read (names_before_and_selected r) refusal) where
     told_here : refused_name refusal ≡ at.name
     told_here = told_name (first_read + at.place) at.name refusal at.refused
 
@@ -256,7 +256,7 @@ module _ (inputs : Inputs) (r : Replacement) (wishes : ChangeWishes) (read : Rea
 
     same_place : (other : Refusal) (told : IsToldAt other) → told.place ≡ at.place → (refused_name other ≡ at.name) × (other ≡ refusal)
     same_place other told same =
-        let both : Some (refused_name other) ≡ Some at.name = sym told.at ∙ (ap (slice_get (names_on_both_sides r)) same ∙ at.at) in
+        let both : Some (refused_name other) ≡ Some at.name = sym told.at ∙ (ap (slice_get (names_before_and_selected r)) same ∙ at.at) in
         let name : refused_name other ≡ at.name = cc in
         let refusals : Err other ≡ Err refusal = sym told.told ∙ ((λ i. of_name (first_read + same i) (name i)) ∙ at.refused) in
         (name, (let e : other ≡ refusal = cc in e))
@@ -283,5 +283,5 @@ module _ (inputs : Inputs) (r : Replacement) (wishes : ChangeWishes) (read : Rea
   pub first_refused : (refusal : Refusal) → change_members inputs r wishes read ≡ Err refusal → IsFirstRefused inputs r wishes read refusal
   unfolding members_after
   first_refused refusal e =
-      let at = refused_in first_read (names_on_both_sides r) refusal e in
+      let at = refused_in first_read (names_before_and_selected r) refusal e in
       record { first = first_so refusal at; only = only_so refusal at }

@@ -12,10 +12,10 @@ use Rattle.outcome.specs.change_inputs.Chains.{and_then}
 use Rattle.outcome.specs.change_inputs.Inputs.{Inputs, first_index_read}
 use Rattle.outcome.specs.change_outcome.ChangeOutcome.{ChangeWishes, change_members}
 use Rattle.outcome.specs.change_outcome.MembersAfter.{MemberFound, added_package_by_path, added_member_found, members_after, name_after, name_by_change, name_by_selected, member_of_added_name, member_of_removed_name, names_after}
-use Rattle.outcome.specs.change_outcome.PackageFiles.{AddedPackage, first_script_of, package_file_of, package_found, package_in_file, scripts_of_change, unless_script_number, unless_package_bad, unless_script}
+use Rattle.outcome.specs.change_outcome.PackageFiles.{AddedPackage, first_script_of, package_file_of, added_package_or_refusal, package_in_file, scripts_of_change, unless_script_number, unless_package_bad, unless_script}
 use Rattle.outcome.specs.db_core.Packages.{is_package_named}
 use Rattle.outcome.specs.make_info.Reads.{Reads}
-use Rattle.outcome.specs.package_changes.Changes.{Replacement, change_of_name, is_selected_named, names_on_both_sides}
+use Rattle.outcome.specs.package_changes.Changes.{Replacement, change_of_name, is_selected_named, names_before_and_selected}
 use Rattle.outcome.specs.pkg_core.Whole.{package_fault}
 use Rattle.outcome.specs.candidate_core.Candidates.{Candidate, is_same_id}
 use Rattle.report_core.specs.Reports.{Change}
@@ -29,10 +29,10 @@ use Rattle.refusal_laws.proofs.Lists.{and_then_ok, found_in, in_mapped}
 
 -- ---- lists
 
-pub name_at_place : (xs : List (List ℕ)) (q : List ℕ) → Names.IsIn q xs → (i : ℕ) × (slice_get xs i ≡ Some q)
-name_at_place [] q here = absurd here
-name_at_place (x ∷ xs) q (inl is) = (zero, ap (λ (y : List ℕ). Some y) (sym is))
-name_at_place (x ∷ xs) q (inr more) = let other = name_at_place xs q more in (suc other.0, other.1)
+pub member_name_at_place : (xs : List (List ℕ)) (q : List ℕ) → Names.IsIn q xs → (i : ℕ) × (slice_get xs i ≡ Some q)
+member_name_at_place [] q here = absurd here
+member_name_at_place (x ∷ xs) q (inl is) = (zero, ap (λ (y : List ℕ). Some y) (sym is))
+member_name_at_place (x ∷ xs) q (inr more) = let other = member_name_at_place xs q more in (suc other.0, other.1)
 
 -- ---- files
 
@@ -42,7 +42,7 @@ not_other c file field wanted found agrees (inl other) =
 not_other c file field wanted found agrees (inr (inl other)) = other.2.2 (other.2.0 ∙ (sym agrees.name ∙ sym other.2.1))
 not_other c file field wanted found agrees (inr (inr other)) = other.3.2 (other.3.0 ∙ (sym agrees.version ∙ sym other.3.1))
 
-no_bad_file : (c : Candidate) (file : List ℕ) (cause : Cause) (pkg : AddedPackage) → package_fault file ≡ Some cause → package_found c (Some file) ≡ Ok pkg → ⊥
+no_bad_file : (c : Candidate) (file : List ℕ) (cause : Cause) (pkg : AddedPackage) → package_fault file ≡ Some cause → added_package_or_refusal c (Some file) ≡ Ok pkg → ⊥
 no_bad_file c file cause pkg fault e = refused (ap (λ o. unless_package_bad c o (package_in_file file)) (sym fault) ∙ e)
   where
     refused : unless_package_bad c (Some cause) (package_in_file file) ≡ Ok pkg → ⊥
@@ -84,16 +84,16 @@ module _ (inputs : Inputs) (r : Replacement) (wishes : ChangeWishes) (read : Rea
       let k : suc n + i ≡ n + suc i = omega arith in
       (behind.0, subst (λ m. name_after r read inputs.root.repositories wishes.no_scripts m name ≡ Ok behind.0) k behind.1)
 
-  found_at : (place : ℕ) (name : List ℕ) → slice_get (names_on_both_sides r) place ≡ Some name → (o : Option MemberFound) × (name_after r read inputs.root.repositories wishes.no_scripts (first_read + place) name ≡ Ok o)
+  found_bytes_or_missing : (place : ℕ) (name : List ℕ) → slice_get (names_before_and_selected r) place ≡ Some name → (o : Option MemberFound) × (name_after r read inputs.root.repositories wishes.no_scripts (first_read + place) name ≡ Ok o)
   unfolding members_after
-  found_at place name at = name_found_at first_read (names_on_both_sides r) found place name are at
+  found_bytes_or_missing place name at = name_found_at first_read (names_before_and_selected r) found place name are at
 
   -- ---- one that comes
 
-  comes_so : (place : ℕ) (name : List ℕ) (change : Change) (c : Candidate) → slice_get (names_on_both_sides r) place ≡ Some name → change_of_name r name ≡ Some change → selected_of_name r name ≡ Some c
+  comes_so : (place : ℕ) (name : List ℕ) (change : Change) (c : Candidate) → slice_get (names_before_and_selected r) place ≡ Some name → change_of_name r name ≡ Some change → selected_of_name r name ≡ Some c
       → (o : Option MemberFound) × (member_of_added_name read inputs.root.repositories wishes.no_scripts (first_read + place) name change c ≡ Ok o)
   comes_so place name change c at becomes selected =
-      let o = found_at place name at in (
+      let o = found_bytes_or_missing place name at in (
         o.0,
         ap (λ s. name_by_selected read inputs.root.repositories wishes.no_scripts (first_read + place) name change (find (is_package_named name) r.before) s) (sym selected)
             ∙ (ap (λ ch. name_by_change read inputs.root.repositories wishes.no_scripts (first_read + place) name ch (find (is_package_named name) r.before) (find (is_selected_named name) r.selected)) (sym becomes) ∙ o.1),
@@ -102,7 +102,7 @@ module _ (inputs : Inputs) (r : Replacement) (wishes : ChangeWishes) (read : Rea
   -- the package in its file is found, and none of its scripts would run
   pub record IsFine (name : List ℕ) (change : Change) (c : Candidate) (file : Option (List ℕ)) : Type 0 where
     pub pkg : AddedPackage
-    pub is : package_found c file ≡ Ok pkg
+    pub is : added_package_or_refusal c file ≡ Ok pkg
     pub after : Option MemberFound
     pub scripts : unless_script wishes.no_scripts name pkg.value (scripts_of_change change) (Some (added_member_found pkg)) ≡ Ok after
 
@@ -113,7 +113,7 @@ module _ (inputs : Inputs) (r : Replacement) (wishes : ChangeWishes) (read : Rea
       unless_script wishes.no_scripts name pkg.value (scripts_of_change is.change) (Some (added_member_found pkg))) comes.0 comes.1 in
       record {
         pkg = pkg.0;
-        is = ap (package_found is.candidate) (sym is.is_file) ∙ (sym (path_is read (first_read + is.place) is.candidate (package_file_of inputs.root.repositories is.candidate)) ∙ pkg.1);
+        is = ap (added_package_or_refusal is.candidate) (sym is.is_file) ∙ (sym (path_is read (first_read + is.place) is.candidate (package_file_of inputs.root.repositories is.candidate)) ∙ pkg.1);
         after = comes.0;
         scripts = pkg.2;
       }
@@ -134,8 +134,8 @@ module _ (inputs : Inputs) (r : Replacement) (wishes : ChangeWishes) (read : Rea
       let named : package_name pkg ≡ name = (bytes_eq-Decides (package_name pkg) name).0 here.1 in
       let among = in_order (package_name pkg) (map package_name r.before ++ map (λ (c : Candidate). c.name) r.selected)
       (in_left (package_name pkg) (map package_name r.before) (map (λ (c : Candidate). c.name) r.selected) (in_mapped package_name r.before pkg here.0)) in
-      let place = name_at_place (names_on_both_sides r) (package_name pkg) among in
-      let o = found_at place.0 name (place.1 ∙ ap (λ (q : List ℕ). Some q) named) in
+      let place = member_name_at_place (names_before_and_selected r) (package_name pkg) among in
+      let o = found_bytes_or_missing place.0 name (place.1 ∙ ap (λ (q : List ℕ). Some q) named) in
       no_script wishes.no_scripts name pkg (scripts_of_change change) None o.0 script asked first
       (ap (λ b. member_of_removed_name wishes.no_scripts name change b) (sym going.before)
       ∙ (ap (λ s. name_by_selected read inputs.root.repositories wishes.no_scripts (first_read + place.0) name change (find (is_package_named name) r.before) s) (sym going.unselected)

@@ -14,10 +14,10 @@ use Rattle.report_core.specs.declared.refusal.Refusal.{Refusal}
 use Rattle.report_core.specs.declared.refusal.Refusal.TheVariants.{NotInstalled}
 use Rattle.outcome.specs.installed_info.Form.{form_of}
 use Rattle.outcome.specs.installed_info.Info.{form_info, info_of, info_refusal, info_unless, operands_info}
-use Rattle.outcome.specs.installed_info.Packages.{package_asked, package_named, path_owner}
+use Rattle.outcome.specs.installed_info.Packages.{package_meant_by, package_named, path_owner}
 use Rattle.outcome.specs.installed_info.declared.telling.ReportAndRefusal.{ReportAndRefusal}
 use Rattle.outcome.proofs.installed_info.Refusing.{unless_err}
-use Rattle.refusal_laws.specs.InfoFaults.{AreFoundInstalled, IsAskedFor, IsFirstNotInstalled, IsFoundInstalled}
+use Rattle.refusal_laws.specs.InfoFaults.{AreFoundInstalled, IsPackageAskedFor, IsFirstNotInstalled, IsFoundInstalled}
 use Rattle.refusal_laws.proofs.Lists.{any_in, found_in, in_any, none_found}
 
 -- ---- whether what a text asks for is installed
@@ -32,7 +32,7 @@ none_is (Some x) e = absurd (cc (e))
 
 -- by whether it is a path
 abbrev IsThere : Bool → List Plain → List ℕ → Type 0
-IsThere owner packages text = (pkg : Plain) × IsIn pkg packages × IsAskedFor owner text pkg
+IsThere owner packages text = (pkg : Plain) × IsIn pkg packages × IsPackageAskedFor owner text pkg
 
 lists : (path : List ℕ) (pkg : Plain) → lists_path path pkg ≡ true → IsIn path (paths_in pkg)
 lists path pkg e =
@@ -70,7 +70,7 @@ flags_by flags owner installed contents depends =
     record flags { who_owns = owner; installed = installed; contents = contents; depends = depends }
 
 there : (flags : Flags) (owner installed contents depends : Bool) (packages : List Plain) (text : List ℕ)
-    → is_some (package_asked (form_of (flags_by flags owner installed contents depends)) packages text) ≡ true → IsThere owner packages text
+    → is_some (package_meant_by (form_of (flags_by flags owner installed contents depends)) packages text) ≡ true → IsThere owner packages text
 there flags true installed contents depends packages text e = owner_there packages text e
 there flags false true contents depends packages text e = named_there packages text e
 there flags false false true depends packages text e = named_there packages text e
@@ -78,7 +78,7 @@ there flags false false false true packages text e = named_there packages text e
 there flags false false false false packages text e = named_there packages text e
 
 not_there : (flags : Flags) (owner installed contents depends : Bool) (packages : List Plain) (text : List ℕ)
-    → is_some (package_asked (form_of (flags_by flags owner installed contents depends)) packages text) ≡ false → ¬ IsThere owner packages text
+    → is_some (package_meant_by (form_of (flags_by flags owner installed contents depends)) packages text) ≡ false → ¬ IsThere owner packages text
 not_there flags true installed contents depends packages text e = no_owner_there packages text e
 not_there flags false true contents depends packages text e = none_named_there packages text e
 not_there flags false false true depends packages text e = none_named_there packages text e
@@ -127,10 +127,10 @@ module _ (flags : Flags) (packages : List Plain) where
       not_late false (info_refusal (form_of (flags_by flags false false false false)) packages (o ∷ operands)) (operands_info (form_of (flags_by flags false false false false)) packages (o ∷ operands)) (o ∷ operands) done e
 
 module _ (command : CommandLine) (packages : List Plain) where
-  is_there : (text : List ℕ) → is_some (package_asked (form_of command.flags) packages text) ≡ true → IsFoundInstalled command packages text
+  is_there : (text : List ℕ) → is_some (package_meant_by (form_of command.flags) packages text) ≡ true → IsFoundInstalled command packages text
   is_there text e = there command.flags command.flags.who_owns command.flags.installed command.flags.contents command.flags.depends packages text e
 
-  is_not_there : (text : List ℕ) → is_some (package_asked (form_of command.flags) packages text) ≡ false → ¬ IsFoundInstalled command packages text
+  is_not_there : (text : List ℕ) → is_some (package_meant_by (form_of command.flags) packages text) ≡ false → ¬ IsFoundInstalled command packages text
   is_not_there text e = not_there command.flags command.flags.who_owns command.flags.installed command.flags.contents command.flags.depends packages text e
 
   -- ---- operands
@@ -150,7 +150,7 @@ module _ (command : CommandLine) (packages : List Plain) where
 
   first : (operands : List Operand) (refusal : Refusal) → info_refusal (form_of command.flags) packages operands ≡ Some refusal → IsFirst operands refusal
   first [] refusal e = absurd (cc (e))
-  first (o ∷ operands) refusal e = by_test (is_some (package_asked (form_of command.flags) packages o.text)) refl e (first operands refusal)
+  first (o ∷ operands) refusal e = by_test (is_some (package_meant_by (form_of command.flags) packages o.text)) refl e (first operands refusal)
     where
       behind : IsFoundInstalled command packages o.text → IsFirst operands refusal → IsFirst (o ∷ operands) refusal
       behind is f = record {
@@ -163,7 +163,7 @@ module _ (command : CommandLine) (packages : List Plain) where
         told = f.told;
       }
 
-      by_test : (t : Bool) → is_some (package_asked (form_of command.flags) packages o.text) ≡ t → (if t then info_refusal (form_of command.flags) packages operands else Some (NotInstalled o.place)) ≡ Some refusal
+      by_test : (t : Bool) → is_some (package_meant_by (form_of command.flags) packages o.text) ≡ t → (if t then info_refusal (form_of command.flags) packages operands else Some (NotInstalled o.place)) ≡ Some refusal
           → (info_refusal (form_of command.flags) packages operands ≡ Some refusal → IsFirst operands refusal) → IsFirst (o ∷ operands) refusal
       by_test true t e more = behind (is_there o.text t) (more e)
       by_test false t e more = record {
@@ -178,9 +178,9 @@ module _ (command : CommandLine) (packages : List Plain) where
 
   all : (operands : List Operand) → info_refusal (form_of command.flags) packages operands ≡ None → AreFoundInstalled command packages operands
   all [] e = λ p inside. absurd inside
-  all (o ∷ operands) e = by_test (is_some (package_asked (form_of command.flags) packages o.text)) refl e (all operands)
+  all (o ∷ operands) e = by_test (is_some (package_meant_by (form_of command.flags) packages o.text)) refl e (all operands)
     where
-      by_test : (t : Bool) → is_some (package_asked (form_of command.flags) packages o.text) ≡ t → (if t then info_refusal (form_of command.flags) packages operands else Some (NotInstalled o.place)) ≡ None
+      by_test : (t : Bool) → is_some (package_meant_by (form_of command.flags) packages o.text) ≡ t → (if t then info_refusal (form_of command.flags) packages operands else Some (NotInstalled o.place)) ≡ None
           → (info_refusal (form_of command.flags) packages operands ≡ None → AreFoundInstalled command packages operands) → AreFoundInstalled command packages (o ∷ operands)
       by_test true t e more = one_more o operands (is_there o.text t) (more e)
       by_test false t e more = absurd (cc (e))

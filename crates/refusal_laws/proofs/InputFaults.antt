@@ -8,9 +8,9 @@ use Rattle.base_core.specs.declared.cause.Cause.{Cause}
 use Rattle.outcome.specs.change_inputs.Chains.{and_then, refused_as, unless_cause}
 use Rattle.outcome.specs.change_inputs.Database.{Database, payload_database, root_database}
 use Rattle.outcome.specs.change_inputs.Indexes.{index_file, index_files_from, index_in_file, indexes_in_files}
-use Rattle.outcome.specs.change_inputs.Inputs.{Root, database_read, first_index_read, index_reads_from, indexes_of, inputs_by, inputs_of, root_by, root_for, text_database_read, world_read}
-use Rattle.outcome.specs.change_inputs.Repositories.{if_trusted, root_repositories}
-use Rattle.outcome.specs.change_inputs.World.{root_world, text_found}
+use Rattle.outcome.specs.change_inputs.Inputs.{Root, database_read, first_index_read, index_reads_from, indexes_of, inputs_from_parts, inputs_of, root_by, root_for, text_database_read, world_read}
+use Rattle.outcome.specs.change_inputs.Repositories.{if_untrusted_allowed, root_repositories}
+use Rattle.outcome.specs.change_inputs.World.{root_world, found_text_or_empty}
 use Rattle.command_core.specs.Command.{CommandLine}
 use Rattle.dep_core.specs.Dependency.{Dependency}
 use Rattle.dep_core.specs.Repositories.{Repository, repositories_of}
@@ -76,13 +76,13 @@ module _ (command : CommandLine) (read : Reads) where
 
   -- ---- world and the repositories
 
-  world_fault : (refusal : Refusal) → root_world (text_found (read world_read world_name)) ≡ Err refusal → IsSo refusal
+  world_fault : (refusal : Refusal) → root_world (found_text_or_empty (read world_read world_name)) ≡ Err refusal → IsSo refusal
   world_fault refusal e =
-      let why = as_err WorldBad (world_of (text_found (read world_read world_name))) refusal e in
+      let why = as_err WorldBad (world_of (found_text_or_empty (read world_read world_name))) refusal e in
       subst IsSo why.2 why.1
 
   trusted_fault : (is_allowed : Bool) (repositories : List Repository) (refusal : Refusal) → command.flags.allow_untrusted ≡ is_allowed → repositories_of (repositories_found read) ≡ Ok repositories
-      → if_trusted is_allowed repositories ≡ Err refusal → IsSo refusal
+      → if_untrusted_allowed is_allowed repositories ≡ Err refusal → IsSo refusal
   trusted_fault is_allowed [] refusal leave listed e = absurd (cc (e))
   trusted_fault true (repository ∷ others) refusal leave listed e = absurd (cc (e))
   trusted_fault false (repository ∷ others) refusal leave listed e =
@@ -91,38 +91,38 @@ module _ (command : CommandLine) (read : Reads) where
 
   repositories_fault : (refusal : Refusal) → root_repositories command.flags.allow_untrusted (repositories_found read) ≡ Err refusal → IsSo refusal
   repositories_fault refusal e =
-      elim (and_then_err (refused_as RepositoriesBad (repositories_of (repositories_found read))) (if_trusted command.flags.allow_untrusted) refusal e) [
+      elim (and_then_err (refused_as RepositoriesBad (repositories_of (repositories_found read))) (if_untrusted_allowed command.flags.allow_untrusted) refusal e) [
         | inl first ↦ (let why = as_err RepositoriesBad (repositories_of (repositories_found read)) refusal first in subst IsSo why.2 why.1)
         | inr next ↦ trusted_fault command.flags.allow_untrusted next.0 refusal refl (as_ok RepositoriesBad (repositories_of (repositories_found read)) next.0 next.1) next.2
       ]
 
-  trusted_ok : (is_allowed : Bool) (repositories kept : List Repository) → if_trusted is_allowed repositories ≡ Ok kept → repositories ≡ kept
+  trusted_ok : (is_allowed : Bool) (repositories kept : List Repository) → if_untrusted_allowed is_allowed repositories ≡ Ok kept → repositories ≡ kept
   trusted_ok is_allowed [] kept e = cc (e)
   trusted_ok true (repository ∷ others) kept e = cc (e)
   trusted_ok false (repository ∷ others) kept e = absurd (cc (e))
 
   repositories_ok : (repositories : List Repository) → root_repositories command.flags.allow_untrusted (repositories_found read) ≡ Ok repositories → repositories_of (repositories_found read) ≡ Ok repositories
   repositories_ok repositories e =
-      let all = and_then_ok (refused_as RepositoriesBad (repositories_of (repositories_found read))) (if_trusted command.flags.allow_untrusted) repositories e in
+      let all = and_then_ok (refused_as RepositoriesBad (repositories_of (repositories_found read))) (if_untrusted_allowed command.flags.allow_untrusted) repositories e in
       as_ok RepositoriesBad (repositories_of (repositories_found read)) all.0 all.1 ∙ ap (λ (rs : List Repository). Ok rs) (trusted_ok command.flags.allow_untrusted all.0 repositories all.2)
 
   -- ---- the root
 
   abbrev pub world_then : Database → List Dependency → Result Root Refusal
   world_then database world =
-      and_then (root_repositories command.flags.allow_untrusted (repositories_found read)) (λ repositories. Ok (root_by command database (text_found (read world_read world_name)) world repositories))
+      and_then (root_repositories command.flags.allow_untrusted (repositories_found read)) (λ repositories. Ok (root_by command database (found_text_or_empty (read world_read world_name)) world repositories))
 
   root_fault : (refusal : Refusal) → root_for command read ≡ Err refusal → IsSo refusal
   root_fault refusal e =
       elim (and_then_err (root_database command.flags.initdb (read database_read database_name) (read text_database_read text_database_name)) (λ database.
-      and_then (root_world (text_found (read world_read world_name))) (world_then database)) refusal e) [
+      and_then (root_world (found_text_or_empty (read world_read world_name))) (world_then database)) refusal e) [
         | inl first ↦ database_fault (read database_read database_name) (read text_database_read text_database_name) refusal refl refl first
-        | inr next ↦ elim (and_then_err (root_world (text_found (read world_read world_name))) (world_then next.0) refusal next.2) [
+        | inr next ↦ elim (and_then_err (root_world (found_text_or_empty (read world_read world_name))) (world_then next.0) refusal next.2) [
           | inl second ↦ world_fault refusal second
           | inr third ↦ elim (and_then_err (root_repositories command.flags.allow_untrusted (repositories_found read)) (λ repositories.
-              Ok (root_by command next.0 (text_found (read world_read world_name)) third.0 repositories)) refusal third.2) [
+              Ok (root_by command next.0 (found_text_or_empty (read world_read world_name)) third.0 repositories)) refusal third.2) [
                 | inl last ↦ repositories_fault refusal last
-                | inr done ↦ absurd (no_refusal (root_by command next.0 (text_found (read world_read world_name)) third.0 done.0) refusal done.2)
+                | inr done ↦ absurd (no_refusal (root_by command next.0 (found_text_or_empty (read world_read world_name)) third.0 done.0) refusal done.2)
               ]
         ]
       ]
@@ -130,10 +130,10 @@ module _ (command : CommandLine) (read : Reads) where
   pub root_listed : (root : Root) → root_for command read ≡ Ok root → repositories_of (repositories_found read) ≡ Ok root.repositories
   root_listed root e =
       let database = and_then_ok (root_database command.flags.initdb (read database_read database_name) (read text_database_read text_database_name)) (λ database.
-      and_then (root_world (text_found (read world_read world_name))) (world_then database)) root e in
-      let world = and_then_ok (root_world (text_found (read world_read world_name))) (world_then database.0) root database.2 in
-      let listed = and_then_ok (root_repositories command.flags.allow_untrusted (repositories_found read)) (λ repositories. Ok (root_by command database.0 (text_found (read world_read world_name)) world.0 repositories)) root world.2 in
-      let same : root_by command database.0 (text_found (read world_read world_name)) world.0 listed.0 ≡ root = (let last = listed.2 in cc) in
+      and_then (root_world (found_text_or_empty (read world_read world_name))) (world_then database)) root e in
+      let world = and_then_ok (root_world (found_text_or_empty (read world_read world_name))) (world_then database.0) root database.2 in
+      let listed = and_then_ok (root_repositories command.flags.allow_untrusted (repositories_found read)) (λ repositories. Ok (root_by command database.0 (found_text_or_empty (read world_read world_name)) world.0 repositories)) root world.2 in
+      let same : root_by command database.0 (found_text_or_empty (read world_read world_name)) world.0 listed.0 ≡ root = (let last = listed.2 in cc) in
       repositories_ok listed.0 listed.1 ∙ ap (λ (x : Root). Ok x.repositories) same
 
   -- ---- the indexes
@@ -223,10 +223,10 @@ module _ (command : CommandLine) (read : Reads) where
   pub input_fault : (refusal : Refusal) → inputs_of command read ≡ Err refusal → IsFaultOfInput command read refusal
   unfolding inputs_of
   input_fault refusal e =
-      elim (and_then_err (root_for command read) (λ root. and_then (indexes_of read root.repositories) (λ indexes. Ok (inputs_by root indexes))) refusal e) [
+      elim (and_then_err (root_for command read) (λ root. and_then (indexes_of read root.repositories) (λ indexes. Ok (inputs_from_parts root indexes))) refusal e) [
         | inl first ↦ root_fault refusal first
-        | inr next ↦ elim (and_then_err (indexes_of read next.0.repositories) (λ indexes. Ok (inputs_by next.0 indexes)) refusal next.2) [
+        | inr next ↦ elim (and_then_err (indexes_of read next.0.repositories) (λ indexes. Ok (inputs_from_parts next.0 indexes)) refusal next.2) [
           | inl second ↦ indexes_fault next.0.repositories (root_listed next.0 next.1) refusal second
-          | inr last ↦ absurd (no_refusal (inputs_by next.0 last.0) refusal last.2)
+          | inr last ↦ absurd (no_refusal (inputs_from_parts next.0 last.0) refusal last.2)
         ]
       ]

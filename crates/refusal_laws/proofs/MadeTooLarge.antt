@@ -1,11 +1,11 @@
 -- A package that is too large is refused with its counts.
 use Rattle.command_core.specs.declared.values.TheConstants.{FILES, SCRIPT, TRIGGER}
 use Rattle.std.proofs.Common.{◌≡◌, ◌⊎◌, inl, inr, ◌∙◌, ℕ, ◌+◌, List, [], ◌∷◌, length, Option, Some, None, Result, Ok, Err, refl, ap}
-use Rattle.outcome.specs.adb_sound.Container.{package_by}
+use Rattle.outcome.specs.adb_sound.Container.{packed_from_parts}
 use Rattle.adb_view.specs.Plain.{Plain}
 use Rattle.outcome.specs.adb_write.Canonical.{PayloadCounts, overflow_of}
 use Rattle.command_core.specs.Command.{CommandLine}
-use Rattle.command_core.specs.Files.{without_dot}
+use Rattle.command_core.specs.Files.{without_dot_slash}
 use Rattle.command_core.specs.Values.{script_file, script_type}
 use Rattle.command_core.specs.declared.values.OptionValue.{OptionValue}
 use Rattle.outcome.specs.make_core.ReadBack.{packed_of_parts, packed_package}
@@ -13,10 +13,10 @@ use Rattle.outcome.specs.make_info.Information.{FieldWithValue, information, inf
 use Rattle.outcome.specs.make_info.Reads.{Reads}
 use Rattle.outcome.specs.make_info.declared.fault.MakeFault.{MakeFault}
 use Rattle.outcome.specs.make_info.declared.fault.MakeFault.TheVariants.{TooLarge}
-use Rattle.outcome.specs.package_files.Folders.{FolderListing, folders_of}
+use Rattle.outcome.specs.package_files.Folders.{FolderListing, folder_listings_of}
 use Rattle.outcome.specs.make_package.Making.{container_unless, made_package, or_info_bad, package_container, package_of_parts}
 use Rattle.outcome.specs.package_files.Package.{Script, Source, SourceFolder, contents_of_folders, installed_size, value_of_package}
-use Rattle.outcome.specs.package_files.Sources.{each_from, file_at, folder_at, folders_below, found_at, and_then, script_at, script_with, scripts_from, source_of_read, sources_from, texts_of, values_with}
+use Rattle.outcome.specs.package_files.Sources.{each_from, source_file_read_at, source_folder_read_at, folders_below, found_bytes_or_missing, and_then, script_at, script_with, scripts_from, source_of_read, sources_from, texts_of, values_of_letter}
 use Rattle.outcome.specs.pkg_core.Contents.{Contents}
 use Rattle.refusal_laws.specs.MadeTooLarge.{IsPackageTooLarge}
 use Rattle.refusal_laws.proofs.ChangeFaults.{too_large}
@@ -45,17 +45,17 @@ module _ (bytes values : ℕ) where
         ]
       ]
 
-  found_never : {A : Type 0} (place : ℕ) (found : Option (List ℕ)) (next : List ℕ → A) → IsNever (and_then (found_at place found) (λ b. Ok (next b)))
+  found_never : {A : Type 0} (place : ℕ) (found : Option (List ℕ)) (next : List ℕ → A) → IsNever (and_then (found_bytes_or_missing place found) (λ b. Ok (next b)))
   found_never place None next e = cc (e)
   found_never place (Some b) next e = cc (e)
 
   script_never : (read : Reads) (n : ℕ) (v : OptionValue) → IsNever (script_at read n v)
-  script_never read n v e = found_never v.place (read n (without_dot (script_file v.text))) (λ b. script_with (script_type v.text) b) e
+  script_never read n v e = found_never v.place (read n (without_dot_slash (script_file v.text))) (λ b. script_with (script_type v.text) b) e
 
-  folder_never : (place : ℕ) (read : Reads) (n : ℕ) (folder : FolderListing) → IsNever (folder_at place read n folder)
+  folder_never : (place : ℕ) (read : Reads) (n : ℕ) (folder : FolderListing) → IsNever (source_folder_read_at place read n folder)
   folder_never place read n folder e =
       elim (success_err (sources_from place read n folder.files) (λ files. with_files files) (TooLarge bytes values) e) [
-        | inl first ↦ each_never (λ name. 1) (file_at place read) (λ m name f. found_never place (read m name) (λ b. source_of_read name b) f) n folder.files first
+        | inl first ↦ each_never (λ name. 1) (source_file_read_at place read) (λ m name f. found_never place (read m name) (λ b. source_of_read name b) f) n folder.files first
         | inr last ↦ no_fault (source_folder last.0) (TooLarge bytes values) last.2
       ]
     where
@@ -68,7 +68,7 @@ module _ (bytes values : ℕ) where
   folders_never : (read : Reads) (n : ℕ) (vs : List OptionValue) (names : List (List ℕ)) → IsNever (folders_below read n vs names)
   folders_never read n [] names e = cc (e)
   folders_never read n (v ∷ vs) names e =
-      each_never (λ (folder : FolderListing). length folder.files) (folder_at v.place read) (folder_never v.place read) n (folders_of (without_dot v.text) names) e
+      each_never (λ (folder : FolderListing). length folder.files) (source_folder_read_at v.place read) (folder_never v.place read) n (folder_listings_of (without_dot_slash v.text) names) e
 
   info_never : (r : Result (List FieldWithValue) ℕ) → IsNever (or_info_bad r)
   info_never (Ok items) e = cc (e)
@@ -92,13 +92,13 @@ module _ (bytes values : ℕ) where
   unfolding made_package
   made_too_large command names read e =
       elim (success_err scripts then_scripts (TooLarge bytes values) e) [
-        | inl first ↦ absurd (each_never (λ v. 1) (script_at read) (script_never read) 0 (values_with SCRIPT command.values) first)
+        | inl first ↦ absurd (each_never (λ v. 1) (script_at read) (script_never read) 0 (values_of_letter SCRIPT command.values) first)
         | inr one ↦ elim (success_err (or_info_bad (information command)) (then_about one.0) (TooLarge bytes values) one.2) [
           | inl second ↦ absurd (info_never (information command) second)
-          | inr two ↦ elim (success_err (folders_below read (length one.0) (values_with FILES command.values) names) (package_of_parts command one.0 two.0) (TooLarge bytes values) two.2) [
-            | inl third ↦ absurd (folders_never read (length one.0) (values_with FILES command.values) names third)
+          | inr two ↦ elim (success_err (folders_below read (length one.0) (values_of_letter FILES command.values) names) (package_of_parts command one.0 two.0) (TooLarge bytes values) two.2) [
+            | inl third ↦ absurd (folders_never read (length one.0) (values_of_letter FILES command.values) names third)
             | inr three ↦ record {
-              packed = package_by (value_of one.0 two.0 three.0) (contents_of_folders 1 three.0);
+              packed = packed_from_parts (value_of one.0 two.0 three.0) (contents_of_folders 1 three.0);
               is_packed = packed_is one.0 two.0 three.0 one.1 two.1 three.1;
               passes = too_large (value_of one.0 two.0 three.0) (bytes, values) (container_counts (value_of one.0 two.0 three.0) (contents_of_folders 1 three.0) three.2);
             }
@@ -107,24 +107,24 @@ module _ (bytes values : ℕ) where
       ]
     where
       scripts : Result (List Script) MakeFault
-      scripts = scripts_from read 0 (values_with SCRIPT command.values)
+      scripts = scripts_from read 0 (values_of_letter SCRIPT command.values)
 
       then_about : List Script → List FieldWithValue → Result (List ℕ) MakeFault
-      then_about found about = and_then (folders_below read (length found) (values_with FILES command.values) names) (package_of_parts command found about)
+      then_about found about = and_then (folders_below read (length found) (values_of_letter FILES command.values) names) (package_of_parts command found about)
 
       then_scripts : List Script → Result (List ℕ) MakeFault
       then_scripts found = and_then (or_info_bad (information command)) (then_about found)
 
       value_of : List Script → List FieldWithValue → List SourceFolder → Plain
       value_of found about folders =
-          value_of_package (information_value about (installed_size folders)) folders found (texts_of (values_with TRIGGER command.values)) (replaces_priority about)
+          value_of_package (information_value about (installed_size folders)) folders found (texts_of (values_of_letter TRIGGER command.values)) (replaces_priority about)
 
       packed_is : (found : List Script) (about : List FieldWithValue) (folders : List SourceFolder) → scripts ≡ Ok found → or_info_bad (information command) ≡ Ok about
-          → folders_below read (length found) (values_with FILES command.values) names ≡ Ok folders → packed_package command names read ≡ Ok (package_by (value_of found about folders) (contents_of_folders 1 folders))
+          → folders_below read (length found) (values_of_letter FILES command.values) names ≡ Ok folders → packed_package command names read ≡ Ok (packed_from_parts (value_of found about folders) (contents_of_folders 1 folders))
       packed_is found about folders s a f =
           ap (λ (x : Result (List Script) MakeFault). and_then x (λ scripts.
           and_then (or_info_bad (information command)) (λ about.
-          and_then (folders_below read (length scripts) (values_with FILES command.values) names) (packed_of_parts command scripts about)))) s
+          and_then (folders_below read (length scripts) (values_of_letter FILES command.values) names) (packed_of_parts command scripts about)))) s
           ∙ (ap (λ (x : Result (List FieldWithValue) MakeFault). and_then x (λ about.
-          and_then (folders_below read (length found) (values_with FILES command.values) names) (packed_of_parts command found about))) a
+          and_then (folders_below read (length found) (values_of_letter FILES command.values) names) (packed_of_parts command found about))) a
           ∙ ap (λ (x : Result (List SourceFolder) MakeFault). and_then x (packed_of_parts command found about)) f)

@@ -8,13 +8,13 @@ use Rattle.command_core.specs.declared.command.Applet.{Applet}
 use Rattle.command_core.specs.declared.command.Applet.TheVariants.{Del, Fix, Upgrade}
 use Rattle.command_core.specs.declared.operands.Operand.{Operand}
 use Rattle.outcome.specs.engine_core.Changed.{selected_by, selected_of_inputs}
-use Rattle.outcome.specs.engine_core.Selecting.{pool_by}
+use Rattle.outcome.specs.engine_core.Selecting.{pool_of_inputs}
 use Rattle.outcome.specs.engine_core.Wishes.{first_unknown, is_installed_name, is_known_name, names_to_upgrade, unknown_operand_place, unless_unknown_operand}
 use Rattle.outcome.specs.candidate_core.Rank.{SealedPool}
 use Rattle.report_core.specs.declared.refusal.Refusal.{Refusal}
 use Rattle.report_core.specs.declared.refusal.Refusal.TheVariants.{NotInstalled, Unsatisfied}
 use Rattle.refusal_laws.specs.CommandFaults.{IsUnknownTo}
-use Rattle.refusal_laws.specs.OperandsKnown.{AreKnown, HasPassedBeforeSelection, IsFirstUnknown}
+use Rattle.refusal_laws.specs.OperandsKnown.{AreKnownOperands, HasPassedBeforeSelection, IsFirstUnknown}
 use Rattle.refusal_laws.proofs.CommandFaults.{pool_fault}
 use Rattle.refusal_laws.proofs.Lists.{and_then_err}
 
@@ -65,7 +65,7 @@ first_failing is_known (o ∷ operands) place e = by_test (is_known o.text) refl
 -- ---- by the command
 
 known_to : (command : CommandLine) (inputs : Inputs) (applet : Applet) (is_known : List ℕ → Bool) → ((name : List ℕ) → is_known name ≡ true → IsUnknownTo applet inputs name → ⊥) → applet ≡ command.applet
-    → (operands : List Operand) → ArePassing is_known operands → AreKnown command inputs operands
+    → (operands : List Operand) → ArePassing is_known operands → AreKnownOperands command inputs operands
 known_to command inputs applet is_known known same operands pass o inside unknown =
     known o.text (pass o inside) (subst (λ (a : Applet). IsUnknownTo a inputs o.text) (sym same) unknown)
 
@@ -85,14 +85,14 @@ module _ (command : CommandLine) (inputs : Inputs) where
   first_place Fix place same e = first_by Fix (is_installed_name inputs) place (λ name known off. true≢false (sym known ∙ off)) same e
   first_place applet place same e = absurd (cc (e))
 
-  no_place : (applet : Applet) → applet ≡ command.applet → unknown_operand_place applet inputs command.operands ≡ None → AreKnown command inputs command.operands
+  no_place : (applet : Applet) → applet ≡ command.applet → unknown_operand_place applet inputs command.operands ≡ None → AreKnownOperands command inputs command.operands
   no_place Del same e = known_to command inputs Del (is_known_name inputs) (del_knows inputs) same command.operands (all_passing (is_known_name inputs) command.operands e)
   no_place Upgrade same e =
       known_to command inputs Upgrade (is_installed_name inputs) (λ name known off. true≢false (sym known ∙ off)) same command.operands (all_passing (is_installed_name inputs) command.operands e)
   no_place Fix same e = known_to command inputs Fix (is_installed_name inputs) (λ name known off. true≢false (sym known ∙ off)) same command.operands (all_passing (is_installed_name inputs) command.operands e)
   no_place applet same e = λ o inside unknown. subst (λ (a : Applet). IsUnknownTo a inputs o.text) (sym same) unknown
 
-  passed : (pool : SealedPool) → pool_by command inputs ≡ Ok pool → (place : Option ℕ) → unknown_operand_place command.applet inputs command.operands ≡ place → (chosen : Option (List ℕ)) (refusal : Refusal)
+  passed : (pool : SealedPool) → pool_of_inputs command inputs ≡ Ok pool → (place : Option ℕ) → unknown_operand_place command.applet inputs command.operands ≡ place → (chosen : Option (List ℕ)) (refusal : Refusal)
       → unless_unknown_operand place (selected_by command inputs pool chosen) ≡ Err refusal → HasPassedBeforeSelection command inputs refusal
   passed pool is (Some place) at chosen refusal e =
       let same : NotInstalled place ≡ refusal = cc in
@@ -104,7 +104,7 @@ module _ (command : CommandLine) (inputs : Inputs) where
 
   pub selection_passed : (chosen : Option (List ℕ)) (refusal : Refusal) → selected_of_inputs command chosen inputs ≡ Err refusal → HasPassedBeforeSelection command inputs refusal
   selection_passed chosen refusal e =
-      elim (and_then_err (pool_by command inputs) (λ pool. unless_unknown_operand (unknown_operand_place command.applet inputs command.operands) (selected_by command inputs pool chosen)) refusal e) [
+      elim (and_then_err (pool_of_inputs command inputs) (λ pool. unless_unknown_operand (unknown_operand_place command.applet inputs command.operands) (selected_by command inputs pool chosen)) refusal e) [
         | inl first ↦ (let many = pool_fault inputs (names_to_upgrade command.applet command.operands) refusal first in subst (HasPassedBeforeSelection command inputs) many.2 tt)
         | inr next ↦ passed next.0 next.1 (unknown_operand_place command.applet inputs command.operands) refl chosen refusal next.2
       ]

@@ -10,7 +10,7 @@ use Rattle.outcome.specs.change_outcome.MembersAfter.{MemberFound, added_package
 use Rattle.outcome.specs.change_outcome.PackageFiles.{package_file_of, scripts_of_change, unless_script}
 use Rattle.outcome.specs.db_core.Packages.{is_package_named}
 use Rattle.outcome.specs.make_info.Reads.{Reads}
-use Rattle.outcome.specs.package_changes.Changes.{Replacement, change_of_name, is_selected_named, names_on_both_sides}
+use Rattle.outcome.specs.package_changes.Changes.{Replacement, change_of_name, is_selected_named, names_before_and_selected}
 use Rattle.outcome.specs.candidate_core.Candidates.{Candidate}
 use Rattle.report_core.specs.Reports.{Change}
 use Rattle.report_core.specs.declared.refusal.Refusal.{Refusal}
@@ -23,16 +23,16 @@ use Rattle.refusal_laws.proofs.Lists.{and_then_err}
 
 -- the names behind so many
 abbrev pub AreNamesFrom : Replacement → ℕ → List (List ℕ) → Type 0
-AreNamesFrom r place names = (i : ℕ) (name : List ℕ) → slice_get names i ≡ Some name → slice_get (names_on_both_sides r) (place + i) ≡ Some name
+AreNamesFrom r place names = (i : ℕ) (name : List ℕ) → slice_get names i ≡ Some name → slice_get (names_before_and_selected r) (place + i) ≡ Some name
 
-pub first_name : (r : Replacement) (place : ℕ) (name : List ℕ) (names : List (List ℕ)) → AreNamesFrom r place (name ∷ names) → slice_get (names_on_both_sides r) place ≡ Some name
-first_name r place name names are = let e : place ≡ place + 0 = omega arith in ap (slice_get (names_on_both_sides r)) e ∙ are 0 name refl
+pub first_name : (r : Replacement) (place : ℕ) (name : List ℕ) (names : List (List ℕ)) → AreNamesFrom r place (name ∷ names) → slice_get (names_before_and_selected r) place ≡ Some name
+first_name r place name names are = let e : place ≡ place + 0 = omega arith in ap (slice_get (names_before_and_selected r)) e ∙ are 0 name refl
 
 pub other_names : (r : Replacement) (place : ℕ) (name : List ℕ) (names : List (List ℕ)) → AreNamesFrom r place (name ∷ names) → AreNamesFrom r (suc place) names
-other_names r place name names are i q e = let k : suc place + i ≡ place + suc i = omega arith in ap (slice_get (names_on_both_sides r)) k ∙ are (suc i) q e
+other_names r place name names are i q e = let k : suc place + i ≡ place + suc i = omega arith in ap (slice_get (names_before_and_selected r)) k ∙ are (suc i) q e
 
-pub all_names : (r : Replacement) → AreNamesFrom r 0 (names_on_both_sides r)
-all_names r i q e = let k : 0 + i ≡ i = omega arith in ap (slice_get (names_on_both_sides r)) k ∙ e
+pub all_names : (r : Replacement) → AreNamesFrom r 0 (names_before_and_selected r)
+all_names r i q e = let k : 0 + i ≡ i = omega arith in ap (slice_get (names_before_and_selected r)) k ∙ e
 
 module _ (inputs : Inputs) (r : Replacement) (wishes : ChangeWishes) (read : Reads) where
   abbrev IsSo : Refusal → Type 0
@@ -96,4 +96,4 @@ module _ (inputs : Inputs) (r : Replacement) (wishes : ChangeWishes) (read : Rea
   pub members_fault : (refusal : Refusal) → change_members inputs r wishes read ≡ Err refusal → IsFaultOfPackage inputs r wishes read refusal
   unfolding members_after
   members_fault refusal e =
-      names_fault (first_index_read + length inputs.root.repositories) 0 (names_on_both_sides r) refusal (omega arith) (all_names r) e
+      names_fault (first_index_read + length inputs.root.repositories) 0 (names_before_and_selected r) refusal (omega arith) (all_names r) e

@@ -16,7 +16,7 @@ use Rattle.outcome.specs.change_outcome.PackageFiles.{AddedPackage, package_file
 use Rattle.outcome.specs.db_core.Members.{member_name}
 use Rattle.outcome.specs.db_core.Packages.{is_package_named}
 use Rattle.outcome.specs.make_info.Reads.{Reads}
-use Rattle.outcome.specs.package_changes.Changes.{Replacement, change_between, change_of_name, is_same_selected, is_selected_named, names_on_both_sides, unless_same}
+use Rattle.outcome.specs.package_changes.Changes.{Replacement, change_between, change_of_name, is_candidate_this_package, is_selected_named, names_before_and_selected, change_unless_same}
 use Rattle.outcome.specs.candidate_core.Candidates.{Candidate}
 use Rattle.report_core.specs.Reports.{Change}
 use Rattle.report_core.specs.declared.refusal.Refusal.{Refusal}
@@ -33,15 +33,15 @@ abbrev AreSame : Option Plain → Option Candidate → Type 0
 AreSame None None = Unit {0}
 AreSame None (Some c) = ⊥
 AreSame (Some pkg) None = ⊥
-AreSame (Some pkg) (Some c) = is_same_selected pkg c ≡ true
+AreSame (Some pkg) (Some c) = is_candidate_this_package pkg c ≡ true
 
 same_where_unchanged : (is_again : Bool) (name : List ℕ) (before : Option Plain) (selected : Option Candidate) → change_between is_again name before selected ≡ None → AreSame before selected
 same_where_unchanged is_again name None None e = tt
 same_where_unchanged is_again name None (Some c) e = absurd (cc (e))
 same_where_unchanged is_again name (Some pkg) None e = absurd (cc (e))
-same_where_unchanged is_again name (Some pkg) (Some c) e = by_test (is_same_selected pkg c) e
+same_where_unchanged is_again name (Some pkg) (Some c) e = by_test (is_candidate_this_package pkg c) e
   where
-    by_test : (b : Bool) → unless_same name pkg c b is_again ≡ None → b ≡ true
+    by_test : (b : Bool) → change_unless_same name pkg c b is_again ≡ None → b ≡ true
     by_test true e = refl
     by_test false e = absurd (cc (e))
 
@@ -164,12 +164,12 @@ module _ (inputs : Inputs) (r : Replacement) (wishes : ChangeWishes) (read : Rea
       (name_found n name first.0 (record { place = place; is_place = first_name r place name names are; is_number = number }) first.1)
       (names_found (suc n) (suc place) names others.0 (omega (arith, number)) (other_names r place name names are) rises.1 others.1))
 
-  all_found : (fs : List MemberFound) → change_members inputs r wishes read ≡ Ok fs → AreFoundFor (names_on_both_sides r) fs
+  all_found : (fs : List MemberFound) → change_members inputs r wishes read ≡ Ok fs → AreFoundFor (names_before_and_selected r) fs
   unfolding members_after
   all_found fs e =
-      names_found (first_index_read + length inputs.root.repositories) 0 (names_on_both_sides r) fs (omega arith) (all_names r) (order_rises _) e
+      names_found (first_index_read + length inputs.root.repositories) 0 (names_before_and_selected r) fs (omega arith) (all_names r) (order_rises _) e
 
-  is_one_side : (c : Candidate) → IsIn c r.selected → Names.IsIn c.name (names_on_both_sides r)
+  is_one_side : (c : Candidate) → IsIn c r.selected → Names.IsIn c.name (names_before_and_selected r)
   is_one_side c here =
       in_order c.name (map package_name r.before ++ map (λ (c : Candidate). c.name) r.selected)
       (in_right c.name (map package_name r.before) (map (λ (c : Candidate). c.name) r.selected) (in_mapped (λ (c : Candidate). c.name) r.selected c here))

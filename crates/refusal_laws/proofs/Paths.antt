@@ -12,10 +12,10 @@ use Rattle.outcome.specs.adb_schema.Reserved.{is_reserved}
 use Rattle.base_core.proofs.Rising as Names
 use Rattle.outcome.proofs.change_files.InOrder.{from_filter, in_filter, in_sorted, from_sorted}
 use Rattle.outcome.specs.change_files.NamesAfter.{added_paths}
-use Rattle.outcome.specs.change_files.PlanLists.{first_reserved}
-use Rattle.outcome.specs.change_outcome.ChangeOutcome.{name_at_place}
+use Rattle.outcome.specs.change_files.PlanLists.{first_reserved_path}
+use Rattle.outcome.specs.change_outcome.ChangeOutcome.{member_name_at_place}
 use Rattle.outcome.specs.db_core.Members.{Listing, Member, member_listings, member_name}
-use Rattle.outcome.specs.file_owners.Owners.{claim_by, claims_from, claims_in, contested_of, member_beats, owner_of_path, takes_over_if_any}
+use Rattle.outcome.specs.file_owners.Owners.{claim_of_listing, claims_from, claims_in, first_contested_path_of_members, member_beats, owner_of_path, takes_over_if_any}
 use Rattle.outcome.specs.file_owners.Replaces.{takes_over}
 use Rattle.outcome.proofs.file_owners.Claiming.{owner_is}
 use Rattle.base_core.specs.ByteOrder.{bytes_cmp, precedes, smallest_text}
@@ -25,8 +25,8 @@ use Rattle.base_core.proofs.Sorting.{Each, Rises, ranks, rises_in_order}
 use Rattle.base_core.proofs.Numbers.{same_number}
 use Rattle.outcome.proofs.own_core.Listings.{IsPlaced, each_placed}
 use Rattle.outcome.proofs.own_core.NamesOnce.{not_below}
-use Rattle.outcome.specs.path_claims.Claims.{ContestedPath, claimants, contested_at, contested_by, contested_path, is_of_path, owner_by}
-use Rattle.outcome.specs.path_claims.Contest.{beats_each, first_unbeaten, rivals_of, winner}
+use Rattle.outcome.specs.path_claims.Claims.{ContestedPath, claimants, contested_path_at, first_contested_path, first_path_without_owner, is_claim_of_path, owner_among}
+use Rattle.outcome.specs.path_claims.Contest.{beats_each, first_with_unbeaten_rival, rivals_of, winner}
 use Rattle.outcome.specs.path_claims.declared.contest.Rivals.{Rivals}
 use Rattle.refusal_laws.specs.ChangeFaults.{IsContested, IsFirstReservedAddedPath}
 use Rattle.refusal_laws.specs.TestsPassed.{AreAddedPathsUnreserved, HaveOwners}
@@ -62,8 +62,8 @@ smallest_is xs x e = by_list (sorted_by bytes_cmp xs) refl (sym (smallest_first 
           λ q here. found_is_first (λ z. true) (y ∷ ys) x up e q (subst (λ zs. Names.IsIn q zs) is (in_sorted q xs here)) refl,
         )
 
-pub first_reserved_is : (members : List Member) (path : List ℕ) → first_reserved members ≡ Some path → IsFirstReservedAddedPath members path
-unfolding first_reserved
+pub first_reserved_is : (members : List Member) (path : List ℕ) → first_reserved_path members ≡ Some path → IsFirstReservedAddedPath members path
+unfolding first_reserved_path
 first_reserved_is members path e =
     let is = smallest_is (filter is_reserved (added_paths members)) path e in
     let passes = from_filter is_reserved (added_paths members) path is.0 in
@@ -80,8 +80,8 @@ none_smallest xs q e here = by_list (sorted_by bytes_cmp xs) (sym (smallest_firs
     by_list [] e here = here
     by_list (y ∷ ys) e here = cc (e)
 
-pub are_unreserved : (members : List Member) → first_reserved members ≡ None → AreAddedPathsUnreserved members
-unfolding first_reserved
+pub are_unreserved : (members : List Member) → first_reserved_path members ≡ None → AreAddedPathsUnreserved members
+unfolding first_reserved_path
 are_unreserved members none path here = by_test (is_reserved path) refl
   where
     by_test : (b : Bool) → is_reserved path ≡ b → b ≡ false
@@ -100,7 +100,7 @@ claimant_lists : (path : List ℕ) (n : ℕ) (ls : List Listing) (y : ℕ) → I
 claimant_lists path n [] y here = absurd here
 claimant_lists path n (l ∷ ls) y here = by_test (bytes_eq l.path path) refl here (claimant_lists path (n + 1) ls y)
   where
-    by_test : (b : Bool) → bytes_eq l.path path ≡ b → IsIn y (map (λ c. c.member) (cond b (claim_by n l ∷ filter (is_of_path path) (claims_from (n + 1) ls)) (filter (is_of_path path) (claims_from (n + 1) ls))))
+    by_test : (b : Bool) → bytes_eq l.path path ≡ b → IsIn y (map (λ c. c.member) (cond b (claim_of_listing n l ∷ filter (is_claim_of_path path) (claims_from (n + 1) ls)) (filter (is_claim_of_path path) (claims_from (n + 1) ls))))
         → (IsIn y (claimants (claims_from (n + 1) ls) path) → (k : Listing) × IsIn k ls × (k.path ≡ path) × (y ≡ k.place)) → (k : Listing) × IsIn k (l ∷ ls) × (k.path ≡ path) × (y ≡ k.place)
     by_test true is (inl same) more = (l, inl refl, (bytes_eq-Decides l.path path).0 is, same)
     by_test true is (inr here) more = let other = more here in (other.0, inr other.1, other.2, other.3)
@@ -117,8 +117,8 @@ record AreRivals (beats : ℕ → ℕ → Bool) (ms : List ℕ) (rivals : Rivals
   apart : rivals.first ≡ rivals.second → ⊥
   located : beats rivals.first rivals.second ≡ false
 
-rivals_are : (beats : ℕ → ℕ → Bool) (ms : List ℕ) (rivals : Rivals) → first_unbeaten beats ms ≡ Some rivals → AreRivals beats ms rivals
-unfolding first_unbeaten
+rivals_are : (beats : ℕ → ℕ → Bool) (ms : List ℕ) (rivals : Rivals) → first_with_unbeaten_rival beats ms ≡ Some rivals → AreRivals beats ms rivals
+unfolding first_with_unbeaten_rival
 rivals_are beats [] rivals e = absurd (cc (e))
 rivals_are beats (x ∷ ms) rivals e = by_found (find (λ y. not ((x == y) || beats x y)) (x ∷ ms)) refl e
   where
@@ -148,7 +148,7 @@ listing_claimed n (k ∷ ls) l (inr more) = inr (listing_claimed (n + 1) ls l mo
 
 module _ (members : List Member) where
   abbrev owner_by_claims : List ℕ → Option ℕ
-  owner_by_claims path = owner_by (member_beats members) (claims_in members) path
+  owner_by_claims path = owner_among (member_beats members) (claims_in members) path
 
   owned_or_not : (path : List ℕ) → (is_none (owner_by_claims path) ≡ true → ⊥) → is_some (owner_of_path members path) ≡ true
   owned_or_not path not_none = ap is_some (sym (owner_is members path)) ∙ by_owner (owner_by_claims path) not_none
@@ -157,7 +157,7 @@ module _ (members : List Member) where
       by_owner None not_none = absurd (not_none refl)
       by_owner (Some x) not_none = refl
 
-  listed_by : (place : ℕ) (l : Listing) → IsIn l (member_listings members) → place ≡ l.place → name_at_place members place ≡ member_name l.member
+  listed_by : (place : ℕ) (l : Listing) → IsIn l (member_listings members) → place ≡ l.place → member_name_at_place members place ≡ member_name l.member
   listed_by place l here is =
       let at = each_here (IsPlaced members) (member_listings members) l (each_placed members) here in
       ap (λ (o : Option Member). option_map_or member_name o []) (ap (slice_get members) is ∙ at.at)
@@ -185,8 +185,8 @@ module _ (members : List Member) where
           ]) in
           absurd (true≢false (sym each ∙ none_found (beats_each (member_beats members) ms) ms x unowned here))
 
-  contested_rivals : (path : List ℕ) (rivals : Rivals) → contested_path (member_beats members) (claims_in members) ≡ Some path → first_unbeaten (member_beats members) (claimants (claims_in members) path) ≡ Some rivals
-      → IsContested members path (name_at_place members rivals.first) (name_at_place members rivals.second)
+  contested_rivals : (path : List ℕ) (rivals : Rivals) → first_path_without_owner (member_beats members) (claims_in members) ≡ Some path → first_with_unbeaten_rival (member_beats members) (claimants (claims_in members) path) ≡ Some rivals
+      → IsContested members path (member_name_at_place members rivals.first) (member_name_at_place members rivals.second)
   unfolding claims_in
   contested_rivals path rivals found e =
       let are = rivals_are (member_beats members) (claimants (claims_in members) path) rivals e in
@@ -225,14 +225,14 @@ module _ (members : List Member) where
     where
       by_test : (b : Bool) → bytes_eq l.path path ≡ b → Names.IsIn path (l.path ∷ map (λ c. c.path) (claims_from (n + 1) ls))
           → (Names.IsIn path (map (λ c. c.path) (claims_from (n + 1) ls)) → (y : ℕ) × IsIn y (claimants (claims_from (n + 1) ls) path))
-          → (y : ℕ) × IsIn y (map (λ c. c.member) (cond b (claim_by n l ∷ filter (is_of_path path) (claims_from (n + 1) ls)) (filter (is_of_path path) (claims_from (n + 1) ls))))
+          → (y : ℕ) × IsIn y (map (λ c. c.member) (cond b (claim_of_listing n l ∷ filter (is_claim_of_path path) (claims_from (n + 1) ls)) (filter (is_claim_of_path path) (claims_from (n + 1) ls))))
       by_test true is here more = (l.place, inl refl)
       by_test false is (inl same) more = absurd (true≢false (sym ((bytes_eq-Decides l.path path).1 (sym same)) ∙ is))
       by_test false is (inr here) more = more here
 
   -- where a path has no owner, two of its claimants are told
-  rivals_told : (beats : ℕ → ℕ → Bool) (ms : List ℕ) (y : ℕ) → IsIn y ms → winner beats ms ≡ None → first_unbeaten beats ms ≡ None → ⊥
-  unfolding winner first_unbeaten
+  rivals_told : (beats : ℕ → ℕ → Bool) (ms : List ℕ) (y : ℕ) → IsIn y ms → winner beats ms ≡ None → first_with_unbeaten_rival beats ms ≡ None → ⊥
+  unfolding winner first_with_unbeaten_rival
   rivals_told beats [] y here none e = here
   rivals_told beats (x ∷ ms) y here none e = by_found (find (λ z. not ((x == z) || beats x z)) (x ∷ ms)) refl e
     where
@@ -249,11 +249,11 @@ module _ (members : List Member) where
   owned_where : (path : List ℕ) → is_none (owner_by_claims path) ≡ false → is_some (owner_of_path members path) ≡ true
   owned_where path e = owned_or_not path (λ t. true≢false (sym t ∙ e))
 
-  pub have_owners : contested_of members ≡ None → HaveOwners members
-  unfolding contested_of contested_by claims_in
-  have_owners e l here = by_path (contested_path (member_beats members) (claims_in members)) refl e
+  pub have_owners : first_contested_path_of_members members ≡ None → HaveOwners members
+  unfolding first_contested_path_of_members first_contested_path claims_in
+  have_owners e l here = by_path (first_path_without_owner (member_beats members) (claims_in members)) refl e
     where
-      by_path : (o : Option (List ℕ)) → contested_path (member_beats members) (claims_in members) ≡ o → option_and_then (contested_at (member_beats members) (claims_in members)) o ≡ None → is_some (owner_of_path members l.path) ≡ true
+      by_path : (o : Option (List ℕ)) → first_path_without_owner (member_beats members) (claims_in members) ≡ o → option_and_then (contested_path_at (member_beats members) (claims_in members)) o ≡ None → is_some (owner_of_path members l.path) ≡ true
       by_path None is e =
           let paths : List (List ℕ) = map (λ c. c.path) (claims_in members) in
           let sorted : Names.IsIn l.path (sorted_by bytes_cmp paths) = in_sorted l.path paths (listing_claimed 0 (member_listings members) l here) in
@@ -264,24 +264,24 @@ module _ (members : List Member) where
           let claimed : Names.IsIn path paths = from_sorted path paths (in_names path (sorted_by bytes_cmp paths) passes.0) in
           let some = some_claimant path 0 (member_listings members) claimed in
           absurd (rivals_told (member_beats members) (claimants (claims_in members) path) some.0 some.1 (none_is (owner_by_claims path) passes.1)
-          (no_rivals (first_unbeaten (member_beats members) (claimants (claims_in members) path)) e))
+          (no_rivals (first_with_unbeaten_rival (member_beats members) (claimants (claims_in members) path)) e))
         where
           no_rivals : (o : Option Rivals) → option_map {U = ContestedPath} (λ rivals. record { path = path; rivals = rivals }) o ≡ None → o ≡ None
           no_rivals None e = refl
           no_rivals (Some rivals) e = absurd (cc (e))
 
-  pub contested_is : (c : ContestedPath) → contested_of members ≡ Some c → IsContested members c.path (name_at_place members c.rivals.first) (name_at_place members c.rivals.second)
-  unfolding contested_of contested_by
-  contested_is c e = by_path (contested_path (member_beats members) (claims_in members)) refl e
+  pub contested_is : (c : ContestedPath) → first_contested_path_of_members members ≡ Some c → IsContested members c.path (member_name_at_place members c.rivals.first) (member_name_at_place members c.rivals.second)
+  unfolding first_contested_path_of_members first_contested_path
+  contested_is c e = by_path (first_path_without_owner (member_beats members) (claims_in members)) refl e
     where
-      by_rivals : (path : List ℕ) → contested_path (member_beats members) (claims_in members) ≡ Some path → (o : Option Rivals) → first_unbeaten (member_beats members) (claimants (claims_in members) path) ≡ o
-          → option_map (λ rivals. record { path = path; rivals = rivals }) o ≡ Some c → IsContested members c.path (name_at_place members c.rivals.first) (name_at_place members c.rivals.second)
+      by_rivals : (path : List ℕ) → first_path_without_owner (member_beats members) (claims_in members) ≡ Some path → (o : Option Rivals) → first_with_unbeaten_rival (member_beats members) (claimants (claims_in members) path) ≡ o
+          → option_map (λ rivals. record { path = path; rivals = rivals }) o ≡ Some c → IsContested members c.path (member_name_at_place members c.rivals.first) (member_name_at_place members c.rivals.second)
       by_rivals path found None is e = absurd (cc (e))
       by_rivals path found (Some rivals) is e =
           let same : record { path = path; rivals = rivals } ≡ c = cc in
-          subst (λ (d : ContestedPath). IsContested members d.path (name_at_place members d.rivals.first) (name_at_place members d.rivals.second)) same (contested_rivals path rivals found is)
+          subst (λ (d : ContestedPath). IsContested members d.path (member_name_at_place members d.rivals.first) (member_name_at_place members d.rivals.second)) same (contested_rivals path rivals found is)
 
-      by_path : (o : Option (List ℕ)) → contested_path (member_beats members) (claims_in members) ≡ o → option_and_then (contested_at (member_beats members) (claims_in members)) o ≡ Some c
-          → IsContested members c.path (name_at_place members c.rivals.first) (name_at_place members c.rivals.second)
+      by_path : (o : Option (List ℕ)) → first_path_without_owner (member_beats members) (claims_in members) ≡ o → option_and_then (contested_path_at (member_beats members) (claims_in members)) o ≡ Some c
+          → IsContested members c.path (member_name_at_place members c.rivals.first) (member_name_at_place members c.rivals.second)
       by_path None is e = absurd (cc (e))
-      by_path (Some path) is e = by_rivals path is (first_unbeaten (member_beats members) (claimants (claims_in members) path)) refl e
+      by_path (Some path) is e = by_rivals path is (first_with_unbeaten_rival (member_beats members) (claimants (claims_in members) path)) refl e

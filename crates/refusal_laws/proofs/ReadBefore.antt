@@ -7,9 +7,9 @@ use Rattle.base_core.specs.declared.cause.Cause.{Cause}
 use Rattle.outcome.specs.change_inputs.Chains.{and_then, refused_as, unless_cause}
 use Rattle.outcome.specs.change_inputs.Database.{payload_database, root_database}
 use Rattle.outcome.specs.change_inputs.Indexes.{index_file, index_files_from, index_in_file, indexes_in_files}
-use Rattle.outcome.specs.change_inputs.Inputs.{Root, database_read, first_index_read, index_reads_from, indexes_of, inputs_by, inputs_of, root_by, root_for, text_database_read, world_read}
-use Rattle.outcome.specs.change_inputs.Repositories.{if_trusted, root_repositories}
-use Rattle.outcome.specs.change_inputs.World.{root_world, text_found}
+use Rattle.outcome.specs.change_inputs.Inputs.{Root, database_read, first_index_read, index_reads_from, indexes_of, inputs_from_parts, inputs_of, root_by, root_for, text_database_read, world_read}
+use Rattle.outcome.specs.change_inputs.Repositories.{if_untrusted_allowed, root_repositories}
+use Rattle.outcome.specs.change_inputs.World.{root_world, found_text_or_empty}
 use Rattle.command_core.specs.Command.{CommandLine}
 use Rattle.dep_core.specs.Repositories.{Repository, repositories_of}
 use Rattle.dep_core.specs.World.{world_of}
@@ -21,7 +21,7 @@ use Rattle.outcome.specs.v2_core.Payload.{payload_of_text}
 use Rattle.outcome.specs.v2_core.declared.read.V2Fault.{V2Fault}
 use Rattle.outcome.specs.v2_core.declared.read.V2Fault.TheVariants.{Bad, Memory, TooLarge}
 use Rattle.refusal_laws.specs.InputFaults.{IsIndexRead, repositories_found}
-use Rattle.refusal_laws.specs.ReadBefore.{ArePassedBefore, HasDatabaseAndWorld, HasDatabase, HasIndexes, HasIndexesBefore, AllowsUntrusted, HasReadBefore}
+use Rattle.refusal_laws.specs.ReadBefore.{AreEarlierIndexesSound, HasDatabaseAndWorld, HasDatabase, HasIndexes, HasIndexesBefore, AllowsUntrusted, HasReadBefore}
 use Rattle.refusal_laws.proofs.InputFaults.{as_err, cause_err, no_refusal, root_listed, world_then}
 use Rattle.refusal_laws.proofs.Lists.{and_then_err, and_then_ok}
 
@@ -41,17 +41,17 @@ module _ (command : CommandLine) (read : Reads) where
   database_told true None None refusal e = absurd (cc (e))
   database_told false None None refusal e = let same : NoDatabase ≡ refusal = cc in subst IsSo same tt
 
-  world_told : (refusal : Refusal) → HasDatabase command read → root_world (text_found (read world_read world_name)) ≡ Err refusal → IsSo refusal
-  world_told refusal has e = let why = as_err WorldBad (world_of (text_found (read world_read world_name))) refusal e in subst IsSo why.2 has
+  world_told : (refusal : Refusal) → HasDatabase command read → root_world (found_text_or_empty (read world_read world_name)) ≡ Err refusal → IsSo refusal
+  world_told refusal has e = let why = as_err WorldBad (world_of (found_text_or_empty (read world_read world_name))) refusal e in subst IsSo why.2 has
 
-  trusted_told : (is_allowed : Bool) (repositories : List Repository) (refusal : Refusal) → HasDatabaseAndWorld command read → if_trusted is_allowed repositories ≡ Err refusal → IsSo refusal
+  trusted_told : (is_allowed : Bool) (repositories : List Repository) (refusal : Refusal) → HasDatabaseAndWorld command read → if_untrusted_allowed is_allowed repositories ≡ Err refusal → IsSo refusal
   trusted_told is_allowed [] refusal has e = absurd (cc (e))
   trusted_told true (repository ∷ others) refusal has e = absurd (cc (e))
   trusted_told false (repository ∷ others) refusal has e = let same : Untrusted ≡ refusal = cc in subst IsSo same has
 
   repositories_told : (refusal : Refusal) → HasDatabaseAndWorld command read → root_repositories command.flags.allow_untrusted (repositories_found read) ≡ Err refusal → IsSo refusal
   repositories_told refusal has e =
-      elim (and_then_err (refused_as RepositoriesBad (repositories_of (repositories_found read))) (if_trusted command.flags.allow_untrusted) refusal e) [
+      elim (and_then_err (refused_as RepositoriesBad (repositories_of (repositories_found read))) (if_untrusted_allowed command.flags.allow_untrusted) refusal e) [
         | inl first ↦ (let why = as_err RepositoriesBad (repositories_of (repositories_found read)) refusal first in subst IsSo why.2 has)
         | inr next ↦ trusted_told command.flags.allow_untrusted next.0 refusal has next.2
       ]
@@ -59,14 +59,14 @@ module _ (command : CommandLine) (read : Reads) where
   root_told : (refusal : Refusal) → root_for command read ≡ Err refusal → IsSo refusal
   root_told refusal e =
       elim (and_then_err (root_database command.flags.initdb (read database_read database_name) (read text_database_read text_database_name)) (λ database.
-      and_then (root_world (text_found (read world_read world_name))) (world_then command read database)) refusal e) [
+      and_then (root_world (found_text_or_empty (read world_read world_name))) (world_then command read database)) refusal e) [
         | inl first ↦ database_told command.flags.initdb (read database_read database_name) (read text_database_read text_database_name) refusal first
-        | inr next ↦ elim (and_then_err (root_world (text_found (read world_read world_name))) (world_then command read next.0) refusal next.2) [
+        | inr next ↦ elim (and_then_err (root_world (found_text_or_empty (read world_read world_name))) (world_then command read next.0) refusal next.2) [
           | inl second ↦ world_told refusal (next.0, next.1) second
           | inr third ↦ elim (and_then_err (root_repositories command.flags.allow_untrusted (repositories_found read)) (λ repositories.
-              Ok (root_by command next.0 (text_found (read world_read world_name)) third.0 repositories)) refusal third.2) [
+              Ok (root_by command next.0 (found_text_or_empty (read world_read world_name)) third.0 repositories)) refusal third.2) [
                 | inl last ↦ repositories_told refusal ((next.0, next.1), (third.0, third.1)) last
-                | inr done ↦ absurd (no_refusal (root_by command next.0 (text_found (read world_read world_name)) third.0 done.0) refusal done.2)
+                | inr done ↦ absurd (no_refusal (root_by command next.0 (found_text_or_empty (read world_read world_name)) third.0 done.0) refusal done.2)
               ]
         ]
       ]
@@ -74,34 +74,34 @@ module _ (command : CommandLine) (read : Reads) where
   has_both : (root : Root) → root_for command read ≡ Ok root → HasDatabaseAndWorld command read
   has_both root e =
       let database = and_then_ok (root_database command.flags.initdb (read database_read database_name) (read text_database_read text_database_name)) (λ database.
-      and_then (root_world (text_found (read world_read world_name))) (world_then command read database)) root e in
-      let world = and_then_ok (root_world (text_found (read world_read world_name))) (world_then command read database.0) root database.2 in
+      and_then (root_world (found_text_or_empty (read world_read world_name))) (world_then command read database)) root e in
+      let world = and_then_ok (root_world (found_text_or_empty (read world_read world_name))) (world_then command read database.0) root database.2 in
       ((database.0, database.1), (world.0, world.1))
 
   -- ---- leave
 
-  trusted : (is_allowed : Bool) (repository : Repository) (others kept : List Repository) → if_trusted is_allowed (repository ∷ others) ≡ Ok kept → is_allowed ≡ true
+  trusted : (is_allowed : Bool) (repository : Repository) (others kept : List Repository) → if_untrusted_allowed is_allowed (repository ∷ others) ≡ Ok kept → is_allowed ≡ true
   trusted true repository others kept e = refl
   trusted false repository others kept e = absurd (cc (e))
 
-  some_trusted : (is_allowed : Bool) (repositories : List Repository) (repository : Repository) (others : List Repository) → if_trusted is_allowed repositories ≡ Ok (repository ∷ others) → is_allowed ≡ true
+  some_trusted : (is_allowed : Bool) (repositories : List Repository) (repository : Repository) (others : List Repository) → if_untrusted_allowed is_allowed repositories ≡ Ok (repository ∷ others) → is_allowed ≡ true
   some_trusted is_allowed [] repository others e = absurd (cc (e))
   some_trusted is_allowed (x ∷ xs) repository others e = trusted is_allowed x xs (repository ∷ others) e
 
   leave_then : (kept : List Repository) → root_repositories command.flags.allow_untrusted (repositories_found read) ≡ Ok kept → (repository : Repository) (others : List Repository) → kept ≡ repository ∷ others
       → command.flags.allow_untrusted ≡ true
   leave_then kept e repository others is =
-      let all = and_then_ok (refused_as RepositoriesBad (repositories_of (repositories_found read))) (if_trusted command.flags.allow_untrusted) kept e in
+      let all = and_then_ok (refused_as RepositoriesBad (repositories_of (repositories_found read))) (if_untrusted_allowed command.flags.allow_untrusted) kept e in
       some_trusted command.flags.allow_untrusted all.0 repository others (all.2 ∙ ap Ok is)
 
   leave : (root : Root) → root_for command read ≡ Ok root → (repository : Repository) (others : List Repository) → root.repositories ≡ repository ∷ others → command.flags.allow_untrusted ≡ true
   leave root e repository others is =
       let database = and_then_ok (root_database command.flags.initdb (read database_read database_name) (read text_database_read text_database_name)) (λ database.
-      and_then (root_world (text_found (read world_read world_name))) (world_then command read database)) root e in
-      let world = and_then_ok (root_world (text_found (read world_read world_name))) (world_then command read database.0) root database.2 in
+      and_then (root_world (found_text_or_empty (read world_read world_name))) (world_then command read database)) root e in
+      let world = and_then_ok (root_world (found_text_or_empty (read world_read world_name))) (world_then command read database.0) root database.2 in
       let listed = and_then_ok (root_repositories command.flags.allow_untrusted (repositories_found read)) (λ repositories.
-      Ok (root_by command database.0 (text_found (read world_read world_name)) world.0 repositories)) root world.2 in
-      let same : root_by command database.0 (text_found (read world_read world_name)) world.0 listed.0 ≡ root = (let last = listed.2 in cc) in
+      Ok (root_by command database.0 (found_text_or_empty (read world_read world_name)) world.0 repositories)) root world.2 in
+      let same : root_by command database.0 (found_text_or_empty (read world_read world_name)) world.0 listed.0 ≡ root = (let last = listed.2 in cc) in
       leave_then listed.0 listed.1 repository others (ap (λ (x : Root). x.repositories) same ∙ is)
 
   -- ---- the indexes
@@ -231,8 +231,8 @@ module _ (command : CommandLine) (read : Reads) where
 
   module _ (root : Root) (is_root : root_for command read ≡ Ok root) where
     -- what is read of an index is found there
-    found_at : (number place : ℕ) (file : Option (List ℕ)) (is : IsIndexRead read number file) → is.place ≡ place → IsFoundAt first_index_read root.repositories place file
-    found_at number place file is at =
+    found_bytes_or_missing : (number place : ℕ) (file : Option (List ℕ)) (is : IsIndexRead read number file) → is.place ≡ place → IsFoundAt first_index_read root.repositories place file
+    found_bytes_or_missing number place file is at =
         let both : Ok is.repositories ≡ Ok root.repositories = sym is.listed ∙ root_listed command read root is_root in
         let same : is.repositories ≡ root.repositories = cc in (
           is.repository,
@@ -250,16 +250,16 @@ module _ (command : CommandLine) (read : Reads) where
     missing_told : (refusal : Refusal) → IsFirstMissing first_index_read 1 root.repositories refusal → IsSo refusal
     missing_told refusal f =
         let before : HasIndexesBefore read (1 + f.place) = λ earlier h is.
-        (let less : is.place < f.place = (let number = is.is_number in omega (arith, h, number)) in f.before is.place less (found_at earlier is.place None is refl)) in
+        (let less : is.place < f.place = (let number = is.is_number in omega (arith, h, number)) in f.before is.place less (found_bytes_or_missing earlier is.place None is refl)) in
         subst IsSo (sym f.told) (has_leave f.place f.first f.located, before)
 
     bad_told : (files : List (List ℕ)) (refusal : Refusal) → index_files_from 1 (index_reads_from read first_index_read root.repositories) ≡ Ok files
         → IsFirstBad first_index_read 1 root.repositories refusal → IsSo refusal
     bad_told files refusal found f =
-        let there : HasIndexes read = λ number is. all_found first_index_read 1 root.repositories files found is.place (found_at number is.place None is refl) in
-        let before : ArePassedBefore read (1 + f.place) = λ earlier cause h is.
+        let there : HasIndexes read = λ number is. all_found first_index_read 1 root.repositories files found is.place (found_bytes_or_missing number is.place None is refl) in
+        let before : AreEarlierIndexesSound read (1 + f.place) = λ earlier cause h is.
         (let less : is.is_read.place < f.place = (let number = is.is_read.is_number in omega (arith, h, number)) in
-        let none = f.before is.is_read.place is.file less (found_at earlier is.is_read.place (Some is.file) is.is_read refl) in
+        let none = f.before is.is_read.place is.file less (found_bytes_or_missing earlier is.is_read.place (Some is.file) is.is_read refl) in
         let both : Some cause ≡ None = sym is.fault ∙ none in cc) in
         subst IsSo (sym f.told) (has_leave f.place f.first f.located, there, before)
 
@@ -273,10 +273,10 @@ module _ (command : CommandLine) (read : Reads) where
   pub read_before : (refusal : Refusal) → inputs_of command read ≡ Err refusal → HasReadBefore command read refusal
   unfolding inputs_of
   read_before refusal e =
-      elim (and_then_err (root_for command read) (λ root. and_then (indexes_of read root.repositories) (λ indexes. Ok (inputs_by root indexes))) refusal e) [
+      elim (and_then_err (root_for command read) (λ root. and_then (indexes_of read root.repositories) (λ indexes. Ok (inputs_from_parts root indexes))) refusal e) [
         | inl first ↦ root_told refusal first
-        | inr next ↦ elim (and_then_err (indexes_of read next.0.repositories) (λ indexes. Ok (inputs_by next.0 indexes)) refusal next.2) [
+        | inr next ↦ elim (and_then_err (indexes_of read next.0.repositories) (λ indexes. Ok (inputs_from_parts next.0 indexes)) refusal next.2) [
           | inl second ↦ indexes_told next.0 next.1 refusal second
-          | inr last ↦ absurd (no_refusal (inputs_by next.0 last.0) refusal last.2)
+          | inr last ↦ absurd (no_refusal (inputs_from_parts next.0 last.0) refusal last.2)
         ]
       ]

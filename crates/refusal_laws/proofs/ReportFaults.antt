@@ -4,7 +4,7 @@ use Rattle.std.specs.Prelude.{is_some}
 use Rattle.outcome.specs.adb_fields.FirstPair.{IsIn}
 use Rattle.outcome.specs.adb_fields.Repeated.{package_name}
 use Rattle.adb_view.specs.Plain.{Plain}
-use Rattle.outcome.specs.audit_core.Manifest.{manifest_of, manifest_with, operand_package, package_manifest, manifest_after}
+use Rattle.outcome.specs.audit_core.Manifest.{manifest_of, manifest_with, operand_package, package_manifest, manifest_with_lines_before}
 use Rattle.outcome.specs.candidate_core.Rank.{SealedPool, no_names}
 use Rattle.outcome.specs.change_inputs.Candidates.{root_pool}
 use Rattle.outcome.specs.change_inputs.Database.{Database}
@@ -13,13 +13,13 @@ use Rattle.command_core.specs.Command.{CommandLine}
 use Rattle.command_core.specs.declared.operands.Operand.{Operand}
 use Rattle.outcome.specs.installed_info.Info.{report_and_refusal}
 use Rattle.outcome.specs.make_info.Reads.{Reads}
-use Rattle.outcome.specs.query_core.Queries.{queried}
+use Rattle.outcome.specs.query_core.Queries.{text_of_query}
 use Rattle.report_core.specs.declared.refusal.Refusal.{Refusal}
 use Rattle.report_core.specs.declared.refusal.Refusal.TheVariants.{NotInstalled}
 use Rattle.root_names.specs.RootNames.{database_name, text_database_name}
 use Rattle.outcome.specs.tell_core.AuditResult.{audit_of, audit_result, manifest_report, manifest_result}
 use Rattle.outcome.specs.tell_core.QueryResult.{query_report, query_result}
-use Rattle.refusal_laws.specs.InfoFaults.{IsAskedFor, IsFaultOfDatabase, IsFaultOfInfo, IsFirstNotInstalled, IsFoundInstalled}
+use Rattle.refusal_laws.specs.InfoFaults.{IsPackageAskedFor, IsFaultOfDatabase, IsFaultOfInfo, IsFirstNotInstalled, IsFoundInstalled}
 use Rattle.refusal_laws.specs.QueryFaults.{HasTooManyCandidates, IsFaultOfQuery}
 use Rattle.refusal_laws.proofs.CommandFaults.{pool_fault}
 use Rattle.refusal_laws.proofs.InfoFaults.{database_fault}
@@ -50,7 +50,7 @@ one_named : (packages : List Plain) (o : Operand) (operands : List Operand) → 
 one_named packages o operands is more p (inl same) = subst (λ (x : Operand). IsNamed packages x.text) (sym same) is
 one_named packages o operands is more p (inr inside) = more p inside
 
-further_err : (lines : List ℕ) (further : Result (List ℕ) Refusal) (refusal : Refusal) → manifest_after lines further ≡ Err refusal → further ≡ Err refusal
+further_err : (lines : List ℕ) (further : Result (List ℕ) Refusal) (refusal : Refusal) → manifest_with_lines_before lines further ≡ Err refusal → further ≡ Err refusal
 further_err lines further refusal e =
     elim (and_then_err further (λ (more : List ℕ). Ok (lines ++ more)) refusal e) [
       | inl first ↦ first
@@ -87,10 +87,10 @@ first_of_operands packages (o ∷ operands) refusal e = by_package (operand_pack
 module _ (command : CommandLine) (named : command.flags.who_owns ≡ false) (packages : List Plain) where
   -- the command asks for packages by their names
   found_so : (text : List ℕ) → IsNamed packages text → IsFoundInstalled command packages text
-  found_so text (pkg, here, asked) = (pkg, here, subst (λ (b : Bool). IsAskedFor b text pkg) (sym named) asked)
+  found_so text (pkg, here, asked) = (pkg, here, subst (λ (b : Bool). IsPackageAskedFor b text pkg) (sym named) asked)
 
   named_so : (text : List ℕ) → IsFoundInstalled command packages text → IsNamed packages text
-  named_so text (pkg, here, asked) = (pkg, here, subst (λ (b : Bool). IsAskedFor b text pkg) named asked)
+  named_so text (pkg, here, asked) = (pkg, here, subst (λ (b : Bool). IsPackageAskedFor b text pkg) named asked)
 
   pub first_missing : (refusal : Refusal) → manifest_of packages command.operands ≡ Err refusal → IsFirstNotInstalled command packages refusal
   first_missing refusal e =
@@ -131,7 +131,7 @@ module _ (command : CommandLine) (read : Reads) where
 
   too_many : (inputs : Inputs) (refusal : Refusal) → inputs_of command read ≡ Ok inputs → query_report command inputs ≡ Err refusal → HasTooManyCandidates command read refusal
   too_many inputs refusal are e =
-      elim (and_then_err (root_pool inputs no_names) (λ (pool : SealedPool). Ok (report_and_refusal (queried command pool inputs.root.repositories) None)) refusal e) [
+      elim (and_then_err (root_pool inputs no_names) (λ (pool : SealedPool). Ok (report_and_refusal (text_of_query command pool inputs.root.repositories) None)) refusal e) [
         | inl first ↦ (let fault = pool_fault inputs no_names refusal first in record { inputs = inputs; are_inputs = are; count = fault.0; too_many = fault.1; is = sym fault.2 })
         | inr next ↦ absurd (no_refusal _ refusal next.2)
       ]

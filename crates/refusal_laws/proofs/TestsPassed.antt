@@ -6,17 +6,17 @@ use Rattle.outcome.specs.adb_fields.FirstPair.{IsIn}
 use Rattle.adb_view.specs.Plain.{Plain}
 use Rattle.base_core.specs.Files.{Files}
 use Rattle.outcome.specs.change_files.FileChange.{FileChange}
-use Rattle.outcome.specs.change_files.PlanLists.{first_reserved}
+use Rattle.outcome.specs.change_files.PlanLists.{first_reserved_path}
 use Rattle.outcome.proofs.change_files.InOrder.{in_order}
 use Rattle.outcome.specs.change_inputs.Chains.{and_then}
 use Rattle.outcome.specs.change_inputs.Inputs.{Inputs}
-use Rattle.outcome.specs.change_outcome.ChangeOutcome.{ChangeDone, ChangeWishes, IsClashFound, IsClashOfChange, change_members, change_or_refusal, change_with_members, file_change, name_at_place, touched_paths, unless_clash, unless_contested, unless_reserved_path, unless_too_large}
+use Rattle.outcome.specs.change_outcome.ChangeOutcome.{ChangeDone, ChangeWishes, IsClashFound, IsClashOfChange, change_members, change_or_refusal, change_with_members, file_change, member_name_at_place, touched_paths, unless_clash, unless_contested, unless_reserved_path, unless_too_large}
 use Rattle.outcome.specs.change_outcome.MembersAfter.{MemberFound}
 use Rattle.outcome.specs.change_outcome.PackageFiles.{has_script_of}
 use Rattle.report_core.specs.Numbers.{TRIGGER_SCRIPT}
-use Rattle.outcome.specs.change_outcome.Triggers.{folders_of_paths, has_due_trigger, is_due, is_folder_matched, is_watched, patterns_of, unless_trigger}
+use Rattle.outcome.specs.change_outcome.Triggers.{folders_of_paths, has_due_trigger, is_trigger_due, is_folder_matched, watches_folder, patterns_of, unless_trigger_due}
 use Rattle.outcome.specs.db_core.Members.{Member, member_name}
-use Rattle.outcome.specs.file_owners.Owners.{contested_of}
+use Rattle.outcome.specs.file_owners.Owners.{first_contested_path_of_members}
 use Rattle.outcome.specs.make_info.Reads.{Reads}
 use Rattle.outcome.specs.package_files.Folders.{folder_of}
 use Rattle.outcome.specs.package_changes.Changes.{Replacement}
@@ -36,23 +36,23 @@ is_due_where : (change : FileChange) (files : Files) (pkg : Plain) → has_scrip
 is_due_where change files pkg has watched =
     let folders : List (List ℕ) = map folder_of (touched_paths change files) in
     let folder : List ℕ = folder_of watched.path in
-    in_any (is_due pkg) (folders_of_paths (touched_paths change files)) folder
+    in_any (is_trigger_due pkg) (folders_of_paths (touched_paths change files)) folder
     (name_in folder (folders_of_paths (touched_paths change files)) (in_order folder folders (in_mapped folder_of (touched_paths change files) watched.path watched.touched)))
-    (and_from (has_script_of pkg TRIGGER_SCRIPT) (is_watched pkg folder) has (in_any (is_folder_matched folder) (patterns_of pkg) watched.pattern watched.is_pattern watched.matched))
+    (and_from (has_script_of pkg TRIGGER_SCRIPT) (watches_folder pkg folder) has (in_any (is_folder_matched folder) (patterns_of pkg) watched.pattern watched.is_pattern watched.matched))
 
-none_due : (paths : List (List ℕ)) (members : List Member) (is_allowed : Bool) → unless_trigger false paths members ≡ Ok is_allowed → (m : Member) → IsIn m members → has_due_trigger (folders_of_paths paths) m.pkg ≡ true → ⊥
+none_due : (paths : List (List ℕ)) (members : List Member) (is_allowed : Bool) → unless_trigger_due false paths members ≡ Ok is_allowed → (m : Member) → IsIn m members → has_due_trigger (folders_of_paths paths) m.pkg ≡ true → ⊥
 none_due paths [] is_allowed e m here due = here
 none_due paths (n ∷ members) is_allowed e m here due = by_test (has_due_trigger (folders_of_paths paths) n.pkg) refl e here (λ rest more. none_due paths members is_allowed rest m more due)
   where
-    by_test : (b : Bool) → has_due_trigger (folders_of_paths paths) n.pkg ≡ b → kept_test (if b then Err (TriggerNeeded (member_name n)) else unless_trigger false paths members) ≡ Ok is_allowed → IsIn m (n ∷ members)
-        → (unless_trigger false paths members ≡ Ok is_allowed → IsIn m members → ⊥) → ⊥
+    by_test : (b : Bool) → has_due_trigger (folders_of_paths paths) n.pkg ≡ b → kept_test (if b then Err (TriggerNeeded (member_name n)) else unless_trigger_due false paths members) ≡ Ok is_allowed → IsIn m (n ∷ members)
+        → (unless_trigger_due false paths members ≡ Ok is_allowed → IsIn m members → ⊥) → ⊥
     by_test true is e here rest = cc (e)
     by_test false is e (inl same) rest = true≢false (sym due ∙ (ap (λ (k : Member). has_due_trigger (folders_of_paths paths) k.pkg) same ∙ is))
     by_test false is e (inr more) rest = rest e more
 
-no_trigger : (wishes : ChangeWishes) (change : FileChange) (files : Files) (is_allowed : Bool) → unless_trigger wishes.no_scripts (touched_paths change files) change.members ≡ Ok is_allowed → HasNoTrigger wishes change files
+no_trigger : (wishes : ChangeWishes) (change : FileChange) (files : Files) (is_allowed : Bool) → unless_trigger_due wishes.no_scripts (touched_paths change files) change.members ≡ Ok is_allowed → HasNoTrigger wishes change files
 no_trigger wishes change files is_allowed e asked m here has watched =
-    none_due (touched_paths change files) change.members is_allowed (ap (λ b. unless_trigger b (touched_paths change files) change.members) (sym asked) ∙ e) m here
+    none_due (touched_paths change files) change.members is_allowed (ap (λ b. unless_trigger_due b (touched_paths change files) change.members) (sym asked) ∙ e) m here
     (is_due_where change files m.pkg has watched)
 
 -- ---- a change
@@ -65,61 +65,61 @@ module _ (inputs : Inputs) (r : Replacement) (wishes : ChangeWishes) (files : Fi
   IsSo refusal = HasPassedBefore wishes change files refusal
 
   abbrev with_triggers : Result ChangeDone Refusal
-  with_triggers = and_then (unless_trigger wishes.no_scripts (touched_paths change files) change.members) (λ is_allowed. unless_too_large inputs r wishes found files)
+  with_triggers = and_then (unless_trigger_due wishes.no_scripts (touched_paths change files) change.members) (λ is_allowed. unless_too_large inputs r wishes found files)
 
   -- ---- refused
 
-  trigger_passed : (no_scripts : Bool) (refusal : Refusal) → PassesFileTests change files → unless_trigger no_scripts (touched_paths change files) change.members ≡ Err refusal → IsSo refusal
+  trigger_passed : (no_scripts : Bool) (refusal : Refusal) → PassesFileTests change files → unless_trigger_due no_scripts (touched_paths change files) change.members ≡ Err refusal → IsSo refusal
   trigger_passed true refusal owners e = absurd (none change.members e)
     where
-      none : (members : List Member) → unless_trigger true (touched_paths change files) members ≡ Err refusal → ⊥
+      none : (members : List Member) → unless_trigger_due true (touched_paths change files) members ≡ Err refusal → ⊥
       none [] e = cc (e)
       none (m ∷ members) e = cc (e)
   trigger_passed false refusal owners e = let due = trigger_of (touched_paths change files) change.members refusal e in subst IsSo due.3 owners
 
   triggers_passed : (refusal : Refusal) → PassesFileTests change files → with_triggers ≡ Err refusal → IsSo refusal
   triggers_passed refusal owners e =
-      elim (and_then_err (unless_trigger wishes.no_scripts (touched_paths change files) change.members) (λ is_allowed. unless_too_large inputs r wishes found files) refusal e) [
+      elim (and_then_err (unless_trigger_due wishes.no_scripts (touched_paths change files) change.members) (λ is_allowed. unless_too_large inputs r wishes found files) refusal e) [
         | inl first ↦ trigger_passed wishes.no_scripts refusal owners first
         | inr next ↦ (let told = large_told inputs r wishes files found refusal next.2 in
             subst IsSo told.2 (owners, no_trigger wishes change files next.0 next.1))
       ]
 
-  owners_passed : (o : Option ContestedPath) (refusal : Refusal) → contested_of change.members ≡ o → PassesNameTests change files → unless_contested change.members o with_triggers ≡ Err refusal → IsSo refusal
+  owners_passed : (o : Option ContestedPath) (refusal : Refusal) → first_contested_path_of_members change.members ≡ o → PassesNameTests change files → unless_contested change.members o with_triggers ≡ Err refusal → IsSo refusal
   owners_passed None refusal is names e = triggers_passed refusal (names, have_owners change.members is) e
   owners_passed (Some c) refusal is names e =
-      let same : Owned c.path (name_at_place change.members c.rivals.first) (name_at_place change.members c.rivals.second) ≡ refusal = cc in
+      let same : Owned c.path (member_name_at_place change.members c.rivals.first) (member_name_at_place change.members c.rivals.second) ≡ refusal = cc in
       subst IsSo same names
 
   clash_passed : (o : Option NamePair) (refusal : Refusal) → IsClashFound inputs wishes files (Ok found) o → AreAddedPathsUnreserved change.members
-      → unless_clash o (unless_contested change.members (contested_of change.members) with_triggers) ≡ Err refusal → IsSo refusal
-  clash_passed None refusal is free e = owners_passed (contested_of change.members) refusal refl (free, is) e
+      → unless_clash o (unless_contested change.members (first_contested_path_of_members change.members) with_triggers) ≡ Err refusal → IsSo refusal
+  clash_passed None refusal is free e = owners_passed (first_contested_path_of_members change.members) refusal refl (free, is) e
   clash_passed (Some pair) refusal is free e = let same : PathClash pair.path pair.other ≡ refusal = cc in subst IsSo same free
 
   pub files_passed : (clash : Option NamePair) (refusal : Refusal) → IsClashFound inputs wishes files (Ok found) clash → change_with_members inputs r wishes clash files found ≡ Err refusal → HasPassedBefore wishes (file_change inputs wishes found) files refusal
-  files_passed clash refusal is e = by_path (first_reserved change.members) refl e
+  files_passed clash refusal is e = by_path (first_reserved_path change.members) refl e
     where
-      by_path : (o : Option (List ℕ)) → first_reserved change.members ≡ o → unless_reserved_path o (unless_clash clash (unless_contested change.members (contested_of change.members) with_triggers)) ≡ Err refusal → IsSo refusal
+      by_path : (o : Option (List ℕ)) → first_reserved_path change.members ≡ o → unless_reserved_path o (unless_clash clash (unless_contested change.members (first_contested_path_of_members change.members) with_triggers)) ≡ Err refusal → IsSo refusal
       by_path None none e = clash_passed clash refusal is (are_unreserved change.members none) e
       by_path (Some path) first e = let same : Reserved path ≡ refusal = cc in subst IsSo same tt
 
   -- ---- made
 
-  owners_made : (o : Option ContestedPath) (done : ChangeDone) → contested_of change.members ≡ o → PassesNameTests change files → unless_contested change.members o with_triggers ≡ Ok done → PassesChangeTests wishes change files
+  owners_made : (o : Option ContestedPath) (done : ChangeDone) → first_contested_path_of_members change.members ≡ o → PassesNameTests change files → unless_contested change.members o with_triggers ≡ Ok done → PassesChangeTests wishes change files
   owners_made None done is names e =
-      let triggers = and_then_ok (unless_trigger wishes.no_scripts (touched_paths change files) change.members) (λ is_allowed. unless_too_large inputs r wishes found files) done e in
+      let triggers = and_then_ok (unless_trigger_due wishes.no_scripts (touched_paths change files) change.members) (λ is_allowed. unless_too_large inputs r wishes found files) done e in
       ((names, have_owners change.members is), no_trigger wishes change files triggers.0 triggers.1)
   owners_made (Some c) done is names e = absurd (cc (e))
 
   clash_made : (o : Option NamePair) (done : ChangeDone) → IsClashFound inputs wishes files (Ok found) o → AreAddedPathsUnreserved change.members
-      → unless_clash o (unless_contested change.members (contested_of change.members) with_triggers) ≡ Ok done → PassesChangeTests wishes change files
-  clash_made None done is free e = owners_made (contested_of change.members) done refl (free, is) e
+      → unless_clash o (unless_contested change.members (first_contested_path_of_members change.members) with_triggers) ≡ Ok done → PassesChangeTests wishes change files
+  clash_made None done is free e = owners_made (first_contested_path_of_members change.members) done refl (free, is) e
   clash_made (Some pair) done is free e = absurd (cc (e))
 
   pub files_made : (clash : Option NamePair) (done : ChangeDone) → IsClashFound inputs wishes files (Ok found) clash → change_with_members inputs r wishes clash files found ≡ Ok done → PassesChangeTests wishes (file_change inputs wishes found) files
-  files_made clash done is e = by_path (first_reserved change.members) refl e
+  files_made clash done is e = by_path (first_reserved_path change.members) refl e
     where
-      by_path : (o : Option (List ℕ)) → first_reserved change.members ≡ o → unless_reserved_path o (unless_clash clash (unless_contested change.members (contested_of change.members) with_triggers)) ≡ Ok done → PassesChangeTests wishes change files
+      by_path : (o : Option (List ℕ)) → first_reserved_path change.members ≡ o → unless_reserved_path o (unless_clash clash (unless_contested change.members (first_contested_path_of_members change.members) with_triggers)) ≡ Ok done → PassesChangeTests wishes change files
       by_path None none e = clash_made clash done is (are_unreserved change.members none) e
       by_path (Some path) first e = absurd (cc (e))
 

@@ -7,7 +7,7 @@ use Rattle.outcome.specs.change_outcome.ChangeOutcome.{ChangeWishes}
 use Rattle.outcome.specs.change_outcome.MembersAfter.{MemberFound}
 use Rattle.command_core.specs.Command.{CommandLine}
 use Rattle.outcome.specs.make_info.Reads.{Reads}
-use Rattle.outcome.specs.path_claims.Contest.{first_unbeaten, rivals_of, winner}
+use Rattle.outcome.specs.path_claims.Contest.{first_with_unbeaten_rival, rivals_of, winner}
 use Rattle.report_core.specs.declared.refusal.Refusal.TheVariants.{NoDatabase, Unsatisfied}
 use Rattle.refusal_laws.specs.ChangeFaults.{IsFaultOfFiles}
 use Rattle.refusal_laws.specs.InputFaults.{HasNoDatabase, IsFaultOfInput}
@@ -22,13 +22,13 @@ unfolding beats winner
 none_wins = refl
 
 -- so these two are told, though the second takes over the files of the first
-two_are_told : first_unbeaten beats (0 ∷ 1 ∷ 2 ∷ []) ≡ Some (rivals_of 0 1)
-unfolding beats first_unbeaten
+two_are_told : first_with_unbeaten_rival beats (0 ∷ 1 ∷ 2 ∷ []) ≡ Some (rivals_of 0 1)
+unfolding beats first_with_unbeaten_rival
 two_are_told = refl
 
 -- of two members that beat each other in no way, both are told
-both_are_told : first_unbeaten beats (0 ∷ 2 ∷ []) ≡ Some (rivals_of 0 2)
-unfolding beats first_unbeaten
+both_are_told : first_with_unbeaten_rival beats (0 ∷ 2 ∷ []) ≡ Some (rivals_of 0 2)
+unfolding beats first_with_unbeaten_rival
 both_are_told = refl
 
 -- ---- a refusal of one kind is no fault of another

@@ -8,7 +8,7 @@ use Rattle.outcome.specs.change_outcome.PackageFiles.{AddedPackage, package_file
 use Rattle.dep_core.specs.Repositories.{Repository}
 use Rattle.outcome.specs.file_owners.Replaces.{version_text}
 use Rattle.outcome.specs.make_info.Reads.{Reads}
-use Rattle.outcome.specs.package_changes.Changes.{Replacement, change_of_name, is_selected_named, names_on_both_sides, selected_version}
+use Rattle.outcome.specs.package_changes.Changes.{Replacement, change_of_name, is_selected_named, names_before_and_selected, selected_version}
 use Rattle.outcome.specs.pkg_core.Whole.{package_fault}
 use Rattle.outcome.specs.candidate_core.Candidates.{Candidate, is_same_id}
 use Rattle.report_core.specs.Reports.{Change}
@@ -34,7 +34,7 @@ pub record IsReadFor (inputs : Inputs) (r : Replacement) (read : Reads) (name ve
   pub change : Change
   pub becomes : change_of_name r name ≡ Some change
   pub place : ℕ
-  pub is_place : slice_get (names_on_both_sides r) place ≡ Some name
+  pub is_place : slice_get (names_before_and_selected r) place ≡ Some name
   pub is_file : package_file_read read (first_index_read + length inputs.root.repositories + place)
       inputs.root.repositories candidate ≡ file
 

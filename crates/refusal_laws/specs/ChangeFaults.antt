@@ -17,7 +17,7 @@ use Rattle.report_core.specs.Numbers.{TRIGGER_SCRIPT}
 use Rattle.outcome.specs.change_outcome.Triggers.{is_folder_matched, patterns_of}
 use Rattle.outcome.specs.db_core.Members.{Listing, Member, member_listings, member_name}
 use Rattle.outcome.specs.db_write.NewDatabase.{database_of, database_value}
-use Rattle.outcome.specs.file_owners.Owners.{owned_of, owner_of_path}
+use Rattle.outcome.specs.file_owners.Owners.{owned_flags_of, owner_of_path}
 use Rattle.outcome.specs.file_owners.Replaces.{takes_over}
 use Rattle.outcome.specs.journal_intent.IntentValue.{value_of_intent}
 use Rattle.base_core.specs.ByteOrder.{precedes}
@@ -92,13 +92,13 @@ IsTooLarge v bytes values =
 -- what is written of the database after the change exceeds a limit
 abbrev pub IsDatabaseTooLarge : List Member → ℕ → ℕ → Type 0
 IsDatabaseTooLarge members bytes values =
-    IsTooLarge (database_value members (owned_of members)) bytes values
+    IsTooLarge (database_value members (owned_flags_of members)) bytes values
 
 -- what is written of the database fits the limits, and what is written of the change's intent does not
 pub record IsIntentTooLarge (inputs : Inputs) (change : FileChange) (files : Files)
     (bytes values : ℕ) : Type 0 where
   pub database : List ℕ
-  pub fits : database_of change.members (owned_of change.members) ≡ Ok database
+  pub fits : database_of change.members (owned_flags_of change.members) ≡ Ok database
   pub passes : (let actions = actions_of inputs change files (new_records inputs database) in
       IsTooLarge (value_of_intent actions) bytes values)
 

@@ -10,7 +10,7 @@ use Rattle.command_core.specs.declared.command.Applet.TheVariants.{Del, Fix, Upg
 use Rattle.command_core.specs.declared.operands.Operand.{Operand}
 use Rattle.dep_core.specs.World.{has_name}
 use Rattle.outcome.specs.engine_core.Changed.{Selected, selected_for}
-use Rattle.outcome.specs.engine_core.Selecting.{pool_by}
+use Rattle.outcome.specs.engine_core.Selecting.{pool_of_inputs}
 use Rattle.outcome.specs.engine_core.Wishes.{is_installed_name, wishes_of}
 use Rattle.outcome.specs.make_info.Reads.{Reads}
 use Rattle.outcome.specs.candidate_core.Rank.{SealedPool}
@@ -18,7 +18,7 @@ use Rattle.report_core.specs.declared.refusal.Refusal.{Refusal}
 use Rattle.report_core.specs.declared.refusal.Refusal.TheVariants.{NotInstalled, TooMany, Unsatisfied}
 use Rattle.outcome.specs.search_tables.Selection.{IsSatisfying}
 use Rattle.refusal_laws.specs.ChangeFaults.{IsFaultOfChange}
-use Rattle.refusal_laws.specs.InputFaults.{AreTooMany, IsFaultOfInput}
+use Rattle.refusal_laws.specs.InputFaults.{AreTooManyCandidates, IsFaultOfInput}
 
 -- ---- a selection
 
@@ -41,12 +41,12 @@ pub record IsUnknownOperand (command : CommandLine) (inputs : Inputs) (place : �
 -- no selection of the candidates satisfies the new world
 pub record IsUnsatisfied (command : CommandLine) (inputs : Inputs) : Type 0 where
   pub pool : SealedPool
-  pub is_pool : pool_by command inputs ≡ Ok pool
+  pub is_pool : pool_of_inputs command inputs ≡ Ok pool
   pub none : (selection : List ℕ) → IsSatisfying pool selection → ⊥
 
 -- a refusal is true that follows the reading of the root and precedes the packages' files
 abbrev pub IsFaultOfSelection : CommandLine → Inputs → Refusal → Type 0
-IsFaultOfSelection command inputs (TooMany count) = AreTooMany inputs count
+IsFaultOfSelection command inputs (TooMany count) = AreTooManyCandidates inputs count
 IsFaultOfSelection command inputs (NotInstalled place) = IsUnknownOperand command inputs place
 IsFaultOfSelection command inputs Unsatisfied = IsUnsatisfied command inputs
 IsFaultOfSelection command inputs other = ⊥

@@ -29,14 +29,14 @@ IsFaultOfDatabase command read other = ⊥
 
 -- a text asks for this package: with `--who-owns` it lists the path, of which one leading `/` is
 -- dropped; otherwise it has the name
-abbrev pub IsAskedFor : Bool → List ℕ → Plain → Type 0
-IsAskedFor true path pkg = IsIn (without_slash path) (paths_in pkg)
-IsAskedFor false name pkg = package_name pkg ≡ name
+abbrev pub IsPackageAskedFor : Bool → List ℕ → Plain → Type 0
+IsPackageAskedFor true path pkg = IsIn (without_slash path) (paths_in pkg)
+IsPackageAskedFor false name pkg = package_name pkg ≡ name
 
 -- what a text asks for is installed
 abbrev pub IsFoundInstalled : CommandLine → List Plain → List ℕ → Type 0
 IsFoundInstalled command packages text =
-    (pkg : Plain) × IsIn pkg packages × IsAskedFor command.flags.who_owns text pkg
+    (pkg : Plain) × IsIn pkg packages × IsPackageAskedFor command.flags.who_owns text pkg
 
 -- what each of some operands asks for is installed
 abbrev pub AreFoundInstalled : CommandLine → List Plain → List Operand → Type 0

@@ -6,7 +6,7 @@ use Rattle.adb_view.specs.declared.tables.Which.TheVariants.{Idb, Index}
 use Rattle.base_core.specs.declared.cause.Cause.{Cause}
 use Rattle.outcome.specs.change_inputs.Candidates.{candidates_of}
 use Rattle.outcome.specs.change_inputs.Inputs.{Inputs, database_read, first_index_read, repositories_read, text_database_read, world_read}
-use Rattle.outcome.specs.change_inputs.World.{text_found}
+use Rattle.outcome.specs.change_inputs.World.{found_text_or_empty}
 use Rattle.command_core.specs.Command.{CommandLine}
 use Rattle.dep_core.specs.Repositories.{Repository, repositories_of}
 use Rattle.dep_core.specs.World.{world_of}
@@ -44,7 +44,7 @@ pub record IsTextRefused (read : Reads) (fault : V2Fault) : Type 0 where
 
 -- the text of the list of repositories as it is read: empty if the file is absent
 abbrev pub repositories_found : Reads → List ℕ
-repositories_found read = text_found (read repositories_read repositories_name)
+repositories_found read = found_text_or_empty (read repositories_read repositories_name)
 
 -- the list names a repository, and reading unsigned ones is not allowed
 pub record IsUntrusted (command : CommandLine) (read : Reads) : Type 0 where
@@ -80,7 +80,7 @@ IsFaultOfInput command read (DatabaseBad cause) =
 IsFaultOfInput command read (ResultTooLarge bytes values) =
     IsTextRefused read (TooLarge bytes values)
 IsFaultOfInput command read (WorldBad line) =
-    world_of (text_found (read world_read world_name)) ≡ Err line
+    world_of (found_text_or_empty (read world_read world_name)) ≡ Err line
 IsFaultOfInput command read (RepositoriesBad line) =
     repositories_of (repositories_found read) ≡ Err line
 IsFaultOfInput command read Untrusted = IsUntrusted command read
@@ -91,6 +91,6 @@ IsFaultOfInput command read other = ⊥
 -- ---- too many
 
 -- there are more candidates than are allowed, and the refusal reports one more than that limit
-pub record AreTooMany (inputs : Inputs) (count : ℕ) : Type 0 where
+pub record AreTooManyCandidates (inputs : Inputs) (count : ℕ) : Type 0 where
   pub more : MOST_CANDIDATES < length (candidates_of inputs)
   pub told : count ≡ MOST_CANDIDATES + 1

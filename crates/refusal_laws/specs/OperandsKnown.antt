@@ -5,15 +5,15 @@ use Rattle.outcome.specs.adb_fields.FirstPair.{IsIn}
 use Rattle.outcome.specs.change_inputs.Inputs.{Inputs}
 use Rattle.command_core.specs.Command.{CommandLine}
 use Rattle.command_core.specs.declared.operands.Operand.{Operand}
-use Rattle.outcome.specs.engine_core.Selecting.{pool_by}
+use Rattle.outcome.specs.engine_core.Selecting.{pool_of_inputs}
 use Rattle.outcome.specs.candidate_core.Rank.{SealedPool}
 use Rattle.report_core.specs.declared.refusal.Refusal.{Refusal}
 use Rattle.report_core.specs.declared.refusal.Refusal.TheVariants.{NotInstalled, Unsatisfied}
 use Rattle.refusal_laws.specs.CommandFaults.{IsUnknownTo}
 
 -- none of these operands is a name that the command does not know
-abbrev pub AreKnown : CommandLine → Inputs → List Operand → Type 0
-AreKnown command inputs operands =
+abbrev pub AreKnownOperands : CommandLine → Inputs → List Operand → Type 0
+AreKnownOperands command inputs operands =
     (o : Operand) → IsIn o operands → IsUnknownTo command.applet inputs o.text → ⊥
 
 -- the operand at this place is the first that the command does not know: each before it is known
@@ -23,11 +23,11 @@ pub record IsFirstUnknown (command : CommandLine) (inputs : Inputs) (place : ℕ
   pub after : List Operand
   pub are : command.operands ≡ before ++ operand ∷ after
   pub at : operand.place ≡ place
-  pub known : AreKnown command inputs before
+  pub known : AreKnownOperands command inputs before
 
 -- the candidates of a command are not too many
 abbrev pub HasPool : CommandLine → Inputs → Type 0
-HasPool command inputs = (pool : SealedPool) × (pool_by command inputs ≡ Ok pool)
+HasPool command inputs = (pool : SealedPool) × (pool_of_inputs command inputs ≡ Ok pool)
 
 -- what is tested before this refusal of a selection: first the candidates are counted, then the
 -- operands are tested in their order, and last a selection is searched for
@@ -35,5 +35,5 @@ abbrev pub HasPassedBeforeSelection : CommandLine → Inputs → Refusal → Typ
 HasPassedBeforeSelection command inputs (NotInstalled place) =
     HasPool command inputs × IsFirstUnknown command inputs place
 HasPassedBeforeSelection command inputs Unsatisfied =
-    HasPool command inputs × AreKnown command inputs command.operands
+    HasPool command inputs × AreKnownOperands command inputs command.operands
 HasPassedBeforeSelection command inputs other = Unit {0}

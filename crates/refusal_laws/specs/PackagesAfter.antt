@@ -10,7 +10,7 @@ use Rattle.outcome.specs.change_outcome.PackageFiles.{AddedPackage}
 use Rattle.outcome.specs.db_core.Members.{AreInOrder, member_name}
 use Rattle.outcome.specs.db_core.Packages.{is_package_named}
 use Rattle.outcome.specs.make_info.Reads.{Reads}
-use Rattle.outcome.specs.package_changes.Changes.{Replacement, change_of_name, is_same_selected}
+use Rattle.outcome.specs.package_changes.Changes.{Replacement, change_of_name, is_candidate_this_package}
 use Rattle.outcome.specs.candidate_core.Candidates.{Candidate}
 use Rattle.refusal_laws.specs.AddedPackages.{IsAddedAsSelected, selected_of_name}
 
@@ -20,7 +20,7 @@ pub record IsUnchanged (r : Replacement) (name : List ℕ) (c : Candidate) (f : 
     Type 0 where
   pub pkg : Plain
   pub before : find (is_package_named name) r.before ≡ Some pkg
-  pub same : is_same_selected pkg c ≡ true
+  pub same : is_candidate_this_package pkg c ≡ true
   pub becomes : change_of_name r name ≡ None
   pub is : f ≡ kept_member_found pkg
 

@@ -4,7 +4,7 @@ use Rattle.std.specs.Prelude.{◌≡◌, ◌<◌, ℕ, true, List, None, Ok}
 use Rattle.base_core.specs.declared.cause.Cause.{Cause}
 use Rattle.outcome.specs.change_inputs.Database.{Database}
 use Rattle.outcome.specs.change_inputs.Inputs.{database_for, world_read}
-use Rattle.outcome.specs.change_inputs.World.{root_world, text_found}
+use Rattle.outcome.specs.change_inputs.World.{root_world, found_text_or_empty}
 use Rattle.command_core.specs.Command.{CommandLine}
 use Rattle.dep_core.specs.Dependency.{Dependency}
 use Rattle.dep_core.specs.Repositories.{Repository, repositories_of}
@@ -22,7 +22,7 @@ HasDatabase command read = (database : Database) × (database_for command read �
 -- no line of world is bad
 abbrev pub HasWorld : Reads → Type 0
 HasWorld read =
-    (world : List Dependency) × (root_world (text_found (read world_read world_name)) ≡ Ok world)
+    (world : List Dependency) × (root_world (found_text_or_empty (read world_read world_name)) ≡ Ok world)
 
 -- no line of the list of repositories is bad
 abbrev pub HasRepositories : Reads → Type 0
@@ -48,8 +48,8 @@ abbrev pub HasIndexes : Reads → Type 0
 HasIndexes read = (number : ℕ) → IsIndexRead read number None → ⊥
 
 -- the index of each repository with a lesser number passes all tests
-abbrev pub ArePassedBefore : Reads → ℕ → Type 0
-ArePassedBefore read number =
+abbrev pub AreEarlierIndexesSound : Reads → ℕ → Type 0
+AreEarlierIndexesSound read number =
     (earlier : ℕ) (cause : Cause) → earlier < number → IsIndexBad read earlier cause → ⊥
 
 -- What is read before this refusal of the input: first the database, then world, then the repositories,
@@ -62,5 +62,5 @@ HasReadBefore command read Untrusted = HasDatabaseAndWorld command read
 HasReadBefore command read (IndexMissing number) =
     AllowsUntrusted command read × HasIndexesBefore read number
 HasReadBefore command read (IndexBad number cause) =
-    AllowsUntrusted command read × HasIndexes read × ArePassedBefore read number
+    AllowsUntrusted command read × HasIndexes read × AreEarlierIndexesSound read number
 HasReadBefore command read other = Unit {0}

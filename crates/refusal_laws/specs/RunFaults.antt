@@ -5,7 +5,7 @@ use Rattle.base_core.specs.Files.{Files}
 use Rattle.base_core.specs.declared.cause.Cause.{Cause}
 use Rattle.command_core.specs.Command.{CommandLine}
 use Rattle.outcome.specs.engine_core.Choice.{IsChoiceFrom}
-use Rattle.outcome.specs.engine_core.Selecting.{pool_for}
+use Rattle.outcome.specs.engine_core.Selecting.{pool_of_command}
 use Rattle.outcome.specs.journal_core.Recovery.{intent_name}
 use Rattle.outcome.specs.journal_core.Staged.{unstaged_files}
 use Rattle.outcome.specs.Commands.{reads_in}
@@ -16,9 +16,9 @@ use Rattle.refusal_laws.specs.CommandFaults.{IsFaultOfCommand}
 
 -- a refusal is true of the command over the files on which it works, with the candidates that are to be
 -- chosen
-pub record IsFaultOver (command : CommandLine) (files : Files) (refusal : Refusal) : Type 0 where
+pub record IsFaultOfCommandOver (command : CommandLine) (files : Files) (refusal : Refusal) : Type 0 where
   pub chosen : Option (List ℕ)
-  pub choice : IsChoiceFrom (pool_for command (reads_in files)) chosen
+  pub choice : IsChoiceFrom (pool_of_command command (reads_in files)) chosen
   pub fault : IsFaultOfCommand command (reads_in files) files chosen refusal
 
 -- the intent of an interrupted change fails this test first, and that is reported
@@ -33,4 +33,4 @@ abbrev pub IsFaultOfRun : CommandLine → Files → Refusal → Type 0
 IsFaultOfRun command files refusal =
     IsIntentRefusal files refusal
     ⊎ ((fault_of_intent (files intent_name) ≡ None)
-    × IsFaultOver command (unstaged_files files) refusal)
+    × IsFaultOfCommandOver command (unstaged_files files) refusal)

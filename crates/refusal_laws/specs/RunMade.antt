@@ -6,7 +6,7 @@ use Rattle.outcome.specs.change_outcome.ChangeOutcome.{change_members, file_chan
 use Rattle.outcome.specs.change_outcome.MembersAfter.{MemberFound}
 use Rattle.command_core.specs.Command.{CommandLine}
 use Rattle.outcome.specs.engine_core.Changed.{Selected, selected_for}
-use Rattle.outcome.specs.engine_core.Selecting.{pool_for}
+use Rattle.outcome.specs.engine_core.Selecting.{pool_of_command}
 use Rattle.outcome.specs.engine_core.Wishes.{wishes_of}
 use Rattle.outcome.specs.Commands.{reads_in}
 use Rattle.outcome.specs.package_changes.Placed.{candidates_at}
@@ -19,7 +19,7 @@ use Rattle.refusal_laws.specs.TestsPassed.{PassesChangeTests}
 -- those, and the files that they leave have no fault
 pub record HasFirstSelection (command : CommandLine) (files : Files) : Type 0 where
   pub pool : SealedPool
-  pub is_pool : pool_for command (reads_in files) ≡ Ok pool
+  pub is_pool : pool_of_command command (reads_in files) ≡ Ok pool
   pub trace : List ℕ
   pub first : IsFirstSelection pool trace
   pub selected : Selected

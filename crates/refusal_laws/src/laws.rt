@@ -10,12 +10,12 @@ ghost use Rattle.outcome.specs.change_outcome.MembersAfter.{MemberFound};
 ghost use Rattle.command_core.specs.Command.{CommandLine};
 ghost use Rattle.outcome.specs.engine_core.Changed.{IsClashFor, change_of_command, selected_of_inputs};
 ghost use Rattle.outcome.specs.engine_core.Choice.{IsChoiceFrom};
-ghost use Rattle.outcome.specs.engine_core.Selecting.{pool_for};
+ghost use Rattle.outcome.specs.engine_core.Selecting.{pool_of_command};
 ghost use Rattle.outcome.specs.installed_info.declared.telling.ReportAndRefusal.{ReportAndRefusal};
 ghost use Rattle.outcome.specs.make_info.Reads.{Reads};
 ghost use Rattle.outcome.specs.make_info.declared.fault.MakeFault.TheVariants.{TooLarge};
 ghost use Rattle.outcome.specs.make_package.Making.{made_package};
-ghost use Rattle.outcome.specs.Commands.{IsOutcomeOn};
+ghost use Rattle.outcome.specs.Commands.{IsOutcomeAfterRecovery};
 ghost use Rattle.outcome.specs.Effect.{Changes, effect_of};
 ghost use Rattle.outcome.specs.Outcome.{Outcome};
 ghost use Rattle.outcome.specs.Words.{IsOutcome};
@@ -32,7 +32,7 @@ ghost use Rattle.refusal_laws.specs.OperandsKnown.{HasPassedBeforeSelection};
 ghost use Rattle.refusal_laws.specs.PackagesAfter.{AreSelectedOnes};
 ghost use Rattle.refusal_laws.specs.QueryFaults.{IsFaultOfQuery};
 ghost use Rattle.refusal_laws.specs.ReadBefore.{HasReadBefore};
-ghost use Rattle.refusal_laws.specs.RunFaults.{IsFaultOfRun, IsFaultOver};
+ghost use Rattle.refusal_laws.specs.RunFaults.{IsFaultOfRun, IsFaultOfCommandOver};
 ghost use Rattle.refusal_laws.specs.RunMade.{HasFirstSelection};
 ghost use Rattle.refusal_laws.specs.TestsPassed.{HasPassedBefore, PassesChangeTests};
 ghost use Rattle.outcome.specs.tell_core.AuditResult.{audit_result, manifest_result};
@@ -107,8 +107,8 @@ pub fn a_refused_change_has_its_fault()
 pub fn a_refused_run_has_its_fault()
     // Of a command over the files on which it works.
     ensures over { (command : CommandLine) (files : Files) (o : Outcome) (refusal : Refusal)
-        → effect_of command.applet ≡ Changes → IsOutcomeOn command files o
-        → o.refusal ≡ Some refusal → IsFaultOver command files refusal }
+        → effect_of command.applet ≡ Changes → IsOutcomeAfterRecovery command files o
+        → o.refusal ≡ Some refusal → IsFaultOfCommandOver command files refusal }
     // Of a run, over the files in which it begins.
     ensures words { (words : List (List ℕ)) (command : CommandLine) (files : Files) (o : Outcome)
         (refusal : Refusal) → command_of words ≡ Ok command
@@ -124,7 +124,7 @@ pub fn a_refused_command_has_its_fault()
     ensures { (command : CommandLine) (read : Reads) (files : Files) (chosen : Option (List ℕ))
         (clash : Option NamePair) (refusal : Refusal)
         → change_of_command command read files chosen clash ≡ Err refusal
-        → IsChoiceFrom (pool_for command read) chosen
+        → IsChoiceFrom (pool_of_command command read) chosen
         → IsClashFor command read files chosen clash
         → IsFaultOfCommand command read files chosen refusal }
 {}
@@ -189,7 +189,7 @@ pub fn the_packages_after_a_change_are_the_selected_ones()
 /// selection (the preferred solution).
 pub fn the_packages_after_a_run_are_those_of_the_first_selection()
     ensures { (command : CommandLine) (files : Files) (o : Outcome)
-        → effect_of command.applet ≡ Changes → IsOutcomeOn command files o → o.refusal ≡ None
+        → effect_of command.applet ≡ Changes → IsOutcomeAfterRecovery command files o → o.refusal ≡ None
         → command.flags.simulate ≡ false → HasFirstSelection command files }
 {
     a_change_takes_the_first_selection_or_is_refused();

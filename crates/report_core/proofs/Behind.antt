@@ -5,9 +5,9 @@ use Rattle.base_core.specs.Sink.{Adds, SinkChange}
 use Rattle.base_core.specs.Write.{Writes}
 use Rattle.base_core.proofs.Counting.{goes_on_twice, no_fault_twice}
 use Rattle.base_core.proofs.Added.{Adds-more}
-use Rattle.report_core.specs.Texts.{package_text}
+use Rattle.report_core.specs.Texts.{package_refusal_text}
 use Rattle.report_core.proofs.Counting.{fails_after}
-use Rattle.report_core.proofs.Fronts.{AddsSome-grows, AddsSome-after}
+use Rattle.report_core.proofs.Fronts.{AddsPrefix-grows, AddsPrefix-after}
 
 -- what a sink makes of a call, from one moment to another
 abbrev pub Between : Option (List ℕ) → Counts → Option (List ℕ) → Counts → SinkChange
@@ -33,11 +33,11 @@ written_behind a b t0 t1 t2 c0 c1 c2 (Ok x) h k = record {
   err = tt;
   cause = record { goes_on = goes_on_twice c0 c1 c2 h.goes_on k.cause.goes_on; cause = tt; kept = no_fault_twice c0 c1 c2 h.kept k.cause.kept; proper = k.cause.proper ∙ h.proper };
 }
-written_behind a b t0 t1 t2 c0 c1 c2 (Err e) h k = record { ok = tt; err = AddsSome-after t0 t1 t2 a b h.added k.err; cause = fails_after c0 c1 c2 e h.goes_on h.proper k.cause }
+written_behind a b t0 t1 t2 c0 c1 c2 (Err e) h k = record { ok = tt; err = AddsPrefix-after t0 t1 t2 a b h.added k.err; cause = fails_after c0 c1 c2 e h.goes_on h.proper k.cause }
 
 -- more might have followed
 pub cut_short : {T U E F : Type 0} (a b : List ℕ) (sink : SinkChange) (e : E) (f : F) → Writes {T = T} a sink (Err e) → Writes {T = U} (a ++ b) sink (Err f)
-cut_short a b sink e f w = record { ok = tt; err = AddsSome-grows sink.bytes_before sink.bytes_after a b w.err; cause = record { goes_on = w.cause.goes_on; cause = w.cause.cause; kept = tt; proper = w.cause.proper } }
+cut_short a b sink e f w = record { ok = tt; err = AddsPrefix-grows sink.bytes_before sink.bytes_after a b w.err; cause = record { goes_on = w.cause.goes_on; cause = w.cause.cause; kept = tt; proper = w.cause.proper } }
 
 pub writes_same : {T E : Type 0} (a b : List ℕ) (sink : SinkChange) (result : Result T E) → a ≡ b → Writes a sink result → Writes b sink result
 writes_same a b sink result same writes = subst (λ (bytes : List ℕ). Writes bytes sink result) same writes
@@ -59,7 +59,7 @@ cut_in_the_first {T} a b c sink e f w = cut_short (a ++ b) c sink e f (cut_short
 
 pub differs_text : (name version wanted found n v w f : List ℕ) → n ≡ name → v ≡ version → w ≡ wanted → f ≡ found
     → n ++ codes "-" ++ v ++ codes ": differs from its index: " ++ w ++ codes ", " ++ f
-    ≡ package_text name version (codes "differs from its index: " ++ wanted ++ codes ", " ++ found)
+    ≡ package_refusal_text name version (codes "differs from its index: " ++ wanted ++ codes ", " ++ found)
 differs_text name version wanted found n v w f is_n is_v is_w is_f = rw is_n (rw is_v (rw is_w (rw is_f (simp append_assoc))))
 
 pub clash_text : (path other p o : List ℕ) → p ≡ path → o ≡ other → p ++ codes ": is a folder of " ++ o ≡ path ++ codes ": is a folder of " ++ other

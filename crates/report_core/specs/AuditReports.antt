@@ -6,12 +6,12 @@ use Rattle.hex.specs.Hex.{encode_lower}
 -- ---- `audit`
 
 -- the line of a listed file that is missing, as `X PATH`
-abbrev pub missing_text : List ℕ → List ℕ
-missing_text path = codes "X " ++ path
+abbrev pub missing_file_text : List ℕ → List ℕ
+missing_file_text path = codes "X " ++ path
 
 -- the line of a file whose bytes are not as listed, as `U PATH`
-abbrev pub changed_text : List ℕ → List ℕ
-changed_text path = codes "U " ++ path
+abbrev pub modified_file_text : List ℕ → List ℕ
+modified_file_text path = codes "U " ++ path
 
 -- ---- `manifest`
 

@@ -25,10 +25,10 @@ pieces_text [] = []
 pieces_text (piece ∷ pieces) = piece_text piece ++ pieces_text pieces
 
 -- the text of a cause, if there is one
-abbrev pub cause_part : Option Cause → List ℕ
-cause_part (Some cause) = cause_text cause
-cause_part None = []
+abbrev pub cause_text_if_any : Option Cause → List ℕ
+cause_text_if_any (Some cause) = cause_text cause
+cause_text_if_any None = []
 
 -- the text of a sentence: its pieces, and then its cause
 abbrev pub sentence_text : Sentence → List ℕ
-sentence_text sentence = pieces_text sentence.pieces ++ cause_part sentence.cause
+sentence_text sentence = pieces_text sentence.pieces ++ cause_text_if_any sentence.cause

@@ -1,7 +1,7 @@
 -- The texts of the reports of queries: `list`, `search` and `policy` (apk(8)). Each line ends with a
 -- line end. The rules are in `docs/commands.md`, "`list`", "`search`" and "`policy`".
 use Rattle.std.specs.Prelude.{ℕ, Bool, true, false, List, [], ◌∷◌, ◌++◌, Option, Some, None, codes}
-use Rattle.report_core.specs.Reports.{name_version, report_line}
+use Rattle.report_core.specs.Reports.{name_dash_version, report_line}
 
 -- ---- `list` and `search`
 
@@ -19,13 +19,13 @@ installed_mark false = []
 -- the parts that are empty
 abbrev pub list_line : List ℕ → List ℕ → List ℕ → List ℕ → List ℕ → Bool → List ℕ
 list_line name version arch origin license installed =
-    report_line (name_version name version ++ text_between (codes " ") arch []
+    report_line (name_dash_version name version ++ text_between (codes " ") arch []
     ++ text_between (codes " {") origin (codes "}")
     ++ text_between (codes " (") license (codes ")") ++ installed_mark installed)
 
 -- the line of `search` for a package
 abbrev pub search_line : List ℕ → List ℕ → List ℕ
-search_line name version = report_line (name_version name version)
+search_line name version = report_line (name_dash_version name version)
 
 -- ---- `policy`
 
@@ -38,14 +38,14 @@ abbrev pub version_heading : List ℕ → List ℕ
 version_heading version = report_line (codes "  " ++ version ++ codes ":")
 
 -- a line below a version: where the package with this version is
-abbrev pub place_line : List ℕ → List ℕ
-place_line text = report_line (codes "    " ++ text)
+abbrev pub policy_origin_line : List ℕ → List ℕ
+policy_origin_line text = report_line (codes "    " ++ text)
 
 -- the line of the database of installed packages
-abbrev pub database_line : List ℕ
-database_line = place_line (codes "lib/apk/db/installed")
+abbrev pub policy_database_line : List ℕ
+policy_database_line = policy_origin_line (codes "lib/apk/db/installed")
 
 -- the line of a repository, by its tag, if it has one, and the path of its index
 abbrev pub repository_line : Option (List ℕ) → List ℕ → List ℕ
-repository_line None path = place_line path
-repository_line (Some tag) path = place_line (codes "@" ++ tag ++ codes " " ++ path)
+repository_line None path = policy_origin_line path
+repository_line (Some tag) path = policy_origin_line (codes "@" ++ tag ++ codes " " ++ path)

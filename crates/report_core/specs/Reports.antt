@@ -14,8 +14,8 @@ abbrev pub report_lines : List (List ℕ) → List ℕ
 report_lines texts = flat_map report_line texts
 
 -- a package with its version, as `NAME-VERSION`
-abbrev pub name_version : List ℕ → List ℕ → List ℕ
-name_version name version = name ++ codes "-" ++ version
+abbrev pub name_dash_version : List ℕ → List ℕ → List ℕ
+name_dash_version name version = name ++ codes "-" ++ version
 
 -- ---- changes
 
@@ -30,21 +30,21 @@ pub data Change : Type 0 where
   Replace : List ℕ → List ℕ → List ℕ → Change
 
 -- a package with its version in brackets, as `NAME (VERSION)`
-abbrev pub name_and_version : List ℕ → List ℕ → List ℕ
-name_and_version name version = name ++ codes " (" ++ version ++ codes ")"
+abbrev pub name_with_version_in_brackets : List ℕ → List ℕ → List ℕ
+name_with_version_in_brackets name version = name ++ codes " (" ++ version ++ codes ")"
 
 -- a package whose version changes, as `NAME (OLD -> NEW)`
-abbrev pub from_version_to : List ℕ → List ℕ → List ℕ → List ℕ
-from_version_to name old new = name ++ codes " (" ++ old ++ codes " -> " ++ new ++ codes ")"
+abbrev pub name_with_version_change : List ℕ → List ℕ → List ℕ → List ℕ
+name_with_version_change name old new = name ++ codes " (" ++ old ++ codes " -> " ++ new ++ codes ")"
 
 -- the report on a package that changes
 abbrev pub change_text : Change → List ℕ
-change_text (Install name version) = codes "Installing " ++ name_and_version name version
-change_text (Reinstall name version) = codes "Reinstalling " ++ name_and_version name version
-change_text (Purge name version) = codes "Purging " ++ name_and_version name version
-change_text (Upgrade name old new) = codes "Upgrading " ++ from_version_to name old new
-change_text (Downgrade name old new) = codes "Downgrading " ++ from_version_to name old new
-change_text (Replace name old new) = codes "Replacing " ++ from_version_to name old new
+change_text (Install name version) = codes "Installing " ++ name_with_version_in_brackets name version
+change_text (Reinstall name version) = codes "Reinstalling " ++ name_with_version_in_brackets name version
+change_text (Purge name version) = codes "Purging " ++ name_with_version_in_brackets name version
+change_text (Upgrade name old new) = codes "Upgrading " ++ name_with_version_change name old new
+change_text (Downgrade name old new) = codes "Downgrading " ++ name_with_version_change name old new
+change_text (Replace name old new) = codes "Replacing " ++ name_with_version_change name old new
 
 -- the text of a change, with its number among the changes and how many there are, as `(2/5) ..`
 abbrev pub numbered_change : ℕ → ℕ → Change → List ℕ
@@ -71,9 +71,9 @@ with_spaces_before (text ∷ texts) = codes " " ++ text ++ with_spaces_before te
 
 -- the report on a package that was to be removed and is kept, with the names of those that need it, if
 -- there are any
-abbrev pub stays_text : List ℕ → List (List ℕ) → List ℕ
-stays_text name [] = name ++ codes " stays"
-stays_text name (first ∷ others) =
+abbrev pub still_needed_text : List ℕ → List (List ℕ) → List ℕ
+still_needed_text name [] = name ++ codes " stays"
+still_needed_text name (first ∷ others) =
     name ++ codes " stays; required by:" ++ with_spaces_before (first ∷ others)
 
 -- the folder of a due trigger as a path from the root on: a folder without a name is the root
@@ -99,19 +99,19 @@ section heading texts = report_line heading ++ report_lines texts ++ codes "\n"
 -- the section of `info NAME`: the description of a package
 abbrev pub description_section : List ℕ → List ℕ → List ℕ → List ℕ
 description_section name version description =
-    section (name_version name version ++ codes " description:") (description ∷ [])
+    section (name_dash_version name version ++ codes " description:") (description ∷ [])
 
 -- the section of `info -L NAME`: the paths of a package's files
 abbrev pub contents_section : List ℕ → List ℕ → List (List ℕ) → List ℕ
 contents_section name version paths =
-    section (name_version name version ++ codes " contains:") paths
+    section (name_dash_version name version ++ codes " contains:") paths
 
 -- the section of `info -R NAME`: the dependencies of a package
 abbrev pub depends_section : List ℕ → List ℕ → List (List ℕ) → List ℕ
 depends_section name version dependencies =
-    section (name_version name version ++ codes " depends on:") dependencies
+    section (name_dash_version name version ++ codes " depends on:") dependencies
 
 -- the line of `info -W PATH`: the package that owns a path
 abbrev pub owner_text : List ℕ → List ℕ → List ℕ → List ℕ
 owner_text path name version =
-    codes "/" ++ path ++ codes " is owned by " ++ name_version name version
+    codes "/" ++ path ++ codes " is owned by " ++ name_dash_version name version

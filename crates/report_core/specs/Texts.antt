@@ -57,21 +57,21 @@ cause_text (TextLine line) = codes "bad line " ++ decimal line
 -- ---- refusals
 
 -- the text of a refusal of a word: its place, counted from 1, and the reason
-abbrev pub word_text : ℕ → List ℕ → List ℕ
-word_text place text = codes "word " ++ decimal place ++ codes ": " ++ text
+abbrev pub word_refusal_text : ℕ → List ℕ → List ℕ
+word_refusal_text place text = codes "word " ++ decimal place ++ codes ": " ++ text
 
 -- the text of a refusal of a repository: its number, counted from 1, and the reason
-abbrev pub repository_text : ℕ → List ℕ → List ℕ
-repository_text number text = codes "repository " ++ decimal number ++ codes ": " ++ text
+abbrev pub repository_refusal_text : ℕ → List ℕ → List ℕ
+repository_refusal_text number text = codes "repository " ++ decimal number ++ codes ": " ++ text
 
 -- the text of a refusal of a package: name and version, and the reason
-abbrev pub package_text : List ℕ → List ℕ → List ℕ → List ℕ
-package_text name version text = name ++ codes "-" ++ version ++ codes ": " ++ text
+abbrev pub package_refusal_text : List ℕ → List ℕ → List ℕ → List ℕ
+package_refusal_text name version text = name ++ codes "-" ++ version ++ codes ": " ++ text
 
 -- the value of a package's field, as it is printed: the id (`hashes`) in hexadecimal digits, name and
 -- version as they are
-abbrev pub field_text : ℕ → List ℕ → List ℕ
-field_text field bytes = if field == HASHES_FIELD then encode_lower bytes else bytes
+abbrev pub package_field_text : ℕ → List ℕ → List ℕ
+package_field_text field bytes = if field == HASHES_FIELD then encode_lower bytes else bytes
 
 -- the name of a script by its number; a number that is no script's is printed as such
 abbrev pub script_name : ℕ → List ℕ
@@ -88,28 +88,28 @@ script_name script =
 abbrev pub refusal_text : Refusal → List ℕ
 refusal_text (Usage place) = codes "usage error at word " ++ decimal place
 refusal_text (IntentBad cause) = codes "lib/apk/intent: " ++ cause_text cause
-refusal_text (FileMissing place) = word_text place (codes "no such file")
-refusal_text (FileBad place cause) = word_text place (cause_text cause)
-refusal_text (TextBad place line) = word_text place (codes "bad line " ++ decimal line)
-refusal_text (VersionBad place) = word_text place (codes "invalid version")
-refusal_text (InfoBad place) = word_text place (codes "invalid package information")
+refusal_text (FileMissing place) = word_refusal_text place (codes "no such file")
+refusal_text (FileBad place cause) = word_refusal_text place (cause_text cause)
+refusal_text (TextBad place line) = word_refusal_text place (codes "bad line " ++ decimal line)
+refusal_text (VersionBad place) = word_refusal_text place (codes "invalid version")
+refusal_text (InfoBad place) = word_refusal_text place (codes "invalid package information")
 refusal_text NoDatabase = codes "no package database"
 refusal_text (DatabaseBad cause) = codes "package database: " ++ cause_text cause
 refusal_text (WorldBad line) = codes "etc/apk/world: line " ++ decimal line
 refusal_text (RepositoriesBad line) = codes "etc/apk/repositories: line " ++ decimal line
 refusal_text Untrusted = codes "repositories need --allow-untrusted"
-refusal_text (IndexMissing repository) = repository_text repository (codes "no such index")
-refusal_text (IndexBad repository cause) = repository_text repository (cause_text cause)
+refusal_text (IndexMissing repository) = repository_refusal_text repository (codes "no such index")
+refusal_text (IndexBad repository cause) = repository_refusal_text repository (cause_text cause)
 refusal_text (TooMany count) = decimal count ++ codes " candidates are too many"
-refusal_text (NotInstalled place) = word_text place (codes "not installed")
+refusal_text (NotInstalled place) = word_refusal_text place (codes "not installed")
 refusal_text Unsatisfied = codes "unable to select packages"
 refusal_text (PackageMissing name version) =
-    package_text name version (codes "no such package file")
-refusal_text (PackageBad name version cause) = package_text name version (cause_text cause)
+    package_refusal_text name version (codes "no such package file")
+refusal_text (PackageBad name version cause) = package_refusal_text name version (cause_text cause)
 refusal_text (PackageDiffers name version field wanted found) =
-    package_text name version
-    (codes "differs from its index: " ++ field_text field wanted ++ codes ", "
-    ++ field_text field found)
+    package_refusal_text name version
+    (codes "differs from its index: " ++ package_field_text field wanted ++ codes ", "
+    ++ package_field_text field found)
 refusal_text (ScriptNeeded name script) =
     name ++ codes ": script " ++ script_name script ++ codes " needs --no-scripts"
 refusal_text (Reserved path) = path ++ codes ": reserved name"
@@ -132,9 +132,9 @@ abbrev pub refusal_line : Refusal → List ℕ
 refusal_line refusal = error_line (refusal_text refusal)
 
 -- the error line of a failed tree
-abbrev pub tree_line : List ℕ
-tree_line = error_line (codes "the tree failed")
+abbrev pub tree_failure_line : List ℕ
+tree_failure_line = error_line (codes "the tree failed")
 
 -- the error line of out of memory
-abbrev pub memory_line : List ℕ
-memory_line = error_line (codes "out of memory")
+abbrev pub out_of_memory_line : List ℕ
+out_of_memory_line = error_line (codes "out of memory")

@@ -7,7 +7,7 @@ ghost use Rattle.std.specs.Prelude.{◌≡◌, [], ◌∷◌, decimal, ◌++◌,
 ghost use Rattle.base_core.specs.Sink.{sink_change};
 ghost use Rattle.base_core.specs.Write.{Writes};
 ghost use Rattle.hex.specs.Hex.{encode_lower};
-ghost use Rattle.report_core.specs.Pieces.{cause_part, piece_text, pieces_text, sentence_text};
+ghost use Rattle.report_core.specs.Pieces.{cause_text_if_any, piece_text, pieces_text, sentence_text};
 ghost use Rattle.report_core.specs.Texts.{digest_bytes, position_text, refusal_line};
 
 use crate::refusal::Refusal;
@@ -39,7 +39,7 @@ fn write_sentence<E: Sink>(sentence: &Sentence<'_>, err: &mut E) -> Result<(), S
 
 /// Writes a cause, if there is one.
 fn write_cause<E: Sink>(cause: Option<Cause>, err: &mut E) -> Result<(), SinkFault>
-    ensures { Writes (cause_part cause) (sink_change E.bytes E.counts err.old err.new) result }
+    ensures { Writes (cause_text_if_any cause) (sink_change E.bytes E.counts err.old err.new) result }
 {
     match cause {
         Some(cause) => write_pieces(&cause_pieces(cause), err),

@@ -2,7 +2,7 @@
 //! the table of refusals and that of causes.
 ghost use Rattle.std.specs.Prelude.{◌≡◌, ◌++◌};
 ghost use Rattle.report_core.specs.Pieces.{piece_text, pieces_text, sentence_text};
-ghost use Rattle.report_core.specs.Texts.{cause_text, field_text, word_text, refusal_text, script_name};
+ghost use Rattle.report_core.specs.Texts.{cause_text, package_field_text, word_refusal_text, refusal_text, script_name};
 
 use crate::lines::Piece::{Bytes, Digest, Hex, HexNumber, Nothing, Number, Position};
 use crate::lines::{Piece, Pieces};
@@ -111,7 +111,7 @@ fn caused<'a>(pieces: Pieces<'a>, cause: Cause) -> Sentence<'a>
 
 // The refusal of the word at a place, with the reason.
 fn at_word(place: u32, text: &'static [u8]) -> Sentence<'static>
-    ensures { sentence_text result ≡ word_text place text.now }
+    ensures { sentence_text result ≡ word_refusal_text place text.now }
 {
     plain(four(
         Bytes(b"word "),
@@ -304,7 +304,7 @@ pub(crate) fn cause_pieces(cause: Cause) -> Pieces<'static>
 // The value of a package's field: its id in hexadecimal digits, and its name or its version as
 // text.
 fn field_piece(field: u16, bytes: &[u8]) -> Piece<'_>
-    ensures { piece_text result ≡ field_text field bytes.now }
+    ensures { piece_text result ≡ package_field_text field bytes.now }
 {
     if field == HASHES_FIELD {
         Hex(bytes)

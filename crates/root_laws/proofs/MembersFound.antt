@@ -20,7 +20,7 @@ use Rattle.engine_core.specs.change_inputs.Chains.{and_then}
 use Rattle.engine_core.specs.change_inputs.Inputs.{first_index_read}
 use Rattle.engine_core.proofs.change_outcome.Made.{and_then_ok}
 use Rattle.engine_core.specs.change_outcome.MembersAfter.{MemberFound, added_package_by_path, added_member_found, members_after, found_members, name_after, name_by_change, name_by_selected, member_of_added_name, member_of_removed_name, names_after, kept_member_found}
-use Rattle.engine_core.specs.change_outcome.PackageFiles.{AddedPackage, package_file_of, package_found, package_in_file, scripts_of_change, unless_different, unless_script_number, unless_package_bad, unless_script, first_script_of}
+use Rattle.engine_core.specs.change_outcome.PackageFiles.{AddedPackage, package_file_of, added_package_or_refusal, package_in_file, scripts_of_change, unless_different, unless_script_number, unless_package_bad, unless_script, first_script_of}
 use Rattle.engine_core.specs.db_core.Members.{AreInOrder, Member, member_name}
 use Rattle.engine_core.specs.db_core.Packages.{is_package_named}
 use Rattle.engine_core.specs.db_core.SoundMembers.{AreOfSoundContainers, IsOfSoundContainer}
@@ -28,8 +28,8 @@ use Rattle.dep_core.specs.Repositories.{Repository}
 use Rattle.engine_core.specs.file_owners.Replaces.{version_text}
 use Rattle.make_index.proofs.IndexSound.{payload_all}
 use Rattle.make_index.specs.make_info.Reads.{Reads}
-use Rattle.engine_core.specs.package_changes.Changes.{Replacement, change_of_name, is_selected_named, names_on_both_sides, selected_version}
-use Rattle.make_index.specs.pkg_core.Contents.{fault_in}
+use Rattle.engine_core.specs.package_changes.Changes.{Replacement, change_of_name, is_selected_named, names_before_and_selected, selected_version}
+use Rattle.make_index.specs.pkg_core.Contents.{fault_of_files_read}
 use Rattle.make_index.specs.pkg_core.Whole.{files_in_file, package_fault, package_id}
 use Rattle.engine_core.specs.candidate_core.Candidates.{Candidate, is_same_id}
 use Rattle.report_core.specs.Reports.{Change}
@@ -42,7 +42,7 @@ abbrev pub FilesMayCome : Type 0
 FilesMayCome = (file id : List ℕ) → IsSound Package file → All (λ b. b < 256) (payload_in file) → is_digest_length (length id) ≡ true → IsOfSoundContainer (root_value Package (payload_in file)) (Some id)
 
 abbrev pub PackagesAreTested : Type 0
-PackagesAreTested = (file : List ℕ) → package_fault file ≡ option_or (first_fault Package file) (fault_in (files_in_file file))
+PackagesAreTested = (file : List ℕ) → package_fault file ≡ option_or (first_fault Package file) (fault_of_files_read (files_in_file file))
 
 -- ---- one package
 
@@ -83,7 +83,7 @@ module _ (come : FilesMayCome) (tested : PackagesAreTested) (read : Reads) (byte
       by_tests x y z true false v is e = absurd (cc (e))
       by_tests x y z false b v is e = absurd (cc (e))
 
-  file_ok : (c : Candidate) (file : List ℕ) (pkg : AddedPackage) → All (λ b. b < 256) file → package_found c (Some file) ≡ Ok pkg → IsFoundAs c.name (added_member_found pkg).member
+  file_ok : (c : Candidate) (file : List ℕ) (pkg : AddedPackage) → All (λ b. b < 256) file → added_package_or_refusal c (Some file) ≡ Ok pkg → IsFoundAs c.name (added_member_found pkg).member
   file_ok c file pkg small e = by_fault (package_fault file) refl e
     where
       by_fault : (fault : Option Cause) → package_fault file ≡ fault → unless_package_bad c fault (package_in_file file) ≡ Ok pkg → IsFoundAs c.name (added_member_found pkg).member
@@ -91,7 +91,7 @@ module _ (come : FilesMayCome) (tested : PackagesAreTested) (read : Reads) (byte
           let is = different_ok c (package_in_file file) pkg e in
           subst (λ (p : AddedPackage). IsFoundAs c.name (added_member_found p).member) (sym is.0)
           (record {
-            sound = come file (package_id file) (first_none (first_fault Package file) (fault_in (files_in_file file)) (sym (tested file) ∙ sound))
+            sound = come file (package_id file) (first_none (first_fault Package file) (fault_of_files_read (files_in_file file)) (sym (tested file) ∙ sound))
                 (payload_all (λ b. b < 256) file small) (ap is_digest_length (length-sha256 (payload_in file)));
             named = is.1;
           })
@@ -101,7 +101,7 @@ module _ (come : FilesMayCome) (tested : PackagesAreTested) (read : Reads) (byte
   path_ok n c None pkg e = absurd (cc (e))
   path_ok n c (Some path) pkg e = by_read (read n path) refl e
     where
-      by_read : (o : Option (List ℕ)) → read n path ≡ o → package_found c o ≡ Ok pkg → IsFoundAs c.name (added_member_found pkg).member
+      by_read : (o : Option (List ℕ)) → read n path ≡ o → added_package_or_refusal c o ≡ Ok pkg → IsFoundAs c.name (added_member_found pkg).member
       by_read None is e = absurd (cc (e))
       by_read (Some file) is e = file_ok c file pkg (bytes n path file is) e
 
@@ -179,5 +179,5 @@ module _ (come : FilesMayCome) (tested : PackagesAreTested) (read : Reads) (byte
     pub members_ok : (fs : List MemberFound) → members_after r read repositories no_scripts ≡ Ok fs → AreOfSoundContainers (found_members fs) × AreInOrder (found_members fs)
     unfolding members_after
     members_ok fs e =
-        let are = names_ok (first_index_read + length repositories) (names_on_both_sides r) fs (order_rises _) e in
+        let are = names_ok (first_index_read + length repositories) (names_before_and_selected r) fs (order_rises _) e in
         (are.0, Names.pairs_from_rises (map member_name (found_members fs)) are.2)

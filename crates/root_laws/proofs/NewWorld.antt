@@ -4,7 +4,7 @@ use Rattle.base_core.specs.Files.{Files}
 use Rattle.engine_core.specs.change_files.FileChange.{FileChange}
 use Rattle.engine_core.specs.change_files.FilesAfter.{RootFilesAfter, changed_files, world_bytes_after, world_name}
 use Rattle.engine_core.specs.change_inputs.Chains.{refused_as}
-use Rattle.engine_core.specs.change_inputs.World.{new_world, root_world, text_found, world_with_operand, world_with_operands, world_without_operands}
+use Rattle.engine_core.specs.change_inputs.World.{new_world, root_world, found_text_or_empty, world_with_operand, world_with_operands, world_without_operands}
 use Rattle.command_core.specs.declared.command.Applet.{Applet}
 use Rattle.command_core.specs.declared.command.Applet.TheVariants.{Add, Del}
 use Rattle.command_core.specs.declared.operands.Operand.{Operand}
@@ -57,11 +57,11 @@ WorldsAreReadBack = (world : List Dependency) → IsWorld world → world_of (wo
 pub root_world_left : WorldsAreReadBack → (world : List Dependency) → IsWorld world → root_world (world_text world) ≡ Ok world
 root_world_left back world is = ap (refused_as WorldBad) (back world is)
 
-text_of_world : (world : List ℕ) (old : Option (List ℕ)) → text_found (world_bytes_after world old) ≡ world
+text_of_world : (world : List ℕ) (old : Option (List ℕ)) → found_text_or_empty (world_bytes_after world old) ≡ world
 text_of_world [] None = refl
 text_of_world [] (Some old) = refl
 text_of_world (b ∷ bytes) old = refl
 
-pub world_text_left : (change : FileChange) (bytes_of : Listing → List ℕ) (records : RootFilesAfter) (files : Files) → text_found (changed_files change bytes_of records files world_name) ≡ records.world
+pub world_text_left : (change : FileChange) (bytes_of : Listing → List ℕ) (records : RootFilesAfter) (files : Files) → found_text_or_empty (changed_files change bytes_of records files world_name) ≡ records.world
 unfolding changed_files
 world_text_left change bytes_of records files = text_of_world records.world (files world_name)

@@ -7,9 +7,9 @@ use Rattle.base_core.specs.declared.cause.Cause.{Cause}
 use Rattle.engine_core.specs.change_inputs.Chains.{and_then, refused_as, unless_cause}
 use Rattle.engine_core.specs.change_inputs.Database.{Database}
 use Rattle.engine_core.specs.change_inputs.Indexes.{index_file, index_files_from, index_in_file, indexes_in_files, root_indexes}
-use Rattle.engine_core.specs.change_inputs.Inputs.{Inputs, Root, database_for, index_reads_from, first_index_read, indexes_of, inputs_by, inputs_of, repositories_read, root_by, root_for, world_read}
-use Rattle.engine_core.specs.change_inputs.Repositories.{if_trusted, root_repositories}
-use Rattle.engine_core.specs.change_inputs.World.{root_world, text_found}
+use Rattle.engine_core.specs.change_inputs.Inputs.{Inputs, Root, database_for, index_reads_from, first_index_read, indexes_of, inputs_from_parts, inputs_of, repositories_read, root_by, root_for, world_read}
+use Rattle.engine_core.specs.change_inputs.Repositories.{if_untrusted_allowed, root_repositories}
+use Rattle.engine_core.specs.change_inputs.World.{root_world, found_text_or_empty}
 use Rattle.engine_core.specs.change_outcome.ChangeOutcome.{ChangeDone}
 use Rattle.engine_core.specs.change_outcome.MembersAfter.{found_members}
 use Rattle.command_core.specs.Command.{CommandLine}
@@ -35,7 +35,7 @@ begins command later read next chosen done left inputs reads e =
     let is = inputs_parts later next inputs e in
     record {
       database = one_answer (database_for later next) inputs.root.database (database_of_members (found_members left.found) left.bytes) is.database (left.database later next reads);
-      world = one_answer (root_world (text_found (next world_read world_name))) inputs.root.world left.selected.inputs.root.new_world is.world (left.world next reads);
+      world = one_answer (root_world (found_text_or_empty (next world_read world_name))) inputs.root.world left.selected.inputs.root.new_world is.world (left.world next reads);
     }
 
 -- ---- refusals
@@ -56,13 +56,13 @@ text_fails : (r : Result (List Repository) ℕ) → FailsOfRepositories (refused
 text_fails (Ok repositories) = tt
 text_fails (Err line) = tt
 
-trusted_fails : (is_allowed : Bool) (repositories : List Repository) → FailsOfRepositories (if_trusted is_allowed repositories)
+trusted_fails : (is_allowed : Bool) (repositories : List Repository) → FailsOfRepositories (if_untrusted_allowed is_allowed repositories)
 trusted_fails is_allowed [] = tt
 trusted_fails true (repository ∷ repositories) = tt
 trusted_fails false (repository ∷ repositories) = tt
 
 repositories_fail : (is_allowed : Bool) (text : List ℕ) → FailsOfRepositories (root_repositories is_allowed text)
-repositories_fail is_allowed text = then_fails (refused_as RepositoriesBad (repositories_of text)) (if_trusted is_allowed) (text_fails (repositories_of text)) (trusted_fails is_allowed)
+repositories_fail is_allowed text = then_fails (refused_as RepositoriesBad (repositories_of text)) (if_untrusted_allowed is_allowed) (text_fails (repositories_of text)) (trusted_fails is_allowed)
 
 file_fails : (n : ℕ) (f : Option (List ℕ)) → FailsOfRepositories (index_file n f)
 file_fails n None = tt
@@ -88,11 +88,11 @@ found_fail : (found : List (Option (List ℕ))) → FailsOfRepositories (root_in
 found_fail found = then_fails (index_files_from 1 found) (indexes_in_files 1) (files_fail 1 found) (indexes_fail 1)
 
 module _ (later : CommandLine) (next : Reads) (database : Database) (world : List Dependency)
-    (has_database : database_for later next ≡ Ok database) (has_world : root_world (text_found (next world_read world_name)) ≡ Ok world) where
+    (has_database : database_for later next ≡ Ok database) (has_world : root_world (found_text_or_empty (next world_read world_name)) ≡ Ok world) where
   root_fails : FailsOfRepositories (root_for later next)
   root_fails =
-      let text : List ℕ = text_found (next world_read world_name) in
-      let lines : List ℕ = text_found (next repositories_read repositories_name) in
+      let text : List ℕ = found_text_or_empty (next world_read world_name) in
+      let lines : List ℕ = found_text_or_empty (next repositories_read repositories_name) in
       let after_world : List Dependency → Result Root Refusal = λ world. and_then (root_repositories later.flags.allow_untrusted lines) (λ repositories. Ok (root_by later database text world repositories)) in
       let after_database : Database → Result Root Refusal = λ database.
       and_then (root_world text) (λ world. and_then (root_repositories later.flags.allow_untrusted lines) (λ repositories. Ok (root_by later database text world repositories))) in
@@ -103,8 +103,8 @@ module _ (later : CommandLine) (next : Reads) (database : Database) (world : Lis
   inputs_fail : FailsOfRepositories (inputs_of later next)
   unfolding inputs_of
   inputs_fail =
-      then_fails (root_for later next) (λ root. and_then (indexes_of next root.repositories) (λ indexes. Ok (inputs_by root indexes))) root_fails
-      (λ root. then_fails (indexes_of next root.repositories) (λ indexes. Ok (inputs_by root indexes)) (found_fail (index_reads_from next first_index_read root.repositories)) (λ indexes. tt))
+      then_fails (root_for later next) (λ root. and_then (indexes_of next root.repositories) (λ indexes. Ok (inputs_from_parts root indexes))) root_fails
+      (λ root. then_fails (indexes_of next root.repositories) (λ indexes. Ok (inputs_from_parts root indexes)) (found_fail (index_reads_from next first_index_read root.repositories)) (λ indexes. tt))
 
 pub refused : (command later : CommandLine) (read next : Reads) (chosen : Option (List ℕ)) (done : ChangeDone) → IsRootLeft command read chosen done → (refusal : Refusal)
     → ReadsRoot done.files next → inputs_of later next ≡ Err refusal → IsOfRepositories refusal

@@ -7,14 +7,14 @@ use Rattle.engine_core.specs.change_files.FilesAfter.{RootFilesAfter, listing_by
 use Rattle.engine_core.proofs.change_files.RecordNames.{database_after}
 use Rattle.engine_core.specs.change_inputs.Database.{root_database}
 use Rattle.engine_core.specs.change_inputs.Inputs.{Inputs, inputs_of, text_database_read}
-use Rattle.engine_core.specs.change_inputs.World.{root_world, text_found}
+use Rattle.engine_core.specs.change_inputs.World.{root_world, found_text_or_empty}
 use Rattle.engine_core.specs.change_outcome.Made.{IsChangeMade}
 use Rattle.engine_core.proofs.change_outcome.Made.{and_then_ok, made}
 use Rattle.engine_core.specs.change_outcome.ChangeOutcome.{ChangeDone, change_or_refusal, file_change, new_records}
 use Rattle.engine_core.specs.change_outcome.MembersAfter.{found_package_contents, found_members}
 use Rattle.command_core.specs.Command.{CommandLine}
 use Rattle.engine_core.specs.Changed.{Selected, change_of_selected, change_of_command, selected_by, selected_for, selected_of_inputs, simulated_change}
-use Rattle.engine_core.specs.Selecting.{pool_by}
+use Rattle.engine_core.specs.Selecting.{pool_of_inputs}
 use Rattle.engine_core.specs.Wishes.{unknown_operand_place, unless_unknown_operand, wishes_of}
 use Rattle.make_index.specs.make_info.Reads.{Reads}
 use Rattle.engine_core.specs.path_clashes.Clash.{NamePair}
@@ -60,7 +60,7 @@ place_ok (Some place) next a e = absurd (cc (e))
 selected_ok : (command : CommandLine) (read : Reads) (chosen : Option (List ℕ)) (s : Selected) → selected_for command read chosen ≡ Ok s → IsSelectedOf command read s
 selected_ok command read chosen s e =
     let inputs = and_then_ok (inputs_of command read) (selected_of_inputs command chosen) s e in
-    let pool = and_then_ok (pool_by command inputs.0) (λ pool. unless_unknown_operand (unknown_operand_place command.applet inputs.0 command.operands) (selected_by command inputs.0 pool chosen)) s inputs.2 in
+    let pool = and_then_ok (pool_of_inputs command inputs.0) (λ pool. unless_unknown_operand (unknown_operand_place command.applet inputs.0 command.operands) (selected_by command inputs.0 pool chosen)) s inputs.2 in
     let is = chosen_ok command inputs.0 pool.0 chosen s (place_ok (unknown_operand_place command.applet inputs.0 command.operands) (selected_by command inputs.0 pool.0 chosen) s pool.2) in
     record {
       inputs = inputs.1 ∙ ap (λ (x : Inputs). Ok x) (sym is.0);
@@ -80,8 +80,8 @@ module _ (laws : Laws) (command : CommandLine) (read : Reads) (files : Files) (c
       let records : RootFilesAfter = new_records s.inputs m.database in
       let database_there : done.files database_name ≡ Some m.database =
       ap (λ (d : ChangeDone). d.files database_name) m.is ∙ database_after change (listing_bytes (found_package_contents m.found)) records files in
-      let world_there : text_found (done.files world_name) ≡ records.world =
-      ap (λ (d : ChangeDone). text_found (d.files world_name)) m.is ∙ world_text_left change (listing_bytes (found_package_contents m.found)) records files in
+      let world_there : found_text_or_empty (done.files world_name) ≡ records.world =
+      ap (λ (d : ChangeDone). found_text_or_empty (d.files world_name)) m.is ∙ world_text_left change (listing_bytes (found_package_contents m.found)) records files in
       record {
         selected = s;
         is_selected = is;
@@ -92,9 +92,9 @@ module _ (laws : Laws) (command : CommandLine) (read : Reads) (files : Files) (c
             ap (λ (o : Option (List ℕ)). root_database later.flags.initdb o (next text_database_read text_database_name)) (finds.database ∙ database_there)
             ∙ database_left laws.written (found_members m.found) m.database members.0 members.1 m.unreserved m.new_database;
         world = λ next finds.
-            ap root_world (ap text_found finds.world ∙ world_there)
+            ap root_world (ap found_text_or_empty finds.world ∙ world_there)
             ∙ root_world_left laws.worlds s.inputs.root.new_world (new_world_sound command read s.inputs.root root);
-        text = λ next finds. ap text_found finds.world ∙ world_there;
+        text = λ next finds. ap found_text_or_empty finds.world ∙ world_there;
       }
 
   not_simulated : (s : Selected) (b : Bool) → b ≡ false → (if b then Ok (simulated_change s.replacement (wishes_of command) files) else change_or_refusal s.inputs s.replacement (wishes_of command) read clash files) ≡ Ok done

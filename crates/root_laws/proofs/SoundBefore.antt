@@ -10,10 +10,10 @@ use Rattle.adb_view.specs.declared.tables.Which.TheVariants.{Idb}
 use Rattle.adb_view.specs.Plain.{Plain}
 use Rattle.base_core.specs.declared.cause.Cause.{Cause}
 use Rattle.engine_core.specs.change_inputs.Chains.{and_then, unless_cause}
-use Rattle.engine_core.specs.change_inputs.Database.{Database, container_database, database_by, payload_database, root_database}
-use Rattle.engine_core.specs.change_inputs.Inputs.{Inputs, Root, database_for, database_read, indexes_of, inputs_by, inputs_of, repositories_read, root_by, root_for, text_database_read, world_read}
+use Rattle.engine_core.specs.change_inputs.Database.{Database, container_database, database_from_parts, payload_database, root_database}
+use Rattle.engine_core.specs.change_inputs.Inputs.{Inputs, Root, database_for, database_read, indexes_of, inputs_from_parts, inputs_of, repositories_read, root_by, root_for, text_database_read, world_read}
 use Rattle.engine_core.specs.change_inputs.Repositories.{root_repositories}
-use Rattle.engine_core.specs.change_inputs.World.{new_world, root_world, text_found}
+use Rattle.engine_core.specs.change_inputs.World.{new_world, root_world, found_text_or_empty}
 use Rattle.engine_core.proofs.change_outcome.Made.{and_then_ok}
 use Rattle.command_core.specs.Command.{CommandLine}
 use Rattle.engine_core.specs.db_core.SoundMembers.{IsOfSoundContainer, IsOfSoundDatabase}
@@ -62,9 +62,9 @@ same_sound d database sound e = let same : d ≡ database = cc in subst (λ (x :
 container_sound : FilesMayStay → (file : List ℕ) (database : Database) → All (λ b. b < 256) file → container_database file ≡ Ok database → AllSound database.packages
 container_sound stay file database bytes e = by_fault (first_fault Idb file) refl e
   where
-    by_fault : (fault : Option Cause) → first_fault Idb file ≡ fault → unless_cause DatabaseBad fault (database_by (entries_at 0 (root_value Idb (payload_in file))) (Some file) false) ≡ Ok database → AllSound database.packages
+    by_fault : (fault : Option Cause) → first_fault Idb file ≡ fault → unless_cause DatabaseBad fault (database_from_parts (entries_at 0 (root_value Idb (payload_in file))) (Some file) false) ≡ Ok database → AllSound database.packages
     by_fault None sound e =
-        same_sound (database_by (entries_at 0 (root_value Idb (payload_in file))) (Some file) false) database
+        same_sound (database_from_parts (entries_at 0 (root_value Idb (payload_in file))) (Some file) false) database
         (λ pkg here. stay file pkg sound (payload_all (λ b. b < 256) file bytes) here) e
     by_fault (Some cause) sound e = absurd (cc (e))
 
@@ -72,7 +72,7 @@ text_sound : TextsAreSound → (text : List ℕ) (database : Database) → paylo
 text_sound texts text database e = by_payload (payload_of_text text) refl e
   where
     by_payload : (r : Result (List ℕ) V2Fault) → payload_of_text text ≡ r → payload_database r ≡ Ok database → AllSound database.packages
-    by_payload (Ok payload) is e = same_sound (database_by (entries_at 0 (root_value Idb payload)) None true) database (texts text payload is) e
+    by_payload (Ok payload) is e = same_sound (database_from_parts (entries_at 0 (root_value Idb payload)) None true) database (texts text payload is) e
     by_payload (Err (Bad cause)) is e = absurd (cc (e))
     by_payload (Err (TooLarge n values)) is e = absurd (cc (e))
     by_payload (Err Memory) is e = absurd (cc (e))
@@ -83,31 +83,31 @@ IfBytes found = (bytes : List ℕ) → found ≡ Some bytes → All (λ b. b < 2
 database_sound : FilesMayStay → TextsAreSound → (may_begin : Bool) (file text : Option (List ℕ)) (database : Database) → IfBytes file → root_database may_begin file text ≡ Ok database → AllSound database.packages
 database_sound stay texts may_begin (Some file) text database h e = container_sound stay file database (h file refl) e
 database_sound stay texts may_begin None (Some text) database h e = text_sound texts text database e
-database_sound stay texts true None None database h e = same_sound (database_by [] None false) database (λ pkg here. absurd here) e
+database_sound stay texts true None None database h e = same_sound (database_from_parts [] None false) database (λ pkg here. absurd here) e
 database_sound stay texts false None None database h e = absurd (cc (e))
 
 -- ---- what inputs are of
 
 pub record IsRootFor (command : CommandLine) (read : Reads) (root : Root) : Type 0 where
   pub database : database_for command read ≡ Ok root.database
-  pub world : root_world (text_found (read world_read world_name)) ≡ Ok root.world
+  pub world : root_world (found_text_or_empty (read world_read world_name)) ≡ Ok root.world
   pub new : root.new_world ≡ new_world command.applet command.operands root.world
 
 module _ (command : CommandLine) (read : Reads) (root : Root) (e : root_for command read ≡ Ok root) where
   root_parts : IsRootFor command read root
   root_parts =
-      let text : List ℕ = text_found (read world_read world_name) in
+      let text : List ℕ = found_text_or_empty (read world_read world_name) in
       let after_database : Database → Result Root Refusal = λ database.
       and_then (root_world text) (λ world.
-      and_then (root_repositories command.flags.allow_untrusted (text_found (read repositories_read repositories_name))) (λ repositories.
+      and_then (root_repositories command.flags.allow_untrusted (found_text_or_empty (read repositories_read repositories_name))) (λ repositories.
       Ok (root_by command database text world repositories))) in
       let database = and_then_ok (database_for command read) after_database root e in
       let after_world : List Dependency → Result Root Refusal = λ world.
-      and_then (root_repositories command.flags.allow_untrusted (text_found (read repositories_read repositories_name))) (λ repositories.
+      and_then (root_repositories command.flags.allow_untrusted (found_text_or_empty (read repositories_read repositories_name))) (λ repositories.
       Ok (root_by command database.0 text world repositories)) in
       let world = and_then_ok (root_world text) after_world root database.2 in
       let after_repositories : List Repository → Result Root Refusal = λ repositories. Ok (root_by command database.0 text world.0 repositories) in
-      let repositories = and_then_ok (root_repositories command.flags.allow_untrusted (text_found (read repositories_read repositories_name))) after_repositories root world.2 in
+      let repositories = and_then_ok (root_repositories command.flags.allow_untrusted (found_text_or_empty (read repositories_read repositories_name))) after_repositories root world.2 in
       let same : root_by command database.0 text world.0 repositories.0 ≡ root = (let last = repositories.2 in cc) in
       record {
         database = database.1 ∙ ap (λ (x : Root). Ok x.database) same;
@@ -118,9 +118,9 @@ module _ (command : CommandLine) (read : Reads) (root : Root) (e : root_for comm
 pub inputs_parts : (command : CommandLine) (read : Reads) (inputs : Inputs) → inputs_of command read ≡ Ok inputs → IsRootFor command read inputs.root
 unfolding inputs_of
 inputs_parts command read inputs e =
-    let root = and_then_ok (root_for command read) (λ root. and_then (indexes_of read root.repositories) (λ indexes. Ok (inputs_by root indexes))) inputs e in
-    let indexes = and_then_ok (indexes_of read root.0.repositories) (λ indexes. Ok (inputs_by root.0 indexes)) inputs root.2 in
-    let same : inputs_by root.0 indexes.0 ≡ inputs = (let last = indexes.2 in cc) in
+    let root = and_then_ok (root_for command read) (λ root. and_then (indexes_of read root.repositories) (λ indexes. Ok (inputs_from_parts root indexes))) inputs e in
+    let indexes = and_then_ok (indexes_of read root.0.repositories) (λ indexes. Ok (inputs_from_parts root.0 indexes)) inputs root.2 in
+    let same : inputs_from_parts root.0 indexes.0 ≡ inputs = (let last = indexes.2 in cc) in
     subst (λ (x : Inputs). IsRootFor command read x.root) same (root_parts command read root.0 root.1)
 
 pub before_sound : FilesMayStay → TextsAreSound → (command : CommandLine) (read : Reads) (root : Root) → FindBytes read → IsRootFor command read root → AllSound root.database.packages
@@ -130,4 +130,4 @@ before_sound stay texts command read root bytes is =
 
 pub new_world_sound : (command : CommandLine) (read : Reads) (root : Root) → IsRootFor command read root → IsWorld root.new_world
 new_world_sound command read root is =
-    subst IsWorld (sym is.new) (new_world_is command.applet command.operands root.world (read_world_is (text_found (read world_read world_name)) root.world is.world))
+    subst IsWorld (sym is.new) (new_world_is command.applet command.operands root.world (read_world_is (found_text_or_empty (read world_read world_name)) root.world is.world))

@@ -11,9 +11,9 @@ use Rattle.adb_view.proofs.FoundShapes.{arr_value_shape, blob_value_text, obj_va
 use Rattle.adb_view.proofs.Normal.{arr_normal, blob_value_normal, obj_normal}
 use Rattle.engine_core.proofs.db_write.RootParts.{EachIn}
 use Rattle.dep_core.specs.Dependency.{Dependency, is_dep_name}
-use Rattle.dep_core.specs.DependencyText.{IsDependency, is_constraint, is_tag_or_none, operator_text}
+use Rattle.dep_core.specs.DependencyText.{IsDependency, is_constraint_or_none, is_tag_or_none, operator_text}
 use Rattle.dep_core.specs.Reading.{dependency_of}
-use Rattle.dep_core.specs.Value.{matching_of}
+use Rattle.dep_core.specs.Value.{match_number_of}
 use Rattle.dep_core.proofs.Operators.{each_operator}
 use Rattle.dep_core.proofs.ReadOut.{read-out}
 use Rattle.version_core.specs.Order.{is_version}
@@ -22,15 +22,15 @@ use Rattle.command_core.specs.Operands.{is_decimal}
 use Rattle.hex.specs.Hex.{decode_of as hex_bytes}
 use Rattle.hex.specs.declared.error.FromHexError.{FromHexError}
 use Rattle.std.specs.Str.Parse.{digits_value}
-use Rattle.make_index.specs.make_info.Fields.{FieldValue, need, and_needs, decimal_number, if_untagged, untagged_dependency_in, needs_in, nonempty_parts, text_if}
+use Rattle.make_index.specs.make_info.Fields.{FieldValue, need, dependency_value_and_others, decimal_number, if_untagged, untagged_dependency_in, dependency_values_in, nonempty_parts, text_value_if}
 use Rattle.make_index.specs.make_info.Information.{plain_value}
 use Rattle.make_index.specs.make_info.Values.{number_value, plains_of_list}
 use Rattle.engine_core.specs.v2_core.Database.{array_of, object_of}
-use Rattle.engine_core.specs.v2_core.Records.{InfoLine, info_by}
-use Rattle.engine_core.specs.v2_lines.Accesses.{Access, access_by, access_in, before_colon, after_colon, is_uid_or_gid, is_octal, octal_number}
+use Rattle.engine_core.specs.v2_core.Records.{InfoLine, info_line_from_parts}
+use Rattle.engine_core.specs.v2_lines.Accesses.{Access, access_from_parts, access_in, before_colon, after_colon, is_uid_or_gid, is_octal, octal_number}
 use Rattle.engine_core.specs.v2_lines.InfoFields.{field_of_letter, grammar_of}
-use Rattle.engine_core.specs.v2_lines.InfoValues.{commit_values, one_number, one_text, sha1_of, values_by_grammar}
-use Rattle.engine_core.specs.v2_lines.Lines.{RecordLine, info_line, folder_line, folder_access_line, file_line, file_access_line, file_hash_line, other_line, file_line_of, folder_line_of, info_line_by, record_line_by, record_line_of}
+use Rattle.engine_core.specs.v2_lines.InfoValues.{commit_values, single_number_value, single_text_value, sha1_of, values_under_grammar}
+use Rattle.engine_core.specs.v2_lines.Lines.{RecordLine, info_line, folder_line, folder_access_line, file_line, file_access_line, file_hash_line, other_line, file_line_of, folder_line_of, info_record_line, record_line_of_letter, record_line_of}
 use Rattle.engine_core.specs.v2_lines.declared.field.Grammar.{Grammar}
 use Rattle.engine_core.specs.v2_lines.declared.field.Grammar.TheVariants as Grammars
 use Rattle.engine_core.specs.v2_lines.declared.field.InfoField.{InfoField}
@@ -106,7 +106,7 @@ small_bits : (bits : ℕ) → is_some (operator_text bits) ≡ true → bits < 1
 small_bits bits e =
     each_operator (λ n. n < 16) (omega arith) (omega arith) (omega arith) (omega arith) (omega arith) (omega arith) (omega arith) (omega arith) bits e
 
-small_matching : (version : Option (List ℕ)) (bits : ℕ) (conflict : Bool) → is_constraint version bits ≡ true → IsSmallIfAny (matching_of version bits conflict)
+small_matching : (version : Option (List ℕ)) (bits : ℕ) (conflict : Bool) → is_constraint_or_none version bits ≡ true → IsSmallIfAny (match_number_of version bits conflict)
 small_matching None bits true h = (omega arith)
 small_matching None bits false h = tt
 small_matching (Some version) bits true h =
@@ -124,10 +124,10 @@ matching_fit (Some n) h = int_fit n h
 need_fit : (d : Dependency) → IsDependency d → IsFit (shape_of (Obj Tables.Dep)) (plain_value (need d))
 unfolding shape_of
 need_fit d h =
-    let parts = and_parts (is_dep_name d.name && is_constraint d.version d.bits) (is_tag_or_none d.tag) h in
-    let limit = and_parts (is_dep_name d.name) (is_constraint d.version d.bits) parts.0 in
-    object_fit 1 _ (blob_or_null d.name ∷ blob_or_null (unwrap_or d.version []) ∷ number_value (matching_of d.version d.bits d.conflict) ∷ [])
-    (text_fit d.name, (text_fit (unwrap_or d.version []), (matching_fit (matching_of d.version d.bits d.conflict) (small_matching d.version d.bits d.conflict limit.1), tt)))
+    let parts = and_parts (is_dep_name d.name && is_constraint_or_none d.version d.bits) (is_tag_or_none d.tag) h in
+    let limit = and_parts (is_dep_name d.name) (is_constraint_or_none d.version d.bits) parts.0 in
+    object_fit 1 _ (blob_or_null d.name ∷ blob_or_null (unwrap_or d.version []) ∷ number_value (match_number_of d.version d.bits d.conflict) ∷ [])
+    (text_fit d.name, (text_fit (unwrap_or d.version []), (matching_fit (match_number_of d.version d.bits d.conflict) (small_matching d.version d.bits d.conflict limit.1), tt)))
 
 -- ---- what a line says of a field
 
@@ -158,7 +158,7 @@ any : {A : Type 0} (P : A → Type 0) (o : Option A) → ((a : A) → P a) → I
 any P None h = tt
 any P (Some a) h = h a
 
-text_good : (b : Bool) (value : List ℕ) → IfSome (text_if b value) (EachIn (λ x. IsFit text_shape (plain_value x)))
+text_good : (b : Bool) (value : List ℕ) → IfSome (text_value_if b value) (EachIn (λ x. IsFit text_shape (plain_value x)))
 text_good true value = (text_fit value, tt)
 text_good false value = tt
 
@@ -188,24 +188,24 @@ need_good part = by_read (dependency_of part) refl
     by_read None e = tt
     by_read (Some d) e = untagged_good d (read-out part d e).0
 
-needs_good : (parts : List (List ℕ)) → IfSome (needs_in parts) (EachIn (IsOfGrammar Grammars.Dependencies))
+needs_good : (parts : List (List ℕ)) → IfSome (dependency_values_in parts) (EachIn (IsOfGrammar Grammars.Dependencies))
 needs_good [] = tt
-needs_good (part ∷ parts) = both (untagged_dependency_in part) (needs_in parts) (need_good part) (needs_good parts)
+needs_good (part ∷ parts) = both (untagged_dependency_in part) (dependency_values_in parts) (need_good part) (needs_good parts)
   where
     both : (d : Option Dependency) (others : Option (List FieldValue)) → IfSome d IsDependency → IfSome others (EachIn (IsOfGrammar Grammars.Dependencies))
-        → IfSome (and_needs d others) (EachIn (IsOfGrammar Grammars.Dependencies))
+        → IfSome (dependency_value_and_others d others) (EachIn (IsOfGrammar Grammars.Dependencies))
     both None others h g = tt
     both (Some d) None h g = tt
     both (Some d) (Some others) h g = (need_fit d h, g)
 
-values_good : (g : Grammar) (value : List ℕ) → IfSome (values_by_grammar g value) (EachIn (IsOfGrammar g))
+values_good : (g : Grammar) (value : List ℕ) → IfSome (values_under_grammar g value) (EachIn (IsOfGrammar g))
 values_good Grammars.Sha1Text value =
-    map_some (λ b. IsFit hash_shape (blob_or_null b)) (EachIn (IsOfGrammar Grammars.Sha1Text)) one_text (sha1_of value) (λ b h. (h, tt)) (any (λ b. IsFit hash_shape (blob_or_null b)) (sha1_of value) hash_fit)
+    map_some (λ b. IsFit hash_shape (blob_or_null b)) (EachIn (IsOfGrammar Grammars.Sha1Text)) single_text_value (sha1_of value) (λ b h. (h, tt)) (any (λ b. IsFit hash_shape (blob_or_null b)) (sha1_of value) hash_fit)
 values_good Grammars.PackageName value = text_good (is_package_name value) value
 values_good Grammars.PackageVersion value = text_good (is_version value) value
 values_good Grammars.AnyText value = text_good true value
 values_good Grammars.Number value =
-    map_some (λ n. n < 2 ^ 64) (EachIn (IsOfGrammar Grammars.Number)) one_number (decimal_number value) (λ n h. (int_fit n h, tt)) (number_good value)
+    map_some (λ n. n < 2 ^ 64) (EachIn (IsOfGrammar Grammars.Number)) single_number_value (decimal_number value) (λ n h. (int_fit n h, tt)) (number_good value)
 values_good Grammars.Commit value = commit_good (hex_bytes value)
 values_good Grammars.Dependencies value = needs_good (nonempty_parts value)
 
@@ -225,13 +225,13 @@ octal_good digits = by_test (is_octal digits) (nat_lt (digits_value 8 digits) (2
 access_good : (value : List ℕ) → IfSome (access_in value) IsGoodAccess
 access_good value =
     if_each (λ o. IfSome o IsGoodAccess) (is_uid_or_gid (before_colon value) && is_uid_or_gid (before_colon (after_colon value))) _ None
-    (map_some (λ n. n < 2 ^ 64) IsGoodAccess (access_by (before_colon value) (before_colon (after_colon value))) (octal_number (before_colon (after_colon (after_colon value)))) (λ n h. h)
+    (map_some (λ n. n < 2 ^ 64) IsGoodAccess (access_from_parts (before_colon value) (before_colon (after_colon value))) (octal_number (before_colon (after_colon (after_colon value)))) (λ n h. h)
     (octal_good (before_colon (after_colon (after_colon value))))) tt
 
 -- ---- a line
 
 abbrev pub IsGoodRecordLine : RecordLine → Type 0
-IsGoodRecordLine (info_line f values) = IsGoodLine (info_by f values)
+IsGoodRecordLine (info_line f values) = IsGoodLine (info_line_from_parts f values)
 IsGoodRecordLine (folder_line name) = Unit {0}
 IsGoodRecordLine (folder_access_line a) = IsGoodAccess a
 IsGoodRecordLine (file_line name) = Unit {0}
@@ -242,14 +242,14 @@ IsGoodRecordLine other_line = Unit {0}
 abbrev IsGoodIfAny : Option RecordLine → Type 0
 IsGoodIfAny o = IfSome o IsGoodRecordLine
 
-info_good : (f : Option InfoField) (value : List ℕ) → IsGoodIfAny (info_line_by f value)
+info_good : (f : Option InfoField) (value : List ℕ) → IsGoodIfAny (info_record_line f value)
 info_good None value = tt
 info_good (Some f) value =
-    map_some (EachIn (IsOfGrammar (grammar_of f))) IsGoodRecordLine (info_line f) (values_by_grammar (grammar_of f) value) (λ values h. h) (values_good (grammar_of f) value)
+    map_some (EachIn (IsOfGrammar (grammar_of f))) IsGoodRecordLine (info_line f) (values_under_grammar (grammar_of f) value) (λ values h. h) (values_good (grammar_of f) value)
 
 -- what the letters F, M, R, a and Z say, and each other one
 abbrev line_by_other : ℕ → List ℕ → Option RecordLine
-line_by_other letter value = info_line_by (field_of_letter letter) value
+line_by_other letter value = info_record_line (field_of_letter letter) value
 
 abbrev line_by_hash : ℕ → List ℕ → Option RecordLine
 line_by_hash letter value = if letter == 90 then option_map file_hash_line (sha1_of value) else line_by_other letter value
@@ -263,8 +263,8 @@ line_by_file letter value = if letter == 82 then file_line_of value else line_by
 abbrev line_by_folder_access : ℕ → List ℕ → Option RecordLine
 line_by_folder_access letter value = if letter == 77 then option_map folder_access_line (access_in value) else line_by_file letter value
 
-by_letter_good : (letter : ℕ) (value : List ℕ) → IsGoodIfAny (record_line_by letter value)
-unfolding record_line_by
+by_letter_good : (letter : ℕ) (value : List ℕ) → IsGoodIfAny (record_line_of_letter letter value)
+unfolding record_line_of_letter
 by_letter_good letter value =
     if_each IsGoodIfAny (letter == 70) (folder_line_of value) (line_by_folder_access letter value) (if_each IsGoodIfAny (is_folder_name value) (Some (folder_line value)) None tt tt)
     (if_each IsGoodIfAny (letter == 77) (option_map folder_access_line (access_in value)) (line_by_file letter value) (map_some IsGoodAccess IsGoodRecordLine folder_access_line (access_in value) (λ a h. h) (access_good value))
@@ -276,4 +276,4 @@ by_letter_good letter value =
 pub line_good : (line : List ℕ) → IsGoodIfAny (record_line_of line)
 line_good [] = tt
 line_good (letter ∷ []) = tt
-line_good (letter ∷ mark ∷ value) = if_each IsGoodIfAny (mark == 58) (record_line_by letter value) None (by_letter_good letter value) tt
+line_good (letter ∷ mark ∷ value) = if_each IsGoodIfAny (mark == 58) (record_line_of_letter letter value) None (by_letter_good letter value) tt

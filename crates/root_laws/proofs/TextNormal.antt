@@ -10,7 +10,7 @@ use Rattle.adb_view.specs.declared.tables.Which.TheVariants as Tables
 use Rattle.adb_view.specs.Head.{root_of}
 use Rattle.adb_view.specs.Plain.{IsNormal, Plain, Shape, null, plain_of, value_of}
 use Rattle.adb_view.specs.Shaped.{HasShape}
-use Rattle.make_index.specs.adb_write.Canonical.{MOST_BYTES, PayloadCounts, canonical, exceeds_a_limit, or_overflow, overflow_of, written_of}
+use Rattle.make_index.specs.adb_write.Canonical.{MOST_BYTES, PayloadCounts, canonical, exceeds_a_limit, or_overflow, overflow_of, payload_or_overflow}
 use Rattle.make_index.specs.adb_write.Size.{size_of, value_count}
 use Rattle.base_core.specs.declared.cause.Cause.{Cause}
 use Rattle.base_core.proofs.Booleans.{neither_first}
@@ -50,8 +50,8 @@ unfolding value_at
 root_is payload v e = value_is (shape_of (Obj Tables.Idb)) payload v e
 
 module _ (back : ReadBack) (exact : Exact) where
-  written_normal : (v : Plain) (payload : List ℕ) → IsFit (shape_of (Obj Tables.Idb)) v → payload_if_sound (or_too_large (written_of v)) ≡ kept payload → IsNormal (root_value Tables.Idb payload)
-  unfolding written_of
+  written_normal : (v : Plain) (payload : List ℕ) → IsFit (shape_of (Obj Tables.Idb)) v → payload_if_sound (or_too_large (payload_or_overflow v)) ≡ kept payload → IsNormal (root_value Tables.Idb payload)
+  unfolding payload_or_overflow
   written_normal v payload fit e =
       let written = written_ok v (overflow_of v) payload e in
       let few : size_of v ≤ MOST_BYTES = ltb-false MOST_BYTES (size_of v) (neither_first _ _ (sym (exact v fit.0) ∙ written.0)) in

@@ -12,11 +12,11 @@ use Rattle.engine_core.proofs.db_write.RootParts.{EachIn}
 use Rattle.dep_core.specs.World.{lines_of}
 use Rattle.make_index.specs.make_info.Fields.{FieldValue}
 use Rattle.make_index.specs.make_info.Information.{plain_value}
-use Rattle.engine_core.specs.v2_core.Database.{array_of, joined_value, listed_access_value, listed_file_value, listed_folder_value, listed_hash_value, record_info_value, record_value, single_value, value_of_first, value_of_line, value_of_records, values_for}
-use Rattle.engine_core.specs.v2_core.Reading.{at_record_end, records_from, records_of, with_records, with_text}
-use Rattle.engine_core.specs.v2_core.Records.{InfoLine, ListedFile, ListedFolder, Record, empty_record, file_by, file_with_access, file_with_hash, folder_by, folder_with_access, folder_with_file, folder_with_files, folder_with_last, has_line_of, info_by, is_line_of, lacks_needed_line, record_of_parts, with_info_line, with_last_changed, with_path_line, with_record_line}
+use Rattle.engine_core.specs.v2_core.Database.{array_of, array_of_field_values, listed_access_value, listed_file_value, listed_folder_value, listed_hash_value, record_info_value, record_value, value_of_single_line_field, value_of_first_or_null, value_of_line, value_of_records, values_for}
+use Rattle.engine_core.specs.v2_core.Reading.{records_from_record_end, records_from, records_of, with_records, record_with_text_line}
+use Rattle.engine_core.specs.v2_core.Records.{InfoLine, ListedFile, ListedFolder, Record, empty_record, listed_file_from_parts, file_with_access, file_with_hash, listed_folder_from_parts, folder_with_access, folder_with_file, folder_with_files, folder_with_last, has_line_of, info_line_from_parts, is_line_of, lacks_needed_line, record_if_both_parts, with_info_line, with_last_changed, with_path_line, with_record_line}
 use Rattle.engine_core.specs.v2_lines.Accesses.{Access}
-use Rattle.engine_core.specs.v2_lines.InfoFields.{adds_to_list, grammar_of, info_field_among, info_fields, letter_of}
+use Rattle.engine_core.specs.v2_lines.InfoFields.{is_list_info_field, grammar_of, info_field_among, info_fields, letter_of}
 use Rattle.engine_core.specs.v2_lines.Lines.{RecordLine, info_line, folder_line, folder_access_line, file_line, file_access_line, file_hash_line, other_line, record_line_of}
 use Rattle.engine_core.specs.v2_lines.declared.field.Grammar.{Grammar}
 use Rattle.engine_core.specs.v2_lines.declared.field.InfoField.{InfoField}
@@ -48,16 +48,16 @@ last_good P change f (x ∷ []) h = map_some P (EachIn P) (λ y. y ∷ []) (chan
 last_good P change f (x ∷ y ∷ rest) h = map_some (EachIn P) (EachIn P) (λ rest. x ∷ rest) (with_last_changed change (y ∷ rest)) (λ ys g. (h.0, g)) (last_good P change f (y ∷ rest) h.1)
 
 file_access_good : (a : Access) → IsGoodAccess a → (file : ListedFile) → IsGoodFile file → IfSome (file_with_access a file) IsGoodFile
-file_access_good a h file g = if_each (λ o. IfSome o IsGoodFile) (is_some file.access) None (Some (file_by file.name (Some a) file.hash)) tt h
+file_access_good a h file g = if_each (λ o. IfSome o IsGoodFile) (is_some file.access) None (Some (listed_file_from_parts file.name (Some a) file.hash)) tt h
 
 file_hash_good : (hash : List ℕ) (file : ListedFile) → IsGoodFile file → IfSome (file_with_hash hash file) IsGoodFile
-file_hash_good hash file g = if_each (λ o. IfSome o IsGoodFile) (is_some file.hash) None (Some (file_by file.name file.access (Some hash))) tt g
+file_hash_good hash file g = if_each (λ o. IfSome o IsGoodFile) (is_some file.hash) None (Some (listed_file_from_parts file.name file.access (Some hash))) tt g
 
 folder_access_good : (a : Access) → IsGoodAccess a → (folder : ListedFolder) → IsGoodFolder folder → IfSome (folder_with_access a folder) IsGoodFolder
-folder_access_good a h folder g = if_each (λ o. IfSome o IsGoodFolder) (is_some folder.access) None (Some (folder_by folder.name (Some a) folder.files)) tt (h, g.1)
+folder_access_good a h folder g = if_each (λ o. IfSome o IsGoodFolder) (is_some folder.access) None (Some (listed_folder_from_parts folder.name (Some a) folder.files)) tt (h, g.1)
 
 folder_file_good : (name : List ℕ) (folder : ListedFolder) → IsGoodFolder folder → IfSome (folder_with_file name folder) IsGoodFolder
-folder_file_good name folder g = (g.0, each_behind IsGoodFile folder.files (file_by name None None) g.1 tt)
+folder_file_good name folder g = (g.0, each_behind IsGoodFile folder.files (listed_file_from_parts name None None) g.1 tt)
 
 folder_last_good : (change : ListedFile → Option ListedFile) → ((file : ListedFile) → IsGoodFile file → IfSome (change file) IsGoodFile) → (folder : ListedFolder) → IsGoodFolder folder → IfSome (folder_with_last change folder) IsGoodFolder
 folder_last_good change f folder g =
@@ -65,7 +65,7 @@ folder_last_good change f folder g =
 
 paths_good : (line : RecordLine) (folders : List ListedFolder) → IsGoodRecordLine line → EachIn IsGoodFolder folders → IfSome (with_path_line line folders) (EachIn IsGoodFolder)
 paths_good (info_line f values) folders h g = g
-paths_good (folder_line name) folders h g = each_behind IsGoodFolder folders (folder_by name None []) g (tt, tt)
+paths_good (folder_line name) folders h g = each_behind IsGoodFolder folders (listed_folder_from_parts name None []) g (tt, tt)
 paths_good (folder_access_line a) folders h g = last_good IsGoodFolder (folder_with_access a) (folder_access_good a h) folders g
 paths_good (file_line name) folders h g = last_good IsGoodFolder (folder_with_file name) (folder_file_good name) folders g
 paths_good (file_access_line a) folders h g = last_good IsGoodFolder (folder_with_last (file_with_access a)) (folder_last_good (file_with_access a) (file_access_good a h)) folders g
@@ -74,7 +74,7 @@ paths_good other_line folders h g = g
 
 infos_good : (line : RecordLine) (info : List InfoLine) → IsGoodRecordLine line → EachIn IsGoodLine info → IfSome (with_info_line line info) (EachIn IsGoodLine)
 infos_good (info_line f values) info h g =
-    if_each (λ o. IfSome o (EachIn IsGoodLine)) (not (adds_to_list f) && has_line_of f info) None (Some (info ++ info_by f values ∷ [])) tt (each_behind IsGoodLine info (info_by f values) g h)
+    if_each (λ o. IfSome o (EachIn IsGoodLine)) (not (is_list_info_field f) && has_line_of f info) None (Some (info ++ info_line_from_parts f values ∷ [])) tt (each_behind IsGoodLine info (info_line_from_parts f values) g h)
 infos_good (folder_line name) info h g = g
 infos_good (folder_access_line a) info h g = g
 infos_good (file_line name) info h g = g
@@ -82,7 +82,7 @@ infos_good (file_access_line a) info h g = g
 infos_good (file_hash_line hash) info h g = g
 infos_good other_line info h g = g
 
-parts_good : (info : Option (List InfoLine)) (folders : Option (List ListedFolder)) → IfSome info (EachIn IsGoodLine) → IfSome folders (EachIn IsGoodFolder) → IfSome (record_of_parts info folders) IsGoodRecord
+parts_good : (info : Option (List InfoLine)) (folders : Option (List ListedFolder)) → IfSome info (EachIn IsGoodLine) → IfSome folders (EachIn IsGoodFolder) → IfSome (record_if_both_parts info folders) IsGoodRecord
 parts_good None folders h g = tt
 parts_good (Some info) None h g = tt
 parts_good (Some info) (Some folders) h g = (h, g)
@@ -101,16 +101,16 @@ joined_good : (r : Record) (others : Result (List Record) ℕ) → IsGoodRecord 
 joined_good r (Ok others) h g = (h, g)
 joined_good r (Err line) h g = tt
 
-end_good : (lines : ℕ) (r : Record) (others : Result (List Record) ℕ) → IsGoodRecord r → AreGoodIfRead others → AreGoodIfRead (at_record_end lines r others)
+end_good : (lines : ℕ) (r : Record) (others : Result (List Record) ℕ) → IsGoodRecord r → AreGoodIfRead others → AreGoodIfRead (records_from_record_end lines r others)
 end_good lines r others h g =
     if_each AreGoodIfRead r.has_line _ others (if_each AreGoodIfRead (lacks_needed_line r.info) (Err lines) (with_records (r ∷ []) others) tt (joined_good r others h g)) g
 
 from_good : (lines : List (List ℕ)) (before : ℕ) (r : Record) → IsGoodRecord r → AreGoodIfRead (records_from before r lines)
 from_good [] before r h = end_good before r (Ok []) h tt
 from_good (line ∷ lines) before r h =
-    if_each AreGoodIfRead (length line == 0) (at_record_end before r (records_from (before + 1) empty_record lines)) _
+    if_each AreGoodIfRead (length line == 0) (records_from_record_end before r (records_from (before + 1) empty_record lines)) _
     (end_good before r (records_from (before + 1) empty_record lines) h (from_good lines (before + 1) empty_record (tt, tt)))
-    (by_next (with_text r line) (next_good r (record_line_of line) h (line_good line)) (from_good lines (before + 1)))
+    (by_next (record_with_text_line r line) (next_good r (record_line_of line) h (line_good line)) (from_good lines (before + 1)))
   where
     by_next : (o : Option Record) → IfSome o IsGoodRecord → ((next : Record) → IsGoodRecord next → AreGoodIfRead (records_from (before + 1) next lines))
         → AreGoodIfRead (option_map_or (λ next. records_from (before + 1) next lines) o (Err (before + 1)))
@@ -156,14 +156,14 @@ same_grammar f line e =
     some_same (grammar_of line.field) (grammar_of f)
     (sym (by_letter line.field) ∙ (ap grammar_by_letter (eqb-true (letter_of line.field) (letter_of f) e) ∙ by_letter f))
 
-first_fit : (g : Grammar) (values : List FieldValue) → EachIn (IsOfGrammar g) values → IsFit (shape_for g) (value_of_first values)
+first_fit : (g : Grammar) (values : List FieldValue) → EachIn (IsOfGrammar g) values → IsFit (shape_for g) (value_of_first_or_null values)
 first_fit g [] h = null_fit (shape_for g)
 first_fit g (v ∷ vs) h = h.0
 
 line_fit : (f : InfoField) (line : InfoLine) → is_line_of f line ≡ true → IsGoodLine line → EachIn (IsOfGrammar (grammar_of f)) line.values
 line_fit f line e h = subst (λ (g : Grammar). EachIn (IsOfGrammar g) line.values) (same_grammar f line e) h
 
-single_fit : (f : InfoField) (info : List InfoLine) → EachIn IsGoodLine info → IsFit (shape_for (grammar_of f)) (single_value f info)
+single_fit : (f : InfoField) (info : List InfoLine) → EachIn IsGoodLine info → IsFit (shape_for (grammar_of f)) (value_of_single_line_field f info)
 single_fit f [] h = null_fit (shape_for (grammar_of f))
 single_fit f (line ∷ info) h = by_test (is_line_of f line) refl (single_fit f info h.1)
   where
@@ -189,14 +189,14 @@ all_values f (line ∷ info) h =
     by_test true e = line_fit f line e h.0
     by_test false e = tt
 
-joined_fit : (f : InfoField) (info : List InfoLine) → EachIn IsGoodLine info → IsFit (array (shape_for (grammar_of f))) (joined_value f info)
+joined_fit : (f : InfoField) (info : List InfoLine) → EachIn IsGoodLine info → IsFit (array (shape_for (grammar_of f))) (array_of_field_values f info)
 joined_fit f info h = array_fit (shape_for (grammar_of f)) (map plain_value (flat_map (values_for f) info)) (each_plain (grammar_of f) (flat_map (values_for f) info) (all_values f info h))
 
 info_fit : (info : List InfoLine) → EachIn IsGoodLine info → IsFit (shape_of (Obj Tables.PkgInfo)) (record_info_value info)
 unfolding shape_of record_info_value
 info_fit info h =
     object_fit 3 _
-    (single_value InfoFields.Name info ∷ single_value InfoFields.Version info ∷ single_value InfoFields.Hashes info ∷ single_value InfoFields.Description info ∷ single_value InfoFields.Arch info ∷ single_value InfoFields.License info ∷ single_value InfoFields.Origin info ∷ single_value InfoFields.Maintainer info ∷ single_value InfoFields.Url info ∷ single_value InfoFields.RepoCommit info ∷ single_value InfoFields.BuildTime info ∷ single_value InfoFields.InstalledSize info ∷ null ∷ single_value InfoFields.ProviderPriority info ∷ joined_value InfoFields.Depends info ∷ joined_value InfoFields.Provides info ∷ joined_value InfoFields.Replaces info ∷ joined_value InfoFields.InstallIf info ∷ []) (
+    (value_of_single_line_field InfoFields.Name info ∷ value_of_single_line_field InfoFields.Version info ∷ value_of_single_line_field InfoFields.Hashes info ∷ value_of_single_line_field InfoFields.Description info ∷ value_of_single_line_field InfoFields.Arch info ∷ value_of_single_line_field InfoFields.License info ∷ value_of_single_line_field InfoFields.Origin info ∷ value_of_single_line_field InfoFields.Maintainer info ∷ value_of_single_line_field InfoFields.Url info ∷ value_of_single_line_field InfoFields.RepoCommit info ∷ value_of_single_line_field InfoFields.BuildTime info ∷ value_of_single_line_field InfoFields.InstalledSize info ∷ null ∷ value_of_single_line_field InfoFields.ProviderPriority info ∷ array_of_field_values InfoFields.Depends info ∷ array_of_field_values InfoFields.Provides info ∷ array_of_field_values InfoFields.Replaces info ∷ array_of_field_values InfoFields.InstallIf info ∷ []) (
       single_fit InfoFields.Name info h,
       (
         single_fit InfoFields.Version info h,
@@ -273,7 +273,7 @@ folder_fit folder h =
 record_fit : (r : Record) → IsGoodRecord r → IsFit (shape_of (Obj Tables.Package)) (record_value r)
 unfolding shape_of
 record_fit r h =
-    object_fit 7 _ (record_info_value r.info ∷ array_of (map listed_folder_value r.folders) ∷ null ∷ null ∷ single_value InfoFields.ReplacesPriority r.info ∷ []) (
+    object_fit 7 _ (record_info_value r.info ∷ array_of (map listed_folder_value r.folders) ∷ null ∷ null ∷ value_of_single_line_field InfoFields.ReplacesPriority r.info ∷ []) (
       info_fit r.info h.0,
       (
         array_fit (shape_of (Obj Tables.Dir)) (map listed_folder_value r.folders) (map_fit IsGoodFolder (shape_of (Obj Tables.Dir)) listed_folder_value folder_fit r.folders h.1),

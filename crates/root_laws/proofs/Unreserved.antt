@@ -11,11 +11,11 @@ use Rattle.make_index.specs.adb_fields.FirstPair.{IsIn}
 use Rattle.make_index.specs.adb_fields.Paths.{path_of}
 use Rattle.make_index.specs.adb_fields.Repeated.{files_in, folders_in, list_of, name_of}
 use Rattle.make_index.specs.adb_schema.Reserved.{is_reserved}
-use Rattle.make_index.specs.adb_schema.SoundValues.{IsFileOf, IsFolder, IsPackage}
-use Rattle.engine_core.specs.change_files.PlanLists.{first_reserved}
-use Rattle.engine_core.specs.db_core.Members.{Listing, Member, is_added, listings_by, listings_from, listings_in_folder, listings_in_folders, member_listings}
+use Rattle.make_index.specs.adb_schema.SoundValues.{IsSoundFileOf, IsSoundFolder, IsSoundPackage}
+use Rattle.engine_core.specs.change_files.PlanLists.{first_reserved_path}
+use Rattle.engine_core.specs.db_core.Members.{Listing, Member, is_added, listings_of_member, listings_of_members_from, listings_in_folder, listings_in_folders, member_listings}
 use Rattle.engine_core.specs.db_core.OwnedListings.{HaveOneOwner, owned_listings}
-use Rattle.engine_core.specs.db_core.SoundMembers.{AreOfSoundContainers, IsOfSoundContainer, IsOfSoundDatabase, MayBeListed, NoneReserved}
+use Rattle.engine_core.specs.db_core.SoundMembers.{AreOfSoundContainers, IsOfSoundContainer, IsOfSoundDatabase, MayBeInDatabase, NoneReserved}
 use Rattle.base_core.specs.ByteOrder.{precedes, smaller_text, smallest_text}
 
 -- ---- a property of each listing
@@ -44,14 +44,14 @@ each_in P v (more u us) h (inr here) = each_in P v us h.1 here
 abbrev IsFree : Listing → Type 0
 IsFree l = is_reserved l.path ≡ false
 
-file_free : (folder : List ℕ) (v : Plain) → IsFileOf Idb folder v → is_reserved (path_of folder (name_of v)) ≡ false
+file_free : (folder : List ℕ) (v : Plain) → IsSoundFileOf Idb folder v → is_reserved (path_of folder (name_of v)) ≡ false
 file_free folder v is = not-true (is_reserved (path_of folder (name_of v))) is.listed
 
-folder_free : (m : Member) (place folder i : ℕ) (above : List ℕ) (vs : Plains) → Each (IsFileOf Idb above) vs → EachListing IsFree (listings_in_folder m place folder i above (list_of vs))
+folder_free : (m : Member) (place folder i : ℕ) (above : List ℕ) (vs : Plains) → Each (IsSoundFileOf Idb above) vs → EachListing IsFree (listings_in_folder m place folder i above (list_of vs))
 folder_free m place folder i above none h = tt
 folder_free m place folder i above (more v vs) h = (file_free above v h.0, folder_free m place folder (i + 1) above vs h.1)
 
-folders_free : (m : Member) (place i : ℕ) (vs : Plains) → Each (IsFolder Idb) vs → EachListing IsFree (listings_in_folders m place i (list_of vs))
+folders_free : (m : Member) (place i : ℕ) (vs : Plains) → Each (IsSoundFolder Idb) vs → EachListing IsFree (listings_in_folders m place i (list_of vs))
 folders_free m place i none h = tt
 folders_free m place i (more v vs) h =
     each_appended IsFree (listings_in_folder m place i 1 (name_of v) (files_in v)) (listings_in_folders m place (i + 1) (list_of vs))
@@ -65,10 +65,10 @@ weaker : (ls : List Listing) → EachListing IsFree ls → EachListing IsFreeIfS
 weaker [] h = tt
 weaker (l ∷ ls) h = (λ stays. h.0, weaker ls h.1)
 
-listed_free : (m : Member) (place : ℕ) → IsOfSoundDatabase m.pkg → EachListing IsFreeIfStays (listings_by place m)
+listed_free : (m : Member) (place : ℕ) → IsOfSoundDatabase m.pkg → EachListing IsFreeIfStays (listings_of_member place m)
 listed_free m place h =
-    let rules : IsPackage Idb m.pkg = each_in (IsPackage Idb) m.pkg (entries_in (entry_in h.database 0)) h.sound.rules h.listed in
-    weaker (listings_by place m) (folders_free m place 1 (entries_in (entry_in m.pkg 1)) rules.folders)
+    let rules : IsSoundPackage Idb m.pkg = each_in (IsSoundPackage Idb) m.pkg (entries_in (entry_in h.database 0)) h.sound.rules h.listed in
+    weaker (listings_of_member place m) (folders_free m place 1 (entries_in (entry_in m.pkg 1)) rules.folders)
 
 -- ---- of a member that comes nothing is asked
 
@@ -83,16 +83,16 @@ module _ (m : Member) (place : ℕ) (comes : is_added m ≡ true) where
       each_appended IsFreeIfStays (listings_in_folder m place i 1 (name_of f) (files_in f)) (listings_in_folders m place (i + 1) fs)
       (folder_comes i 1 (name_of f) (files_in f)) (folders_come (i + 1) fs)
 
-member_free : (m : Member) (place : ℕ) → IsOfSoundContainer m.pkg m.id → EachListing IsFreeIfStays (listings_by place m)
+member_free : (m : Member) (place : ℕ) → IsOfSoundContainer m.pkg m.id → EachListing IsFreeIfStays (listings_of_member place m)
 member_free m place h = by_id m.id refl h
   where
-    by_id : (id : Option (List ℕ)) → m.id ≡ id → IsOfSoundContainer m.pkg id → EachListing IsFreeIfStays (listings_by place m)
+    by_id : (id : Option (List ℕ)) → m.id ≡ id → IsOfSoundContainer m.pkg id → EachListing IsFreeIfStays (listings_of_member place m)
     by_id None e sound = listed_free m place sound
     by_id (Some digest) e sound = folders_come m place (ap is_some e) 1 (folders_in m.pkg)
 
-members_free : (place : ℕ) (ms : List Member) → AreOfSoundContainers ms → EachListing IsFreeIfStays (listings_from place ms)
+members_free : (place : ℕ) (ms : List Member) → AreOfSoundContainers ms → EachListing IsFreeIfStays (listings_of_members_from place ms)
 members_free place [] h = tt
-members_free place (m ∷ ms) h = each_appended IsFreeIfStays (listings_by place m) (listings_from (place + 1) ms) (member_free m place h.0) (members_free (place + 1) ms h.1)
+members_free place (m ∷ ms) h = each_appended IsFreeIfStays (listings_of_member place m) (listings_of_members_from (place + 1) ms) (member_free m place h.0) (members_free (place + 1) ms h.1)
 
 -- ---- of members, where none that comes lists a reserved path
 
@@ -127,12 +127,12 @@ none_reserved [] h = tt
 none_reserved (l ∷ ls) h = (h.0, none_reserved ls h.1)
 
 -- so what they own may be listed
-pub may_be_listed : (members : List Member) (flags : List Bool) → HaveOneOwner (owned_listings (member_listings members) flags) → AreOfSoundContainers members → first_reserved members ≡ None
-    → MayBeListed (owned_listings (member_listings members) flags)
-unfolding member_listings first_reserved
+pub may_be_listed : (members : List Member) (flags : List Bool) → HaveOneOwner (owned_listings (member_listings members) flags) → AreOfSoundContainers members → first_reserved_path members ≡ None
+    → MayBeInDatabase (owned_listings (member_listings members) flags)
+unfolding member_listings first_reserved_path
 may_be_listed members flags one sound free =
     record {
       one_owner = one;
-      free = none_reserved (owned_listings (listings_from 0 members) flags)
-          (each_owned IsFree (listings_from 0 members) flags (all_free (listings_from 0 members) free (members_free 0 members sound)));
+      free = none_reserved (owned_listings (listings_of_members_from 0 members) flags)
+          (each_owned IsFree (listings_of_members_from 0 members) flags (all_free (listings_of_members_from 0 members) free (members_free 0 members sound)));
     }

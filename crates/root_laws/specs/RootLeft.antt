@@ -3,18 +3,18 @@
 use Rattle.std.specs.Prelude.{◌≡◌, ℕ, ◌<◌, false, List, All, Option, Some, Ok}
 use Rattle.make_index.specs.adb_fields.Repeated.{list_of}
 use Rattle.base_core.specs.Files.{Files}
-use Rattle.engine_core.specs.change_inputs.Database.{Database, database_by}
+use Rattle.engine_core.specs.change_inputs.Database.{Database, database_from_parts}
 use Rattle.engine_core.specs.change_inputs.Inputs.{database_for, database_read, world_read}
-use Rattle.engine_core.specs.change_inputs.World.{root_world, text_found}
+use Rattle.engine_core.specs.change_inputs.World.{root_world, found_text_or_empty}
 use Rattle.engine_core.specs.change_outcome.ChangeOutcome.{ChangeDone, change_members}
 use Rattle.engine_core.specs.change_outcome.MembersAfter.{MemberFound, found_members}
 use Rattle.command_core.specs.Command.{CommandLine}
 use Rattle.engine_core.specs.db_core.Members.{Member}
-use Rattle.engine_core.specs.db_write.NewDatabase.{packages_after}
+use Rattle.engine_core.specs.db_write.NewDatabase.{packages_in_new_database}
 use Rattle.dep_core.specs.World.{world_text}
 use Rattle.engine_core.specs.Changed.{Selected, selected_for}
 use Rattle.engine_core.specs.Wishes.{wishes_of}
-use Rattle.engine_core.specs.file_owners.Owners.{owned_of}
+use Rattle.engine_core.specs.file_owners.Owners.{owned_flags_of}
 use Rattle.make_index.specs.make_info.Reads.{Reads}
 use Rattle.root_names.specs.RootNames.{database_name, world_name}
 
@@ -31,7 +31,7 @@ pub record ReadsRoot (files : Files) (read : Reads) : Type 0 where
 -- the database of packages, each with the files that it owns, in a container of these bytes
 abbrev pub database_of_members : List Member → List ℕ → Database
 database_of_members members bytes =
-    database_by (list_of (packages_after members (owned_of members))) (Some bytes) false
+    database_from_parts (list_of (packages_in_new_database members (owned_flags_of members))) (Some bytes) false
 
 -- A change leaves a root in which each later command finds a database with the packages after the
 -- change, and the world that the change was made for.
@@ -46,6 +46,6 @@ pub record IsRootLeft (command : CommandLine) (read : Reads) (chosen : Option (L
   pub database : (later : CommandLine) (next : Reads) → ReadsRoot done.files next
       → database_for later next ≡ Ok (database_of_members (found_members found) bytes)
   pub world : (next : Reads) → ReadsRoot done.files next
-      → root_world (text_found (next world_read world_name)) ≡ Ok selected.inputs.root.new_world
+      → root_world (found_text_or_empty (next world_read world_name)) ≡ Ok selected.inputs.root.new_world
   pub text : (next : Reads) → ReadsRoot done.files next
-      → text_found (next world_read world_name) ≡ world_text selected.inputs.root.new_world
+      → found_text_or_empty (next world_read world_name) ≡ world_text selected.inputs.root.new_world

@@ -29,6 +29,7 @@ fn run_rows<P: Program>(
     rows: &[Row],
     report: &mut Vec<u8>,
 ) -> Result<bool, AllocError> {
+    // The trees that earlier rows left. A later row can begin with one of them.
     let mut left = Vec::new(alloc);
     let mut failed = 0u64;
     for row in rows {

@@ -1,6 +1,6 @@
 -- Along a list of runs, stops and crashes.
 use Rattle.std.proofs.Common.{◌≡◌, inl, inr, ⊎_elim, ℕ, false, List, [], ◌∷◌, Option, None, sym, subst, ◌∙◌}
-use Rattle.apk_front.specs.Moments.{AnswersOutcome, IgnoresScratchOf, IsDurableState, ignored_but}
+use Rattle.apk_front.specs.Moments.{AnswersOutcome, IgnoresScratchOf, IsDurableState, ignored_except_output}
 use Rattle.apk_front.specs.declared.answer.Answer.{Answer}
 use Rattle.apk_front.specs.declared.answer.Answer.TheVariants.{Ok as Done, Refused, TreeFault, OutFault, Memory}
 use Rattle.base_core.specs.Calls.{HoldsNow}
@@ -10,7 +10,7 @@ use Rattle.base_core.specs.Tree.{TreeState, files_of}
 use Rattle.apk_front.specs.journal_core.Quiet.{EachCrashLeavesOld}
 use Rattle.apk_front.specs.journal_core.Recovery.{EachCrashLeaves, StateDependsOn, intent_name}
 use Rattle.apk_front.specs.outcome.Effect.{output}
-use Rattle.run_lists.specs.Events.{Crashes, Edits, Ends, Event, HasNoPendingRun, Reaches, ReachesOneState, IsAllSynced, IsRunWithoutCommit, IsMomentOf, IsRunFrom, IsTornFrom, KeepsOneState, IsTransition, MakesOneState, Run, Stops, Touches, ignored_after, ignored_by, ignored_in, nothing_ignored, with_scratch, with_touched}
+use Rattle.run_lists.specs.Events.{Crashes, Edits, Ends, Event, HasNoPendingRun, Reaches, ReachesOneState, IsAllSynced, IsRunWithoutCommit, IsMomentOf, IsRunFrom, DiffersOnlyInUnsyncedBytes, KeepsOneStateAfterCrash, IsTransition, LeavesOneStateAfterCrash, Run, Stops, Touches, ignored_after, ignored_after_answer, ignored_during_run, nothing_ignored, ignored_with_scratch, ignored_with_touched}
 use Rattle.run_lists.specs.Safety.{IsAtomic, IsSafe, LeavesOutcome}
 use Rattle.run_lists.proofs.AtMoments.{now_at}
 use Rattle.run_lists.proofs.Ending.{Resting, ends_at_rest, ends_so}
@@ -41,14 +41,14 @@ module _ (facts : Facts) (start : Ignored) (off : start intent_name ≡ false) w
       let names = ignored_after start earlier in
       let hidden = after_hides start off earlier in
       ends_so facts names v run is_run hidden is_durable InOrder (order_rests facts) w ends (λ is_unchanged. is_unchanged.is_durable)
-      (λ fault. now_at run.now (IsDurable (StateDependsOn (ignored_in run names))) w
-      (is_run.is_durable (ignored_in run names) (now_durable facts names v run is_run hidden is_durable) (now_hides facts names v run is_run hidden is_durable)) ends)
+      (λ fault. now_at run.now (IsDurable (StateDependsOn (ignored_during_run run names))) w
+      (is_run.is_durable (ignored_during_run run names) (now_durable facts names v run is_run hidden is_durable) (now_hides facts names v run is_run hidden is_durable)) ends)
   led_durable (Stops run) earlier v w is_durable (is_run, (m, moment, torn)) =
       let names = ignored_after start earlier in
       let hidden = after_hides start off earlier in
-      torn_durable m w torn (ignored_in run names)
+      torn_durable m w torn (ignored_during_run run names)
       (durable_at facts names v run is_run hidden is_durable
-      (is_run.crash (ignored_in run names) (now_durable facts names v run is_run hidden is_durable) (now_hides facts names v run is_run hidden is_durable)) m moment)
+      (is_run.crash (ignored_during_run run names) (now_durable facts names v run is_run hidden is_durable) (now_hides facts names v run is_run hidden is_durable)) m moment)
   led_durable Crashes earlier v w is_durable crash = facts.crash_durable nothing_ignored v w crash
   led_durable Edits earlier v w is_durable synced = facts.crash_durable nothing_ignored w w (as_crash facts w synced)
   led_durable (Touches theirs) earlier v w is_durable touch = touch_durable theirs v w touch (ignored_after start earlier) is_durable
@@ -58,7 +58,7 @@ module _ (facts : Facts) (start : Ignored) (off : start intent_name ≡ false) w
   seen_durable first v (event ∷ earlier) is_durable (u, seen, leads) = led_durable event earlier u v (seen_durable first u earlier is_durable seen) leads
 
   pub seen_begins : (first v : TreeState) (events : List Event) (words : List (List ℕ)) → IsDurable (StateDependsOn start) first → Reaches first events v
-      → IsDurable (StateDependsOn (with_scratch (output words) (ignored_after start events))) v × IgnoresScratchOf (output words) (with_scratch (output words) (ignored_after start events))
+      → IsDurable (StateDependsOn (ignored_with_scratch (output words) (ignored_after start events))) v × IgnoresScratchOf (output words) (ignored_with_scratch (output words) (ignored_after start events))
   seen_begins first v events words is_durable seen = (
     more_durable facts (output words) (ignored_after start events) v (seen_durable first v events is_durable seen),
     hides (output words) (ignored_after start events) (after_hides start off events),
@@ -82,12 +82,12 @@ one_rests facts = record {
 }
 
 -- without an output nothing is ignored that was not ignored before
-by_no_output : (Q : Ignored → Type 0) (ignored : Ignored) (run : Run) (answer : Answer) → AnswersOutcome answer → output run.words ≡ None → Q (ignored_in run ignored) → Q (ignored_by answer run ignored)
+by_no_output : (Q : Ignored → Type 0) (ignored : Ignored) (run : Run) (answer : Answer) → AnswersOutcome answer → output run.words ≡ None → Q (ignored_during_run run ignored) → Q (ignored_after_answer answer run ignored)
 by_no_output Q ignored run answer answers none q =
-    by answer answers (subst (λ (o : Option (List ℕ)). Q (with_scratch o ignored)) none q)
+    by answer answers (subst (λ (o : Option (List ℕ)). Q (ignored_with_scratch o ignored)) none q)
   where
-    by : (answer : Answer) → AnswersOutcome answer → Q ignored → Q (ignored_by answer run ignored)
-    by Done answers q = subst (λ (o : Option (List ℕ)). Q (ignored_but o ignored)) (sym none) q
+    by : (answer : Answer) → AnswersOutcome answer → Q ignored → Q (ignored_after_answer answer run ignored)
+    by Done answers q = subst (λ (o : Option (List ℕ)). Q (ignored_except_output o ignored)) (sym none) q
     by (Refused r) answers q = q
     by OutFault answers q = q
     by TreeFault answers q = absurd answers
@@ -97,26 +97,26 @@ module _ (facts : Facts) (ignored : Ignored) (v : TreeState) (run : Run) (is_run
   abbrev One : Ignored → Type 0
   One names = EachCrashLeaves names (files_of w) w
 
-  pub made_one : HoldsNow run.now (λ u. u ≡ w) → MakesOneState v (Ends run) → One (ignored_by run.answer run ignored)
+  pub made_one : HoldsNow run.now (λ u. u ≡ w) → LeavesOneStateAfterCrash v (Ends run) → One (ignored_after_answer run.answer run ignored)
   made_one ends (answers, inl commit) =
       ends_at_rest facts ignored v run is_run hidden is_durable HasOne (one_rests facts) w ends answers commit
   made_one ends (answers, inr (none, can)) =
       let l = now_at run.now (LeavesOutcome ignored v run) w (answered facts ignored v run is_run hidden is_durable answers) ends in
-      by_no_output One ignored run run.answer answers none (own_settled facts (ignored_in run ignored) l.outcome.files w (l.settled (inr can)))
+      by_no_output One ignored run run.answer answers none (own_settled facts (ignored_during_run run ignored) l.outcome.files w (l.settled (inr can)))
 
   module _ (settled : EachCrashLeaves ignored (files_of v) v) where
-    idle_one : EachCrashLeavesOld ignored v w → One (ignored_in run ignored)
+    idle_one : EachCrashLeavesOld ignored v w → One (ignored_during_run run ignored)
     idle_one quiet =
-        facts.more_settled ignored (ignored_in run ignored) (files_of w) w (scratch_more (output run.words) ignored)
+        facts.more_settled ignored (ignored_during_run run ignored) (files_of w) w (scratch_more (output run.words) ignored)
         (own_settled facts ignored (files_of v) w (settled_on ignored (files_of v) v w settled quiet))
 
-    pub kept_one : HoldsNow run.now (λ u. u ≡ w) → KeepsOneState v (Ends run) → One (ignored_by run.answer run ignored)
+    pub kept_one : HoldsNow run.now (λ u. u ≡ w) → KeepsOneStateAfterCrash v (Ends run) → One (ignored_after_answer run.answer run ignored)
     kept_one ends keeps =
         ends_so facts ignored v run is_run hidden is_durable HasOne (one_rests facts) w ends
         (λ is_unchanged. own_settled facts ignored (files_of v) w (settled_on ignored (files_of v) v w settled is_unchanged.quiet))
         (λ fault. ⊎_elim (λ ended. absurd (ended fault)) (λ idle. idle_one (idle_end ignored v run is_run is_durable idle w ends).quiet) keeps)
 
-    pub stopped_one : (m : TreeState) → IsMomentOf run m → IsTornFrom m w → IsRunWithoutCommit v run → One (ignored_in run ignored)
+    pub stopped_one : (m : TreeState) → IsMomentOf run m → DiffersOnlyInUnsyncedBytes m w → IsRunWithoutCommit v run → One (ignored_during_run run ignored)
     stopped_one m moment torn idle = idle_one (torn_quiet m w torn ignored v (idle_moment ignored v run is_run is_durable idle m moment).quiet)
 
 module _ (facts : Facts) (start : Ignored) (off : start intent_name ≡ false) (first : TreeState) (rest : IsDurableState start (files_of first) first) where
@@ -125,7 +125,7 @@ module _ (facts : Facts) (start : Ignored) (off : start intent_name ≡ false) (
   seen_of v (event ∷ earlier) (u, leads, inl (seen, makes)) = (u, seen, leads)
   seen_of v (event ∷ earlier) (u, leads, inr (seen, keeps)) = (u, seen_of u earlier seen, leads)
 
-  led_made : (event : Event) (earlier : List Event) (v w : TreeState) → IsDurable (StateDependsOn (ignored_after start earlier)) v → MakesOneState v event → IsTransition v event w → EachCrashLeaves (ignored_after start (event ∷ earlier)) (files_of w) w
+  led_made : (event : Event) (earlier : List Event) (v w : TreeState) → IsDurable (StateDependsOn (ignored_after start earlier)) v → LeavesOneStateAfterCrash v event → IsTransition v event w → EachCrashLeaves (ignored_after start (event ∷ earlier)) (files_of w) w
   led_made (Ends run) earlier v w is_durable makes (is_run, ends) =
       made_one facts (ignored_after start earlier) v run is_run (after_hides start off earlier) is_durable w ends makes
   led_made (Stops run) earlier v w is_durable makes leads = absurd makes
@@ -133,7 +133,7 @@ module _ (facts : Facts) (start : Ignored) (off : start intent_name ≡ false) (
   led_made Edits earlier v w is_durable makes synced = facts.crash_settled nothing_ignored w w (as_crash facts w synced)
   led_made (Touches theirs) earlier v w is_durable makes touch = absurd makes
 
-  led_kept : (event : Event) (earlier : List Event) (v w : TreeState) → IsDurable (StateDependsOn (ignored_after start earlier)) v → EachCrashLeaves (ignored_after start earlier) (files_of v) v → KeepsOneState v event → IsTransition v event w
+  led_kept : (event : Event) (earlier : List Event) (v w : TreeState) → IsDurable (StateDependsOn (ignored_after start earlier)) v → EachCrashLeaves (ignored_after start earlier) (files_of v) v → KeepsOneStateAfterCrash v event → IsTransition v event w
       → EachCrashLeaves (ignored_after start (event ∷ earlier)) (files_of w) w
   led_kept (Ends run) earlier v w is_durable one keeps (is_run, ends) =
       kept_one facts (ignored_after start earlier) v run is_run (after_hides start off earlier) is_durable w one ends keeps
@@ -143,7 +143,7 @@ module _ (facts : Facts) (start : Ignored) (off : start intent_name ≡ false) (
   led_kept Edits earlier v w is_durable one keeps synced = facts.crash_settled nothing_ignored w w (as_crash facts w synced)
   led_kept (Touches theirs) earlier v w is_durable one keeps touch =
       let before = ignored_after start earlier in
-      let names = with_touched theirs before in
+      let names = ignored_with_touched theirs before in
       own_settled facts names (files_of v) w
       (settled_on names (files_of v) v w (facts.more_settled before names (files_of v) v (touched_more theirs before) one) (touch_quiet theirs v w touch before))
 

@@ -8,7 +8,7 @@ use Rattle.base_core.specs.Tree.{TreeState, files_of}
 use Rattle.base_core.specs.declared.cause.Cause.{Cause}
 use Rattle.command_core.specs.Command.{CommandLine}
 use Rattle.apk_front.specs.journal_core.Recovery.{intent_name}
-use Rattle.apk_front.specs.outcome.Effect.{Effect, Computes, OnlyReadsFiles, AsksRoot, Makes, Changes, does_only_read, effect_by, reads_only}
+use Rattle.apk_front.specs.outcome.Effect.{Effect, Computes, OnlyReadsFiles, AsksRoot, Makes, Changes, does_only_read, effect_of_arguments, reads_only}
 use Rattle.apk_front.specs.outcome.Work.{fault_of_intent, recovery_fault}
 use Rattle.apk_front.specs.words_core.Grammar.{command_of}
 use Rattle.run_lists.specs.Events.{Crashes, Edits, Ends, Event, IsRunFrom, IsTransition, Run, Stops, Touches}
@@ -19,17 +19,17 @@ fault_is_found : (files : Files) → HasBadIntent files → IsSome (fault_of_int
 fault_is_found files (cause, (file, there, bad)) =
     subst (λ (o : Option Cause). IsSome o) (sym (ap fault_of_intent there ∙ bad)) refl
 
-pub only_reads : (read : Result CommandLine ℕ) (effect : Effect) → effect_by read ≡ effect → IsTrue (does_only_read effect) → IsTrue (reads_only read)
+pub only_reads : (read : Result CommandLine ℕ) (effect : Effect) → effect_of_arguments read ≡ effect → IsTrue (does_only_read effect) → IsTrue (reads_only read)
 only_reads (Ok command) effect is reads = subst (λ (e : Effect). IsTrue (does_only_read e)) (sym is) reads
 only_reads (Err place) effect is reads = refl
 
 pub nothing_written : (v : TreeState) (run : Run) → IsRunFrom v run → HasBadIntent (files_of v) → run.now ≡ run.old
-nothing_written v run is_run bad = by (effect_by (command_of run.words)) refl
+nothing_written v run is_run bad = by (effect_of_arguments (command_of run.words)) refl
   where
-    fault : (effect : Effect) → effect_by (command_of run.words) ≡ effect → IsSome (recovery_fault effect (files_of v)) → run.now ≡ run.old
+    fault : (effect : Effect) → effect_of_arguments (command_of run.words) ≡ effect → IsSome (recovery_fault effect (files_of v)) → run.now ≡ run.old
     fault effect is some = is_run.bad_intent (subst (λ (e : Effect). IsSome (recovery_fault e (files_of v))) (sym is) some)
 
-    by : (effect : Effect) → effect_by (command_of run.words) ≡ effect → run.now ≡ run.old
+    by : (effect : Effect) → effect_of_arguments (command_of run.words) ≡ effect → run.now ≡ run.old
     by Computes is = is_run.same (only_reads (command_of run.words) Computes is refl)
     by OnlyReadsFiles is = is_run.same (only_reads (command_of run.words) OnlyReadsFiles is refl)
     by AsksRoot is = fault AsksRoot is (fault_is_found (files_of v) bad)

@@ -33,12 +33,12 @@ use Rattle.apk_front.proofs.outcome.Applets.{change_is}
 use Rattle.apk_front.proofs.outcome.NextRoom.{intent_gone}
 use Rattle.apk_front.proofs.outcome.Recovered.{ReadSound}
 use Rattle.apk_front.specs.outcome.Changing.{change_outcome}
-use Rattle.apk_front.specs.outcome.Commands.{IsOutcomeOf, IsOutcomeUnlessBadIntent, effect_outcome, reads_in}
-use Rattle.apk_front.specs.outcome.Effect.{Effect, Computes, OnlyReadsFiles, AsksRoot, Makes, Changes, effect_by, effect_of, reads_only}
+use Rattle.apk_front.specs.outcome.Commands.{IsOutcomeWithoutDemo, IsOutcomeUnlessBadIntent, effect_outcome, reads_in}
+use Rattle.apk_front.specs.outcome.Effect.{Effect, Computes, OnlyReadsFiles, AsksRoot, Makes, Changes, effect_of_arguments, effect_of, reads_only}
 use Rattle.apk_front.specs.outcome.Given.{Given}
 use Rattle.apk_front.specs.outcome.Make.{files_with_output, index_line, make_outcome, unless_reserved}
 use Rattle.apk_front.specs.outcome.Outcome.{Outcome, commit_report, just_refusal}
-use Rattle.apk_front.specs.outcome.Words.{IsOutcome, IsOutcomeFor}
+use Rattle.apk_front.specs.outcome.Words.{IsOutcome, IsOutcomeOfApplet}
 use Rattle.apk_front.specs.outcome.Work.{recovery_fault, work_files}
 use Rattle.run_lists.proofs.BadIntent.{only_reads}
 use Rattle.apk_front.proofs.file_replacement.Suffix.{intent_is_no_scratch}
@@ -121,7 +121,7 @@ maker_none other command given files makes none = absurd (cc (makes))
 
 -- ---- by the words
 
-no_demo : (applet : Applet) (command : CommandLine) (files : Files) (o : Outcome) → (effect_of applet ≡ Computes → ⊥) → IsOutcomeFor applet command files o → IsOutcomeOf (Ok command) files o
+no_demo : (applet : Applet) (command : CommandLine) (files : Files) (o : Outcome) → (effect_of applet ≡ Computes → ⊥) → IsOutcomeOfApplet applet command files o → IsOutcomeWithoutDemo (Ok command) files o
 no_demo Demo command files o works is = absurd (works refl)
 no_demo other command files o works is = is
 
@@ -148,7 +148,7 @@ module _ (gone : BringsNoIntent) (sound : ReadSound) where
       subst Brings (change_is command.applet command given (reads_in here) here changes ∙ sym is)
       (change_none gone command here given.chosen given.clash (change_of_command command (reads_in here) here given.chosen given.clash) refl absent) commits
 
-  by_command : (read : Result CommandLine ℕ) (files : Files) (o : Outcome) (effect : Effect) → effect_by read ≡ effect → (effect ≡ Computes → ⊥) → (effect ≡ OnlyReadsFiles → ⊥) → (effect ≡ AsksRoot → ⊥) → IsOutcome read files o → Brings o
+  by_command : (read : Result CommandLine ℕ) (files : Files) (o : Outcome) (effect : Effect) → effect_of_arguments read ≡ effect → (effect ≡ Computes → ⊥) → (effect ≡ OnlyReadsFiles → ⊥) → (effect ≡ AsksRoot → ⊥) → IsOutcome read files o → Brings o
   by_command (Err place) files o effect is works reads tells one = absurd (works (sym is))
   by_command (Ok command) files o Computes is works reads tells one = absurd (works refl)
   by_command (Ok command) files o OnlyReadsFiles is works reads tells one = absurd (reads refl)
@@ -159,11 +159,11 @@ module _ (gone : BringsNoIntent) (sound : ReadSound) where
       changes_none (recovery_fault (effect_of command.applet) files) command files o is refl (no_demo command.applet command files o (λ computes. works (sym is ∙ computes)) one)
 
   module _ (reading : (words : List (List ℕ)) (files : Files) (o : Outcome) → IsTrue (reads_only (command_of words)) → IsOutcome (command_of words) files o → o.commits ≡ false)
-      (telling : (words : List (List ℕ)) (files : Files) (o : Outcome) → effect_by (command_of words) ≡ AsksRoot → IsOutcome (command_of words) files o → o.commits ≡ false) where
+      (telling : (words : List (List ℕ)) (files : Files) (o : Outcome) → effect_of_arguments (command_of words) ≡ AsksRoot → IsOutcome (command_of words) files o → o.commits ≡ false) where
     pub committed_none : CommitsNoIntent
-    committed_none words files o one commits = by (effect_by (command_of words)) refl
+    committed_none words files o one commits = by (effect_of_arguments (command_of words)) refl
       where
-        by : (effect : Effect) → effect_by (command_of words) ≡ effect → o.files intent_name ≡ None
+        by : (effect : Effect) → effect_of_arguments (command_of words) ≡ effect → o.files intent_name ≡ None
         by Computes is = absurd (false≢true (sym (reading words files o (only_reads (command_of words) Computes is refl) one) ∙ commits))
         by OnlyReadsFiles is = absurd (false≢true (sym (reading words files o (only_reads (command_of words) OnlyReadsFiles is refl) one) ∙ commits))
         by AsksRoot is = absurd (false≢true (sym (telling words files o is one) ∙ commits))

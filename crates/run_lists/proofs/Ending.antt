@@ -2,7 +2,7 @@
 use Rattle.std.proofs.Common.{◌≡◌, inl, inr, ℕ, Bool, true, false, List, Option, None, Some, refl, sym, ap, subst, ◌∙◌}
 use Rattle.std.specs.Prelude.{is_some, not}
 use Rattle.std.proofs.lemmas.Bool.{false≢true}
-use Rattle.apk_front.specs.Moments.{AnswersOutcome, CommitsNothing, IsDurableState, ignored_but}
+use Rattle.apk_front.specs.Moments.{AnswersOutcome, CommitsNothing, IsDurableState, ignored_except_output}
 use Rattle.apk_front.specs.declared.answer.Answer.{Answer}
 use Rattle.apk_front.specs.declared.answer.Answer.TheVariants.{Ok as Done, Refused, TreeFault, OutFault, Memory}
 use Rattle.apk_front.proofs.Carried.{no_refusal}
@@ -16,7 +16,7 @@ use Rattle.apk_front.specs.outcome.Effect.{output}
 use Rattle.apk_front.specs.outcome.Outcome.{Outcome}
 use Rattle.report_core.specs.declared.refusal.Refusal.{Refusal}
 use Rattle.apk_front.specs.words_core.Grammar.{command_of}
-use Rattle.run_lists.specs.Events.{HasCommit, IsRunWithoutCommit, IsOutcomeFrom, IsRunFrom, Run, ignored_by, ignored_in}
+use Rattle.run_lists.specs.Events.{HasCommit, IsRunWithoutCommit, IsOutcomeFrom, IsRunFrom, Run, ignored_after_answer, ignored_during_run}
 use Rattle.run_lists.specs.Safety.{LeavesOutcome}
 use Rattle.run_lists.proofs.AtMoments.{now_at}
 use Rattle.run_lists.proofs.Facts.{AreMore, Facts, Ignored}
@@ -37,18 +37,18 @@ module _ (facts : Facts) (ignored : Ignored) (v : TreeState) (run : Run) (is_run
   pub leaves : AnswersOutcome run.answer → LeavesOutcome ignored v run w
   leaves answers = now_at run.now (LeavesOutcome ignored v run) w (answered facts ignored v run is_run hidden is_durable answers) ends
 
-  rests_by : (answer : Answer) → AnswersOutcome answer → Q (ignored_but (output run.words) ignored) w → Q (ignored_by answer run ignored) w
+  rests_by : (answer : Answer) → AnswersOutcome answer → Q (ignored_except_output (output run.words) ignored) w → Q (ignored_after_answer answer run ignored) w
   rests_by Done answers q = q
-  rests_by (Refused r) answers q = resting.more (ignored_but (output run.words) ignored) ignored w (but_fewer (output run.words) ignored) q
-  rests_by OutFault answers q = resting.more (ignored_but (output run.words) ignored) ignored w (but_fewer (output run.words) ignored) q
+  rests_by (Refused r) answers q = resting.more (ignored_except_output (output run.words) ignored) ignored w (but_fewer (output run.words) ignored) q
+  rests_by OutFault answers q = resting.more (ignored_except_output (output run.words) ignored) ignored w (but_fewer (output run.words) ignored) q
   rests_by TreeFault answers q = absurd answers
   rests_by Memory answers q = absurd answers
 
-  pub written : (l : LeavesOutcome ignored v run w) → l.outcome.commits ≡ true → Q (ignored_but (output run.words) ignored) w
-  written l commits = resting.rest (ignored_but (output run.words) ignored) l.outcome.files w l.reads (l.durable_state commits)
+  pub written : (l : LeavesOutcome ignored v run w) → l.outcome.commits ≡ true → Q (ignored_except_output (output run.words) ignored) w
+  written l commits = resting.rest (ignored_except_output (output run.words) ignored) l.outcome.files w l.reads (l.durable_state commits)
 
   -- an outcome that commits is at rest
-  pub ends_at_rest : AnswersOutcome run.answer → HasCommit v run → Q (ignored_by run.answer run ignored) w
+  pub ends_at_rest : AnswersOutcome run.answer → HasCommit v run → Q (ignored_after_answer run.answer run ignored) w
   ends_at_rest answers (o, one, commits) =
       let l = leaves answers in
       let same : l.outcome.commits ≡ true = ap (λ (x : Outcome). x.commits) (facts.unique run.words (files_of v) l.outcome o l.is_outcome one) ∙ commits in
@@ -60,26 +60,26 @@ module _ (facts : Facts) (ignored : Ignored) (v : TreeState) (run : Run) (is_run
     left_idle idle = is_unchanged (idle_end ignored v run is_run is_durable idle w ends)
 
     -- a maker's outcome commits where it is no refusal
-    no_output : (o : Option (List ℕ)) → output run.words ≡ o → (outcome : Outcome) → IsOutcomeFrom v run outcome → outcome.refusal ≡ None → outcome.commits ≡ false → Q ignored w → Q (ignored_but (output run.words) ignored) w
-    no_output None is outcome one none idle q = subst (λ (o : Option (List ℕ)). Q (ignored_but o ignored) w) (sym is) q
+    no_output : (o : Option (List ℕ)) → output run.words ≡ o → (outcome : Outcome) → IsOutcomeFrom v run outcome → outcome.refusal ≡ None → outcome.commits ≡ false → Q ignored w → Q (ignored_except_output (output run.words) ignored) w
+    no_output None is outcome one none idle q = subst (λ (o : Option (List ℕ)). Q (ignored_except_output o ignored) w) (sym is) q
     no_output (Some name) is outcome one none idle q =
         absurd (false≢true (sym idle ∙ facts.making run.words (files_of v) outcome (output_makes (command_of run.words) name is) one ∙ ap (λ (r : Option Refusal). not (is_some r)) none))
 
-    done_by : run.answer ≡ Done → (l : LeavesOutcome ignored v run w) → (b : Bool) → l.outcome.commits ≡ b → Q (ignored_but (output run.words) ignored) w
+    done_by : run.answer ≡ Done → (l : LeavesOutcome ignored v run w) → (b : Bool) → l.outcome.commits ≡ b → Q (ignored_except_output (output run.words) ignored) w
     done_by is l true commits = written l commits
     done_by is l false idle =
         no_output (output run.words) refl l.outcome l.is_outcome (done_not_refused l.outcome (subst (λ (a : Answer). Told a l.outcome) is l.answered)) idle (left_idle (inl (inr (l.outcome, l.is_outcome, idle))))
 
     out_by : (l : LeavesOutcome ignored v run w) → (b : Bool) → l.outcome.commits ≡ b → Q ignored w
-    out_by l true commits = resting.more (ignored_but (output run.words) ignored) ignored w (but_fewer (output run.words) ignored) (written l commits)
+    out_by l true commits = resting.more (ignored_except_output (output run.words) ignored) ignored w (but_fewer (output run.words) ignored) (written l commits)
     out_by l false idle = left_idle (inl (inr (l.outcome, l.is_outcome, idle)))
 
-    ends_by : (answer : Answer) → run.answer ≡ answer → (run.answer ≡ TreeFault → Q (ignored_in run ignored) w) → Q (ignored_by answer run ignored) w
+    ends_by : (answer : Answer) → run.answer ≡ answer → (run.answer ≡ TreeFault → Q (ignored_during_run run ignored) w) → Q (ignored_after_answer answer run ignored) w
     ends_by Done is fault = let l = leaves (subst AnswersOutcome (sym is) tt) in done_by is l l.outcome.commits refl
     ends_by (Refused r) is fault = left_idle (inl (subst (CommitsNothing (IsOutcomeFrom v run)) (sym is) (inl tt)))
     ends_by TreeFault is fault = fault is
     ends_by OutFault is fault = let l = leaves (subst AnswersOutcome (sym is) tt) in out_by l l.outcome.commits refl
     ends_by Memory is fault = left_idle (inl (subst (CommitsNothing (IsOutcomeFrom v run)) (sym is) (inl tt)))
 
-    pub ends_so : (run.answer ≡ TreeFault → Q (ignored_in run ignored) w) → Q (ignored_by run.answer run ignored) w
+    pub ends_so : (run.answer ≡ TreeFault → Q (ignored_during_run run ignored) w) → Q (ignored_after_answer run.answer run ignored) w
     ends_so = ends_by run.answer refl

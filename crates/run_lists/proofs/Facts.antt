@@ -7,7 +7,7 @@ use Rattle.base_core.specs.Undone.{IsAfterCrash, IsDurable, IsCrashImage}
 use Rattle.base_core.specs.Tree.{TreeState, files_of}
 use Rattle.apk_front.specs.journal_core.Recovery.{EachCrashLeaves, StateDependsOn}
 use Rattle.apk_front.specs.journal_core.Replacing.{IsMomentOfReplacing}
-use Rattle.apk_front.specs.outcome.Effect.{Makes, effect_by, output}
+use Rattle.apk_front.specs.outcome.Effect.{Makes, effect_of_arguments, output}
 use Rattle.apk_front.specs.outcome.Outcome.{Outcome}
 use Rattle.apk_front.specs.outcome.Words.{IsOutcome}
 use Rattle.apk_front.specs.words_core.Grammar.{command_of}
@@ -25,7 +25,7 @@ pub record Facts : Type 0 where
   pub more_order : (few many : Ignored) (v : TreeState) → AreMore few many → IsDurable (StateDependsOn few) v → IsDurable (StateDependsOn many) v
   pub more_settled : (few many : Ignored) (files : Files) (v : TreeState) → AreMore few many → EachCrashLeaves few files v → EachCrashLeaves many files v
   pub unique : (words : List (List ℕ)) (files : Files) (a b : Outcome) → IsOutcome (command_of words) files a → IsOutcome (command_of words) files b → a ≡ b
-  pub making : (words : List (List ℕ)) (files : Files) (o : Outcome) → effect_by (command_of words) ≡ Makes → IsOutcome (command_of words) files o → o.commits ≡ not (is_some o.refusal)
+  pub making : (words : List (List ℕ)) (files : Files) (o : Outcome) → effect_of_arguments (command_of words) ≡ Makes → IsOutcome (command_of words) files o → o.commits ≡ not (is_some o.refusal)
   pub safe : (words : List (List ℕ)) (ignored : Ignored) (v : TreeState) (outcome : Outcome) (old now : List TreeState)
       → AreOldOrLeadToOutcome (IsOutcome (command_of words) (files_of v)) (is_some (output words)) ignored v old now
       → IsOutcome (command_of words) (files_of v) outcome → Since (IsMomentOfReplacing ignored outcome.files v) old now

@@ -3,25 +3,25 @@ use Rattle.std.proofs.Common.{◌≡◌, ◌⊎◌, inl, inr, ⊎_elim, ℕ, Boo
 use Rattle.std.specs.Prelude.{IsSome}
 use Rattle.std.specs.Str.{bytes_eq}
 use Rattle.std.proofs.lemmas.Bool.{false≢true, or_from}
-use Rattle.apk_front.specs.Moments.{AreReadDuringRun, IsRecoveringOrNext, IsReadExceptDrafts, IsReadDuringWork, NamesAreDurableWithoutIntentExcept, is_draft_name, output_names}
+use Rattle.apk_front.specs.Moments.{AreReadDuringRun, IsRecoveringOrNext, HasFilesExceptDrafts, IsStateDuringRun, NamesAreDurableWithoutIntentExcept, is_draft_name, output_names}
 use Rattle.base_core.specs.Calls.{HoldsNow}
 use Rattle.base_core.specs.Files.{Files, NameMap}
-use Rattle.base_core.specs.Tree.{File, TreeState, bytes_at, files_of}
+use Rattle.base_core.specs.Tree.{File, TreeState, bytes_of_file_number, files_of}
 use Rattle.base_core.specs.Undone.{IsDurable, IsCrashImage, IsCrashMap}
 use Rattle.base_core.proofs.NameParts.{other_bytes}
 use Rattle.base_core.proofs.Left.{left_as_read as synced_as_read}
 use Rattle.apk_front.specs.journal_core.Kept.{IsJournalName}
-use Rattle.apk_front.specs.journal_core.Recovery.{StateDependsOn, intent_at, intent_name, intent_of, is_staged}
+use Rattle.apk_front.specs.journal_core.Recovery.{StateDependsOn, intent_in_file, intent_name, intent_of, is_staged}
 use Rattle.apk_front.specs.journal_core.Replacing.{scratch_of}
 use Rattle.apk_front.specs.journal_core.Staged.{unstaged_files}
 use Rattle.apk_front.proofs.journal_core.Lasting.{some_none}
 use Rattle.apk_front.specs.journal_intent.FreeNames.{IsNoneOf}
-use Rattle.apk_front.specs.outcome.Effect.{Effect, Computes, OnlyReadsFiles, AsksRoot, Makes, Changes, does_recover, effect_by, output}
+use Rattle.apk_front.specs.outcome.Effect.{Effect, Computes, OnlyReadsFiles, AsksRoot, Makes, Changes, does_recover, effect_of_arguments, output}
 use Rattle.apk_front.specs.outcome.Outcome.{Outcome}
 use Rattle.apk_front.specs.outcome.Work.{work_files}
 use Rattle.apk_front.specs.words_core.Grammar.{command_of}
-use Rattle.run_lists.specs.Events.{Crashes, Edits, Ends, Event, Reaches, IsMomentOf, IsOutcomeFrom, IsRunFrom, IsTransition, Run, Stops, Touches, ignored_after, ignored_in, with_scratch}
-use Rattle.run_lists.specs.Reading.{HasBytesOfRun, HasOutcomeBytes, ReachesByRuns, IsDurablyDone, IsOrdinaryName, IsNoDraft, IsRunWith, IsTrueAt, LeavesTrueAt}
+use Rattle.run_lists.specs.Events.{Crashes, Edits, Ends, Event, Reaches, IsMomentOf, IsOutcomeFrom, IsRunFrom, IsTransition, Run, Stops, Touches, ignored_after, ignored_during_run, ignored_with_scratch}
+use Rattle.run_lists.specs.Reading.{HasOldRecoveredOrOutcomeBytes, HasOutcomeBytes, ReachesByRuns, IsDurablyDone, IsOrdinaryName, IsNoJournalOrDraftName, IsRunWith, IsTrueAt, LeavesTrueAt}
 use Rattle.run_lists.proofs.Along.{seen_durable}
 use Rattle.run_lists.proofs.AtMoments.{History, now_map, start_or_made}
 use Rattle.run_lists.proofs.Committed.{CommitsNoIntent}
@@ -46,7 +46,7 @@ intent_no_draft Changes o = refl
 
 module _ (v : TreeState) (run : Run) (m : TreeState) where
   abbrev Act : Effect
-  Act = effect_by (command_of run.words)
+  Act = effect_of_arguments (command_of run.words)
 
   abbrev Work : Files
   Work = work_files Act (files_of v)
@@ -55,7 +55,7 @@ module _ (v : TreeState) (run : Run) (m : TreeState) where
   -- an outcome's files
   abbrev pub Stands : Type 0
   Stands = (m ≡ v) ⊎ (IsRecoveringOrNext Act (λ w. files_of w ≡ Work) v m
-      ⊎ ((o : Outcome) × IsOutcomeFrom v run o × (o.commits ≡ true) × IsRecoveringOrNext Act (IsReadDuringWork Act (output run.words) o.files Work) v m))
+      ⊎ ((o : Outcome) × IsOutcomeFrom v run o × (o.commits ≡ true) × IsRecoveringOrNext Act (IsStateDuringRun Act (output run.words) o.files Work) v m))
 
   pub located : IsRunFrom v run → IsMomentOf run m → Stands
   located is_run moment = by is_run.reads
@@ -63,7 +63,7 @@ module _ (v : TreeState) (run : Run) (m : TreeState) where
       by : AreReadDuringRun (IsOutcomeFrom v run) Act (output run.words) v run.old run.now → Stands
       by (inl since) = ⊎_elim inl (λ p. inr (inl p)) (start_or_made (IsRecoveringOrNext Act (λ w. files_of w ≡ Work) v) run v m is_run.begins since moment)
       by (inr (o, one, commits, since)) =
-          ⊎_elim inl (λ p. inr (inr (o, one, commits, p))) (start_or_made (IsRecoveringOrNext Act (IsReadDuringWork Act (output run.words) o.files Work) v) run v m is_run.begins since moment)
+          ⊎_elim inl (λ p. inr (inr (o, one, commits, p))) (start_or_made (IsRecoveringOrNext Act (IsStateDuringRun Act (output run.words) o.files Work) v) run v m is_run.begins since moment)
 
   -- ---- the bytes of a name
 
@@ -75,14 +75,14 @@ module _ (v : TreeState) (run : Run) (m : TreeState) where
   worked Makes q is = inr (refl, is)
   worked Changes q is = inr (refl, is)
 
-  at_work : (q : List ℕ) → files_of m q ≡ Work q → HasBytesOfRun v run m q
+  at_work : (q : List ℕ) → files_of m q ≡ Work q → HasOldRecoveredOrOutcomeBytes v run m q
   at_work q is = ⊎_elim inl (λ p. inr (inl p)) (worked Act q is)
 
   -- recovered ones are there only if the command recovers
-  old_or_work : (q : List ℕ) → does_recover Act ≡ true → (files_of m q ≡ files_of v q) ⊎ (files_of m q ≡ unstaged_files (files_of v) q) → HasBytesOfRun v run m q
+  old_or_work : (q : List ℕ) → does_recover Act ≡ true → (files_of m q ≡ files_of v q) ⊎ (files_of m q ≡ unstaged_files (files_of v) q) → HasOldRecoveredOrOutcomeBytes v run m q
   old_or_work q recovers = ⊎_elim inl (λ is. inr (inl (recovers, is)))
 
-  pub bytes : (q : List ℕ) → IsNoDraft run q → Stands → HasBytesOfRun v run m q
+  pub bytes : (q : List ℕ) → IsNoJournalOrDraftName run q → Stands → HasOldRecoveredOrOutcomeBytes v run m q
   bytes q no_draft (inl is) = inl (ap (λ (u : TreeState). files_of u q) is)
   bytes q no_draft (inr (inl (inl (recovers, r)))) = old_or_work q recovers (r.bytes q no_draft.waits)
   bytes q no_draft (inr (inl (inr is))) = at_work q (ap (λ (f : Files). f q) is)
@@ -118,11 +118,11 @@ module _ (no_intent : CommitsNoIntent) (test : Option (List ℕ) → Bool) (q : 
   work_true Makes files at = unstaged_true files at
   work_true Changes files at = unstaged_true files at
 
-  drafted : (effect : Effect) (o : Option (List ℕ)) (files : Files) (m : TreeState) → IsReadExceptDrafts effect o (unstaged_files files) m → is_draft_name effect o q ≡ false → At files → At (files_of m)
+  drafted : (effect : Effect) (o : Option (List ℕ)) (files : Files) (m : TreeState) → HasFilesExceptDrafts effect o (unstaged_files files) m → is_draft_name effect o q ≡ false → At files → At (files_of m)
   drafted effect o files m drafting no_draft at =
-      plain (files_of m) (ap intent_at (drafting intent_name (intent_no_draft effect o)) ∙ none_found files) (subst Passes (sym (drafting q no_draft)) at.recovered)
+      plain (files_of m) (ap intent_in_file (drafting intent_name (intent_no_draft effect o)) ∙ none_found files) (subst Passes (sym (drafting q no_draft)) at.recovered)
 
-  draft_true : (effect : Effect) (o : Option (List ℕ)) (files : Files) (m : TreeState) → IsReadExceptDrafts effect o (work_files effect files) m → is_draft_name effect o q ≡ false → At files → At (files_of m)
+  draft_true : (effect : Effect) (o : Option (List ℕ)) (files : Files) (m : TreeState) → HasFilesExceptDrafts effect o (work_files effect files) m → is_draft_name effect o q ≡ false → At files → At (files_of m)
   draft_true Computes o files m drafting no_draft at = subst At (λ i p. sym (drafting p refl) i) at
   draft_true OnlyReadsFiles o files m drafting no_draft at = subst At (λ i p. sym (drafting p refl) i) at
   draft_true AsksRoot o files m drafting no_draft at = drafted AsksRoot o files m drafting no_draft at
@@ -140,8 +140,8 @@ module _ (no_intent : CommitsNoIntent) (test : Option (List ℕ) → Bool) (q : 
       recovered = subst Passes (sym (ap (λ (f : Files). f q) r)) at.recovered;
     }
 
-    worked_at : At (work_files (effect_by (command_of run.words)) (files_of v))
-    worked_at = work_true (effect_by (command_of run.words)) (files_of v) at
+    worked_at : At (work_files (effect_of_arguments (command_of run.words)) (files_of v))
+    worked_at = work_true (effect_of_arguments (command_of run.words)) (files_of v) at
 
     pub stands_true : Stands v run m → At (files_of m)
     stands_true (inl is) = subst (λ (u : TreeState). At (files_of u)) (sym is) at
@@ -149,12 +149,12 @@ module _ (no_intent : CommitsNoIntent) (test : Option (List ℕ) → Bool) (q : 
     stands_true (inr (inl (inr is))) = subst At (sym is) worked_at
     stands_true (inr (inr (o, one, commits, inl (recovers, r)))) = recovering r.reads (r.bytes q stays)
     stands_true (inr (inr (o, one, commits, inr (inl drafting)))) =
-        draft_true (effect_by (command_of run.words)) (output run.words) (files_of v) m drafting leaves.no_draft.drafts at
+        draft_true (effect_of_arguments (command_of run.words)) (output run.words) (files_of v) m drafting leaves.no_draft.drafts at
     stands_true (inr (inr (o, one, commits, inr (inr (inl p))))) = record {
-      read = one_of_two (work_files (effect_by (command_of run.words)) (files_of v) q) (o.files q) (files_of m q) worked_at.read (leaves.outcomes o one commits) (p.bytes q stays);
+      read = one_of_two (work_files (effect_of_arguments (command_of run.words)) (files_of v) q) (o.files q) (files_of m q) worked_at.read (leaves.outcomes o one commits) (p.bytes q stays);
       recovered = subst Passes (sym (ap (λ (f : Files). f q) p.leads)) (leaves.outcomes o one commits);
     }
-    stands_true (inr (inr (o, one, commits, inr (inr (inr is))))) = subst At (sym is) (plain o.files (ap intent_at (no_intent run.words (files_of v) o one commits)) (leaves.outcomes o one commits))
+    stands_true (inr (inr (o, one, commits, inr (inr (inr is))))) = subst At (sym is) (plain o.files (ap intent_in_file (no_intent run.words (files_of v) o one commits)) (leaves.outcomes o one commits))
 
 -- the last state of a run is one of its moments
 last_by : (run : Run) (w : TreeState) (added : List TreeState) → run.now ≡ added ++ run.old → HoldsNow run.now (λ u. u ≡ w) → IsMomentOf run w
@@ -164,7 +164,7 @@ last_by run w (u ∷ added) is ends = inr (u ∷ added, is, (0, omega arith, sub
 pub last_moment : (run : Run) (v w : TreeState) → IsRunFrom v run → HoldsNow run.now (λ u. u ≡ w) → IsMomentOf run w
 last_moment run v w is_run ends = by is_run.reads
   where
-    by : AreReadDuringRun (IsOutcomeFrom v run) (effect_by (command_of run.words)) (output run.words) v run.old run.now → IsMomentOf run w
+    by : AreReadDuringRun (IsOutcomeFrom v run) (effect_of_arguments (command_of run.words)) (output run.words) v run.old run.now → IsMomentOf run w
     by (inl since) = last_by run w since.added since.is ends
     by (inr (o, one, commits, since)) = last_by run w since.added since.is ends
 
@@ -191,7 +191,7 @@ second_of false false c is = refl
 no_scratch_name : (name q : List ℕ) → IsNoneOf q (output_names (Some name)) → bytes_eq q (scratch_of name) ≡ false
 no_scratch_name name q none = second_of (bytes_eq q name) (bytes_eq q (scratch_of name)) false none
 
-counts_in : (o : Option (List ℕ)) (ignored : Ignored) (q : List ℕ) → IsNoneOf q (output_names o) → ignored q ≡ false → with_scratch o ignored q ≡ false
+counts_in : (o : Option (List ℕ)) (ignored : Ignored) (q : List ℕ) → IsNoneOf q (output_names o) → ignored q ≡ false → ignored_with_scratch o ignored q ≡ false
 counts_in None ignored q none counts = counts
 counts_in (Some name) ignored q none counts = or_from (bytes_eq q (scratch_of name)) (ignored q) (no_scratch_name name q none) counts
 
@@ -203,16 +203,16 @@ no_draft_by Makes None q none unstaged = refl
 no_draft_by Makes (Some name) q none unstaged = no_scratch_name name q none
 no_draft_by Changes o q none unstaged = unstaged
 
-bytes_there : (files : ℕ → File) (o : Option ℕ) → IsSome o → bytes_at files o ≡ None → ⊥
+bytes_there : (files : ℕ → File) (o : Option ℕ) → IsSome o → bytes_of_file_number files o ≡ None → ⊥
 bytes_there files None some is = cc
 bytes_there files (Some n) some is = cc
 
 module _ (v : TreeState) (run : Run) (m : TreeState) (there : IsSome (v.names intent_name)) (unread : m.names intent_name ≡ None) where
   gone : files_of m intent_name ≡ None
-  gone = ap (bytes_at m.files) unread
+  gone = ap (bytes_of_file_number m.files) unread
 
   none : intent_of (files_of m) ≡ None
-  none = ap intent_at gone
+  none = ap intent_in_file gone
 
   stood : files_of m intent_name ≡ files_of v intent_name → ⊥
   stood is = bytes_there v.files (v.names intent_name) there (sym is ∙ gone)
@@ -234,15 +234,15 @@ module _ (v : TreeState) (run : Run) (m : TreeState) (there : IsSome (v.names in
     work_here Makes at is = inl is
     work_here Changes at is = inl is
 
-    draft_here : (effect : Effect) (o : Option (List ℕ)) → is_draft_name effect o q ≡ false → IsReadExceptDrafts effect o (work_files effect (files_of v)) m → Done
+    draft_here : (effect : Effect) (o : Option (List ℕ)) → is_draft_name effect o q ≡ false → HasFilesExceptDrafts effect o (work_files effect (files_of v)) m → Done
     draft_here effect o no_draft drafting = work_here effect (drafting intent_name (intent_no_draft effect o)) (drafting q no_draft)
 
-    pub done_here : is_draft_name (effect_by (command_of run.words)) (output run.words) q ≡ false → Stands v run m → Done
+    pub done_here : is_draft_name (effect_of_arguments (command_of run.words)) (output run.words) q ≡ false → Stands v run m → Done
     done_here no_draft (inl is) = absurd (not_first is)
     done_here no_draft (inr (inl (inl (recovers, r)))) = recovered_here r.reads
-    done_here no_draft (inr (inl (inr is))) = work_here (effect_by (command_of run.words)) (ap (λ (f : Files). f intent_name) is) (ap (λ (f : Files). f q) is)
+    done_here no_draft (inr (inl (inr is))) = work_here (effect_of_arguments (command_of run.words)) (ap (λ (f : Files). f intent_name) is) (ap (λ (f : Files). f q) is)
     done_here no_draft (inr (inr (o, one, commits, inl (recovers, r)))) = recovered_here r.reads
-    done_here no_draft (inr (inr (o, one, commits, inr (inl drafting)))) = draft_here (effect_by (command_of run.words)) (output run.words) no_draft drafting
+    done_here no_draft (inr (inr (o, one, commits, inr (inl drafting)))) = draft_here (effect_of_arguments (command_of run.words)) (output run.words) no_draft drafting
     done_here no_draft (inr (inr (o, one, commits, inr (inr (inl p))))) = absurd (some_none (m.names intent_name) unread p.intent)
     done_here no_draft (inr (inr (o, one, commits, inr (inr (inr is))))) = inr (o, one, commits, ap (λ (f : Files). f q) is)
 
@@ -257,14 +257,14 @@ module _ (v : TreeState) (run : Run) (m : TreeState) (there : IsSome (v.names in
   module _ (facts : Facts) (ignored : Ignored) (hidden : ignored intent_name ≡ false) (is_durable : IsDurable (StateDependsOn ignored) v) where
     left_as_read : IsRunFrom v run → IsMomentOf run m → (q : List ℕ) → IsOrdinaryName ignored run q → (image : Files) → IsCrashImage m image → image q ≡ files_of m q
     left_as_read is_run moment q name image (map, is_map, left) =
-        let here = durable_at facts ignored v run is_run hidden is_durable (is_run.crash (ignored_in run ignored) (now_durable facts ignored v run is_run hidden is_durable) (now_hides facts ignored v run is_run hidden is_durable)) m moment in
-        let counts = or_from (is_staged q) (ignored_in run ignored q) (not_staged q name.waits) (counts_in (output run.words) ignored q name.other name.counts) in
+        let here = durable_at facts ignored v run is_run hidden is_durable (is_run.crash (ignored_during_run run ignored) (now_durable facts ignored v run is_run hidden is_durable) (now_hides facts ignored v run is_run hidden is_durable)) m moment in
+        let counts = or_from (is_staged q) (ignored_during_run run ignored q) (not_staged q name.waits) (counts_in (output run.words) ignored q name.other name.counts) in
         synced_as_read m.files (map q) (image q) (λ n at. here.each map is_map q n (inr (inl counts)) at) (left q)
-        ∙ ap (bytes_at m.files) (names_last is_run moment map is_map q name.waits name.other)
+        ∙ ap (bytes_of_file_number m.files) (names_last is_run moment map is_map q name.waits name.other)
 
     pub done_for_good : IsRunFrom v run → IsMomentOf run m → (q : List ℕ) → IsOrdinaryName ignored run q → IsDurablyDone v run m q
     done_for_good is_run moment q name = record {
-      done = done_here q (not_staged q name.waits) (no_draft_by (effect_by (command_of run.words)) (output run.words) q name.other (not_staged q name.waits)) (located v run m is_run moment);
+      done = done_here q (not_staged q name.waits) (no_draft_by (effect_of_arguments (command_of run.words)) (output run.words) q name.other (not_staged q name.waits)) (located v run m is_run moment);
       lasts = left_as_read is_run moment q name;
     }
 

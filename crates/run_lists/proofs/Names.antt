@@ -4,15 +4,15 @@ use Rattle.std.specs.Prelude.{IsTrue, if◌then◌else◌}
 use Rattle.std.specs.Str.{bytes_eq}
 use Rattle.std.proofs.lemmas.Bool.{false≢true, or_right, or_left}
 use Rattle.std.proofs.lemmas.Slice.Eq.{bytes_eq-Decides}
-use Rattle.apk_front.specs.Moments.{IgnoresScratchOf, ignored_but}
+use Rattle.apk_front.specs.Moments.{IgnoresScratchOf, ignored_except_output}
 use Rattle.apk_front.specs.declared.answer.Answer.{Answer}
 use Rattle.apk_front.specs.declared.answer.Answer.TheVariants.{Ok as Done, Refused, TreeFault, OutFault, Memory}
 use Rattle.apk_front.proofs.file_replacement.Suffix.{intent_is_no_scratch}
 use Rattle.command_core.specs.Command.{CommandLine}
 use Rattle.apk_front.specs.journal_core.Recovery.{intent_name}
 use Rattle.apk_front.specs.journal_core.Replacing.{scratch_of}
-use Rattle.apk_front.specs.outcome.Effect.{Effect, Computes, OnlyReadsFiles, AsksRoot, Makes, Changes, does_only_read, effect_by, effect_of, output, output_by, output_if, reads_only}
-use Rattle.run_lists.specs.Events.{Crashes, Edits, Ends, Event, HasNoPendingOutput, Run, Stops, Touches, ignored_after, ignored_by, names_of_others, nothing_ignored, with_all_touched, with_scratch, with_touched}
+use Rattle.apk_front.specs.outcome.Effect.{Effect, Computes, OnlyReadsFiles, AsksRoot, Makes, Changes, does_only_read, effect_of_arguments, effect_of, output, output_of_arguments, output_for_effect, reads_only}
+use Rattle.run_lists.specs.Events.{Crashes, Edits, Ends, Event, HasNoPendingOutput, Run, Stops, Touches, ignored_after, ignored_after_answer, names_of_others, nothing_ignored, ignored_with_all_touched, ignored_with_scratch, ignored_with_touched}
 use Rattle.run_lists.proofs.Facts.{AreMore, Ignored}
 use Rattle.run_lists.proofs.Touched.{intent_off}
 
@@ -22,12 +22,12 @@ neither : (a b : Bool) → (a ≡ true → ⊥) → b ≡ false → (a || b) ≡
 neither true b off is = absurd (off refl)
 neither false b off is = is
 
-pub scratch_hides : (o : Option (List ℕ)) (ignored : Ignored) → ignored intent_name ≡ false → with_scratch o ignored intent_name ≡ false
+pub scratch_hides : (o : Option (List ℕ)) (ignored : Ignored) → ignored intent_name ≡ false → ignored_with_scratch o ignored intent_name ≡ false
 scratch_hides None ignored off = off
 scratch_hides (Some name) ignored off =
     neither (bytes_eq intent_name (scratch_of name)) (ignored intent_name) (λ is. intent_is_no_scratch name ((bytes_eq-Decides intent_name (scratch_of name)).0 is)) off
 
-pub hides : (o : Option (List ℕ)) (ignored : Ignored) → ignored intent_name ≡ false → IgnoresScratchOf o (with_scratch o ignored)
+pub hides : (o : Option (List ℕ)) (ignored : Ignored) → ignored intent_name ≡ false → IgnoresScratchOf o (ignored_with_scratch o ignored)
 hides None ignored off = tt
 hides (Some name) ignored off = record {
   scratch = or_left (bytes_eq (scratch_of name) (scratch_of name)) (ignored (scratch_of name)) ((bytes_eq-Decides (scratch_of name) (scratch_of name)).1 refl);
@@ -38,27 +38,27 @@ either_off : (a b : Bool) → b ≡ false → (if a then false else b) ≡ false
 either_off true b off = refl
 either_off false b off = off
 
-but_hides : (o : Option (List ℕ)) (ignored : Ignored) → ignored intent_name ≡ false → ignored_but o ignored intent_name ≡ false
+but_hides : (o : Option (List ℕ)) (ignored : Ignored) → ignored intent_name ≡ false → ignored_except_output o ignored intent_name ≡ false
 but_hides None ignored off = off
 but_hides (Some name) ignored off = either_off (bytes_eq intent_name name || bytes_eq intent_name (scratch_of name)) (ignored intent_name) off
 
-by_hides : (answer : Answer) (run : Run) (ignored : Ignored) → ignored intent_name ≡ false → ignored_by answer run ignored intent_name ≡ false
+by_hides : (answer : Answer) (run : Run) (ignored : Ignored) → ignored intent_name ≡ false → ignored_after_answer answer run ignored intent_name ≡ false
 by_hides Done run ignored off = but_hides (output run.words) ignored off
 by_hides (Refused r) run ignored off = off
 by_hides TreeFault run ignored off = scratch_hides (output run.words) ignored off
 by_hides OutFault run ignored off = off
 by_hides Memory run ignored off = off
 
-pub touched_hides : (theirs ignored : Ignored) → ignored intent_name ≡ false → with_touched theirs ignored intent_name ≡ false
+pub touched_hides : (theirs ignored : Ignored) → ignored intent_name ≡ false → ignored_with_touched theirs ignored intent_name ≡ false
 touched_hides theirs ignored off = neither (names_of_others theirs intent_name) (ignored intent_name) (λ is. false≢true (sym (intent_off theirs) ∙ is)) off
 
-pub all_touched_hides : (events : List Event) (ignored : Ignored) → ignored intent_name ≡ false → with_all_touched events ignored intent_name ≡ false
+pub all_touched_hides : (events : List Event) (ignored : Ignored) → ignored intent_name ≡ false → ignored_with_all_touched events ignored intent_name ≡ false
 all_touched_hides [] ignored off = off
 all_touched_hides (Ends run ∷ earlier) ignored off = all_touched_hides earlier ignored off
 all_touched_hides (Stops run ∷ earlier) ignored off = all_touched_hides earlier ignored off
 all_touched_hides (Crashes ∷ earlier) ignored off = all_touched_hides earlier ignored off
 all_touched_hides (Edits ∷ earlier) ignored off = all_touched_hides earlier ignored off
-all_touched_hides (Touches theirs ∷ earlier) ignored off = touched_hides theirs (with_all_touched earlier ignored) (all_touched_hides earlier ignored off)
+all_touched_hides (Touches theirs ∷ earlier) ignored off = touched_hides theirs (ignored_with_all_touched earlier ignored) (all_touched_hides earlier ignored off)
 
 pub after_hides : (ignored : Ignored) → ignored intent_name ≡ false → (events : List Event) → ignored_after ignored events intent_name ≡ false
 after_hides ignored off [] = off
@@ -70,18 +70,18 @@ after_hides ignored off (Touches theirs ∷ earlier) = touched_hides theirs (ign
 
 -- ---- more and fewer
 
-pub touched_more : (theirs ignored : Ignored) → AreMore ignored (with_touched theirs ignored)
+pub touched_more : (theirs ignored : Ignored) → AreMore ignored (ignored_with_touched theirs ignored)
 touched_more theirs ignored q is = or_right (names_of_others theirs q) (ignored q) is
 
-pub all_touched_more : (events : List Event) (ignored : Ignored) → AreMore ignored (with_all_touched events ignored)
+pub all_touched_more : (events : List Event) (ignored : Ignored) → AreMore ignored (ignored_with_all_touched events ignored)
 all_touched_more [] ignored q is = is
 all_touched_more (Ends run ∷ earlier) ignored q is = all_touched_more earlier ignored q is
 all_touched_more (Stops run ∷ earlier) ignored q is = all_touched_more earlier ignored q is
 all_touched_more (Crashes ∷ earlier) ignored q is = all_touched_more earlier ignored q is
 all_touched_more (Edits ∷ earlier) ignored q is = all_touched_more earlier ignored q is
-all_touched_more (Touches theirs ∷ earlier) ignored q is = touched_more theirs (with_all_touched earlier ignored) q (all_touched_more earlier ignored q is)
+all_touched_more (Touches theirs ∷ earlier) ignored q is = touched_more theirs (ignored_with_all_touched earlier ignored) q (all_touched_more earlier ignored q is)
 
-pub scratch_more : (o : Option (List ℕ)) (ignored : Ignored) → AreMore ignored (with_scratch o ignored)
+pub scratch_more : (o : Option (List ℕ)) (ignored : Ignored) → AreMore ignored (ignored_with_scratch o ignored)
 scratch_more None ignored q is = is
 scratch_more (Some name) ignored q is = or_right (bytes_eq q (scratch_of name)) (ignored q) is
 
@@ -89,7 +89,7 @@ less : (a b : Bool) → (if a then false else b) ≡ true → b ≡ true
 less true b is = absurd (false≢true is)
 less false b is = is
 
-pub but_fewer : (o : Option (List ℕ)) (ignored : Ignored) → AreMore (ignored_but o ignored) ignored
+pub but_fewer : (o : Option (List ℕ)) (ignored : Ignored) → AreMore (ignored_except_output o ignored) ignored
 but_fewer None ignored q is = is
 but_fewer (Some name) ignored q is = less (bytes_eq q name || bytes_eq q (scratch_of name)) (ignored q) is
 
@@ -98,20 +98,20 @@ same_less true b c is = is
 same_less false true c is = is
 same_less false false c is = is
 
-pub but_same : (o : Option (List ℕ)) (ignored : Ignored) → AreMore (ignored_but o (with_scratch o ignored)) (ignored_but o ignored)
+pub but_same : (o : Option (List ℕ)) (ignored : Ignored) → AreMore (ignored_except_output o (ignored_with_scratch o ignored)) (ignored_except_output o ignored)
 but_same None ignored q is = is
 but_same (Some name) ignored q is = same_less (bytes_eq q name) (bytes_eq q (scratch_of name)) (ignored q) is
 
 -- ---- an ordinary root
 
-but_off : (o : Option (List ℕ)) (ignored : Ignored) (q : List ℕ) → ignored q ≡ false → ignored_but o ignored q ≡ false
+but_off : (o : Option (List ℕ)) (ignored : Ignored) (q : List ℕ) → ignored q ≡ false → ignored_except_output o ignored q ≡ false
 but_off None ignored q off = off
 but_off (Some name) ignored q off = either_off (bytes_eq q name || bytes_eq q (scratch_of name)) (ignored q) off
 
-scratch_off : (o : Option (List ℕ)) (ignored : Ignored) (q : List ℕ) → o ≡ None → ignored q ≡ false → with_scratch o ignored q ≡ false
-scratch_off o ignored q none off = subst (λ (p : Option (List ℕ)). with_scratch p ignored q ≡ false) (sym none) off
+scratch_off : (o : Option (List ℕ)) (ignored : Ignored) (q : List ℕ) → o ≡ None → ignored q ≡ false → ignored_with_scratch o ignored q ≡ false
+scratch_off o ignored q none off = subst (λ (p : Option (List ℕ)). ignored_with_scratch p ignored q ≡ false) (sym none) off
 
-by_off : (answer : Answer) (run : Run) (ignored : Ignored) (q : List ℕ) → (answer ≡ TreeFault → output run.words ≡ None) → ignored q ≡ false → ignored_by answer run ignored q ≡ false
+by_off : (answer : Answer) (run : Run) (ignored : Ignored) (q : List ℕ) → (answer ≡ TreeFault → output run.words ≡ None) → ignored q ≡ false → ignored_after_answer answer run ignored q ≡ false
 by_off Done run ignored q fault off = but_off (output run.words) ignored q off
 by_off (Refused r) run ignored q fault off = off
 by_off TreeFault run ignored q fault off = scratch_off (output run.words) ignored q (fault refl) off
@@ -128,18 +128,18 @@ none_ignored (Touches theirs ∷ earlier) q none = absurd none
 
 -- ---- commands with an output make
 
-effect_makes : (effect : Effect) (command : CommandLine) (name : List ℕ) → output_if effect command ≡ Some name → effect ≡ Makes
+effect_makes : (effect : Effect) (command : CommandLine) (name : List ℕ) → output_for_effect effect command ≡ Some name → effect ≡ Makes
 effect_makes Computes command name is = cc
 effect_makes OnlyReadsFiles command name is = cc
 effect_makes AsksRoot command name is = cc
 effect_makes Makes command name is = refl
 effect_makes Changes command name is = cc
 
-pub output_makes : (command : Result CommandLine ℕ) (name : List ℕ) → output_by command ≡ Some name → effect_by command ≡ Makes
+pub output_makes : (command : Result CommandLine ℕ) (name : List ℕ) → output_of_arguments command ≡ Some name → effect_of_arguments command ≡ Makes
 output_makes (Ok command) name is = effect_makes (effect_of command.applet) command name is
 output_makes (Err place) name is = cc
 
-reader_effect : (effect : Effect) (command : CommandLine) → IsTrue (does_only_read effect) → output_if effect command ≡ None
+reader_effect : (effect : Effect) (command : CommandLine) → IsTrue (does_only_read effect) → output_for_effect effect command ≡ None
 reader_effect Computes command reads = refl
 reader_effect OnlyReadsFiles command reads = refl
 reader_effect AsksRoot command reads = absurd (false≢true reads)
@@ -147,6 +147,6 @@ reader_effect Makes command reads = absurd (false≢true reads)
 reader_effect Changes command reads = absurd (false≢true reads)
 
 -- a command that only reads has none
-pub reader_output : (command : Result CommandLine ℕ) → IsTrue (reads_only command) → output_by command ≡ None
+pub reader_output : (command : Result CommandLine ℕ) → IsTrue (reads_only command) → output_of_arguments command ≡ None
 reader_output (Ok command) reads = reader_effect (effect_of command.applet) command reads
 reader_output (Err place) reads = refl

@@ -2,7 +2,7 @@
 use Rattle.std.proofs.Common.{◌≡◌, ◌⊎◌, inl, inr, ⊎_elim, ℕ, true, false, List, Option, refl, sym, subst, ◌∙◌, arith}
 use Rattle.std.specs.Prelude.{is_some}
 use Rattle.apk_front.specs.Answers.{IsAnswerOf, answer_of}
-use Rattle.apk_front.specs.Moments.{AnswersOutcome, AreOldOrLeadToOutcome, IgnoresScratchOf, IsDurableState, LeavesDurableState, LeavesDurableOnceAnswered, MustLast, ignored_but}
+use Rattle.apk_front.specs.Moments.{AnswersOutcome, AreOldOrLeadToOutcome, IgnoresScratchOf, IsDurableState, LeavesDurableState, LeavesDurableOnceAnswered, MustOutcomeBeDurable, ignored_except_output}
 use Rattle.apk_front.specs.declared.answer.Answer.{Answer}
 use Rattle.apk_front.specs.declared.answer.Answer.TheVariants.{Ok as Done, Refused, TreeFault, OutFault, Memory}
 use Rattle.base_core.specs.Calls.{HoldsNow}
@@ -14,11 +14,11 @@ use Rattle.base_core.specs.Tree.{TreeState, files_of}
 use Rattle.apk_front.specs.journal_core.Quiet.{EachCrashLeavesOld, StateIsUnchanged}
 use Rattle.apk_front.specs.journal_core.Recovery.{EachCrashLeaves, StateDependsOn, intent_name}
 use Rattle.apk_front.specs.journal_core.Replacing.{IsMomentOfReplacing}
-use Rattle.apk_front.specs.outcome.Effect.{Effect, effect_by, output}
+use Rattle.apk_front.specs.outcome.Effect.{Effect, effect_of_arguments, output}
 use Rattle.apk_front.specs.outcome.Outcome.{Outcome}
 use Rattle.apk_front.specs.words_core.Grammar.{command_of}
-use Rattle.run_lists.specs.Events.{HasCommit, IsRunWithoutCommit, IsMomentOf, IsOutcomeFrom, IsRunFrom, Run, ignored_in, with_scratch}
-use Rattle.run_lists.specs.Safety.{HasOldOrOutcome, IsAtomic, IsOldOrOutcome, IsSafe, LeavesOutcome}
+use Rattle.run_lists.specs.Events.{HasCommit, IsRunWithoutCommit, IsMomentOf, IsOutcomeFrom, IsRunFrom, Run, ignored_during_run, ignored_with_scratch}
+use Rattle.run_lists.specs.Safety.{HasOldOrOutcome, IsAtomic, LeavesOldOrOutcome, IsSafe, LeavesOutcome}
 use Rattle.run_lists.proofs.AtMoments.{History, at_last, at_moment, now_at, now_map, now_under, now_with}
 use Rattle.run_lists.proofs.Facts.{Facts, Ignored}
 use Rattle.run_lists.proofs.Names.{but_same, hides, scratch_more}
@@ -34,13 +34,13 @@ settled_on ignored files v m settled quiet image is = let was = quiet image is i
 pub still_self : (ignored : Ignored) (v : TreeState) → IsDurable (StateDependsOn ignored) v → StateIsUnchanged ignored v v
 still_self ignored v is_durable = record { is_durable = is_durable; quiet = quiet_self ignored v; reads = refl; made = omega arith }
 
-pub more_durable : Facts → (o : Option (List ℕ)) (ignored : Ignored) (v : TreeState) → IsDurable (StateDependsOn ignored) v → IsDurable (StateDependsOn (with_scratch o ignored)) v
-more_durable facts o ignored v is_durable = facts.more_order ignored (with_scratch o ignored) v (scratch_more o ignored) is_durable
+pub more_durable : Facts → (o : Option (List ℕ)) (ignored : Ignored) (v : TreeState) → IsDurable (StateDependsOn ignored) v → IsDurable (StateDependsOn (ignored_with_scratch o ignored)) v
+more_durable facts o ignored v is_durable = facts.more_order ignored (ignored_with_scratch o ignored) v (scratch_more o ignored) is_durable
 
-pub at_rest_fewer : Facts → (o : Option (List ℕ)) (ignored : Ignored) (files : Files) (w : TreeState) → IsDurableState (ignored_but o (with_scratch o ignored)) files w → IsDurableState (ignored_but o ignored) files w
+pub at_rest_fewer : Facts → (o : Option (List ℕ)) (ignored : Ignored) (files : Files) (w : TreeState) → IsDurableState (ignored_except_output o (ignored_with_scratch o ignored)) files w → IsDurableState (ignored_except_output o ignored) files w
 at_rest_fewer facts o ignored files w rest = record {
-  is_durable = facts.more_order (ignored_but o (with_scratch o ignored)) (ignored_but o ignored) w (but_same o ignored) rest.is_durable;
-  settled = facts.more_settled (ignored_but o (with_scratch o ignored)) (ignored_but o ignored) files w (but_same o ignored) rest.settled;
+  is_durable = facts.more_order (ignored_except_output o (ignored_with_scratch o ignored)) (ignored_except_output o ignored) w (but_same o ignored) rest.is_durable;
+  settled = facts.more_settled (ignored_except_output o (ignored_with_scratch o ignored)) (ignored_except_output o ignored) files w (but_same o ignored) rest.settled;
 }
 
 -- ---- a run that commits nothing
@@ -75,25 +75,25 @@ module _ (IsOne : Outcome → Type 0) (unique : (a b : Outcome) → IsOne a → 
   told Leaves failed Memory out err is answers = absurd answers
 
   module _ (effect : Effect) (ignored : Ignored) (v : TreeState) (now : History) where
-    lasts_for : (o p : Outcome) → o ≡ p → (MustLast effect ignored v o → HoldsNow now (EachCrashLeaves ignored o.files)) → MustLast effect ignored v p → HoldsNow now (EachCrashLeaves ignored p.files)
-    lasts_for o p same last = subst (λ (x : Outcome). (MustLast effect ignored v x → HoldsNow now (EachCrashLeaves ignored x.files))) same last
+    lasts_for : (o p : Outcome) → o ≡ p → (MustOutcomeBeDurable effect ignored v o → HoldsNow now (EachCrashLeaves ignored o.files)) → MustOutcomeBeDurable effect ignored v p → HoldsNow now (EachCrashLeaves ignored p.files)
+    lasts_for o p same last = subst (λ (x : Outcome). (MustOutcomeBeDurable effect ignored v x → HoldsNow now (EachCrashLeaves ignored x.files))) same last
 
-    pub lasts : (answer : Answer) → LeavesDurableOnceAnswered IsOne effect ignored v now answer → AnswersOutcome answer → (p : Outcome) → IsOne p → MustLast effect ignored v p → HoldsNow now (EachCrashLeaves ignored p.files)
+    pub lasts : (answer : Answer) → LeavesDurableOnceAnswered IsOne effect ignored v now answer → AnswersOutcome answer → (p : Outcome) → IsOne p → MustOutcomeBeDurable effect ignored v p → HoldsNow now (EachCrashLeaves ignored p.files)
     lasts Done is answers p one = lasts_for is.0 p (unique is.0 p is.1 one) is.3
     lasts (Refused r) is answers p one = lasts_for is.0 p (unique is.0 p is.1 one) is.3
     lasts OutFault is answers p one = lasts_for is.0 p (unique is.0 p is.1 one) is.2
     lasts TreeFault is answers p one = absurd answers
     lasts Memory is answers p one = absurd answers
 
-  pub rests : (o : Option (List ℕ)) (ignored : Ignored) (now : History) → LeavesDurableState IsOne o ignored now → (p : Outcome) → IsOne p → p.commits ≡ true → HoldsNow now (IsDurableState (ignored_but o ignored) p.files)
+  pub rests : (o : Option (List ℕ)) (ignored : Ignored) (now : History) → LeavesDurableState IsOne o ignored now → (p : Outcome) → IsOne p → p.commits ≡ true → HoldsNow now (IsDurableState (ignored_except_output o ignored) p.files)
   rests o ignored now is p one =
-      subst (λ (x : Outcome). (x.commits ≡ true → HoldsNow now (IsDurableState (ignored_but o ignored) x.files))) (unique is.0 p is.1 one) is.2
+      subst (λ (x : Outcome). (x.commits ≡ true → HoldsNow now (IsDurableState (ignored_except_output o ignored) x.files))) (unique is.0 p is.1 one) is.2
 
 -- ---- safe
 
 module _ (facts : Facts) (ignored : Ignored) (v : TreeState) (run : Run) (is_run : IsRunFrom v run) (hidden : ignored intent_name ≡ false) (is_durable : IsDurable (StateDependsOn ignored) v) where
   abbrev Now : Ignored
-  Now = ignored_in run ignored
+  Now = ignored_during_run run ignored
 
   pub now_durable : IsDurable (StateDependsOn Now) v
   now_durable = more_durable facts (output run.words) ignored v is_durable
@@ -107,12 +107,12 @@ module _ (facts : Facts) (ignored : Ignored) (v : TreeState) (run : Run) (is_run
   pub replacing : (o : Outcome) → IsOutcomeFrom v run o → Since (IsMomentOfReplacing Now o.files v) run.old run.now
   replacing o one = facts.safe run.words Now v o run.old run.now (is_run.crash Now now_durable now_hides) one
 
-  either : AreOldOrLeadToOutcome (IsOutcomeFrom v run) (is_some (output run.words)) Now v run.old run.now → (m : TreeState) → IsMomentOf run m → IsOldOrOutcome Now v run m
+  either : AreOldOrLeadToOutcome (IsOutcomeFrom v run) (is_some (output run.words)) Now v run.old run.now → (m : TreeState) → IsMomentOf run m → LeavesOldOrOutcome Now v run m
   either (inl is_unchanged) m moment = inl (at_moment (StateIsUnchanged Now v) run v m is_run.begins (still_self Now v now_durable) is_unchanged moment).quiet
   either (inr (o, one, commits, way)) m moment =
       at_moment_either o one commits m moment
     where
-      at_moment_either : (o : Outcome) → IsOutcomeFrom v run o → o.commits ≡ true → (m : TreeState) → IsMomentOf run m → IsOldOrOutcome Now v run m
+      at_moment_either : (o : Outcome) → IsOutcomeFrom v run o → o.commits ≡ true → (m : TreeState) → IsMomentOf run m → LeavesOldOrOutcome Now v run m
       at_moment_either o one commits m moment = inr (o, one, commits, (at_moment (IsMomentOfReplacing Now o.files v) run v m is_run.begins (record { is_durable = now_durable; old_or_new = λ image is. inl (image, is, refl); made = omega arith }) (replacing o one) moment).old_or_new)
 
   pub durable_at : AreOldOrLeadToOutcome (IsOutcomeFrom v run) (is_some (output run.words)) Now v run.old run.now → (m : TreeState) → IsMomentOf run m → IsDurable (StateDependsOn Now) m
@@ -129,19 +129,19 @@ module _ (facts : Facts) (ignored : Ignored) (v : TreeState) (run : Run) (is_run
       with_outcome : (o : Outcome) → IsOutcomeFrom v run o → Told run.answer o → HoldsNow run.now (λ w. files_of w ≡ o.files) → AnswersOutcome run.answer → HoldsNow run.now (LeavesOutcome ignored v run)
       with_outcome o one was reads answers =
           now_with run.now (λ w. files_of w ≡ o.files)
-          (λ w. (MustLast (effect_by (command_of run.words)) Now v o → EachCrashLeaves Now o.files w) × (o.commits ≡ true → IsDurableState (ignored_but (output run.words) ignored) o.files w))
+          (λ w. (MustOutcomeBeDurable (effect_of_arguments (command_of run.words)) Now v o → EachCrashLeaves Now o.files w) × (o.commits ≡ true → IsDurableState (ignored_except_output (output run.words) ignored) o.files w))
           (LeavesOutcome ignored v run)
           (λ w read last. record { outcome = o; is_outcome = one; answered = was; reads = read; settled = last.0; durable_state = last.1 })
           reads
           (now_with run.now
-          (λ w. MustLast (effect_by (command_of run.words)) Now v o → EachCrashLeaves Now o.files w)
-          (λ w. o.commits ≡ true → IsDurableState (ignored_but (output run.words) ignored) o.files w)
-          (λ w. (MustLast (effect_by (command_of run.words)) Now v o → EachCrashLeaves Now o.files w) × (o.commits ≡ true → IsDurableState (ignored_but (output run.words) ignored) o.files w))
+          (λ w. MustOutcomeBeDurable (effect_of_arguments (command_of run.words)) Now v o → EachCrashLeaves Now o.files w)
+          (λ w. o.commits ≡ true → IsDurableState (ignored_except_output (output run.words) ignored) o.files w)
+          (λ w. (MustOutcomeBeDurable (effect_of_arguments (command_of run.words)) Now v o → EachCrashLeaves Now o.files w) × (o.commits ≡ true → IsDurableState (ignored_except_output (output run.words) ignored) o.files w))
           (λ w a b. (a, b))
-          (now_under run.now (MustLast (effect_by (command_of run.words)) Now v o) (EachCrashLeaves Now o.files) (λ w. files_of w ≡ o.files) reads
-          (lasts (IsOutcomeFrom v run) ones (effect_by (command_of run.words)) Now v run.now run.answer (is_run.settled Now now_durable now_hides) answers o one))
-          (now_under run.now (o.commits ≡ true) (IsDurableState (ignored_but (output run.words) ignored) o.files) (λ w. files_of w ≡ o.files) reads
-          (λ commits. now_map run.now (IsDurableState (ignored_but (output run.words) Now) o.files) (IsDurableState (ignored_but (output run.words) ignored) o.files)
+          (now_under run.now (MustOutcomeBeDurable (effect_of_arguments (command_of run.words)) Now v o) (EachCrashLeaves Now o.files) (λ w. files_of w ≡ o.files) reads
+          (lasts (IsOutcomeFrom v run) ones (effect_of_arguments (command_of run.words)) Now v run.now run.answer (is_run.settled Now now_durable now_hides) answers o one))
+          (now_under run.now (o.commits ≡ true) (IsDurableState (ignored_except_output (output run.words) ignored) o.files) (λ w. files_of w ≡ o.files) reads
+          (λ commits. now_map run.now (IsDurableState (ignored_except_output (output run.words) Now) o.files) (IsDurableState (ignored_except_output (output run.words) ignored) o.files)
           (at_rest_fewer facts (output run.words) ignored o.files)
           (rests (IsOutcomeFrom v run) ones (output run.words) Now run.now (is_run.durable_state Now now_durable now_hides answers) o one commits))))
 
@@ -158,7 +158,7 @@ module _ (facts : Facts) (ignored : Ignored) (v : TreeState) (run : Run) (is_run
     now_settled : EachCrashLeaves Now (files_of v) v
     now_settled = facts.more_settled ignored Now (files_of v) v (scratch_more (output run.words) ignored) settled
 
-    one_of_two : (m : TreeState) → IsOldOrOutcome Now v run m → (image : Files) → IsCrashImage m image → HasOldOrOutcome Now v run image
+    one_of_two : (m : TreeState) → LeavesOldOrOutcome Now v run m → (image : Files) → IsCrashImage m image → HasOldOrOutcome Now v run image
     one_of_two m (inl quiet) image is = inl (settled_on Now (files_of v) v m now_settled quiet image is)
     one_of_two m (inr (o, one, commits, old_or_new)) image is =
         ⊎_elim (λ was. inl (was.2 ∙ now_settled was.0 was.1)) (λ new. inr (o, one, commits, new)) (old_or_new image is)
@@ -166,6 +166,6 @@ module _ (facts : Facts) (ignored : Ignored) (v : TreeState) (run : Run) (is_run
     pub atomic : IsAtomic ignored v run
     atomic = record {
       moments = λ m moment. one_of_two m (either (is_run.crash Now now_durable now_hides) m moment);
-      answered = λ answers o one. lasts (IsOutcomeFrom v run) ones (effect_by (command_of run.words)) Now v run.now run.answer (is_run.settled Now now_durable now_hides) answers o one (inl (inr now_settled));
+      answered = λ answers o one. lasts (IsOutcomeFrom v run) ones (effect_of_arguments (command_of run.words)) Now v run.now run.answer (is_run.settled Now now_durable now_hides) answers o one (inl (inr now_settled));
       left = λ idle m moment. settled_on ignored (files_of v) v m settled (idle_moment ignored v run is_run is_durable idle m moment).quiet;
     }

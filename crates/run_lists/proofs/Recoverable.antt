@@ -3,7 +3,7 @@ use Rattle.std.proofs.Common.{◌≡◌, inl, inr, ⊎_elim, ℕ, Bool, true, fa
 use Rattle.std.specs.Prelude.{if◌then◌else◌}
 use Rattle.apk_front.specs.adb_schema.Soundness.{first_fault}
 use Rattle.adb_view.specs.declared.tables.Which.TheVariants.{Intent as IntentTable}
-use Rattle.apk_front.specs.Answers.{answer_by}
+use Rattle.apk_front.specs.Answers.{answer_for_refusal}
 use Rattle.apk_front.specs.Moments.{AnswersOutcome, HasOutcomeWithoutCommit}
 use Rattle.apk_front.specs.declared.answer.Answer.{Answer}
 use Rattle.apk_front.specs.declared.answer.Answer.TheVariants.{Refused}
@@ -16,17 +16,17 @@ use Rattle.apk_front.specs.journal_core.Quiet.{EachCrashLeavesOld}
 use Rattle.apk_front.specs.journal_core.Recovery.{EachCrashLeaves, StateDependsOn, intent_name, is_staged, recovered_files, state_of}
 use Rattle.apk_front.specs.journal_core.Staged.{IsIntentFault, unstaged_files}
 use Rattle.apk_front.proofs.journal_core.More.{quiet_more, states_same}
-use Rattle.apk_front.specs.outcome.Effect.{Effect, Computes, OnlyReadsFiles, AsksRoot, Makes, Changes, does_recover, effect_by, output}
+use Rattle.apk_front.specs.outcome.Effect.{Effect, Computes, OnlyReadsFiles, AsksRoot, Makes, Changes, does_recover, effect_of_arguments, output}
 use Rattle.apk_front.specs.outcome.Outcome.{Outcome}
 use Rattle.apk_front.specs.outcome.Words.{IsOutcome}
 use Rattle.apk_front.specs.outcome.Work.{fault_of_intent, recovery_fault}
 use Rattle.report_core.specs.declared.refusal.Refusal.{Refusal}
 use Rattle.report_core.specs.declared.refusal.Refusal.TheVariants.{IntentBad}
 use Rattle.apk_front.specs.words_core.Grammar.{command_of}
-use Rattle.run_lists.specs.Events.{Crashes, Edits, Ends, Event, Reaches, ReachesWithoutCommit, IsEventWithoutCommit, IsMomentOf, IsOutcomeFrom, IsRunFrom, IsStopOf, IsTransition, Run, Stops, Touches, ignored_after, ignored_in, nothing_ignored, with_all_touched, with_touched}
+use Rattle.run_lists.specs.Events.{Crashes, Edits, Ends, Event, Reaches, ReachesWithoutCommit, IsEventWithoutCommit, IsMomentOf, IsOutcomeFrom, IsRunFrom, IsPossibleStop, IsTransition, Run, Stops, Touches, ignored_after, ignored_during_run, nothing_ignored, ignored_with_all_touched, ignored_with_touched}
 use Rattle.run_lists.specs.Reading.{HasBadIntent}
-use Rattle.run_lists.specs.Recovered.{ReachesWithoutBadIntent, HasStateBefore, HasStateBeforeOrOutcome, HasStateOf, IsRecoveredBy, IsNotRefusedForIntent, LeavesNoBadIntent, PutsNoBadIntent}
-use Rattle.run_lists.specs.Safety.{HasOldOrOutcome, IsOldOrOutcome}
+use Rattle.run_lists.specs.Recovered.{ReachesWithoutBadIntent, HasStateBefore, HasStateBeforeOrOutcome, HasSameState, IsRecoveredBy, IsNotRefusedForIntent, LeavesNoBadIntent, PutsNoBadIntent}
+use Rattle.run_lists.specs.Safety.{HasOldOrOutcome, LeavesOldOrOutcome}
 use Rattle.run_lists.proofs.Along.{as_crash, seen_durable}
 use Rattle.apk_front.proofs.outcome.NextRoom.{intent_gone}
 use Rattle.apk_front.proofs.outcome.Recovered.{ReadSound}
@@ -46,7 +46,7 @@ abbrev pub HasSameBadIntent : Type 0
 HasSameBadIntent = (ignored : Ignored) (a b : Files) (cause : Cause) → ignored intent_name ≡ false → state_of ignored a ≡ state_of ignored b → IsIntentFault a cause → IsIntentFault b cause
 
 abbrev pub OnlyBadRefused : Type 0
-OnlyBadRefused = (words : List (List ℕ)) (files : Files) (o : Outcome) (cause : Cause) → does_recover (effect_by (command_of words)) ≡ true → IsOutcome (command_of words) files o → o.refusal ≡ Some (IntentBad cause) → recovery_fault (effect_by (command_of words)) files ≡ Some cause
+OnlyBadRefused = (words : List (List ℕ)) (files : Files) (o : Outcome) (cause : Cause) → does_recover (effect_of_arguments (command_of words)) ≡ true → IsOutcome (command_of words) files o → o.refusal ≡ Some (IntentBad cause) → recovery_fault (effect_of_arguments (command_of words)) files ≡ Some cause
 
 -- ---- files with a bad intent
 
@@ -86,7 +86,7 @@ module _ (same : HasSameBadIntent) where
       good was.0 was.1 (bad_both ignored image was.0 shown was.2 bad)
 
   module _ (committed : CommitsNoIntent) where
-    moment_good : (ignored : Ignored) (v : TreeState) (run : Run) (m : TreeState) → ignored intent_name ≡ false → LeavesNoBadIntent v → IsOldOrOutcome ignored v run m → LeavesNoBadIntent m
+    moment_good : (ignored : Ignored) (v : TreeState) (run : Run) (m : TreeState) → ignored intent_name ≡ false → LeavesNoBadIntent v → LeavesOldOrOutcome ignored v run m → LeavesNoBadIntent m
     moment_good ignored v run m shown good (inl quiet) = quiet_good ignored v m shown quiet good
     moment_good ignored v run m shown good (inr (o, one, commits, old_or_new)) = λ image is bad. ⊎_elim
         (λ was. good was.0 was.1 (bad_both ignored image was.0 shown was.2 bad))
@@ -97,7 +97,7 @@ module _ (same : HasSameBadIntent) where
       run_good : (names : Ignored) (v : TreeState) (run : Run) → IsRunFrom v run → names intent_name ≡ false → IsDurable (StateDependsOn names) v → LeavesNoBadIntent v → (m : TreeState) → IsMomentOf run m → LeavesNoBadIntent m
       run_good names v run is_run shown is_durable good m moment =
           let all = safe facts names v run is_run shown is_durable in
-          moment_good (ignored_in run names) v run m (scratch_hides (output run.words) names shown) good (all.moments m moment)
+          moment_good (ignored_during_run run names) v run m (scratch_hides (output run.words) names shown) good (all.moments m moment)
 
       led_good : (names : Ignored) (event : Event) (v w : TreeState) → names intent_name ≡ false → IsDurable (StateDependsOn names) v → LeavesNoBadIntent v → IsTransition v event w → PutsNoBadIntent event w → LeavesNoBadIntent w
       led_good names (Ends run) v w shown is_durable good (is_run, ends) puts = run_good names v run is_run shown is_durable good w (last_moment run v w is_run ends)
@@ -106,7 +106,7 @@ module _ (same : HasSameBadIntent) where
           good (files_of w) crash.left (bad_both nothing_ignored image (files_of w) refl (facts.crash_settled nothing_ignored v w crash image is) bad)
       led_good names Edits v w shown is_durable good synced puts = λ image is bad.
           puts (bad_both nothing_ignored image (files_of w) refl (facts.crash_settled nothing_ignored w w (as_crash facts w synced) image is) bad)
-      led_good names (Touches theirs) v w shown is_durable good touch puts = quiet_good (with_touched theirs names) v w (touched_hides theirs names shown) (touch_quiet theirs v w touch names) good
+      led_good names (Touches theirs) v w shown is_durable good touch puts = quiet_good (ignored_with_touched theirs names) v w (touched_hides theirs names shown) (touch_quiet theirs v w touch names) good
 
       module _ (start : Ignored) (off : start intent_name ≡ false) (first : TreeState) (is_durable : IsDurable (StateDependsOn start) first) (good : LeavesNoBadIntent first) where
         pub seen_good : (v : TreeState) (events : List Event) → ReachesWithoutBadIntent first events v → LeavesNoBadIntent v
@@ -116,7 +116,7 @@ module _ (same : HasSameBadIntent) where
 
 -- ---- the next run
 
-refused_by : (refusal : Option Refusal) (cause : Cause) → Refused (IntentBad cause) ≡ answer_by refusal → refusal ≡ Some (IntentBad cause)
+refused_by : (refusal : Option Refusal) (cause : Cause) → Refused (IntentBad cause) ≡ answer_for_refusal refusal → refusal ≡ Some (IntentBad cause)
 refused_by None cause is = cc
 refused_by (Some refusal) cause is = cc
 
@@ -128,15 +128,15 @@ module _ (facts : Facts) (only : OnlyBadRefused) where
   told_bad answer o cause is (inl by) = refused_by o.refusal cause (sym is ∙ by)
   told_bad answer o cause is (inr by) = absurd (cc (is, by))
 
-  pub good_unrefused : (v : TreeState) (run : Run) → IsRunFrom v run → does_recover (effect_by (command_of run.words)) ≡ true → LeavesNoBadIntent v → IsNotRefusedForIntent run
+  pub good_unrefused : (v : TreeState) (run : Run) → IsRunFrom v run → does_recover (effect_of_arguments (command_of run.words)) ≡ true → LeavesNoBadIntent v → IsNotRefusedForIntent run
   good_unrefused v run is_run recovers good = λ cause is.
       let t = told (IsOutcomeFrom v run) (facts.unique run.words (files_of v)) _ _ run.answer run.out run.err is_run.stated (subst AnswersOutcome (sym is) tt) in
-      none_some (recovery_fault (effect_by (command_of run.words)) (files_of v)) cause
-      (no_fault (effect_by (command_of run.words)) (files_of v) (good (files_of v) (facts.read_left v)))
+      none_some (recovery_fault (effect_of_arguments (command_of run.words)) (files_of v)) cause
+      (no_fault (effect_of_arguments (command_of run.words)) (files_of v) (good (files_of v) (facts.read_left v)))
       (only run.words (files_of v) t.0 cause recovers t.1 (told_bad run.answer t.0 cause is t.2))
 
-pub good_recovers : Facts → (v : TreeState) (words : List (List ℕ)) → LeavesNoBadIntent v → recovery_fault (effect_by (command_of words)) (files_of v) ≡ None
-good_recovers facts v words good = no_fault (effect_by (command_of words)) (files_of v) (good (files_of v) (facts.read_left v))
+pub good_recovers : Facts → (v : TreeState) (words : List (List ℕ)) → LeavesNoBadIntent v → recovery_fault (effect_of_arguments (command_of words)) (files_of v) ≡ None
+good_recovers facts v words good = no_fault (effect_of_arguments (command_of words)) (files_of v) (good (files_of v) (facts.read_left v))
 
 -- ---- behind a run that was stopped
 
@@ -167,7 +167,7 @@ module _ (names : Ignored) (v : TreeState) (run : Run) where
   state_on a b is (inl (was, left, same)) = inl (was, left, is ∙ same)
   state_on a b is (inr (o, one, commits, same)) = inr (o, one, commits, is ∙ same)
 
-  pub left_state : (m : TreeState) → IsOldOrOutcome names v run m → (image : Files) → IsCrashImage m image → HasStateBeforeOrOutcome names v run image
+  pub left_state : (m : TreeState) → LeavesOldOrOutcome names v run m → (image : Files) → IsCrashImage m image → HasStateBeforeOrOutcome names v run image
   left_state m (inl quiet) image is = let was = quiet image is in inl (was.0, was.1, was.2)
   left_state m (inr (o, one, commits, old_or_new)) image is =
       ⊎_elim (λ was. inl (was.0, was.1, was.2)) (λ new. inr (o, one, commits, new)) (old_or_new image is)
@@ -195,39 +195,39 @@ record QuietOn (ignored : Ignored) (m w : TreeState) : Type 0 where
   is_durable : IsDurable (StateDependsOn ignored) w
 
 module _ (facts : Facts) (crash_quiet : (ignored : Ignored) (v w : TreeState) → IsAfterCrash v w → EachCrashLeavesOld ignored v w) (start : Ignored) where
-  led_quiet : (earlier : List Event) (m v : TreeState) (event : Event) (w : TreeState) → QuietOn (with_all_touched earlier start) m v → IsEventWithoutCommit v event → IsTransition v event w → QuietOn (with_all_touched (event ∷ earlier) start) m w
+  led_quiet : (earlier : List Event) (m v : TreeState) (event : Event) (w : TreeState) → QuietOn (ignored_with_all_touched earlier start) m v → IsEventWithoutCommit v event → IsTransition v event w → QuietOn (ignored_with_all_touched (event ∷ earlier) start) m w
   led_quiet earlier m v (Ends run) w on idle (is_run, ends) =
-      let names = with_all_touched earlier start in
+      let names = ignored_with_all_touched earlier start in
       let is_unchanged = idle_end names v run is_run on.is_durable idle w ends in
       record { quiet = quiet_on names m v w on.quiet is_unchanged.quiet; is_durable = is_unchanged.is_durable }
   led_quiet earlier m v (Stops run) w on idle (is_run, (at, moment, torn)) =
-      let names = with_all_touched earlier start in
+      let names = ignored_with_all_touched earlier start in
       let is_unchanged = idle_moment names v run is_run on.is_durable idle at moment in
       record { quiet = quiet_on names m v w on.quiet (torn_quiet at w torn names v is_unchanged.quiet); is_durable = torn_durable at w torn names is_unchanged.is_durable }
   led_quiet earlier m v Crashes w on idle crash =
-      let names = with_all_touched earlier start in
+      let names = ignored_with_all_touched earlier start in
       record { quiet = quiet_on names m v w on.quiet (crash_quiet names v w crash); is_durable = facts.crash_durable names v w crash }
   led_quiet earlier m v Edits w on idle synced = absurd idle
   led_quiet earlier m v (Touches theirs) w on idle touch =
-      let few = with_all_touched earlier start in
-      let names = with_touched theirs few in
+      let few = ignored_with_all_touched earlier start in
+      let names = ignored_with_touched theirs few in
       record {
         quiet = quiet_on names m v w (quiet_more few names (touched_more theirs few) m v on.quiet) (touch_quiet theirs v w touch few);
         is_durable = touch_durable theirs v w touch few on.is_durable;
       }
 
-  seen_quiet : (m w : TreeState) (later : List Event) → IsDurable (StateDependsOn start) m → ReachesWithoutCommit m later w → QuietOn (with_all_touched later start) m w
+  seen_quiet : (m w : TreeState) (later : List Event) → IsDurable (StateDependsOn start) m → ReachesWithoutCommit m later w → QuietOn (ignored_with_all_touched later start) m w
   seen_quiet m w [] is_durable is = subst (QuietOn start m) (sym is) (record { quiet = quiet_self start m; is_durable = is_durable })
   seen_quiet m w (event ∷ earlier) is_durable (v, seen, idle, leads) = led_quiet earlier m v event w (seen_quiet m v earlier is_durable seen) idle leads
 
   module _ (same : HasSameBadIntent) (shown : start intent_name ≡ false) (only : OnlyBadRefused) (sound : ReadSound)
-      (recovered : (v : TreeState) (run : Run) → IsRunFrom v run → does_recover (effect_by (command_of run.words)) ≡ true → recovery_fault (effect_by (command_of run.words)) (files_of v) ≡ None
+      (recovered : (v : TreeState) (run : Run) → IsRunFrom v run → does_recover (effect_of_arguments (command_of run.words)) ≡ true → recovery_fault (effect_of_arguments (command_of run.words)) (files_of v) ≡ None
       → AnswersOutcome run.answer → HasOutcomeWithoutCommit (IsOutcomeFrom v run) → HoldsNow run.now (λ w. files_of w ≡ unstaged_files (files_of v))) where
     -- from a moment of a run on, over what crashes and idle runs leave
     pub next_recovers : (m w : TreeState) (later : List Event) (next : Run) → IsDurable (StateDependsOn start) m → LeavesNoBadIntent m
-        → ReachesWithoutCommit m later w → IsRunFrom w next → does_recover (effect_by (command_of next.words)) ≡ true → (image : Files) × IsCrashImage m image × IsRecoveredBy (HasStateOf (with_all_touched later start) image) w next
+        → ReachesWithoutCommit m later w → IsRunFrom w next → does_recover (effect_of_arguments (command_of next.words)) ≡ true → (image : Files) × IsCrashImage m image × IsRecoveredBy (HasSameState (ignored_with_all_touched later start) image) w next
     next_recovers m w later next is_durable good seen is_next recovers =
-        let names = with_all_touched later start in
+        let names = ignored_with_all_touched later start in
         let on = seen_quiet m w later is_durable seen in
         let here : LeavesNoBadIntent w = quiet_good same names m w (all_touched_hides later start shown) on.quiet good in
         let fault = good_recovers facts w next.words here in
@@ -256,27 +256,27 @@ recovered_as A B leads w next is = record {
 
 -- behind a list
 module _ (facts : Facts) (same : HasSameBadIntent) (committed : CommitsNoIntent) (only : OnlyBadRefused) (sound : ReadSound) (crash_quiet : (ignored : Ignored) (v w : TreeState) → IsAfterCrash v w → EachCrashLeavesOld ignored v w)
-    (recovered : (v : TreeState) (run : Run) → IsRunFrom v run → does_recover (effect_by (command_of run.words)) ≡ true → recovery_fault (effect_by (command_of run.words)) (files_of v) ≡ None
+    (recovered : (v : TreeState) (run : Run) → IsRunFrom v run → does_recover (effect_of_arguments (command_of run.words)) ≡ true → recovery_fault (effect_of_arguments (command_of run.words)) (files_of v) ≡ None
     → AnswersOutcome run.answer → HasOutcomeWithoutCommit (IsOutcomeFrom v run) → HoldsNow run.now (λ w. files_of w ≡ unstaged_files (files_of v)))
     (start : Ignored) (off : start intent_name ≡ false) (first : TreeState) (is_durable : IsDurable (StateDependsOn start) first) (good : LeavesNoBadIntent first) where
-  pub stopped_left : (v m w : TreeState) (events later : List Event) (run next : Run) → ReachesWithoutBadIntent first events v → IsRunFrom v run → IsStopOf run m → ReachesWithoutCommit m later w
-      → IsRunFrom w next → does_recover (effect_by (command_of next.words)) ≡ true → (image : Files) × IsCrashImage m image × IsRecoveredBy (HasStateOf (with_all_touched later (ignored_in run (ignored_after start events))) image) w next
+  pub stopped_left : (v m w : TreeState) (events later : List Event) (run next : Run) → ReachesWithoutBadIntent first events v → IsRunFrom v run → IsPossibleStop run m → ReachesWithoutCommit m later w
+      → IsRunFrom w next → does_recover (effect_of_arguments (command_of next.words)) ≡ true → (image : Files) × IsCrashImage m image × IsRecoveredBy (HasSameState (ignored_with_all_touched later (ignored_during_run run (ignored_after start events))) image) w next
   stopped_left v m w events later run next seen is_run (at, moment, torn) idly is_next recovers =
       let names = ignored_after start events in
       let shown = after_hides start off events in
       let here = seen_durable facts start off first v events is_durable (seen_plainly first v events seen) in
-      let order = durable_at facts names v run is_run shown here (is_run.crash (ignored_in run names) (now_durable facts names v run is_run shown here) (now_hides facts names v run is_run shown here)) at moment in
+      let order = durable_at facts names v run is_run shown here (is_run.crash (ignored_during_run run names) (now_durable facts names v run is_run shown here) (now_hides facts names v run is_run shown here)) at moment in
       let is_good = run_good same committed facts names v run is_run shown here (seen_good same committed facts start off first is_durable good v events seen) at moment in
-      next_recovers facts crash_quiet (ignored_in run names) same (scratch_hides (output run.words) names shown) only sound recovered m w later next
-      (torn_durable at m torn (ignored_in run names) order) (torn_good at m torn is_good) idly is_next recovers
+      next_recovers facts crash_quiet (ignored_during_run run names) same (scratch_hides (output run.words) names shown) only sound recovered m w later next
+      (torn_durable at m torn (ignored_during_run run names) order) (torn_good at m torn is_good) idly is_next recovers
 
-  pub stopped_recovers : (v m w : TreeState) (events later : List Event) (run next : Run) → ReachesWithoutBadIntent first events v → IsRunFrom v run → IsStopOf run m → ReachesWithoutCommit m later w
-      → IsRunFrom w next → does_recover (effect_by (command_of next.words)) ≡ true → IsRecoveredBy (HasStateBeforeOrOutcome (with_all_touched later (ignored_in run (ignored_after start events))) v run) w next
+  pub stopped_recovers : (v m w : TreeState) (events later : List Event) (run next : Run) → ReachesWithoutBadIntent first events v → IsRunFrom v run → IsPossibleStop run m → ReachesWithoutCommit m later w
+      → IsRunFrom w next → does_recover (effect_of_arguments (command_of next.words)) ≡ true → IsRecoveredBy (HasStateBeforeOrOutcome (ignored_with_all_touched later (ignored_during_run run (ignored_after start events))) v run) w next
   stopped_recovers v m w events later run next seen is_run (at, moment, torn) idly is_next recovers =
-      let few = ignored_in run (ignored_after start events) in
-      let names = with_all_touched later few in
+      let few = ignored_during_run run (ignored_after start events) in
+      let names = ignored_with_all_touched later few in
       let left = stopped_left v m w events later run next seen is_run (at, moment, torn) idly is_next recovers in
       let either = (safe facts (ignored_after start events) v run is_run (after_hides start off events) (seen_durable facts start off first v events is_durable (seen_plainly first v events seen))).moments at moment in
       let had = left_state few v run at either left.0 (torn_image at m torn left.0 left.1) in
-      recovered_as (HasStateOf names left.0) (HasStateBeforeOrOutcome names v run)
+      recovered_as (HasSameState names left.0) (HasStateBeforeOrOutcome names v run)
       (λ files same. state_on names v run files left.0 same (before_or_outcome_more few names v run (all_touched_more later few) left.0 had)) w next left.2

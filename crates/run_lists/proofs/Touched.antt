@@ -7,13 +7,13 @@ use Rattle.std.proofs.lemmas.Slice.Eq.{bytes_eq-Decides}
 use Rattle.base_core.specs.Crash.{CrashMayLeave}
 use Rattle.base_core.specs.Undone.{IsDurable}
 use Rattle.base_core.specs.Files.{Files, NameMap}
-use Rattle.base_core.specs.Tree.{File, TreeState, bytes_at, files_by}
+use Rattle.base_core.specs.Tree.{File, TreeState, bytes_of_file_number, files_under_map}
 use Rattle.base_core.proofs.Left.{may_leave_as_read}
 use Rattle.apk_front.proofs.journal_intent.StageNames.{stage_name_staged}
 use Rattle.apk_front.specs.journal_core.Quiet.{EachCrashLeavesOld}
-use Rattle.apk_front.specs.journal_core.Recovery.{Intent, IsStagedNameOf, StateDependsOn, intent_at, intent_name, intent_of, is_staged}
+use Rattle.apk_front.specs.journal_core.Recovery.{Intent, IsStagedNameOf, StateDependsOn, intent_in_file, intent_name, intent_of, is_staged}
 use Rattle.apk_front.proofs.journal_core.Agree.{state_agree}
-use Rattle.run_lists.specs.Events.{IsSameExcept, IsTouchOf, names_of_others, with_touched}
+use Rattle.run_lists.specs.Events.{IsSameExcept, IsChangeByOthers, names_of_others, ignored_with_touched}
 use Rattle.run_lists.proofs.Facts.{Ignored}
 
 -- ---- the names
@@ -49,13 +49,13 @@ same_left f g None bytes same is = is
 same_left f g (Some n) None same is = is
 same_left f g (Some n) (Some bytes) same is = subst (λ (file : File). (file.synced ≡ true → bytes ≡ file.bytes)) (same n refl) is
 
-same_bytes : (f g : ℕ → File) (o : Option ℕ) → ((n : ℕ) → o ≡ Some n → g n ≡ f n) → bytes_at g o ≡ bytes_at f o
+same_bytes : (f g : ℕ → File) (o : Option ℕ) → ((n : ℕ) → o ≡ Some n → g n ≡ f n) → bytes_of_file_number g o ≡ bytes_of_file_number f o
 same_bytes f g None same = refl
 same_bytes f g (Some n) same = ap (λ (file : File). Some file.bytes) (same n refl)
 
-module _ (theirs : Ignored) (v w : TreeState) (touch : IsTouchOf theirs v w) (ignored : Ignored) where
+module _ (theirs : Ignored) (v w : TreeState) (touch : IsChangeByOthers theirs v w) (ignored : Ignored) where
   abbrev Names : Ignored
-  Names = with_touched theirs ignored
+  Names = ignored_with_touched theirs ignored
 
   counts : (files : Files) (q : List ℕ) → StateDependsOn Names files q → names_of_others theirs q ≡ false
   counts files q (inl is) = ap (names_of_others theirs) is ∙ intent_off theirs
@@ -64,12 +64,12 @@ module _ (theirs : Ignored) (v w : TreeState) (touch : IsTouchOf theirs v w) (ig
 
   -- the files that a crash might have left before
   abbrev old_files : NameMap → Files → Files
-  old_files was image q = if names_of_others theirs q then bytes_at v.files (was q) else image q
+  old_files was image q = if names_of_others theirs q then bytes_of_file_number v.files (was q) else image q
 
   old_left : (was map : NameMap) (image : Files) → IsSameExcept theirs v was w map → ((q : List ℕ) → CrashMayLeave w.files (map q) (image q)) → (q : List ℕ) → CrashMayLeave v.files (was q) (old_files was image q)
   old_left was map image same by q = at (names_of_others theirs q) refl
     where
-      at : (b : Bool) → names_of_others theirs q ≡ b → CrashMayLeave v.files (was q) (if b then bytes_at v.files (was q) else image q)
+      at : (b : Bool) → names_of_others theirs q ≡ b → CrashMayLeave v.files (was q) (if b then bytes_of_file_number v.files (was q) else image q)
       at true is = may_leave_as_read v.files (was q)
       at false is =
           let both = same q is in
@@ -81,22 +81,22 @@ module _ (theirs : Ignored) (v w : TreeState) (touch : IsTouchOf theirs v w) (ig
         old_files at.0 image,
         (at.0, at.1, old_left at.0 map image at.2 by),
         state_agree Names image (old_files at.0 image)
-            (λ q rests. sym (ap (λ (b : Bool). (if b then bytes_at v.files (at.0 q) else image q)) (counts image q rests))),
+            (λ q rests. sym (ap (λ (b : Bool). (if b then bytes_of_file_number v.files (at.0 q) else image q)) (counts image q rests))),
       )
 
-  rested : (was map : NameMap) → IsSameExcept theirs v was w map → (q : List ℕ) → StateDependsOn Names (files_by w map) q → StateDependsOn ignored (files_by v was) q
+  rested : (was map : NameMap) → IsSameExcept theirs v was w map → (q : List ℕ) → StateDependsOn Names (files_under_map w map) q → StateDependsOn ignored (files_under_map v was) q
   rested was map same q (inl is) = inl is
   rested was map same q (inr (inl shown)) = inr (inl (parts (is_staged q) (names_of_others theirs q) (ignored q) shown).1)
   rested was map same q (inr (inr place)) =
       let both = same intent_name (intent_off theirs) in
-      let at : files_by w map intent_name ≡ files_by v was intent_name = ap (bytes_at w.files) both.0 ∙ same_bytes v.files w.files (was intent_name) both.1 in
-      inr (inr (subst (λ (o : Option Intent). IsStagedNameOf o q) (ap intent_at at) place))
+      let at : files_under_map w map intent_name ≡ files_under_map v was intent_name = ap (bytes_of_file_number w.files) both.0 ∙ same_bytes v.files w.files (was intent_name) both.1 in
+      inr (inr (subst (λ (o : Option Intent). IsStagedNameOf o q) (ap intent_in_file at) place))
 
   pub touch_durable : IsDurable (StateDependsOn ignored) v → IsDurable (StateDependsOn Names) w
   touch_durable is_durable = record {
     each = λ map among q n rests is.
         let at = touch map among in
-        let both = at.2 q (counts (files_by w map) q rests) in
+        let both = at.2 q (counts (files_under_map w map) q rests) in
         let was : at.0 q ≡ Some n = sym both.0 ∙ is in
         ap (λ (file : File). file.synced) (both.1 n was) ∙ is_durable.each at.0 at.1 q n (rested at.0 map at.2 q rests) was;
   }

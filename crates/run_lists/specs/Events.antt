@@ -4,7 +4,7 @@
 use Rattle.std.specs.Prelude.{◌≡◌, ◌≢◌, ◌⊎◌, ◌++◌, ◌||◌, ℕ, Bool, true, false, if◌then◌else◌, List, [], ◌∷◌, Option, Some, None, Contains, IsSome, IsTrue, is_some}
 use Rattle.std.specs.Str.{bytes_eq}
 use Rattle.apk_front.specs.Answers.{IsAnswerOf, LeavesFiles}
-use Rattle.apk_front.specs.Moments.{AnswersOutcome, AreReadDuringRun, AreOldOrLeadToOutcome, CanRecover, CommitsNothing, HasNothingToRecover, IgnoresScratchOf, LeavesDurableState, LeavesDurableOnceAnswered, NamesAreDurableWithoutIntentExcept, ignored_but}
+use Rattle.apk_front.specs.Moments.{AnswersOutcome, AreReadDuringRun, AreOldOrLeadToOutcome, CanRecover, CommitsNothing, HasNothingToRecover, IgnoresScratchOf, LeavesDurableState, LeavesDurableOnceAnswered, NamesAreDurableWithoutIntentExcept, ignored_except_output}
 use Rattle.apk_front.specs.declared.answer.Answer.{Answer}
 use Rattle.apk_front.specs.declared.answer.Answer.TheVariants.{Ok, TreeFault}
 use Rattle.base_core.specs.Calls.{HoldsNow}
@@ -17,7 +17,7 @@ use Rattle.base_core.specs.Undone.{IsAfterCrash, IsDurable, IsCrashMap}
 use Rattle.apk_front.specs.journal_core.Quiet.{StateIsUnchanged}
 use Rattle.apk_front.specs.journal_core.Recovery.{StateDependsOn, intent_name, is_staged}
 use Rattle.apk_front.specs.journal_core.Replacing.{scratch_of}
-use Rattle.apk_front.specs.outcome.Effect.{effect_by, output, reads_only}
+use Rattle.apk_front.specs.outcome.Effect.{effect_of_arguments, output, reads_only}
 use Rattle.apk_front.specs.outcome.Outcome.{Outcome}
 use Rattle.apk_front.specs.outcome.Words.{IsOutcome}
 use Rattle.apk_front.specs.outcome.Work.{recovery_fault}
@@ -55,10 +55,10 @@ pub record IsRunFrom (v : TreeState) (run : Run) : Type 0 where
       (HasCause run.before run.after) run.answer run.out run.err
   pub same : IsTrue (reads_only (command_of run.words)) → run.now ≡ run.old
   pub idle : CommitsNothing (IsOutcomeFrom v run) run.answer
-      → HasNothingToRecover (effect_by (command_of run.words)) v → run.now ≡ run.old
-  pub bad_intent : IsSome (recovery_fault (effect_by (command_of run.words)) (files_of v))
+      → HasNothingToRecover (effect_of_arguments (command_of run.words)) v → run.now ≡ run.old
+  pub bad_intent : IsSome (recovery_fault (effect_of_arguments (command_of run.words)) (files_of v))
       → run.now ≡ run.old
-  pub reads : AreReadDuringRun (IsOutcomeFrom v run) (effect_by (command_of run.words))
+  pub reads : AreReadDuringRun (IsOutcomeFrom v run) (effect_of_arguments (command_of run.words))
       (output run.words) v run.old run.now
   pub last : IsSome (v.names intent_name)
       → Since (NamesAreDurableWithoutIntentExcept (output run.words)) run.old run.now
@@ -73,7 +73,7 @@ pub record IsRunFrom (v : TreeState) (run : Run) : Type 0 where
       → HoldsNow run.now (IsDurable (StateDependsOn ignored))
   pub settled : (ignored : List ℕ → Bool)
       → IsDurable (StateDependsOn ignored) v → IgnoresScratchOf (output run.words) ignored
-      → LeavesDurableOnceAnswered (IsOutcomeFrom v run) (effect_by (command_of run.words)) ignored v
+      → LeavesDurableOnceAnswered (IsOutcomeFrom v run) (effect_of_arguments (command_of run.words)) ignored v
       run.now
       run.answer
   pub durable_state : (ignored : List ℕ → Bool)
@@ -105,7 +105,7 @@ pub record IsAllSynced (v : TreeState) : Type 0 where
   pub files : (q : List ℕ) (n : ℕ) → v.names q ≡ Some n → (v.files n).synced ≡ true
 
 -- w differs from v only in the bytes of files that are not synced, as inside a call that appends to one
-pub record IsTornFrom (v w : TreeState) : Type 0 where
+pub record DiffersOnlyInUnsyncedBytes (v w : TreeState) : Type 0 where
   pub names : w.names ≡ v.names
   pub older : w.older ≡ v.older
   pub made : w.made ≡ v.made
@@ -114,8 +114,8 @@ pub record IsTornFrom (v w : TreeState) : Type 0 where
 
 -- a run may be stopped at one of its moments; or inside a call, and then each file that is not synced
 -- may have any bytes
-abbrev pub IsStopOf : Run → TreeState → Type 0
-IsStopOf run w = (m : TreeState) × IsMomentOf run m × IsTornFrom m w
+abbrev pub IsPossibleStop : Run → TreeState → Type 0
+IsPossibleStop run w = (m : TreeState) × IsMomentOf run m × DiffersOnlyInUnsyncedBytes m w
 
 -- of these names, those that others may touch: neither the intent's, nor one below the staging area
 abbrev pub names_of_others : (List ℕ → Bool) → List ℕ → Bool
@@ -128,19 +128,19 @@ IsSameExcept theirs v was w map =
     → (map q ≡ was q) × ((n : ℕ) → was q ≡ Some n → w.files n ≡ v.files n)
 
 -- others have changed only files under their names: each map of names is one from before but for these
-abbrev pub IsTouchOf : (List ℕ → Bool) → TreeState → TreeState → Type 0
-IsTouchOf theirs v w =
+abbrev pub IsChangeByOthers : (List ℕ → Bool) → TreeState → TreeState → Type 0
+IsChangeByOthers theirs v w =
     (map : NameMap) → IsCrashMap w map → (was : NameMap) × IsCrashMap v was
     × IsSameExcept theirs v was w map
 
 -- an event finds a tree in the state v, and leaves it in the state w
 abbrev pub IsTransition : TreeState → Event → TreeState → Type 0
 IsTransition v (Ends run) w = IsRunFrom v run × HoldsNow run.now (λ u. u ≡ w)
-IsTransition v (Stops run) w = IsRunFrom v run × IsStopOf run w
+IsTransition v (Stops run) w = IsRunFrom v run × IsPossibleStop run w
 IsTransition v Crashes w = IsAfterCrash v w
 -- others may lead to any files of the tree, once these are synced
 IsTransition v Edits w = IsAllSynced w
-IsTransition v (Touches theirs) w = IsTouchOf theirs v w
+IsTransition v (Touches theirs) w = IsChangeByOthers theirs v w
 
 -- a root that was in the state `first` has seen these events, the newest first, and is in state w
 abbrev pub Reaches : TreeState → List Event → TreeState → Type 0
@@ -176,24 +176,24 @@ ReachesWithoutCommit first (event ∷ earlier) w =
 
 -- After the event each crash leaves one state: it is no run; or a run that answers its outcome, and
 -- this commits, or the run has no output and found an intent.
-abbrev pub MakesOneState : TreeState → Event → Type 0
-MakesOneState v (Ends run) =
+abbrev pub LeavesOneStateAfterCrash : TreeState → Event → Type 0
+LeavesOneStateAfterCrash v (Ends run) =
     AnswersOutcome run.answer
     × (HasCommit v run
-    ⊎ ((output run.words ≡ None) × CanRecover (effect_by (command_of run.words)) v))
-MakesOneState v (Stops run) = ⊥
-MakesOneState v Crashes = Unit {0}
-MakesOneState v Edits = Unit {0}
-MakesOneState v (Touches theirs) = ⊥
+    ⊎ ((output run.words ≡ None) × CanRecover (effect_of_arguments (command_of run.words)) v))
+LeavesOneStateAfterCrash v (Stops run) = ⊥
+LeavesOneStateAfterCrash v Crashes = Unit {0}
+LeavesOneStateAfterCrash v Edits = Unit {0}
+LeavesOneStateAfterCrash v (Touches theirs) = ⊥
 
 -- after the event each crash leaves one state if it did before: it is no run; or a run that commits
 -- nothing, or that ends without an I/O error of the tree
-abbrev pub KeepsOneState : TreeState → Event → Type 0
-KeepsOneState v (Ends run) = (run.answer ≢ TreeFault) ⊎ IsRunWithoutCommit v run
-KeepsOneState v (Stops run) = IsRunWithoutCommit v run
-KeepsOneState v Crashes = Unit {0}
-KeepsOneState v Edits = Unit {0}
-KeepsOneState v (Touches theirs) = Unit {0}
+abbrev pub KeepsOneStateAfterCrash : TreeState → Event → Type 0
+KeepsOneStateAfterCrash v (Ends run) = (run.answer ≢ TreeFault) ⊎ IsRunWithoutCommit v run
+KeepsOneStateAfterCrash v (Stops run) = IsRunWithoutCommit v run
+KeepsOneStateAfterCrash v Crashes = Unit {0}
+KeepsOneStateAfterCrash v Edits = Unit {0}
+KeepsOneStateAfterCrash v (Touches theirs) = Unit {0}
 
 -- a root has seen events, and each crash leaves one state: an event made it so, or it was so at first,
 -- and the events after that kept it
@@ -202,8 +202,8 @@ ReachesOneState first [] w = w ≡ first
 ReachesOneState first (event ∷ earlier) w =
     (v : TreeState)
     × IsTransition v event w
-    × ((Reaches first earlier v × MakesOneState v event)
-    ⊎ (ReachesOneState first earlier v × KeepsOneState v event))
+    × ((Reaches first earlier v × LeavesOneStateAfterCrash v event)
+    ⊎ (ReachesOneState first earlier v × KeepsOneStateAfterCrash v event))
 
 -- since the last crash, or change by others, no run was stopped, and none ended by a fault of the tree
 abbrev pub HasNoPendingRun : List Event → Type 0
@@ -221,37 +221,37 @@ abbrev pub nothing_ignored : List ℕ → Bool
 nothing_ignored q = false
 
 -- ignored names and the scratch name of an output
-abbrev pub with_scratch : Option (List ℕ) → (List ℕ → Bool) → List ℕ → Bool
-with_scratch None ignored q = ignored q
-with_scratch (Some name) ignored q = bytes_eq q (scratch_of name) || ignored q
+abbrev pub ignored_with_scratch : Option (List ℕ) → (List ℕ → Bool) → List ℕ → Bool
+ignored_with_scratch None ignored q = ignored q
+ignored_with_scratch (Some name) ignored q = bytes_eq q (scratch_of name) || ignored q
 
 -- the names that are ignored during a run, by those that are ignored when it begins
-abbrev pub ignored_in : Run → (List ℕ → Bool) → List ℕ → Bool
-ignored_in run ignored = with_scratch (output run.words) ignored
+abbrev pub ignored_during_run : Run → (List ℕ → Bool) → List ℕ → Bool
+ignored_during_run run ignored = ignored_with_scratch (output run.words) ignored
 
 -- the names that are ignored after a run that ends with this answer
-abbrev pub ignored_by : Answer → Run → (List ℕ → Bool) → List ℕ → Bool
-ignored_by Ok run ignored = ignored_but (output run.words) ignored
-ignored_by TreeFault run ignored = ignored_in run ignored
-ignored_by other run ignored = ignored
+abbrev pub ignored_after_answer : Answer → Run → (List ℕ → Bool) → List ℕ → Bool
+ignored_after_answer Ok run ignored = ignored_except_output (output run.words) ignored
+ignored_after_answer TreeFault run ignored = ignored_during_run run ignored
+ignored_after_answer other run ignored = ignored
 
 -- names are among others
-abbrev pub AreAmong : (List ℕ → Bool) → (List ℕ → Bool) → Type 0
-AreAmong few many = (q : List ℕ) → few q ≡ true → many q ≡ true
+abbrev pub AreNamesAmong : (List ℕ → Bool) → (List ℕ → Bool) → Type 0
+AreNamesAmong few many = (q : List ℕ) → few q ≡ true → many q ≡ true
 
 -- ignored names, and names that others touched
-abbrev pub with_touched : (List ℕ → Bool) → (List ℕ → Bool) → List ℕ → Bool
-with_touched theirs ignored q = names_of_others theirs q || ignored q
+abbrev pub ignored_with_touched : (List ℕ → Bool) → (List ℕ → Bool) → List ℕ → Bool
+ignored_with_touched theirs ignored q = names_of_others theirs q || ignored q
 
 -- ignored names, and all names that others touched along a list
-abbrev pub with_all_touched : List Event → (List ℕ → Bool) → List ℕ → Bool
-with_all_touched [] ignored = ignored
-with_all_touched (Ends run ∷ earlier) ignored = with_all_touched earlier ignored
-with_all_touched (Stops run ∷ earlier) ignored = with_all_touched earlier ignored
-with_all_touched (Crashes ∷ earlier) ignored = with_all_touched earlier ignored
-with_all_touched (Edits ∷ earlier) ignored = with_all_touched earlier ignored
-with_all_touched (Touches theirs ∷ earlier) ignored =
-    with_touched theirs (with_all_touched earlier ignored)
+abbrev pub ignored_with_all_touched : List Event → (List ℕ → Bool) → List ℕ → Bool
+ignored_with_all_touched [] ignored = ignored
+ignored_with_all_touched (Ends run ∷ earlier) ignored = ignored_with_all_touched earlier ignored
+ignored_with_all_touched (Stops run ∷ earlier) ignored = ignored_with_all_touched earlier ignored
+ignored_with_all_touched (Crashes ∷ earlier) ignored = ignored_with_all_touched earlier ignored
+ignored_with_all_touched (Edits ∷ earlier) ignored = ignored_with_all_touched earlier ignored
+ignored_with_all_touched (Touches theirs ∷ earlier) ignored =
+    ignored_with_touched theirs (ignored_with_all_touched earlier ignored)
 
 -- The names that are ignored after a list. A run with an output adds its scratch name if it is stopped
 -- or the tree fails. The name is no longer ignored once the output is written, or all was synced. Names
@@ -259,12 +259,12 @@ with_all_touched (Touches theirs ∷ earlier) ignored =
 abbrev pub ignored_after : (List ℕ → Bool) → List Event → List ℕ → Bool
 ignored_after ignored [] = ignored
 ignored_after ignored (Ends run ∷ earlier) =
-    ignored_by run.answer run (ignored_after ignored earlier)
-ignored_after ignored (Stops run ∷ earlier) = ignored_in run (ignored_after ignored earlier)
+    ignored_after_answer run.answer run (ignored_after ignored earlier)
+ignored_after ignored (Stops run ∷ earlier) = ignored_during_run run (ignored_after ignored earlier)
 ignored_after ignored (Crashes ∷ earlier) = nothing_ignored
 ignored_after ignored (Edits ∷ earlier) = nothing_ignored
 ignored_after ignored (Touches theirs ∷ earlier) =
-    with_touched theirs (ignored_after ignored earlier)
+    ignored_with_touched theirs (ignored_after ignored earlier)
 
 -- since all was synced no run with an output was stopped, or ended by a fault of the tree, and others
 -- touched nothing

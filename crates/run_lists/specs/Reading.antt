@@ -9,7 +9,7 @@ use Rattle.base_core.specs.declared.cause.Cause.{Cause}
 use Rattle.apk_front.specs.journal_core.Kept.{IsJournalName}
 use Rattle.apk_front.specs.journal_core.Staged.{IsIntentFault, unstaged_files}
 use Rattle.apk_front.specs.journal_intent.FreeNames.{IsNoneOf}
-use Rattle.apk_front.specs.outcome.Effect.{does_recover, effect_by, output}
+use Rattle.apk_front.specs.outcome.Effect.{does_recover, effect_of_arguments, output}
 use Rattle.apk_front.specs.outcome.Outcome.{Outcome}
 use Rattle.apk_front.specs.words_core.Grammar.{command_of}
 use Rattle.run_lists.specs.Events.{Crashes, Edits, Ends, Event, IsMomentOf, IsOutcomeFrom, IsTransition, Run, Stops, Touches}
@@ -18,9 +18,9 @@ use Rattle.run_lists.specs.Events.{Crashes, Edits, Ends, Event, IsMomentOf, IsOu
 
 -- a name is neither the intent's, nor that of a staged file, nor one under which the run makes a new
 -- file
-pub record IsNoDraft (run : Run) (q : List ℕ) : Type 0 where
+pub record IsNoJournalOrDraftName (run : Run) (q : List ℕ) : Type 0 where
   pub waits : IsJournalName q → ⊥
-  pub drafts : is_draft_name (effect_by (command_of run.words)) (output run.words) q ≡ false
+  pub drafts : is_draft_name (effect_of_arguments (command_of run.words)) (output run.words) q ≡ false
 
 -- at a moment of a run a name has the bytes of an outcome of the run that commits
 abbrev pub HasOutcomeBytes : TreeState → Run → TreeState → List ℕ → Type 0
@@ -32,10 +32,10 @@ HasOutcomeBytes v run m q =
 
 -- at a moment of a run a name has the bytes that it had when the run began; the recovered ones, if the
 -- command recovers; or the outcome's
-abbrev pub HasBytesOfRun : TreeState → Run → TreeState → List ℕ → Type 0
-HasBytesOfRun v run m q =
+abbrev pub HasOldRecoveredOrOutcomeBytes : TreeState → Run → TreeState → List ℕ → Type 0
+HasOldRecoveredOrOutcomeBytes v run m q =
     (files_of m q ≡ files_of v q)
-    ⊎ (((does_recover (effect_by (command_of run.words)) ≡ true)
+    ⊎ (((does_recover (effect_of_arguments (command_of run.words)) ≡ true)
     × (files_of m q ≡ unstaged_files (files_of v) q))
     ⊎ HasOutcomeBytes v run m q)
 
@@ -72,7 +72,7 @@ pub record IsTrueAt (test : Option (List ℕ) → Bool) (q : List ℕ) (files : 
 -- a name is no draft of the run, and the test holds of what each outcome that commits leaves there
 pub record LeavesTrueAt (test : Option (List ℕ) → Bool) (q : List ℕ) (v : TreeState)
     (run : Run) : Type 0 where
-  pub no_draft : IsNoDraft run q
+  pub no_draft : IsNoJournalOrDraftName run q
   pub outcomes : (outcome : Outcome) → IsOutcomeFrom v run outcome → outcome.commits ≡ true
       → test (outcome.files q) ≡ true
 

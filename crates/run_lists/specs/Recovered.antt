@@ -10,7 +10,7 @@ use Rattle.base_core.specs.Tree.{TreeState, files_of}
 use Rattle.base_core.specs.declared.cause.Cause.{Cause}
 use Rattle.apk_front.specs.journal_core.Recovery.{intent_name, state_of}
 use Rattle.apk_front.specs.journal_core.Staged.{IsEmptyStage, unstaged_files}
-use Rattle.apk_front.specs.outcome.Effect.{effect_by}
+use Rattle.apk_front.specs.outcome.Effect.{effect_of_arguments}
 use Rattle.apk_front.specs.outcome.Outcome.{Outcome}
 use Rattle.apk_front.specs.outcome.Work.{recovery_fault}
 use Rattle.report_core.specs.declared.refusal.Refusal.TheVariants.{IntentBad}
@@ -48,12 +48,12 @@ IsNotRefusedForIntent run = (cause : Cause) → run.answer ≢ Refused (IntentBa
 -- ---- after a run that was stopped
 
 -- files have the state of others, apart from the ignored names
-abbrev pub HasStateOf : (List ℕ → Bool) → Files → Files → Type 0
-HasStateOf ignored others files = state_of ignored files ≡ state_of ignored others
+abbrev pub HasSameState : (List ℕ → Bool) → Files → Files → Type 0
+HasSameState ignored others files = state_of ignored files ≡ state_of ignored others
 
 -- files have a state that a crash might have left when the run began
 abbrev pub HasStateBefore : (List ℕ → Bool) → TreeState → Files → Type 0
-HasStateBefore ignored v files = (was : Files) × IsCrashImage v was × HasStateOf ignored was files
+HasStateBefore ignored v files = (was : Files) × IsCrashImage v was × HasSameState ignored was files
 
 -- files have a state from before the run, or that of an outcome of the run, which commits
 abbrev pub HasStateBeforeOrOutcome : (List ℕ → Bool) → TreeState → Run → Files → Type 0
@@ -62,7 +62,7 @@ HasStateBeforeOrOutcome ignored v run files =
     ⊎ ((outcome : Outcome)
     × IsOutcomeFrom v run outcome
     × (outcome.commits ≡ true)
-    × HasStateOf ignored outcome.files files)
+    × HasSameState ignored outcome.files files)
 
 -- nothing is left to do in files, and they have such a state
 pub record AreRecovered (HasState : Files → Type 0) (files : Files) : Type 0 where
@@ -76,7 +76,7 @@ pub record AreRecovered (HasState : Files → Type 0) (files : Files) : Type 0 w
 pub record IsRecoveredBy (HasState : Files → Type 0) (w : TreeState) (next : Run) :
     Type 0 where
   pub unrefused : IsNotRefusedForIntent next
-  pub works : recovery_fault (effect_by (command_of next.words)) (files_of w) ≡ None
+  pub works : recovery_fault (effect_of_arguments (command_of next.words)) (files_of w) ≡ None
   pub files : AreRecovered HasState (unstaged_files (files_of w))
   pub read : AnswersOutcome next.answer → HasOutcomeWithoutCommit (IsOutcomeFrom w next)
       → HoldsNow next.now (λ u. files_of u ≡ unstaged_files (files_of w))

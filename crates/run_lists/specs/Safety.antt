@@ -2,7 +2,7 @@
 -- "Recovery": the table of what a run may leave, and its last part.
 use Rattle.std.specs.Prelude.{◌≡◌, ◌⊎◌, ℕ, Bool, true, false, List}
 use Rattle.apk_front.specs.Answers.{answer_of}
-use Rattle.apk_front.specs.Moments.{AnswersOutcome, IsDurableState, MustLast, ignored_but}
+use Rattle.apk_front.specs.Moments.{AnswersOutcome, IsDurableState, MustOutcomeBeDurable, ignored_except_output}
 use Rattle.apk_front.specs.declared.answer.Answer.TheVariants.{OutFault}
 use Rattle.base_core.specs.Calls.{HoldsNow}
 use Rattle.base_core.specs.Undone.{IsDurable, IsCrashImage}
@@ -10,17 +10,17 @@ use Rattle.base_core.specs.Files.{Files}
 use Rattle.base_core.specs.Tree.{TreeState, files_of}
 use Rattle.apk_front.specs.journal_core.Quiet.{EachCrashLeavesOld}
 use Rattle.apk_front.specs.journal_core.Recovery.{EachCrashLeavesOldOrNew, EachCrashLeaves, StateDependsOn, intent_name, state_of}
-use Rattle.apk_front.specs.outcome.Effect.{effect_by, output}
+use Rattle.apk_front.specs.outcome.Effect.{effect_of_arguments, output}
 use Rattle.apk_front.specs.outcome.Outcome.{Outcome}
 use Rattle.apk_front.specs.words_core.Grammar.{command_of}
-use Rattle.run_lists.specs.Events.{Event, Reaches, ReachesOneState, IsRunWithoutCommit, IsMomentOf, IsOutcomeFrom, Run, ignored_after, ignored_in}
+use Rattle.run_lists.specs.Events.{Event, Reaches, ReachesOneState, IsRunWithoutCommit, IsMomentOf, IsOutcomeFrom, Run, ignored_after, ignored_during_run}
 
 -- ---- from any states that a crash might have left before the run
 
 -- at a moment of a run a crash leaves a state from before; or the run has an outcome that commits, and
 -- a crash leaves a state from before or that of its files
-abbrev pub IsOldOrOutcome : (List ℕ → Bool) → TreeState → Run → TreeState → Type 0
-IsOldOrOutcome ignored v run m =
+abbrev pub LeavesOldOrOutcome : (List ℕ → Bool) → TreeState → Run → TreeState → Type 0
+LeavesOldOrOutcome ignored v run m =
     EachCrashLeavesOld ignored v m
     ⊎ ((outcome : Outcome)
     × IsOutcomeFrom v run outcome
@@ -41,17 +41,17 @@ pub record LeavesOutcome (ignored : List ℕ → Bool) (v : TreeState) (run : Ru
   pub reads : files_of w ≡ outcome.files
   -- each crash leaves them, if it commits, if each left the old ones before, or if an intent was found
   -- and completed
-  pub settled : MustLast (effect_by (command_of run.words)) (ignored_in run ignored) v outcome
-      → EachCrashLeaves (ignored_in run ignored) outcome.files w
+  pub settled : MustOutcomeBeDurable (effect_of_arguments (command_of run.words)) (ignored_during_run run ignored) v outcome
+      → EachCrashLeaves (ignored_during_run run ignored) outcome.files w
   -- if it commits, under its output and the scratch name too
   pub durable_state : outcome.commits ≡ true
-      → IsDurableState (ignored_but (output run.words) ignored) outcome.files w
+      → IsDurableState (ignored_except_output (output run.words) ignored) outcome.files w
 
 -- A run is safe: at each moment a crash leaves a state from before or that of the outcome. Once the
 -- outcome is answered its files are read, and are durable. A run that commits nothing keeps the state.
 pub record IsSafe (ignored : List ℕ → Bool) (v : TreeState) (run : Run) : Type 0 where
   pub moments : (m : TreeState) → IsMomentOf run m
-      → IsOldOrOutcome (ignored_in run ignored) v run m
+      → LeavesOldOrOutcome (ignored_during_run run ignored) v run m
   pub answered : AnswersOutcome run.answer → HoldsNow run.now (LeavesOutcome ignored v run)
   pub left : IsRunWithoutCommit v run
       → (m : TreeState) → IsMomentOf run m → KeepsState ignored v m
@@ -71,9 +71,9 @@ HasOldOrOutcome ignored v run image =
 -- answered a crash leaves that of the outcome, and the old one if the run commits nothing.
 pub record IsAtomic (ignored : List ℕ → Bool) (v : TreeState) (run : Run) : Type 0 where
   pub moments : (m : TreeState) → IsMomentOf run m → (image : Files) → IsCrashImage m image
-      → HasOldOrOutcome (ignored_in run ignored) v run image
+      → HasOldOrOutcome (ignored_during_run run ignored) v run image
   pub answered : AnswersOutcome run.answer → (outcome : Outcome) → IsOutcomeFrom v run outcome
-      → HoldsNow run.now (EachCrashLeaves (ignored_in run ignored) outcome.files)
+      → HoldsNow run.now (EachCrashLeaves (ignored_during_run run ignored) outcome.files)
   pub left : IsRunWithoutCommit v run
       → (m : TreeState) → IsMomentOf run m → EachCrashLeaves ignored (files_of v) m
 

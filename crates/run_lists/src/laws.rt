@@ -9,13 +9,13 @@ ghost use Rattle.base_core.specs.Tree.{TreeState, files_of};
 ghost use Rattle.apk_front.specs.journal_core.Kept.{IsJournalName};
 ghost use Rattle.apk_front.specs.journal_core.Recovery.{EachCrashLeaves, StateDependsOn, intent_name, state_of};
 ghost use Rattle.apk_front.specs.journal_core.Staged.{unstaged_files};
-ghost use Rattle.apk_front.specs.outcome.Effect.{does_recover, effect_by, output, reads_only};
+ghost use Rattle.apk_front.specs.outcome.Effect.{does_recover, effect_of_arguments, output, reads_only};
 ghost use Rattle.apk_front.specs.outcome.Outcome.{Outcome};
 ghost use Rattle.apk_front.specs.outcome.Words.{IsOutcome};
 ghost use Rattle.apk_front.specs.outcome.Work.{recovery_fault};
-ghost use Rattle.run_lists.specs.Events.{AreAmong, Event, HasNoPendingOutput, HasNoPendingRun, Reaches, ReachesWithoutCommit, ReachesOneState, IsRunWithoutCommit, IsMomentOf, IsOutcomeFrom, IsRunFrom, IsStopOf, Run, ignored_after, ignored_in, nothing_ignored, with_all_touched, with_scratch};
-ghost use Rattle.run_lists.specs.Reading.{HasBadIntent, HasBytesOfRun, ReachesByRuns, IsUnrestrictedRun, IsDurablyDone, IsOrdinaryName, IsNoDraft, IsTrueAt, LeavesTrueAt};
-ghost use Rattle.run_lists.specs.Recovered.{ReachesWithoutBadIntent, HasStateBeforeOrOutcome, HasStateOf, IsRecoveredBy, IsNotRefusedForIntent, LeavesNoBadIntent};
+ghost use Rattle.run_lists.specs.Events.{AreNamesAmong, Event, HasNoPendingOutput, HasNoPendingRun, Reaches, ReachesWithoutCommit, ReachesOneState, IsRunWithoutCommit, IsMomentOf, IsOutcomeFrom, IsRunFrom, IsPossibleStop, Run, ignored_after, ignored_during_run, nothing_ignored, ignored_with_all_touched, ignored_with_scratch};
+ghost use Rattle.run_lists.specs.Reading.{HasBadIntent, HasOldRecoveredOrOutcomeBytes, ReachesByRuns, IsUnrestrictedRun, IsDurablyDone, IsOrdinaryName, IsNoJournalOrDraftName, IsTrueAt, LeavesTrueAt};
+ghost use Rattle.run_lists.specs.Recovered.{ReachesWithoutBadIntent, HasStateBeforeOrOutcome, HasSameState, IsRecoveredBy, IsNotRefusedForIntent, LeavesNoBadIntent};
 ghost use Rattle.run_lists.specs.Safety.{HasOldOrOutcome, IsAtomicAfterAnyEvents, IsSafeAfterAnyEvents};
 ghost use Rattle.apk_front.specs.words_core.Grammar.{command_of};
 
@@ -48,7 +48,7 @@ pub fn a_run_is_safe_after_any_events()
         (words : List (List ℕ)) → ignored intent_name ≡ false
         → IsDurable (StateDependsOn ignored) first
         → Reaches first events v
-        → let names = with_scratch (output words) (ignored_after ignored events) in
+        → let names = ignored_with_scratch (output words) (ignored_after ignored events) in
         IsDurable (StateDependsOn names) v × IgnoresScratchOf (output words) names }
 
     // On an ordinary root no name is ignored, and none is until a run with an output is stopped, or
@@ -90,14 +90,14 @@ pub fn a_root_that_commits_nothing_keeps_its_state()
     // from names that others touched.
     ensures again { (ignored : List ℕ → Bool) (v w : TreeState) (events : List Event)
         → IsDurableState ignored (files_of v) v → ReachesWithoutCommit v events w
-        → IsDurableState (with_all_touched events ignored) (files_of v) w }
+        → IsDurableState (ignored_with_all_touched events ignored) (files_of v) w }
 
     // So two recoveries of a root agree, whatever happened between them.
     ensures agree { (ignored names : List ℕ → Bool) (v w u : TreeState)
         (events others : List Event) → IsDurableState ignored (files_of v) v
         → ReachesWithoutCommit v events w → ReachesWithoutCommit v others u
-        → AreAmong (with_all_touched events ignored) names
-        → AreAmong (with_all_touched others ignored) names
+        → AreNamesAmong (ignored_with_all_touched events ignored) names
+        → AreNamesAmong (ignored_with_all_touched others ignored) names
         → state_of names (files_of w) ≡ state_of names (files_of u) }
 
     // A run commits nothing if its command only reads.
@@ -111,8 +111,8 @@ pub fn a_root_that_commits_nothing_keeps_its_state()
     // So a run that recovers, and has an outcome that commits nothing, leaves exactly those files
     // once the outcome is answered, unless a bad intent was refused.
     ensures recovers { (v : TreeState) (run : Run) → IsRunFrom v run
-        → does_recover (effect_by (command_of run.words)) ≡ true
-        → recovery_fault (effect_by (command_of run.words)) (files_of v) ≡ None
+        → does_recover (effect_of_arguments (command_of run.words)) ≡ true
+        → recovery_fault (effect_of_arguments (command_of run.words)) (files_of v) ≡ None
         → AnswersOutcome run.answer → HasOutcomeWithoutCommit (IsOutcomeFrom v run)
         → HoldsNow run.now (λ w. files_of w ≡ unstaged_files (files_of v)) }
 {
@@ -128,7 +128,7 @@ pub fn a_root_that_commits_nothing_keeps_its_state()
 pub fn each_name_keeps_old_recovered_or_new_bytes()
     // At each moment of a run.
     ensures moments { (v m : TreeState) (run : Run) (q : List ℕ) → IsRunFrom v run
-        → IsMomentOf run m → IsNoDraft run q → HasBytesOfRun v run m q }
+        → IsMomentOf run m → IsNoJournalOrDraftName run q → HasOldRecoveredOrOutcomeBytes v run m q }
 
     // An outcome that commits leaves no file under the intent's name.
     ensures commits { (words : List (List ℕ)) (files : Files) (o : Outcome)
@@ -187,10 +187,10 @@ pub fn no_events_leave_a_bad_intent()
 
     // Then no run is refused the recovery.
     ensures recovers { (v : TreeState) (words : List (List ℕ)) → LeavesNoBadIntent v
-        → recovery_fault (effect_by (command_of words)) (files_of v) ≡ None }
+        → recovery_fault (effect_of_arguments (command_of words)) (files_of v) ≡ None }
     // Nor does it answer that an intent is bad.
     ensures unrefused { (v : TreeState) (run : Run) → IsRunFrom v run
-        → does_recover (effect_by (command_of run.words)) ≡ true → LeavesNoBadIntent v
+        → does_recover (effect_of_arguments (command_of run.words)) ≡ true → LeavesNoBadIntent v
         → IsNotRefusedForIntent run }
 {
     a_crash_leaves_a_durable_settled_tree();
@@ -213,21 +213,21 @@ pub fn a_stopped_run_is_recovered()
         (events later : List Event) (run next : Run) → ignored intent_name ≡ false
         → IsDurable (StateDependsOn ignored) first
         → LeavesNoBadIntent first → ReachesWithoutBadIntent first events v
-        → IsRunFrom v run → IsStopOf run m → ReachesWithoutCommit m later w
-        → IsRunFrom w next → does_recover (effect_by (command_of next.words)) ≡ true
-        → let names = ignored_in run (ignored_after ignored events) in
-        IsRecoveredBy (HasStateBeforeOrOutcome (with_all_touched later names) v run) w next }
+        → IsRunFrom v run → IsPossibleStop run m → ReachesWithoutCommit m later w
+        → IsRunFrom w next → does_recover (effect_of_arguments (command_of next.words)) ≡ true
+        → let names = ignored_during_run run (ignored_after ignored events) in
+        IsRecoveredBy (HasStateBeforeOrOutcome (ignored_with_all_touched later names) v run) w next }
 
     // These have the state of files that a crash might have left at that moment.
     ensures left { (ignored : List ℕ → Bool) (first v m w : TreeState)
         (events later : List Event) (run next : Run) → ignored intent_name ≡ false
         → IsDurable (StateDependsOn ignored) first
         → LeavesNoBadIntent first → ReachesWithoutBadIntent first events v
-        → IsRunFrom v run → IsStopOf run m → ReachesWithoutCommit m later w
-        → IsRunFrom w next → does_recover (effect_by (command_of next.words)) ≡ true
-        → let names = ignored_in run (ignored_after ignored events) in
+        → IsRunFrom v run → IsPossibleStop run m → ReachesWithoutCommit m later w
+        → IsRunFrom w next → does_recover (effect_of_arguments (command_of next.words)) ≡ true
+        → let names = ignored_during_run run (ignored_after ignored events) in
         (image : Files) × IsCrashImage m image
-        × IsRecoveredBy (HasStateOf (with_all_touched later names) image) w next }
+        × IsRecoveredBy (HasSameState (ignored_with_all_touched later names) image) w next }
 
     // If the root had one state when the run began, these are two: the old one and the outcome's.
     ensures two { (ignored : List ℕ → Bool) (v : TreeState) (run : Run) (files : Files)

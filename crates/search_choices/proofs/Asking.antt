@@ -17,10 +17,10 @@ use Rattle.search_tables.specs.candidate_core.Candidates.{Candidate, Need, entry
 use Rattle.search_tables.specs.candidate_core.Rank.{SealedPool, bytes_cmp, candidate_at, meets_at}
 use Rattle.search_tables.specs.candidate_core.Options.{IsIn, options_for}
 use Rattle.search_tables.proofs.candidate_core.Places.{place_of}
-use Rattle.search_tables.specs.Selection.{AreMembers, is_met, is_unmet, names_by_install_if, install_if_applies, least_name, lesser_name, needs, next_need, raised_needs}
+use Rattle.search_tables.specs.Selection.{AreAllMembersOf, is_met, is_unmet, names_by_install_if, install_if_applies, least_name, lesser_name, needs, next_need, raised_needs}
 use Rattle.search_tables.specs.Reasons.{FrameValue, IsFrameOf}
-use Rattle.search_tables.specs.InstallIf.{AreInstallIfs, AreUnasked, IsLeastAsking, IsNoneAsking, all_met, asks_at, asks_for_name, has_lesser_name, install_if_at, is_usable_at, name_at, rank_asks}
-use Rattle.search_tables.specs.NameTable.{items_of}
+use Rattle.search_tables.specs.InstallIf.{AreInstallIfs, AreNoneTriggeredBelow, IsLeastTriggeredInstallIf, IsNoInstallIfTriggered, all_met, is_install_if_triggered_at, is_triggered_by_install_if, has_lesser_name, install_if_at, is_usable_at, name_at, is_install_if_triggered_at_rank}
+use Rattle.search_tables.specs.NameTable.{items_under_name}
 use Rattle.search_tables.specs.Queue.{is_unmet_dep, queue_of}
 use Rattle.search_tables.proofs.Theory.{in_append, in_right, none_or_some}
 use Rattle.search_tables.proofs.PoolFacts.{any_in, filter_in, in_filter, in_map, map_in, least_in}
@@ -57,21 +57,21 @@ past_of (x ∷ xs) (suc r) h = let g = past_of xs r h in omega (arith, g)
 -- ---- the first rank that asks
 
 -- where the cursor is past the last, none asks
-pub none_ask : (pool : SealedPool) (t by_name : List ℕ) (waiting : List (List ℕ × List ℕ)) (cursor : ℕ) → AreInstallIfs pool by_name waiting → AreUnasked pool t by_name cursor → slice_get by_name cursor ≡ None → IsNoneAsking pool t
+pub none_ask : (pool : SealedPool) (t by_name : List ℕ) (waiting : List (List ℕ × List ℕ)) (cursor : ℕ) → AreInstallIfs pool by_name waiting → AreNoneTriggeredBelow pool t by_name cursor → slice_get by_name cursor ≡ None → IsNoInstallIfTriggered pool t
 none_ask pool t by_name waiting cursor are free none = λ o usable.
     let r = rank_of by_name o (are.each o usable) in
     let past = past_of by_name cursor none in
-    sym (some_at (λ (k : ℕ). asks_at pool t k) (slice_get by_name r.0) o r.2) ∙ free r.0 (omega (arith, r.1, past))
+    sym (some_at (λ (k : ℕ). is_install_if_triggered_at pool t k) (slice_get by_name r.0) o r.2) ∙ free r.0 (omega (arith, r.1, past))
 
 -- where the candidate at the cursor asks, it has the least name
-pub least_asks : (pool : SealedPool) (t by_name : List ℕ) (waiting : List (List ℕ × List ℕ)) (cursor k : ℕ) → AreInstallIfs pool by_name waiting → AreUnasked pool t by_name cursor → slice_get by_name cursor ≡ Some k → asks_at pool t k ≡ true → IsLeastAsking pool t k
+pub least_asks : (pool : SealedPool) (t by_name : List ℕ) (waiting : List (List ℕ × List ℕ)) (cursor k : ℕ) → AreInstallIfs pool by_name waiting → AreNoneTriggeredBelow pool t by_name cursor → slice_get by_name cursor ≡ Some k → is_install_if_triggered_at pool t k ≡ true → IsLeastTriggeredInstallIf pool t k
 least_asks pool t by_name waiting cursor k are free here asks = record {
   usable = are.those k (there_is by_name cursor k here).1;
   asks = asks;
   least = λ o usable asking.
       let r = rank_of by_name o (are.each o usable) in
       elim (cases_lt r.0 cursor) [
-        | inl low ↦ absurd (true≢false (sym (some_at (λ (j : ℕ). asks_at pool t j) (slice_get by_name r.0) o r.2 ∙ asking) ∙ (free r.0 low)))
+        | inl low ↦ absurd (true≢false (sym (some_at (λ (j : ℕ). is_install_if_triggered_at pool t j) (slice_get by_name r.0) o r.2 ∙ asking) ∙ (free r.0 low)))
         | inr high ↦
             let up = are.rising cursor r.0 0 high r.1 in
             subst (λ (j : ℕ). has_lesser_name pool o j ≡ false) (get_is by_name cursor k 0 here)
@@ -80,22 +80,22 @@ least_asks pool t by_name waiting cursor k are free here asks = record {
 }
 
 -- where it does not ask, the cursor moves on
-pub one_more_unasked : (pool : SealedPool) (t by_name : List ℕ) (cursor k : ℕ) → AreUnasked pool t by_name cursor → slice_get by_name cursor ≡ Some k → asks_at pool t k ≡ false → (cursor + 1 ≤ length by_name) × AreUnasked pool t by_name (cursor + 1)
+pub one_more_unasked : (pool : SealedPool) (t by_name : List ℕ) (cursor k : ℕ) → AreNoneTriggeredBelow pool t by_name cursor → slice_get by_name cursor ≡ Some k → is_install_if_triggered_at pool t k ≡ false → (cursor + 1 ≤ length by_name) × AreNoneTriggeredBelow pool t by_name (cursor + 1)
 one_more_unasked pool t by_name cursor k free here asks = (
   (let g = there_is by_name cursor k here in omega (arith, g.0)),
   (λ rank low. elim (cases_lt rank cursor) [
     | inl before ↦ free rank before
     | inr at ↦
         let e : cursor ≡ rank = omega (arith, low, at) in
-        subst (λ (j : ℕ). rank_asks pool t by_name j ≡ false) e (some_at (λ (j : ℕ). asks_at pool t j) (slice_get by_name cursor) k here ∙ asks)
+        subst (λ (j : ℕ). is_install_if_triggered_at_rank pool t by_name j ≡ false) e (some_at (λ (j : ℕ). is_install_if_triggered_at pool t j) (slice_get by_name cursor) k here ∙ asks)
   ]),
 )
 
-pub front_of : (pool : SealedPool) (t by_name : List ℕ) (waiting : List (List ℕ × List ℕ)) (cursor k : ℕ) (b : Bool) → AreInstallIfs pool by_name waiting → AreUnasked pool t by_name cursor → slice_get by_name cursor ≡ Some k → b ≡ asks_at pool t k → MatchBool (not b) ((cursor + 1 ≤ length by_name) × AreUnasked pool t by_name (cursor + 1)) (MatchOption (slice_get by_name cursor) (IsNoneAsking pool t) (λ id. IsLeastAsking pool t id))
+pub front_of : (pool : SealedPool) (t by_name : List ℕ) (waiting : List (List ℕ × List ℕ)) (cursor k : ℕ) (b : Bool) → AreInstallIfs pool by_name waiting → AreNoneTriggeredBelow pool t by_name cursor → slice_get by_name cursor ≡ Some k → b ≡ is_install_if_triggered_at pool t k → MatchBool (not b) ((cursor + 1 ≤ length by_name) × AreNoneTriggeredBelow pool t by_name (cursor + 1)) (MatchOption (slice_get by_name cursor) (IsNoInstallIfTriggered pool t) (λ id. IsLeastTriggeredInstallIf pool t id))
 front_of pool t by_name waiting cursor k true are free here is = rw here (least_asks pool t by_name waiting cursor k are free here (sym is))
 front_of pool t by_name waiting cursor k false are free here is = one_more_unasked pool t by_name cursor k free here (sym is)
 
-pub front_past : (pool : SealedPool) (t by_name : List ℕ) (waiting : List (List ℕ × List ℕ)) (cursor : ℕ) → AreInstallIfs pool by_name waiting → AreUnasked pool t by_name cursor → slice_get by_name cursor ≡ None → MatchOption (slice_get by_name cursor) (IsNoneAsking pool t) (λ id. IsLeastAsking pool t id)
+pub front_past : (pool : SealedPool) (t by_name : List ℕ) (waiting : List (List ℕ × List ℕ)) (cursor : ℕ) → AreInstallIfs pool by_name waiting → AreNoneTriggeredBelow pool t by_name cursor → slice_get by_name cursor ≡ None → MatchOption (slice_get by_name cursor) (IsNoInstallIfTriggered pool t) (λ id. IsLeastTriggeredInstallIf pool t id)
 front_past pool t by_name waiting cursor are free none = rw none (none_ask pool t by_name waiting cursor are free none)
 
 -- ---- what a further choice changes
@@ -127,19 +127,19 @@ unmet_less pool t c q h = elim (cases_Bool (is_met pool t q)) [
 ]
 
 -- the ranks in front of the cursor stay unasked where it does not pass one that the choice makes ask
-pub unasked_more : (pool : SealedPool) (t : List ℕ) (c : ℕ) (details : Candidate) (by_name : List ℕ) (waiting : List (List ℕ × List ℕ)) (old new : ℕ) → AreInstallIfs pool by_name waiting → candidate_at pool c ≡ Some details → AreUnasked pool t by_name old → new ≤ old → ((name : List ℕ) (rank : ℕ) → offers_name name details ≡ true → IsIn rank (items_of waiting name) → rank < new → rank_asks pool (t ++ c ∷ []) by_name rank ≡ false) → AreUnasked pool (t ++ c ∷ []) by_name new
-unasked_more pool t c details by_name waiting old new are here was less now = λ rank low. elim (cases_Bool (rank_asks pool (t ++ c ∷ []) by_name rank)) [
+pub unasked_more : (pool : SealedPool) (t : List ℕ) (c : ℕ) (details : Candidate) (by_name : List ℕ) (waiting : List (List ℕ × List ℕ)) (old new : ℕ) → AreInstallIfs pool by_name waiting → candidate_at pool c ≡ Some details → AreNoneTriggeredBelow pool t by_name old → new ≤ old → ((name : List ℕ) (rank : ℕ) → offers_name name details ≡ true → IsIn rank (items_under_name waiting name) → rank < new → is_install_if_triggered_at_rank pool (t ++ c ∷ []) by_name rank ≡ false) → AreNoneTriggeredBelow pool (t ++ c ∷ []) by_name new
+unasked_more pool t c details by_name waiting old new are here was less now = λ rank low. elim (cases_Bool (is_install_if_triggered_at_rank pool (t ++ c ∷ []) by_name rank)) [
   | inr e ↦ e
   | inl e ↦
-      let k = at_some (λ (j : ℕ). asks_at pool (t ++ c ∷ []) j) (slice_get by_name rank) e in
-      let one = at_some (asks_for_name pool (t ++ c ∷ [])) (candidate_at pool k.0) k.2 in
+      let k = at_some (λ (j : ℕ). is_install_if_triggered_at pool (t ++ c ∷ []) j) (slice_get by_name rank) e in
+      let one = at_some (is_triggered_by_install_if pool (t ++ c ∷ [])) (candidate_at pool k.0) k.2 in
       let both = and_parts (all_met pool (t ++ c ∷ []) one.0.install_if) (is_unmet pool (t ++ c ∷ []) (named one.0.name)) one.2 in
       let low_old : rank < old = omega (arith, low, less) in
       elim (cases_Bool (all_met pool t one.0.install_if)) [
         | inl all ↦
-            let asks : asks_for_name pool t one.0 ≡ true = rw all (unmet_less pool t c (named one.0.name) both.1) in
-            let at : asks_at pool t k.0 ≡ true = some_at (asks_for_name pool t) (candidate_at pool k.0) one.0 one.1 ∙ asks in
-            absurd (true≢false (sym (some_at (λ (j : ℕ). asks_at pool t j) (slice_get by_name rank) k.0 k.1 ∙ at) ∙ (was rank low_old)))
+            let asks : is_triggered_by_install_if pool t one.0 ≡ true = rw all (unmet_less pool t c (named one.0.name) both.1) in
+            let at : is_install_if_triggered_at pool t k.0 ≡ true = some_at (is_triggered_by_install_if pool t) (candidate_at pool k.0) one.0 one.1 ∙ asks in
+            absurd (true≢false (sym (some_at (λ (j : ℕ). is_install_if_triggered_at pool t j) (slice_get by_name rank) k.0 k.1 ∙ at) ∙ (was rank low_old)))
         | inr some ↦
             let d = not_all (λ (d : Dependency). is_met pool t (entry d)) one.0.install_if some in
             let met = all_in (λ (d : Dependency). is_met pool (t ++ c ∷ []) (entry d)) one.0.install_if d.0 both.0 d.1 in
@@ -164,7 +164,7 @@ offered_names name c h = elim (or_cases (bytes_eq name c.name) (list_any (λ (p 
 abbrev asked_names : SealedPool → List ℕ → List (List ℕ)
 asked_names pool t = filter (λ (name : List ℕ). is_unmet pool t (named name)) (names_by_install_if pool t)
 
-asked_by : (pool : SealedPool) (t : List ℕ) (name : List ℕ) → IsIn name (asked_names pool t) → (o : ℕ) × (name ≡ name_at pool o) × (is_usable_at pool o ≡ true) × (asks_at pool t o ≡ true)
+asked_by : (pool : SealedPool) (t : List ℕ) (name : List ℕ) → IsIn name (asked_names pool t) → (o : ℕ) × (name ≡ name_at pool o) × (is_usable_at pool o ≡ true) × (is_install_if_triggered_at pool t o ≡ true)
 asked_by pool t name h =
     let f = filter_in (λ (n : List ℕ). is_unmet pool t (named n)) name (names_by_install_if pool t) h in
     let m = map_in (λ (c : Candidate). c.name) name (filter (install_if_applies pool t) pool.candidates) f.0 in
@@ -175,13 +175,13 @@ asked_by pool t name h =
       k.0,
       m.2 ∙ sym (ap (λ (o : Option Candidate). option_map_or (λ (c : Candidate). c.name) o []) k.1),
       some_at (has_usable_install_if pool.world) (candidate_at pool k.0) m.0 k.1 ∙ both.0,
-      some_at (asks_for_name pool t) (candidate_at pool k.0) m.0 k.1 ∙ rw both.1 unmet,
+      some_at (is_triggered_by_install_if pool t) (candidate_at pool k.0) m.0 k.1 ∙ rw both.1 unmet,
     )
 
-asked_there : (pool : SealedPool) (t : List ℕ) (o : ℕ) → is_usable_at pool o ≡ true → asks_at pool t o ≡ true → IsIn (name_at pool o) (asked_names pool t)
+asked_there : (pool : SealedPool) (t : List ℕ) (o : ℕ) → is_usable_at pool o ≡ true → is_install_if_triggered_at pool t o ≡ true → IsIn (name_at pool o) (asked_names pool t)
 asked_there pool t o usable asks =
     let one = at_some (has_usable_install_if pool.world) (candidate_at pool o) usable in
-    let both = and_parts (all_met pool t one.0.install_if) (is_unmet pool t (named one.0.name)) (sym (some_at (asks_for_name pool t) (candidate_at pool o) one.0 one.1) ∙ asks) in
+    let both = and_parts (all_met pool t one.0.install_if) (is_unmet pool t (named one.0.name)) (sym (some_at (is_triggered_by_install_if pool t) (candidate_at pool o) one.0 one.1) ∙ asks) in
     let applies : install_if_applies pool t one.0 ≡ true = rw one.2 both.0 in
     let name : name_at pool o ≡ one.0.name = ap (λ (z : Option Candidate). option_map_or (λ (c : Candidate). c.name) z []) one.1 in
     subst (λ (n : List ℕ). IsIn n (asked_names pool t)) (sym name)
@@ -216,32 +216,32 @@ least_is x (y ∷ ys) (inr h) least =
       | inr e ↦ rw e (same_name y x above e)
     ]
 
-least_named : (pool : SealedPool) (t : List ℕ) (k : ℕ) → IsLeastAsking pool t k → least_name (asked_names pool t) ≡ Some (name_at pool k)
+least_named : (pool : SealedPool) (t : List ℕ) (k : ℕ) → IsLeastTriggeredInstallIf pool t k → least_name (asked_names pool t) ≡ Some (name_at pool k)
 least_named pool t k is = least_is (name_at pool k) (asked_names pool t) (asked_there pool t k is.usable is.asks) (λ y h.
     let o = asked_by pool t y h in
     subst (λ (n : List ℕ). is_lt (bytes_cmp n (name_at pool k)) ≡ false) (sym o.1) (is.least o.0 o.2 o.3))
 
-none_named : (pool : SealedPool) (t : List ℕ) → IsNoneAsking pool t → least_name (asked_names pool t) ≡ None
+none_named : (pool : SealedPool) (t : List ℕ) → IsNoInstallIfTriggered pool t → least_name (asked_names pool t) ≡ None
 none_named pool t none = elim (none_or_some (least_name (asked_names pool t))) [
   | inl e ↦ e
   | inr some ↦ let o = asked_by pool t some.0 (least_in (asked_names pool t) some.0 some.1) in absurd (true≢false (sym o.3 ∙ (none o.0 o.2)))
 ]
 
 -- no name is asked for and unmet
-pub none_asked : (pool : SealedPool) (t : List ℕ) → find (is_unmet_dep pool t) (queue_of pool t) ≡ None → IsNoneAsking pool t → next_need pool t ≡ None
+pub none_asked : (pool : SealedPool) (t : List ℕ) → find (is_unmet_dep pool t) (queue_of pool t) ≡ None → IsNoInstallIfTriggered pool t → next_need pool t ≡ None
 unfolding next_need
 none_asked pool t met none = rw (none_raised pool t met) (ap (option_map named) (none_named pool t none))
 
-pub least_within : (pool : SealedPool) (t : List ℕ) (k : ℕ) → IsLeastAsking pool t k → k < length pool.candidates
+pub least_within : (pool : SealedPool) (t : List ℕ) (k : ℕ) → IsLeastTriggeredInstallIf pool t k → k < length pool.candidates
 least_within pool t k is = passing_is_within pool (has_usable_install_if pool.world) k is.usable
 
 -- the entries of the asking candidate's install-if are met
-pub asks_all : (pool : SealedPool) (t : List ℕ) (k : ℕ) (c : Candidate) → IsLeastAsking pool t k → candidate_at pool k ≡ Some c → all_met pool t c.install_if ≡ true
+pub asks_all : (pool : SealedPool) (t : List ℕ) (k : ℕ) (c : Candidate) → IsLeastTriggeredInstallIf pool t k → candidate_at pool k ≡ Some c → all_met pool t c.install_if ≡ true
 asks_all pool t k c is here =
-    (and_parts (all_met pool t c.install_if) (is_unmet pool t (named c.name)) (sym (some_at (asks_for_name pool t) (candidate_at pool k) c here) ∙ is.asks)).0
+    (and_parts (all_met pool t c.install_if) (is_unmet pool t (named c.name)) (sym (some_at (is_triggered_by_install_if pool t) (candidate_at pool k) c here) ∙ is.asks)).0
 
 -- the frame of the least name
-pub open_asked : (pool : SealedPool) (t : List ℕ) (k : ℕ) (c : Candidate) (by : List ℕ) (frame : FrameValue) → find (is_unmet_dep pool t) (queue_of pool t) ≡ None → IsLeastAsking pool t k → candidate_at pool k ≡ Some c → AreMembers by t → all_met pool by c.install_if ≡ true → frame ≡ ([], options_for pool (named c.name), by) → IsFrameOf pool t frame
+pub open_asked : (pool : SealedPool) (t : List ℕ) (k : ℕ) (c : Candidate) (by : List ℕ) (frame : FrameValue) → find (is_unmet_dep pool t) (queue_of pool t) ≡ None → IsLeastTriggeredInstallIf pool t k → candidate_at pool k ≡ Some c → AreAllMembersOf by t → all_met pool by c.install_if ≡ true → frame ≡ ([], options_for pool (named c.name), by) → IsFrameOf pool t frame
 unfolding next_need
 open_asked pool t k c by frame met least here within all is =
     let name : name_at pool k ≡ c.name = ap (λ (o : Option Candidate). option_map_or (λ (x : Candidate). x.name) o []) here in

@@ -6,18 +6,18 @@ use Rattle.dep_core.specs.Dependency.{Dependency}
 use Rattle.std.specs.Option.{option_map_or}
 use Rattle.std.specs.List.{filter, find, flat_map}
 use Rattle.search_tables.specs.candidate_core.Candidates.{Candidate, Need, entry, named}
-use Rattle.search_tables.specs.candidate_core.Rank.{SealedPool, is_at}
+use Rattle.search_tables.specs.candidate_core.Rank.{SealedPool, candidate_at_passes}
 use Rattle.search_tables.specs.candidate_core.Candidates.{is_eligible}
-use Rattle.search_tables.specs.Reasons.{IsFrameTaking, options_in}
+use Rattle.search_tables.specs.Reasons.{IsFrameTaking, ruled_out_options}
 use Rattle.std.proofs.lemmas.Bool.{cases_Bool}
 use Rattle.search_tables.specs.candidate_core.Options.{IsIn, options_for}
-use Rattle.search_tables.specs.Selection.{AreMembers, names_by_install_if, depends_at, is_met, is_unmet, needs, positive_needs, next_need, raised_needs}
+use Rattle.search_tables.specs.Selection.{AreAllMembersOf, names_by_install_if, depends_at, is_met, is_unmet, needs, positive_needs, next_need, raised_needs}
 use Rattle.search_tables.specs.Reasons.{FrameValue, IsFrameOf}
-use Rattle.search_tables.specs.InstallIf.{AreInstallIfs, AreUnasked}
-use Rattle.search_tables.specs.Queue.{AreFirstMet, RaisedDepValue, is_unmet_dep, queue_of, raised_deps_at, raised_deps, raised_from}
-use Rattle.search_tables.specs.Conflicts.{AreConflictsOf, HasDepends, ListedValue, conflicts_among, conflicts_in, conflicts_named}
+use Rattle.search_tables.specs.InstallIf.{AreInstallIfs, AreNoneTriggeredBelow}
+use Rattle.search_tables.specs.Queue.{AreFirstDepsMet, RaisedDepValue, is_unmet_dep, queue_of, raised_deps_at, raised_deps, raised_deps_from}
+use Rattle.search_tables.specs.Conflicts.{AreConflictsOf, HasDepends, ListedConflictValue, conflicts_among, conflicts_in, conflicts_named}
 use Rattle.search_tables.specs.Excluders.{IsConflictTable}
-use Rattle.search_tables.specs.NameTable.{items_of}
+use Rattle.search_tables.specs.NameTable.{items_under_name}
 use Rattle.search_tables.specs.Reasons.{HasOptions}
 use Rattle.search_choices.specs.Choices.{AreCheckpointsAfter, IsConsistent, choices_of, install_ifs_of, pool_of}
 use Rattle.search_tables.specs.declared.conflicts.Conflicts.{Conflicts}
@@ -31,7 +31,7 @@ use Rattle.search_tables.proofs.Queued.{find_here, past_end, met_more, met_next,
 
 module _ (pool : SealedPool) (install_ifs : List ℕ) where
   abbrev pub IsBefore : List ℕ → Checkpoint → Type 0
-  IsBefore u b = (b.queue_len ≡ length (queue_of pool u)) × AreFirstMet pool u b.cursor × AreUnasked pool u install_ifs b.asking_cursor
+  IsBefore u b = (b.queue_len ≡ length (queue_of pool u)) × AreFirstDepsMet pool u b.cursor × AreNoneTriggeredBelow pool u install_ifs b.asking_cursor
 
   pub checkpoints_more : (u cs : List ℕ) (bs : List Checkpoint) (c : ℕ) (b : Checkpoint) → AreCheckpointsAfter pool install_ifs u cs bs → IsBefore (u ++ cs) b → AreCheckpointsAfter pool install_ifs u (cs ++ c ∷ []) (bs ++ b ∷ [])
   checkpoints_more u [] [] c b checkpoints last =
@@ -67,7 +67,7 @@ at_within p [] (suc k) h = absurd (cc)
 at_within p (x ∷ xs) zero h = omega arith
 at_within p (x ∷ xs) (suc k) h = let r = at_within p xs k h in omega arith
 
-pub passing_is_within : (pool : SealedPool) (p : Candidate → Bool) (k : ℕ) → is_at pool p k ≡ true → k < length pool.candidates
+pub passing_is_within : (pool : SealedPool) (p : Candidate → Bool) (k : ℕ) → candidate_at_passes pool p k ≡ true → k < length pool.candidates
 passing_is_within pool p k h = at_within p pool.candidates k h
 
 -- ---- a choice is made
@@ -83,8 +83,8 @@ pub consistent_by : (old new : Choices) (t : List ℕ) → IsStep old new t
     → AreInstallIfs (pool_of old) (install_ifs_of old) old.install_ifs.waiting
     → ((c : ℕ) → IsIn c t → c < length (pool_of old).candidates)
     → new.queue.items ≡ queue_of (pool_of old) t
-    → AreFirstMet (pool_of old) t new.cursor
-    → AreUnasked (pool_of old) t (install_ifs_of old) new.asking_cursor
+    → AreFirstDepsMet (pool_of old) t new.cursor
+    → AreNoneTriggeredBelow (pool_of old) t (install_ifs_of old) new.asking_cursor
     → IsConflictTable (pool_of old) t new.conflicts
     → AreConflictsOf (pool_of old).candidates new.conflicts.by_name
     → AreCheckpointsAfter (pool_of old) (install_ifs_of old) [] t new.checkpoints.items
@@ -98,11 +98,11 @@ consistent_by old new t step are within queue met unasked listed conflicts check
     record {
       within = λ k h. subst (λ (q : SealedPool). k < length q.candidates) p (within k (subst (λ (z : List ℕ). IsIn k z) step.choices h));
       queue = queue ∙ (ap (queue_of (pool_of old)) s ∙ ap (λ (q : SealedPool). queue_of q (choices_of new)) p);
-      met = subst (λ (q : SealedPool). AreFirstMet q (choices_of new) new.cursor) p (subst (λ (z : List ℕ). AreFirstMet (pool_of old) z new.cursor) s met);
+      met = subst (λ (q : SealedPool). AreFirstDepsMet q (choices_of new) new.cursor) p (subst (λ (z : List ℕ). AreFirstDepsMet (pool_of old) z new.cursor) s met);
       install_ifs = subst (λ (q : SealedPool). AreInstallIfs q (install_ifs_of new) new.install_ifs.waiting) p
           (subst (λ (z : List ℕ). AreInstallIfs (pool_of old) z new.install_ifs.waiting) i (subst (λ (z : List (List ℕ × List ℕ)). AreInstallIfs (pool_of old) (install_ifs_of old) z) same_waiting are));
-      unasked = subst (λ (q : SealedPool). AreUnasked q (choices_of new) (install_ifs_of new) new.asking_cursor) p
-          (subst (λ (z : List ℕ). AreUnasked (pool_of old) z (install_ifs_of new) new.asking_cursor) s (subst (λ (z : List ℕ). AreUnasked (pool_of old) t z new.asking_cursor) i unasked));
+      unasked = subst (λ (q : SealedPool). AreNoneTriggeredBelow q (choices_of new) (install_ifs_of new) new.asking_cursor) p
+          (subst (λ (z : List ℕ). AreNoneTriggeredBelow (pool_of old) z (install_ifs_of new) new.asking_cursor) s (subst (λ (z : List ℕ). AreNoneTriggeredBelow (pool_of old) t z new.asking_cursor) i unasked));
       listed = subst (λ (q : SealedPool). IsConflictTable q (choices_of new) new.conflicts) p (subst (λ (z : List ℕ). IsConflictTable (pool_of old) z new.conflicts) s listed);
       conflicts = subst (λ (q : SealedPool). AreConflictsOf q.candidates new.conflicts.by_name) p conflicts;
       checkpoints = subst (λ (q : SealedPool). AreCheckpointsAfter q (install_ifs_of new) [] (choices_of new) new.checkpoints.items) p
@@ -110,17 +110,17 @@ consistent_by old new t step are within queue met unasked listed conflicts check
     }
 
 pub consistent_more : (old new : Choices) (c : ℕ) (deps : List Dependency) (b : Checkpoint) → IsConsistent old → c < length (pool_of old).candidates → deps ≡ depends_at (pool_of old) c → IsStep old new (choices_of old ++ c ∷ []) → new.queue.items ≡ old.queue.items ++ raised_deps (Some c) deps → new.cursor ≡ old.cursor → new.checkpoints.items ≡ old.checkpoints.items ++ b ∷ [] → b.queue_len ≡ length old.queue.items → b.cursor ≡ old.cursor → b.asking_cursor ≡ old.asking_cursor
-    → AreUnasked (pool_of old) (choices_of old ++ c ∷ []) (install_ifs_of old) new.asking_cursor → ((name : List ℕ) → conflicts_in new.conflicts.by_name name ≡ conflicts_in old.conflicts.by_name name ++ conflicts_named name c deps)
+    → AreNoneTriggeredBelow (pool_of old) (choices_of old ++ c ∷ []) (install_ifs_of old) new.asking_cursor → ((name : List ℕ) → conflicts_in new.conflicts.by_name name ≡ conflicts_in old.conflicts.by_name name ++ conflicts_named name c deps)
     → ((candidates : List Candidate) → HasDepends candidates c deps → AreConflictsOf candidates old.conflicts.by_name → AreConflictsOf candidates new.conflicts.by_name) → IsConsistent new
 consistent_more old new c deps b consistent small is step queue at checkpoints b_queue b_at b_asking unasked conflicts listed =
     let p = pool_of old in
     let t = choices_of old in
     let t' = t ++ c ∷ [] in
     let before : IsBefore p (install_ifs_of old) t b =
-    (b_queue ∙ ap length consistent.queue, subst (λ (k : ℕ). AreFirstMet p t k) (sym b_at) consistent.met, subst (λ (k : ℕ). AreUnasked p t (install_ifs_of old) k) (sym b_asking) consistent.unasked) in
+    (b_queue ∙ ap length consistent.queue, subst (λ (k : ℕ). AreFirstDepsMet p t k) (sym b_at) consistent.met, subst (λ (k : ℕ). AreNoneTriggeredBelow p t (install_ifs_of old) k) (sym b_asking) consistent.unasked) in
     let all_queue : new.queue.items ≡ queue_of p t' =
     queue ∙ (ap (λ (z : List RaisedDepValue). z ++ raised_deps (Some c) deps) consistent.queue ∙ (ap (λ (z : List Dependency). queue_of p t ++ raised_deps (Some c) z) is ∙ sym (queue_more p t c))) in
-    let all_met : AreFirstMet p t' new.cursor = subst (λ (k : ℕ). AreFirstMet p t' k) (sym at) (met_more p t c old.cursor consistent.met) in
+    let all_met : AreFirstDepsMet p t' new.cursor = subst (λ (k : ℕ). AreFirstDepsMet p t' k) (sym at) (met_more p t c old.cursor consistent.met) in
     let all_saved : AreCheckpointsAfter p (install_ifs_of old) [] t' new.checkpoints.items =
     subst (λ (z : List Checkpoint). AreCheckpointsAfter p (install_ifs_of old) [] t' z) (sym checkpoints) (checkpoints_more p (install_ifs_of old) [] t old.checkpoints.items c b consistent.checkpoints before) in
     let all_within : (k : ℕ) → IsIn k t' → k < length p.candidates = λ k h. elim (in_append k t (c ∷ []) h) [
@@ -134,7 +134,7 @@ take_none : {X : Type 0} (xs : List X) → take 0 xs ≡ []
 take_none [] = refl
 take_none (x ∷ xs) = refl
 
-pub met_start : (pool : SealedPool) (t : List ℕ) → AreFirstMet pool t 0
+pub met_start : (pool : SealedPool) (t : List ℕ) → AreFirstDepsMet pool t 0
 met_start pool t = (omega arith, ap (find (is_unmet_dep pool t)) (take_none (queue_of pool t)))
 
 -- ---- no choices
@@ -149,17 +149,17 @@ consistent_start chosen none queue at asking are conflicts checkpoints =
     record {
       within = λ k h. absurd (subst (λ (z : List ℕ). IsIn k z) none h);
       queue = queue ∙ (all ∙ ap (queue_of p) (sym none));
-      met = subst (λ (k : ℕ). AreFirstMet p (choices_of chosen) k) (sym at) (met_start p (choices_of chosen));
+      met = subst (λ (k : ℕ). AreFirstDepsMet p (choices_of chosen) k) (sym at) (met_start p (choices_of chosen));
       install_ifs = are;
-      unasked = subst (λ (k : ℕ). AreUnasked p (choices_of chosen) (install_ifs_of chosen) k) (sym asking) (λ rank low. absurd (none_below rank low));
-      listed = λ name. ap (λ (z : List (List ℕ × List ListedValue)). conflicts_in z name) conflicts ∙ ap (λ (z : List ℕ). conflicts_among p z name) (sym none);
-      conflicts = λ name listed h. absurd (subst (λ (z : List (List ℕ × List ListedValue)). IsIn listed (items_of z name)) conflicts h);
+      unasked = subst (λ (k : ℕ). AreNoneTriggeredBelow p (choices_of chosen) (install_ifs_of chosen) k) (sym asking) (λ rank low. absurd (none_below rank low));
+      listed = λ name. ap (λ (z : List (List ℕ × List ListedConflictValue)). conflicts_in z name) conflicts ∙ ap (λ (z : List ℕ). conflicts_among p z name) (sym none);
+      conflicts = λ name listed h. absurd (subst (λ (z : List (List ℕ × List ListedConflictValue)). IsIn listed (items_under_name z name)) conflicts h);
       checkpoints = subst (λ (z : List ℕ). AreCheckpointsAfter p (install_ifs_of chosen) [] z chosen.checkpoints.items) (sym none) (subst (λ (z : List Checkpoint). AreCheckpointsAfter p (install_ifs_of chosen) [] [] z) (sym checkpoints) tt);
     }
 
 -- ---- the cursors
 
-pub consistent_on : (old new : Choices) → IsConsistent old → IsStep old new (choices_of old) → new.queue.items ≡ old.queue.items → new.conflicts ≡ old.conflicts → new.checkpoints.items ≡ old.checkpoints.items → AreFirstMet (pool_of old) (choices_of old) new.cursor → AreUnasked (pool_of old) (choices_of old) (install_ifs_of old) new.asking_cursor → IsConsistent new
+pub consistent_on : (old new : Choices) → IsConsistent old → IsStep old new (choices_of old) → new.queue.items ≡ old.queue.items → new.conflicts ≡ old.conflicts → new.checkpoints.items ≡ old.checkpoints.items → AreFirstDepsMet (pool_of old) (choices_of old) new.cursor → AreNoneTriggeredBelow (pool_of old) (choices_of old) (install_ifs_of old) new.asking_cursor → IsConsistent new
 consistent_on old new consistent step queue conflicts checkpoints met unasked =
     consistent_by old new (choices_of old) step consistent.install_ifs consistent.within (queue ∙ consistent.queue) met unasked
     (subst (λ (z : Conflicts). IsConflictTable (pool_of old) (choices_of old) z) (sym conflicts) consistent.listed)
@@ -172,7 +172,7 @@ get_within [] (suc i) x h = absurd (cc)
 get_within (y ∷ xs) zero x h = omega arith
 get_within (y ∷ xs) (suc i) x h = let r = get_within xs i x h in omega arith
 
-pub met_by : (pool : SealedPool) (t : List ℕ) (queue : List RaisedDepValue) (at : ℕ) (r : RaisedDepValue) (b : Bool) → queue ≡ queue_of pool t → AreFirstMet pool t at → slice_get queue at ≡ Some r → b ≡ is_met pool t (entry r.0) → MatchBool b (AreFirstMet pool t (at + 1)) (slice_get queue at ≡ find (is_unmet_dep pool t) (queue_of pool t))
+pub met_by : (pool : SealedPool) (t : List ℕ) (queue : List RaisedDepValue) (at : ℕ) (r : RaisedDepValue) (b : Bool) → queue ≡ queue_of pool t → AreFirstDepsMet pool t at → slice_get queue at ≡ Some r → b ≡ is_met pool t (entry r.0) → MatchBool b (AreFirstDepsMet pool t (at + 1)) (slice_get queue at ≡ find (is_unmet_dep pool t) (queue_of pool t))
 met_by pool t queue at r false is met here m =
     subst (λ (z : List RaisedDepValue). slice_get z at ≡ find (is_unmet_dep pool t) (queue_of pool t)) (sym is)
     (find_here (is_unmet_dep pool t) (queue_of pool t) at r met.1 (subst (λ (z : List RaisedDepValue). slice_get z at ≡ Some r) is here) (ap not (sym m)))
@@ -190,9 +190,9 @@ get_none (x ∷ xs) (suc i) h = let r = get_none xs i h in omega arith
 abbrev pub need_in : RaisedDepValue → Need
 need_in r = entry r.0
 
-map_raised : (by : Option ℕ) (n : ℕ) (ds : List Dependency) → positive_needs ds ≡ map need_in (raised_from by n ds)
+map_raised : (by : Option ℕ) (n : ℕ) (ds : List Dependency) → positive_needs ds ≡ map need_in (raised_deps_from by n ds)
 map_raised by n [] = refl
-map_raised by n (d ∷ ds) = step d.conflict (filter (λ (e : Dependency). not e.conflict) ds) (raised_from by (suc n) ds) (map_raised by (suc n) ds)
+map_raised by n (d ∷ ds) = step d.conflict (filter (λ (e : Dependency). not e.conflict) ds) (raised_deps_from by (suc n) ds) (map_raised by (suc n) ds)
   where
     step : (b : Bool) (us : List Dependency) (vs : List RaisedDepValue) → map entry us ≡ map need_in vs → map entry (if not b then d ∷ us else us) ≡ map need_in (if b then vs else (d, by, n) ∷ vs)
     step true us vs e = e
@@ -235,8 +235,8 @@ flat_in f q (x ∷ xs) h = elim (in_append q (f x) (flat_map f xs) h) [
 ]
 
 -- what is among the dependencies that are raised of a list is the first or one of the others
-in_raised : (by : Option ℕ) (n : ℕ) (d : Dependency) (ds : List Dependency) (r : RaisedDepValue) → IsIn r (raised_from by n (d ∷ ds)) → ((d.conflict ≡ false) × (r ≡ (d, by, n))) ⊎ IsIn r (raised_from by (suc n) ds)
-in_raised by n d ds r h = step d.conflict (raised_from by (suc n) ds) h
+in_raised : (by : Option ℕ) (n : ℕ) (d : Dependency) (ds : List Dependency) (r : RaisedDepValue) → IsIn r (raised_deps_from by n (d ∷ ds)) → ((d.conflict ≡ false) × (r ≡ (d, by, n))) ⊎ IsIn r (raised_deps_from by (suc n) ds)
+in_raised by n d ds r h = step d.conflict (raised_deps_from by (suc n) ds) h
   where
     step : (b : Bool) (us : List RaisedDepValue) → IsIn r (if b then us else (d, by, n) ∷ us) → ((b ≡ false) × (r ≡ (d, by, n))) ⊎ IsIn r us
     step true us h = inr h
@@ -258,7 +258,7 @@ first_in d ds none = step d.conflict (filter (λ (e : Dependency). not e.conflic
     step true us e = absurd (cc)
     step false us e = inl refl
 
-raised_in : (by : Option ℕ) (n : ℕ) (deps : List Dependency) (r : RaisedDepValue) → IsIn r (raised_from by n deps) → (r.1 ≡ by) × IsIn (entry r.0) (positive_needs deps)
+raised_in : (by : Option ℕ) (n : ℕ) (deps : List Dependency) (r : RaisedDepValue) → IsIn r (raised_deps_from by n deps) → (r.1 ≡ by) × IsIn (entry r.0) (positive_needs deps)
 raised_in by n [] r h = absurd h
 raised_in by n (d ∷ ds) r h = elim (in_raised by n d ds r h) [
   | inl f ↦ (ap (λ (z : RaisedDepValue). z.1) f.1, subst (λ (z : RaisedDepValue). IsIn (entry z.0) (positive_needs (d ∷ ds))) (sym f.1) (first_in d ds f.0))
@@ -266,7 +266,7 @@ raised_in by n (d ∷ ds) r h = elim (in_raised by n d ds r h) [
 ]
 
 -- what is raised is at its index
-raised_at : (by : Option ℕ) (n : ℕ) (deps : List Dependency) (r : RaisedDepValue) → IsIn r (raised_from by n deps) → (k : ℕ) × (r.2 ≡ n + k) × (slice_get deps k ≡ Some r.0)
+raised_at : (by : Option ℕ) (n : ℕ) (deps : List Dependency) (r : RaisedDepValue) → IsIn r (raised_deps_from by n deps) → (k : ℕ) × (r.2 ≡ n + k) × (slice_get deps k ≡ Some r.0)
 raised_at by n [] r h = absurd h
 raised_at by n (d ∷ ds) r h = elim (in_raised by n d ds r h) [
   | inl f ↦ let e : r.2 ≡ n + 0 = ap (λ (z : RaisedDepValue). z.2) f.1 ∙ omega arith in (0, e, ap (λ (z : RaisedDepValue). Some z.0) (sym f.1))
@@ -287,16 +287,16 @@ raised_of_choice pool t r c h by = elim (in_append r (raised_deps None pool.worl
       subst (λ (z : ℕ). slice_get (depends_at pool z) r.2 ≡ Some r.0) same (subst (λ (n : ℕ). slice_get (depends_at pool f.0) n ≡ Some r.0) at g.2)
 ]
 
-in_needs : (pool : SealedPool) (t : List ℕ) (r : RaisedDepValue) → IsIn r (queue_of pool t) → AreMembers (option_to_list r.1) t × IsIn (entry r.0) (needs pool (option_to_list r.1))
+in_needs : (pool : SealedPool) (t : List ℕ) (r : RaisedDepValue) → IsIn r (queue_of pool t) → AreAllMembersOf (option_to_list r.1) t × IsIn (entry r.0) (needs pool (option_to_list r.1))
 in_needs pool t r h = elim (in_append r (raised_deps None pool.world) (flat_map (raised_deps_at pool) t) h) [
   | inl a ↦
       let k = raised_in None 0 pool.world r a in
-      subst (λ (o : Option ℕ). AreMembers (option_to_list o) t × IsIn (entry r.0) (needs pool (option_to_list o))) (sym k.0)
+      subst (λ (o : Option ℕ). AreAllMembersOf (option_to_list o) t × IsIn (entry r.0) (needs pool (option_to_list o))) (sym k.0)
       ((λ c g. absurd g), in_left (entry r.0) (raised_needs pool []) (map named (names_by_install_if pool [])) (in_left (entry r.0) (positive_needs pool.world) [] k.1))
   | inr b ↦
       let f = flat_in (raised_deps_at pool) r t b in
       let k = raised_in (Some f.0) 0 (depends_at pool f.0) r f.2 in
-      subst (λ (o : Option ℕ). AreMembers (option_to_list o) t × IsIn (entry r.0) (needs pool (option_to_list o))) (sym k.0) (
+      subst (λ (o : Option ℕ). AreAllMembersOf (option_to_list o) t × IsIn (entry r.0) (needs pool (option_to_list o))) (sym k.0) (
         (λ c g. elim g [ inl e ↦ subst (λ (z : ℕ). IsIn z t) (sym e) f.1 | inr bad ↦ absurd bad ]),
         in_left (entry r.0) (raised_needs pool (f.0 ∷ [])) (map named (names_by_install_if pool (f.0 ∷ []))) (in_right (entry r.0) (positive_needs pool.world) (positive_needs (depends_at pool f.0) ++ []) (in_left (entry r.0) (positive_needs (depends_at pool f.0)) [] k.1)),
       )
@@ -316,7 +316,7 @@ open_raised pool t r frame found is =
 pub none_raised : (pool : SealedPool) (t : List ℕ) → find (is_unmet_dep pool t) (queue_of pool t) ≡ None → find (is_unmet pool t) (raised_needs pool t) ≡ None
 none_raised pool t h = ap (find (is_unmet pool t)) (raised_queue pool t) ∙ find_map (is_unmet pool t) (queue_of pool t) None h
 
-pub past_by : (pool : SealedPool) (t : List ℕ) (queue : List RaisedDepValue) (at : ℕ) → queue ≡ queue_of pool t → AreFirstMet pool t at → slice_get queue at ≡ None → slice_get queue at ≡ find (is_unmet_dep pool t) (queue_of pool t)
+pub past_by : (pool : SealedPool) (t : List ℕ) (queue : List RaisedDepValue) (at : ℕ) → queue ≡ queue_of pool t → AreFirstDepsMet pool t at → slice_get queue at ≡ None → slice_get queue at ≡ find (is_unmet_dep pool t) (queue_of pool t)
 past_by pool t queue at is met none =
     let past = get_none queue at none in
     subst (λ (z : List RaisedDepValue). slice_get z at ≡ find (is_unmet_dep pool t) (queue_of pool t)) (sym is)
@@ -325,11 +325,11 @@ past_by pool t queue at is met none =
 -- an option is a candidate
 pub taken_within : (pool : SealedPool) → ((need : Need) → HasOptions pool need) → (t : List ℕ) (f : FrameValue) (id : ℕ) → IsFrameTaking pool t f id → id < length pool.candidates
 taken_within pool has t f id taken =
-    let there : IsIn id (options_for pool taken.0) = subst (λ (z : List ℕ). IsIn id z) (sym taken.2) (in_right id (options_in f.0) (id ∷ f.1) (inl refl)) in
+    let there : IsIn id (options_for pool taken.0) = subst (λ (z : List ℕ). IsIn id z) (sym taken.2) (in_right id (ruled_out_options f.0) (id ∷ f.1) (inl refl)) in
     passing_is_within pool (is_eligible pool.world) id ((has taken.0).those id there).0
 
 -- an option of an unmet need is no choice
 pub taken_once : (pool : SealedPool) → ((need : Need) → HasOptions pool need) → (t : List ℕ) (f : FrameValue) (id : ℕ) → IsFrameTaking pool t f id → IsIn id t → ⊥
 taken_once pool has t f id taken h =
-    let there : IsIn id (options_for pool taken.0) = subst (λ (z : List ℕ). IsIn id z) (sym taken.2) (in_right id (options_in f.0) (id ∷ f.1) (inl refl)) in
+    let there : IsIn id (options_for pool taken.0) = subst (λ (z : List ℕ). IsIn id z) (sym taken.2) (in_right id (ruled_out_options f.0) (id ∷ f.1) (inl refl)) in
     ((pool_facts pool has).next_some t taken.0 taken.1).1 (id, h, ((has taken.0).those id there).1)

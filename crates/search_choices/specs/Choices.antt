@@ -6,10 +6,10 @@ use Rattle.search_tables.specs.candidate_core.Rank.{SealedPool}
 use Rattle.search_tables.specs.candidate_core.Options.{IsIn}
 use Rattle.search_tables.specs.Conflicts.{AreConflictsOf}
 use Rattle.search_tables.specs.Excluders.{IsConflictTable}
-use Rattle.search_tables.specs.InstallIf.{AreInstallIfs, AreUnasked}
-use Rattle.search_tables.specs.Queue.{AreFirstMet, queue_of}
+use Rattle.search_tables.specs.InstallIf.{AreInstallIfs, AreNoneTriggeredBelow}
+use Rattle.search_tables.specs.Queue.{AreFirstDepsMet, queue_of}
 use Rattle.search_tables.specs.declared.queue.Checkpoint.{Checkpoint}
-use Rattle.search_tables.specs.Reasons.{FrameValue, AreCompatible, AreTurnsFrom, choices_in}
+use Rattle.search_tables.specs.Reasons.{FrameValue, AreCompatible, AreTurnsFrom, choices_of_turns}
 use Rattle.search_choices.specs.declared.choices.Choices.{Choices}
 
 -- the pool in which some choices are made
@@ -31,8 +31,8 @@ AreCheckpointsAfter pool install_ifs u [] [] = Unit {0}
 AreCheckpointsAfter pool install_ifs u [] (b ∷ bs) = ⊥
 AreCheckpointsAfter pool install_ifs u (c ∷ cs) [] = ⊥
 AreCheckpointsAfter pool install_ifs u (c ∷ cs) (b ∷ bs) =
-    (b.queue_len ≡ length (queue_of pool u)) × AreFirstMet pool u b.cursor
-    × AreUnasked pool u install_ifs b.asking_cursor
+    (b.queue_len ≡ length (queue_of pool u)) × AreFirstDepsMet pool u b.cursor
+    × AreNoneTriggeredBelow pool u install_ifs b.asking_cursor
     × AreCheckpointsAfter pool install_ifs (u ++ c ∷ []) cs bs
 
 -- the queue is that of the choices. Every dependency before its cursor is met, and no candidate before
@@ -41,11 +41,11 @@ AreCheckpointsAfter pool install_ifs u (c ∷ cs) (b ∷ bs) =
 pub record IsConsistent (chosen : Choices) : Type 0 where
   pub within : (c : ℕ) → IsIn c (choices_of chosen) → c < length (pool_of chosen).candidates
   pub queue : chosen.queue.items ≡ queue_of (pool_of chosen) (choices_of chosen)
-  pub met : AreFirstMet (pool_of chosen) (choices_of chosen) chosen.cursor
+  pub met : AreFirstDepsMet (pool_of chosen) (choices_of chosen) chosen.cursor
   pub install_ifs :
       AreInstallIfs (pool_of chosen) (install_ifs_of chosen) chosen.install_ifs.waiting
   pub unasked :
-      AreUnasked (pool_of chosen) (choices_of chosen) (install_ifs_of chosen) chosen.asking_cursor
+      AreNoneTriggeredBelow (pool_of chosen) (choices_of chosen) (install_ifs_of chosen) chosen.asking_cursor
   pub listed : IsConflictTable (pool_of chosen) (choices_of chosen) chosen.conflicts
   pub conflicts : AreConflictsOf (pool_of chosen).candidates chosen.conflicts.by_name
   pub checkpoints :
@@ -55,6 +55,6 @@ pub record IsConsistent (chosen : Choices) : Type 0 where
 -- the choices are compatible, and the turns are theirs: each was taken from the frame of its need
 pub record IsSearch (chosen : Choices) (turns : List (FrameValue × ℕ)) : Type 0 where
   pub consistent : IsConsistent chosen
-  pub choices : choices_of chosen ≡ choices_in turns
+  pub choices : choices_of chosen ≡ choices_of_turns turns
   pub clean : AreCompatible (pool_of chosen) (choices_of chosen)
   pub taken : AreTurnsFrom (pool_of chosen) [] turns

@@ -9,9 +9,9 @@ ghost use Rattle.search_tables.specs.candidate_core.Candidates.{Candidate, entry
 ghost use Rattle.search_tables.specs.candidate_core.Candidates.{offers_name};
 ghost use Rattle.search_tables.specs.candidate_core.Options.{IsIn, options_for};
 ghost use Rattle.search_tables.specs.candidate_core.PackageMatches.{AreMatchesAmong};
-ghost use Rattle.search_tables.specs.InstallIf.{AreUnasked, IsLeastAsking, IsNoneAsking, rank_asks};
-ghost use Rattle.search_tables.specs.NameTable.{items_of};
-ghost use Rattle.search_tables.specs.Queue.{AreFirstMet, is_unmet_dep, queue_of};
+ghost use Rattle.search_tables.specs.InstallIf.{AreNoneTriggeredBelow, IsLeastTriggeredInstallIf, IsNoInstallIfTriggered, is_install_if_triggered_at_rank};
+ghost use Rattle.search_tables.specs.NameTable.{items_under_name};
+ghost use Rattle.search_tables.specs.Queue.{AreFirstDepsMet, is_unmet_dep, queue_of};
 ghost use Rattle.search_tables.specs.Selection.{depends_at, is_met, next_need};
 ghost use Rattle.search_tables.specs.Reasons.{IsFrameOf};
 ghost use Rattle.search_choices.specs.Choices.{IsConsistent, choices_of, install_ifs_of, pool_of};
@@ -24,8 +24,8 @@ use crate::trace::Trace;
 use dep_core::World;
 use search_tables::{
     CandId, CandidateSet, Checkpoint, Conflicts, Deps, Details, Frame, InstallIfs, NeedRef,
-    PackageDep, PackageMatches, RaisedDep, Sealed, asks_for_name, is_held_met,
-    is_met_by_latest_or_other, queue_all, queue_world, raisers,
+    PackageDep, PackageMatches, RaisedDep, Sealed, is_held_met, is_met_by_latest_or_other,
+    is_triggered_by_install_if, queue_all, queue_world, raisers,
 };
 use std::alloc::{AllocError, Global};
 use std::marker::Model;
@@ -211,7 +211,7 @@ impl<'p> Choices<'p> {
     fn is_front_met(&self, matches: &mut PackageMatches<'_>) -> Result<bool, AllocError>
         requires consistent { IsConsistent self.now }
         requires matches { AreMatchesAmong (pool_of self.now).candidates matches.old }
-        ensures met { IfOk result (λ met. MatchBool met (AreFirstMet (pool_of self.now)
+        ensures met { IfOk result (λ met. MatchBool met (AreFirstDepsMet (pool_of self.now)
             (choices_of self.now) (self.now.cursor + 1))
             (slice_get self.now.queue.items self.now.cursor
             ≡ find (is_unmet_dep (pool_of self.now) (choices_of self.now)) (queue_of
@@ -294,8 +294,8 @@ impl<'p> Choices<'p> {
         ensures pool { pool_of self.new ≡ pool_of self.old }
         ensures choices { choices_of self.new ≡ choices_of self.old }
         ensures first { MatchOption (slice_get (install_ifs_of self.new) self.new.asking_cursor)
-            (IsNoneAsking (pool_of self.old) (choices_of self.old))
-            (λ id. IsLeastAsking (pool_of self.old) (choices_of self.old) id) }
+            (IsNoInstallIfTriggered (pool_of self.old) (choices_of self.old))
+            (λ id. IsLeastTriggeredInstallIf (pool_of self.old) (choices_of self.old) id) }
     {
         while self.is_front_unasked() {
             self.asking_cursor += 1;
@@ -306,15 +306,15 @@ impl<'p> Choices<'p> {
     fn is_front_unasked(&self) -> bool
         requires { IsConsistent self.now }
         ensures { MatchBool result ((self.now.asking_cursor + 1
-            ≤ length (install_ifs_of self.now)) × AreUnasked (pool_of self.now)
+            ≤ length (install_ifs_of self.now)) × AreNoneTriggeredBelow (pool_of self.now)
             (choices_of self.now) (install_ifs_of self.now) (self.now.asking_cursor + 1))
             (MatchOption (slice_get (install_ifs_of self.now) self.now.asking_cursor)
-            (IsNoneAsking (pool_of self.now) (choices_of self.now))
-            (λ id. IsLeastAsking (pool_of self.now) (choices_of self.now) id)) }
+            (IsNoInstallIfTriggered (pool_of self.now) (choices_of self.now))
+            (λ id. IsLeastTriggeredInstallIf (pool_of self.now) (choices_of self.now) id)) }
     {
         match self.install_ifs.at(self.asking_cursor) {
             None => false,
-            Some(id) => !asks_for_name(self.pool, &self.choices, id),
+            Some(id) => !is_triggered_by_install_if(self.pool, &self.choices, id),
         }
     }
 
@@ -324,7 +324,7 @@ impl<'p> Choices<'p> {
     fn frame_named(&self, id: CandId) -> Result<Frame, AllocError>
         requires met { find (is_unmet_dep (pool_of self.now) (choices_of self.now)) (queue_of
             (pool_of self.now) (choices_of self.now)) ≡ None }
-        requires least { IsLeastAsking (pool_of self.now) (choices_of self.now) id }
+        requires least { IsLeastTriggeredInstallIf (pool_of self.now) (choices_of self.now) id }
         // As above: fewer than a digit of the measure counts.
         ensures few { IfOk result (λ frame. length frame.1 < 2 ^ 64) }
         ensures frame { IfOk result (λ frame. IsFrameOf (pool_of self.now)
@@ -339,13 +339,13 @@ impl<'p> Choices<'p> {
     }
 
     // Whether the candidate of a rank asks; false if no candidate has the rank.
-    fn rank_asks(&self, rank: usize) -> bool
-        ensures { result ≡ rank_asks (pool_of self.now) (choices_of self.now)
+    fn is_install_if_triggered_at_rank(&self, rank: usize) -> bool
+        ensures { result ≡ is_install_if_triggered_at_rank (pool_of self.now) (choices_of self.now)
             (install_ifs_of self.now) rank }
     {
         match self.install_ifs.at(rank) {
             None => false,
-            Some(id) => asks_for_name(self.pool, &self.choices, id),
+            Some(id) => is_triggered_by_install_if(self.pool, &self.choices, id),
         }
     }
 
@@ -355,8 +355,8 @@ impl<'p> Choices<'p> {
     fn least_rank_asking(&self, details: &Details<'_>) -> usize
         ensures less { result ≤ self.now.asking_cursor }
         ensures unasked { (name : List ℕ) (rank : ℕ) → offers_name name details.now ≡ true →
-            IsIn rank (items_of self.now.install_ifs.waiting name) → rank < result →
-            rank_asks (pool_of self.now) (choices_of self.now) (install_ifs_of self.now) rank
+            IsIn rank (items_under_name self.now.install_ifs.waiting name) → rank < result →
+            is_install_if_triggered_at_rank (pool_of self.now) (choices_of self.now) (install_ifs_of self.now) rank
             ≡ false }
     {
         let own = self.least_rank_waiting(details.name(), self.asking_cursor);
@@ -368,8 +368,8 @@ impl<'p> Choices<'p> {
     fn least_rank_provided(&self, provides: &Deps<'_>, cursor: usize) -> usize
         ensures less { result ≤ cursor }
         ensures unasked { (d : Dependency) (rank : ℕ) → IsIn d provides.now →
-            IsIn rank (items_of self.now.install_ifs.waiting d.name) → rank < result →
-            rank_asks (pool_of self.now) (choices_of self.now) (install_ifs_of self.now) rank
+            IsIn rank (items_under_name self.now.install_ifs.waiting d.name) → rank < result →
+            is_install_if_triggered_at_rank (pool_of self.now) (choices_of self.now) (install_ifs_of self.now) rank
             ≡ false }
     {
         let mut least = cursor;
@@ -383,8 +383,8 @@ impl<'p> Choices<'p> {
     fn least_rank_waiting(&self, name: &[u8], cursor: usize) -> usize
         ensures less { result ≤ cursor }
         ensures unasked { (rank : ℕ) →
-            IsIn rank (items_of self.now.install_ifs.waiting name.now) → rank < result →
-            rank_asks (pool_of self.now) (choices_of self.now) (install_ifs_of self.now) rank
+            IsIn rank (items_under_name self.now.install_ifs.waiting name.now) → rank < result →
+            is_install_if_triggered_at_rank (pool_of self.now) (choices_of self.now) (install_ifs_of self.now) rank
             ≡ false }
     {
         let mut least = cursor;
@@ -397,10 +397,10 @@ impl<'p> Choices<'p> {
     // The lesser of two ranks, of which the first counts only if its candidate asks.
     fn lesser_rank(&self, rank: usize, least: usize) -> usize
         ensures less { result ≤ least }
-        ensures unasked { rank < result → rank_asks (pool_of self.now) (choices_of self.now)
+        ensures unasked { rank < result → is_install_if_triggered_at_rank (pool_of self.now) (choices_of self.now)
             (install_ifs_of self.now) rank ≡ false }
     {
-        if rank < least && self.rank_asks(rank) {
+        if rank < least && self.is_install_if_triggered_at_rank(rank) {
             return rank;
         }
         least

@@ -10,9 +10,9 @@ use Rattle.pool_core.specs.candidate_core.Candidates.{Candidate}
 use Rattle.pool_core.specs.candidate_core.Options.{IsIn}
 use Rattle.pool_core.specs.candidate_core.Rank.{SealedPool}
 use Rattle.pool_core.proofs.candidate_core.Steps.{take_one_more}
-use Rattle.search_tables.specs.Conflicts.{AreConflictsOf, IsConflictOf, ListedValue, conflicts_among, conflicts_in, conflicts_named, without_index}
+use Rattle.search_tables.specs.Conflicts.{AreConflictsOf, IsConflictOf, ListedConflictValue, conflicts_among, conflicts_in, conflicts_named, conflict_without_index}
 use Rattle.search_tables.specs.Excluders.{IsConflictTable}
-use Rattle.search_tables.specs.NameTable.{items_of, without_last}
+use Rattle.search_tables.specs.NameTable.{items_under_name, without_last}
 use Rattle.search_tables.specs.Selection.{depends_at}
 use Rattle.search_tables.specs.declared.conflicts.Conflicts.{Conflicts}
 use Rattle.search_tables.proofs.Queued.{filtered, flat_more, mapped, take_front}
@@ -54,18 +54,18 @@ without_last_map : {X Y : Type 0} (f : X → Y) (xs : List X) → map f (without
 without_last_map f xs = map_take f (length xs - 1) xs ∙ ap (λ (n : ℕ). take (n - 1) (map f xs)) (sym (length-map xs f))
 
 -- one conflict more is listed
-pub one_listed : (name : List ℕ) (listed : ListedValue) (old new : List (List ℕ × List ListedValue)) → listed.1.conflict ≡ true → items_of new name ≡ items_of old name ++ (if bytes_eq name listed.1.name then listed ∷ [] else []) → conflicts_in new name ≡ conflicts_in old name ++ conflicts_named name listed.0 (listed.1 ∷ [])
+pub one_listed : (name : List ℕ) (listed : ListedConflictValue) (old new : List (List ℕ × List ListedConflictValue)) → listed.1.conflict ≡ true → items_under_name new name ≡ items_under_name old name ++ (if bytes_eq name listed.1.name then listed ∷ [] else []) → conflicts_in new name ≡ conflicts_in old name ++ conflicts_named name listed.0 (listed.1 ∷ [])
 one_listed name listed old new conflict is =
-    ap (map without_index) is
-    ∙ (map-append without_index (items_of old name) (if bytes_eq name listed.1.name then listed ∷ [] else [])
+    ap (map conflict_without_index) is
+    ∙ (map-append conflict_without_index (items_under_name old name) (if bytes_eq name listed.1.name then listed ∷ [] else [])
     ∙ ap (λ (z : List Listed). conflicts_in old name ++ z) (alone (bytes_eq name listed.1.name) ∙ sym (one_named name listed.0 listed.1 conflict)))
   where
-    alone : (b : Bool) → map without_index (if b then listed ∷ [] else []) ≡ (if b then (listed.0, listed.1) ∷ [] else [])
+    alone : (b : Bool) → map conflict_without_index (if b then listed ∷ [] else []) ≡ (if b then (listed.0, listed.1) ∷ [] else [])
     alone true = refl
     alone false = refl
 
 -- one that is no conflict is not
-pub none_listed : (name : List ℕ) (by : ℕ) (d : Dependency) (old : List (List ℕ × List ListedValue)) → d.conflict ≡ false → conflicts_in old name ≡ conflicts_in old name ++ conflicts_named name by (d ∷ [])
+pub none_listed : (name : List ℕ) (by : ℕ) (d : Dependency) (old : List (List ℕ × List ListedConflictValue)) → d.conflict ≡ false → conflicts_in old name ≡ conflicts_in old name ++ conflicts_named name by (d ∷ [])
 none_listed name by d old none = sym (ap (λ (z : List Listed). conflicts_in old name ++ z) (none_named name by d none) ∙ append-nil (conflicts_in old name))
 
 in_take : {X : Type 0} (x : X) (n : ℕ) (xs : List X) → IsIn x (take n xs) → IsIn x xs
@@ -75,10 +75,10 @@ in_take x (suc n) [] h = absurd h
 in_take x (suc n) (y ∷ ys) h = elim h [ inl e ↦ inl e | inr g ↦ inr (in_take x n ys g) ]
 
 -- what a table lists is right with one item more, and without the last of a name
-module _ (candidates : List Candidate) (old new : List (List ℕ × List ListedValue)) (name : List ℕ) (right : AreConflictsOf candidates old) where
-  pub conflicts_more : (item : ListedValue) → IsConflictOf candidates item → ((other : List ℕ) → items_of new other ≡ items_of old other ++ (if bytes_eq other name then item ∷ [] else [])) → AreConflictsOf candidates new
+module _ (candidates : List Candidate) (old new : List (List ℕ × List ListedConflictValue)) (name : List ℕ) (right : AreConflictsOf candidates old) where
+  pub conflicts_more : (item : ListedConflictValue) → IsConflictOf candidates item → ((other : List ℕ) → items_under_name new other ≡ items_under_name old other ++ (if bytes_eq other name then item ∷ [] else [])) → AreConflictsOf candidates new
   conflicts_more item here is other listed h =
-      elim (in_append listed (items_of old other) (if bytes_eq other name then item ∷ [] else []) (subst (λ (z : List ListedValue). IsIn listed z) (is other) h)) [
+      elim (in_append listed (items_under_name old other) (if bytes_eq other name then item ∷ [] else []) (subst (λ (z : List ListedConflictValue). IsIn listed z) (is other) h)) [
         | inl a ↦ right other listed a
         | inr b ↦ added (bytes_eq other name) b
       ]
@@ -87,31 +87,31 @@ module _ (candidates : List Candidate) (old new : List (List ℕ × List ListedV
       added true h = elim h [ inl e ↦ subst (IsConflictOf candidates) (sym e) here | inr bad ↦ absurd bad ]
       added false h = absurd h
 
-  pub conflicts_less : ((other : List ℕ) → items_of new other ≡ (if bytes_eq other name then without_last (items_of old other) else items_of old other)) → AreConflictsOf candidates new
-  conflicts_less is other listed h = right other listed (kept (bytes_eq other name) (subst (λ (z : List ListedValue). IsIn listed z) (is other) h))
+  pub conflicts_less : ((other : List ℕ) → items_under_name new other ≡ (if bytes_eq other name then without_last (items_under_name old other) else items_under_name old other)) → AreConflictsOf candidates new
+  conflicts_less is other listed h = right other listed (kept (bytes_eq other name) (subst (λ (z : List ListedConflictValue). IsIn listed z) (is other) h))
     where
-      kept : (t : Bool) → IsIn listed (if t then without_last (items_of old other) else items_of old other) → IsIn listed (items_of old other)
-      kept true h = in_take listed (length (items_of old other) - 1) (items_of old other) h
+      kept : (t : Bool) → IsIn listed (if t then without_last (items_under_name old other) else items_under_name old other) → IsIn listed (items_under_name old other)
+      kept true h = in_take listed (length (items_under_name old other) - 1) (items_under_name old other) h
       kept false h = h
 
 -- where the last dependency is a conflict, it is taken away
-pub taken_away : (d : Dependency) (by : ℕ) (front : List ℕ → List Listed) (old new : List (List ℕ × List ListedValue)) → d.conflict ≡ true → ((name : List ℕ) → conflicts_in old name ≡ front name ++ conflicts_named name by (d ∷ [])) → ((other : List ℕ) → items_of new other ≡ (if bytes_eq other d.name then without_last (items_of old other) else items_of old other)) → (name : List ℕ) → conflicts_in new name ≡ front name
+pub taken_away : (d : Dependency) (by : ℕ) (front : List ℕ → List Listed) (old new : List (List ℕ × List ListedConflictValue)) → d.conflict ≡ true → ((name : List ℕ) → conflicts_in old name ≡ front name ++ conflicts_named name by (d ∷ [])) → ((other : List ℕ) → items_under_name new other ≡ (if bytes_eq other d.name then without_last (items_under_name old other) else items_under_name old other)) → (name : List ℕ) → conflicts_in new name ≡ front name
 taken_away d by front old new conflict was is name =
     let found = is name in
     elim (cases_Bool (bytes_eq name d.name)) [
       | inl t ↦
-          let there : items_of new name ≡ without_last (items_of old name) = rw t at found in
-          let here : conflicts_in new name ≡ without_last (conflicts_in old name) = ap (map without_index) there ∙ without_last_map without_index (items_of old name) in
+          let there : items_under_name new name ≡ without_last (items_under_name old name) = rw t at found in
+          let here : conflicts_in new name ≡ without_last (conflicts_in old name) = ap (map conflict_without_index) there ∙ without_last_map conflict_without_index (items_under_name old name) in
           let one : conflicts_named name by (d ∷ []) ≡ (by, d) ∷ [] = rw (conflict, t) refl in
           here ∙ (ap without_last (was name ∙ ap (λ (z : List Listed). front name ++ z) one) ∙ without_last_of (front name) (by, d))
       | inr t ↦
-          let there : items_of new name ≡ items_of old name = rw t at found in
+          let there : items_under_name new name ≡ items_under_name old name = rw t at found in
           let none : conflicts_named name by (d ∷ []) ≡ [] = rw (conflict, t) refl in
-          ap (map without_index) there ∙ (was name ∙ (ap (λ (z : List Listed). front name ++ z) none ∙ append-nil (front name)))
+          ap (map conflict_without_index) there ∙ (was name ∙ (ap (λ (z : List Listed). front name ++ z) none ∙ append-nil (front name)))
     ]
 
 -- if it is none, nothing changes
-pub stays : (d : Dependency) (by : ℕ) (front : List ℕ → List Listed) (old : List (List ℕ × List ListedValue)) → d.conflict ≡ false → ((name : List ℕ) → conflicts_in old name ≡ front name ++ conflicts_named name by (d ∷ [])) → (name : List ℕ) → conflicts_in old name ≡ front name
+pub stays : (d : Dependency) (by : ℕ) (front : List ℕ → List Listed) (old : List (List ℕ × List ListedConflictValue)) → d.conflict ≡ false → ((name : List ℕ) → conflicts_in old name ≡ front name ++ conflicts_named name by (d ∷ [])) → (name : List ℕ) → conflicts_in old name ≡ front name
 stays d by front old none was name = was name ∙ (ap (λ (z : List Listed). front name ++ z) (none_named name by d none) ∙ append-nil (front name))
 
 -- the front of a step of a loop that takes conflicts away

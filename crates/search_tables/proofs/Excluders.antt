@@ -11,7 +11,7 @@ use Rattle.std.proofs.lemmas.Bool.{and_parts, or_cases, cases_Bool, both_ways}
 use Rattle.pool_core.proofs.Filtered.{meeting_offers}
 use Rattle.dep_core.specs.Dependency.{Dependency}
 use Rattle.pool_core.specs.candidate_core.Candidates.{Candidate, entry, meets_dependency, occupies_name, offers_name}
-use Rattle.pool_core.specs.candidate_core.Rank.{SealedPool, candidate_at, is_at, meets_at}
+use Rattle.pool_core.specs.candidate_core.Rank.{SealedPool, candidate_at, candidate_at_passes, meets_at}
 use Rattle.pool_core.specs.candidate_core.Options.{IsIn}
 use Rattle.search_tables.specs.Selection.{exclude_each_other, depends_at, conflicts_with, is_met, occupied_names_at, occupied_names, does_exclude, share_a_name}
 use Rattle.search_tables.specs.Conflicts.{conflicts_in, conflicts_named}
@@ -72,7 +72,7 @@ module _ (pool : SealedPool) (t : List ℕ) (id : ℕ) (details : Candidate) whe
   excludes_back : (IsIn id t → ⊥) → (k : ℕ) → IsIn k t → (does_exclude pool id k ≡ true) → IsExcluder pool t id k
   excludes_back once k there out = (there, let d = different once k there in let o : (does_exclude pool k id || does_exclude pool id k) ≡ true = true_or (does_exclude pool k id) (does_exclude pool id k) (inr out) in rw (d, o) refl)
 
-  at_id : candidate_at pool id ≡ Some details → (p : Candidate → Bool) → is_at pool p id ≡ p details
+  at_id : candidate_at pool id ≡ Some details → (p : Candidate → Bool) → candidate_at_passes pool p id ≡ p details
   at_id here p = ap (λ (o : Option Candidate). option_map_or p o false) here
 
   deps_of_id : candidate_at pool id ≡ Some details → depends_at pool id ≡ details.depends
@@ -93,8 +93,8 @@ module _ (pool : SealedPool) (t : List ℕ) (id : ℕ) (details : Candidate) whe
       let conflict = (and_parts m.0.conflict (bytes_eq name m.0.name) h.1).0 in
       let who : g.0 ≡ k = sym (ap (λ (c : Listed). c.0) m.2) ∙ one.2 in
       let meets : meets_dependency m.0 details ≡ true = subst (λ (c : Listed). meets_dependency c.1 details ≡ true) m.2 f.1 in
-      let meets_there : is_at pool (meets_dependency m.0) id ≡ true = at_id here (meets_dependency m.0) ∙ meets in
-      let out : conflicts_with pool g.0 id ≡ true = one_any (λ (d : Dependency). d.conflict && is_at pool (meets_dependency d) id) (depends_at pool g.0) m.0 h.0 (rw conflict meets_there) in
+      let meets_there : candidate_at_passes pool (meets_dependency m.0) id ≡ true = at_id here (meets_dependency m.0) ∙ meets in
+      let out : conflicts_with pool g.0 id ≡ true = one_any (λ (d : Dependency). d.conflict && candidate_at_passes pool (meets_dependency d) id) (depends_at pool g.0) m.0 h.0 (rw conflict meets_there) in
       subst (λ (z : ℕ). IsExcluder pool t id z) who (excludes_by once g.0 g.1 (true_or (conflicts_with pool g.0 id) (share_a_name pool g.0 id) (inl out)))
     where
       some_of : (o : Option Listed) → Some k ≡ option_map (λ (c : Listed). c.0) o → (c : Listed) × (o ≡ Some c) × (c.0 ≡ k)
@@ -116,17 +116,17 @@ module _ (pool : SealedPool) (t : List ℕ) (id : ℕ) (details : Candidate) whe
       none_found (Some c) never = absurd (never c.0 refl)
 
   -- a choice that occupies one of its names excludes it
-  pub found_occupant : (name : List ℕ) (k : ℕ) → candidate_at pool id ≡ Some details → (IsIn id t → ⊥) → IsIn name (occupied_names details) → IsIn k t → is_at pool (occupies_name name) k ≡ true → IsExcluder pool t id k
+  pub found_occupant : (name : List ℕ) (k : ℕ) → candidate_at pool id ≡ Some details → (IsIn id t → ⊥) → IsIn name (occupied_names details) → IsIn k t → candidate_at_passes pool (occupies_name name) k ≡ true → IsExcluder pool t id k
   found_occupant name k here once mine there occupies =
       let listed : IsIn name (occupied_names_at pool id) = subst (λ (z : List (List ℕ)). IsIn name z) (sym (names_of_id here)) mine in
-      let share : share_a_name pool id k ≡ true = one_any (λ n. is_at pool (occupies_name n) k) (occupied_names_at pool id) name listed occupies in
+      let share : share_a_name pool id k ≡ true = one_any (λ n. candidate_at_passes pool (occupies_name n) k) (occupied_names_at pool id) name listed occupies in
       excludes_back once k there (true_or (conflicts_with pool id k) (share_a_name pool id k) (inr share))
 
   -- a choice that meets one of its conflicts excludes it
   pub found_meeting : (d : Dependency) (k : ℕ) → candidate_at pool id ≡ Some details → (IsIn id t → ⊥) → IsIn d details.depends → d.conflict ≡ true → IsIn k t → meets_at pool k (entry d) ≡ true → IsExcluder pool t id k
   found_meeting d k here once has conflict there meets =
       let mine : IsIn d (depends_at pool id) = subst (λ (z : List Dependency). IsIn d z) (sym (deps_of_id here)) has in
-      let out : conflicts_with pool id k ≡ true = one_any (λ (e : Dependency). e.conflict && is_at pool (meets_dependency e) k) (depends_at pool id) d mine (rw conflict meets) in
+      let out : conflicts_with pool id k ≡ true = one_any (λ (e : Dependency). e.conflict && candidate_at_passes pool (meets_dependency e) k) (depends_at pool id) d mine (rw conflict meets) in
       excludes_back once k there (true_or (conflicts_with pool id k) (share_a_name pool id k) (inl out))
 
   -- no choice excludes it if all its names are free, and no choice meets a conflict of it
@@ -139,37 +139,37 @@ module _ (pool : SealedPool) (t : List ℕ) (id : ℕ) (details : Candidate) whe
     | inr e ↦ e
     | inl apart ↦
         let both = and_parts (not (k == id)) (does_exclude pool k id || does_exclude pool id k) apart in
-        let shared : (name : List ℕ) → IsIn name (occupied_names_at pool id) → is_at pool (occupies_name name) k ≡ true → ⊥ = λ name h occupies.
+        let shared : (name : List ℕ) → IsIn name (occupied_names_at pool id) → candidate_at_passes pool (occupies_name name) k ≡ true → ⊥ = λ name h occupies.
         elim (subst (λ (z : List (List ℕ)). IsIn name z) (names_of_id here) h) [
-          | inl e ↦ both_ways (is_at pool (occupies_name name) k) (subst (λ (n : List ℕ). is_at pool (occupies_name n) k ≡ false) (sym e) (own.1 refl k there)) occupies
+          | inl e ↦ both_ways (candidate_at_passes pool (occupies_name name) k) (subst (λ (n : List ℕ). candidate_at_passes pool (occupies_name n) k ≡ false) (sym e) (own.1 refl k there)) occupies
           | inr r ↦
               let m = map_in (λ (p : Dependency). p.name) name (filter (λ (p : Dependency). not p.conflict && is_some p.version) details.provides) r in
               let f = filter_in (λ (p : Dependency). not p.conflict && is_some p.version) m.0 details.provides m.1 in
               let two = and_parts (not m.0.conflict) (is_some m.0.version) f.1 in
-              both_ways (is_at pool (occupies_name name) k) (subst (λ (n : List ℕ). is_at pool (occupies_name n) k ≡ false) (sym m.2) ((provides m.0 f.0 (not_true m.0.conflict two.0)).1 two.1 k there)) occupies
+              both_ways (candidate_at_passes pool (occupies_name name) k) (subst (λ (n : List ℕ). candidate_at_passes pool (occupies_name n) k ≡ false) (sym m.2) ((provides m.0 f.0 (not_true m.0.conflict two.0)).1 two.1 k there)) occupies
         ] in
         absurd (elim (or_cases (does_exclude pool k id) (does_exclude pool id k) both.1) [
           | inl a ↦ elim (or_cases (conflicts_with pool k id) (share_a_name pool k id) a) [
             | inl x ↦
-                let one = any_one (λ (d : Dependency). d.conflict && is_at pool (meets_dependency d) id) (depends_at pool k) x in
-                let two = and_parts one.0.conflict (is_at pool (meets_dependency one.0) id) one.2 in
+                let one = any_one (λ (d : Dependency). d.conflict && candidate_at_passes pool (meets_dependency d) id) (depends_at pool k) x in
+                let two = and_parts one.0.conflict (candidate_at_passes pool (meets_dependency one.0) id) one.2 in
                 let meets : meets_dependency one.0 details ≡ true = sym (at_id here (meets_dependency one.0)) ∙ two.1 in
                 elim (offered_by one.0.name details (meeting_offers one.0 details meets)) [
                   | inl e ↦ both_ways (meets_dependency one.0 details) (own.0 k one.0 there one.1 two.0 e) meets
                   | inr p ↦ both_ways (meets_dependency one.0 details) ((provides p.0 p.1 p.3).0 k one.0 there one.1 two.0 p.2) meets
                 ]
             | inr x ↦
-                let one = any_one (λ name. is_at pool (occupies_name name) id) (occupied_names_at pool k) x in
+                let one = any_one (λ name. candidate_at_passes pool (occupies_name name) id) (occupied_names_at pool k) x in
                 shared one.0 (occupied_is_listed_at pool id one.0 one.2) (listed_is_occupied_at pool k one.0 one.1)
           ]
           | inr b ↦ elim (or_cases (conflicts_with pool id k) (share_a_name pool id k) b) [
             | inl x ↦
-                let one = any_one (λ (d : Dependency). d.conflict && is_at pool (meets_dependency d) k) (depends_at pool id) x in
-                let two = and_parts one.0.conflict (is_at pool (meets_dependency one.0) k) one.2 in
+                let one = any_one (λ (d : Dependency). d.conflict && candidate_at_passes pool (meets_dependency d) k) (depends_at pool id) x in
+                let two = and_parts one.0.conflict (candidate_at_passes pool (meets_dependency one.0) k) one.2 in
                 let mine : IsIn one.0 details.depends = subst (λ (z : List Dependency). IsIn one.0 z) (deps_of_id here) one.1 in
                 both_ways (is_met pool t (entry one.0)) (conflicts one.0 mine two.0) (one_any (λ c. meets_at pool c (entry one.0)) t k there two.1)
             | inr x ↦
-                let one = any_one (λ name. is_at pool (occupies_name name) k) (occupied_names_at pool id) x in
+                let one = any_one (λ name. candidate_at_passes pool (occupies_name name) k) (occupied_names_at pool id) x in
                 shared one.0 one.1 one.2
           ]
         ])

@@ -1,7 +1,7 @@
 -- Lists with the same members.
 use Rattle.std.proofs.Common.{◌≡◌, inl, inr, ℕ, List, [], ◌∷◌, ◌++◌, sym, subst, ap, ◌∙◌, append_assoc, append-nil}
 use Rattle.pool_core.specs.candidate_core.Options.{IsIn}
-use Rattle.search_tables.specs.Reasons.{HasSameMembers, others_in}
+use Rattle.search_tables.specs.Reasons.{HasSameMembers, other_members_of_reasons}
 use Rattle.search_tables.proofs.Theory.{in_left, in_right, in_append}
 
 pub same_trans : (xs ys zs : List ℕ) → HasSameMembers xs ys → HasSameMembers ys zs → HasSameMembers xs zs
@@ -33,9 +33,9 @@ same_more new now old done id more was is e =
 pub same_self : (xs : List ℕ) → HasSameMembers xs (xs ++ [])
 same_self xs = subst (λ (z : List ℕ). HasSameMembers xs z) (sym (append-nil xs)) (λ c h. h, λ c h. h)
 
-pub others-append : (ps : List (ℕ × List ℕ)) (p : ℕ × List ℕ) → others_in (ps ++ p ∷ []) ≡ others_in ps ++ p.1
+pub others-append : (ps : List (ℕ × List ℕ)) (p : ℕ × List ℕ) → other_members_of_reasons (ps ++ p ∷ []) ≡ other_members_of_reasons ps ++ p.1
 others-append [] p = append-nil p.1
-others-append (q ∷ ps) p = ap (λ (z : List ℕ). q.1 ++ z) (others-append ps p) ∙ sym (append_assoc q.1 (others_in ps) p.1)
+others-append (q ∷ ps) p = ap (λ (z : List ℕ). q.1 ++ z) (others-append ps p) ∙ sym (append_assoc q.1 (other_members_of_reasons ps) p.1)
 
 -- more of what is added, all at once
 pub same_more_all : (new now old done next more : List ℕ) → HasSameMembers now (old ++ done) → HasSameMembers new (now ++ next) → more ≡ done ++ next → HasSameMembers new (old ++ more)

@@ -9,7 +9,7 @@ use Rattle.std.proofs.lemmas.Bool.{and_parts, or_cases, cases_Bool, both_ways}
 use Rattle.pool_core.proofs.Filtered.{meeting_offers, at_weaker}
 use Rattle.dep_core.specs.Dependency.{Dependency}
 use Rattle.pool_core.specs.candidate_core.Candidates.{Candidate, Need, entry, entry_occupies, named, need_name, meets_dependency, occupies_name, offers_name}
-use Rattle.pool_core.specs.candidate_core.Rank.{SealedPool, is_at, meets_at}
+use Rattle.pool_core.specs.candidate_core.Rank.{SealedPool, candidate_at_passes, meets_at}
 use Rattle.pool_core.specs.candidate_core.Options.{IsIn, places_offering}
 use Rattle.search_tables.specs.Selection.{is_met}
 use Rattle.pool_core.proofs.candidate_core.OptionLists.{in_places}
@@ -76,8 +76,8 @@ occupied_offers name c h = elim (or_cases (bytes_eq name c.name) (list_any (entr
 ]
 
 -- no choice occupies the name, looked for among those that offer it
-pub occupied_among_offers : (pool : SealedPool) (chosen : List ℕ) (name : List ℕ) → ((k : ℕ) → IsIn k (places_offering name pool.candidates) → IsIn k chosen → is_at pool (occupies_name name) k ≡ false) → (k : ℕ) → IsIn k chosen → is_at pool (occupies_name name) k ≡ false
-occupied_among_offers pool chosen name none k there = elim (cases_Bool (is_at pool (occupies_name name) k)) [
+pub occupied_among_offers : (pool : SealedPool) (chosen : List ℕ) (name : List ℕ) → ((k : ℕ) → IsIn k (places_offering name pool.candidates) → IsIn k chosen → candidate_at_passes pool (occupies_name name) k ≡ false) → (k : ℕ) → IsIn k chosen → candidate_at_passes pool (occupies_name name) k ≡ false
+occupied_among_offers pool chosen name none k there = elim (cases_Bool (candidate_at_passes pool (occupies_name name) k)) [
   | inr e ↦ e
   | inl e ↦
       let z : 0 + k ≡ k = omega arith in

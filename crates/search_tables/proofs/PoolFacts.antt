@@ -9,8 +9,8 @@ use Rattle.std.proofs.lemmas.Bool.{cases_Bool}
 use Rattle.dep_core.specs.Dependency.{Dependency}
 use Rattle.pool_core.specs.candidate_core.Candidates.{Candidate, Need, entry, has_usable_install_if, named}
 use Rattle.pool_core.specs.candidate_core.Rank.{SealedPool, bytes_cmp, is_eligible_at, is_better, meets_at}
-use Rattle.pool_core.specs.candidate_core.Options.{IsIn, IsBestFirst, options_for}
-use Rattle.search_tables.specs.Selection.{AreMembers, AreDistinct, exclude_each_other, names_by_install_if, install_if_applies, depends_at, is_met, is_unmet, does_exclude, least_name, lesser_name, needs, positive_needs, next_need, raised_needs}
+use Rattle.pool_core.specs.candidate_core.Options.{IsIn, IsSortedBestFirst, options_for}
+use Rattle.search_tables.specs.Selection.{AreAllMembersOf, AreDistinct, exclude_each_other, names_by_install_if, install_if_applies, depends_at, is_met, is_unmet, does_exclude, least_name, lesser_name, needs, positive_needs, next_need, raised_needs}
 use Rattle.search_tables.specs.Reasons.{AreCompatible}
 use Rattle.search_tables.specs.Reasons.{HasOptions}
 use Rattle.search_tables.proofs.Theory.{Sorted, sorted_split, in_left, in_right, in_append}
@@ -120,12 +120,12 @@ in_flat f q c (x ∷ xs) (inr h) g = in_right q (f x) (flat_map f xs) (in_flat f
 -- ---- needs
 
 module _ (pool : SealedPool) where
-  pub met_mono : (q : Need) (t u : List ℕ) → AreMembers t u → is_met pool t q ≡ true → is_met pool u q ≡ true
+  pub met_mono : (q : Need) (t u : List ℕ) → AreAllMembersOf t u → is_met pool t q ≡ true → is_met pool u q ≡ true
   met_mono q t u sub h =
       let r = any_in (λ c. meets_at pool c q) t h in
       in_any (λ c. meets_at pool c q) u r.0 (sub r.0 r.1) r.2
 
-  raised_mono : (t u : List ℕ) (q : Need) → AreMembers t u → IsIn q (raised_needs pool t) → IsIn q (raised_needs pool u)
+  raised_mono : (t u : List ℕ) (q : Need) → AreAllMembersOf t u → IsIn q (raised_needs pool t) → IsIn q (raised_needs pool u)
   raised_mono t u q sub h =
       let of : ℕ → List Need = λ c. positive_needs (depends_at pool c) in
       elim (in_append q (positive_needs pool.world) (flat_map of t) h) [
@@ -133,20 +133,20 @@ module _ (pool : SealedPool) where
         | inr b ↦ let r = flat_in of q t b in in_right q (positive_needs pool.world) (flat_map of u) (in_flat of q r.0 u (sub r.0 r.1) r.2)
       ]
 
-  asks_mono : (t u : List ℕ) (c : Candidate) → AreMembers t u → install_if_applies pool t c ≡ true → install_if_applies pool u c ≡ true
+  asks_mono : (t u : List ℕ) (c : Candidate) → AreAllMembersOf t u → install_if_applies pool t c ≡ true → install_if_applies pool u c ≡ true
   asks_mono t u c sub h = elim (cases_Bool (has_usable_install_if pool.world c)) [
     | inl e ↦ rw e (all_mono (λ (d : Dependency). is_met pool t (entry d)) (λ (d : Dependency). is_met pool u (entry d)) c.install_if (λ d. met_mono (entry d) t u sub) (rw e at h))
     | inr e ↦ let bad : false ≡ true = rw e at h in absurd (none_true bad)
   ]
 
-  asked_mono : (t u : List ℕ) (x : List ℕ) → AreMembers t u → IsIn x (names_by_install_if pool t) → IsIn x (names_by_install_if pool u)
+  asked_mono : (t u : List ℕ) (x : List ℕ) → AreAllMembersOf t u → IsIn x (names_by_install_if pool t) → IsIn x (names_by_install_if pool u)
   asked_mono t u x sub h =
       let name : Candidate → List ℕ = λ (c : Candidate). c.name in
       let m = map_in name x (filter (install_if_applies pool t) pool.candidates) h in
       let f = filter_in (install_if_applies pool t) m.0 pool.candidates m.1 in
       subst (λ (z : List ℕ). IsIn z (names_by_install_if pool u)) (sym m.2) (in_map name m.0 (filter (install_if_applies pool u) pool.candidates) (in_filter (install_if_applies pool u) m.0 pool.candidates f.0 (asks_mono t u m.0 sub f.1)))
 
-  needs_mono : (t u : List ℕ) (q : Need) → AreMembers t u → IsIn q (needs pool t) → IsIn q (needs pool u)
+  needs_mono : (t u : List ℕ) (q : Need) → AreAllMembersOf t u → IsIn q (needs pool t) → IsIn q (needs pool u)
   needs_mono t u q sub h = elim (in_append q (raised_needs pool t) (map named (names_by_install_if pool t)) h) [
     | inl a ↦ in_left q (raised_needs pool u) (map named (names_by_install_if pool u)) (raised_mono t u q sub a)
     | inr b ↦
@@ -232,7 +232,7 @@ module _ (pool : SealedPool) where
   apart_self : (a : ℕ) → exclude_each_other pool a a ≡ true → ⊥
   apart_self a h = let same : (a == a) ≡ true = nat_eq_equiv.refl a in let bad : false ≡ true = rw same at h in none_true bad
 
-  ranked_sorted : (q : Need) (xs : List ℕ) → IsBestFirst (is_better pool q) xs → Sorted (λ a b. is_better pool q a b ≡ true) xs
+  ranked_sorted : (q : Need) (xs : List ℕ) → IsSortedBestFirst (is_better pool q) xs → Sorted (λ a b. is_better pool q a b ≡ true) xs
   ranked_sorted q [] r = tt
   ranked_sorted q (x ∷ xs) r = (r.0, ranked_sorted q xs r.1)
 

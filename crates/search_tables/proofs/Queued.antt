@@ -7,7 +7,7 @@ use Rattle.dep_core.specs.Dependency.{Dependency}
 use Rattle.pool_core.specs.candidate_core.Candidates.{entry}
 use Rattle.pool_core.specs.candidate_core.Rank.{SealedPool, meets_at}
 use Rattle.search_tables.specs.Selection.{is_met}
-use Rattle.search_tables.specs.Queue.{AreFirstMet, RaisedDepValue, is_unmet_dep, queue_of, raised_deps_at, raised_deps, raised_from}
+use Rattle.search_tables.specs.Queue.{AreFirstDepsMet, RaisedDepValue, is_unmet_dep, queue_of, raised_deps_at, raised_deps, raised_deps_from}
 
 pub any_map : {X Y : Type 0} (p : Y → Bool) (f : X → Y) (xs : List X) → list_any p (map f xs) ≡ list_any (λ x. p (f x)) xs
 any_map p f [] = refl
@@ -25,15 +25,15 @@ pub mapped : {X Y : Type 0} (f : X → Y) (xs ys : List X) → map f (xs ++ ys) 
 mapped f [] ys = refl
 mapped {X} {Y} f (x ∷ xs) ys = ap (λ (z : List Y). f x ∷ z) (mapped f xs ys)
 
-raised_append : (by : Option ℕ) (n : ℕ) (xs ys : List Dependency) → raised_from by n (xs ++ ys) ≡ raised_from by n xs ++ raised_from by (n + length xs) ys
+raised_append : (by : Option ℕ) (n : ℕ) (xs ys : List Dependency) → raised_deps_from by n (xs ++ ys) ≡ raised_deps_from by n xs ++ raised_deps_from by (n + length xs) ys
 raised_append by n [] ys =
     let e : n ≡ n + 0 = omega arith in
-    ap (λ (k : ℕ). raised_from by k ys) e
+    ap (λ (k : ℕ). raised_deps_from by k ys) e
 raised_append by n (x ∷ xs) ys =
     let e : suc n + length xs ≡ n + suc (length xs) = omega arith in
-    let rest : raised_from by (suc n) (xs ++ ys) ≡ raised_from by (suc n) xs ++ raised_from by (n + suc (length xs)) ys =
-    raised_append by (suc n) xs ys ∙ ap (λ (k : ℕ). raised_from by (suc n) xs ++ raised_from by k ys) e in
-    step x.conflict (raised_from by (suc n) (xs ++ ys)) (raised_from by (suc n) xs) (raised_from by (n + suc (length xs)) ys) rest
+    let rest : raised_deps_from by (suc n) (xs ++ ys) ≡ raised_deps_from by (suc n) xs ++ raised_deps_from by (n + suc (length xs)) ys =
+    raised_append by (suc n) xs ys ∙ ap (λ (k : ℕ). raised_deps_from by (suc n) xs ++ raised_deps_from by k ys) e in
+    step x.conflict (raised_deps_from by (suc n) (xs ++ ys)) (raised_deps_from by (suc n) xs) (raised_deps_from by (n + suc (length xs)) ys) rest
   where
     step : (b : Bool) (all front back : List RaisedDepValue) → all ≡ front ++ back → (if b then all else (x, by, n) ∷ all) ≡ (if b then front else (x, by, n) ∷ front) ++ back
     step true all front back e = e
@@ -46,12 +46,12 @@ front_length (x ∷ xs) zero h = refl
 front_length (x ∷ xs) (suc i) h = let r = front_length xs i (omega (arith, h)) in omega (arith, r)
 
 -- a queue with one more dependency, in a loop over some
-pub queued_more : (by : Option ℕ) (start before after : List RaisedDepValue) (done more : List Dependency) (d : Dependency) (i : ℕ) → i ≡ 0 + length done → before ≡ start ++ raised_deps by done → after ≡ before ++ raised_from by i (d ∷ []) → more ≡ done ++ d ∷ [] → after ≡ start ++ raised_deps by more
+pub queued_more : (by : Option ℕ) (start before after : List RaisedDepValue) (done more : List Dependency) (d : Dependency) (i : ℕ) → i ≡ 0 + length done → before ≡ start ++ raised_deps by done → after ≡ before ++ raised_deps_from by i (d ∷ []) → more ≡ done ++ d ∷ [] → after ≡ start ++ raised_deps by more
 queued_more by start before after done more d i at was is e =
-    is ∙ (ap (λ (z : List RaisedDepValue). z ++ raised_from by i (d ∷ [])) was
-    ∙ (append_assoc start (raised_deps by done) (raised_from by i (d ∷ []))
+    is ∙ (ap (λ (z : List RaisedDepValue). z ++ raised_deps_from by i (d ∷ [])) was
+    ∙ (append_assoc start (raised_deps by done) (raised_deps_from by i (d ∷ []))
     ∙ ap (λ (z : List RaisedDepValue). start ++ z)
-    (ap (λ (k : ℕ). raised_deps by done ++ raised_from by k (d ∷ [])) at
+    (ap (λ (k : ℕ). raised_deps by done ++ raised_deps_from by k (d ∷ [])) at
     ∙ (sym (raised_append by 0 done (d ∷ [])) ∙ ap (raised_deps by) (sym e)))))
 
 pub flat_more : {X : Type 0} (f : ℕ → List X) (t : List ℕ) (c : ℕ) → flat_map f (t ++ c ∷ []) ≡ flat_map f t ++ f c
@@ -85,7 +85,7 @@ none_still {X} p q (x ∷ xs) to h = elim (cases_Bool (p x)) [
 still_met : (pool : SealedPool) (t us : List ℕ) (r : RaisedDepValue) → is_unmet_dep pool t r ≡ false → is_unmet_dep pool (t ++ us) r ≡ false
 still_met pool t us r h = ap not (any_append (λ c. meets_at pool c (entry r.0)) t us (not-false (is_met pool t (entry r.0)) h))
 
-pub met_more : (pool : SealedPool) (t : List ℕ) (c at : ℕ) → AreFirstMet pool t at → AreFirstMet pool (t ++ c ∷ []) at
+pub met_more : (pool : SealedPool) (t : List ℕ) (c at : ℕ) → AreFirstDepsMet pool t at → AreFirstDepsMet pool (t ++ c ∷ []) at
 met_more pool t c at met =
     let e = queue_more pool t c in (
       subst (λ (z : List RaisedDepValue). at ≤ length z) (sym e) (omega (arith, met.0, length-append (queue_of pool t) (raised_deps_at pool c))),
@@ -130,7 +130,7 @@ past_end p (x ∷ xs) (suc i) h n = elim (cases_Bool (p x)) [
   | inr t ↦ rw t (past_end p xs i (omega arith) (rw t at n))
 ]
 
-pub met_next : (pool : SealedPool) (t : List ℕ) (at : ℕ) (r : RaisedDepValue) → AreFirstMet pool t at → at < length (queue_of pool t) → slice_get (queue_of pool t) at ≡ Some r → is_unmet_dep pool t r ≡ false → AreFirstMet pool t (at + 1)
+pub met_next : (pool : SealedPool) (t : List ℕ) (at : ℕ) (r : RaisedDepValue) → AreFirstDepsMet pool t at → at < length (queue_of pool t) → slice_get (queue_of pool t) at ≡ Some r → is_unmet_dep pool t r ≡ false → AreFirstDepsMet pool t (at + 1)
 met_next pool t at r met h g e =
     let z : at + 1 ≡ suc at = omega arith in
     (omega arith, subst (λ (k : ℕ). find (is_unmet_dep pool t) (take k (queue_of pool t)) ≡ None) (sym z) (none_at (is_unmet_dep pool t) (queue_of pool t) at r met.1 g e))

@@ -7,7 +7,7 @@ use Rattle.dep_core.specs.Dependency.{Dependency}
 use Rattle.pool_core.specs.candidate_core.Candidates.{Need, entry}
 use Rattle.pool_core.specs.candidate_core.Rank.{SealedPool, meets_at}
 use Rattle.pool_core.specs.candidate_core.Options.{IsIn}
-use Rattle.search_tables.specs.Selection.{AreMembers, is_met}
+use Rattle.search_tables.specs.Selection.{AreAllMembersOf, is_met}
 use Rattle.search_tables.specs.InstallIf.{all_met}
 use Rattle.search_tables.proofs.Theory.{in_left, in_right, in_append}
 use Rattle.search_tables.proofs.PoolFacts.{met_mono}
@@ -31,14 +31,14 @@ module _ (pool : SealedPool) where
       let b = and_parts (is_met pool t (entry x)) (all_met pool t xs) h in
       rw b.0 (all_join t xs ys b.1 g)
 
-  all_mono : (t u : List ℕ) (xs : List Dependency) → AreMembers t u → all_met pool t xs ≡ true → all_met pool u xs ≡ true
+  all_mono : (t u : List ℕ) (xs : List Dependency) → AreAllMembersOf t u → all_met pool t xs ≡ true → all_met pool u xs ≡ true
   all_mono t u [] sub h = refl
   all_mono t u (x ∷ xs) sub h =
       let b = and_parts (is_met pool t (entry x)) (all_met pool t xs) h in
       rw (met_mono pool (entry x) t u sub b.0) (all_mono t u xs sub b.1)
 
   -- one more entry is met by those chosen of the choices
-  pub raisers_more : (t before after : List ℕ) (deps : List Dependency) (i : ℕ) (d : Dependency) → slice_get deps i ≡ Some d → (all_met pool t (take i deps) ≡ true → all_met pool before (take i deps) ≡ true) → AreMembers before after → (is_met pool t (entry d) ≡ true → is_met pool after (entry d) ≡ true) → all_met pool t (take (i + 1) deps) ≡ true → all_met pool after (take (i + 1) deps) ≡ true
+  pub raisers_more : (t before after : List ℕ) (deps : List Dependency) (i : ℕ) (d : Dependency) → slice_get deps i ≡ Some d → (all_met pool t (take i deps) ≡ true → all_met pool before (take i deps) ≡ true) → AreAllMembersOf before after → (is_met pool t (entry d) ≡ true → is_met pool after (entry d) ≡ true) → all_met pool t (take (i + 1) deps) ≡ true → all_met pool after (take (i + 1) deps) ≡ true
   raisers_more t before after deps i d here was sub one h =
       let e : take (i + 1) deps ≡ take i deps ++ d ∷ [] = take_one_more deps i d here in
       let s = all_split t (take i deps) (d ∷ []) (ap (all_met pool t) (sym e) ∙ h) in
@@ -61,13 +61,13 @@ module _ (pool : SealedPool) where
     | inr e ↦ rw e refl
   ]
 
-  pub pushed_within : (by new t : List ℕ) (id : ℕ) → new ≡ by ++ id ∷ [] → IsIn id t → AreMembers by t → AreMembers new t
+  pub pushed_within : (by new t : List ℕ) (id : ℕ) → new ≡ by ++ id ∷ [] → IsIn id t → AreAllMembersOf by t → AreAllMembersOf new t
   pushed_within by new t id is there sub c h = elim (in_append c by (id ∷ []) (subst (λ (z : List ℕ). IsIn c z) is h)) [
     | inl a ↦ sub c a
     | inr b ↦ elim b [ inl e ↦ subst (λ (z : ℕ). IsIn z t) (sym e) there | inr bad ↦ absurd bad ]
   ]
 
-  pub pushed_more : (by new : List ℕ) (id : ℕ) → new ≡ by ++ id ∷ [] → AreMembers by new
+  pub pushed_more : (by new : List ℕ) (id : ℕ) → new ≡ by ++ id ∷ [] → AreAllMembersOf by new
   pushed_more by new id is c h = subst (λ (z : List ℕ). IsIn c z) (sym is) (in_left c by (id ∷ []) h)
 
   pub pushed_met : (by new : List ℕ) (id : ℕ) (d : Dependency) → new ≡ by ++ id ∷ [] → meets_at pool id (entry d) ≡ true → is_met pool new (entry d) ≡ true

@@ -9,7 +9,7 @@ use Rattle.std.specs.Cmp.Lexicographic.{bytes_decides}
 use Rattle.std.proofs.lemmas.Bool.{and_parts, or_cases, cases_Bool}
 use Rattle.dep_core.specs.Dependency.{Dependency}
 use Rattle.pool_core.specs.candidate_core.Candidates.{Candidate, Need, named, occupies_name}
-use Rattle.pool_core.specs.candidate_core.Rank.{SealedPool, candidate_at, is_at}
+use Rattle.pool_core.specs.candidate_core.Rank.{SealedPool, candidate_at, candidate_at_passes}
 use Rattle.pool_core.specs.candidate_core.Options.{IsIn}
 use Rattle.search_tables.specs.Selection.{IsSatisfying, exclude_each_other, names_by_install_if, depends_at, conflicts_with, occupied_names_at, occupied_names, is_unmet, does_exclude, least_name, needs, positive_needs, next_need, raised_needs, share_a_name}
 use Rattle.search_tables.specs.Reasons.{IsSolution}
@@ -67,14 +67,14 @@ occupied_is_listed k name h = elim (or_cases (bytes_eq name k.name) (list_any (�
 ]
 
 module _ (pool : SealedPool) where
-  pub listed_is_occupied_at : (a : ℕ) (name : List ℕ) → IsIn name (occupied_names_at pool a) → is_at pool (occupies_name name) a ≡ true
+  pub listed_is_occupied_at : (a : ℕ) (name : List ℕ) → IsIn name (occupied_names_at pool a) → candidate_at_passes pool (occupies_name name) a ≡ true
   listed_is_occupied_at a name h = by (candidate_at pool a) h
     where
       by : (o : Option Candidate) → IsIn name (option_map_or occupied_names o []) → option_map_or (occupies_name name) o false ≡ true
       by None h = absurd h
       by (Some k) h = listed_is_occupied k name h
 
-  pub occupied_is_listed_at : (a : ℕ) (name : List ℕ) → is_at pool (occupies_name name) a ≡ true → IsIn name (occupied_names_at pool a)
+  pub occupied_is_listed_at : (a : ℕ) (name : List ℕ) → candidate_at_passes pool (occupies_name name) a ≡ true → IsIn name (occupied_names_at pool a)
   occupied_is_listed_at a name h = by (candidate_at pool a) h
     where
       by : (o : Option Candidate) → option_map_or (occupies_name name) o false ≡ true → IsIn name (option_map_or occupied_names o [])
@@ -86,7 +86,7 @@ module _ (pool : SealedPool) where
     kept_out s a b ha hb n h = elim (or_cases (conflicts_with pool a b) (share_a_name pool a b) h) [
       | inl e ↦ let no_way : true ≡ false = sym e ∙ s.no_conflict a b ha hb n in absurd (cc)
       | inr e ↦
-          let one = any_one (λ name. is_at pool (occupies_name name) b) (occupied_names_at pool a) e in
+          let one = any_one (λ name. candidate_at_passes pool (occupies_name name) b) (occupied_names_at pool a) e in
           n (s.names_alone a b one.0 ha hb (listed_is_occupied_at a one.0 one.1) one.2)
     ]
 
@@ -149,7 +149,7 @@ module _ (pool : SealedPool) where
           ];
           names_alone = λ a b name ha hb holds_a holds_b. elim (eqb_tells a b) [
             | inl e ↦ e.1
-            | inr n ↦ absurd (clean.2 a b ha hb (apart_of a b n.1 (true_or (conflicts_with pool a b) (share_a_name pool a b) (inr (one_any (λ x. is_at pool (occupies_name x) b) (occupied_names_at pool a) name (occupied_is_listed_at a name holds_a) holds_b)))))
+            | inr n ↦ absurd (clean.2 a b ha hb (apart_of a b n.1 (true_or (conflicts_with pool a b) (share_a_name pool a b) (inr (one_any (λ x. candidate_at_passes pool (occupies_name x) b) (occupied_names_at pool a) name (occupied_is_listed_at a name holds_a) holds_b)))))
           ];
           asked_met = λ name h. all (named name) (in_right (named name) (raised_needs pool S) (map named (names_by_install_if pool S)) (in_map named name (names_by_install_if pool S) h));
         }

@@ -4,7 +4,7 @@ use Rattle.std.proofs.Common.{◌≡◌, ◌⊎◌, inl, inr, ℕ, ◌≤◌, Li
 use Rattle.std.specs.Prelude.{Option, Some, None}
 use Rattle.std.proofs.lemmas.Bool.{cases_eq}
 use Rattle.pool_core.specs.candidate_core.Options.{IsIn as In}
-use Rattle.search_tables.specs.Selection.{AreMembers as Sub}
+use Rattle.search_tables.specs.Selection.{AreAllMembersOf as Sub}
 
 pub in_left : {X : Type 0} (c : X) (xs ys : List X) → In c xs → In c (xs ++ ys)
 in_left c [] ys h = absurd h

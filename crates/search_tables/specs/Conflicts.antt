@@ -7,7 +7,7 @@ use Rattle.dep_core.specs.Dependency.{Dependency}
 use Rattle.pool_core.specs.candidate_core.Candidates.{Candidate}
 use Rattle.pool_core.specs.candidate_core.Options.{IsIn}
 use Rattle.pool_core.specs.candidate_core.Rank.{SealedPool}
-use Rattle.search_tables.specs.NameTable.{items_of}
+use Rattle.search_tables.specs.NameTable.{items_under_name}
 use Rattle.search_tables.specs.Selection.{depends_at}
 
 -- the conflicts of a name among some dependencies, each with the choice that has it
@@ -22,16 +22,16 @@ conflicts_among pool chosen name = flat_map (λ c. conflicts_named name c (depen
 
 -- a conflict that is listed: the choice that has it, the conflict, and its index among the
 -- dependencies of the choice
-abbrev pub ListedValue : Type 0
-ListedValue = ℕ × Dependency × ℕ
+abbrev pub ListedConflictValue : Type 0
+ListedConflictValue = ℕ × Dependency × ℕ
 
 -- a listed conflict, with the choice that has it
-abbrev pub without_index : ListedValue → ℕ × Dependency
-without_index listed = (listed.0, listed.1)
+abbrev pub conflict_without_index : ListedConflictValue → ℕ × Dependency
+conflict_without_index listed = (listed.0, listed.1)
 
 -- the conflicts of a name that a table lists, each with the choice that has it
-abbrev pub conflicts_in : List (List ℕ × List ListedValue) → List ℕ → List (ℕ × Dependency)
-conflicts_in table name = map without_index (items_of table name)
+abbrev pub conflicts_in : List (List ℕ × List ListedConflictValue) → List ℕ → List (ℕ × Dependency)
+conflicts_in table name = map conflict_without_index (items_under_name table name)
 
 -- the candidate at this place has these dependencies
 abbrev pub HasDepends : List Candidate → ℕ → List Dependency → Type 0
@@ -39,11 +39,11 @@ HasDepends candidates by deps =
     (c : Candidate) → slice_get candidates by ≡ Some c → c.depends ≡ deps
 
 -- the candidate that is listed has the conflict at its index
-abbrev pub IsConflictOf : List Candidate → ListedValue → Type 0
+abbrev pub IsConflictOf : List Candidate → ListedConflictValue → Type 0
 IsConflictOf candidates listed = (c : Candidate) → slice_get candidates listed.0 ≡ Some c
     → slice_get c.depends listed.2 ≡ Some listed.1
 
 -- each conflict in a table is one of its candidate, at its index
-abbrev pub AreConflictsOf : List Candidate → List (List ℕ × List ListedValue) → Type 0
-AreConflictsOf candidates table = (name : List ℕ) (listed : ListedValue)
-    → IsIn listed (items_of table name) → IsConflictOf candidates listed
+abbrev pub AreConflictsOf : List Candidate → List (List ℕ × List ListedConflictValue) → Type 0
+AreConflictsOf candidates table = (name : List ℕ) (listed : ListedConflictValue)
+    → IsIn listed (items_under_name table name) → IsConflictOf candidates listed

@@ -5,7 +5,7 @@ use Rattle.std.specs.Prelude.{◌≡◌, ℕ, Bool, true, false, List}
 use Rattle.dep_core.specs.Dependency.{Dependency}
 use Rattle.pool_core.specs.candidate_core.Candidates.{Candidate, meets_dependency, occupies_name}
 use Rattle.pool_core.specs.candidate_core.Options.{IsIn}
-use Rattle.pool_core.specs.candidate_core.Rank.{SealedPool, is_at}
+use Rattle.pool_core.specs.candidate_core.Rank.{SealedPool, candidate_at_passes}
 use Rattle.search_tables.specs.Conflicts.{conflicts_among, conflicts_in}
 use Rattle.search_tables.specs.Selection.{depends_at, exclude_each_other}
 use Rattle.search_tables.specs.declared.conflicts.Conflicts.{Conflicts}
@@ -25,4 +25,4 @@ abbrev pub IsNotExcludedAt : SealedPool → List ℕ → Candidate → List ℕ 
 IsNotExcludedAt pool chosen details name is_occupied =
     ((k : ℕ) (d : Dependency) → IsIn k chosen → IsIn d (depends_at pool k) →
     d.conflict ≡ true → d.name ≡ name → meets_dependency d details ≡ false)
-    × (is_occupied ≡ true → (k : ℕ) → IsIn k chosen → is_at pool (occupies_name name) k ≡ false)
+    × (is_occupied ≡ true → (k : ℕ) → IsIn k chosen → candidate_at_passes pool (occupies_name name) k ≡ false)

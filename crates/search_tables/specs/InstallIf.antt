@@ -8,8 +8,8 @@ use Rattle.std.specs.Ordering.{is_lt}
 use Rattle.dep_core.specs.Dependency.{Dependency}
 use Rattle.pool_core.specs.candidate_core.Candidates.{Candidate, entry, has_usable_install_if, named}
 use Rattle.pool_core.specs.candidate_core.Options.{IsIn}
-use Rattle.pool_core.specs.candidate_core.Rank.{SealedPool, bytes_cmp, candidate_at, is_at}
-use Rattle.search_tables.specs.NameTable.{items_of}
+use Rattle.pool_core.specs.candidate_core.Rank.{SealedPool, bytes_cmp, candidate_at, candidate_at_passes}
+use Rattle.search_tables.specs.NameTable.{items_under_name}
 use Rattle.search_tables.specs.Selection.{is_met, is_unmet}
 
 -- whether a choice meets each of some dependencies
@@ -17,17 +17,17 @@ abbrev pub all_met : SealedPool → List ℕ → List Dependency → Bool
 all_met pool chosen deps = list_all (λ (d : Dependency). is_met pool chosen (entry d)) deps
 
 -- whether a candidate asks: each entry of its install-if is met, and no choice has its name
-abbrev pub asks_for_name : SealedPool → List ℕ → Candidate → Bool
-asks_for_name pool chosen c = all_met pool chosen c.install_if
+abbrev pub is_triggered_by_install_if : SealedPool → List ℕ → Candidate → Bool
+is_triggered_by_install_if pool chosen c = all_met pool chosen c.install_if
     && is_unmet pool chosen (named c.name)
 
 -- whether the candidate at a place asks
-abbrev pub asks_at : SealedPool → List ℕ → ℕ → Bool
-asks_at pool chosen k = is_at pool (asks_for_name pool chosen) k
+abbrev pub is_install_if_triggered_at : SealedPool → List ℕ → ℕ → Bool
+is_install_if_triggered_at pool chosen k = candidate_at_passes pool (is_triggered_by_install_if pool chosen) k
 
 -- whether the candidate at a place has an install-if that can apply
 abbrev pub is_usable_at : SealedPool → ℕ → Bool
-is_usable_at pool k = is_at pool (has_usable_install_if pool.world) k
+is_usable_at pool k = candidate_at_passes pool (has_usable_install_if pool.world) k
 
 -- the name of the candidate at a place; empty if there is none
 abbrev pub name_at : SealedPool → ℕ → List ℕ
@@ -52,26 +52,26 @@ pub record AreInstallIfs (pool : SealedPool) (by_name : List ℕ) (waiting : Lis
       has_lesser_name pool (get_or by_name j d) (get_or by_name i d) ≡ false
   pub entries :
       (rank k : ℕ) (d : Dependency) → slice_get by_name rank ≡ Some k →
-      IsIn d (install_if_at pool k) → IsIn rank (items_of waiting d.name)
+      IsIn d (install_if_at pool k) → IsIn rank (items_under_name waiting d.name)
 
 -- whether the candidate at this place of the list by name (its rank there) asks
-abbrev pub rank_asks : SealedPool → List ℕ → List ℕ → ℕ → Bool
-rank_asks pool chosen by_name rank =
-    option_map_or (λ (k : ℕ). asks_at pool chosen k) (slice_get by_name rank) false
+abbrev pub is_install_if_triggered_at_rank : SealedPool → List ℕ → List ℕ → ℕ → Bool
+is_install_if_triggered_at_rank pool chosen by_name rank =
+    option_map_or (λ (k : ℕ). is_install_if_triggered_at pool chosen k) (slice_get by_name rank) false
 
 -- none of the candidates of the first `count` ranks asks
-abbrev pub AreUnasked : SealedPool → List ℕ → List ℕ → ℕ → Type 0
-AreUnasked pool chosen by_name count =
-    (rank : ℕ) → rank < count → rank_asks pool chosen by_name rank ≡ false
+abbrev pub AreNoneTriggeredBelow : SealedPool → List ℕ → List ℕ → ℕ → Type 0
+AreNoneTriggeredBelow pool chosen by_name count =
+    (rank : ℕ) → rank < count → is_install_if_triggered_at_rank pool chosen by_name rank ≡ false
 
 -- the candidate asks, its install-if can apply, and no such candidate that asks has a lesser name
-pub record IsLeastAsking (pool : SealedPool) (chosen : List ℕ) (k : ℕ) : Type 0 where
+pub record IsLeastTriggeredInstallIf (pool : SealedPool) (chosen : List ℕ) (k : ℕ) : Type 0 where
   pub usable : is_usable_at pool k ≡ true
-  pub asks : asks_at pool chosen k ≡ true
+  pub asks : is_install_if_triggered_at pool chosen k ≡ true
   pub least :
-      (o : ℕ) → is_usable_at pool o ≡ true → asks_at pool chosen o ≡ true →
+      (o : ℕ) → is_usable_at pool o ≡ true → is_install_if_triggered_at pool chosen o ≡ true →
       has_lesser_name pool o k ≡ false
 
 -- no candidate asks whose install-if can apply
-abbrev pub IsNoneAsking : SealedPool → List ℕ → Type 0
-IsNoneAsking pool chosen = (o : ℕ) → is_usable_at pool o ≡ true → asks_at pool chosen o ≡ false
+abbrev pub IsNoInstallIfTriggered : SealedPool → List ℕ → Type 0
+IsNoInstallIfTriggered pool chosen = (o : ℕ) → is_usable_at pool o ≡ true → is_install_if_triggered_at pool chosen o ≡ false

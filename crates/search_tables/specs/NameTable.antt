@@ -11,9 +11,9 @@ abbrev pub names_and_items :
 names_and_items {X} entries = map (λ (e : Bor (List ℕ) × Vec X Global). (e.0.now, e.1.items)) entries
 
 -- the items of the first entry with this name; none if there is none
-abbrev pub items_of : {X : Type 0} → List (List ℕ × List X) → List ℕ → List X
-items_of [] name = []
-items_of (e ∷ es) name = if bytes_eq name e.0 then e.1 else items_of es name
+abbrev pub items_under_name : {X : Type 0} → List (List ℕ × List X) → List ℕ → List X
+items_under_name [] name = []
+items_under_name (e ∷ es) name = if bytes_eq name e.0 then e.1 else items_under_name es name
 
 -- all items of a list but the last
 abbrev pub without_last : {X : Type 0} → List X → List X

@@ -15,15 +15,15 @@ RaisedDepValue = Dependency × Option ℕ × ℕ
 
 -- the dependencies of a list that are no conflicts, each with the choice that raised it, or with none
 -- for world, and with its index, if the first of the list has the index `n`
-abbrev pub raised_from : Option ℕ → ℕ → List Dependency → List RaisedDepValue
-raised_from by n [] = []
-raised_from by n (d ∷ ds) =
-    if d.conflict then raised_from by (suc n) ds else (d, by, n) ∷ raised_from by (suc n) ds
+abbrev pub raised_deps_from : Option ℕ → ℕ → List Dependency → List RaisedDepValue
+raised_deps_from by n [] = []
+raised_deps_from by n (d ∷ ds) =
+    if d.conflict then raised_deps_from by (suc n) ds else (d, by, n) ∷ raised_deps_from by (suc n) ds
 
 -- the dependencies of a whole list that are no conflicts, each with the choice that raised it, or with
 -- none for world, and with its index from 0
 abbrev pub raised_deps : Option ℕ → List Dependency → List RaisedDepValue
-raised_deps by deps = raised_from by 0 deps
+raised_deps by deps = raised_deps_from by 0 deps
 
 -- the dependencies that the choice at a place raises
 abbrev pub raised_deps_at : SealedPool → ℕ → List RaisedDepValue
@@ -38,6 +38,6 @@ abbrev pub is_unmet_dep : SealedPool → List ℕ → RaisedDepValue → Bool
 is_unmet_dep pool chosen r = is_unmet pool chosen (entry r.0)
 
 -- the queue has at least `at` dependencies, and the first `at` of them are met
-abbrev pub AreFirstMet : SealedPool → List ℕ → ℕ → Type 0
-AreFirstMet pool chosen at = (at ≤ length (queue_of pool chosen))
+abbrev pub AreFirstDepsMet : SealedPool → List ℕ → ℕ → Type 0
+AreFirstDepsMet pool chosen at = (at ≤ length (queue_of pool chosen))
     × (find (is_unmet_dep pool chosen) (take at (queue_of pool chosen)) ≡ None)

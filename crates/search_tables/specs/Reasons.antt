@@ -5,8 +5,8 @@
 use Rattle.std.specs.Prelude.{◌≡◌, ℕ, true, List, [], ◌∷◌, ◌++◌, Some, None}
 use Rattle.pool_core.specs.candidate_core.Candidates.{Need}
 use Rattle.pool_core.specs.candidate_core.Rank.{SealedPool, is_better, is_eligible_at, meets_at}
-use Rattle.pool_core.specs.candidate_core.Options.{IsBestFirst, IsIn, options_for}
-use Rattle.search_tables.specs.Selection.{AreMembers, AreDistinct, exclude_each_other, needs, next_need}
+use Rattle.pool_core.specs.candidate_core.Options.{IsSortedBestFirst, IsIn, options_for}
+use Rattle.search_tables.specs.Selection.{AreAllMembersOf, AreDistinct, exclude_each_other, needs, next_need}
 
 -- candidates that are compatible: each may be selected, none occurs twice, and no two exclude each
 -- other
@@ -22,11 +22,11 @@ IsSolution pool selection = AreCompatible pool selection × (next_need pool sele
 -- no satisfying selection has all of these candidates
 abbrev pub IsReason : SealedPool → List ℕ → Type 0
 IsReason pool reason = (selection : List ℕ) → IsSolution pool selection →
-    AreMembers reason selection → ⊥
+    AreAllMembersOf reason selection → ⊥
 
 -- why a candidate cannot join some choices: it and some of them form a reason
 pub record RulesOut (pool : SealedPool) (chosen : List ℕ) (c : ℕ) (others : List ℕ) : Type 0 where
-  pub within : AreMembers others chosen
+  pub within : AreAllMembersOf others chosen
   pub dead : IsReason pool (c ∷ others)
 
 -- a frame, in this order: the ruled-out options, each with the other members of its reason; the options
@@ -35,9 +35,9 @@ abbrev pub FrameValue : Type 0
 FrameValue = List (ℕ × List ℕ) × List ℕ × List ℕ
 
 -- the options of a list of those that are ruled out
-abbrev pub options_in : List (ℕ × List ℕ) → List ℕ
-options_in [] = []
-options_in (p ∷ ps) = p.0 ∷ options_in ps
+abbrev pub ruled_out_options : List (ℕ × List ℕ) → List ℕ
+ruled_out_options [] = []
+ruled_out_options (p ∷ ps) = p.0 ∷ ruled_out_options ps
 
 -- each option of the list is ruled out by a reason whose other members are choices
 abbrev pub AreRuledOut : SealedPool → List ℕ → List (ℕ × List ℕ) → Type 0
@@ -48,9 +48,9 @@ AreRuledOut pool chosen (p ∷ ps) = RulesOut pool chosen p.0 p.1 × AreRuledOut
 -- are the options of the need in their order
 abbrev pub IsFrameOf : SealedPool → List ℕ → FrameValue → Type 0
 IsFrameOf pool chosen f =
-    (need : Need) × (next_need pool chosen ≡ Some need) × (options_for pool need ≡ options_in f.0
+    (need : Need) × (next_need pool chosen ≡ Some need) × (options_for pool need ≡ ruled_out_options f.0
     ++ f.1)
-    × AreMembers f.2 chosen × IsIn need (needs pool f.2) × AreRuledOut pool chosen f.0
+    × AreAllMembersOf f.2 chosen × IsIn need (needs pool f.2) × AreRuledOut pool chosen f.0
 
 -- the frame is that of the next need after some choices, and the option `c` is taken from it
 abbrev pub IsFrameTaking : SealedPool → List ℕ → FrameValue → ℕ → Type 0
@@ -64,27 +64,27 @@ AreTurnsFrom pool chosen (turn ∷ turns) =
     IsFrameTaking pool chosen turn.0 turn.1 × AreTurnsFrom pool (chosen ++ turn.1 ∷ []) turns
 
 -- the choices of some turns: the option that each frame took
-abbrev pub choices_in : List (FrameValue × ℕ) → List ℕ
-choices_in [] = []
-choices_in (turn ∷ turns) = turn.1 ∷ choices_in turns
+abbrev pub choices_of_turns : List (FrameValue × ℕ) → List ℕ
+choices_of_turns [] = []
+choices_of_turns (turn ∷ turns) = turn.1 ∷ choices_of_turns turns
 
 -- the frame is that of the next need after some choices, and no option of it is left
 abbrev pub IsExhaustedFrame : SealedPool → List ℕ → FrameValue → Type 0
 IsExhaustedFrame pool chosen f = IsFrameOf pool chosen f × (f.1 ≡ [])
 
 -- the other members of the reasons of all options that are ruled out
-abbrev pub others_in : List (ℕ × List ℕ) → List ℕ
-others_in [] = []
-others_in (p ∷ ps) = p.1 ++ others_in ps
+abbrev pub other_members_of_reasons : List (ℕ × List ℕ) → List ℕ
+other_members_of_reasons [] = []
+other_members_of_reasons (p ∷ ps) = p.1 ++ other_members_of_reasons ps
 
 -- the reason of a dead end, a need without options: the choices that raised the need, and the other
 -- members of the reasons of all its options
 abbrev pub dead_end_reason : FrameValue → List ℕ
-dead_end_reason f = f.2 ++ others_in f.0
+dead_end_reason f = f.2 ++ other_members_of_reasons f.0
 
 -- the two lists have the same members, in any order and number
 abbrev pub HasSameMembers : List ℕ → List ℕ → Type 0
-HasSameMembers xs ys = AreMembers xs ys × AreMembers ys xs
+HasSameMembers xs ys = AreAllMembersOf xs ys × AreAllMembersOf ys xs
 
 -- the promise of a pool about the options of a need: they are exactly the candidates that may be
 -- selected and meet it, each better than those after it
@@ -93,4 +93,4 @@ pub record HasOptions (pool : SealedPool) (need : Need) : Type 0 where
       × (meets_at pool c need ≡ true)
   pub each : (c : ℕ) → is_eligible_at pool c ≡ true → meets_at pool c need ≡ true →
       IsIn c (options_for pool need)
-  pub best_first : IsBestFirst (is_better pool need) (options_for pool need)
+  pub best_first : IsSortedBestFirst (is_better pool need) (options_for pool need)

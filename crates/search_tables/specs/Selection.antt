@@ -6,9 +6,9 @@ use Rattle.std.specs.List.{filter, find, flat_map, list_all, list_any}
 use Rattle.std.specs.Ordering.{is_lt}
 use Rattle.dep_core.specs.Dependency.{Dependency}
 use Rattle.pool_core.specs.candidate_core.Candidates.{Candidate, Need, entry, named, occupies_name, has_usable_install_if, meets_dependency}
-use Rattle.pool_core.specs.candidate_core.Rank.{SealedPool, bytes_cmp, candidate_at, is_at, is_eligible_at, is_better, meets_at}
+use Rattle.pool_core.specs.candidate_core.Rank.{SealedPool, bytes_cmp, candidate_at, candidate_at_passes, is_eligible_at, is_better, meets_at}
 use Rattle.pool_core.specs.candidate_core.Options.{IsIn}
-pub use Rattle.pool_core.specs.candidate_core.Options.{AreMembers, AreDistinct}
+pub use Rattle.pool_core.specs.candidate_core.Options.{AreAllMembersOf, AreDistinct}
 
 -- ---- needs
 
@@ -73,7 +73,7 @@ next_need pool chosen =
 -- whether a conflict of the first candidate is met by the second
 abbrev pub conflicts_with : SealedPool → ℕ → ℕ → Bool
 conflicts_with pool a b =
-    list_any (λ (d : Dependency). d.conflict && is_at pool (meets_dependency d) b)
+    list_any (λ (d : Dependency). d.conflict && candidate_at_passes pool (meets_dependency d) b)
     (depends_at pool a)
 
 -- the names that a candidate occupies
@@ -90,7 +90,7 @@ occupied_names_at pool c = option_map_or occupied_names (candidate_at pool c) []
 -- in it
 abbrev pub share_a_name : SealedPool → ℕ → ℕ → Bool
 share_a_name pool a b =
-    list_any (λ name. is_at pool (occupies_name name) b) (occupied_names_at pool a)
+    list_any (λ name. candidate_at_passes pool (occupies_name name) b) (occupied_names_at pool a)
 
 -- whether one candidate excludes the other: by a conflict that it has, or by a name that both occupy
 abbrev pub does_exclude : SealedPool → ℕ → ℕ → Bool
@@ -118,7 +118,7 @@ pub record IsSatisfying (pool : SealedPool) (selection : List ℕ) : Type 0 wher
       conflicts_with pool a b ≡ false
   pub names_alone :
       (a b : ℕ) (name : List ℕ) → IsIn a selection → IsIn b selection →
-      is_at pool (occupies_name name) a ≡ true → is_at pool (occupies_name name) b ≡ true → a ≡ b
+      candidate_at_passes pool (occupies_name name) a ≡ true → candidate_at_passes pool (occupies_name name) b ≡ true → a ≡ b
   pub asked_met :
       (name : List ℕ) → IsIn name (names_by_install_if pool selection) →
       is_met pool selection (named name) ≡ true

@@ -29,9 +29,9 @@ pub struct ListedConflict<'p> {
 
 impl<'p> Model for ListedConflict<'p> {
     ghost use Rattle.dep_core.specs.Meets.{dependency};
-    ghost use Rattle.search_tables.specs.Conflicts.{ListedValue};
+    ghost use Rattle.search_tables.specs.Conflicts.{ListedConflictValue};
 
-    ghost Value = { ListedValue };
+    ghost Value = { ListedConflictValue };
 
     // In this order: the choice, the conflict, and its index.
     ghost view = { λ listed. (listed.by, dependency listed.dep, listed.index) };

@@ -7,7 +7,7 @@ ghost use Rattle.std.specs.Prelude.{◌≡◌, ℕ, false, true, IfOk, MatchBool
 ghost use Rattle.dep_core.specs.Meets.{dependency};
 ghost use Rattle.pool_core.specs.candidate_core.Candidates.{entry};
 ghost use Rattle.pool_core.specs.candidate_core.Options.{IsIn};
-ghost use Rattle.pool_core.specs.candidate_core.PackageMatches.{AreMatchesAmong, IsDepOf};
+ghost use Rattle.pool_core.specs.candidate_core.PackageMatches.{AreMatchesAmong, IsDepOfPackageAt};
 ghost use Rattle.pool_core.specs.candidate_core.Rank.{meets_at};
 ghost use Rattle.search_tables.specs.Selection.{is_met};
 
@@ -29,7 +29,7 @@ pub fn choice_meeting_own(
     held: &PackageDep<'_>,
     matches: &mut PackageMatches<'_>,
 ) -> Result<Option<CandId>, AllocError>
-    requires held { IsDepOf pool.now.candidates held.now }
+    requires held { IsDepOfPackageAt pool.now.candidates held.now }
     requires matches { AreMatchesAmong pool.now.candidates matches.old }
     ensures found { IfOk result (λ found. MatchOption found
         (is_met pool.now choices.now (entry (dependency held.now.dep.now)) ≡ false)
@@ -59,7 +59,7 @@ pub fn is_held_met(
     held: &PackageDep<'_>,
     matches: &mut PackageMatches<'_>,
 ) -> Result<bool, AllocError>
-    requires held { IsDepOf pool.now.candidates held.now }
+    requires held { IsDepOfPackageAt pool.now.candidates held.now }
     requires matches { AreMatchesAmong pool.now.candidates matches.old }
     ensures met { IfOk result (λ met. met
         ≡ is_met pool.now choices.now (entry (dependency held.now.dep.now))) }
@@ -81,7 +81,7 @@ fn choice_among(
     held: &PackageDep<'_>,
     matches: &mut PackageMatches<'_>,
 ) -> Result<Option<CandId>, AllocError>
-    requires held { IsDepOf pool.now.candidates held.now }
+    requires held { IsDepOfPackageAt pool.now.candidates held.now }
     requires matches { AreMatchesAmong pool.now.candidates matches.old }
     ensures found { IfOk result (λ found. MatchOption found
         ((k : ℕ) → IsIn k ids.now → IsIn k choices.now →
@@ -107,7 +107,7 @@ fn is_met_by_choice(
     held: &PackageDep<'_>,
     matches: &mut PackageMatches<'_>,
 ) -> Result<bool, AllocError>
-    requires held { IsDepOf pool.now.candidates held.now }
+    requires held { IsDepOfPackageAt pool.now.candidates held.now }
     requires matches { AreMatchesAmong pool.now.candidates matches.old }
     ensures met { IfOk result (λ met. MatchBool met (IsIn id choices.now
         × (meets_at pool.now id (entry (dependency held.now.dep.now)) ≡ true))
@@ -128,7 +128,7 @@ fn is_met_by(
     held: &PackageDep<'_>,
     matches: &mut PackageMatches<'_>,
 ) -> Result<bool, AllocError>
-    requires held { IsDepOf pool.now.candidates held.now }
+    requires held { IsDepOfPackageAt pool.now.candidates held.now }
     requires matches { AreMatchesAmong pool.now.candidates matches.old }
     ensures meets { IfOk result (λ meets. meets
         ≡ meets_at pool.now id (entry (dependency held.now.dep.now))) }

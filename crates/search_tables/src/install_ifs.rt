@@ -3,10 +3,10 @@
 //! selection is taken" (names are needed in byte order).
 ghost use Rattle.std.specs.Prelude.{◌≡◌, ◌≤◌, ◌<◌, ℕ, List, length, get_or, true, false, IfOk, OnOk, slice_get};
 ghost use Rattle.dep_core.specs.Dependency.{Dependency};
-ghost use Rattle.pool_core.specs.candidate_core.Options.{AreMembers, IsIn};
+ghost use Rattle.pool_core.specs.candidate_core.Options.{AreAllMembersOf, IsIn};
 ghost use Rattle.pool_core.specs.candidate_core.Rank.{bytes_cmp};
 ghost use Rattle.search_tables.specs.InstallIf.{AreInstallIfs, has_lesser_name, install_if_at, is_usable_at, name_at};
-ghost use Rattle.search_tables.specs.NameTable.{items_of};
+ghost use Rattle.search_tables.specs.NameTable.{items_under_name};
 
 use crate::name_table::NameTable;
 use pool_core::{CandId, Deps, Sealed};
@@ -47,7 +47,7 @@ impl<'p> InstallIfs<'p> {
 
     /// The ranks of the candidates whose install-if has an entry of a name.
     pub fn waiting_for(&self, name: &[u8]) -> &[usize]
-        ensures { result.now ≡ items_of self.now.waiting name.now }
+        ensures { result.now ≡ items_under_name self.now.waiting name.now }
     {
         self.waiting.get(name)
     }
@@ -92,10 +92,10 @@ fn add_install_if<'p>(
     rank: usize,
 ) -> Result<(), AllocError>
     ensures more { OnOk result ((name : List ℕ) →
-        AreMembers (items_of waiting.old name) (items_of waiting.new name)) }
+        AreAllMembersOf (items_under_name waiting.old name) (items_under_name waiting.new name)) }
     ensures each { OnOk result ((d : Dependency) →
         IsIn d (install_if_at pool.entry.now id) →
-        IsIn rank (items_of waiting.new d.name)) }
+        IsIn rank (items_under_name waiting.new d.name)) }
 {
     if let Some(details) = pool.at(id) {
         add_entries(waiting, &details.install_if(), rank)?;
@@ -110,9 +110,9 @@ fn add_entries<'p>(
     rank: usize,
 ) -> Result<(), AllocError>
     ensures more { OnOk result ((name : List ℕ) →
-        AreMembers (items_of waiting.old name) (items_of waiting.new name)) }
+        AreAllMembersOf (items_under_name waiting.old name) (items_under_name waiting.new name)) }
     ensures each { OnOk result ((d : Dependency) → IsIn d deps.now →
-        IsIn rank (items_of waiting.new d.name)) }
+        IsIn rank (items_under_name waiting.new d.name)) }
 {
     for i in 0..deps.len() {
         waiting.add(deps.get(i).name, rank)?;

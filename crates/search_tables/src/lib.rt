@@ -24,7 +24,9 @@ pub use frame::{Frame, RuledOutOption};
 pub use held_deps::{choice_meeting_own, is_held_met};
 pub use install_ifs::InstallIfs;
 pub use name_table::NameTable;
-pub use needs::{asks_for_name, choice_meeting, is_met_by_latest_or_other, occupant, raisers};
+pub use needs::{
+    choice_meeting, is_met_by_latest_or_other, is_triggered_by_install_if, occupant, raisers,
+};
 pub use pool_core::{
     CandId, Candidate, Deps, Details, NeedRef, Options, PackageDep, PackageMatches, Sealed,
     SortedWords, Upgrade, is_same_id, options_are_the_best_first, rank_is_total,

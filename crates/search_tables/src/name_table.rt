@@ -3,7 +3,7 @@
 //! `install_ifs` the ranks that wait for a name.
 ghost use Rattle.std.specs.Prelude.{◌≡◌, ℕ, List, [], ◌∷◌, ◌++◌, OnOk, if◌then◌else◌};
 ghost use Rattle.std.specs.Str.{bytes_eq};
-ghost use Rattle.search_tables.specs.NameTable.{items_of, without_last};
+ghost use Rattle.search_tables.specs.NameTable.{items_under_name, without_last};
 
 use indexmap::IndexMap;
 use std::alloc::{AllocError, Global};
@@ -40,7 +40,7 @@ impl<'p, T: Drop> NameTable<'p, T> {
 
     /// The items of a name; none if no item of the name was added.
     pub fn get(&self, name: &[u8]) -> &[T]
-        ensures { result.now ≡ items_of self.now name.now }
+        ensures { result.now ≡ items_under_name self.now name.now }
     {
         match self.by_name.get(name) {
             Some(items) => items.as_slice(),
@@ -50,8 +50,8 @@ impl<'p, T: Drop> NameTable<'p, T> {
 
     /// Appends an item to those of a name; other names are unchanged.
     pub fn add(&mut self, name: &'p [u8], item: T) -> Result<(), AllocError>
-        ensures { OnOk result ((other : List ℕ) → items_of self.new other
-            ≡ items_of self.old other
+        ensures { OnOk result ((other : List ℕ) → items_under_name self.new other
+            ≡ items_under_name self.old other
             ++ (if bytes_eq other name.entry.now then item ∷ [] else [])) }
     {
         match self.by_name.get_mut(name) {
@@ -70,9 +70,9 @@ impl<'p, T: Drop> NameTable<'p, T> {
 
     /// Removes the last item of a name, if there is one; other names are unchanged.
     pub fn pop(&mut self, name: &[u8])
-        ensures { (other : List ℕ) → items_of self.new other
-            ≡ (if bytes_eq other name.now then without_last (items_of self.old other)
-            else items_of self.old other) }
+        ensures { (other : List ℕ) → items_under_name self.new other
+            ≡ (if bytes_eq other name.now then without_last (items_under_name self.old other)
+            else items_under_name self.old other) }
     {
         let Some(items) = self.by_name.get_mut(name) else {
             return;

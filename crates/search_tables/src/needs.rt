@@ -5,10 +5,10 @@ ghost use Rattle.std.specs.Prelude.{◌≡◌, ℕ, false, true, MatchBool, Matc
 ghost use Rattle.dep_core.specs.Meets.{dependency};
 ghost use Rattle.pool_core.specs.candidate_core.Candidates.{entry, meets_need, need_name, occupies_name};
 ghost use Rattle.pool_core.specs.candidate_core.Options.{IsIn, places_offering};
-ghost use Rattle.pool_core.specs.candidate_core.Rank.{is_at, meets_at};
-ghost use Rattle.pool_core.specs.candidate_core.Values.{need_by};
-ghost use Rattle.search_tables.specs.Selection.{is_met, AreMembers};
-ghost use Rattle.search_tables.specs.InstallIf.{all_met, asks_at, asks_for_name};
+ghost use Rattle.pool_core.specs.candidate_core.Rank.{candidate_at_passes, meets_at};
+ghost use Rattle.pool_core.specs.candidate_core.Values.{need_of_ref};
+ghost use Rattle.search_tables.specs.Selection.{is_met, AreAllMembersOf};
+ghost use Rattle.search_tables.specs.InstallIf.{all_met, is_install_if_triggered_at, is_triggered_by_install_if};
 
 use crate::candidate_set::CandidateSet;
 use dep_core::Dep;
@@ -22,8 +22,8 @@ pub fn choice_meeting(
     choices: &CandidateSet,
     need: &NeedRef<'_>,
 ) -> Option<CandId>
-    ensures { MatchOption result (is_met pool.now choices.now (need_by need.now)
-        ≡ false) (λ id. IsIn id choices.now × (meets_at pool.now id (need_by need.now)
+    ensures { MatchOption result (is_met pool.now choices.now (need_of_ref need.now)
+        ≡ false) (λ id. IsIn id choices.now × (meets_at pool.now id (need_of_ref need.now)
         ≡ true)) }
 {
     let offers = offers_for(pool, need);
@@ -35,7 +35,7 @@ pub fn choice_meeting(
 
 // The offers of the need's name: only these candidates can meet the need.
 fn offers_for<'a>(pool: &'a Sealed<'_>, need: &NeedRef<'_>) -> &'a [CandId]
-    ensures { result.now ≡ places_offering (need_name (need_by need.now))
+    ensures { result.now ≡ places_offering (need_name (need_of_ref need.now))
         pool.entry.now.candidates }
 {
     match need {
@@ -53,8 +53,8 @@ fn choice_among(
     need: &NeedRef<'_>,
 ) -> Option<CandId>
     ensures { MatchOption result ((k : ℕ) → IsIn k ids.now → IsIn k choices.now →
-        meets_at pool.now k (need_by need.now) ≡ false) (λ id. IsIn id choices.now
-        × (meets_at pool.now id (need_by need.now) ≡ true)) }
+        meets_at pool.now k (need_of_ref need.now) ≡ false) (λ id. IsIn id choices.now
+        × (meets_at pool.now id (need_of_ref need.now) ≡ true)) }
 {
     for id in ids {
         if is_choice_meeting(pool, choices, *id, need) {
@@ -72,8 +72,8 @@ fn is_choice_meeting(
     need: &NeedRef<'_>,
 ) -> bool
     ensures { MatchBool result (IsIn id choices.now × (meets_at pool.now id
-        (need_by need.now) ≡ true)) (IsIn id choices.now →
-        meets_at pool.now id (need_by need.now) ≡ false) }
+        (need_of_ref need.now) ≡ true)) (IsIn id choices.now →
+        meets_at pool.now id (need_of_ref need.now) ≡ false) }
 {
     if choices.has(id) {
         return meets(pool, id, need);
@@ -83,7 +83,7 @@ fn is_choice_meeting(
 
 // Whether the candidate at a place meets a need.
 fn meets(pool: &Sealed<'_>, id: CandId, need: &NeedRef<'_>) -> bool
-    ensures { result ≡ meets_at pool.now id (need_by need.now) }
+    ensures { result ≡ meets_at pool.now id (need_of_ref need.now) }
 {
     match pool.at(id) {
         None => false,
@@ -94,7 +94,7 @@ fn meets(pool: &Sealed<'_>, id: CandId, need: &NeedRef<'_>) -> bool
 // Whether a candidate meets a need, by its details: the name of an install-if is met only by a
 // candidate of that name.
 fn meets_need(details: &Details<'_>, need: &NeedRef<'_>) -> bool
-    ensures { result ≡ meets_need (need_by need.now) details.now }
+    ensures { result ≡ meets_need (need_of_ref need.now) details.now }
 {
     match need {
         NeedRef::Entry(dep) => details.meets(dep),
@@ -104,7 +104,7 @@ fn meets_need(details: &Details<'_>, need: &NeedRef<'_>) -> bool
 
 // Whether a choice meets a need; `is_met_by_latest_or_other` has the same result.
 fn is_met(pool: &Sealed<'_>, choices: &CandidateSet, need: &NeedRef<'_>) -> bool
-    ensures { result ≡ is_met pool.now choices.now (need_by need.now) }
+    ensures { result ≡ is_met pool.now choices.now (need_of_ref need.now) }
 {
     choice_meeting(pool, choices, need).is_some()
 }
@@ -115,7 +115,7 @@ pub fn is_met_by_latest_or_other(
     choices: &CandidateSet,
     need: &NeedRef<'_>,
 ) -> bool
-    ensures { result ≡ is_met pool.now choices.now (need_by need.now) }
+    ensures { result ≡ is_met pool.now choices.now (need_of_ref need.now) }
 {
     if latest_meets(pool, choices.as_slice(), need) {
         return true;
@@ -125,7 +125,7 @@ pub fn is_met_by_latest_or_other(
 
 // Whether the latest choice meets the need. If not, another one may.
 fn latest_meets(pool: &Sealed<'_>, choices: &[CandId], need: &NeedRef<'_>) -> bool
-    ensures { result ≡ true → is_met pool.now choices.now (need_by need.now) ≡ true }
+    ensures { result ≡ true → is_met pool.now choices.now (need_of_ref need.now) ≡ true }
 {
     match choices.last() {
         None => false,
@@ -135,8 +135,8 @@ fn latest_meets(pool: &Sealed<'_>, choices: &[CandId], need: &NeedRef<'_>) -> bo
 
 /// Whether the candidate at a place asks for its name: each entry of its install-if is met, and no
 /// choice has its name.
-pub fn asks_for_name(pool: &Sealed<'_>, choices: &CandidateSet, id: CandId) -> bool
-    ensures { result ≡ asks_at pool.now choices.now id }
+pub fn is_triggered_by_install_if(pool: &Sealed<'_>, choices: &CandidateSet, id: CandId) -> bool
+    ensures { result ≡ is_install_if_triggered_at pool.now choices.now id }
 {
     match pool.at(id) {
         None => false,
@@ -147,7 +147,7 @@ pub fn asks_for_name(pool: &Sealed<'_>, choices: &CandidateSet, id: CandId) -> b
 // Whether a candidate asks, by its details: each entry of its install-if is met, and no choice has
 // its name.
 fn wants(pool: &Sealed<'_>, choices: &CandidateSet, details: &Details<'_>) -> bool
-    ensures { result ≡ asks_for_name pool.now choices.now details.now }
+    ensures { result ≡ is_triggered_by_install_if pool.now choices.now details.now }
 {
     if !all_met(pool, choices, &details.install_if()) {
         return false;
@@ -182,7 +182,7 @@ pub fn raisers(
     choices: &CandidateSet,
     deps: &Deps<'_>,
 ) -> Result<Vec<CandId>, AllocError>
-    ensures within { IfOk result (λ by. AreMembers by.items choices.now) }
+    ensures within { IfOk result (λ by. AreAllMembersOf by.items choices.now) }
     ensures met { IfOk result (λ by. all_met pool.now choices.now deps.now ≡ true →
         all_met pool.now by.items deps.now ≡ true) }
 {
@@ -200,9 +200,9 @@ fn push_met(
     choices: &CandidateSet,
     dep: &Dep<'_>,
 ) -> Result<(), AllocError>
-    ensures within { OnOk result (AreMembers by.old.items choices.now →
-        AreMembers by.new.items choices.now) }
-    ensures more { OnOk result (AreMembers by.old.items by.new.items) }
+    ensures within { OnOk result (AreAllMembersOf by.old.items choices.now →
+        AreAllMembersOf by.new.items choices.now) }
+    ensures more { OnOk result (AreAllMembersOf by.old.items by.new.items) }
     ensures met { OnOk result (is_met pool.now choices.now (entry (dependency dep.now)) ≡ true →
         is_met pool.now by.new.items (entry (dependency dep.now)) ≡ true) }
 {
@@ -219,8 +219,8 @@ fn push_met(
 /// that offer the name.
 pub fn occupant(pool: &Sealed<'_>, choices: &CandidateSet, name: &[u8]) -> Option<CandId>
     ensures { MatchOption result ((k : ℕ) → IsIn k choices.now →
-        is_at pool.now (occupies_name name.now) k ≡ false) (λ id. IsIn id choices.now
-        × (is_at pool.now (occupies_name name.now) id ≡ true)) }
+        candidate_at_passes pool.now (occupies_name name.now) k ≡ false) (λ id. IsIn id choices.now
+        × (candidate_at_passes pool.now (occupies_name name.now) id ≡ true)) }
 {
     let offers = pool.offers(name);
     if choices.as_slice().len() < offers.len() {
@@ -237,8 +237,8 @@ fn occupant_among(
     name: &[u8],
 ) -> Option<CandId>
     ensures { MatchOption result ((k : ℕ) → IsIn k ids.now → IsIn k choices.now →
-        is_at pool.now (occupies_name name.now) k ≡ false) (λ id. IsIn id choices.now
-        × (is_at pool.now (occupies_name name.now) id ≡ true)) }
+        candidate_at_passes pool.now (occupies_name name.now) k ≡ false) (λ id. IsIn id choices.now
+        × (candidate_at_passes pool.now (occupies_name name.now) id ≡ true)) }
 {
     for id in ids {
         if is_choice_occupying(pool, choices, *id, name) {
@@ -251,8 +251,8 @@ fn occupant_among(
 // Whether the candidate is a choice, and occupies the name.
 fn is_choice_occupying(pool: &Sealed<'_>, choices: &CandidateSet, id: CandId, name: &[u8]) -> bool
     ensures { MatchBool result (IsIn id choices.now
-        × (is_at pool.now (occupies_name name.now) id ≡ true)) (IsIn id choices.now →
-        is_at pool.now (occupies_name name.now) id ≡ false) }
+        × (candidate_at_passes pool.now (occupies_name name.now) id ≡ true)) (IsIn id choices.now →
+        candidate_at_passes pool.now (occupies_name name.now) id ≡ false) }
 {
     if choices.has(id) {
         return occupies(pool, id, name);
@@ -262,7 +262,7 @@ fn is_choice_occupying(pool: &Sealed<'_>, choices: &CandidateSet, id: CandId, na
 
 // Whether the candidate at a place occupies a name.
 fn occupies(pool: &Sealed<'_>, id: CandId, name: &[u8]) -> bool
-    ensures { result ≡ is_at pool.now (occupies_name name.now) id }
+    ensures { result ≡ candidate_at_passes pool.now (occupies_name name.now) id }
 {
     match pool.at(id) {
         None => false,

@@ -3,7 +3,7 @@
 //! world, then the dependencies of each choice in the order chosen; conflicts are no needs.
 ghost use Rattle.std.specs.Prelude.{◌≡◌, ◌∷◌, ◌++◌, [], OnOk, None, Some};
 ghost use Rattle.dep_core.specs.Meets.{dependency};
-ghost use Rattle.search_tables.specs.Queue.{raised_deps, raised_from};
+ghost use Rattle.search_tables.specs.Queue.{raised_deps, raised_deps_from};
 
 use dep_core::{Dep, World};
 use pool_core::{CandId, Deps};
@@ -102,7 +102,7 @@ fn queue_one<'p>(
     index: usize,
 ) -> Result<(), AllocError>
     ensures { OnOk result (queue.new.items ≡ queue.old.items
-        ++ raised_from by index (dependency dep.entry ∷ [])) }
+        ++ raised_deps_from by index (dependency dep.entry ∷ [])) }
 {
     if !dep.conflict {
         queue.push(RaisedDep { dep, by, index })?;

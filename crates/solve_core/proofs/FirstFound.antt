@@ -4,7 +4,7 @@ use Rattle.std.specs.Prelude.{None}
 use Rattle.search_choices.specs.candidate_core.Candidates.{Need}
 use Rattle.search_choices.specs.candidate_core.Rank.{SealedPool}
 use Rattle.search_choices.specs.search_tables.Selection.{IsSatisfying, IsFirstSelection, next_need}
-use Rattle.search_choices.specs.search_tables.Reasons.{FrameValue, AreCompatible, IsReason, AreTurnsFrom, choices_in}
+use Rattle.search_choices.specs.search_tables.Reasons.{FrameValue, AreCompatible, IsReason, AreTurnsFrom, choices_of_turns}
 use Rattle.search_choices.specs.search_tables.Reasons.{HasOptions}
 use Rattle.search_choices.specs.Choices.{IsSearch, choices_of, pool_of}
 use Rattle.search_choices.specs.declared.choices.Choices.{Choices}
@@ -15,7 +15,7 @@ use Rattle.search_choices.proofs.search_tables.Satisfying.{closed_of_satisfying,
 pub first_found : (pool : SealedPool) → ((need : Need) → HasOptions pool need) → (chosen : Choices) (turns : List (FrameValue × ℕ)) → IsSearch chosen turns → pool_of chosen ≡ pool → next_need (pool_of chosen) (choices_of chosen) ≡ None → IsFirstSelection pool (choices_of chosen)
 first_found pool has chosen turns search same end =
     let facts = pool_facts pool has in
-    let t = choices_in turns in
+    let t = choices_of_turns turns in
     let taken : AreTurnsFrom pool [] turns = subst (λ (p : SealedPool). AreTurnsFrom p [] turns) same search.taken in
     let clean : AreCompatible pool t = subst (λ (p : SealedPool). AreCompatible p t) same (subst (λ (z : List ℕ). AreCompatible (pool_of chosen) z) search.choices search.clean) in
     let none : next_need pool t ≡ None = subst (λ (p : SealedPool). next_need p t ≡ None) same (subst (λ (z : List ℕ). next_need (pool_of chosen) z ≡ None) search.choices end) in

@@ -4,12 +4,12 @@ use Rattle.std.specs.Prelude.{Some, slice_get}
 use Rattle.search_choices.specs.candidate_core.Candidates.{Need}
 use Rattle.search_choices.specs.candidate_core.Rank.{SealedPool}
 use Rattle.search_choices.specs.candidate_core.Options.{IsIn, options_for}
-use Rattle.search_choices.specs.search_tables.Selection.{AreMembers, exclude_each_other, needs}
+use Rattle.search_choices.specs.search_tables.Selection.{AreAllMembersOf, exclude_each_other, needs}
 use Rattle.search_choices.specs.search_tables.Reasons.{HasOptions, IsReason}
 use Rattle.search_choices.proofs.search_tables.Theory as law
 use Rattle.search_choices.proofs.search_tables.Theory.{decide_in, in_append}
 use Rattle.search_choices.proofs.search_tables.PoolFacts.{pool_facts}
-use Rattle.solve_core.specs.Clauses.{AreClauses, AreMembersOr, ClauseValue, IsClause}
+use Rattle.solve_core.specs.Clauses.{AreClauses, AreAllMembersOfOr, ClauseValue, IsClause}
 
 module _ (pool : SealedPool) where
   pub clauses_more : (clauses : List ClauseValue) (clause : ClauseValue) → AreClauses pool clauses → IsClause pool clause → AreClauses pool (clauses ++ clause ∷ [])
@@ -30,7 +30,7 @@ module _ (pool : SealedPool) where
   clause_at (c ∷ cs) (suc i) clause all h = clause_at cs i clause all.1 h
 
   -- the rule of resolution: a selection has the candidate, or it has not
-  pub resolves : (first second : ClauseValue) (id : ℕ) (members options : List ℕ) → AreMembers first.0 members → AreMembersOr second.0 id members → AreMembers second.1 options → AreMembersOr first.1 id options → IsClause pool first → IsClause pool second → IsClause pool (members, options)
+  pub resolves : (first second : ClauseValue) (id : ℕ) (members options : List ℕ) → AreAllMembersOf first.0 members → AreAllMembersOfOr second.0 id members → AreAllMembersOf second.1 options → AreAllMembersOfOr first.1 id options → IsClause pool first → IsClause pool second → IsClause pool (members, options)
   resolves first second id members options m_first m_second o_second o_first one two S s sub = elim (decide_in id S) [
     | inl there ↦
         let r = two S s (λ o h. elim (m_second o h) [ inl e ↦ subst (λ (z : ℕ). IsIn z S) (sym e) there | inr a ↦ sub o a ]) in
@@ -68,7 +68,7 @@ module _ (pool : SealedPool) where
   excluded_are_reason a b out S s sub = absurd (s.0.2 a b (sub a (inl refl)) (sub b (inr (inl refl))) out)
 
 -- one more member is the candidate, or one of the others
-pub one_more_member : (done more : List ℕ) (x c : ℕ) (others : List ℕ) → AreMembersOr done c others → (x ≡ c) ⊎ IsIn x others → more ≡ done ++ x ∷ [] → AreMembersOr more c others
+pub one_more_member : (done more : List ℕ) (x c : ℕ) (others : List ℕ) → AreAllMembersOfOr done c others → (x ≡ c) ⊎ IsIn x others → more ≡ done ++ x ∷ [] → AreAllMembersOfOr more c others
 one_more_member done more x c others all one e o h = elim (in_append o done (x ∷ []) (subst (λ (z : List ℕ). IsIn o z) e h)) [
   | inl a ↦ all o a
   | inr b ↦ elim b [
@@ -78,11 +78,11 @@ one_more_member done more x c others all one e o h = elim (in_append o done (x �
 ]
 
 -- a longer list has the others too
-pub more_others : (done : List ℕ) (c : ℕ) (others more : List ℕ) → AreMembers others more → AreMembersOr done c others → AreMembersOr done c more
+pub more_others : (done : List ℕ) (c : ℕ) (others more : List ℕ) → AreAllMembersOf others more → AreAllMembersOfOr done c others → AreAllMembersOfOr done c more
 more_others done c others more sub all o h = elim (all o h) [ inl e ↦ inl e | inr a ↦ inr (sub o a) ]
 
 -- one more member is one of the others
-pub one_more : (done more : List ℕ) (x : ℕ) (others : List ℕ) → AreMembers done others → IsIn x others → more ≡ done ++ x ∷ [] → AreMembers more others
+pub one_more : (done more : List ℕ) (x : ℕ) (others : List ℕ) → AreAllMembersOf done others → IsIn x others → more ≡ done ++ x ∷ [] → AreAllMembersOf more others
 one_more done more x others all one e o h = elim (in_append o done (x ∷ []) (subst (λ (z : List ℕ). IsIn o z) e h)) [
   | inl a ↦ all o a
   | inr b ↦ elim b [

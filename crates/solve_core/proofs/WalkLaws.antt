@@ -9,9 +9,9 @@ use Rattle.std.proofs.lemmas.Bool.{true_from_ne_false}
 use Rattle.std.proofs.lemmas.List.Sorted.{ranks_by}
 use Rattle.search_choices.specs.candidate_core.Candidates.{Need, is_eligible}
 use Rattle.search_choices.specs.candidate_core.Rank.{SealedPool, is_better, meets_at, rank_cmp}
-use Rattle.search_choices.specs.candidate_core.Options.{IsBestFirst, IsIn, options_for, places_from}
+use Rattle.search_choices.specs.candidate_core.Options.{IsSortedBestFirst, IsIn, options_for, places_passing_from}
 use Rattle.search_choices.specs.search_tables.Reasons.{HasOptions}
-use Rattle.search_choices.specs.search_tables.Selection.{AreMembers, IsPreferredTo, IsPreferredFrom, IsFirstSelection, IsSatisfying, IsWalk, IsWalkFrom, next_need}
+use Rattle.search_choices.specs.search_tables.Selection.{AreAllMembersOf, IsPreferredTo, IsPreferredFrom, IsFirstSelection, IsSatisfying, IsWalk, IsWalkFrom, next_need}
 use Rattle.search_choices.proofs.search_tables.Theory as law
 use Rattle.search_choices.proofs.search_tables.Turns.{PoolFacts}
 use Rattle.search_choices.proofs.search_tables.PoolFacts.{pool_facts}
@@ -20,7 +20,7 @@ use Rattle.solve_core.proofs.FirstFound.{none_satisfies}
 use Rattle.search_choices.proofs.candidate_core.OptionLists.{in_places}
 use Rattle.solve_core.proofs.Existence.{first_or_none}
 
-sorted_of : (better : ℕ → ℕ → Bool) (cs : List ℕ) → IsBestFirst better cs → law.Sorted (λ a b. better a b ≡ true) cs
+sorted_of : (better : ℕ → ℕ → Bool) (cs : List ℕ) → IsSortedBestFirst better cs → law.Sorted (λ a b. better a b ≡ true) cs
 sorted_of better [] h = tt
 sorted_of better (c ∷ cs) h = (h.0, sorted_of better cs h.1)
 
@@ -86,7 +86,7 @@ module _ (pool : SealedPool) (total : (need : Need) → IsTotalOrder (rank_cmp p
 
     -- of a selection that has the choices in front and another option, the walk takes these choices
     -- too, and then none that is better than the option
-    as_good : (trace selection u front rest w : List ℕ) (c o : ℕ) (need : Need) → IsWalkFrom pool trace u (front ++ c ∷ rest) → IsWalkFrom pool selection u w → (w ≡ front ++ c ∷ rest) ⊎ IsPreferredFrom pool u (front ++ c ∷ rest) w → next_need pool (u ++ front) ≡ Some need → AreMembers (front ++ o ∷ []) selection → meets_at pool o need ≡ true → (o ≡ c) ⊎ (is_better pool need c o ≡ true)
+    as_good : (trace selection u front rest w : List ℕ) (c o : ℕ) (need : Need) → IsWalkFrom pool trace u (front ++ c ∷ rest) → IsWalkFrom pool selection u w → (w ≡ front ++ c ∷ rest) ⊎ IsPreferredFrom pool u (front ++ c ∷ rest) w → next_need pool (u ++ front) ≡ Some need → AreAllMembersOf (front ++ o ∷ []) selection → meets_at pool o need ≡ true → (o ≡ c) ⊎ (is_better pool need c o ≡ true)
     as_good trace selection u [] rest [] c o need tw sw first next in_it meets = elim first [
       | inl e ↦ absurd (cc)
       | inr b ↦ absurd b
@@ -131,7 +131,7 @@ module _ (pool : SealedPool) (total : (need : Need) → IsTotalOrder (rank_cmp p
           ]
         ]
 
-    pub best_completed : (front rest selection : List ℕ) (c o : ℕ) (need : Need) → IsFirstSelection pool (front ++ c ∷ rest) → next_need pool front ≡ Some need → IsSatisfying pool selection → AreMembers (front ++ o ∷ []) selection → meets_at pool o need ≡ true → (o ≡ c) ⊎ (is_better pool need c o ≡ true)
+    pub best_completed : (front rest selection : List ℕ) (c o : ℕ) (need : Need) → IsFirstSelection pool (front ++ c ∷ rest) → next_need pool front ≡ Some need → IsSatisfying pool selection → AreAllMembersOf (front ++ o ∷ []) selection → meets_at pool o need ≡ true → (o ≡ c) ⊎ (is_better pool need c o ≡ true)
     best_completed front rest selection c o need first next s in_it meets =
         let walk = has_a_walk selection s in
         as_good (front ++ c ∷ rest) selection [] front rest walk.0 c o need first.walked walk.1 (first.first selection walk.0 s walk.1) next in_it meets
@@ -147,7 +147,7 @@ module _ (pool : SealedPool) (total : (need : Need) → IsTotalOrder (rank_cmp p
 
     pub first_exists : (selection : List ℕ) → IsSatisfying pool selection → (trace : List ℕ) × IsFirstSelection pool trace
     first_exists selection s =
-        let all = places_from 0 (is_eligible pool.world) pool.candidates in
+        let all = places_passing_from 0 (is_eligible pool.world) pool.candidates in
         elim (first_or_none pool facts all (λ c h. let z : 0 + c ≡ c = omega arith in subst (λ (k : ℕ). IsIn k all) z (in_places 0 (is_eligible pool.world) pool.candidates c h))) [
           | inl found ↦ (
             found.0,

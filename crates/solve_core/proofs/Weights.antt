@@ -1,7 +1,7 @@
 -- The weight of a search falls at each step.
 use Rattle.std.proofs.Common.{◌≡◌, ℕ, zero, suc, ◌+◌, ◌*◌, ◌-◌, ◌<◌, ◌≤◌, ◌^◌, List, [], ◌∷◌, ◌++◌, length, refl, sym, subst, ap, ◌∙◌, arith, append_assoc, mul-le-mul, mul-le-mul_right}
 use Rattle.search_choices.specs.search_tables.Reasons.{FrameValue}
-use Rattle.solve_core.specs.Measure.{power, weight, weight_of, base, most_digits, digit, digits}
+use Rattle.solve_core.specs.Measure.{power, weight, search_measure, base, most_digits, digit, digits}
 
 power_pos : (b n : ℕ) → 1 ≤ b → 1 ≤ power b n
 unfolding power
@@ -69,8 +69,8 @@ first_of [] top = (digit top, [], omega arith, refl)
 first_of (x ∷ rest) top = (digit x.0, digits rest ++ digit top ∷ [], omega arith, refl)
 
 -- a step back is lighter: the frame stepped back to has as many options left as before
-pub back_lighter : (turns rest : List (FrameValue × ℕ)) (f g top : FrameValue) (c : ℕ) → length turns + 2 ≤ most_digits → g.1 ≡ f.1 → weight_of turns g < weight_of (turns ++ (f, c) ∷ rest) top
-unfolding weight_of
+pub back_lighter : (turns rest : List (FrameValue × ℕ)) (f g top : FrameValue) (c : ℕ) → length turns + 2 ≤ most_digits → g.1 ≡ f.1 → search_measure turns g < search_measure (turns ++ (f, c) ∷ rest) top
+unfolding search_measure
 back_lighter turns rest f g top c few same =
     let r = room_for (length turns) few in
     let ds = digits turns in
@@ -85,8 +85,8 @@ back_lighter turns rest f g top c few same =
     (lighter_drop base r.0 (digit f) tail.0 ds tail.1 base_pos tail.2)))
 
 -- an option is taken and a frame is opened
-pub opened_lighter : (turns : List (FrameValue × ℕ)) (old f top : FrameValue) (c : ℕ) → length turns + 2 ≤ most_digits → length f.1 < length old.1 → digit top < base → weight_of (turns ++ (f, c) ∷ []) top < weight_of turns old
-unfolding weight_of
+pub opened_lighter : (turns : List (FrameValue × ℕ)) (old f top : FrameValue) (c : ℕ) → length turns + 2 ≤ most_digits → length f.1 < length old.1 → digit top < base → search_measure (turns ++ (f, c) ∷ []) top < search_measure turns old
+unfolding search_measure
 opened_lighter turns old f top c few less small =
     let r = room_for (length turns) few in
     let ds = digits turns in
@@ -110,8 +110,8 @@ not_heavier_top b r e d ds less =
     omega (arith, weight_front b (suc r) ds (e ∷ []), weight_front b (suc r) ds (d ∷ []), weight_cons b r e [], weight_cons b r d [], mul-le-mul_right (power b r) less)
 
 -- options skipped at the top make nothing heavier
-pub not_heavier : (turns : List (FrameValue × ℕ)) (f g : FrameValue) → length turns + 2 ≤ most_digits → length f.1 ≤ length g.1 → weight_of turns f ≤ weight_of turns g
-unfolding weight_of
+pub not_heavier : (turns : List (FrameValue × ℕ)) (f g : FrameValue) → length turns + 2 ≤ most_digits → length f.1 ≤ length g.1 → search_measure turns f ≤ search_measure turns g
+unfolding search_measure
 not_heavier turns f g few less =
     let r = room_for (length turns) few in
     let ds = digits turns in

@@ -3,7 +3,7 @@
 use Rattle.std.specs.Prelude.{◌≡◌, ℕ, List, [], ◌∷◌, ◌⊎◌}
 use Rattle.search_choices.specs.candidate_core.Rank.{SealedPool}
 use Rattle.search_choices.specs.candidate_core.Options.{IsIn}
-use Rattle.search_choices.specs.search_tables.Selection.{AreMembers}
+use Rattle.search_choices.specs.search_tables.Selection.{AreAllMembersOf}
 use Rattle.search_choices.specs.search_tables.Reasons.{IsSolution}
 
 -- a clause, in this order: its members, and its options
@@ -13,7 +13,7 @@ ClauseValue = List ℕ × List ℕ
 -- each satisfying selection that has all members of the clause has one of its options
 abbrev pub IsClause : SealedPool → ClauseValue → Type 0
 IsClause pool clause = (selection : List ℕ) → IsSolution pool selection →
-    AreMembers clause.0 selection → (c : ℕ) × IsIn c clause.1 × IsIn c selection
+    AreAllMembersOf clause.0 selection → (c : ℕ) × IsIn c clause.1 × IsIn c selection
 
 -- each of the list is a clause of the pool
 abbrev pub AreClauses : SealedPool → List ClauseValue → Type 0
@@ -21,5 +21,5 @@ AreClauses pool [] = Unit {0}
 AreClauses pool (clause ∷ clauses) = IsClause pool clause × AreClauses pool clauses
 
 -- each member of the first list is the candidate, or is in the second list
-abbrev pub AreMembersOr : List ℕ → ℕ → List ℕ → Type 0
-AreMembersOr members c others = (o : ℕ) → IsIn o members → (o ≡ c) ⊎ IsIn o others
+abbrev pub AreAllMembersOfOr : List ℕ → ℕ → List ℕ → Type 0
+AreAllMembersOfOr members c others = (o : ℕ) → IsIn o members → (o ≡ c) ⊎ IsIn o others

@@ -35,5 +35,5 @@ digits [] = []
 digits (turn ∷ turns) = digit turn.0 ∷ digits turns
 
 -- the measure of a search: the number whose digits are those of all frames, with the topmost last
-unfoldable pub weight_of : List (FrameValue × ℕ) → FrameValue → ℕ
-weight_of turns top = weight base most_digits (digits turns ++ digit top ∷ [])
+unfoldable pub search_measure : List (FrameValue × ℕ) → FrameValue → ℕ
+search_measure turns top = weight base most_digits (digits turns ++ digit top ∷ [])

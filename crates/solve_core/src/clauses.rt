@@ -5,8 +5,8 @@
 ghost use Rattle.std.specs.Prelude.{◌≡◌, ◌⊎◌, true, IfOk, OnOk, [], ℕ};
 ghost use Rattle.search_choices.specs.candidate_core.Options.{IsIn};
 ghost use Rattle.search_choices.specs.candidate_core.Rank.{SealedPool};
-ghost use Rattle.search_choices.specs.search_tables.Selection.{AreMembers};
-ghost use Rattle.solve_core.specs.Clauses.{AreMembersOr, IsClause};
+ghost use Rattle.search_choices.specs.search_tables.Selection.{AreAllMembersOf};
+ghost use Rattle.solve_core.specs.Clauses.{AreAllMembersOfOr, IsClause};
 ghost use Rattle.search_choices.specs.Choices.{choices_of};
 
 use search_choices::{CandId, Choices};
@@ -106,8 +106,8 @@ pub(crate) fn resolvent(
 
 // Appends those of some candidates but one that a list has not.
 fn add_others(list: &mut Vec<CandId>, ids: &[CandId], but: CandId) -> Result<(), AllocError>
-    ensures old { OnOk result (AreMembers list.old.items list.new.items) }
-    ensures new { OnOk result (AreMembersOr ids.now but list.new.items) }
+    ensures old { OnOk result (AreAllMembersOf list.old.items list.new.items) }
+    ensures new { OnOk result (AreAllMembersOfOr ids.now but list.new.items) }
 {
     for id in ids {
         add_unless(list, *id, but)?;
@@ -117,7 +117,7 @@ fn add_others(list: &mut Vec<CandId>, ids: &[CandId], but: CandId) -> Result<(),
 
 // Appends a candidate, unless it is the given one or the list has it.
 fn add_unless(list: &mut Vec<CandId>, id: CandId, but: CandId) -> Result<(), AllocError>
-    ensures old { OnOk result (AreMembers list.old.items list.new.items) }
+    ensures old { OnOk result (AreAllMembersOf list.old.items list.new.items) }
     ensures new { OnOk result ((id ≡ but) ⊎ IsIn id list.new.items) }
 {
     if id == but {
@@ -145,7 +145,7 @@ fn has(list: &[CandId], id: CandId) -> bool
 /// Whether each member of a reason but the given one is a choice, so that the reason rules that one
 /// out.
 pub(crate) fn are_others_choices(members: &[CandId], id: CandId, chosen: &Choices<'_>) -> bool
-    ensures { result ≡ true → AreMembersOr members.now id (choices_of chosen.now) }
+    ensures { result ≡ true → AreAllMembersOfOr members.now id (choices_of chosen.now) }
 {
     for member in members {
         if !is_choice_or(*member, id, chosen) {
@@ -167,7 +167,7 @@ fn is_choice_or(member: CandId, id: CandId, chosen: &Choices<'_>) -> bool
 
 /// Whether each member of a reason is a choice.
 pub(crate) fn are_choices(members: &[CandId], chosen: &Choices<'_>) -> bool
-    ensures { result ≡ true → AreMembers members.now (choices_of chosen.now) }
+    ensures { result ≡ true → AreAllMembersOf members.now (choices_of chosen.now) }
 {
     for member in members {
         if !chosen.has(*member) {

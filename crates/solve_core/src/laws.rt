@@ -4,7 +4,7 @@
 ghost use Rattle.std.specs.Prelude.{◌≡◌, ◌⊎◌, ℕ, true, List, [], ◌∷◌, ◌++◌, Some};
 ghost use Rattle.search_choices.specs.candidate_core.Candidates.{Need};
 ghost use Rattle.search_choices.specs.candidate_core.Rank.{SealedPool, is_better, meets_at};
-ghost use Rattle.search_choices.specs.search_tables.Selection.{AreMembers, IsPreferredTo, IsFirstSelection, IsSatisfying, IsWalk, next_need};
+ghost use Rattle.search_choices.specs.search_tables.Selection.{AreAllMembersOf, IsPreferredTo, IsFirstSelection, IsSatisfying, IsWalk, next_need};
 
 use crate::selection::options_are_as_promised;
 use search_choices::rank_is_total;
@@ -71,7 +71,7 @@ pub fn a_first_selection_exists()
 pub fn each_choice_is_the_best_that_can_be_completed()
     ensures { (pool : SealedPool) (front rest selection : List ℕ) (c o : ℕ) (need : Need) →
         IsFirstSelection pool (front ++ c ∷ rest) → next_need pool front ≡ Some need →
-        IsSatisfying pool selection → AreMembers (front ++ o ∷ []) selection →
+        IsSatisfying pool selection → AreAllMembersOf (front ++ o ∷ []) selection →
         meets_at pool o need ≡ true → (o ≡ c) ⊎ (is_better pool need c o ≡ true) }
 {
     options_are_as_promised();

@@ -3,10 +3,10 @@
 ghost use Rattle.std.specs.Prelude.{◌≡◌, ◌<◌, ◌^◌, ◌≤◌, ◌==◌, not, filter, ℕ, [], ◌∷◌, ◌++◌, false, true, length, IfOk, OnOk, IfSome, MatchOption, None, Some, slice_get};
 ghost use Rattle.search_choices.specs.candidate_core.Options.{IsIn};
 ghost use Rattle.search_choices.specs.candidate_core.PackageMatches.{AreMatchesAmong};
-ghost use Rattle.search_choices.specs.search_tables.Selection.{AreMembers, exclude_each_other, next_need};
+ghost use Rattle.search_choices.specs.search_tables.Selection.{AreAllMembersOf, exclude_each_other, next_need};
 ghost use Rattle.search_choices.specs.search_tables.Reasons.{AreCompatible, FrameValue, IsReason, HasSameMembers, RulesOut, IsFrameOf, IsExhaustedFrame, IsFrameTaking, dead_end_reason};
 ghost use Rattle.solve_core.specs.Clauses.{IsClause};
-ghost use Rattle.solve_core.specs.Measure.{weight_of};
+ghost use Rattle.solve_core.specs.Measure.{search_measure};
 ghost use Rattle.search_choices.specs.Choices.{IsSearch, choices_of, pool_of};
 
 use crate::clauses::{Clause, are_choices, are_others_choices};
@@ -305,7 +305,7 @@ impl<'p> Search<'p> {
             × IsFrameOf (pool_of self.new.chosen) (choices_of self.new.chosen) frame)) }
         // The measure falls with each step back, as with each choice: so the search ends.
         ensures lighter { IfOk result (λ found. IfSome found
-            (λ frame. weight_of self.new.turns.items frame < weight_of self.old.turns.items
+            (λ frame. search_measure self.new.turns.items frame < search_measure self.old.turns.items
             spent)) }
     {
         options_are_as_promised();
@@ -326,7 +326,7 @@ impl<'p> Search<'p> {
         ensures matches { self.new.matches ≡ self.old.matches }
         ensures known { self.new.known ≡ self.old.known }
         ensures dead { IfOk result (λ is_dead. is_dead ≡ true →
-            AreMembers self.new.reason (choices_of self.old.chosen)
+            AreAllMembersOf self.new.reason (choices_of self.old.chosen)
             × IsReason (pool_of self.old.chosen) self.new.reason) }
     {
         if self.dead_ends < DEAD_ENDS_BEFORE {
@@ -374,7 +374,7 @@ impl<'p> Search<'p> {
     /// above it are dropped.
     pub(crate) fn step_back_for_reason(&mut self) -> Result<Option<Frame>, AllocError>
         requires search { IsSearch self.old.chosen self.old.turns.items }
-        requires within { AreMembers self.old.reason (choices_of self.old.chosen) }
+        requires within { AreAllMembersOf self.old.reason (choices_of self.old.chosen) }
         requires dead { IsReason (pool_of self.old.chosen) self.old.reason }
         ensures pool { pool_of self.new.chosen ≡ pool_of self.old.chosen }
         ensures matches { self.new.matches ≡ self.old.matches }
@@ -384,7 +384,7 @@ impl<'p> Search<'p> {
             (λ frame. IsSearch self.new.chosen self.new.turns.items
             × IsFrameOf (pool_of self.new.chosen) (choices_of self.new.chosen) frame)) }
         ensures lighter { (spent : FrameValue) → IfOk result (λ found. IfSome found
-            (λ frame. weight_of self.new.turns.items frame < weight_of self.old.turns.items
+            (λ frame. search_measure self.new.turns.items frame < search_measure self.old.turns.items
             spent)) }
     {
         while let Some(turn) = self.turns.pop() {
@@ -437,7 +437,7 @@ fn reason_of(used: CandidateSet, spent: &Frame) -> Result<CandidateSet, AllocErr
 // Whether a clause is a reason whose members are choices.
 fn is_reason_of_choices(clause: &Clause, chosen: &Choices<'_>) -> bool
     ensures reason { result ≡ true → clause.now.1 ≡ [] }
-    ensures choices { result ≡ true → AreMembers clause.now.0 (choices_of chosen.now) }
+    ensures choices { result ≡ true → AreAllMembersOf clause.now.0 (choices_of chosen.now) }
 {
     if !clause.is_reason() {
         return false;

@@ -6,13 +6,13 @@ use Rattle.std.proofs.lemmas.Bool.{and_parts}
 use Rattle.std.proofs.lemmas.Bool.Decides.{Decides-eqb}
 use Rattle.std.proofs.lemmas.List.Sums.{sum_by-cons}
 use Rattle.star_patterns.specs.Patterns.{is_byte_then, is_matched, suffixes_of}
-use Rattle.star_patterns.specs.Ends.{is_end_matched}
-use Rattle.star_patterns.specs.Fills.{IsFilledTo, filled_pattern, star_count}
+use Rattle.star_patterns.specs.Ends.{matches_some_suffix}
+use Rattle.star_patterns.specs.Fills.{MatchesByFillingStars, filled_pattern, star_count}
 use Rattle.star_patterns.proofs.Pieces.{IsEnd, end_found, end_matched, literal_byte, nothing_left, same_number, whole_end}
 
 -- ---- a star, and a byte that is none
 
-star_byte : (p : ℕ) (q text : List ℕ) → (p == 42) ≡ true → is_matched (p ∷ q) text ≡ is_end_matched q text
+star_byte : (p : ℕ) (q text : List ℕ) → (p == 42) ≡ true → is_matched (p ∷ q) text ≡ matches_some_suffix q text
 star_byte p q text e = ap (λ t. if t then list_any (is_matched q) (suffixes_of text) else is_byte_then p (is_matched q) text) e
 
 count_star : (p : ℕ) (q : List ℕ) → (p == 42) ≡ true → star_count (p ∷ q) ≡ suc (star_count q)
@@ -36,7 +36,7 @@ filled_other p q (fill ∷ fills) e = ap (λ t. if t then fill ++ filled_pattern
 
 -- ---- what a pattern matches
 
-filled_after_star : (p : ℕ) (q text : List ℕ) (end : IsEnd q text) → (p == 42) ≡ true → IsFilledTo q end.rest → IsFilledTo (p ∷ q) text
+filled_after_star : (p : ℕ) (q text : List ℕ) (end : IsEnd q text) → (p == 42) ≡ true → MatchesByFillingStars q end.rest → MatchesByFillingStars (p ∷ q) text
 filled_after_star p q text end e later =
     record {
       fills = end.front ∷ later.fills;
@@ -44,7 +44,7 @@ filled_after_star p q text end e later =
       text_is = filled_star p q end.front later.fills e ∙ (ap (λ z. end.front ++ z) later.text_is ∙ sym end.is);
     }
 
-filled_after_byte : (p : ℕ) (q : List ℕ) (b : ℕ) (rest : List ℕ) → (p == 42) ≡ false → (p == b) ≡ true → IsFilledTo q rest → IsFilledTo (p ∷ q) (b ∷ rest)
+filled_after_byte : (p : ℕ) (q : List ℕ) (b : ℕ) (rest : List ℕ) → (p == 42) ≡ false → (p == b) ≡ true → MatchesByFillingStars q rest → MatchesByFillingStars (p ∷ q) (b ∷ rest)
 filled_after_byte p q b rest e same later =
     record {
       fills = later.fills;
@@ -55,17 +55,17 @@ filled_after_byte p q b rest e same later =
           ∙ ap (λ z. b ∷ z) later.text_is);
     }
 
-matched_is_filled : (pattern text : List ℕ) → is_matched pattern text ≡ true → IsFilledTo pattern text
+matched_is_filled : (pattern text : List ℕ) → is_matched pattern text ≡ true → MatchesByFillingStars pattern text
 matched_is_filled [] text m = record { fills = []; count = refl; text_is = sym (nothing_left text m) }
 matched_is_filled (p ∷ q) text m = go (λ rest later. matched_is_filled q rest later) (p == 42) refl
   where
-    go : ((rest : List ℕ) → is_matched q rest ≡ true → IsFilledTo q rest) → (t : Bool) → (p == 42) ≡ t → IsFilledTo (p ∷ q) text
+    go : ((rest : List ℕ) → is_matched q rest ≡ true → MatchesByFillingStars q rest) → (t : Bool) → (p == 42) ≡ t → MatchesByFillingStars (p ∷ q) text
     go further true e =
         let end = end_found q text (sym (star_byte p q text e) ∙ m) in
         filled_after_star p q text end e (further end.rest end.matched)
     go further false e = other text m
       where
-        other : (text : List ℕ) → is_matched (p ∷ q) text ≡ true → IsFilledTo (p ∷ q) text
+        other : (text : List ℕ) → is_matched (p ∷ q) text ≡ true → MatchesByFillingStars (p ∷ q) text
         other [] m = absurd (true≢false (sym m ∙ literal_byte p q [] e))
         other (b ∷ rest) m =
             let both = and_parts (p == b) (is_matched q rest) (sym (literal_byte p q (b ∷ rest) e) ∙ m) in
@@ -94,6 +94,6 @@ filled_is_matched (p ∷ q) fills count = go (λ others same. filled_is_matched 
         ∙ (ap (λ t. t && is_matched q rest) (same_number p)
         ∙ further fills (count ∙ count_other p q e)))
 
-pub matched_if_filled : (pattern text : List ℕ) → (is_matched pattern text ≡ true) ↔ IsFilledTo pattern text
+pub matched_if_filled : (pattern text : List ℕ) → (is_matched pattern text ≡ true) ↔ MatchesByFillingStars pattern text
 matched_if_filled pattern text =
     (matched_is_filled pattern text, λ f. ap (is_matched pattern) (sym f.text_is) ∙ filled_is_matched pattern f.fills f.count)

@@ -6,7 +6,7 @@ use Rattle.std.proofs.lemmas.Bool.{ltb-true, ltb-false}
 use Rattle.std.proofs.lemmas.Bool.Decides.{Decides-eqb}
 use Rattle.std.proofs.lemmas.List.{append_assoc}
 use Rattle.star_patterns.specs.Patterns.{is_matched}
-use Rattle.star_patterns.specs.Ends.{has_star, is_end_matched}
+use Rattle.star_patterns.specs.Ends.{has_star, matches_some_suffix}
 use Rattle.star_patterns.proofs.Pieces.{after_piece, not_in_front}
 
 -- ---- the first star
@@ -67,7 +67,7 @@ parts_joined pattern piece later at star front back =
 no_star_in : (pattern piece : List ℕ) (at : ℕ) → IsInTreeAt pattern at → piece ≡ take at pattern → has_star piece ≡ false
 no_star_in pattern piece at star front = ap has_star front ∙ star.front
 
-pub front_taken : (pattern part left piece later : List ℕ) (at : ℕ) → IsInTreeAt pattern at → piece ≡ take at pattern → later ≡ drop (at + 1) pattern → part ≡ piece ++ left → is_end_matched later left ≡ is_matched pattern part
+pub front_taken : (pattern part left piece later : List ℕ) (at : ℕ) → IsInTreeAt pattern at → piece ≡ take at pattern → later ≡ drop (at + 1) pattern → part ≡ piece ++ left → matches_some_suffix later left ≡ is_matched pattern part
 front_taken pattern part left piece later at star front back is =
     sym (ap (λ z. is_matched z part) (parts_joined pattern piece later at star front back)
     ∙ (ap (is_matched (piece ++ 42 ∷ later)) is
@@ -84,15 +84,15 @@ with_tail pattern piece later tail at star front back =
     ap (λ z. z ++ tail) (parts_joined pattern piece later at star front back) ∙ append_assoc piece (42 ∷ later) tail
 
 pub piece_taken : (pattern left piece later rest tail : List ℕ) (at : ℕ) → IsInTreeAt pattern at → piece ≡ take at pattern → later ≡ drop (at + 1) pattern
-    → ((others : List ℕ) → has_star piece ≡ false → is_end_matched (piece ++ 42 ∷ others) left ≡ is_end_matched others rest)
-    → is_end_matched (pattern ++ tail) left ≡ is_end_matched (later ++ tail) rest
+    → ((others : List ℕ) → has_star piece ≡ false → matches_some_suffix (piece ++ 42 ∷ others) left ≡ matches_some_suffix others rest)
+    → matches_some_suffix (pattern ++ tail) left ≡ matches_some_suffix (later ++ tail) rest
 piece_taken pattern left piece later rest tail at star front back found =
-    ap (λ z. is_end_matched z left) (with_tail pattern piece later tail at star front back)
+    ap (λ z. matches_some_suffix z left) (with_tail pattern piece later tail at star front back)
     ∙ found (later ++ tail) (no_star_in pattern piece at star front)
 
 pub piece_missing : (pattern left piece tail : List ℕ) (at : ℕ) → IsInTreeAt pattern at → piece ≡ take at pattern
-    → ((others : List ℕ) → has_star piece ≡ false → is_end_matched (piece ++ 42 ∷ others) left ≡ false)
-    → is_end_matched (pattern ++ tail) left ≡ false
+    → ((others : List ℕ) → has_star piece ≡ false → matches_some_suffix (piece ++ 42 ∷ others) left ≡ false)
+    → matches_some_suffix (pattern ++ tail) left ≡ false
 piece_missing pattern left piece tail at star front absent =
-    ap (λ z. is_end_matched z left) (with_tail pattern piece (drop (at + 1) pattern) tail at star front refl)
+    ap (λ z. matches_some_suffix z left) (with_tail pattern piece (drop (at + 1) pattern) tail at star front refl)
     ∙ absent (drop (at + 1) pattern ++ tail) (no_star_in pattern piece at star front)

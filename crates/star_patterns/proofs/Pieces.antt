@@ -9,7 +9,7 @@ use Rattle.std.proofs.lemmas.Bool.Decides.{Decides-eqb}
 use Rattle.std.proofs.lemmas.List.{append-nil}
 use Rattle.std.proofs.lemmas.Slice.Eq.{bytes_eq-Decides}
 use Rattle.star_patterns.specs.Patterns.{is_byte_then, is_matched, suffixes_of}
-use Rattle.star_patterns.specs.Ends.{has_star, is_end_matched}
+use Rattle.star_patterns.specs.Ends.{has_star, matches_some_suffix}
 
 -- ---- a piece without a star
 
@@ -82,7 +82,7 @@ pub record IsEnd (q b : List ℕ) : Type 0 where
   pub is : b ≡ front ++ rest
   pub matched : is_matched q rest ≡ true
 
-pub end_found : (q b : List ℕ) → is_end_matched q b ≡ true → IsEnd q b
+pub end_found : (q b : List ℕ) → matches_some_suffix q b ≡ true → IsEnd q b
 end_found q [] m = go (is_matched q []) refl m
   where
     go : (t : Bool) → is_matched q [] ≡ t → (t || false) ≡ true → IsEnd q []
@@ -90,28 +90,28 @@ end_found q [] m = go (is_matched q []) refl m
     go false e m = absurd (true≢false (sym m))
 end_found q (c ∷ b) m = go (is_matched q (c ∷ b)) refl m (λ further. end_found q b further)
   where
-    go : (t : Bool) → is_matched q (c ∷ b) ≡ t → (t || is_end_matched q b) ≡ true → (is_end_matched q b ≡ true → IsEnd q b) → IsEnd q (c ∷ b)
+    go : (t : Bool) → is_matched q (c ∷ b) ≡ t → (t || matches_some_suffix q b) ≡ true → (matches_some_suffix q b ≡ true → IsEnd q b) → IsEnd q (c ∷ b)
     go true e m find = record { front = []; rest = c ∷ b; is = refl; matched = e }
     go false e m find =
         let further = find m in
         record { front = c ∷ further.front; rest = further.rest; is = ap (λ z. c ∷ z) further.is; matched = further.matched }
 
-pub whole_end : (q b : List ℕ) → is_matched q b ≡ true → is_end_matched q b ≡ true
+pub whole_end : (q b : List ℕ) → is_matched q b ≡ true → matches_some_suffix q b ≡ true
 whole_end q [] m = ap (λ t. t || false) m
-whole_end q (c ∷ b) m = ap (λ t. t || is_end_matched q b) m
+whole_end q (c ∷ b) m = ap (λ t. t || matches_some_suffix q b) m
 
-pub end_matched : (q front rest : List ℕ) → is_end_matched q rest ≡ true → is_end_matched q (front ++ rest) ≡ true
+pub end_matched : (q front rest : List ℕ) → matches_some_suffix q rest ≡ true → matches_some_suffix q (front ++ rest) ≡ true
 end_matched q [] rest m = m
 end_matched q (c ∷ front) rest m =
-    or_right (is_matched q (c ∷ (front ++ rest))) (is_end_matched q (front ++ rest)) (end_matched q front rest m)
+    or_right (is_matched q (c ∷ (front ++ rest))) (matches_some_suffix q (front ++ rest)) (end_matched q front rest m)
 
 -- the last piece is at the end of the text
-pub last_piece : (l b : List ℕ) (t : Bool) → has_star l ≡ false → (t ≡ true → b ≡ take (length b - length l) b ++ l) × ((front : List ℕ) → b ≡ front ++ l → t ≡ true) → t ≡ is_end_matched l b
-last_piece l b t none ends = both_ways t (is_end_matched l b)
-    (λ e. ap (is_end_matched l) (ends.0 e) ∙ end_matched l (take (length b - length l) b) l (whole_end l l (whole l none)))
+pub last_piece : (l b : List ℕ) (t : Bool) → has_star l ≡ false → (t ≡ true → b ≡ take (length b - length l) b ++ l) × ((front : List ℕ) → b ≡ front ++ l → t ≡ true) → t ≡ matches_some_suffix l b
+last_piece l b t none ends = both_ways t (matches_some_suffix l b)
+    (λ e. ap (matches_some_suffix l) (ends.0 e) ∙ end_matched l (take (length b - length l) b) l (whole_end l l (whole l none)))
     (λ m. let e = end_found l b m in ends.1 e.front (e.is ∙ ap (λ z. e.front ++ z) (exact l e.rest none e.matched)))
 
 -- the empty pattern matches the empty end of any text
-pub empty_end : (text : List ℕ) → is_end_matched [] text ≡ true
+pub empty_end : (text : List ℕ) → matches_some_suffix [] text ≡ true
 empty_end [] = refl
-empty_end (b ∷ text) = or_right (is_matched [] (b ∷ text)) (is_end_matched [] text) (empty_end text)
+empty_end (b ∷ text) = or_right (is_matched [] (b ∷ text)) (matches_some_suffix [] text) (empty_end text)

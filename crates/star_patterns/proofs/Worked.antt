@@ -2,7 +2,7 @@
 use Rattle.std.proofs.Common.{◌≡◌, true, false, [], ◌∷◌, refl}
 use Rattle.std.specs.Prelude.{codes}
 use Rattle.star_patterns.specs.Fills.{filled_pattern, star_count}
-use Rattle.star_patterns.specs.Patterns.{is_matched, is_matched_within}
+use Rattle.star_patterns.specs.Patterns.{is_matched, matches_some_part}
 
 no_star : is_matched (codes "ab") (codes "ab") ≡ true
 no_star = refl
@@ -34,10 +34,10 @@ other_case = refl
 empty_pattern : is_matched [] (codes "a") ≡ false
 empty_pattern = refl
 
-within_the_middle : is_matched_within (codes "b*d") (codes "abcde") ≡ true
+within_the_middle : matches_some_part (codes "b*d") (codes "abcde") ≡ true
 within_the_middle = refl
 
-nothing_is_within : is_matched_within [] [] ≡ true
+nothing_is_within : matches_some_part [] [] ≡ true
 nothing_is_within = refl
 
 filled : filled_pattern (codes "a*b*") (codes "xy" ∷ ([] ∷ [])) ≡ codes "axyb"

@@ -8,5 +8,5 @@ abbrev pub has_star : List ℕ → Bool
 has_star pattern = list_any (λ b. b == star) pattern
 
 -- whether a pattern matches some end of a text
-abbrev pub is_end_matched : List ℕ → List ℕ → Bool
-is_end_matched pattern text = list_any (is_matched pattern) (suffixes_of text)
+abbrev pub matches_some_suffix : List ℕ → List ℕ → Bool
+matches_some_suffix pattern text = list_any (is_matched pattern) (suffixes_of text)

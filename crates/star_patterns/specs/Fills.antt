@@ -15,7 +15,7 @@ filled_pattern (p ∷ pattern) (fill ∷ fills) =
     else p ∷ filled_pattern pattern (fill ∷ fills)
 
 -- for each star of a pattern there are bytes, with which the pattern reads as the text
-pub record IsFilledTo (pattern text : List ℕ) : Type 0 where
+pub record MatchesByFillingStars (pattern text : List ℕ) : Type 0 where
   pub fills : List (List ℕ)
   pub count : length fills ≡ star_count pattern
   pub text_is : filled_pattern pattern fills ≡ text

@@ -25,5 +25,5 @@ is_matched (p ∷ pattern) text =
     else is_byte_then p (is_matched pattern) text
 
 -- whether a pattern matches some part of a text
-abbrev pub is_matched_within : List ℕ → List ℕ → Bool
-is_matched_within pattern text = is_matched (star ∷ pattern ++ star ∷ []) text
+abbrev pub matches_some_part : List ℕ → List ℕ → Bool
+matches_some_part pattern text = is_matched (star ∷ pattern ++ star ∷ []) text

@@ -5,8 +5,8 @@
 
 ghost use Rattle.std.specs.Option.{option_map_or};
 ghost use Rattle.std.specs.Prelude.{◌≡◌, ◌==◌, ◌∷◌, ◌++◌, ◌<◌, ◌+◌, ℕ, [], List, false, drop, length, position, IfSome};
-ghost use Rattle.star_patterns.specs.Ends.{has_star, is_end_matched};
-ghost use Rattle.star_patterns.specs.Patterns.{is_matched, is_matched_within, star};
+ghost use Rattle.star_patterns.specs.Ends.{has_star, matches_some_suffix};
+ghost use Rattle.star_patterns.specs.Patterns.{is_matched, matches_some_part, star};
 
 use memchr::memmem;
 
@@ -27,7 +27,7 @@ pub fn matches(pattern: &[u8], text: &[u8]) -> bool
 /// Whether a pattern matches some part of a text. It takes time in proportion to the lengths of
 /// both.
 pub fn matches_within(pattern: &[u8], text: &[u8]) -> bool
-    ensures { result ≡ is_matched_within pattern.now text.now }
+    ensures { result ≡ matches_some_part pattern.now text.now }
 {
     match last_piece(pattern, text) {
         Some(last) => after_first(last.piece, last.text).is_some(),
@@ -37,7 +37,7 @@ pub fn matches_within(pattern: &[u8], text: &[u8]) -> bool
 
 /// Whether a pattern matches some end of a text.
 fn matches_end(pattern: &[u8], text: &[u8]) -> bool
-    ensures { result ≡ is_end_matched pattern.now text.now }
+    ensures { result ≡ matches_some_suffix pattern.now text.now }
 {
     match last_piece(pattern, text) {
         Some(last) => last.text.ends_with(last.piece),
@@ -55,8 +55,8 @@ struct LastPiece<'p, 't> {
 /// The last piece of a pattern, and what follows the pieces before it in a text, each taken at its
 /// first place. None if the text does not have them all.
 fn last_piece<'p, 't>(pattern: &'p [u8], text: &'t [u8]) -> Option<LastPiece<'p, 't>>
-    ensures answer { (tail : List ℕ) → is_end_matched (pattern.now ++ tail) text.now
-        ≡ option_map_or (λ last. is_end_matched (last.piece.now ++ tail) last.text.now)
+    ensures answer { (tail : List ℕ) → matches_some_suffix (pattern.now ++ tail) text.now
+        ≡ option_map_or (λ last. matches_some_suffix (last.piece.now ++ tail) last.text.now)
         result false }
     ensures piece { IfSome result (λ last. has_star last.piece.now ≡ false) }
 {
@@ -75,8 +75,8 @@ fn last_piece<'p, 't>(pattern: &'p [u8], text: &'t [u8]) -> Option<LastPiece<'p,
 /// What follows the first place of a piece without a star, if the text has the piece.
 fn after_first<'a>(piece: &[u8], text: &'a [u8]) -> Option<&'a [u8]>
     ensures { (pattern : List ℕ) → has_star piece.now ≡ false
-        → is_end_matched (piece.now ++ star ∷ pattern) text.now
-        ≡ option_map_or (λ rest. is_end_matched pattern rest.now) result false }
+        → matches_some_suffix (piece.now ++ star ∷ pattern) text.now
+        ≡ option_map_or (λ rest. matches_some_suffix pattern rest.now) result false }
 {
     let at = memmem::find(text, piece)?;
     Some(&text[at + piece.len()..])

@@ -9,7 +9,7 @@ use Rattle.command_core.specs.Command.{CommandLine}
 use Rattle.installed_info.specs.Info.{report_and_refusal}
 use Rattle.installed_info.specs.declared.telling.ReportAndRefusal.{ReportAndRefusal}
 use Rattle.change_inputs.specs.make_info.Reads.{Reads}
-use Rattle.query_core.specs.Queries.{queried}
+use Rattle.query_core.specs.Queries.{text_of_query}
 use Rattle.report_core.specs.declared.refusal.Refusal.{Refusal}
 
 -- what a query reports on the candidates and repositories of inputs; or the refusal of too many
@@ -17,7 +17,7 @@ use Rattle.report_core.specs.declared.refusal.Refusal.{Refusal}
 abbrev pub query_report : CommandLine → Inputs → Result ReportAndRefusal Refusal
 query_report command inputs =
     and_then (root_pool inputs no_names) (λ pool.
-    Ok (report_and_refusal (queried command pool inputs.root.repositories) None))
+    Ok (report_and_refusal (text_of_query command pool inputs.root.repositories) None))
 
 -- the result of a query: its report on the inputs, or their refusal
 abbrev pub query_result : CommandLine → Reads → Result ReportAndRefusal Refusal

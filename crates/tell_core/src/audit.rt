@@ -3,7 +3,7 @@
 ghost use Rattle.base_core.specs.Read.{OnlyReads};
 ghost use Rattle.change_inputs.specs.Answers.{Agrees, AgreesUnlessDisk};
 ghost use Rattle.change_inputs.specs.Seen.{installed_seen};
-ghost use Rattle.change_inputs.specs.package_files.Runs.{Explains};
+ghost use Rattle.change_inputs.specs.package_files.Runs.{IsExplainedBySomeReads};
 ghost use Rattle.tell_core.specs.AuditResult.{audit_of, audit_result, manifest_report, manifest_result};
 
 use audit_core::{audit, audits_depend_on_their_own_reads, manifest};
@@ -24,7 +24,7 @@ pub(crate) fn report_audit<T: Tree>(
     command: &Command,
     tree: &mut T,
 ) -> Result<ReportAndRefusal, Refused>
-    ensures told { Explains (T.history tree.old) (λ read.
+    ensures told { IsExplainedBySomeReads (T.history tree.old) (λ read.
         AgreesUnlessDisk (λ done. done) result (audit_result command.now read)) }
     ensures tree { OnlyReads Refused.Disk (T.history tree.old) (T.history tree.new)
         (T.counts tree.old) (T.counts tree.new) result }
@@ -42,7 +42,7 @@ fn audit_installed<T: Tree>(
     installed: &Installed,
     tree: &mut T,
 ) -> Result<ReportAndRefusal, Refused>
-    ensures told { Explains (T.history tree.old) (λ read.
+    ensures told { IsExplainedBySomeReads (T.history tree.old) (λ read.
         AgreesUnlessDisk (λ done. done) result (audit_of read (installed_seen installed.now))) }
     ensures tree { OnlyReads Refused.Disk (T.history tree.old) (T.history tree.new)
         (T.counts tree.old) (T.counts tree.new) result }
@@ -70,7 +70,7 @@ pub(crate) fn report_manifest<T: Tree>(
     command: &Command,
     tree: &mut T,
 ) -> Result<ReportAndRefusal, Refused>
-    ensures told { Explains (T.history tree.old) (λ read.
+    ensures told { IsExplainedBySomeReads (T.history tree.old) (λ read.
         AgreesUnlessDisk (λ done. done) result (manifest_result command.now read)) }
     ensures tree { OnlyReads Refused.Disk (T.history tree.old) (T.history tree.new)
         (T.counts tree.old) (T.counts tree.new) result }

@@ -4,7 +4,7 @@ ghost use Rattle.change_inputs.specs.Answers.{Agrees, AgreesUnlessDisk};
 ghost use Rattle.change_inputs.specs.Seen.{installed_seen};
 ghost use Rattle.tell_core.specs.InfoResult.{info_result};
 ghost use Rattle.installed_info.specs.Info.{info_of};
-ghost use Rattle.change_inputs.specs.package_files.Runs.{Explains};
+ghost use Rattle.change_inputs.specs.package_files.Runs.{IsExplainedBySomeReads};
 
 use base_core::Tree;
 use change_inputs::{Installed, Refused};
@@ -24,7 +24,7 @@ pub(crate) fn report_info<T: Tree>(
     command: &Command,
     tree: &mut T,
 ) -> Result<ReportAndRefusal, Refused>
-    ensures told { Explains (T.history tree.old) (λ read.
+    ensures told { IsExplainedBySomeReads (T.history tree.old) (λ read.
         AgreesUnlessDisk (λ done. done) result (info_result command.now read)) }
     ensures tree { OnlyReads Refused.Disk (T.history tree.old) (T.history tree.new)
         (T.counts tree.old) (T.counts tree.new) result }

@@ -3,8 +3,8 @@
 ghost use Rattle.base_core.specs.Read.{OnlyReads};
 ghost use Rattle.change_inputs.specs.Answers.{Agrees, AgreesUnlessDisk};
 ghost use Rattle.change_inputs.specs.Seen.{inputs_seen};
-ghost use Rattle.change_inputs.specs.package_files.Runs.{Explains};
-ghost use Rattle.query_core.specs.Queries.{queried};
+ghost use Rattle.change_inputs.specs.package_files.Runs.{IsExplainedBySomeReads};
+ghost use Rattle.query_core.specs.Queries.{text_of_query};
 ghost use Rattle.std.specs.Prelude.{◌≡◌, IfOk};
 ghost use Rattle.tell_core.specs.QueryResult.{query_report, query_result};
 
@@ -28,7 +28,7 @@ pub(crate) fn report_query<T: Tree>(
     command: &Command,
     tree: &mut T,
 ) -> Result<ReportAndRefusal, Refused>
-    ensures told { Explains (T.history tree.old) (λ read.
+    ensures told { IsExplainedBySomeReads (T.history tree.old) (λ read.
         AgreesUnlessDisk (λ done. done) result (query_result command.now read)) }
     ensures tree { OnlyReads Refused.Disk (T.history tree.old) (T.history tree.new)
         (T.counts tree.old) (T.counts tree.new) result }
@@ -56,7 +56,7 @@ fn query_loaded(
 }
 
 // The report of a query of candidates and repositories, by its applet.
-#[tactic(auto, unfolding(query_core::specs::Queries::queried))]
+#[tactic(auto, unfolding(query_core::specs::Queries::text_of_query))]
 fn query(
     alloc: Global,
     command: &Command,
@@ -64,7 +64,7 @@ fn query(
     repositories: &Repos,
 ) -> Result<Text, AllocError>
     ensures { IfOk result (λ report. report
-        ≡ queried command.now pool.now repositories.now) }
+        ≡ text_of_query command.now pool.now repositories.now) }
 {
     match command.applet() {
         Applet::List => list(alloc, pool, command.operands(), command.flags().installed),

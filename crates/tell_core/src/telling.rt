@@ -3,7 +3,7 @@
 ghost use Rattle.base_core.specs.Read.{OnlyReads};
 ghost use Rattle.change_inputs.specs.Answers.{AgreesUnlessDisk};
 ghost use Rattle.installed_info.specs.Info.{report_and_refusal};
-ghost use Rattle.change_inputs.specs.package_files.Runs.{Explains};
+ghost use Rattle.change_inputs.specs.package_files.Runs.{IsExplainedBySomeReads};
 ghost use Rattle.std.specs.Prelude.{◌≡◌, [], None};
 ghost use Rattle.tell_core.specs.ReportForCommand.{report_for_command};
 
@@ -29,7 +29,7 @@ pub fn tell<T: Tree>(
     command: &Command,
     tree: &mut T,
 ) -> Result<ReportAndRefusal, Refused>
-    ensures told { Explains (T.history tree.old) (λ read.
+    ensures told { IsExplainedBySomeReads (T.history tree.old) (λ read.
         AgreesUnlessDisk (λ done. done) result (report_for_command command.now read)) }
     ensures tree { OnlyReads Refused.Disk (T.history tree.old) (T.history tree.new)
         (T.counts tree.old) (T.counts tree.new) result }

@@ -7,10 +7,10 @@ use Rattle.std.proofs.Math.Seq.{take-length, map-set_same}
 use Rattle.std.proofs.lemmas.List.{map-set, set-get_or, get_or-set_same, length-set}
 use Rattle.base_core.specs.Files.{IsFile, put_name, drop_name, move_name}
 use Rattle.base_core.specs.Name.{IsName}
-use Rattle.base_core.specs.Tree.{TreeState, File, CanRename, HasName, set_file, change_at, after_append, after_sync, move_at, after_rename, remove_at, after_remove, after_sync_names}
+use Rattle.base_core.specs.Tree.{TreeState, File, CanRename, HasName, set_file, with_file_changed, after_append, after_sync, with_file_moved, after_rename, with_name_removed, after_remove, after_sync_names}
 use Rattle.base_core.proofs.AtName.{name_cases, off_name}
 use Rattle.tree_memory.specs.Table.{lookup}
-use Rattle.tree_memory.specs.Changes.{empty_state, step, state_on, earlier_on, contents_of, can_step, is_record}
+use Rattle.tree_memory.specs.Changes.{empty_state, step, state_after_changes, earlier_states, contents_of, can_record_change, can_record_changes}
 use Rattle.tree_memory.specs.Kept.{HoldsState, IsSoundState, IsStore}
 use Rattle.tree_memory.proofs.AtName.{drop_name-off, put-at, put-off}
 use Rattle.tree_memory.proofs.Folders.{folder_like_fewer, folder_like_number, fewer_dropped}
@@ -23,10 +23,10 @@ use Rattle.tree_memory.specs.declared.table.NameAndFile.{NameAndFile}
 
 -- a store's newest state, and the states that it shows
 abbrev pub newest_of : List Change → List Stored → TreeState
-newest_of cs files = state_on (contents_of files) empty_state cs
+newest_of cs files = state_after_changes (contents_of files) empty_state cs
 
 abbrev pub states_of : List Change → List Stored → List TreeState
-states_of cs files = newest_of cs files ∷ earlier_on (contents_of files) empty_state [] cs
+states_of cs files = newest_of cs files ∷ earlier_states (contents_of files) empty_state [] cs
 
 -- ---- another file under a number
 
@@ -48,16 +48,16 @@ module _ (name : List ℕ) (n : ℕ) (cs ds : List Change) (es : List NameAndFil
   set_contents : contents_of more ≡ set (contents_of files) n s.bytes.items
   set_contents = ap contents_of m.stored ∙ map-set (λ (f : Stored). f.bytes.items) files n s
 
-  changed_kept : (change : File → File) → (change (was.files n)).bytes ≡ s.bytes.items → (change (was.files n)).synced ≡ s.synced → HoldsState (change_at change was (was.names name)) es more
+  changed_kept : (change : File → File) → (change (was.files n)).bytes ≡ s.bytes.items → (change (was.files n)).synced ≡ s.synced → HoldsState (with_file_changed change was (was.names name)) es more
   changed_kept change bytes synced =
-      subst (λ (l : List Stored). HoldsState (change_at change was (was.names name)) es l) (sym m.stored)
-      (subst (λ (o : Option ℕ). HoldsState (change_at change was o) es (set files n s)) (sym leads) (kept_set was es files n change s store.kept within bytes synced))
+      subst (λ (l : List Stored). HoldsState (with_file_changed change was (was.names name)) es l) (sym m.stored)
+      (subst (λ (o : Option ℕ). HoldsState (with_file_changed change was o) es (set files n s)) (sym leads) (kept_set was es files n change s store.kept within bytes synced))
 
   was_sound : IsSoundState was
   was_sound = store_sound cs es files store
 
-  changed_sound : (change : File → File) → IsFile (change (was.files n)).bytes → IsSoundState (change_at change was (was.names name))
-  changed_sound change file = subst (λ (o : Option ℕ). IsSoundState (change_at change was o)) (sym leads) (sound_changed change was n was_sound file)
+  changed_sound : (change : File → File) → IsFile (change (was.files n)).bytes → IsSoundState (with_file_changed change was (was.names name))
+  changed_sound change file = subst (λ (o : Option ℕ). IsSoundState (with_file_changed change was o)) (sym leads) (sound_changed change was n was_sound file)
 
   -- a piece at its end
   module _ (piece : List ℕ) (grown : s.bytes.items ≡ get_or (contents_of files) n [] ++ piece) where
@@ -80,7 +80,7 @@ module _ (name : List ℕ) (n : ℕ) (cs ds : List Change) (es : List NameAndFil
         ap (λ (l : List ℕ). record was { files = set_file was.files n (record { bytes = l; synced = false }) })
         (ap (take (length s.bytes.items)) (ap (λ (l : List (List ℕ)). get_or l n []) set_contents ∙ get_or-set_same (contents_of files) n s.bytes.items [] (omega (arith, within, length-contents files)))
         ∙ take-length s.bytes.items ∙ grown ∙ ap (λ (l : List ℕ). l ++ piece) (sym (store.kept.bytes n)))
-        ∙ sym (ap (change_at (λ (f : File). record { bytes = f.bytes ++ piece; synced = false }) was) leads)
+        ∙ sym (ap (with_file_changed (λ (f : File). record { bytes = f.bytes ++ piece; synced = false }) was) leads)
 
     grown_read : (was.files n).bytes ++ piece ≡ s.bytes.items
     grown_read = ap (λ (l : List ℕ). l ++ piece) (store.kept.bytes n) ∙ sym grown
@@ -109,7 +109,7 @@ module _ (name : List ℕ) (n : ℕ) (cs ds : List Change) (es : List NameAndFil
     sync_pushed is = record { recorded = store.recorded; grows = subst (Grows (contents_of files)) (sym same_contents) (grows_not (contents_of files)); pushed = is; can = refl }
 
     sync_step : step (contents_of more) (Sync n) was ≡ after_sync name was
-    sync_step = sym (ap (change_at (λ (f : File). record { bytes = f.bytes; synced = true }) was) leads)
+    sync_step = sym (ap (with_file_changed (λ (f : File). record { bytes = f.bytes; synced = true }) was) leads)
 
     pub store_sync : ds ≡ cs ++ Sync n ∷ [] → s.synced ≡ true → IsStore ds es more
     store_sync is synced =
@@ -125,19 +125,19 @@ pub store_same : (n : ℕ) (cs : List Change) (es : List NameAndFile) (files mor
 store_same n cs es files more s d store is inside bytes synced at =
     let same_bytes : contents_of more ≡ contents_of files = ap contents_of is ∙ map-set_same (λ (f : Stored). f.bytes.items) files n s d (bytes ∙ ap (λ (f : Stored). f.bytes.items) at) in
     let same_flags = ap (λ (l : List Stored). map (λ (f : Stored). f.synced) l) is ∙ map-set_same (λ (f : Stored). f.synced) files n s d (synced ∙ ap (λ (f : Stored). f.synced) at) in record {
-      recorded = ap (λ (l : List (List ℕ)). is_record l empty_state cs) same_bytes ∙ store.recorded;
-      kept = subst (λ (v : TreeState). HoldsState v es more) (sym (ap (λ (l : List (List ℕ)). state_on l empty_state cs) same_bytes)) (record {
+      recorded = ap (λ (l : List (List ℕ)). can_record_changes l empty_state cs) same_bytes ∙ store.recorded;
+      kept = subst (λ (v : TreeState). HoldsState v es more) (sym (ap (λ (l : List (List ℕ)). state_after_changes l empty_state cs) same_bytes)) (record {
         names = store.kept.names;
         made = store.kept.made ∙ sym (ap length is ∙ length-set files n s);
         bytes = λ k. store.kept.bytes k ∙ sym (ap (λ (l : List (List ℕ)). get_or l k []) same_bytes);
         synced = λ k. store.kept.synced k ∙ sym (ap (λ (l : List Bool). get_or l k false) same_flags);
       });
-      sound = subst (All IsSoundState) (sym (ap (λ (l : List (List ℕ)). state_on l empty_state cs ∷ earlier_on l empty_state [] cs) same_bytes)) store.sound;
+      sound = subst (All IsSoundState) (sym (ap (λ (l : List (List ℕ)). state_after_changes l empty_state cs ∷ earlier_states l empty_state [] cs) same_bytes)) store.sound;
     }
 
 pub states_same : (n : ℕ) (cs : List Change) (files more : List Stored) (s d : Stored) → more ≡ set files n s → s.bytes.items ≡ d.bytes.items → d ≡ get_or files n d → states_of cs more ≡ states_of cs files
 states_same n cs files more s d is bytes at =
-    ap (λ (l : List (List ℕ)). state_on l empty_state cs ∷ earlier_on l empty_state [] cs) (ap contents_of is ∙ map-set_same (λ (f : Stored). f.bytes.items) files n s d (bytes ∙ ap (λ (f : Stored). f.bytes.items) at))
+    ap (λ (l : List (List ℕ)). state_after_changes l empty_state cs ∷ earlier_states l empty_state [] cs) (ap contents_of is ∙ map-set_same (λ (f : Stored). f.bytes.items) files n s d (bytes ∙ ap (λ (f : Stored). f.bytes.items) at))
 
 -- ---- names
 
@@ -148,12 +148,12 @@ module _ (cs ds : List Change) (es fs : List NameAndFile) (files : List Stored) 
   now_sound : IsSoundState now
   now_sound = store_sound cs es files store
 
-  pushed_names : (c : Change) → ds ≡ cs ++ c ∷ [] → can_step (contents_of files) c now ≡ true → IsPushed c cs ds (contents_of files) (contents_of files)
+  pushed_names : (c : Change) → ds ≡ cs ++ c ∷ [] → can_record_change (contents_of files) c now ≡ true → IsPushed c cs ds (contents_of files) (contents_of files)
   pushed_names c is can = record { recorded = store.recorded; grows = grows_not (contents_of files); pushed = is; can = can }
 
   -- a name more in place of another
   module _ (from to : List ℕ) (n : ℕ) (there : lookup es from ≡ Some n) where
-    rename_can : can_step (contents_of files) (Rename from to) now ≡ true
+    rename_can : can_record_change (contents_of files) (Rename from to) now ≡ true
     rename_can = ap is_some (store.kept.names from ∙ there)
 
     moved : from ≢ to → (es₁ : List NameAndFile) → ((q : List ℕ) → lookup es₁ q ≡ put_name (lookup es) to n q) → ((q : List ℕ) → lookup fs q ≡ drop_name (lookup es₁) from q) → (q : List ℕ) → move_name now.names from to n q ≡ lookup fs q
@@ -168,11 +168,11 @@ module _ (cs ds : List Change) (es fs : List NameAndFile) (files : List Stored) 
 
     renamed_kept : ((q : List ℕ) → move_name now.names from to n q ≡ lookup fs q) → HoldsState (after_rename from to now) fs files
     renamed_kept names =
-        subst (λ (o : Option ℕ). HoldsState (move_at from to now o) fs files) (sym (store.kept.names from ∙ there)) (record { names = names; made = store.kept.made; bytes = store.kept.bytes; synced = store.kept.synced })
+        subst (λ (o : Option ℕ). HoldsState (with_file_moved from to now o) fs files) (sym (store.kept.names from ∙ there)) (record { names = names; made = store.kept.made; bytes = store.kept.bytes; synced = store.kept.synced })
 
     renamed_sound : IsName to → CanRename from to now → IsSoundState (after_rename from to now)
     renamed_sound named can =
-        subst (λ (o : Option ℕ). IsSoundState (move_at from to now o)) (sym (store.kept.names from ∙ there)) (sound_with now (move_name now.names from to n) now_sound (folder_like_number (drop_name now.names from) to 0 n can.folders)
+        subst (λ (o : Option ℕ). IsSoundState (with_file_moved from to now o)) (sym (store.kept.names from ∙ there)) (sound_with now (move_name now.names from to n) now_sound (folder_like_number (drop_name now.names from) to 0 n can.folders)
         (named_put (drop_name now.names from) to n (named_drop now.names from (now_sound.named now.names (inl refl))) named))
 
     pub store_rename : ds ≡ cs ++ Rename from to ∷ [] → IsName to → CanRename from to now → (es₁ : List NameAndFile) → ((q : List ℕ) → lookup es₁ q ≡ put_name (lookup es) to n q) → ((q : List ℕ) → lookup fs q ≡ drop_name (lookup es₁) from q) → IsStore ds fs files
@@ -184,11 +184,11 @@ module _ (cs ds : List Change) (es fs : List NameAndFile) (files : List Stored) 
 
   -- a name less
   module _ (name : List ℕ) where
-    removed_kept : (o : Option ℕ) → IsSome o → ((q : List ℕ) → lookup fs q ≡ drop_name (lookup es) name q) → HoldsState (remove_at name now o) fs files
+    removed_kept : (o : Option ℕ) → IsSome o → ((q : List ℕ) → lookup fs q ≡ drop_name (lookup es) name q) → HoldsState (with_name_removed name now o) fs files
     removed_kept None some gone = absurd (cc (some))
     removed_kept (Some n) some gone = record { names = λ q. ap (cond (bytes_eq q name) None) (store.kept.names q) ∙ sym (gone q); made = store.kept.made; bytes = store.kept.bytes; synced = store.kept.synced }
 
-    removed_sound : (o : Option ℕ) → IsSoundState (remove_at name now o)
+    removed_sound : (o : Option ℕ) → IsSoundState (with_name_removed name now o)
     removed_sound None = now_sound
     removed_sound (Some n) = sound_with now (drop_name now.names name) now_sound (folder_like_fewer now.names (drop_name now.names name) (fewer_dropped now.names name) (now_sound.folders now.names (inl refl)))
         (named_drop now.names name (now_sound.named now.names (inl refl)))
@@ -201,7 +201,7 @@ module _ (cs ds : List Change) (es fs : List NameAndFile) (files : List Stored) 
     history_remove is has = history_pushed (Remove name) cs ds (contents_of files) (contents_of files) (after_remove name now) (pushed_names (Remove name) is has) refl
 
     -- or none, as it was absent
-    stayed : (o : Option ℕ) → (IsSome o → ⊥) → now ≡ remove_at name now o
+    stayed : (o : Option ℕ) → (IsSome o → ⊥) → now ≡ with_name_removed name now o
     stayed None absent = refl
     stayed (Some n) absent = absurd (absent refl)
 

@@ -8,7 +8,7 @@ use Rattle.base_core.specs.Tree.{TreeState}
 use Rattle.base_core.specs.Calls.{IsCounted}
 use Rattle.base_core.specs.Faults.{CountsOnlyRise, HasCause}
 use Rattle.base_core.proofs.Booleans.{or_weaker}
-use Rattle.tree_memory.specs.Plans.{PlanState, is_listed, is_stopped, is_next, has_more, listed_on, one_on}
+use Rattle.tree_memory.specs.Plans.{PlanState, is_next_call_listed, is_stop_reached, is_next_call_to_fail, has_later_failure, listed_calls_after_one_call, plan_after_one_call}
 use Rattle.tree_memory.specs.Tallies.{with_call, with_fault, with_misuse, with_memory_fault, with_begun_call, goes_on, HasNotFallen}
 use Rattle.tree_memory.specs.Memory.{counts_by}
 use Rattle.tree_memory.specs.declared.calls.Calls.{Calls}
@@ -23,17 +23,17 @@ above_one n one = grind (arith, nat_tests)
 abbrev is_ahead : List ℕ → Bool
 is_ahead listed = list_any (λ n. ltb 0 n) listed
 
-listed_ahead : (listed : List ℕ) → is_listed listed ≡ true → is_ahead listed ≡ true
+listed_ahead : (listed : List ℕ) → is_next_call_listed listed ≡ true → is_ahead listed ≡ true
 listed_ahead [] is = absurd (cc)
-listed_ahead (n ∷ listed) is = or_weaker (eqb n 1) (is_listed listed) (ltb 0 n) (is_ahead listed) (above_one n) (listed_ahead listed) is
+listed_ahead (n ∷ listed) is = or_weaker (eqb n 1) (is_next_call_listed listed) (ltb 0 n) (is_ahead listed) (above_one n) (listed_ahead listed) is
 
-stopped_some : (stop : Option ℕ) → is_stopped stop ≡ true → is_some stop ≡ true
+stopped_some : (stop : Option ℕ) → is_stop_reached stop ≡ true → is_some stop ≡ true
 stopped_some None is = absurd (cc)
 stopped_some (Some n) is = refl
 
 -- a failure of the next call is one still to come
-pub next_is_more : (plan : PlanState) → is_next plan ≡ true → has_more plan ≡ true
-next_is_more plan is = or_weaker (is_listed plan.listed) (is_stopped plan.stop) (is_ahead plan.listed) (is_some plan.stop) (listed_ahead plan.listed) (stopped_some plan.stop) is
+pub next_is_more : (plan : PlanState) → is_next_call_to_fail plan ≡ true → has_later_failure plan ≡ true
+next_is_more plan is = or_weaker (is_next_call_listed plan.listed) (is_stop_reached plan.stop) (is_ahead plan.listed) (is_some plan.stop) (listed_ahead plan.listed) (stopped_some plan.stop) is
 
 above : (n : ℕ) → ltb 0 (n - 1) ≡ true → ltb 0 n ≡ true
 above n one = grind (arith, nat_tests)
@@ -42,24 +42,24 @@ by : (n : ℕ) (old : Bool) (rest : List ℕ) (b : Bool) → ltb 0 (n - 1) ≡ b
 by n old rest true at more is = ap (λ b. b || old) (above n at)
 by n old rest false at more is = or_weaker false (is_ahead rest) (ltb 0 n) old (λ none. absurd (cc)) more is
 
-ahead_is_ahead : (listed : List ℕ) → is_ahead (listed_on listed) ≡ true → is_ahead listed ≡ true
+ahead_is_ahead : (listed : List ℕ) → is_ahead (listed_calls_after_one_call listed) ≡ true → is_ahead listed ≡ true
 ahead_is_ahead [] is = absurd (cc)
-ahead_is_ahead (n ∷ listed) is = by n (is_ahead listed) (listed_on listed) (ltb 0 (n - 1)) refl (ahead_is_ahead listed) is
+ahead_is_ahead (n ∷ listed) is = by n (is_ahead listed) (listed_calls_after_one_call listed) (ltb 0 (n - 1)) refl (ahead_is_ahead listed) is
 
 some_is_some : (stop : Option ℕ) → is_some (option_map (λ n. n - 1) stop) ≡ true → is_some stop ≡ true
 some_is_some None is = is
 some_is_some (Some n) is = refl
 
 -- and so is one behind the next call
-pub more_is_more : (plan : PlanState) → has_more (one_on plan) ≡ true → has_more plan ≡ true
-more_is_more plan is = or_weaker (is_ahead (listed_on plan.listed)) (is_some (option_map (λ n. n - 1) plan.stop)) (is_ahead plan.listed) (is_some plan.stop) (ahead_is_ahead plan.listed) (some_is_some plan.stop) is
+pub more_is_more : (plan : PlanState) → has_later_failure (plan_after_one_call plan) ≡ true → has_later_failure plan ≡ true
+more_is_more plan is = or_weaker (is_ahead (listed_calls_after_one_call plan.listed)) (is_some (option_map (λ n. n - 1) plan.stop)) (is_ahead plan.listed) (is_some plan.stop) (ahead_is_ahead plan.listed) (some_is_some plan.stop) is
 
 -- ---- a call that begins
 
 -- a call was counted, and fails at once if it has to, or if that is planned
 pub record IsBegun (b : Bool) (writes : ℕ) (old new : Calls) : Type 0 where
-  pub plan : new.plan ≡ one_on old.plan
-  pub tally : new.tally ≡ with_begun_call b (is_next old.plan) (record old.tally { writes = writes })
+  pub plan : new.plan ≡ plan_after_one_call old.plan
+  pub tally : new.tally ≡ with_begun_call b (is_next_call_to_fail old.plan) (record old.tally { writes = writes })
   pub grown : HasNotFallen old.tally new.tally
 
 -- b is the answer to whether it is no misuse
@@ -73,8 +73,8 @@ says b P both = record { good = both.0; back = both.1 }
 pub always : (v : TreeState) → Says true (Unit {0})
 always v = record { good = λ _. tt; back = λ _. refl }
 
-on : (old new : Calls) → HasNotFallen old.tally new.tally → new.plan ≡ one_on old.plan → CountsOnlyRise (counts_by old) (counts_by new)
-on old new grown nearer = record { faults = grown.faults; misuses = grown.misuses; memory_faults = grown.memory_faults; fallible = λ f. more_is_more old.plan (subst (λ (p : PlanState). has_more p ≡ true) nearer f) }
+on : (old new : Calls) → HasNotFallen old.tally new.tally → new.plan ≡ plan_after_one_call old.plan → CountsOnlyRise (counts_by old) (counts_by new)
+on old new grown nearer = record { faults = grown.faults; misuses = grown.misuses; memory_faults = grown.memory_faults; fallible = λ f. more_is_more old.plan (subst (λ (p : PlanState). has_later_failure p ≡ true) nearer f) }
 
 -- ---- one that goes on
 
@@ -87,10 +87,10 @@ module _ (b : Bool) (writes : ℕ) (old new : Calls) (h : IsBegun b writes old n
   free true true goes = absurd (cc)
   free false p goes = absurd (cc)
 
-  pub is_free : goes_on b (is_next old.plan) ≡ true → (b ≡ true) × (is_next old.plan ≡ false)
-  is_free goes = free b (is_next old.plan) goes
+  pub is_free : goes_on b (is_next_call_to_fail old.plan) ≡ true → (b ≡ true) × (is_next_call_to_fail old.plan ≡ false)
+  is_free goes = free b (is_next_call_to_fail old.plan) goes
 
-  pub free_tally : goes_on b (is_next old.plan) ≡ true → new.tally ≡ with_call (record old.tally { writes = writes })
+  pub free_tally : goes_on b (is_next_call_to_fail old.plan) ≡ true → new.tally ≡ with_call (record old.tally { writes = writes })
   free_tally goes = let at = is_free goes in h.tally ∙ (λ i. begun_at (at.0 i) (at.1 i))
 
   -- ---- one that fails at once
@@ -106,17 +106,17 @@ module _ (b : Bool) (writes : ℕ) (old new : Calls) (h : IsBegun b writes old n
 
   pub record IsPlanned : Type 0 where
     pub can : b ≡ true
-    pub next : is_next old.plan ≡ true
+    pub next : is_next_call_to_fail old.plan ≡ true
     pub tally : new.tally ≡ with_fault (with_call (record old.tally { writes = writes }))
 
-  pub has_failed : goes_on b (is_next old.plan) ≡ false → IsMisused ⊎ IsPlanned
-  has_failed stays = ⊎_elim (λ m. inl (record { cannot = m.0; tally = h.tally ∙ m.1 })) (λ p. inr (record { can = p.0; next = p.1; tally = h.tally ∙ p.2 })) (failed b (is_next old.plan) stays)
+  pub has_failed : goes_on b (is_next_call_to_fail old.plan) ≡ false → IsMisused ⊎ IsPlanned
+  has_failed stays = ⊎_elim (λ m. inl (record { cannot = m.0; tally = h.tally ∙ m.1 })) (λ p. inr (record { can = p.0; next = p.1; tally = h.tally ∙ p.2 })) (failed b (is_next_call_to_fail old.plan) stays)
 
   pub begun_on : CountsOnlyRise (counts_by old) (counts_by new)
   begun_on = on old new h.grown h.plan
 
 -- a call that is never a misuse fails if that is planned
-pub planned_cause : (writes : ℕ) (old new : Calls) → IsBegun true writes old new → goes_on true (is_next old.plan) ≡ false → HasCause (counts_by old) (counts_by new)
+pub planned_cause : (writes : ℕ) (old new : Calls) → IsBegun true writes old new → goes_on true (is_next_call_to_fail old.plan) ≡ false → HasCause (counts_by old) (counts_by new)
 planned_cause writes old new h stays = ⊎_elim (λ m. absurd (both_ways true m.cannot refl))
     (λ p. record { fault = omega (arith, ap (λ (u : Tally). u.faults) p.tally); reason = inl (next_is_more old.plan p.next) })
     (has_failed true writes old new h stays)
@@ -124,7 +124,7 @@ planned_cause writes old new h stays = ⊎_elim (λ m. absurd (both_ways true m.
 -- ---- what the counts say
 
 module _ (can : TreeState → Type 0) (v : TreeState) (earlier : List TreeState) (b : Bool) (s : Says b (can v)) (writes : ℕ) (old new : Calls) (h : IsBegun b writes old new) {T E : Type 0} where
-  pub refused_counts : (r : Result T E) → IsErr r → goes_on b (is_next old.plan) ≡ false → IsCounted can (v ∷ earlier) (counts_by old) (counts_by new) r
+  pub refused_counts : (r : Result T E) → IsErr r → goes_on b (is_next_call_to_fail old.plan) ≡ false → IsCounted can (v ∷ earlier) (counts_by old) (counts_by new) r
   refused_counts (Ok x) is stays = absurd (cc (is))
   refused_counts (Err e) is stays = ⊎_elim misuse planned (has_failed b writes old new h stays)
     where
@@ -148,7 +148,7 @@ module _ (can : TreeState → Type 0) (v : TreeState) (earlier : List TreeState)
         misuse = λ cannot. absurd (cannot (s.good p.can));
       }
 
-  pub done_counts : (x : T) → goes_on b (is_next old.plan) ≡ true → IsCounted {E = E} can (v ∷ earlier) (counts_by old) (counts_by new) (Ok x)
+  pub done_counts : (x : T) → goes_on b (is_next_call_to_fail old.plan) ≡ true → IsCounted {E = E} can (v ∷ earlier) (counts_by old) (counts_by new) (Ok x)
   done_counts x goes = let tally = free_tally b writes old new h goes in let can_do = s.good (is_free b writes old new h goes).0 in record {
     goes_on = on old new h.grown h.plan;
     cause = tt;
@@ -166,7 +166,7 @@ pub record IsEnded (there : Bool) (mid new : Calls) : Type 0 where
   pub tally : new.tally ≡ cond there mid.tally (with_memory_fault mid.tally)
   pub grown : HasNotFallen mid.tally new.tally
 
-module _ (can : TreeState → Type 0) (v : TreeState) (earlier : List TreeState) (b : Bool) (s : Says b (can v)) (writes : ℕ) (old mid new : Calls) (h : IsBegun b writes old mid) (goes : goes_on b (is_next old.plan) ≡ true) where
+module _ (can : TreeState → Type 0) (v : TreeState) (earlier : List TreeState) (b : Bool) (s : Says b (can v)) (writes : ℕ) (old mid new : Calls) (h : IsBegun b writes old mid) (goes : goes_on b (is_next_call_to_fail old.plan) ≡ true) where
   can_do : can v
   can_do = s.good (is_free b writes old mid h goes).0
 

@@ -18,7 +18,7 @@ use Rattle.base_core.specs.Files.{IsFolderOf, HasNoFileAsFolder, NameMap, put_na
 use Rattle.base_core.proofs.Orderings.{is_less, tied_then}
 use Rattle.base_core.proofs.AtName.{other_name, name_cases, off_name}
 use Rattle.base_core.proofs.Folders.{at_folder}
-use Rattle.tree_memory.specs.Table.{IsTable, lookup, IsStart, MakesNoFolderOfAnother, IsBelow, HasBelowBut, HasFolderBut}
+use Rattle.tree_memory.specs.Table.{IsSortedNameTable, lookup, IsStartOfFolder, MakesNoFolderOfAnother, IsBelow, HasNameBelowOtherThan, HasFolderOtherThan}
 use Rattle.tree_memory.proofs.AtName.{put-at, put-off, drop_name-at, drop_name-off}
 use Rattle.tree_memory.proofs.Placed.{searchable, located, looked_up}
 use Rattle.tree_memory.specs.declared.table.NameAndFile.{NameAndFile}
@@ -65,7 +65,7 @@ less_index Equal = refl
 less_index Greater = refl
 
 -- the names before the folder's name and a slash come first
-pub parted : (es : List NameAndFile) (folder : List ℕ) → IsTable es → IsPartitionedBy (λ (e : NameAndFile). is_lt (cmp e.name (folder ++ 47 ∷ []))) es
+pub parted : (es : List NameAndFile) (folder : List ℕ) → IsSortedNameTable es → IsPartitionedBy (λ (e : NameAndFile). is_lt (cmp e.name (folder ++ 47 ∷ []))) es
 parted es folder table i j d upto within at =
     let by = IsPartitionedBy-leb (λ (e : NameAndFile). ordering_index (cmp e.name (slashed folder))) es 0 (searchable es (slashed folder) table) i j d upto within in
     less_index (cmp (get_or es i d).name (slashed folder)) ∙ by (sym (less_index (cmp (get_or es j d).name (slashed folder))) ∙ at)
@@ -76,7 +76,7 @@ not_less Equal is = λ less. cc
 not_less Greater is = λ less. cc
 
 pub start_from : (es : List NameAndFile) (i : ℕ) (folder : List ℕ) → i ≤ length es
-    → IsPartitionPoint (λ (e : NameAndFile). is_lt (cmp e.name (folder ++ 47 ∷ [])) ≡ true) (λ (e : NameAndFile). is_lt (cmp e.name (folder ++ 47 ∷ [])) ≡ false) es i → IsStart es i folder
+    → IsPartitionPoint (λ (e : NameAndFile). is_lt (cmp e.name (folder ++ 47 ∷ [])) ≡ true) (λ (e : NameAndFile). is_lt (cmp e.name (folder ++ 47 ∷ [])) ≡ false) es i → IsStartOfFolder es i folder
 start_from es i folder within point = record {
   within = within;
   before = λ k d low high. is_less (cmp (get_or es k d).name (slashed folder)) (point.0 k d low high);
@@ -84,7 +84,7 @@ start_from es i folder within point = record {
 }
 
 -- a name below a folder stands behind the start
-pub behind_start : (es : List NameAndFile) (start k : ℕ) (d : NameAndFile) (folder : List ℕ) → IsStart es start folder → k < length es → IsFolderOf folder (get_or es k d).name → start ≤ k
+pub behind_start : (es : List NameAndFile) (start k : ℕ) (d : NameAndFile) (folder : List ℕ) → IsStartOfFolder es start folder → k < length es → IsFolderOf folder (get_or es k d).name → start ≤ k
 behind_start es start k d folder is within below =
     ⊎_elim (λ early. absurd (below_from folder (get_or es k d).name below (is.before k d (omega arith) early))) (λ late. late) (cases_lt k start)
 
@@ -94,7 +94,7 @@ greater Equal = λ less equal. absurd (equal refl)
 greater Greater = λ less equal. refl
 
 -- behind an entry that is not below the folder, from the start on, none is
-pub none_behind : (es : List NameAndFile) (start i k : ℕ) (d : NameAndFile) (folder : List ℕ) → IsTable es → IsStart es start folder → start ≤ i → i ≤ k → k < length es → (IsFolderOf folder (get_or es i d).name → ⊥) → IsFolderOf folder (get_or es k d).name → ⊥
+pub none_behind : (es : List NameAndFile) (start i k : ℕ) (d : NameAndFile) (folder : List ℕ) → IsSortedNameTable es → IsStartOfFolder es start folder → start ≤ i → i ≤ k → k < length es → (IsFolderOf folder (get_or es i d).name → ⊥) → IsFolderOf folder (get_or es k d).name → ⊥
 none_behind es start i k d folder table is from upto within off below =
     ⊎_elim (λ same. off (subst (λ (n : ℕ). IsFolderOf folder (get_or es n d).name) (sym same) below))
     (λ apart. between below.0 (get_or es k d).name below.1 (table i k d (omega (arith, upto, apart)) within)) (cases_eq i k)
@@ -117,22 +117,22 @@ pub at_entry : (es : List NameAndFile) (i : ℕ) (e d : NameAndFile) (name : Lis
 at_entry es i e d name within is spelt = spelt ∙ ap (λ (x : NameAndFile). x.name) (sym (entry_at es i e d within is))
 
 -- and of those behind it
-pub none_from : (es : List NameAndFile) (start i : ℕ) (folder name : List ℕ) (e : NameAndFile) → IsTable es → IsStart es start folder → start ≤ i → i < length es → e ≡ get_or es i e → name ≡ e.name → (IsFolderOf folder name → ⊥)
+pub none_from : (es : List NameAndFile) (start i : ℕ) (folder name : List ℕ) (e : NameAndFile) → IsSortedNameTable es → IsStartOfFolder es start folder → start ≤ i → i < length es → e ≡ get_or es i e → name ≡ e.name → (IsFolderOf folder name → ⊥)
     → (k : ℕ) (d : NameAndFile) → i ≤ k → k < length es → IsFolderOf folder (get_or es k d).name → ⊥
 none_from es start i folder name e table is from inside here spelt off k d upto within =
     none_behind es start i k d folder table is from upto within (λ below. off (subst (IsFolderOf folder) (sym (at_entry es i e d name inside here spelt)) below))
 
 -- ---- whether a table has a name below a folder, but one that is left out
 
-pub has_at : (es : List NameAndFile) (i : ℕ) (d : NameAndFile) (folder but : List ℕ) → i < length es → IsFolderOf folder (get_or es i d).name → bytes_eq (get_or es i d).name but ≡ false → HasBelowBut es folder but
+pub has_at : (es : List NameAndFile) (i : ℕ) (d : NameAndFile) (folder but : List ℕ) → i < length es → IsFolderOf folder (get_or es i d).name → bytes_eq (get_or es i d).name but ≡ false → HasNameBelowOtherThan es folder but
 has_at es i d folder but within below off = ((get_or es i d).name, below, (looked_up es i d within, off))
 
 -- from the start on each entry so far is the one left out
 pub record IsOut (es : List NameAndFile) (start i : ℕ) (but : List ℕ) : Type 0 where
   pub each : (k : ℕ) (d : NameAndFile) → start ≤ k → k < i → (get_or es k d).name ≡ but
 
-pub has_none : (es : List NameAndFile) (start i : ℕ) (folder but : List ℕ) → IsTable es → IsStart es start folder → start ≤ i → IsOut es start i but
-    → ((k : ℕ) (d : NameAndFile) → i ≤ k → k < length es → IsFolderOf folder (get_or es k d).name → ⊥) → HasBelowBut es folder but → ⊥
+pub has_none : (es : List NameAndFile) (start i : ℕ) (folder but : List ℕ) → IsSortedNameTable es → IsStartOfFolder es start folder → start ≤ i → IsOut es start i but
+    → ((k : ℕ) (d : NameAndFile) → i ≤ k → k < length es → IsFolderOf folder (get_or es k d).name → ⊥) → HasNameBelowOtherThan es folder but → ⊥
 has_none es start i folder but table is from out behind (name, below, (some, off)) =
     let d : NameAndFile = record { name = name; file = 0 } in
     let at = located es name d some in
@@ -168,7 +168,7 @@ listing_more es start i folder name names e so_far within is spelt below = recor
     here : (k : ℕ) (d : NameAndFile) → k ≡ length names → get_or es (start + k) d ≡ e
     here k d last = let same : start + k ≡ i = omega (arith, last, so_far.long) in ap (λ n. get_or es n d) same ∙ entry_at es i e d within is
 
-pub listed_below : (es : List NameAndFile) (start i : ℕ) (folder : List ℕ) (names : List (List ℕ)) → IsTable es → IsStart es start folder → i ≤ length es → IsListing es start i folder names
+pub listed_below : (es : List NameAndFile) (start i : ℕ) (folder : List ℕ) (names : List (List ℕ)) → IsSortedNameTable es → IsStartOfFolder es start folder → i ≤ length es → IsListing es start i folder names
     → ((k : ℕ) (d : NameAndFile) → i ≤ k → k < length es → IsFolderOf folder (get_or es k d).name → ⊥) → IsBelow es folder names
 listed_below es start i folder names table is upto so_far behind = record { rising = rising; each = λ q. (there q, back q) }
   where
@@ -278,26 +278,26 @@ module _ (names : NameMap) (es : List NameAndFile) (same : (q : List ℕ) → na
 
 -- ---- whether a table has a name below another
 
-pub folder_found : (es : List NameAndFile) (i : ℕ) (e : NameAndFile) (name : List ℕ) → i < length es → e ≡ get_or es i e → name ≡ e.name → HasFolderBut es name name → HasNoFileAsFolder (lookup es) → ⊥
+pub folder_found : (es : List NameAndFile) (i : ℕ) (e : NameAndFile) (name : List ℕ) → i < length es → e ≡ get_or es i e → name ≡ e.name → HasFolderOtherThan es name name → HasNoFileAsFolder (lookup es) → ⊥
 folder_found es i e name within is spelt (folder, below, (present, off)) none =
     none folder name below present (subst (λ (n : List ℕ). IsSome (lookup es n)) (sym (at_entry es i e e name within is spelt)) (looked_up es i e within))
 
 -- no name so far has a folder among the names
 pub record AreFree (es : List NameAndFile) (i : ℕ) : Type 0 where
-  pub each : (k : ℕ) (d : NameAndFile) → k < i → HasFolderBut es (get_or es k d).name (get_or es k d).name → ⊥
+  pub each : (k : ℕ) (d : NameAndFile) → k < i → HasFolderOtherThan es (get_or es k d).name (get_or es k d).name → ⊥
 
 pub free_none : (es : List NameAndFile) → AreFree es 0
 free_none es = record { each = λ k d within. absurd (omega (arith, within)) }
 
-pub free_more : (es : List NameAndFile) (i : ℕ) (e : NameAndFile) (name : List ℕ) → i < length es → e ≡ get_or es i e → name ≡ e.name → (HasFolderBut es name name → ⊥) → AreFree es i → AreFree es (i + 1)
+pub free_more : (es : List NameAndFile) (i : ℕ) (e : NameAndFile) (name : List ℕ) → i < length es → e ≡ get_or es i e → name ≡ e.name → (HasFolderOtherThan es name name → ⊥) → AreFree es i → AreFree es (i + 1)
 free_more es i e name within is spelt off so_far = record { each = λ k d below. ⊎_elim (λ (same : k ≡ i). here k d same) (λ (apart : k ≢ i). so_far.each k d (omega (arith, below, apart))) (cases_eq k i) }
   where
-    here : (k : ℕ) (d : NameAndFile) → k ≡ i → HasFolderBut es (get_or es k d).name (get_or es k d).name → ⊥
-    here k d same has = off (subst (λ (n : List ℕ). HasFolderBut es n n) (ap (λ (j : ℕ). (get_or es j d).name) same ∙ sym (at_entry es i e d name within is spelt)) has)
+    here : (k : ℕ) (d : NameAndFile) → k ≡ i → HasFolderOtherThan es (get_or es k d).name (get_or es k d).name → ⊥
+    here k d same has = off (subst (λ (n : List ℕ). HasFolderOtherThan es n n) (ap (λ (j : ℕ). (get_or es j d).name) same ∙ sym (at_entry es i e d name within is spelt)) has)
 
 pub free_all : (es : List NameAndFile) (i : ℕ) → length es ≤ i → AreFree es i → HasNoFileAsFolder (lookup es)
 free_all es i all free p q below has_p has_q =
     let none : NameAndFile = record { name = q; file = 0 } in
     let (k, within, same) = located es q none has_q in
     free.each k none (omega (arith, within, all))
-    (subst (λ (n : List ℕ). HasFolderBut es n n) (sym same) (p, below, (has_p, other_name p q (λ is. not_itself q (subst (λ (n : List ℕ). IsFolderOf n q) is below)))))
+    (subst (λ (n : List ℕ). HasFolderOtherThan es n n) (sym same) (p, below, (has_p, other_name p q (λ is. not_itself q (subst (λ (n : List ℕ). IsFolderOf n q) is below)))))

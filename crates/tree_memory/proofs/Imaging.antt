@@ -8,14 +8,14 @@ use Rattle.base_core.specs.Crash.{CrashMayLeave}
 use Rattle.base_core.specs.Undone.{IsAfterCrash, IsCrashMap}
 use Rattle.base_core.proofs.Undone.{left_each, read_may_be_left}
 use Rattle.base_core.specs.Files.{Files, NameMap, no_names, put_name, HasNoFileAsFolder}
-use Rattle.base_core.specs.Tree.{TreeState, IsMapOf, bytes_at, files_of, set_file}
+use Rattle.base_core.specs.Tree.{TreeState, IsCurrentOrOlderMap, bytes_of_file_number, files_of, set_file}
 use Rattle.std.proofs.lemmas.Nat.{mod_below}
 use Rattle.base_core.proofs.AtName.{name_cases, off_name}
-use Rattle.tree_memory.specs.Changes.{empty_state, after_put, state_on, is_record}
-use Rattle.tree_memory.specs.Images.{picked_map, picks_of, crash_bytes, stored_file, IsImageMap, IsImageOf, HasImageNames}
+use Rattle.tree_memory.specs.Changes.{empty_state, after_put, state_after_changes, can_record_changes}
+use Rattle.tree_memory.specs.Images.{picked_crash_map, crash_image_count_of, crash_bytes, stored_file, IsPickedImageMap, IsImageOf, HasImageNames}
 use Rattle.tree_memory.specs.Kept.{HoldsState, CanPut}
-use Rattle.tree_memory.specs.Table.{IsTable, lookup}
-use Rattle.tree_memory.specs.WellFormedLaw.{AreBounded}
+use Rattle.tree_memory.specs.Table.{IsSortedNameTable, lookup}
+use Rattle.tree_memory.specs.WellFormedLaw.{AreMapsFiniteBelow}
 use Rattle.tree_memory.proofs.AtName.{put-at, put-off}
 use Rattle.tree_memory.proofs.Keeping.{read-after_put, stored_bytes}
 use Rattle.tree_memory.proofs.Undoing.{picked_left}
@@ -27,7 +27,7 @@ use Rattle.tree_memory.specs.declared.table.NameAndFile.{NameAndFile}
 
 -- ---- the names so far, and the next one
 
-absent_so_far : (es : List NameAndFile) (i : ℕ) (e : NameAndFile) → IsTable es → i < length es → e ≡ get_or es i e → lookup (take i es) e.name ≡ None
+absent_so_far : (es : List NameAndFile) (i : ℕ) (e : NameAndFile) → IsSortedNameTable es → i < length es → e ≡ get_or es i e → lookup (take i es) e.name ≡ None
 absent_so_far es i e table within is = lookup_off (take i es) e.name e (λ j below same.
     let lower : j < i = omega (arith, below, length-take i es) in
     apart es table j i e lower within (ap (λ (x : NameAndFile). x.name) (sym (get_or-take i es j e lower)) ∙ same ∙ ap (λ (x : NameAndFile). x.name) is))
@@ -37,7 +37,7 @@ lookup_push es e none q =
     ap (λ (l : List NameAndFile). lookup l q) (sym (ap (λ (l : List NameAndFile). l ++ e ∷ drop (length es) es) (take_all (length es) es (omega arith)) ∙ ap (λ (l : List NameAndFile). es ++ e ∷ l) (drop_all (length es) es (omega arith))))
     ∙ lookup_insert es (length es) e none q
 
-next_name : (es : List NameAndFile) (i : ℕ) (e : NameAndFile) → IsTable es → i < length es → e ≡ get_or es i e → (q : List ℕ) → lookup (take (i + 1) es) q ≡ put_name (lookup (take i es)) e.name e.file q
+next_name : (es : List NameAndFile) (i : ℕ) (e : NameAndFile) → IsSortedNameTable es → i < length es → e ≡ get_or es i e → (q : List ℕ) → lookup (take (i + 1) es) q ≡ put_name (lookup (take i es)) e.name e.file q
 next_name es i e table within is q =
     ap (λ (l : List NameAndFile). lookup l q) (take_more es i e within ∙ ap (λ (x : NameAndFile). take i es ++ x ∷ []) (sym is))
     ∙ lookup_push (take i es) e (absent_so_far es i e table within is) q
@@ -63,11 +63,11 @@ pub record IsSoFar (v : TreeState) (way : ℕ) (es : List NameAndFile) (i : ℕ)
 pub so_far_none : (v : TreeState) (way : ℕ) (es : List NameAndFile) (w : TreeState) → w ≡ empty_state → IsSoFar v way es 0 w
 so_far_none v way es w is = subst (IsSoFar v way es 0) (sym is) (record { files = λ q. refl; one_map = refl; synced = λ q n at. absurd (cc (at)) })
 
-module _ (v : TreeState) (way : ℕ) (es : List NameAndFile) (table : IsTable es) (i : ℕ) (w : TreeState) (so_far : IsSoFar v way es i w) where
+module _ (v : TreeState) (way : ℕ) (es : List NameAndFile) (table : IsSortedNameTable es) (i : ℕ) (w : TreeState) (so_far : IsSoFar v way es i w) where
   present : (q : List ℕ) → IsSome (w.names q) → IsSome (lookup (take i es) q)
   present q = by (w.names q) (lookup (take i es) q) (so_far.files q)
     where
-      by : (o r : Option ℕ) → bytes_at w.files o ≡ option_map (λ n. crash_bytes way (v.files n)) r → IsSome o → IsSome r
+      by : (o r : Option ℕ) → bytes_of_file_number w.files o ≡ option_map (λ n. crash_bytes way (v.files n)) r → IsSome o → IsSome r
       by None r is some = absurd (cc (some))
       by (Some n) None is some = absurd (cc (is))
       by (Some n) (Some m) is some = refl
@@ -83,7 +83,7 @@ module _ (v : TreeState) (way : ℕ) (es : List NameAndFile) (table : IsTable es
             (λ off. lookup_take es i q (present q (subst IsSome (put-off w.names e.name w.made q (off_name q e.name off)) some)))
             (name_cases q e.name)
 
-    pub so_far_next : (bytes : List ℕ) (u : TreeState) → AreBounded w → bytes ≡ crash_bytes way (v.files e.file) → u ≡ after_put e.name bytes w → IsSoFar v way es (i + 1) u
+    pub so_far_next : (bytes : List ℕ) (u : TreeState) → AreMapsFiniteBelow w → bytes ≡ crash_bytes way (v.files e.file) → u ≡ after_put e.name bytes w → IsSoFar v way es (i + 1) u
     so_far_next bytes u whole are is = subst (IsSoFar v way es (i + 1)) (sym is) (record { files = files; one_map = refl; synced = synced })
       where
         both_ways : (b : Bool) (r : Option ℕ) → cond b (Some (crash_bytes way (v.files e.file))) (option_map (λ n. crash_bytes way (v.files n)) r) ≡ option_map (λ n. crash_bytes way (v.files n)) (cond b (Some e.file) r)
@@ -109,7 +109,7 @@ module _ (v : TreeState) (way : ℕ) (es : List NameAndFile) (table : IsTable es
             some_same e = cc (e)
 
     -- it leads to a file that was made
-    pub number_made : IsCrashMap v (lookup es) → AreBounded v → e.file < v.made
+    pub number_made : IsCrashMap v (lookup es) → AreMapsFiniteBelow v → e.file < v.made
     number_made left whole =
         left_each (λ (o : Option ℕ). o ≡ Some e.file → e.file < v.made) v e.name (λ one is at. (whole.each one is).below e.name e.file at) (lookup es) left
         (lookup_named es i e.name e table (record { within = within; here = λ d. ap (λ (x : NameAndFile). x.name) (entry_at es i e d within here) }) ∙ ap (λ (x : NameAndFile). Some x.file) (sym here))
@@ -131,25 +131,25 @@ module _ (v : TreeState) (way : ℕ) (es : List NameAndFile) (i : ℕ) (all : le
     synced = so_far.synced;
   }
 
-  pub image_is : (choice picks : ℕ) → picks ≡ picks_of v → way ≡ (choice / picks) % 3 → HasImageNames (choice % picks) v es → IsImageOf choice v (files_of w)
+  pub image_is : (choice picks : ℕ) → picks ≡ crash_image_count_of v → way ≡ (choice / picks) % 3 → HasImageNames (choice % picks) v es → IsImageOf choice v (files_of w)
   image_is choice picks count is names = (
     lookup es,
-    subst (λ p. IsImageMap (choice % p) v (lookup es)) count names.map,
+    subst (λ p. IsPickedImageMap (choice % p) v (lookup es)) count names.map,
     λ q. image_files q ∙ ap (λ k. option_map (λ n. crash_bytes k (v.files n)) (lookup es q)) (is ∙ ap (λ p. (choice / p) % 3) count),
   )
 
 -- ---- the names of an image
 
 module _ (pick : ℕ) (v : TreeState) (es : List NameAndFile) where
-  pub names_fit : ((q : List ℕ) → lookup es q ≡ picked_map pick v q) → HasNoFileAsFolder (lookup es) → HasImageNames pick v es
+  pub names_fit : ((q : List ℕ) → lookup es q ≡ picked_crash_map pick v q) → HasNoFileAsFolder (lookup es) → HasImageNames pick v es
   names_fit same folders =
-      let is : lookup es ≡ picked_map pick v = λ i q. same q i in record {
+      let is : lookup es ≡ picked_crash_map pick v = λ i q. same q i in record {
         map = record { fits = λ has. is; as_read = λ none. absurd (none (subst HasNoFileAsFolder is folders)) };
         left = subst (IsCrashMap v) (sym is) (picked_left pick v);
         folders = folders;
       }
 
-  pub names_as_read : (HasNoFileAsFolder (picked_map pick v) → ⊥) → ((q : List ℕ) → v.names q ≡ lookup es q) → HasNoFileAsFolder v.names → HasImageNames pick v es
+  pub names_as_read : (HasNoFileAsFolder (picked_crash_map pick v) → ⊥) → ((q : List ℕ) → v.names q ≡ lookup es q) → HasNoFileAsFolder v.names → HasImageNames pick v es
   names_as_read off same folders =
       let is : lookup es ≡ v.names = λ i q. sym (same q) i in record {
         map = record { fits = λ has. absurd (off has); as_read = λ none. is };

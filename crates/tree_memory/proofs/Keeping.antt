@@ -13,12 +13,12 @@ use Rattle.std.proofs.lemmas.Bool.{cases_eq, cases_lt, eq-eqb, ne_eqb}
 use Rattle.base_core.specs.Files.{NameMap, AreNames, IsFile, HasNoFileAsFolder, drop_name, put_name}
 use Rattle.base_core.specs.Name.{IsName}
 use Rattle.base_core.specs.Listed.{IsNamesOf}
-use Rattle.base_core.specs.Tree.{TreeState, File, IsMapOf, CanCreate, bytes_at, files_of, set_file, change_at, with_names, after_create}
+use Rattle.base_core.specs.Tree.{TreeState, File, IsCurrentOrOlderMap, CanCreate, bytes_of_file_number, files_of, set_file, with_file_changed, with_names, after_create}
 use Rattle.base_core.proofs.AtName.{name_cases, off_name}
-use Rattle.tree_memory.specs.Table.{IsTable, lookup, names_of}
-use Rattle.tree_memory.specs.Changes.{empty_state, after_put, step, state_on, earlier_on, contents_of, synced_flags}
+use Rattle.tree_memory.specs.Table.{IsSortedNameTable, lookup, names_of}
+use Rattle.tree_memory.specs.Changes.{empty_state, after_put, step, state_after_changes, earlier_states, contents_of, synced_flags}
 use Rattle.tree_memory.specs.Kept.{HoldsState, IsSoundState, IsStore, CanPut}
-use Rattle.tree_memory.specs.WellFormedLaw.{AreBounded, bounded_state}
+use Rattle.tree_memory.specs.WellFormedLaw.{AreMapsFiniteBelow, bounded_state}
 use Rattle.tree_memory.proofs.AtName.{put-at, put-off}
 use Rattle.tree_memory.proofs.Growing.{front_is, Grows, grows_push, IsPushed, pushed_state, pushed_record, pushed_history}
 use Rattle.tree_memory.proofs.Placed.{located, looked_up}
@@ -77,7 +77,7 @@ kept_push v w es fs files f s kept bytes synced files_are made names = record {
 
 -- another one
 pub kept_set : (v : TreeState) (es : List NameAndFile) (files : List Stored) (n : ℕ) (change : File → File) (s : Stored) → HoldsState v es files → n < length files → (change (v.files n)).bytes ≡ s.bytes.items → (change (v.files n)).synced ≡ s.synced
-    → HoldsState (change_at change v (Some n)) es (set files n s)
+    → HoldsState (with_file_changed change v (Some n)) es (set files n s)
 kept_set v es files n change s kept within bytes synced = record {
   names = kept.names;
   made = kept.made ∙ sym (length-set files n s);
@@ -92,17 +92,17 @@ kept_set v es files n change s kept within bytes synced = record {
 pub empty_file : IsFile []
 empty_file = record { each = All-nil (λ b. b < 256); few = lit< tt }
 
-pub sound_empty : All IsSoundState (empty_state ∷ earlier_on [] empty_state [] [])
+pub sound_empty : All IsSoundState (empty_state ∷ earlier_states [] empty_state [] [])
 sound_empty = All-cons IsSoundState empty_state [] (record { folders = folders; named = named; bytes = λ n. empty_file }) (All-nil IsSoundState)
   where
-    none : (map : NameMap) → IsMapOf empty_state map → (q : List ℕ) → IsSome (map q) → ⊥
+    none : (map : NameMap) → IsCurrentOrOlderMap empty_state map → (q : List ℕ) → IsSome (map q) → ⊥
     none map (inl is) q some = let absent : map q ≡ None = ap (λ (m : NameMap). m q) is in absurd (cc (absent, some))
     none map (inr other) q some = other
 
-    folders : (map : NameMap) → IsMapOf empty_state map → HasNoFileAsFolder map
+    folders : (map : NameMap) → IsCurrentOrOlderMap empty_state map → HasNoFileAsFolder map
     folders map is p q folder has_p has_q = none map is p has_p
 
-    named : (map : NameMap) → IsMapOf empty_state map → AreNames map
+    named : (map : NameMap) → IsCurrentOrOlderMap empty_state map → AreNames map
     named map is q some = absurd (none map is q some)
 
 -- names, one more or one less
@@ -119,23 +119,23 @@ named_drop names name named q some = by (bytes_eq q name) some
 pub sound_with : (v : TreeState) (new : NameMap) → IsSoundState v → HasNoFileAsFolder new → AreNames new → IsSoundState (with_names v new)
 sound_with v new old good names = record { folders = folders; named = named; bytes = old.bytes }
   where
-    folders : (map : NameMap) → IsMapOf (with_names v new) map → HasNoFileAsFolder map
+    folders : (map : NameMap) → IsCurrentOrOlderMap (with_names v new) map → HasNoFileAsFolder map
     folders map (inl is) = subst HasNoFileAsFolder (sym is) good
     folders map (inr other) = old.folders map other
 
-    named : (map : NameMap) → IsMapOf (with_names v new) map → AreNames map
+    named : (map : NameMap) → IsCurrentOrOlderMap (with_names v new) map → AreNames map
     named map (inl is) = subst AreNames (sym is) names
     named map (inr other) = old.named map other
 
 pub sound_one : (v : TreeState) → v.older ≡ [] → HasNoFileAsFolder v.names → AreNames v.names → ((n : ℕ) → IsFile (v.files n).bytes) → IsSoundState v
 sound_one v none good names bytes = record { folders = λ map is. folders v.older none map is; named = λ map is. named v.older none map is; bytes = bytes }
   where
-    folders : (older : List NameMap) → older ≡ [] → (map : NameMap) → IsMapOf (record v { older = older }) map → HasNoFileAsFolder map
+    folders : (older : List NameMap) → older ≡ [] → (map : NameMap) → IsCurrentOrOlderMap (record v { older = older }) map → HasNoFileAsFolder map
     folders [] none map (inl is) = subst HasNoFileAsFolder (sym is) good
     folders [] none map (inr other) = absurd other
     folders (x ∷ xs) none map is = absurd (cc (none))
 
-    named : (older : List NameMap) → older ≡ [] → (map : NameMap) → IsMapOf (record v { older = older }) map → AreNames map
+    named : (older : List NameMap) → older ≡ [] → (map : NameMap) → IsCurrentOrOlderMap (record v { older = older }) map → AreNames map
     named [] none map (inl is) = subst AreNames (sym is) names
     named [] none map (inr other) = absurd other
     named (x ∷ xs) none map is = absurd (cc (none))
@@ -147,28 +147,28 @@ set_bytes files n f old new k = by (k == n)
     by true = new
     by false = old k
 
-pub sound_changed : (change : File → File) (v : TreeState) (n : ℕ) → IsSoundState v → IsFile (change (v.files n)).bytes → IsSoundState (change_at change v (Some n))
+pub sound_changed : (change : File → File) (v : TreeState) (n : ℕ) → IsSoundState v → IsFile (change (v.files n)).bytes → IsSoundState (with_file_changed change v (Some n))
 sound_changed change v n old new = record { folders = old.folders; named = old.named; bytes = set_bytes v.files n (change (v.files n)) old.bytes new }
 
 -- the newest state of a store is sound
-pub store_sound : (cs : List Change) (es : List NameAndFile) (files : List Stored) → IsStore cs es files → IsSoundState (state_on (contents_of files) empty_state cs)
-store_sound cs es files store = All-head IsSoundState (state_on (contents_of files) empty_state cs) (earlier_on (contents_of files) empty_state [] cs) store.sound
+pub store_sound : (cs : List Change) (es : List NameAndFile) (files : List Stored) → IsStore cs es files → IsSoundState (state_after_changes (contents_of files) empty_state cs)
+store_sound cs es files store = All-head IsSoundState (state_after_changes (contents_of files) empty_state cs) (earlier_states (contents_of files) empty_state [] cs) store.sound
 
 -- ---- the changes
 
 -- the states that a store has with one change more
-pub history_pushed : (c : Change) (cs ds : List Change) (contents more : List (List ℕ)) (w : TreeState) → IsPushed c cs ds contents more → step more c (state_on contents empty_state cs) ≡ w
-    → state_on more empty_state ds ∷ earlier_on more empty_state [] ds ≡ w ∷ (state_on contents empty_state cs ∷ earlier_on contents empty_state [] cs)
-history_pushed c cs ds contents more w p is = pushed_history c cs ds contents more p ∙ ap (λ (v : TreeState). v ∷ (state_on contents empty_state cs ∷ earlier_on contents empty_state [] cs)) is
+pub history_pushed : (c : Change) (cs ds : List Change) (contents more : List (List ℕ)) (w : TreeState) → IsPushed c cs ds contents more → step more c (state_after_changes contents empty_state cs) ≡ w
+    → state_after_changes more empty_state ds ∷ earlier_states more empty_state [] ds ≡ w ∷ (state_after_changes contents empty_state cs ∷ earlier_states contents empty_state [] cs)
+history_pushed c cs ds contents more w p is = pushed_history c cs ds contents more p ∙ ap (λ (v : TreeState). v ∷ (state_after_changes contents empty_state cs ∷ earlier_states contents empty_state [] cs)) is
 
 -- and such a store
-pub store_pushed : (c : Change) (cs ds : List Change) (es : List NameAndFile) (contents : List (List ℕ)) (files : List Stored) (w : TreeState) → IsPushed c cs ds contents (contents_of files) → step (contents_of files) c (state_on contents empty_state cs) ≡ w
-    → HoldsState w es files → IsSoundState w → All IsSoundState (state_on contents empty_state cs ∷ earlier_on contents empty_state [] cs) → IsStore ds es files
+pub store_pushed : (c : Change) (cs ds : List Change) (es : List NameAndFile) (contents : List (List ℕ)) (files : List Stored) (w : TreeState) → IsPushed c cs ds contents (contents_of files) → step (contents_of files) c (state_after_changes contents empty_state cs) ≡ w
+    → HoldsState w es files → IsSoundState w → All IsSoundState (state_after_changes contents empty_state cs ∷ earlier_states contents empty_state [] cs) → IsStore ds es files
 store_pushed c cs ds es contents files w p is kept sound earlier =
     let same = sym (pushed_state c cs ds contents (contents_of files) p ∙ is) in record {
       recorded = pushed_record c cs ds contents (contents_of files) p;
       kept = subst (λ (v : TreeState). HoldsState v es files) same kept;
-      sound = subst (All IsSoundState) (sym (history_pushed c cs ds contents (contents_of files) w p is)) (All-cons IsSoundState w (state_on contents empty_state cs ∷ earlier_on contents empty_state [] cs) sound earlier);
+      sound = subst (All IsSoundState) (sym (history_pushed c cs ds contents (contents_of files) w p is)) (All-cons IsSoundState w (state_after_changes contents empty_state cs ∷ earlier_states contents empty_state [] cs) sound earlier);
     }
 
 -- one file more
@@ -187,7 +187,7 @@ more_names v name es fs files more s m kept q = ap (λ (n : ℕ). cond (bytes_eq
 
 module _ (name : List ℕ) (cs ds : List Change) (es fs : List NameAndFile) (files more : List Stored) (s : Stored) (store : IsStore cs es files) (m : IsMore name es fs files more s) where
   abbrev was : TreeState
-  was = state_on (contents_of files) empty_state cs
+  was = state_after_changes (contents_of files) empty_state cs
 
   pub put_pushed : ds ≡ cs ++ Put name (length files) (length s.bytes.items) ∷ [] → IsPushed (Put name (length files) (length s.bytes.items)) cs ds (contents_of files) (contents_of more)
   put_pushed is = record {
@@ -228,7 +228,7 @@ module _ (name : List ℕ) (cs ds : List Change) (es fs : List NameAndFile) (fil
   pub store_put : ds ≡ cs ++ Put name (length files) (length s.bytes.items) ∷ [] → s.synced ≡ true → IsName name → IsFile s.bytes.items → CanPut name was → IsStore ds fs more
   store_put is synced named file can = store_pushed (Put name (length files) (length s.bytes.items)) cs ds fs (contents_of files) more (after_put name s.bytes.items was) (put_pushed is) put_step (put_kept synced) (put_sound named file can) store.sound
 
-  pub history_put : ds ≡ cs ++ Put name (length files) (length s.bytes.items) ∷ [] → state_on (contents_of more) empty_state ds ∷ earlier_on (contents_of more) empty_state [] ds ≡ after_put name s.bytes.items was ∷ (was ∷ earlier_on (contents_of files) empty_state [] cs)
+  pub history_put : ds ≡ cs ++ Put name (length files) (length s.bytes.items) ∷ [] → state_after_changes (contents_of more) empty_state ds ∷ earlier_states (contents_of more) empty_state [] ds ≡ after_put name s.bytes.items was ∷ (was ∷ earlier_states (contents_of files) empty_state [] cs)
   history_put is = history_pushed (Put name (length files) (length s.bytes.items)) cs ds (contents_of files) (contents_of more) (after_put name s.bytes.items was) (put_pushed is) put_step
 
   pub create_pushed : ds ≡ cs ++ Create name ∷ [] → IsPushed (Create name) cs ds (contents_of files) (contents_of more)
@@ -241,32 +241,32 @@ module _ (name : List ℕ) (cs ds : List Change) (es fs : List NameAndFile) (fil
   pub create_sound : IsName name → CanCreate name was → IsSoundState (after_create name was)
   create_sound name_is can = record { folders = folders; named = named; bytes = set_bytes was.files was.made (record { bytes = []; synced = false }) was_sound.bytes empty_file }
     where
-      folders : (map : NameMap) → IsMapOf (after_create name was) map → HasNoFileAsFolder map
+      folders : (map : NameMap) → IsCurrentOrOlderMap (after_create name was) map → HasNoFileAsFolder map
       folders map (inl is) = subst HasNoFileAsFolder (sym is) can.folders
       folders map (inr other) = was_sound.folders map other
 
-      named : (map : NameMap) → IsMapOf (after_create name was) map → AreNames map
+      named : (map : NameMap) → IsCurrentOrOlderMap (after_create name was) map → AreNames map
       named map (inl is) = subst AreNames (sym is) (named_put was.names name was.made (was_sound.named was.names (inl refl)) name_is)
       named map (inr other) = was_sound.named map other
 
   pub store_create : ds ≡ cs ++ Create name ∷ [] → s.bytes.items ≡ [] → s.synced ≡ false → IsName name → CanCreate name was → IsStore ds fs more
   store_create is empty unsynced named can = store_pushed (Create name) cs ds fs (contents_of files) more (after_create name was) (create_pushed is) refl (create_kept empty unsynced) (create_sound named can) store.sound
 
-  pub history_create : ds ≡ cs ++ Create name ∷ [] → state_on (contents_of more) empty_state ds ∷ earlier_on (contents_of more) empty_state [] ds ≡ after_create name was ∷ (was ∷ earlier_on (contents_of files) empty_state [] cs)
+  pub history_create : ds ≡ cs ++ Create name ∷ [] → state_after_changes (contents_of more) empty_state ds ∷ earlier_states (contents_of more) empty_state [] ds ≡ after_create name was ∷ (was ∷ earlier_states (contents_of files) empty_state [] cs)
   history_create is = history_pushed (Create name) cs ds (contents_of files) (contents_of more) (after_create name was) (create_pushed is) refl
 
 -- ---- what is read
 
 pub read_absent : (v : TreeState) (es : List NameAndFile) (files : List Stored) (name : List ℕ) → HoldsState v es files → lookup es name ≡ None → files_of v name ≡ None
-read_absent v es files name kept absent = ap (bytes_at v.files) (kept.names name ∙ absent)
+read_absent v es files name kept absent = ap (bytes_of_file_number v.files) (kept.names name ∙ absent)
 
 pub read_present : (v : TreeState) (es : List NameAndFile) (files : List Stored) (name : List ℕ) (n : ℕ) → HoldsState v es files → lookup es name ≡ Some n → files_of v name ≡ Some (get_or (contents_of files) n [])
-read_present v es files name n kept present = ap (bytes_at v.files) (kept.names name ∙ present) ∙ ap Some (kept.bytes n)
+read_present v es files name n kept present = ap (bytes_of_file_number v.files) (kept.names name ∙ present) ∙ ap Some (kept.bytes n)
 
 -- a name leads to a file that is stored
 pub leads_within : (cs : List Change) (es : List NameAndFile) (files : List Stored) (name : List ℕ) (n : ℕ) → IsStore cs es files → lookup es name ≡ Some n → n < length files
 leads_within cs es files name n store present =
-    let v = state_on (contents_of files) empty_state cs in
+    let v = state_after_changes (contents_of files) empty_state cs in
     let below = ((bounded_state (contents_of files) cs).each v.names (inl refl)).below name n (store.kept.names name ∙ present) in
     omega (arith, below, store.kept.made)
 
@@ -275,10 +275,10 @@ pub stored_bytes : (files : List Stored) (n : ℕ) (file : Stored) → n < lengt
 stored_bytes files n file within is = get_or-map (λ (f : Stored). f.bytes.items) files n file [] within ∙ ap (λ (f : Stored). f.bytes.items) (sym is)
 
 -- a file put is read, and the others as before
-pub read-after_put : (name bytes : List ℕ) (v : TreeState) → AreBounded v → files_of (after_put name bytes v) ≡ put_name (files_of v) name bytes
+pub read-after_put : (name bytes : List ℕ) (v : TreeState) → AreMapsFiniteBelow v → files_of (after_put name bytes v) ≡ put_name (files_of v) name bytes
 read-after_put name bytes v bounded = λ i q. read q i
   where
-    apart : (q : List ℕ) (o : Option ℕ) → v.names q ≡ o → bytes_at (after_put name bytes v).files o ≡ bytes_at v.files o
+    apart : (q : List ℕ) (o : Option ℕ) → v.names q ≡ o → bytes_of_file_number (after_put name bytes v).files o ≡ bytes_of_file_number v.files o
     apart q None is = refl
     apart q (Some n) is =
         let below : n < v.made = (bounded.each v.names (inl refl)).below q n is in
@@ -286,16 +286,16 @@ read-after_put name bytes v bounded = λ i q. read q i
 
     read : (q : List ℕ) → files_of (after_put name bytes v) q ≡ put_name (files_of v) name bytes q
     read q =
-        ⊎_elim (λ is. ap (bytes_at (after_put name bytes v).files) (put-at v.names name v.made q is)
+        ⊎_elim (λ is. ap (bytes_of_file_number (after_put name bytes v).files) (put-at v.names name v.made q is)
         ∙ ap (λ b. Some (cond b (record { bytes = bytes; synced = true }) (v.files v.made)).bytes) (eq-eqb v.made v.made refl)
         ∙ sym (put-at (files_of v) name bytes q is))
         (λ off. let ne = off_name q name off in
-        ap (bytes_at (after_put name bytes v).files) (put-off v.names name v.made q ne) ∙ apart q (v.names q) refl ∙ sym (put-off (files_of v) name bytes q ne))
+        ap (bytes_of_file_number (after_put name bytes v).files) (put-off v.names name v.made q ne) ∙ apart q (v.names q) refl ∙ sym (put-off (files_of v) name bytes q ne))
         (name_cases q name)
 
 -- ---- the list of names
 
-pub names_listed : (names : List ℕ → Option ℕ) (es : List NameAndFile) → ((q : List ℕ) → names q ≡ lookup es q) → IsTable es → IsNamesOf names (names_of es)
+pub names_listed : (names : List ℕ → Option ℕ) (es : List NameAndFile) → ((q : List ℕ) → names q ≡ lookup es q) → IsSortedNameTable es → IsNamesOf names (names_of es)
 names_listed names es same table = record { rising = rising; each = λ q. (there q, back q) }
   where
     rising : AllPairs (λ a b. slice_cmp nat_cmp a b ≡ Less) (names_of es)

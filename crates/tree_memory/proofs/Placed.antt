@@ -16,7 +16,7 @@ use Rattle.std.proofs.lemmas.Bool.{cases_lt, cases_eq}
 use Rattle.base_core.specs.Files.{put_name, drop_name}
 use Rattle.base_core.proofs.AtName.{other_name, same_name, name_cases}
 use Rattle.base_core.proofs.Options.{none_at}
-use Rattle.tree_memory.specs.Table.{IsTable, lookup, IsNamed, IsInsertionPlace}
+use Rattle.tree_memory.specs.Table.{IsSortedNameTable, lookup, IsNameAtPlace, IsInsertionPlace}
 use Rattle.tree_memory.proofs.AtName.{is_name}
 use Rattle.tree_memory.specs.declared.table.NameAndFile.{NameAndFile}
 
@@ -24,20 +24,20 @@ flipped : (p q : List ℕ) (o : Ordering) → slice_cmp nat_cmp p q ≡ o → sl
 flipped p q o is = nat_list_cmp_total.antisymm q p ∙ ap ordering_reverse is
 
 -- the names of a table may be searched in halves
-pub searchable : (es : List NameAndFile) (x : List ℕ) → IsTable es → IsNonDecreasingBy (λ (e : NameAndFile). ordering_index (slice_cmp nat_cmp e.name x)) es
+pub searchable : (es : List NameAndFile) (x : List ℕ) → IsSortedNameTable es → IsNonDecreasingBy (λ (e : NameAndFile). ordering_index (slice_cmp nat_cmp e.name x)) es
 searchable es x table =
     searchable_from_sorted nat_list_cmp_total (λ (e : NameAndFile). e.name) es x (λ k d low high. ap is_lt (flipped (get_or es k d).name (get_or es (k + 1) d).name Less (table k (k + 1) d (omega arith) high)))
 
-pub named_from : (es : List NameAndFile) (name : List ℕ) (r : Result ℕ ℕ) → IsSearchInRange r (length es) → IsBinarySearchResult (λ (e : NameAndFile). slice_cmp nat_cmp e.name name) es r → IfOk r (λ i. IsNamed es i name)
+pub named_from : (es : List NameAndFile) (name : List ℕ) (r : Result ℕ ℕ) → IsSearchInRange r (length es) → IsBinarySearchResult (λ (e : NameAndFile). slice_cmp nat_cmp e.name name) es r → IfOk r (λ i. IsNameAtPlace es i name)
 named_from es name (Ok i) within found = record { within = within; here = λ d. exact_bytes _ _ (found d) }
 named_from es name (Err i) within found = tt
 
-pub place_from : (es : List NameAndFile) (name : List ℕ) (r : Result ℕ ℕ) → IsTable es → IsSearchInRange r (length es) → IsBinarySearchResult (λ (e : NameAndFile). slice_cmp nat_cmp e.name name) es r → IfErr r (λ i. IsInsertionPlace es i name)
+pub place_from : (es : List NameAndFile) (name : List ℕ) (r : Result ℕ ℕ) → IsSortedNameTable es → IsSearchInRange r (length es) → IsBinarySearchResult (λ (e : NameAndFile). slice_cmp nat_cmp e.name name) es r → IfErr r (λ i. IsInsertionPlace es i name)
 place_from es name (Ok i) table within found = tt
 place_from es name (Err i) table within found = let point = found (searchable es name table) in record { within = within; before = point.0; behind = point.1 }
 
 -- no two entries have one name
-pub apart : (es : List NameAndFile) → IsTable es → (i j : ℕ) (d : NameAndFile) → i < j → j < length es → (get_or es i d).name ≢ (get_or es j d).name
+pub apart : (es : List NameAndFile) → IsSortedNameTable es → (i j : ℕ) (d : NameAndFile) → i < j → j < length es → (get_or es i d).name ≢ (get_or es j d).name
 apart es table i j d below within = λ same.
     let less : slice_cmp nat_cmp (get_or es i d).name (get_or es j d).name ≡ Less = table i j d below within in
     let tied : slice_cmp nat_cmp (get_or es j d).name (get_or es j d).name ≡ Equal = tied_itself nat_list_cmp_total (get_or es j d).name in
@@ -59,7 +59,7 @@ lookup_off (e ∷ es) q d others =
     ap (λ b. cond b (Some e.file) (lookup es q)) (other_name q e.name (λ is. others 0 (omega arith) (sym is)))
     ∙ lookup_off es q d (λ j below. others (suc j) (omega arith))
 
-pub lookup_named : (es : List NameAndFile) (i : ℕ) (q : List ℕ) (d : NameAndFile) → IsTable es → IsNamed es i q → lookup es q ≡ Some (get_or es i d).file
+pub lookup_named : (es : List NameAndFile) (i : ℕ) (q : List ℕ) (d : NameAndFile) → IsSortedNameTable es → IsNameAtPlace es i q → lookup es q ≡ Some (get_or es i d).file
 lookup_named es i q d table named =
     lookup_at es i q d named.within (named.here d) (λ j below is. apart es table j i d below named.within (is ∙ sym (named.here d)))
 
@@ -114,7 +114,7 @@ lookup_set (f ∷ es) (suc i) e d within here others q =
     after_other f e q (lookup (set es i e) q) (lookup es q) (λ is. others 0 (omega arith) is) (lookup_set es i e d (omega arith) here (λ j below. others (suc j) (omega arith)) q)
 
 -- another number at a name that stands
-pub lookup-set : (es : List NameAndFile) (i : ℕ) (e d : NameAndFile) → IsTable es → IsNamed es i e.name → (q : List ℕ) → lookup (set es i e) q ≡ put_name (lookup es) e.name e.file q
+pub lookup-set : (es : List NameAndFile) (i : ℕ) (e d : NameAndFile) → IsSortedNameTable es → IsNameAtPlace es i e.name → (q : List ℕ) → lookup (set es i e) q ≡ put_name (lookup es) e.name e.file q
 lookup-set es i e d table named = lookup_set es i e d named.within (named.here d) (λ j below is. apart es table j i d below named.within (is ∙ sym (named.here d)))
 
 pub lookup_insert : (es : List NameAndFile) (i : ℕ) (e : NameAndFile) → lookup es e.name ≡ None → (q : List ℕ) → lookup (take i es ++ e ∷ drop i es) q ≡ put_name (lookup es) e.name e.file q
@@ -130,7 +130,7 @@ pub lookup-insert : (es : List NameAndFile) (i : ℕ) (e : NameAndFile) → IsIn
 lookup-insert es i e place = lookup_insert es i e (lookup_placed es i e.name place)
 
 -- a table stays one
-pub table-insert : (es : List NameAndFile) (i : ℕ) (e : NameAndFile) → IsTable es → IsInsertionPlace es i e.name → IsTable (insert es i e)
+pub table-insert : (es : List NameAndFile) (i : ℕ) (e : NameAndFile) → IsSortedNameTable es → IsInsertionPlace es i e.name → IsSortedNameTable (insert es i e)
 table-insert es i e table place a b d below within =
     ⊎_elim (λ b_below. ordered _ _ _ _ (at_below a (omega arith)) (at_below b b_below) (table a b d below (omega arith)))
     (λ b_above. ⊎_elim (λ b_here. ordered _ _ _ _ (at_below a (omega arith)) (at_here b b_here) (place.before a d (omega arith) (omega arith)))
@@ -182,7 +182,7 @@ lookup_remove (f ∷ es) (suc i) name d within here others q =
     kept_front f name q (lookup (take i es ++ drop (suc i) es) q) (lookup es q) (λ is. others 0 (omega arith) (λ same. omega (arith, same)) is)
     (lookup_remove es i name d (omega arith) here (λ j below ne. others (suc j) (omega arith) (λ same. ne (omega (arith, same)))) q)
 
-pub lookup-remove : (es : List NameAndFile) (i : ℕ) (name : List ℕ) → IsTable es → IsNamed es i name → (q : List ℕ) → lookup (take i es ++ drop (i + 1) es) q ≡ drop_name (lookup es) name q
+pub lookup-remove : (es : List NameAndFile) (i : ℕ) (name : List ℕ) → IsSortedNameTable es → IsNameAtPlace es i name → (q : List ℕ) → lookup (take i es ++ drop (i + 1) es) q ≡ drop_name (lookup es) name q
 lookup-remove es i name table named q =
     let d : NameAndFile = record { name = name; file = 0 } in
     ap (λ n. lookup (take i es ++ drop n es) q) (add-one i)
@@ -191,7 +191,7 @@ lookup-remove es i name table named q =
     (λ upper. ⊎_elim (λ same. ne same) (λ other. apart es table i j d (omega (arith, upper, other)) below (named.here d ∙ sym is)) (cases_eq j i)) (cases_lt j i))
     q
 
-pub table-remove : (es : List NameAndFile) (i : ℕ) → i < length es → IsTable es → IsTable (remove es i)
+pub table-remove : (es : List NameAndFile) (i : ℕ) → i < length es → IsSortedNameTable es → IsSortedNameTable (remove es i)
 table-remove es i within table = all_pairs_remove (λ (a b : NameAndFile). slice_cmp nat_cmp a.name b.name ≡ Less) es i within table
 
 -- a name that is absent is no news if it is taken away

@@ -3,7 +3,7 @@ use Rattle.std.proofs.Common.{◌≡◌, ℕ, zero, suc, ◌+◌, ◌-◌, ◌||
 use Rattle.std.specs.List.{list_any}
 use Rattle.std.specs.Option.{option_map}
 use Rattle.std.proofs.lemmas.Bool.Decides.{nat_tests}
-use Rattle.tree_memory.specs.Plans.{PlanState, is_after_stop, is_listed, is_next, is_stopped, is_to_fail, listed_on, one_on, plan_after}
+use Rattle.tree_memory.specs.Plans.{PlanState, is_after_stop, is_next_call_listed, is_next_call_to_fail, is_stop_reached, is_call_to_fail, listed_calls_after_one_call, plan_after_one_call, plan_after}
 
 -- the number k + 2 is one less behind the next call
 less_at : (n k : ℕ) → ltb 0 (n - 1) ≡ true → eqb (n - 1) (k + 1) ≡ eqb n (k + 2)
@@ -12,12 +12,12 @@ less_at n k ahead = grind (arith, nat_tests)
 not_at : (n k : ℕ) → ltb 0 (n - 1) ≡ false → eqb n (k + 2) ≡ false
 not_at n k past = grind (arith, nat_tests)
 
-listed_later : (listed : List ℕ) (k : ℕ) → list_any (λ n. eqb n (k + 1)) (listed_on listed) ≡ list_any (λ n. eqb n (k + 2)) listed
+listed_later : (listed : List ℕ) (k : ℕ) → list_any (λ n. eqb n (k + 1)) (listed_calls_after_one_call listed) ≡ list_any (λ n. eqb n (k + 2)) listed
 listed_later [] k = refl
 listed_later (n ∷ listed) k = by (ltb 0 (n - 1)) refl (listed_later listed k)
   where
-    by : (ahead : Bool) → ltb 0 (n - 1) ≡ ahead → list_any (λ m. eqb m (k + 1)) (listed_on listed) ≡ list_any (λ m. eqb m (k + 2)) listed
-        → list_any (λ m. eqb m (k + 1)) (cond ahead ((n - 1) ∷ listed_on listed) (listed_on listed)) ≡ (eqb n (k + 2) || list_any (λ m. eqb m (k + 2)) listed)
+    by : (ahead : Bool) → ltb 0 (n - 1) ≡ ahead → list_any (λ m. eqb m (k + 1)) (listed_calls_after_one_call listed) ≡ list_any (λ m. eqb m (k + 2)) listed
+        → list_any (λ m. eqb m (k + 1)) (cond ahead ((n - 1) ∷ listed_calls_after_one_call listed) (listed_calls_after_one_call listed)) ≡ (eqb n (k + 2) || list_any (λ m. eqb m (k + 2)) listed)
     by true is rest = ap₂ ◌||◌ (less_at n k is) rest
     by false is rest = rest ∙ sym (ap (λ b. b || list_any (λ m. eqb m (k + 2)) listed) (not_at n k is))
 
@@ -28,13 +28,13 @@ after_later (Some n) k = less n k
     less : (n k : ℕ) → ltb (n - 1) (k + 1) ≡ ltb n (k + 2)
     less n k = grind (arith, nat_tests)
 
-stopped_first : (stop : Option ℕ) → is_stopped stop ≡ is_after_stop stop 1
+stopped_first : (stop : Option ℕ) → is_stop_reached stop ≡ is_after_stop stop 1
 stopped_first None = refl
 stopped_first (Some n) = first n
   where
     first : (n : ℕ) → eqb n 0 ≡ ltb n 1
     first n = grind (arith, nat_tests)
 
-pub next-plan_after : (plan : PlanState) (k : ℕ) → is_next (plan_after k plan) ≡ is_to_fail plan (k + 1)
-next-plan_after plan zero = ap (λ b. is_listed plan.listed || b) (stopped_first plan.stop)
-next-plan_after plan (suc k) = next-plan_after (one_on plan) k ∙ ap₂ ◌||◌ (listed_later plan.listed k) (after_later plan.stop k) ∙ ap (is_to_fail plan) (omega arith)
+pub next-plan_after : (plan : PlanState) (k : ℕ) → is_next_call_to_fail (plan_after k plan) ≡ is_call_to_fail plan (k + 1)
+next-plan_after plan zero = ap (λ b. is_next_call_listed plan.listed || b) (stopped_first plan.stop)
+next-plan_after plan (suc k) = next-plan_after (plan_after_one_call plan) k ∙ ap₂ ◌||◌ (listed_later plan.listed k) (after_later plan.stop k) ∙ ap (is_call_to_fail plan) (omega arith)

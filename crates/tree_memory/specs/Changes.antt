@@ -3,7 +3,7 @@
 -- proofs of `store`, and *after_put* the contract of `put`.
 use Rattle.std.specs.Prelude.{ℕ, ◌+◌, Bool, true, false, ◌&&◌, is_some, nat_lt, nat_le, List, [], ◌∷◌, map, length, slice_index_or, take, Some}
 use Rattle.base_core.specs.Files.{no_names, put_name}
-use Rattle.base_core.specs.Tree.{TreeState, File, set_file, change_at, after_create, after_rename, after_remove, after_sync_names}
+use Rattle.base_core.specs.Tree.{TreeState, File, set_file, with_file_changed, after_create, after_rename, after_remove, after_sync_names}
 use Rattle.tree_memory.specs.declared.store.Change.{Change}
 use Rattle.tree_memory.specs.declared.store.Change.TheVariants.{Put, Create, Append, Sync, Rename, Remove, SyncNames, Stay}
 use Rattle.tree_memory.specs.declared.store.Stored.{Stored}
@@ -36,53 +36,53 @@ synced_flags files = map (λ file. file.synced) files
 
 -- The first bytes of a file, this many of them. A file only grows at its end, so what it held after a
 -- change is a prefix of its current bytes.
-abbrev pub front_of : List (List ℕ) → ℕ → ℕ → List ℕ
-front_of contents file len = take len (slice_index_or contents file [])
+abbrev pub first_bytes_of_file : List (List ℕ) → ℕ → ℕ → List ℕ
+first_bytes_of_file contents file len = take len (slice_index_or contents file [])
 
 -- what a change does to a state. Stay adds one more state that is the same
 abbrev pub step : List (List ℕ) → Change → TreeState → TreeState
-step contents (Put name file len) v = after_put name (front_of contents file len) v
+step contents (Put name file len) v = after_put name (first_bytes_of_file contents file len) v
 step contents (Create name) v = after_create name v
 step contents (Append file len) v =
-    change_at (λ f. record { bytes = front_of contents file len; synced = false }) v (Some file)
+    with_file_changed (λ f. record { bytes = first_bytes_of_file contents file len; synced = false }) v (Some file)
 step contents (Sync file) v =
-    change_at (λ f. record { bytes = f.bytes; synced = true }) v (Some file)
+    with_file_changed (λ f. record { bytes = f.bytes; synced = true }) v (Some file)
 step contents (Rename from to) v = after_rename from to v
 step contents (Remove name) v = after_remove name v
 step contents SyncNames v = after_sync_names v
 step contents Stay v = v
 
 -- the state that a record leads to from another
-abbrev pub state_on : List (List ℕ) → TreeState → List Change → TreeState
-state_on contents v [] = v
-state_on contents v (c ∷ cs) = state_on contents (step contents c v) cs
+abbrev pub state_after_changes : List (List ℕ) → TreeState → List Change → TreeState
+state_after_changes contents v [] = v
+state_after_changes contents v (c ∷ cs) = state_after_changes contents (step contents c v) cs
 
 -- the states before the one that a record leads to, the newest first, followed by those before the
 -- record
-abbrev pub earlier_on : List (List ℕ) → TreeState → List TreeState → List Change → List TreeState
-earlier_on contents v earlier [] = earlier
-earlier_on contents v earlier (c ∷ cs) = earlier_on contents (step contents c v) (v ∷ earlier) cs
+abbrev pub earlier_states : List (List ℕ) → TreeState → List TreeState → List Change → List TreeState
+earlier_states contents v earlier [] = earlier
+earlier_states contents v earlier (c ∷ cs) = earlier_states contents (step contents c v) (v ∷ earlier) cs
 
 -- ---- what a record is
 
 -- whether a file was made, and has at least this many bytes: a record keeps a length for each change,
 -- and the bytes once
-abbrev pub is_front : List (List ℕ) → ℕ → ℕ → Bool
-is_front contents file len =
+abbrev pub is_stored_prefix : List (List ℕ) → ℕ → ℕ → Bool
+is_stored_prefix contents file len =
     nat_lt file (length contents) && nat_le len (length (slice_index_or contents file []))
 
 -- whether a change of a state may be recorded: its bytes are kept, and its names are present
-abbrev pub can_step : List (List ℕ) → Change → TreeState → Bool
-can_step contents (Put name file len) v = is_front contents file len
-can_step contents (Create name) v = true
-can_step contents (Append file len) v = is_front contents file len
-can_step contents (Sync file) v = true
-can_step contents (Rename from to) v = is_some (v.names from)
-can_step contents (Remove name) v = is_some (v.names name)
-can_step contents SyncNames v = true
-can_step contents Stay v = true
+abbrev pub can_record_change : List (List ℕ) → Change → TreeState → Bool
+can_record_change contents (Put name file len) v = is_stored_prefix contents file len
+can_record_change contents (Create name) v = true
+can_record_change contents (Append file len) v = is_stored_prefix contents file len
+can_record_change contents (Sync file) v = true
+can_record_change contents (Rename from to) v = is_some (v.names from)
+can_record_change contents (Remove name) v = is_some (v.names name)
+can_record_change contents SyncNames v = true
+can_record_change contents Stay v = true
 
 -- whether each of some changes may be recorded at the state to which those before it lead
-abbrev pub is_record : List (List ℕ) → TreeState → List Change → Bool
-is_record contents v [] = true
-is_record contents v (c ∷ cs) = can_step contents c v && is_record contents (step contents c v) cs
+abbrev pub can_record_changes : List (List ℕ) → TreeState → List Change → Bool
+can_record_changes contents v [] = true
+can_record_changes contents v (c ∷ cs) = can_record_change contents c v && can_record_changes contents (step contents c v) cs

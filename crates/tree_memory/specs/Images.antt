@@ -4,7 +4,7 @@ use Rattle.std.specs.Prelude.{◌≡◌, ℕ, zero, suc, ◌+◌, ◌-◌, ◌*�
 use Rattle.std.specs.Option.{option_map}
 use Rattle.base_core.specs.Files.{Files, NameMap, HasNoFileAsFolder}
 use Rattle.base_core.specs.Tree.{TreeState, File}
-use Rattle.base_core.specs.Undone.{IsCrashMap, with_change}
+use Rattle.base_core.specs.Undone.{IsCrashMap, with_change_replayed}
 use Rattle.tree_memory.specs.Table.{lookup}
 use Rattle.tree_memory.specs.declared.store.Change.{Change}
 use Rattle.tree_memory.specs.declared.store.Change.TheVariants.{Put, Create, Append, Sync, Rename, Remove, SyncNames, Stay}
@@ -14,29 +14,29 @@ use Rattle.tree_memory.specs.declared.table.NameAndFile.{NameAndFile}
 -- ---- which changes of names are undone
 
 -- the greatest number of changes of names of which each subset is undone by a number
-abbrev pub few_changes : ℕ
-few_changes = 5
+abbrev pub most_changes_with_all_subsets : ℕ
+most_changes_with_all_subsets = 5
 
 -- whether the binary digit of a number is 1 at a place, counted from the lowest as 0
-abbrev pub is_one_at : ℕ → ℕ → Bool
-is_one_at n zero = n % 2 == 1
-is_one_at n (suc place) = is_one_at (n / 2) place
+abbrev pub is_bit_set_at : ℕ → ℕ → Bool
+is_bit_set_at n zero = n % 2 == 1
+is_bit_set_at n (suc place) = is_bit_set_at (n / 2) place
 
 -- Whether a change of names is undone, given how many there are since the names were last synced, the
 -- number that picks, and the number of the change, counted from the oldest as 0. Of few changes each
 -- subset has its number, with one binary digit for each change, the lowest for the newest. Of more
 -- changes the numbers up to their count undo so many of the newest ones, and each further number
 -- undoes one change alone, the oldest first.
-abbrev pub is_undone : ℕ → ℕ → ℕ → Bool
-is_undone changes pick number =
-    if nat_le changes few_changes then is_one_at pick (changes - number - 1)
+abbrev pub is_change_undone : ℕ → ℕ → ℕ → Bool
+is_change_undone changes pick number =
+    if nat_le changes most_changes_with_all_subsets then is_bit_set_at pick (changes - number - 1)
     else (if nat_le pick changes then nat_le (changes - pick) number
     else pick - changes - 1 == number)
 
 -- how many numbers pick, given how many changes of names there are; it saturates
-abbrev pub pick_count : ℕ → ℕ
-pick_count changes =
-    if nat_le changes few_changes then 2 ^ changes else min (changes * 2 + 1) (2 ^ 64 - 1)
+abbrev pub crash_image_count : ℕ → ℕ
+crash_image_count changes =
+    if nat_le changes most_changes_with_all_subsets then 2 ^ changes else min (changes * 2 + 1) (2 ^ 64 - 1)
 
 -- the map of names that a crash leaves that undoes these changes, given the newest map and the older
 -- ones. A change has as its number how many there are before it.
@@ -44,11 +44,11 @@ abbrev pub map_without : (ℕ → Bool) → NameMap → List NameMap → NameMap
 map_without undone new [] = new
 map_without undone new (old ∷ older) =
     if undone (length older) then map_without undone old older
-    else with_change old new (map_without undone old older)
+    else with_change_replayed old new (map_without undone old older)
 
 -- the map of names that a number picks
-abbrev pub picked_map : ℕ → TreeState → NameMap
-picked_map pick v = map_without (is_undone (length v.older) pick) v.names v.older
+abbrev pub picked_crash_map : ℕ → TreeState → NameMap
+picked_crash_map pick v = map_without (is_change_undone (length v.older) pick) v.names v.older
 
 -- ---- by a number
 
@@ -59,25 +59,25 @@ crash_bytes way file = if file.synced || way == 0 then file.bytes else
     (if way == 1 then [] else replicate (length file.bytes) 255)
 
 -- how many numbers pick a map of names of this state
-abbrev pub picks_of : TreeState → ℕ
-picks_of v = pick_count (length v.older)
+abbrev pub crash_image_count_of : TreeState → ℕ
+crash_image_count_of v = crash_image_count (length v.older)
 
 -- the map of names of the image that a number picks: the picked one, or that as read if the picked
 -- one has a file as a folder, which no tree has
-pub record IsImageMap (pick : ℕ) (v : TreeState) (map : NameMap) : Type 0 where
-  pub fits : HasNoFileAsFolder (picked_map pick v) → map ≡ picked_map pick v
-  pub as_read : (HasNoFileAsFolder (picked_map pick v) → ⊥) → map ≡ v.names
+pub record IsPickedImageMap (pick : ℕ) (v : TreeState) (map : NameMap) : Type 0 where
+  pub fits : HasNoFileAsFolder (picked_crash_map pick v) → map ≡ picked_crash_map pick v
+  pub as_read : (HasNoFileAsFolder (picked_crash_map pick v) → ⊥) → map ≡ v.names
 
 -- the files after the crash that a number chooses: its remainder by the count of the numbers that pick
 -- a map picks the map, and the quotient modulo 3 the contents of unsynced files
 abbrev pub IsImageOf : ℕ → TreeState → Files → Type 0
-IsImageOf choice v image = (map : NameMap) × IsImageMap (choice % picks_of v) v map
+IsImageOf choice v image = (map : NameMap) × IsPickedImageMap (choice % crash_image_count_of v) v map
     × ((q : List ℕ) → image q
-    ≡ option_map (λ n. crash_bytes ((choice / picks_of v) % 3) (v.files n)) (map q))
+    ≡ option_map (λ n. crash_bytes ((choice / crash_image_count_of v) % 3) (v.files n)) (map q))
 
 -- a table has the names of the image that a number picks
 pub record HasImageNames (pick : ℕ) (v : TreeState) (entries : List NameAndFile) : Type 0 where
-  pub map : IsImageMap pick v (lookup entries)
+  pub map : IsPickedImageMap pick v (lookup entries)
   pub left : IsCrashMap v (lookup entries)
   pub folders : HasNoFileAsFolder (lookup entries)
 
@@ -99,15 +99,15 @@ syncs_names SyncNames = true
 syncs_names Stay = false
 
 -- how many maps of names there are after a change, given how many there were before
-abbrev pub maps_on : Change → ℕ → ℕ
-maps_on (Put name file len) maps = 1
-maps_on (Create name) maps = maps + 1
-maps_on (Append file len) maps = maps
-maps_on (Sync file) maps = maps
-maps_on (Rename from to) maps = maps + 1
-maps_on (Remove name) maps = maps + 1
-maps_on SyncNames maps = 1
-maps_on Stay maps = maps
+abbrev pub map_count_after_change : Change → ℕ → ℕ
+map_count_after_change (Put name file len) maps = 1
+map_count_after_change (Create name) maps = maps + 1
+map_count_after_change (Append file len) maps = maps
+map_count_after_change (Sync file) maps = maps
+map_count_after_change (Rename from to) maps = maps + 1
+map_count_after_change (Remove name) maps = maps + 1
+map_count_after_change SyncNames maps = 1
+map_count_after_change Stay maps = maps
 
 -- a table has the names of a state, of which this many files were made
 pub record HasNames (v : TreeState) (entries : List NameAndFile) (count : ℕ) : Type 0 where

@@ -3,8 +3,8 @@
 -- at one moment", says when a state is sound.
 use Rattle.std.specs.Prelude.{◌≡◌, ℕ, true, false, List, [], ◌∷◌, length, slice_index_or, All}
 use Rattle.base_core.specs.Files.{NameMap, put_name, AreNames, IsFile, HasNoFileAsFolder}
-use Rattle.base_core.specs.Tree.{TreeState, IsMapOf}
-use Rattle.tree_memory.specs.Changes.{contents_of, synced_flags, empty_state, state_on, earlier_on, is_record}
+use Rattle.base_core.specs.Tree.{TreeState, IsCurrentOrOlderMap}
+use Rattle.tree_memory.specs.Changes.{contents_of, synced_flags, empty_state, state_after_changes, earlier_states, can_record_changes}
 use Rattle.tree_memory.specs.Table.{lookup}
 use Rattle.tree_memory.specs.declared.store.Change.{Change}
 use Rattle.tree_memory.specs.declared.store.Stored.{Stored}
@@ -20,17 +20,17 @@ pub record HoldsState (v : TreeState) (entries : List NameAndFile) (files : List
 -- a state is sound: in each map that a crash may leave no name is a folder of another and each is a
 -- name, and each file has the content of one
 pub record IsSoundState (v : TreeState) : Type 0 where
-  pub folders : (map : NameMap) → IsMapOf v map → HasNoFileAsFolder map
-  pub named : (map : NameMap) → IsMapOf v map → AreNames map
+  pub folders : (map : NameMap) → IsCurrentOrOlderMap v map → HasNoFileAsFolder map
+  pub named : (map : NameMap) → IsCurrentOrOlderMap v map → AreNames map
   pub bytes : (n : ℕ) → IsFile (v.files n).bytes
 
 -- what a store keeps: its changes are a record, its table and its files are those of the newest state,
 -- and each state so far is sound
 pub record IsStore (changes : List Change) (entries : List NameAndFile)
     (files : List Stored) : Type 0 where
-  pub recorded : is_record (contents_of files) empty_state changes ≡ true
-  pub kept : HoldsState (state_on (contents_of files) empty_state changes) entries files
-  pub sound : All IsSoundState (state_on (contents_of files) empty_state changes ∷ earlier_on
+  pub recorded : can_record_changes (contents_of files) empty_state changes ≡ true
+  pub kept : HoldsState (state_after_changes (contents_of files) empty_state changes) entries files
+  pub sound : All IsSoundState (state_after_changes (contents_of files) empty_state changes ∷ earlier_states
       (contents_of files) empty_state [] changes)
 
 -- a file may be put under this name: no present name becomes a folder of another

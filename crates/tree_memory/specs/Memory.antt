@@ -4,7 +4,7 @@
 use Rattle.std.specs.Prelude.{◌≡◌, ◌⊎◌, ℕ, true, false, if◌then◌else◌, List, Result, OnOk, OnErr, is_ok}
 use Rattle.base_core.specs.Faults.{Counts, next_count}
 use Rattle.base_core.specs.Tree.{TreeState}
-use Rattle.tree_memory.specs.Plans.{PlanState, is_next, has_more, one_on}
+use Rattle.tree_memory.specs.Plans.{PlanState, is_next_call_to_fail, has_later_failure, plan_after_one_call}
 use Rattle.tree_memory.specs.Stores.{store_state, store_history}
 use Rattle.tree_memory.specs.declared.calls.Calls.{Calls}
 use Rattle.tree_memory.specs.declared.tree.MemoryTree.{MemoryTree}
@@ -32,7 +32,7 @@ counts_by calls = record {
   faults = calls.tally.faults;
   misuses = calls.tally.misuses;
   memory_faults = calls.tally.memory_faults;
-  fallible = has_more calls.plan;
+  fallible = has_later_failure calls.plan;
 }
 
 -- how often the tree failed, was misused, and was out of memory
@@ -58,7 +58,7 @@ longest_of tree = tree.longest
 pub record IsReadCall {T E : Type 0} (old new : MemoryTree) (result : Result T E) : Type 0 where
   pub calls : calls_of new ≡ next_count (calls_of old)
   pub writes : writes_of new ≡ writes_of old
-  pub plan : plan_of new ≡ one_on (plan_of old)
+  pub plan : plan_of new ≡ plan_after_one_call (plan_of old)
   pub faults : (counts_of new).faults ≡ (if is_ok result then (counts_of old).faults else next_count
       (counts_of old).faults)
   pub memory_faults : (counts_of new).memory_faults ≡ (counts_of old).memory_faults
@@ -67,12 +67,12 @@ pub record IsReadCall {T E : Type 0} (old new : MemoryTree) (result : Result T E
 
 -- a call that has no reason to fail: no failure is planned for it, and it is no misuse
 pub record HasNoReasonToFail (can : TreeState → Type 0) (old : MemoryTree) : Type 0 where
-  pub unplanned : is_next (plan_of old) ≡ false
+  pub unplanned : is_next_call_to_fail (plan_of old) ≡ false
   pub proper : can (tree_state old)
 
 -- a call failed because that was planned, or because it was a misuse
 pub record HadToFail (can : TreeState → Type 0) (old new : MemoryTree) : Type 0 where
-  pub reason : (is_next (plan_of old) ≡ true) ⊎ (can (tree_state old) → ⊥)
+  pub reason : (is_next_call_to_fail (plan_of old) ≡ true) ⊎ (can (tree_state old) → ⊥)
   pub memory_faults : (counts_of new).memory_faults ≡ (counts_of old).memory_faults
 
 -- a call failed only because the tree was out of memory
@@ -86,7 +86,7 @@ pub record IsWriteCall {T E : Type 0} (can : TreeState → Type 0) (old new : Me
     (result : Result T E) : Type 0 where
   pub calls : calls_of new ≡ next_count (calls_of old)
   pub writes : writes_of new ≡ next_count (writes_of old)
-  pub plan : plan_of new ≡ one_on (plan_of old)
+  pub plan : plan_of new ≡ plan_after_one_call (plan_of old)
   pub longest : longest_of new ≡ longest_of old
   pub faults : (counts_of new).faults ≡ (if is_ok result then (counts_of old).faults else next_count
       (counts_of old).faults)

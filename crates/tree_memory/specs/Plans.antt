@@ -18,36 +18,36 @@ no_plan = record { listed = []; stop = None }
 -- ---- whether the next call is to fail
 
 -- whether the next call is on the list
-abbrev pub is_listed : List ℕ → Bool
-is_listed listed = list_any (λ n. n == 1) listed
+abbrev pub is_next_call_listed : List ℕ → Bool
+is_next_call_listed listed = list_any (λ n. n == 1) listed
 
 -- whether no call is left before the stop
-abbrev pub is_stopped : Option ℕ → Bool
-is_stopped None = false
-is_stopped (Some n) = n == 0
+abbrev pub is_stop_reached : Option ℕ → Bool
+is_stop_reached None = false
+is_stop_reached (Some n) = n == 0
 
 -- whether the next call is to fail
-abbrev pub is_next : PlanState → Bool
-is_next plan = is_listed plan.listed || is_stopped plan.stop
+abbrev pub is_next_call_to_fail : PlanState → Bool
+is_next_call_to_fail plan = is_next_call_listed plan.listed || is_stop_reached plan.stop
 
 -- whether a later call is to fail
-abbrev pub has_more : PlanState → Bool
-has_more plan = list_any (λ n. nat_lt 0 n) plan.listed || is_some plan.stop
+abbrev pub has_later_failure : PlanState → Bool
+has_later_failure plan = list_any (λ n. nat_lt 0 n) plan.listed || is_some plan.stop
 
 -- ---- the plan after the next call
 
 -- the listed numbers after one call: each is one less, and a number that reaches 0 is dropped
-abbrev pub listed_on : List ℕ → List ℕ
-listed_on listed = filter (λ n. nat_lt 0 n) (map (λ n. n - 1) listed)
+abbrev pub listed_calls_after_one_call : List ℕ → List ℕ
+listed_calls_after_one_call listed = filter (λ n. nat_lt 0 n) (map (λ n. n - 1) listed)
 
 -- the plan after one call
-abbrev pub one_on : PlanState → PlanState
-one_on plan = record { listed = listed_on plan.listed; stop = option_map (λ n. n - 1) plan.stop }
+abbrev pub plan_after_one_call : PlanState → PlanState
+plan_after_one_call plan = record { listed = listed_calls_after_one_call plan.listed; stop = option_map (λ n. n - 1) plan.stop }
 
 -- the plan after this many calls
 abbrev pub plan_after : ℕ → PlanState → PlanState
 plan_after zero plan = plan
-plan_after (suc k) plan = plan_after k (one_on plan)
+plan_after (suc k) plan = plan_after k (plan_after_one_call plan)
 
 -- ---- as it was made
 
@@ -57,5 +57,5 @@ is_after_stop None k = false
 is_after_stop (Some n) k = nat_lt n k
 
 -- whether call k, counted from 1, is to fail: it is listed, or is after the stop
-abbrev pub is_to_fail : PlanState → ℕ → Bool
-is_to_fail plan k = list_any (λ n. n == k) plan.listed || is_after_stop plan.stop k
+abbrev pub is_call_to_fail : PlanState → ℕ → Bool
+is_call_to_fail plan k = list_any (λ n. n == k) plan.listed || is_after_stop plan.stop k

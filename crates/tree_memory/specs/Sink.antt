@@ -34,17 +34,17 @@ len_that_fits None len = len
 len_that_fits (Some room) len = min len room
 
 -- how many of these bytes a write takes, by the planned limit: at least one, if there is one
-abbrev pub taken_len : Option ℕ → ℕ → ℕ
-taken_len None len = len
-taken_len (Some n) len = min len (max n 1)
+abbrev pub len_within_write_limit : Option ℕ → ℕ → ℕ
+len_within_write_limit None len = len
+len_within_write_limit (Some n) len = min len (max n 1)
 
 -- how many bytes of a piece are taken: all that fit, or the most that a write takes
-abbrev pub share_of : SinkState → List ℕ → ℕ
-share_of sink piece = taken_len sink.most (len_that_fits sink.room (length piece))
+abbrev pub accepted_len : SinkState → List ℕ → ℕ
+accepted_len sink piece = len_within_write_limit sink.most (len_that_fits sink.room (length piece))
 
 -- a write takes this many bytes of the piece: as many as it can
 pub record Takes (old : SinkState) (piece : List ℕ) (n : ℕ) (new : SinkState) : Type 0 where
-  pub taken : n ≡ share_of old piece
+  pub taken : n ≡ accepted_len old piece
   pub left : new ≡ record old {
     bytes = old.bytes ++ take n piece;
     room =
@@ -59,7 +59,7 @@ pub record WritesToFullSink (old : SinkState) (piece : List ℕ) (new : SinkStat
 
 -- a write of some bytes if the sink is out of memory
 pub record IsOutOfMemory (old : SinkState) (piece : List ℕ) (new : SinkState) : Type 0 where
-  pub some : 0 < share_of old piece
+  pub some : 0 < accepted_len old piece
   pub counted : new ≡ record old {
     faults = next_count old.faults;
     memory_faults = next_count

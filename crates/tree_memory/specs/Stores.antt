@@ -2,14 +2,14 @@
 -- `docs/crash-safety.md`, "Moments", says what a history is.
 use Rattle.std.specs.Prelude.{List, [], ◌∷◌}
 use Rattle.base_core.specs.Tree.{TreeState}
-use Rattle.tree_memory.specs.Changes.{empty_state, contents_of, state_on, earlier_on}
+use Rattle.tree_memory.specs.Changes.{empty_state, contents_of, state_after_changes, earlier_states}
 use Rattle.tree_memory.specs.declared.store.Store.{Store}
 
 -- the newest state of a store
 abbrev pub store_state : Store → TreeState
-store_state store = state_on (contents_of store.files.items) empty_state store.changes.items
+store_state store = state_after_changes (contents_of store.files.items) empty_state store.changes.items
 
 -- the states of a store so far, the newest first
 abbrev pub store_history : Store → List TreeState
 store_history store =
-    store_state store ∷ earlier_on (contents_of store.files.items) empty_state [] store.changes.items
+    store_state store ∷ earlier_states (contents_of store.files.items) empty_state [] store.changes.items

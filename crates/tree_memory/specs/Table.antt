@@ -12,8 +12,8 @@ use Rattle.base_core.specs.Files.{IsFolderOf}
 use Rattle.tree_memory.specs.declared.table.NameAndFile.{NameAndFile}
 
 -- entries are a table: each name is before the next ones, so that none is repeated
-abbrev pub IsTable : List NameAndFile → Type 0
-IsTable entries = AllPairs (λ a b. slice_cmp nat_cmp a.name b.name ≡ Less) entries
+abbrev pub IsSortedNameTable : List NameAndFile → Type 0
+IsSortedNameTable entries = AllPairs (λ a b. slice_cmp nat_cmp a.name b.name ≡ Less) entries
 
 -- the names of a table, in its order
 abbrev pub names_of : List NameAndFile → List (List ℕ)
@@ -25,7 +25,7 @@ lookup [] q = None
 lookup (e ∷ es) q = if bytes_eq q e.name then Some e.file else lookup es q
 
 -- this name is at this place of a table, counted from 0
-pub record IsNamed (entries : List NameAndFile) (i : ℕ) (name : List ℕ) : Type 0 where
+pub record IsNameAtPlace (entries : List NameAndFile) (i : ℕ) (name : List ℕ) : Type 0 where
   pub within : i < length entries
   pub here : HoldsAt (λ e. e.name ≡ name) entries i
 
@@ -37,7 +37,7 @@ pub record IsInsertionPlace (entries : List NameAndFile) (i : ℕ) (name : List 
 
 -- the names below this folder begin, or would begin, at this place of a table, counted from 0; 47 is
 -- the `/` after the folder
-pub record IsStart (entries : List NameAndFile) (i : ℕ) (folder : List ℕ) : Type 0 where
+pub record IsStartOfFolder (entries : List NameAndFile) (i : ℕ) (folder : List ℕ) : Type 0 where
   pub within : i ≤ length entries
   pub before : AllWithin (λ e. slice_cmp nat_cmp e.name (folder ++ 47 ∷ []) ≡ Less) entries 0 i
   pub behind : AllWithin (λ e. slice_cmp nat_cmp e.name (folder ++ 47 ∷ []) ≢ Less) entries i
@@ -51,19 +51,19 @@ pub record IsBelow (entries : List NameAndFile) (folder : List ℕ) (names : Lis
 -- ---- whether a name fits, if one name is left out
 
 -- a folder of this name is a name of the table, and not the one left out
-abbrev pub HasFolderBut : List NameAndFile → List ℕ → List ℕ → Type 0
-HasFolderBut entries name but =
+abbrev pub HasFolderOtherThan : List NameAndFile → List ℕ → List ℕ → Type 0
+HasFolderOtherThan entries name but =
     (folder : List ℕ) × IsFolderOf folder name
     × (IsSome (lookup entries folder) × (bytes_eq folder but ≡ false))
 
 -- a name of the table, other than the one left out, is below this folder
-abbrev pub HasBelowBut : List NameAndFile → List ℕ → List ℕ → Type 0
-HasBelowBut entries folder but =
+abbrev pub HasNameBelowOtherThan : List NameAndFile → List ℕ → List ℕ → Type 0
+HasNameBelowOtherThan entries folder but =
     (name : List ℕ) × IsFolderOf folder name
     × (IsSome (lookup entries name) × (bytes_eq name but ≡ false))
 
 -- no name of the table, other than the one left out, is a folder of this one or below it. Left out is
 -- the name that a rename removes, or the name itself
 pub record MakesNoFolderOfAnother (entries : List NameAndFile) (name but : List ℕ) : Type 0 where
-  pub above : HasFolderBut entries name but → ⊥
-  pub below : HasBelowBut entries name but → ⊥
+  pub above : HasFolderOtherThan entries name but → ⊥
+  pub below : HasNameBelowOtherThan entries name but → ⊥

@@ -7,8 +7,8 @@ use Rattle.std.specs.Str.{bytes_eq}
 use Rattle.std.specs.List.{list_any}
 use Rattle.std.proofs.lemmas.List.Elements.{All-nil, All-cons}
 use Rattle.base_core.specs.Files.{NameMap, HasNamesAmong, put_name, drop_name, move_name}
-use Rattle.base_core.specs.Tree.{TreeState, File, IsWellFormed, IsMapOf, change_at, with_names, after_create, move_at, remove_at, after_sync_names}
-use Rattle.tree_memory.specs.Changes.{empty_state, after_put, step, front_of, state_on, earlier_on, contents_of}
+use Rattle.base_core.specs.Tree.{TreeState, File, IsWellFormed, IsCurrentOrOlderMap, with_file_changed, with_names, after_create, with_file_moved, with_name_removed, after_sync_names}
+use Rattle.tree_memory.specs.Changes.{empty_state, after_put, step, first_bytes_of_file, state_after_changes, earlier_states, contents_of}
 use Rattle.tree_memory.specs.Kept.{IsSoundState}
 use Rattle.tree_memory.specs.Memory.{history_of}
 use Rattle.tree_memory.specs.declared.store.Change.{Change}
@@ -16,31 +16,31 @@ use Rattle.tree_memory.specs.declared.store.Change.TheVariants.{Put, Create, App
 use Rattle.tree_memory.specs.declared.tree.MemoryTree.{MemoryTree}
 
 -- a map has finitely many names, and leads to numbers below one
-pub record IsBounded (made : ℕ) (map : NameMap) : Type 0 where
+pub record IsFiniteMapBelow (made : ℕ) (map : NameMap) : Type 0 where
   pub finite : (names : List (List ℕ)) × HasNamesAmong names map
   pub below : (q : List ℕ) (n : ℕ) → map q ≡ Some n → n < made
 
 -- each map of a state is such a map
-pub record AreBounded (v : TreeState) : Type 0 where
-  pub each : (map : NameMap) → IsMapOf v map → IsBounded v.made map
+pub record AreMapsFiniteBelow (v : TreeState) : Type 0 where
+  pub each : (map : NameMap) → IsCurrentOrOlderMap v map → IsFiniteMapBelow v.made map
 
-bounded_empty : AreBounded empty_state
+bounded_empty : AreMapsFiniteBelow empty_state
 bounded_empty = record { each = λ map is. record { finite = finite map is; below = made map is } }
   where
-    finite : (map : NameMap) → IsMapOf empty_state map → (names : List (List ℕ))
+    finite : (map : NameMap) → IsCurrentOrOlderMap empty_state map → (names : List (List ℕ))
         × HasNamesAmong names map
     finite map (inl is) =
         ([], λ q some. let none : map q ≡ None = ap (λ (m : NameMap). m q) is in cc (none, some))
     finite map (inr other) = absurd other
 
-    made : (map : NameMap) → IsMapOf empty_state map → (q : List ℕ) (n : ℕ) → map q ≡ Some n → n < 0
+    made : (map : NameMap) → IsCurrentOrOlderMap empty_state map → (q : List ℕ) (n : ℕ) → map q ≡ Some n → n < 0
     made map (inl is) q n at = let none : map q ≡ None =
         ap (λ (m : NameMap). m q) is in absurd (cc (none, at))
     made map (inr other) q n at = absurd other
 
 -- ---- one map more, or the maps of a state with other files
 
-more_made : (made more : ℕ) (map : NameMap) → made ≤ more → IsBounded made map → IsBounded more map
+more_made : (made more : ℕ) (map : NameMap) → made ≤ more → IsFiniteMapBelow made map → IsFiniteMapBelow more map
 more_made made more map up old =
     record {
       finite = old.finite;
@@ -48,8 +48,8 @@ more_made made more map up old =
           old.below q n at in omega (arith, lower, up);
     }
 
-bounded_put : (made : ℕ) (name : List ℕ) (k : ℕ) (map : NameMap) → k < made → IsBounded made map
-    → IsBounded made (put_name map name k)
+bounded_put : (made : ℕ) (name : List ℕ) (k : ℕ) (map : NameMap) → k < made → IsFiniteMapBelow made map
+    → IsFiniteMapBelow made (put_name map name k)
 bounded_put made name k map under old = record {
   finite = (
     name ∷ old.finite.0,
@@ -70,8 +70,8 @@ bounded_put made name k map under old = record {
     lower n true was small at = let same : k ≡ n = cc (at) in omega (arith, under)
     lower n false was small at = small at
 
-bounded_drop : (made : ℕ) (name : List ℕ) (map : NameMap) → IsBounded made map
-    → IsBounded made (drop_name map name)
+bounded_drop : (made : ℕ) (name : List ℕ) (map : NameMap) → IsFiniteMapBelow made map
+    → IsFiniteMapBelow made (drop_name map name)
 bounded_drop made name map old = record {
   finite = (old.finite.0, λ q some. within q (bytes_eq q name) (old.finite.1 q) some);
   below = λ q n at. lower n (bytes_eq q name) (map q) (old.below q n) at;
@@ -89,112 +89,112 @@ bounded_drop made name map old = record {
 
 -- ---- what the changes leave
 
-same_map : (made : ℕ) (map new : NameMap) → map ≡ new → IsBounded made new → IsBounded made map
-same_map made map new is = subst (IsBounded made) (sym is)
+same_map : (made : ℕ) (map new : NameMap) → map ≡ new → IsFiniteMapBelow made new → IsFiniteMapBelow made map
+same_map made map new is = subst (IsFiniteMapBelow made) (sym is)
 
-bounded-after_put : (name bytes : List ℕ) (v : TreeState) → AreBounded v
-    → AreBounded (after_put name bytes v)
+bounded-after_put : (name bytes : List ℕ) (v : TreeState) → AreMapsFiniteBelow v
+    → AreMapsFiniteBelow (after_put name bytes v)
 bounded-after_put name bytes v whole = record { each = each }
   where
-    each : (map : NameMap) → IsMapOf (after_put name bytes v) map → IsBounded (v.made + 1) map
+    each : (map : NameMap) → IsCurrentOrOlderMap (after_put name bytes v) map → IsFiniteMapBelow (v.made + 1) map
     each map (inl is) =
         same_map (v.made + 1) map (put_name v.names name v.made) is
         (bounded_put (v.made + 1) name v.made v.names (omega arith)
         (more_made v.made (v.made + 1) v.names (omega arith) (whole.each v.names (inl refl))))
     each map (inr other) = absurd other
 
-bounded-after_create : (name : List ℕ) (v : TreeState) → AreBounded v
-    → AreBounded (after_create name v)
+bounded-after_create : (name : List ℕ) (v : TreeState) → AreMapsFiniteBelow v
+    → AreMapsFiniteBelow (after_create name v)
 bounded-after_create name v whole = record { each = each }
   where
-    each : (map : NameMap) → IsMapOf (after_create name v) map → IsBounded (v.made + 1) map
+    each : (map : NameMap) → IsCurrentOrOlderMap (after_create name v) map → IsFiniteMapBelow (v.made + 1) map
     each map (inl is) =
         same_map (v.made + 1) map (put_name v.names name v.made) is
         (bounded_put (v.made + 1) name v.made v.names (omega arith)
         (more_made v.made (v.made + 1) v.names (omega arith) (whole.each v.names (inl refl))))
     each map (inr old) = more_made v.made (v.made + 1) map (omega arith) (whole.each map old)
 
-bounded-change_at : (change : File → File) (v : TreeState) (o : Option ℕ) → AreBounded v
-    → AreBounded (change_at change v o)
-bounded-change_at change v None whole = whole
-bounded-change_at change v (Some n) whole = record { each = whole.each }
+bounded-with_file_changed : (change : File → File) (v : TreeState) (o : Option ℕ) → AreMapsFiniteBelow v
+    → AreMapsFiniteBelow (with_file_changed change v o)
+bounded-with_file_changed change v None whole = whole
+bounded-with_file_changed change v (Some n) whole = record { each = whole.each }
 
-bounded-with_names : (v : TreeState) (new : NameMap) → AreBounded v → IsBounded v.made new
-    → AreBounded (with_names v new)
+bounded-with_names : (v : TreeState) (new : NameMap) → AreMapsFiniteBelow v → IsFiniteMapBelow v.made new
+    → AreMapsFiniteBelow (with_names v new)
 bounded-with_names v new whole small = record { each = each }
   where
-    each : (map : NameMap) → IsMapOf (with_names v new) map → IsBounded v.made map
+    each : (map : NameMap) → IsCurrentOrOlderMap (with_names v new) map → IsFiniteMapBelow v.made map
     each map (inl is) = same_map v.made map new is small
     each map (inr old) = whole.each map old
 
-bounded-move_at : (from to : List ℕ) (v : TreeState) (o : Option ℕ) → v.names from ≡ o
-    → AreBounded v → AreBounded (move_at from to v o)
-bounded-move_at from to v None is whole = whole
-bounded-move_at from to v (Some n) is whole =
+bounded-with_file_moved : (from to : List ℕ) (v : TreeState) (o : Option ℕ) → v.names from ≡ o
+    → AreMapsFiniteBelow v → AreMapsFiniteBelow (with_file_moved from to v o)
+bounded-with_file_moved from to v None is whole = whole
+bounded-with_file_moved from to v (Some n) is whole =
     let old = whole.each v.names (inl refl) in
     bounded-with_names v (move_name v.names from to n) whole
     (bounded_put v.made to n (drop_name v.names from) (old.below from n is)
     (bounded_drop v.made from v.names old))
 
-bounded-remove_at : (name : List ℕ) (v : TreeState) (o : Option ℕ) → AreBounded v
-    → AreBounded (remove_at name v o)
-bounded-remove_at name v None whole = whole
-bounded-remove_at name v (Some n) whole =
+bounded-with_name_removed : (name : List ℕ) (v : TreeState) (o : Option ℕ) → AreMapsFiniteBelow v
+    → AreMapsFiniteBelow (with_name_removed name v o)
+bounded-with_name_removed name v None whole = whole
+bounded-with_name_removed name v (Some n) whole =
     bounded-with_names v (drop_name v.names name) whole
     (bounded_drop v.made name v.names (whole.each v.names (inl refl)))
 
-bounded-after_sync_names : (v : TreeState) → AreBounded v → AreBounded (after_sync_names v)
+bounded-after_sync_names : (v : TreeState) → AreMapsFiniteBelow v → AreMapsFiniteBelow (after_sync_names v)
 bounded-after_sync_names v whole = record { each = each }
   where
-    each : (map : NameMap) → IsMapOf (after_sync_names v) map → IsBounded v.made map
+    each : (map : NameMap) → IsCurrentOrOlderMap (after_sync_names v) map → IsFiniteMapBelow v.made map
     each map (inl is) = same_map v.made map v.names is (whole.each v.names (inl refl))
     each map (inr other) = absurd other
 
 -- a recorded change keeps that names lead only to files that were made, and are of finite number
-pub bounded-step : (contents : List (List ℕ)) (c : Change) (v : TreeState) → AreBounded v
-    → AreBounded (step contents c v)
+pub bounded-step : (contents : List (List ℕ)) (c : Change) (v : TreeState) → AreMapsFiniteBelow v
+    → AreMapsFiniteBelow (step contents c v)
 bounded-step contents (Put name file len) v whole =
-    bounded-after_put name (front_of contents file len) v whole
+    bounded-after_put name (first_bytes_of_file contents file len) v whole
 bounded-step contents (Create name) v whole = bounded-after_create name v whole
 bounded-step contents (Append file len) v whole =
-    bounded-change_at (λ (f : File). record {
-      bytes = front_of contents file len;
+    bounded-with_file_changed (λ (f : File). record {
+      bytes = first_bytes_of_file contents file len;
       synced =
           false;
     }) v (Some file) whole
 bounded-step contents (Sync file) v whole =
-    bounded-change_at (λ (f : File). record { bytes = f.bytes; synced = true }) v (Some file) whole
-bounded-step contents (Rename from to) v whole = bounded-move_at from to v (v.names from) refl whole
-bounded-step contents (Remove name) v whole = bounded-remove_at name v (v.names name) whole
+    bounded-with_file_changed (λ (f : File). record { bytes = f.bytes; synced = true }) v (Some file) whole
+bounded-step contents (Rename from to) v whole = bounded-with_file_moved from to v (v.names from) refl whole
+bounded-step contents (Remove name) v whole = bounded-with_name_removed name v (v.names name) whole
 bounded-step contents SyncNames v whole = bounded-after_sync_names v whole
 bounded-step contents Stay v whole = whole
 
-bounded_from : (contents : List (List ℕ)) (v : TreeState) (cs : List Change) → AreBounded v
-    → AreBounded (state_on contents v cs)
+bounded_from : (contents : List (List ℕ)) (v : TreeState) (cs : List Change) → AreMapsFiniteBelow v
+    → AreMapsFiniteBelow (state_after_changes contents v cs)
 bounded_from contents v [] whole = whole
 bounded_from contents v (c ∷ cs) whole =
     bounded_from contents (step contents c v) cs (bounded-step contents c v whole)
 
 -- the newest state of a record is whole
 pub bounded_state : (contents : List (List ℕ)) (cs : List Change)
-    → AreBounded (state_on contents empty_state cs)
+    → AreMapsFiniteBelow (state_after_changes contents empty_state cs)
 bounded_state contents cs = bounded_from contents empty_state cs bounded_empty
 
 bounded_earlier : (contents : List (List ℕ)) (v : TreeState) (earlier : List TreeState)
-    (cs : List Change) → AreBounded v → All AreBounded earlier
-    → All AreBounded (earlier_on contents v earlier cs)
+    (cs : List Change) → AreMapsFiniteBelow v → All AreMapsFiniteBelow earlier
+    → All AreMapsFiniteBelow (earlier_states contents v earlier cs)
 bounded_earlier contents v earlier [] whole all = all
 bounded_earlier contents v earlier (c ∷ cs) whole all =
     bounded_earlier contents (step contents c v) (v ∷ earlier) cs (bounded-step contents c v whole)
-    (All-cons AreBounded v earlier whole all)
+    (All-cons AreMapsFiniteBelow v earlier whole all)
 
 bounded_history : (contents : List (List ℕ)) (cs : List Change)
-    → All AreBounded (state_on contents empty_state cs ∷ earlier_on contents empty_state [] cs)
+    → All AreMapsFiniteBelow (state_after_changes contents empty_state cs ∷ earlier_states contents empty_state [] cs)
 bounded_history contents cs =
-    All-cons AreBounded (state_on contents empty_state cs) _ (bounded_state contents cs)
-    (bounded_earlier contents empty_state [] cs bounded_empty (All-nil AreBounded))
+    All-cons AreMapsFiniteBelow (state_after_changes contents empty_state cs) _ (bounded_state contents cs)
+    (bounded_earlier contents empty_state [] cs bounded_empty (All-nil AreMapsFiniteBelow))
 
-well_formed_by_both : (v : TreeState) → AreBounded v → IsSoundState v → IsWellFormed v
+well_formed_by_both : (v : TreeState) → AreMapsFiniteBelow v → IsSoundState v → IsWellFormed v
 well_formed_by_both v bounded sound = record {
   finite = λ map is. (bounded.each map is).finite;
   named = sound.named;

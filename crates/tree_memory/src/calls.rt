@@ -3,7 +3,7 @@
 
 ghost use Rattle.std.specs.Prelude.{◌≡◌, [], None, Some, OnOk, OnErr, is_ok, if◌then◌else◌, ◌⊎◌, ◌+◌, ℕ, false};
 ghost use Rattle.base_core.specs.Faults.{next_count, HasCause, Rose};
-ghost use Rattle.tree_memory.specs.Plans.{PlanState, no_plan, is_next, is_listed, one_on, listed_on, has_more, is_to_fail, plan_after};
+ghost use Rattle.tree_memory.specs.Plans.{PlanState, no_plan, is_next_call_to_fail, is_next_call_listed, plan_after_one_call, listed_calls_after_one_call, has_later_failure, is_call_to_fail, plan_after};
 ghost use Rattle.tree_memory.specs.Tallies.{no_calls, with_call, with_fault, with_misuse, with_memory_fault, with_begun_call, goes_on, HasNotFallen};
 ghost use Rattle.tree_memory.specs.Memory.{plan_of, counts_of};
 ghost use Rattle.tree_memory.specs.Sink.{SinkState, sink_counts};
@@ -61,8 +61,8 @@ impl Plan {
 
     /// Whether the next call is to fail. Afterwards the plan is one call nearer.
     pub fn pass(&mut self) -> bool
-        ensures planned { result ≡ is_next self.old }
-        ensures nearer { self.new ≡ one_on self.old }
+        ensures planned { result ≡ is_next_call_to_fail self.old }
+        ensures nearer { self.new ≡ plan_after_one_call self.old }
     {
         let listed = pass(&mut self.listed);
         match self.stop {
@@ -78,8 +78,8 @@ impl Plan {
 // Whether the next call is listed to fail. The call is then counted: each number is one less, and 0
 // is dropped.
 fn pass(plan: &mut Vec<u64>) -> bool
-    ensures planned { result ≡ is_listed plan.old.items }
-    ensures nearer { plan.new.items ≡ listed_on plan.old.items }
+    ensures planned { result ≡ is_next_call_listed plan.old.items }
+    ensures nearer { plan.new.items ≡ listed_calls_after_one_call plan.old.items }
 {
     let planned = plan.contains(&1);
     for n in plan.iter_mut() {
@@ -184,11 +184,11 @@ impl Calls {
     /// Counts a call. It fails if it is a misuse, or if its failure is planned.
     pub fn begin(&mut self, can: bool) -> Result<(), Disk>
         // The plan is one call nearer, and the call is counted, with its failure if it has one.
-        ensures plan { self.new.plan ≡ one_on self.old.plan }
+        ensures plan { self.new.plan ≡ plan_after_one_call self.old.plan }
         ensures tally { self.new.tally ≡ with_begun_call can
-            (is_next self.old.plan) self.old.tally }
+            (is_next_call_to_fail self.old.plan) self.old.tally }
         ensures grown { HasNotFallen self.old.tally self.new.tally }
-        ensures when { is_ok result ≡ goes_on can (is_next self.old.plan) }
+        ensures when { is_ok result ≡ goes_on can (is_next_call_to_fail self.old.plan) }
     {
         self.tally.call();
         let planned = self.plan.pass();
@@ -205,11 +205,11 @@ impl Calls {
 
     /// Counts a call that writes. It fails if it is a misuse, or if its failure is planned.
     pub fn begin_write(&mut self, can: bool) -> Result<(), Disk>
-        ensures plan { self.new.plan ≡ one_on self.old.plan }
-        ensures tally { self.new.tally ≡ with_begun_call can (is_next self.old.plan)
+        ensures plan { self.new.plan ≡ plan_after_one_call self.old.plan }
+        ensures tally { self.new.tally ≡ with_begun_call can (is_next_call_to_fail self.old.plan)
             (record self.old.tally { writes = next_count self.old.tally.writes }) }
         ensures grown { HasNotFallen self.old.tally self.new.tally }
-        ensures when { is_ok result ≡ goes_on can (is_next self.old.plan) }
+        ensures when { is_ok result ≡ goes_on can (is_next_call_to_fail self.old.plan) }
     {
         self.tally.write();
         self.begin(can)
@@ -235,7 +235,7 @@ impl Calls {
 
 /// If no failure of a tree in memory is planned, a fault is a misuse, or the tree is out of memory.
 pub fn an_unplanned_fault_has_its_reason()
-    ensures { (before now : MemoryTree) → has_more (plan_of before) ≡ false
+    ensures { (before now : MemoryTree) → has_later_failure (plan_of before) ≡ false
         → HasCause (counts_of before) (counts_of now)
         → Rose (counts_of before).misuses (counts_of now).misuses
         ⊎ Rose (counts_of before).memory_faults (counts_of now).memory_faults }
@@ -251,5 +251,5 @@ pub fn an_endless_sink_runs_out_of_memory()
 /// Apart from misuses and out of memory, call k from now on fails exactly if it is listed or after
 /// the stop.
 pub fn a_call_fails_where_it_is_planned()
-    ensures { (plan : PlanState) (k : ℕ) → is_next (plan_after k plan) ≡ is_to_fail plan (k + 1) }
+    ensures { (plan : PlanState) (k : ℕ) → is_next_call_to_fail (plan_after k plan) ≡ is_call_to_fail plan (k + 1) }
 {}

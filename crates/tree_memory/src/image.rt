@@ -4,10 +4,10 @@ ghost use Rattle.std.specs.Prelude.{◌≡◌, ◌+◌, ◌-◌, ◌<◌, ◌≤
 ghost use Rattle.std.specs.List.{AllWithin};
 ghost use Rattle.std.specs.Str.{bytes_eq};
 ghost use Rattle.base_core.specs.Tree.{TreeState, files_of};
-ghost use Rattle.base_core.specs.Undone.{IsAfterCrash, IsCrashMap, leads_alike, with_change};
+ghost use Rattle.base_core.specs.Undone.{IsAfterCrash, IsCrashMap, lead_to_same_file, with_change_replayed};
 ghost use Rattle.base_core.specs.Files.{NameMap};
-ghost use Rattle.tree_memory.specs.Changes.{empty_state, state_on, step, can_step};
-ghost use Rattle.tree_memory.specs.Images.{newest_first, syncs_names, maps_on, is_one_at, is_undone, few_changes, pick_count, picks_of, picked_map, IsImageOf, HasImageNames, crash_bytes, stored_file, HasNames};
+ghost use Rattle.tree_memory.specs.Changes.{empty_state, state_after_changes, step, can_record_change};
+ghost use Rattle.tree_memory.specs.Images.{newest_first, syncs_names, map_count_after_change, is_bit_set_at, is_change_undone, most_changes_with_all_subsets, crash_image_count, crash_image_count_of, picked_crash_map, IsImageOf, HasImageNames, crash_bytes, stored_file, HasNames};
 ghost use Rattle.tree_memory.specs.Stores.{store_state};
 ghost use Rattle.tree_memory.specs.Table.{lookup};
 
@@ -35,9 +35,9 @@ impl Store {
 
     /// How many numbers pick a map of names that a crash may leave.
     pub fn picks(&self) -> u64
-        ensures { result ≡ picks_of (store_state self.now) }
+        ensures { result ≡ crash_image_count_of (store_state self.now) }
     {
-        pick_count(self.maps() - 1)
+        crash_image_count(self.maps() - 1)
     }
 
     /// The store after the crash that a number chooses: the number picks the map of names and the
@@ -49,7 +49,7 @@ impl Store {
             IsAfterCrash (store_state self.now) (store_state image)) }
     {
         let changes = self.maps() - 1;
-        let picks = pick_count(changes);
+        let picks = crash_image_count(changes);
         let way = choice / picks % 3;
         let names = self.image_names(alloc, changes, choice % picks)?;
         let mut image = Store::new(alloc);
@@ -78,7 +78,7 @@ impl Store {
     fn picked_names(&self, alloc: Global, changes: u64, pick: u64) -> Result<NameTable, AllocError>
         requires { changes ≡ length (store_state self.now).older }
         ensures { IfOk result (λ names. (q : List ℕ) → lookup names.entries.items q
-            ≡ picked_map pick (store_state self.now) q) }
+            ≡ picked_crash_map pick (store_state self.now) q) }
     {
         // The names are followed from the moment of the last sync on, and beside them the picked
         // ones, which lack the changes that are undone.
@@ -96,7 +96,7 @@ impl Store {
         let mut maps = 1;
         for i in start..self.changes.len() {
             let change = &self.changes[i];
-            let undone = is_undone(changes, pick, maps - 1);
+            let undone = is_change_undone(changes, pick, maps - 1);
             change_picked(alloc, &mut picked, &names, made, change, undone)?;
             maps = maps_after(maps, change);
             made = replay(alloc, &mut names, made, change)?;
@@ -106,8 +106,8 @@ impl Store {
 }
 
 // How many numbers pick a map, given how many changes of names there are.
-fn pick_count(changes: u64) -> u64
-    ensures count { result ≡ pick_count changes }
+fn crash_image_count(changes: u64) -> u64
+    ensures count { result ≡ crash_image_count changes }
     ensures some { 0 < result }
 {
     if changes <= FEW_CHANGES {
@@ -117,11 +117,11 @@ fn pick_count(changes: u64) -> u64
 }
 
 // Whether the number that picks undoes the change of names with a number.
-fn is_undone(changes: u64, pick: u64, number: u64) -> bool
-    ensures { result ≡ is_undone changes pick number }
+fn is_change_undone(changes: u64, pick: u64, number: u64) -> bool
+    ensures { result ≡ is_change_undone changes pick number }
 {
     if changes <= FEW_CHANGES {
-        return is_one_at(pick, changes.saturating_sub(number).saturating_sub(1));
+        return is_bit_set_at(pick, changes.saturating_sub(number).saturating_sub(1));
     }
     if pick <= changes {
         return changes - pick <= number;
@@ -130,8 +130,8 @@ fn is_undone(changes: u64, pick: u64, number: u64) -> bool
 }
 
 // Whether the binary digit of a number is 1 at a place, counted from the lowest as 0.
-fn is_one_at(n: u64, place: u64) -> bool
-    ensures { result ≡ is_one_at n place }
+fn is_bit_set_at(n: u64, place: u64) -> bool
+    ensures { result ≡ is_bit_set_at n place }
 {
     let mut left = n;
     let mut places = place;
@@ -146,7 +146,7 @@ fn is_one_at(n: u64, place: u64) -> bool
 fn maps_after(maps: u64, change: &Change) -> u64
     // Counts have 64 bits, and the change may add one.
     requires { maps < 2 ^ 64 - 1 }
-    ensures { result ≡ maps_on change.now maps }
+    ensures { result ≡ map_count_after_change change.now maps }
 {
     match change {
         Change::Put { .. } => 1,
@@ -180,7 +180,7 @@ fn syncs_names(change: &Change) -> bool
 fn last_sync(changes: &[Change]) -> usize
     ensures within { result ≤ length changes.now }
     ensures synced { (contents : List (List ℕ))
-        → (state_on contents empty_state (take result changes.now)).older ≡ [] }
+        → (state_after_changes contents empty_state (take result changes.now)).older ≡ [] }
     ensures behind { AllWithin (λ c. syncs_names c ≡ false) changes.now result
         (length changes.now) }
 {
@@ -206,7 +206,7 @@ struct Replayed {
 // The names after the first changes of a record.
 fn names_after(alloc: Global, changes: &[Change]) -> Result<Replayed, AllocError>
     ensures names { IfOk result (λ replayed. (contents : List (List ℕ))
-        → HasNames (state_on contents empty_state changes.now) replayed.names.entries.items
+        → HasNames (state_after_changes contents empty_state changes.now) replayed.names.entries.items
         replayed.made) }
     ensures few { IfOk result (λ replayed. replayed.made ≤ length changes.now) }
 {
@@ -229,10 +229,10 @@ fn change_picked(
     undone: bool,
 ) -> Result<(), AllocError>
     ensures { OnOk result ((contents : List (List ℕ)) (v : TreeState)
-        → HasNames v names.now.entries.items made → can_step contents change.now v ≡ true
+        → HasNames v names.now.entries.items made → can_record_change contents change.now v ≡ true
         → (q : List ℕ) → lookup picked.new.entries.items q
         ≡ (if undone then lookup picked.old.entries.items q
-        else with_change v.names (step contents change.now v).names
+        else with_change_replayed v.names (step contents change.now v).names
         (lookup picked.old.entries.items) q)) }
 {
     if undone {
@@ -250,9 +250,9 @@ fn keep_change(
     change: &Change,
 ) -> Result<(), AllocError>
     ensures { OnOk result ((contents : List (List ℕ)) (v : TreeState)
-        → HasNames v names.now.entries.items made → can_step contents change.now v ≡ true
+        → HasNames v names.now.entries.items made → can_record_change contents change.now v ≡ true
         → (q : List ℕ) → lookup picked.new.entries.items q
-        ≡ with_change v.names (step contents change.now v).names
+        ≡ with_change_replayed v.names (step contents change.now v).names
         (lookup picked.old.entries.items) q) }
 {
     match change {
@@ -287,7 +287,7 @@ fn lead(
 ) -> Result<(), AllocError>
     ensures { OnOk result ((q : List ℕ) → lookup picked.new.entries.items q
         ≡ (if bytes_eq q name.now then
-        (if leads_alike (lookup names.now.entries.items name.now) file then
+        (if lead_to_same_file (lookup names.now.entries.items name.now) file then
         lookup picked.old.entries.items q else file)
         else lookup picked.old.entries.items q)) }
 {
@@ -360,11 +360,11 @@ fn crash_bytes(alloc: Global, file: &Stored, way: u64) -> Result<Vec<u8>, AllocE
 /// If few names were changed since the names were last synced, a number picks each map of names
 /// that a crash may leave.
 pub fn each_map_of_few_changes_is_picked()
-    ensures { (v : TreeState) (map : NameMap) → length v.older ≤ few_changes → IsCrashMap v map
-        → (pick : ℕ) × (pick < picks_of v) × (picked_map pick v ≡ map) }
+    ensures { (v : TreeState) (map : NameMap) → length v.older ≤ most_changes_with_all_subsets → IsCrashMap v map
+        → (pick : ℕ) × (pick < crash_image_count_of v) × (picked_crash_map pick v ≡ map) }
 {}
 
 /// The number 0 picks the map of names as read.
 pub fn no_change_is_undone_by_0()
-    ensures { (v : TreeState) → picked_map 0 v ≡ v.names }
+    ensures { (v : TreeState) → picked_crash_map 0 v ≡ v.names }
 {}

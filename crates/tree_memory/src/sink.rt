@@ -4,7 +4,7 @@
 ghost use Rattle.std.specs.Prelude.{◌≡◌, ◌≤◌, List, Option, Some, take, IfOk, OnErr, [], IsOk};
 ghost use Rattle.base_core.specs.Faults.{FailsWithCause, next_count};
 ghost use Rattle.base_core.specs.Sink.{Adds, IsWriteCount};
-ghost use Rattle.tree_memory.specs.Sink.{SinkState, new_sink, sink_counts, len_that_fits, taken_len, Takes, Refuses};
+ghost use Rattle.tree_memory.specs.Sink.{SinkState, new_sink, sink_counts, len_that_fits, len_within_write_limit, Takes, Refuses};
 
 use base_core::{Sink, SinkFault};
 use std::alloc::Global;
@@ -117,8 +117,8 @@ fn len_that_fits(room: Option<usize>, len: usize) -> usize
 }
 
 // How many of these bytes a write takes, by the planned limit: at least one if there is one.
-fn taken_len(most: Option<usize>, len: usize) -> usize
-    ensures { result ≡ taken_len most len }
+fn len_within_write_limit(most: Option<usize>, len: usize) -> usize
+    ensures { result ≡ len_within_write_limit most len }
 {
     match most {
         None => len,
@@ -148,7 +148,7 @@ impl Sink for MemorySink {
         if piece.is_empty() {
             return Ok(0);
         }
-        let n = taken_len(self.most, len_that_fits(self.room, piece.len()));
+        let n = len_within_write_limit(self.most, len_that_fits(self.room, piece.len()));
         if n == 0 {
             return Err(self.fault());
         }

@@ -6,7 +6,7 @@ ghost use Rattle.std.specs.Ordering.{nat_cmp, is_lt};
 ghost use Rattle.std.specs.Str.{bytes_eq};
 ghost use Rattle.std.specs.Cmp.Lexicographic.{slice_cmp};
 ghost use Rattle.base_core.specs.Files.{put_name, drop_name, HasNoFileAsFolder};
-ghost use Rattle.tree_memory.specs.Table.{IsTable, MakesNoFolderOfAnother, lookup, names_of, IsNamed, IsInsertionPlace, IsStart, IsBelow, HasFolderBut, HasBelowBut};
+ghost use Rattle.tree_memory.specs.Table.{IsSortedNameTable, MakesNoFolderOfAnother, lookup, names_of, IsNameAtPlace, IsInsertionPlace, IsStartOfFolder, IsBelow, HasFolderOtherThan, HasNameBelowOtherThan};
 
 use base_core::{Name, Names, is_folder_of};
 use std::alloc::{AllocError, Global};
@@ -26,7 +26,7 @@ pub struct NameAndFile {
 pub struct NameTable {
     /// In the byte order of their names, each name once.
     pub entries: Vec<NameAndFile>,
-    pub ghost rising: { IsTable entries.items },
+    pub ghost rising: { IsSortedNameTable entries.items },
 }
 
 impl NameTable {
@@ -51,7 +51,7 @@ impl NameTable {
 
     // The place of the name, or else the place where it would be inserted.
     fn place(&self, name: &[u8]) -> Result<usize, usize>
-        ensures found { IfOk result (λ i. IsNamed self.now.entries.items i name.now) }
+        ensures found { IfOk result (λ i. IsNameAtPlace self.now.entries.items i name.now) }
         ensures absent { IfErr result (λ i. IsInsertionPlace self.now.entries.items i name.now) }
     {
         self.entries
@@ -109,7 +109,7 @@ impl NameTable {
 
     // Whether a folder of the name is itself a name of the table, other than `but`.
     fn has_folder_of(&self, name: &[u8], but: &[u8]) -> bool
-        ensures { IsTrue result ↔ HasFolderBut self.now.entries.items name.now but.now }
+        ensures { IsTrue result ↔ HasFolderOtherThan self.now.entries.items name.now but.now }
     {
         for (i, byte) in name.iter().enumerate() {
             if *byte == b'/' && self.has_other(&name[..i], but) {
@@ -132,7 +132,7 @@ impl NameTable {
 
     // Whether a name of the table, other than `but`, is below the folder.
     fn has_below(&self, folder: &[u8], but: &[u8]) -> bool
-        ensures { IsTrue result ↔ HasBelowBut self.now.entries.items folder.now but.now }
+        ensures { IsTrue result ↔ HasNameBelowOtherThan self.now.entries.items folder.now but.now }
     {
         let start = self.start(folder);
         for i in start..self.entries.len() {
@@ -149,7 +149,7 @@ impl NameTable {
 
     // The place where the names below a folder begin, or would.
     fn start(&self, folder: &[u8]) -> usize
-        ensures { IsStart self.now.entries.items result folder.now }
+        ensures { IsStartOfFolder self.now.entries.items result folder.now }
     {
         self.entries
             .partition_point(|entry| is_before(entry.name.as_bytes(), folder))

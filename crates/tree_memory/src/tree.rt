@@ -11,9 +11,9 @@ ghost use Rattle.base_core.specs.Tree.{files_of, after_create, after_append, aft
 ghost use Rattle.base_core.specs.Undone.{IsAfterCrash};
 ghost use Rattle.base_core.specs.declared.tree.TreeFault.TheVariants.{Memory, Disk as DiskFault};
 ghost use Rattle.tree_memory.specs.Changes.{empty_state, after_put};
-ghost use Rattle.tree_memory.specs.Images.{newest_first, picks_of, IsImageOf};
+ghost use Rattle.tree_memory.specs.Images.{newest_first, crash_image_count_of, IsImageOf};
 ghost use Rattle.tree_memory.specs.Kept.{CanPut};
-ghost use Rattle.tree_memory.specs.Plans.{no_plan, is_next, has_more, one_on};
+ghost use Rattle.tree_memory.specs.Plans.{no_plan, is_next_call_to_fail, has_later_failure, plan_after_one_call};
 
 use crate::calls::{Calls, Plan};
 use crate::store::Store;
@@ -98,7 +98,7 @@ impl MemoryTree {
         ensures err { OnErr result (plan_of self.new ≡ plan_of self.old) }
         ensures history { history_of self.new ≡ history_of self.old }
         ensures counts { counts_of self.new
-            ≡ record (counts_of self.old) { fallible = has_more (plan_of self.new) } }
+            ≡ record (counts_of self.old) { fallible = has_later_failure (plan_of self.new) } }
         ensures calls { calls_of self.new ≡ calls_of self.old }
         ensures writes { writes_of self.new ≡ writes_of self.old }
         ensures longest { longest_of self.new ≡ longest_of self.old }
@@ -191,7 +191,7 @@ impl MemoryTree {
 
     /// How many numbers pick a map of names that a crash may leave.
     pub fn picks(&self) -> u64
-        ensures { result ≡ picks_of (tree_state self.now) }
+        ensures { result ≡ crash_image_count_of (tree_state self.now) }
     {
         self.store.picks()
     }
@@ -220,7 +220,7 @@ impl Tree for MemoryTree {
             (λ v. size ≡ option_map length (files_of v name.now))) }
 
         // It fails exactly if that is planned.
-        ensures when { IsOk result ↔ (is_next (plan_of self.old) ≡ false) }
+        ensures when { IsOk result ↔ (is_next_call_to_fail (plan_of self.old) ≡ false) }
         ensures call { IsReadCall self.old self.new result }
         ensures longest { longest_of self.new ≡ longest_of self.old }
     {
@@ -241,7 +241,7 @@ impl Tree for MemoryTree {
             into.new ≡ take (length into.old) (drop at bytes)))) }
 
         // It fails exactly if that is planned, or if it is a misuse.
-        ensures when { IsOk result ↔ ((is_next (plan_of self.old) ≡ false)
+        ensures when { IsOk result ↔ ((is_next_call_to_fail (plan_of self.old) ≡ false)
             × CanRead name.now at (length into.old) (tree_state self.old)) }
         ensures after_failed_call { OnErr result (into.new ≡ into.old) }
         ensures call { IsReadCall self.old self.new result }
@@ -357,12 +357,12 @@ impl Tree for MemoryTree {
         ensures order { IfOk result (λ names. AreNamesBelow folder.now names) }
 
         // The tree fails exactly if that is planned.
-        ensures when { IsErrOf result DiskFault ↔ (is_next (plan_of self.old) ≡ true) }
-        ensures plan { plan_of self.new ≡ one_on (plan_of self.old) }
+        ensures when { IsErrOf result DiskFault ↔ (is_next_call_to_fail (plan_of self.old) ≡ true) }
+        ensures plan { plan_of self.new ≡ plan_after_one_call (plan_of self.old) }
         ensures calls { calls_of self.new ≡ next_count (calls_of self.old) }
         ensures writes { writes_of self.new ≡ writes_of self.old }
         ensures faults { (counts_of self.new).faults
-            ≡ (if is_next (plan_of self.old) then next_count (counts_of self.old).faults else
+            ≡ (if is_next_call_to_fail (plan_of self.old) then next_count (counts_of self.old).faults else
             (counts_of self.old).faults) }
         ensures memory_faults { (counts_of self.new).memory_faults
             ≡ (counts_of self.old).memory_faults }
@@ -382,7 +382,7 @@ impl Tree for MemoryTree {
             (counts_of self.new) result }
 
         // It fails exactly if that is planned.
-        ensures when { IsOk result ↔ (is_next (plan_of self.old) ≡ false) }
+        ensures when { IsOk result ↔ (is_next_call_to_fail (plan_of self.old) ≡ false) }
         ensures call { IsReadCall self.old self.new result }
         ensures longest { longest_of self.new ≡ longest_of self.old }
     {

@@ -8,7 +8,7 @@ use Rattle.dep_core.specs.Dependency.{Dependency}
 use Rattle.search_tables.specs.candidate_core.Candidates.{Candidate, meets_dependency, occupies_name}
 use Rattle.search_tables.specs.candidate_core.Rank.{SealedPool, candidate_at}
 use Rattle.search_tables.specs.Selection.{conflicts_with, does_exclude, exclude_each_other, occupied_names, share_a_name}
-use Rattle.unmet_world.specs.Exclusion.{conflict_between, conflict_with, is_conflict_met_by, name_of_both, occupied_among, shared_name}
+use Rattle.unmet_world.specs.Exclusion.{conflict_between, conflict_with, is_conflict_met_by, shared_name_at_places, occupied_among, shared_name}
 
 found_any : {X : Type 0} (p : X → Bool) (xs : List X) (x : X) → find p xs ≡ Some x → list_any p xs ≡ true
 found_any p [] x e = absurd (cc)
@@ -79,9 +79,9 @@ module _ (pool : SealedPool) (a b : ℕ) (apart : (a == b) ≡ false) where
   pub by_conflict_back : {X : Type 0} (f : X → Dependency) (o : Option X) → option_map f o ≡ conflict_between pool b a → is_some o ≡ true → exclude_each_other pool a b ≡ true
   by_conflict_back f o is h = kept_out_back (conflicts b a (ap is_some (sym is) ∙ some_mapped f o h))
 
-  pub by_name : is_some (name_of_both pool a b) ≡ true → exclude_each_other pool a b ≡ true
+  pub by_name : is_some (shared_name_at_places pool a b) ≡ true → exclude_each_other pool a b ≡ true
   by_name h =
-      let found = some_is (name_of_both pool a b) h in
+      let found = some_is (shared_name_at_places pool a b) h in
       let held : share_a_name pool a b ≡ true = name_held (candidate_at pool a) (candidate_at pool b) found.0 found.1 in
       kept_out (rw held (or_true (conflicts_with pool a b)))
     where

@@ -8,7 +8,7 @@ use Rattle.search_tables.specs.candidate_core.Options.{IsIn, options_for}
 use Rattle.search_tables.specs.Selection.{IsSatisfying, is_met, positive_needs}
 use Rattle.search_tables.proofs.PoolFacts.{any_in, in_filter, in_map}
 use Rattle.search_tables.proofs.Satisfying.{closed_of_satisfying}
-use Rattle.unmet_world.specs.Refutation.{AreSteps, Follows, IsMetOnlyBy, IsRefutation, IsSure, if_positive, made_sure, owned_by, ruled_out}
+use Rattle.unmet_world.specs.Refutation.{AreDerivationSteps, Follows, IsMetOnlyBy, IsRefutation, IsSureOwner, if_positive, ids_made_sure, dependencies_of_owner, ids_ruled_out}
 use Rattle.unmet_world.specs.declared.refutation.Owner.{Owner}
 use Rattle.unmet_world.specs.declared.refutation.Owner.TheVariants.{World, Package}
 use Rattle.unmet_world.specs.declared.refutation.Want.{Want}
@@ -49,14 +49,14 @@ module _ (pool : SealedPool) (listed : (need : Need) (c : ℕ) → is_eligible_a
   IsOwner World = Unit {0}
   IsOwner (Package c) = IsIn c S
 
-  met : (owner : Owner) (q : Need) → IsOwner owner → IsIn q (positive_needs (owned_by pool owner)) → is_met pool S q ≡ true
+  met : (owner : Owner) (q : Need) → IsOwner owner → IsIn q (positive_needs (dependencies_of_owner pool owner)) → is_met pool S q ≡ true
   met World q own h = s.world_met q h
   met (Package c) q own h = s.depends_met c q own h
 
   one_of : (want : Want) (ids : List ℕ) → IsOwner want.owner → IsMetOnlyBy pool want ids → HasOneOf ids
   one_of want ids own only =
       let d = only.0 in
-      let m = any_in (λ c. meets_at pool c (entry d)) S (met want.owner (entry d) own (is_need (owned_by pool want.owner) want.index d only.1)) in
+      let m = any_in (λ c. meets_at pool c (entry d)) S (met want.owner (entry d) own (is_need (dependencies_of_owner pool want.owner) want.index d only.1)) in
       (m.0, only.2 m.0 (listed (entry d) m.0 (s.eligible m.0 m.1) m.2), m.1)
 
   -- what steps say of the selection
@@ -64,7 +64,7 @@ module _ (pool : SealedPool) (listed : (need : Need) (c : ℕ) → is_eligible_a
     pub none : (c : ℕ) → IsIn c out → IsIn c S → ⊥
     pub each : (c : ℕ) → IsIn c sure → IsIn c S
 
-  owner_of : (sure : List ℕ) (owner : Owner) → ((c : ℕ) → IsIn c sure → IsIn c S) → IsSure sure owner → IsOwner owner
+  owner_of : (sure : List ℕ) (owner : Owner) → ((c : ℕ) → IsIn c sure → IsIn c S) → IsSureOwner sure owner → IsOwner owner
   owner_of sure World each h = tt
   owner_of sure (Package c) each h = each c h
 
@@ -72,34 +72,34 @@ module _ (pool : SealedPool) (listed : (need : Need) (c : ℕ) → is_eligible_a
   is_it P c id rest here there (inl e) = subst P (sym e) here
   is_it P c id rest here there (inr h) = there c h
 
-  more : (step : Step) (steps : List Step) → Follows pool (ruled_out steps) (made_sure steps) step → Holds (ruled_out steps) (made_sure steps) → Holds (ruled_out (step ∷ steps)) (made_sure (step ∷ steps))
+  more : (step : Step) (steps : List Step) → Follows pool (ids_ruled_out steps) (ids_made_sure steps) step → Holds (ids_ruled_out steps) (ids_made_sure steps) → Holds (ids_ruled_out (step ∷ steps)) (ids_made_sure (step ∷ steps))
   more (Broken id index) steps f holds = record {
-    none = λ c h. is_it (λ (z : ℕ). IsIn z S → ⊥) c id (ruled_out steps) (λ there.
-        let one = one_of (record { owner = Package id; index = index }) (ruled_out steps) there f in
+    none = λ c h. is_it (λ (z : ℕ). IsIn z S → ⊥) c id (ids_ruled_out steps) (λ there.
+        let one = one_of (record { owner = Package id; index = index }) (ids_ruled_out steps) there f in
         holds.none one.0 one.1 one.2) holds.none h;
     each = holds.each;
   }
   more (Excluded id by) steps f holds = record {
-    none = λ c h. is_it (λ (z : ℕ). IsIn z S → ⊥) c id (ruled_out steps) (λ there.
+    none = λ c h. is_it (λ (z : ℕ). IsIn z S → ⊥) c id (ids_ruled_out steps) (λ there.
         (closed_of_satisfying pool S s).0.2 by id (holds.each by f.0) there f.1) holds.none h;
     each = holds.each;
   }
   more (Sure id want) steps f holds = record {
     none = holds.none;
-    each = λ c h. is_it (λ (z : ℕ). IsIn z S) c id (made_sure steps) (
-        let one = one_of want (id ∷ ruled_out steps) (owner_of (made_sure steps) want.owner holds.each f.0) f.1 in
+    each = λ c h. is_it (λ (z : ℕ). IsIn z S) c id (ids_made_sure steps) (
+        let one = one_of want (id ∷ ids_ruled_out steps) (owner_of (ids_made_sure steps) want.owner holds.each f.0) f.1 in
         elim one.1 [
           | inl e ↦ subst (λ (z : ℕ). IsIn z S) e one.2
           | inr out ↦ absurd (holds.none one.0 out one.2)
         ]) holds.each h;
   }
 
-  all : (steps : List Step) → AreSteps pool steps → Holds (ruled_out steps) (made_sure steps)
+  all : (steps : List Step) → AreDerivationSteps pool steps → Holds (ids_ruled_out steps) (ids_made_sure steps)
   all [] h = record { none = λ c bad there. bad; each = λ c bad. absurd bad }
   all (step ∷ steps) h = more step steps h.0 (all steps h.1)
 
   pub no_selection : (r : Refutation) → IsRefutation pool r → ⊥
   no_selection r is =
       let holds = all r.steps.items is.steps in
-      let one = one_of r.end (ruled_out r.steps.items) (owner_of (made_sure r.steps.items) r.end.owner holds.each is.sure) is.none_left in
+      let one = one_of r.end (ids_ruled_out r.steps.items) (owner_of (ids_made_sure r.steps.items) r.end.owner holds.each is.sure) is.none_left in
       holds.none one.0 one.1 one.2

@@ -5,9 +5,9 @@ use Rattle.search_tables.specs.Reasons.{HasSameMembers}
 use Rattle.std.proofs.lemmas.List.{drop_all}
 use Rattle.search_tables.specs.candidate_core.Rank.{SealedPool}
 use Rattle.search_tables.specs.candidate_core.Options.{IsIn}
-use Rattle.search_tables.specs.Selection.{AreMembers}
+use Rattle.search_tables.specs.Selection.{AreAllMembersOf}
 use Rattle.search_tables.proofs.Theory.{in_left, in_right, in_append}
-use Rattle.unmet_world.specs.Refutation.{AreSteps, Follows, IsMetOnlyBy, IsRefutation, IsSure, made_sure, makes_sure, ruled_out, rules_out}
+use Rattle.unmet_world.specs.Refutation.{AreDerivationSteps, Follows, IsMetOnlyBy, IsRefutation, IsSureOwner, ids_made_sure, ids_made_sure_by_step, ids_ruled_out, ids_ruled_out_by_step}
 use Rattle.unmet_world.specs.declared.refutation.Owner.{Owner}
 use Rattle.unmet_world.specs.declared.refutation.Owner.TheVariants.{World, Package}
 use Rattle.unmet_world.specs.declared.refutation.Want.{Want}
@@ -15,21 +15,21 @@ use Rattle.unmet_world.specs.declared.refutation.Refutation.{Refutation}
 use Rattle.unmet_world.specs.declared.refutation.Step.{Step}
 use Rattle.unmet_world.specs.declared.refutation.Step.TheVariants.{Broken, Excluded, Sure}
 
-pub members_both : (xs ys zs : List ℕ) → AreMembers ys zs → AreMembers (xs ++ ys) (xs ++ zs)
+pub members_both : (xs ys zs : List ℕ) → AreAllMembersOf ys zs → AreAllMembersOf (xs ++ ys) (xs ++ zs)
 members_both xs ys zs more c h = elim (in_append c xs ys h) [
   | inl a ↦ in_left c xs zs a
   | inr b ↦ in_right c xs zs (more c b)
 ]
 
 module _ (pool : SealedPool) where
-  pub only_by_more : (want : Want) (ids more : List ℕ) → AreMembers ids more → IsMetOnlyBy pool want ids → IsMetOnlyBy pool want more
+  pub only_by_more : (want : Want) (ids more : List ℕ) → AreAllMembersOf ids more → IsMetOnlyBy pool want ids → IsMetOnlyBy pool want more
   only_by_more want ids more members only = (only.0, only.1, λ c h. members c (only.2 c h))
 
-  pub sure_more : (owner : Owner) (sure more : List ℕ) → AreMembers sure more → IsSure sure owner → IsSure more owner
+  pub sure_more : (owner : Owner) (sure more : List ℕ) → AreAllMembersOf sure more → IsSureOwner sure owner → IsSureOwner more owner
   sure_more World sure more members h = tt
   sure_more (Package c) sure more members h = members c h
 
-  pub follows_more : (step : Step) (out out' sure sure' : List ℕ) → AreMembers out out' → AreMembers sure sure' → Follows pool out sure step → Follows pool out' sure' step
+  pub follows_more : (step : Step) (out out' sure sure' : List ℕ) → AreAllMembersOf out out' → AreAllMembersOf sure sure' → Follows pool out sure step → Follows pool out' sure' step
   follows_more (Broken id index) out out' sure sure' outs sures f = only_by_more (record { owner = Package id; index = index }) out out' outs f
   follows_more (Excluded id by) out out' sure sure' outs sures f = (sures by f.0, f.1)
   follows_more (Sure id want) out out' sure sure' outs sures f = (
@@ -47,21 +47,21 @@ drop_at (y ∷ xs) (suc i) x e = drop_at xs i x e
 
 -- some steps follow, and what is gathered is by them
 pub record AreGathered (pool : SealedPool) (steps : List Step) (out sure : List ℕ) : Type 0 where
-  pub steps_follow : AreSteps pool steps
-  pub out_by : AreMembers out (ruled_out steps)
-  pub sure_by : AreMembers sure (made_sure steps)
+  pub steps_follow : AreDerivationSteps pool steps
+  pub out_by : AreAllMembersOf out (ids_ruled_out steps)
+  pub sure_by : AreAllMembersOf sure (ids_made_sure steps)
 
-members_trans : (xs ys zs : List ℕ) → AreMembers xs ys → AreMembers ys zs → AreMembers xs zs
+members_trans : (xs ys zs : List ℕ) → AreAllMembersOf xs ys → AreAllMembersOf ys zs → AreAllMembersOf xs zs
 members_trans xs ys zs one other c h = other c (one c h)
 
-one_more : (pool : SealedPool) (step : Step) (steps : List Step) (out sure out' sure' : List ℕ) → AreGathered pool steps out sure → Follows pool out sure step → AreMembers out' (rules_out step ++ out) → AreMembers sure' (makes_sure step ++ sure) → AreGathered pool (step ∷ steps) out' sure'
+one_more : (pool : SealedPool) (step : Step) (steps : List Step) (out sure out' sure' : List ℕ) → AreGathered pool steps out sure → Follows pool out sure step → AreAllMembersOf out' (ids_ruled_out_by_step step ++ out) → AreAllMembersOf sure' (ids_made_sure_by_step step ++ sure) → AreGathered pool (step ∷ steps) out' sure'
 one_more pool step steps out sure out' sure' g f outs sures = record {
-  steps_follow = (follows_more pool step out (ruled_out steps) sure (made_sure steps) g.out_by g.sure_by f, g.steps_follow);
-  out_by = members_trans out' (rules_out step ++ out) (rules_out step ++ ruled_out steps) outs (members_both (rules_out step) out (ruled_out steps) g.out_by);
-  sure_by = members_trans sure' (makes_sure step ++ sure) (makes_sure step ++ made_sure steps) sures (members_both (makes_sure step) sure (made_sure steps) g.sure_by);
+  steps_follow = (follows_more pool step out (ids_ruled_out steps) sure (ids_made_sure steps) g.out_by g.sure_by f, g.steps_follow);
+  out_by = members_trans out' (ids_ruled_out_by_step step ++ out) (ids_ruled_out_by_step step ++ ids_ruled_out steps) outs (members_both (ids_ruled_out_by_step step) out (ids_ruled_out steps) g.out_by);
+  sure_by = members_trans sure' (ids_made_sure_by_step step ++ sure) (ids_made_sure_by_step step ++ ids_made_sure steps) sures (members_both (ids_made_sure_by_step step) sure (ids_made_sure steps) g.sure_by);
 }
 
-pub gathered_from : (pool : SealedPool) (steps : List Step) (i : ℕ) (step : Step) (out sure out' sure' : List ℕ) → slice_get steps i ≡ Some step → AreGathered pool (drop (suc i) steps) out sure → Follows pool out sure step → AreMembers out' (rules_out step ++ out) → AreMembers sure' (makes_sure step ++ sure) → AreGathered pool (drop i steps) out' sure'
+pub gathered_from : (pool : SealedPool) (steps : List Step) (i : ℕ) (step : Step) (out sure out' sure' : List ℕ) → slice_get steps i ≡ Some step → AreGathered pool (drop (suc i) steps) out sure → Follows pool out sure step → AreAllMembersOf out' (ids_ruled_out_by_step step ++ out) → AreAllMembersOf sure' (ids_made_sure_by_step step ++ sure) → AreGathered pool (drop i steps) out' sure'
 gathered_from pool steps i step out sure out' sure' at g f outs sures =
     subst (λ (z : List Step). AreGathered pool z out' sure') (sym (drop_at steps i step at)) (one_more pool step (drop (suc i) steps) out sure out' sure' g f outs sures)
 
@@ -77,7 +77,7 @@ none_gathered pool steps n out sure is no_out no_sure =
 -- ---- what a call has done
 
 -- a candidate that is added stands first
-pub added : {T E : Type 0} (r : Result T E) (new old : List ℕ) (id found : ℕ) → found ≡ id → OnOk r (HasSameMembers new (old ++ found ∷ [])) → OnOk r (AreMembers new (id ∷ old))
+pub added : {T E : Type 0} (r : Result T E) (new old : List ℕ) (id found : ℕ) → found ≡ id → OnOk r (HasSameMembers new (old ++ found ∷ [])) → OnOk r (AreAllMembersOf new (id ∷ old))
 added (Err e) new old id found is h = tt
 added (Ok x) new old id found is h = λ c there. elim (in_append c old (found ∷ []) (h.0 c there)) [
   | inl a ↦ inr a
@@ -90,11 +90,11 @@ if_true (Err e) to h = tt
 if_true (Ok b) to h = λ is. to (h is)
 
 -- the steps that were gathered from the first one on, and the end, are a refutation
-pub refuted : (pool : SealedPool) (r : Refutation) (left : ℕ) (out sure : List ℕ) → left ≡ 0 → AreGathered pool (drop left r.steps.items) out sure → IsSure sure r.end.owner → IsMetOnlyBy pool r.end out → IsRefutation pool r
+pub refuted : (pool : SealedPool) (r : Refutation) (left : ℕ) (out sure : List ℕ) → left ≡ 0 → AreGathered pool (drop left r.steps.items) out sure → IsSureOwner sure r.end.owner → IsMetOnlyBy pool r.end out → IsRefutation pool r
 refuted pool r left out sure none g is_sure only =
     let all : AreGathered pool r.steps.items out sure = subst (λ (n : ℕ). AreGathered pool (drop n r.steps.items) out sure) none g in
     record {
       steps = all.steps_follow;
-      sure = sure_more pool r.end.owner sure (made_sure r.steps.items) all.sure_by is_sure;
-      none_left = only_by_more pool r.end out (ruled_out r.steps.items) all.out_by only;
+      sure = sure_more pool r.end.owner sure (ids_made_sure r.steps.items) all.sure_by is_sure;
+      none_left = only_by_more pool r.end out (ids_ruled_out r.steps.items) all.out_by only;
     }

@@ -40,5 +40,5 @@ abbrev pub conflict_between : SealedPool → ℕ → ℕ → Option Dependency
 conflict_between pool a b = of_both conflict_with pool a b
 
 -- the first name that the candidates at two places both occupy
-abbrev pub name_of_both : SealedPool → ℕ → ℕ → Option (List ℕ)
-name_of_both pool a b = of_both shared_name pool a b
+abbrev pub shared_name_at_places : SealedPool → ℕ → ℕ → Option (List ℕ)
+shared_name_at_places pool a b = of_both shared_name pool a b

@@ -14,7 +14,7 @@ use Rattle.change_inputs.specs.declared.root.Refused.TheVariants as Refuseds
 use Rattle.command_core.specs.Command.{CommandLine}
 use Rattle.command_core.specs.declared.command.Applet.{Applet}
 use Rattle.command_core.specs.declared.command.Applet.TheVariants.{Add, Del, Upgrade, Fix}
-use Rattle.change_inputs.specs.package_files.Runs.{Explains}
+use Rattle.change_inputs.specs.package_files.Runs.{IsExplainedBySomeReads}
 use Rattle.report_core.specs.declared.refusal.Refusal.{Refusal}
 use Rattle.unmet_world.specs.Lines.{ExplainsWorld}
 
@@ -63,17 +63,17 @@ ExplainsIfRead (Err refusal) text = text ≡ []
 -- a text explains the world that a command asks for, by what is read of the root
 abbrev pub ExplainsChange : CommandLine → List TreeState → List ℕ → Type 0
 ExplainsChange command history text =
-    Explains history (λ read. ExplainsIfRead (inputs_of command read) text)
+    IsExplainedBySomeReads history (λ read. ExplainsIfRead (inputs_of command read) text)
 
 -- the same, of a command with this applet; the text is empty if it is no change of packages
-abbrev pub ExplainsBy : Applet → CommandLine → List TreeState → List ℕ → Type 0
-ExplainsBy Add command history text = ExplainsChange command history text
-ExplainsBy Del command history text = ExplainsChange command history text
-ExplainsBy Upgrade command history text = ExplainsChange command history text
-ExplainsBy Fix command history text = ExplainsChange command history text
-ExplainsBy applet command history text = text ≡ []
+abbrev pub ExplainsForApplet : Applet → CommandLine → List TreeState → List ℕ → Type 0
+ExplainsForApplet Add command history text = ExplainsChange command history text
+ExplainsForApplet Del command history text = ExplainsChange command history text
+ExplainsForApplet Upgrade command history text = ExplainsChange command history text
+ExplainsForApplet Fix command history text = ExplainsChange command history text
+ExplainsForApplet applet command history text = text ≡ []
 
 -- the same, of the words of a command line; the text is empty if they are none
-abbrev pub ExplainsWords : Result CommandLine ℕ → List TreeState → List ℕ → Type 0
-ExplainsWords (Ok command) history text = ExplainsBy command.applet command history text
-ExplainsWords (Err place) history text = text ≡ []
+abbrev pub ExplainsCommandLine : Result CommandLine ℕ → List TreeState → List ℕ → Type 0
+ExplainsCommandLine (Ok command) history text = ExplainsForApplet command.applet command history text
+ExplainsCommandLine (Err place) history text = text ≡ []

@@ -16,9 +16,9 @@ use Rattle.unmet_world.specs.declared.refutation.Want.{Want}
 use Rattle.unmet_world.specs.declared.refutation.Step.{Step}
 use Rattle.unmet_world.specs.declared.refutation.Step.TheVariants.{Broken, Excluded, Sure}
 use Rattle.unmet_world.specs.declared.refutation.Refutation.{Refutation}
-use Rattle.unmet_world.specs.Exclusion.{conflict_between, is_conflict_met_by, name_of_both}
+use Rattle.unmet_world.specs.Exclusion.{conflict_between, is_conflict_met_by, shared_name_at_places}
 use Rattle.unmet_world.specs.Similar.{similar_name}
-use Rattle.unmet_world.specs.Refutation.{IsFirstUnmetOfWorld, IsRefutation, if_positive, wanted, world_want}
+use Rattle.unmet_world.specs.Refutation.{IsFirstUnmetOfWorld, IsRefutation, if_positive, wanted, want_of_world_entry}
 
 -- ---- packages
 
@@ -53,8 +53,8 @@ abbrev pub is_same_text : Dependency → Dependency → Bool
 is_same_text d e = bytes_eq (dep_text d) (dep_text e)
 
 -- whether an entry of world is one of these: of world as its file lists it
-abbrev pub is_listed : List Dependency → Dependency → Bool
-is_listed listed d = option_map_or (is_same_text d) (find (is_named d.name) listed) false
+abbrev pub is_next_call_listed : List Dependency → Dependency → Bool
+is_next_call_listed listed d = option_map_or (is_same_text d) (find (is_named d.name) listed) false
 
 -- where an entry of world is from: the file of world has it, or else the command asks for it
 abbrev pub entry_origin : Bool → List ℕ
@@ -63,7 +63,7 @@ entry_origin false = codes "this command"
 
 -- where an entry of world is from, given the entries that the file of world lists
 abbrev pub entry_origin_text : List Dependency → Dependency → List ℕ
-entry_origin_text listed d = entry_origin (is_listed listed d)
+entry_origin_text listed d = entry_origin (is_next_call_listed listed d)
 
 -- who has a dependency
 abbrev pub dependency_owner_text :
@@ -80,24 +80,24 @@ needs_text pool listed repositories owner d =
 -- ---- what there is of a name
 
 -- the conflict of world that a candidate meets
-abbrev pub bar_text : List Dependency → Option Dependency → List ℕ
-bar_text listed None = []
-bar_text listed (Some d) =
+abbrev pub world_conflict_text : List Dependency → Option Dependency → List ℕ
+world_conflict_text listed None = []
+world_conflict_text listed (Some d) =
     codes " (" ++ entry_origin_text listed d ++ codes " has " ++ dep_text d ++ codes ")"
 
 -- why a candidate may not be selected: its tag, which world does not use, or a conflict of world;
 -- nothing if it may
-abbrev pub bar_reason_text : List Dependency → List Dependency → Candidate → List ℕ
-bar_reason_text listed world c =
+abbrev pub world_conflict_reason_text : List Dependency → List Dependency → Candidate → List ℕ
+world_conflict_reason_text listed world c =
     if is_allowed world c then
-    bar_text listed (find (is_conflict_met_by c) world) else
+    world_conflict_text listed (find (is_conflict_met_by c) world) else
     codes " (tagged @" ++ unwrap_or c.tag [] ++ codes ")"
 
 -- a candidate that offers a name: its version, or the package if it has another name
 abbrev pub offer_text : List Dependency → List Dependency → List ℕ → Candidate → List ℕ
 offer_text listed world name c =
     (if bytes_eq name c.name then unwrap_or c.version [] else name_and_version_text c)
-    ++ bar_reason_text listed world c
+    ++ world_conflict_reason_text listed world c
 
 -- the candidate at a place, which offers a name
 abbrev pub offer_text_at : SealedPool → List Dependency → List ℕ → ℕ → List ℕ
@@ -205,7 +205,7 @@ step_lines pool listed repositories (Broken id index) =
     want_lines pool listed repositories (record { owner = Package id; index = index })
 step_lines pool listed repositories (Excluded id by) =
     exclusion_lines pool repositories by id (conflict_between pool by id)
-    (conflict_between pool id by) (name_of_both pool by id)
+    (conflict_between pool id by) (shared_name_at_places pool by id)
 step_lines pool listed repositories (Sure id want) =
     only_lines pool listed repositories want.owner id (wanted pool want)
 
@@ -265,5 +265,5 @@ pub record ExplainsWorld (pool : SealedPool) (listed : List Dependency)
   -- the first entry of world that no candidate meets is the whole reason, if there is one
   pub named :
       (index : ℕ) → IsFirstUnmetOfWorld pool index →
-      MatchOption found ⊥ (λ r. (r.steps.items ≡ []) × (r.end ≡ world_want index))
+      MatchOption found ⊥ (λ r. (r.steps.items ≡ []) × (r.end ≡ want_of_world_entry index))
   pub says : text ≡ explanation_text pool listed repositories found

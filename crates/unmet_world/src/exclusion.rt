@@ -3,7 +3,7 @@
 ghost use Rattle.std.specs.Prelude.{◌≡◌, true, find, option_map, option_copied};
 ghost use Rattle.dep_core.specs.Meets.{dependency};
 ghost use Rattle.search_tables.specs.Selection.{exclude_each_other};
-ghost use Rattle.unmet_world.specs.Exclusion.{both_occupy, conflict_between, is_conflict_met_by, name_of_both, occupied_among, shared_name};
+ghost use Rattle.unmet_world.specs.Exclusion.{both_occupy, conflict_between, is_conflict_met_by, shared_name_at_places, occupied_among, shared_name};
 
 use dep_core::Dep;
 use search_tables::{CandId, Deps, Details, Sealed};
@@ -21,7 +21,7 @@ pub(crate) fn exclude_each_other(pool: &Sealed<'_>, a: CandId, b: CandId) -> boo
     if conflict_between(pool, b, a).is_some() {
         return true;
     }
-    name_of_both(pool, a, b).is_some()
+    shared_name_at_places(pool, a, b).is_some()
 }
 
 /// The first conflict of a candidate that another one meets.
@@ -58,8 +58,8 @@ pub(crate) fn is_conflict_met_by(dep: &Dep<'_>, other: &Details<'_>) -> bool
 }
 
 /// The first name that two candidates both occupy.
-pub(crate) fn name_of_both<'a>(pool: &Sealed<'a>, a: CandId, b: CandId) -> Option<&'a [u8]>
-    ensures { option_copied result ≡ name_of_both pool.now a b }
+pub(crate) fn shared_name_at_places<'a>(pool: &Sealed<'a>, a: CandId, b: CandId) -> Option<&'a [u8]>
+    ensures { option_copied result ≡ shared_name_at_places pool.now a b }
 {
     match (pool.at(a), pool.at(b)) {
         (Some(one), Some(other)) => shared_name(&one, &other),

@@ -7,8 +7,8 @@ ghost use Rattle.base_core.specs.Sink.{sink_change};
 ghost use Rattle.base_core.specs.declared.tree.TreeFault.TheVariants.{Disk as DiskFault};
 ghost use Rattle.change_inputs.specs.Seen.{inputs_seen};
 ghost use Rattle.change_inputs.specs.declared.root.Refused.TheVariants.{Disk as ReadFailed};
-ghost use Rattle.hint_core.specs.Told.{IsNoDisk, Tells};
-ghost use Rattle.unmet_world.specs.Explained.{ExplainsBy, ExplainsChange, ExplainsInputs, ExplainsPool, ExplainsResult, ExplainsWords, no_index_line};
+ghost use Rattle.hint_core.specs.Told.{IsNotDiskFault, Tells};
+ghost use Rattle.unmet_world.specs.Explained.{ExplainsForApplet, ExplainsChange, ExplainsInputs, ExplainsPool, ExplainsResult, ExplainsCommandLine, no_index_line};
 ghost use Rattle.words_core.specs.Grammar.{command_of};
 
 use crate::unmet::explanation_of;
@@ -35,8 +35,8 @@ pub fn explain_selection<T: Tree, S: Sink>(
 ) -> Result<(), HintFault>
     // The lines explain the world. If the call fails, nothing was written, or a prefix of them.
     ensures told { (text : List ℕ)
-        × ((text ≡ []) ⊎ ExplainsWords (command_of words.now) (T.history tree.old) text)
-        × OnOk result (ExplainsWords (command_of words.now) (T.history tree.old) text)
+        × ((text ≡ []) ⊎ ExplainsCommandLine (command_of words.now) (T.history tree.old) text)
+        × OnOk result (ExplainsCommandLine (command_of words.now) (T.history tree.old) text)
         × Tells text (sink_change S.bytes S.counts sink.old sink.new) result }
     // The tree is only read.
     ensures tree { OnlyReads HintFault.Disk (T.history tree.old) (T.history tree.new)
@@ -50,7 +50,7 @@ pub fn explain_selection<T: Tree, S: Sink>(
 fn say<S: Sink>(text: &[u8], sink: &mut S) -> Result<(), HintFault>
     ensures told { Tells text.now (sink_change S.bytes S.counts sink.old sink.new) result }
     // No tree failed.
-    ensures failed { IfErr result IsNoDisk }
+    ensures failed { IfErr result IsNotDiskFault }
 {
     Ok(write_all(sink, text)?)
 }
@@ -62,7 +62,7 @@ fn explanation_for<T: Tree>(
     tree: &mut T,
 ) -> Result<Vec<u8>, TreeFault>
     ensures text { IfOk result (λ text.
-        ExplainsWords (command_of words.now) (T.history tree.old) text.items) }
+        ExplainsCommandLine (command_of words.now) (T.history tree.old) text.items) }
     ensures tree { OnlyReads TreeFault.Disk (T.history tree.old) (T.history tree.new)
         (T.counts tree.old) (T.counts tree.new) result }
 {
@@ -80,7 +80,7 @@ fn explanation_of_command<T: Tree>(
     tree: &mut T,
 ) -> Result<Vec<u8>, TreeFault>
     ensures text { IfOk result (λ text.
-        ExplainsBy command.now.applet command.now (T.history tree.old) text.items) }
+        ExplainsForApplet command.now.applet command.now (T.history tree.old) text.items) }
     ensures tree { OnlyReads TreeFault.Disk (T.history tree.old) (T.history tree.new)
         (T.counts tree.old) (T.counts tree.new) result }
 {

@@ -2,11 +2,11 @@
 ghost use Rattle.std.specs.Prelude.{◌≡◌, ◌++◌, ◌<◌, ◌+◌, OnOk, IfOk, option_copied, option_to_list, take};
 ghost use Rattle.std.specs.List.{flat_map};
 ghost use Rattle.dep_core.specs.Meets.{dependency};
-ghost use Rattle.unmet_world.specs.Exclusion.{conflict_between, name_of_both};
+ghost use Rattle.unmet_world.specs.Exclusion.{conflict_between, shared_name_at_places};
 ghost use Rattle.unmet_world.specs.Refutation.{wanted};
 ghost use Rattle.unmet_world.specs.Lines.{needs_text, with_texts, missing_lines, want_lines, only_lines, conflict_text, sharing_text, exclusion_lines, step_lines, most_lines, refutation_lines, world_lines, printed_line, printed_lines, explanation_lines, explanation_text};
 
-use crate::exclusion::{conflict_between, name_of_both};
+use crate::exclusion::{conflict_between, shared_name_at_places};
 use crate::refutation::{Owner, Refutation, Step, Want, candidate, wanted};
 use crate::texts::{Sources, add_candidate_at, add_dep, add_once, add_owner, offers_line};
 use base_core::Text;
@@ -153,7 +153,7 @@ fn exclusion(
 ) -> Result<Option<Text>, AllocError>
     ensures { IfOk result (λ line. option_to_list line ≡ exclusion_lines sources.now.pool.now
         sources.now.repositories.now a b (conflict_between sources.now.pool.now a b)
-        (conflict_between sources.now.pool.now b a) (name_of_both sources.now.pool.now a b)) }
+        (conflict_between sources.now.pool.now b a) (shared_name_at_places sources.now.pool.now a b)) }
 {
     if let Some(dep) = conflict_between(sources.pool, a, b) {
         return Ok(Some(conflict(alloc, sources, a, b, &dep)?));
@@ -161,7 +161,7 @@ fn exclusion(
     if let Some(dep) = conflict_between(sources.pool, b, a) {
         return Ok(Some(conflict(alloc, sources, b, a, &dep)?));
     }
-    match name_of_both(sources.pool, a, b) {
+    match shared_name_at_places(sources.pool, a, b) {
         None => Ok(None),
         Some(name) => Ok(Some(sharing(alloc, sources, a, b, name)?)),
     }
@@ -178,7 +178,7 @@ fn add_exclusion(
     ensures { OnOk result (lines.new.items ≡ with_texts lines.old.items
         (exclusion_lines sources.now.pool.now
         sources.now.repositories.now a b (conflict_between sources.now.pool.now a b)
-        (conflict_between sources.now.pool.now b a) (name_of_both sources.now.pool.now a b))) }
+        (conflict_between sources.now.pool.now b a) (shared_name_at_places sources.now.pool.now a b))) }
 {
     match exclusion(alloc, sources, a, b)? {
         None => Ok(()),

@@ -4,8 +4,8 @@
 ghost use Rattle.std.specs.Prelude.{◌≡◌, ◌<◌, ◌∷◌, ◌++◌, [], length, Some, true, OnOk, IfOk, option_map, option_to_list, slice_get};
 ghost use Rattle.dep_core.specs.Meets.{dependency};
 ghost use Rattle.search_tables.specs.candidate_core.Options.{IsIn};
-ghost use Rattle.search_tables.specs.Selection.{AreMembers, depends_at};
-ghost use Rattle.unmet_world.specs.Refutation.{Follows, IsMetOnlyBy, IsRefutation, IsSure, if_positive, makes_sure, owned_by, rules_out, wanted};
+ghost use Rattle.search_tables.specs.Selection.{AreAllMembersOf, depends_at};
+ghost use Rattle.unmet_world.specs.Refutation.{Follows, IsMetOnlyBy, IsRefutation, IsSureOwner, if_positive, ids_made_sure_by_step, dependencies_of_owner, ids_ruled_out_by_step, wanted};
 
 use crate::exclusion::exclude_each_other;
 use dep_core::{Dep, World};
@@ -80,7 +80,7 @@ impl Checked {
 
     // Whether an owner is sure.
     fn is_sure(&self, owner: Owner) -> bool
-        ensures { result ≡ true → IsSure self.now.sure owner }
+        ensures { result ≡ true → IsSureOwner self.now.sure owner }
     {
         match owner {
             Owner::World => true,
@@ -122,8 +122,8 @@ impl Checked {
 
     // Adds what a step rules out or makes sure.
     fn add(&mut self, step: Step) -> Result<(), AllocError>
-        ensures out { OnOk result (AreMembers self.new.out (rules_out step ++ self.old.out)) }
-        ensures sure { OnOk result (AreMembers self.new.sure (makes_sure step ++ self.old.sure)) }
+        ensures out { OnOk result (AreAllMembersOf self.new.out (ids_ruled_out_by_step step ++ self.old.out)) }
+        ensures sure { OnOk result (AreAllMembersOf self.new.sure (ids_made_sure_by_step step ++ self.old.sure)) }
     {
         match step {
             Step::Broken { id, index: _ } => self.out.add(candidate(id)),
@@ -193,7 +193,7 @@ fn is_met_only_by(
 
 // Whether each option is ruled out, or is the one that is kept.
 fn are_left(options: &Options, kept: &Option<CandId>, out: &CandidateSet) -> bool
-    ensures { result ≡ true → AreMembers options.now (option_to_list kept.now ++ out.now) }
+    ensures { result ≡ true → AreAllMembersOf options.now (option_to_list kept.now ++ out.now) }
 {
     for i in 0..options.len() {
         if !is_left(options.get(i), kept, out) {
@@ -243,7 +243,7 @@ fn if_positive(dep: Dep<'_>) -> Option<Dep<'_>>
 // The dependency of an owner at an index, if there is one.
 fn owned<'a>(pool: &Sealed<'a>, world: &'a World, want: Want) -> Option<Dep<'a>>
     ensures { world.now ≡ pool.now.world → option_map dependency result
-        ≡ slice_get (owned_by pool.now want.owner) want.index }
+        ≡ slice_get (dependencies_of_owner pool.now want.owner) want.index }
 {
     match want.owner {
         Owner::World => entry_of(world, want.index),

@@ -2,7 +2,7 @@
 //! world" and "`unable to select packages`".
 ghost use Rattle.std.specs.Prelude.{◌≡◌, ℕ, [], IfOk, IfSome, MatchBool, MatchOption};
 ghost use Rattle.unmet_world.specs.Lines.{ExplainsWorld};
-ghost use Rattle.unmet_world.specs.Refutation.{IsFirstUnmetOfWorld, IsRefutation, IsUnmet, world_want};
+ghost use Rattle.unmet_world.specs.Refutation.{IsFirstUnmetOfWorld, IsRefutation, IsUnmet, want_of_world_entry};
 
 use crate::lines::explanation;
 use crate::propagation::propagate;
@@ -27,7 +27,7 @@ pub fn why_unmet(
     requires { world.now ≡ pool.now.world }
     ensures proof { IfOk result (λ found. IfSome found (λ r. IsRefutation pool.now r)) }
     ensures named { IfOk result (λ found. (index : ℕ) → IsFirstUnmetOfWorld pool.now index →
-        MatchOption found ⊥ (λ r. (r.steps.items ≡ []) × (r.end ≡ world_want index))) }
+        MatchOption found ⊥ (λ r. (r.steps.items ≡ []) × (r.end ≡ want_of_world_entry index))) }
 {
     if let Some(index) = first_unmet(alloc, pool, world)? {
         return Ok(Some(Refutation {
@@ -85,7 +85,7 @@ fn longer(alloc: Global, pool: &Sealed<'_>, world: &World) -> Result<Option<Refu
 fn first_unmet(alloc: Global, pool: &Sealed<'_>, world: &World) -> Result<Option<usize>, AllocError>
     requires { world.now ≡ pool.now.world }
     ensures { IfOk result (λ found. MatchOption found ((index : ℕ) →
-        IsUnmet pool.now (world_want index) → ⊥) (IsFirstUnmetOfWorld pool.now)) }
+        IsUnmet pool.now (want_of_world_entry index) → ⊥) (IsFirstUnmetOfWorld pool.now)) }
 {
     for index in 0..world.len() {
         let want = Want {

@@ -6,13 +6,13 @@ use Rattle.std.proofs.lemmas.List.Folds.{list_any-append}
 use Rattle.dep_core.specs.Dependency.{is_package_name}
 use Rattle.version_core.specs.Order.{is_version, tokens}
 use Rattle.version_core.specs.Token.{component_lexeme, next_lexeme, number_lexeme}
-use Rattle.v2_lines.specs.make_info.Fields.{FieldValue, text, text_if}
-use Rattle.v2_lines.specs.InfoFields.{field_of_letter, adds_to_list}
-use Rattle.v2_lines.specs.Lines.{info_line, record_line_by, record_line_of}
+use Rattle.v2_lines.specs.make_info.Fields.{FieldValue, text, text_value_if}
+use Rattle.v2_lines.specs.InfoFields.{field_of_letter, is_list_info_field}
+use Rattle.v2_lines.specs.Lines.{info_line, record_line_of_letter, record_line_of}
 use Rattle.v2_lines.specs.declared.field.InfoField.{InfoField}
 use Rattle.v2_lines.specs.declared.field.InfoField.TheVariants as Fields
-use Rattle.v2_core.specs.Reading.{records_from, with_records, with_text}
-use Rattle.v2_core.specs.Records.{InfoLine, Record, empty_record, has_line_of, info_by, is_line_of, lacks_needed_line, record_by, record_of_parts, with_record_line}
+use Rattle.v2_core.specs.Reading.{records_from, with_records, record_with_text_line}
+use Rattle.v2_core.specs.Records.{InfoLine, Record, empty_record, has_line_of, info_line_from_parts, is_line_of, lacks_needed_line, record_from_parts, record_if_both_parts, with_record_line}
 use Rattle.v2_core.proofs.FirstBad.{err_is, same_number}
 use Rattle.v2_core.proofs.RecordEnds.{bad_end, good_end, none_ends}
 use Rattle.v2_core.proofs.TextLines.{at_bad_line, at_empty_line, at_good_line, not_zero}
@@ -26,17 +26,17 @@ pub record Completed (n : ℕ) (r : Record) (front : List (List ℕ)) : Type 0 w
 -- ---- a name and a version are added if they are lacking
 
 name_line : (name : List ℕ) → is_package_name name ≡ true → record_line_of (80 ∷ 58 ∷ name) ≡ Some (info_line Fields.Name (text name ∷ []))
-unfolding record_line_by field_of_letter
-name_line name h = ap (λ b. option_map (info_line Fields.Name) (text_if b name)) h
+unfolding record_line_of_letter field_of_letter
+name_line name h = ap (λ b. option_map (info_line Fields.Name) (text_value_if b name)) h
 
 version_line : (version : List ℕ) → is_version version ≡ true → record_line_of (86 ∷ 58 ∷ version) ≡ Some (info_line Fields.Version (text version ∷ []))
-unfolding record_line_by field_of_letter
-version_line version h = ap (λ b. option_map (info_line Fields.Version) (text_if b version)) h
+unfolding record_line_of_letter field_of_letter
+version_line version h = ap (λ b. option_map (info_line Fields.Version) (text_value_if b version)) h
 
-with_one : (r : Record) (f : InfoField) (values : List FieldValue) → adds_to_list f ≡ false → has_line_of f r.info ≡ false → with_record_line r (info_line f values) ≡ Some (record_by true (r.info ++ info_by f values ∷ []) r.folders)
+with_one : (r : Record) (f : InfoField) (values : List FieldValue) → is_list_info_field f ≡ false → has_line_of f r.info ≡ false → with_record_line r (info_line f values) ≡ Some (record_from_parts true (r.info ++ info_line_from_parts f values ∷ []) r.folders)
 with_one r f values once new =
-    ap (λ b. record_of_parts (cond (not b && has_line_of f r.info) None (Some (r.info ++ info_by f values ∷ []))) (Some r.folders)) once
-    ∙ ap (λ b. record_of_parts (cond b None (Some (r.info ++ info_by f values ∷ []))) (Some r.folders)) new
+    ap (λ b. record_if_both_parts (cond (not b && has_line_of f r.info) None (Some (r.info ++ info_line_from_parts f values ∷ []))) (Some r.folders)) once
+    ∙ ap (λ b. record_if_both_parts (cond b None (Some (r.info ++ info_line_from_parts f values ∷ []))) (Some r.folders)) new
 
 or_true : (a b : Bool) → b ≡ true → (a || (b || false)) ≡ true
 or_true true b h = refl
@@ -54,7 +54,7 @@ or_false false true h = h
 has_same : (f : InfoField) (info : List InfoLine) (line : InfoLine) → is_line_of f line ≡ false → has_line_of f (info ++ line ∷ []) ≡ has_line_of f info
 has_same f info line h = list_any-append (is_line_of f) info (line ∷ []) ∙ or_false (has_line_of f info) (is_line_of f line) h
 
-completed_after : (n : ℕ) (r s : Record) (x : List ℕ) → eqb (length x) 0 ≡ false → with_text r x ≡ Some s → Completed (n + 1) s [] → Completed n r []
+completed_after : (n : ℕ) (r s : Record) (x : List ℕ) → eqb (length x) 0 ≡ false → record_with_text_line r x ≡ Some s → Completed (n + 1) s [] → Completed n r []
 completed_after n r s x e t c = record {
   more = x ∷ c.more;
   records = c.records;
@@ -72,8 +72,8 @@ lacks_none info a b =
 completed_named : (version : List ℕ) → is_version version ≡ true → (n : ℕ) (r : Record) (b : Bool) → has_line_of Fields.Name r.info ≡ true → has_line_of Fields.Version r.info ≡ b → Completed n r []
 completed_named version good n r true a h = completed_end n r r.has_line refl (lacks_none r.info a h)
 completed_named version good n r false a h =
-    let line : InfoLine = info_by Fields.Version (text version ∷ []) in
-    let s : Record = record_by true (r.info ++ line ∷ []) r.folders in
+    let line : InfoLine = info_line_from_parts Fields.Version (text version ∷ []) in
+    let s : Record = record_from_parts true (r.info ++ line ∷ []) r.folders in
     completed_after n r s (86 ∷ 58 ∷ version) (not_zero 86 (58 ∷ version))
     (ap (option_and_then (with_record_line r)) (version_line version good) ∙ with_one r Fields.Version (text version ∷ []) refl h)
     (completed_end (n + 1) s true refl (lacks_none s.info (has_same Fields.Name r.info line refl ∙ a) (has_new Fields.Version r.info line refl)))
@@ -82,8 +82,8 @@ completed_by : (name version : List ℕ) → is_package_name name ≡ true → i
 completed_by name version named good n r true h =
     completed_named version good n r (has_line_of Fields.Version r.info) h refl
 completed_by name version named good n r false h =
-    let line : InfoLine = info_by Fields.Name (text name ∷ []) in
-    let s : Record = record_by true (r.info ++ line ∷ []) r.folders in
+    let line : InfoLine = info_line_from_parts Fields.Name (text name ∷ []) in
+    let s : Record = record_from_parts true (r.info ++ line ∷ []) r.folders in
     completed_after n r s (80 ∷ 58 ∷ name) (not_zero 80 (58 ∷ name))
     (ap (option_and_then (with_record_line r)) (name_line name named) ∙ with_one r Fields.Name (text name ∷ []) refl h)
     (completed_named version good (n + 1) s (has_line_of Fields.Version s.info) (has_new Fields.Name r.info line refl) refl)
@@ -112,7 +112,7 @@ begins_empty n r x lines m k true false e a b l h on =
     (λ others records read. (r ∷ records, at_empty_line n r x others e ∙ (good_end n r (records_from (n + 1) empty_record others) a b ∙ ap (with_records (r ∷ [])) read)))
     (on (err_is (r ∷ []) (records_from (n + 1) empty_record lines) m (sym (good_end n r (records_from (n + 1) empty_record lines) a b) ∙ (sym (at_empty_line n r x lines e) ∙ h))))
 
-begins_line : (n : ℕ) (r : Record) (x : List ℕ) (lines : List (List ℕ)) (m k : ℕ) (o : Option Record) → eqb (length x) 0 ≡ false → with_text r x ≡ o → n + suc k < m → records_from n r (x ∷ lines) ≡ Err m → ((s : Record) → records_from (n + 1) s lines ≡ Err m → Completed (n + 1) s (take k lines)) → Completed n r (x ∷ take k lines)
+begins_line : (n : ℕ) (r : Record) (x : List ℕ) (lines : List (List ℕ)) (m k : ℕ) (o : Option Record) → eqb (length x) 0 ≡ false → record_with_text_line r x ≡ o → n + suc k < m → records_from n r (x ∷ lines) ≡ Err m → ((s : Record) → records_from (n + 1) s lines ≡ Err m → Completed (n + 1) s (take k lines)) → Completed n r (x ∷ take k lines)
 begins_line n r x lines m k None e t l h on =
     let p : n + 1 ≡ m = same_number (n + 1) m (sym (at_bad_line n r x lines e t) ∙ h) in
     absurd (omega (arith, p, l))
@@ -124,7 +124,7 @@ begins_line n r x lines m k (Some s) e t l h on =
 begins_by : (n : ℕ) (r : Record) (x : List ℕ) (lines : List (List ℕ)) (m k : ℕ) (b : Bool) → eqb (length x) 0 ≡ b → n + suc k < m → records_from n r (x ∷ lines) ≡ Err m → ((s : Record) → records_from (n + 1) s lines ≡ Err m → Completed (n + 1) s (take k lines)) → Completed n r (x ∷ take k lines)
 begins_by n r x lines m k true e l h on =
     begins_empty n r x lines m k r.has_line (lacks_needed_line r.info) e refl refl l h (on empty_record)
-begins_by n r x lines m k false e l h on = begins_line n r x lines m k (with_text r x) e refl l h on
+begins_by n r x lines m k false e l h on = begins_line n r x lines m k (record_with_text_line r x) e refl l h on
 
 begins : AreCompleted → (n : ℕ) (r : Record) (lines : List (List ℕ)) (m k : ℕ) → records_from n r lines ≡ Err m → n + k < m → Completed n r (take k lines)
 begins all n r lines m zero h l = all n r

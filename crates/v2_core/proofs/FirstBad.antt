@@ -1,6 +1,6 @@
 -- The line that is told, by the lines before it.
 use Rattle.std.proofs.Common.{◌≡◌, ℕ, ◌+◌, Bool, true, false, eqb, List, [], ◌∷◌, ◌++◌, length, Option, Some, None, Result, Ok, Err, refl, sym, ◌∙◌, ap, arith}
-use Rattle.v2_core.specs.Reading.{at_record_end, records_from, with_records, with_text}
+use Rattle.v2_core.specs.Reading.{records_from_record_end, records_from, with_records, record_with_text_line}
 use Rattle.v2_core.specs.Records.{Record, empty_record, lacks_needed_line}
 use Rattle.v2_core.proofs.RecordEnds.{bad_end, good_end, none_ends}
 use Rattle.v2_core.proofs.TextLines.{at_bad_line, at_empty_line, at_good_line}
@@ -40,7 +40,7 @@ told_after n r s x lines m step t = record {
   bad = λ more. step (t.front ++ [] ∷ more) (t.bad more);
 }
 
-told_end : (n : ℕ) (r : Record) (m : ℕ) (line lacks : Bool) → r.has_line ≡ line → lacks_needed_line r.info ≡ lacks → at_record_end n r (Ok []) ≡ Err m → ToldFrom n r [] m
+told_end : (n : ℕ) (r : Record) (m : ℕ) (line lacks : Bool) → r.has_line ≡ line → lacks_needed_line r.info ≡ lacks → records_from_record_end n r (Ok []) ≡ Err m → ToldFrom n r [] m
 told_end n r m false lacks a b h =
     let no : ◌≡◌ {A = Result (List Record) ℕ} (Ok []) (Err m) = sym (none_ends n r (Ok []) a) ∙ h in cc
 told_end n r m true true a b h = told_here n r [] m a b (same_number n m (sym (bad_end n r (Ok []) a b) ∙ h))
@@ -59,7 +59,7 @@ told_empty n r x lines m true false e a b on h =
     err_is (r ∷ []) (records_from (n + 1) empty_record lines) m (sym (good_end n r (records_from (n + 1) empty_record lines) a b) ∙ (sym (at_empty_line n r x lines e) ∙ h)) in
     told_after n r empty_record x lines m (λ others told. at_empty_line n r x others e ∙ (good_end n r (records_from (n + 1) empty_record others) a b ∙ ap (with_records (r ∷ [])) told)) (on tt rest)
 
-told_line : (n : ℕ) (r : Record) (x : List ℕ) (lines : List (List ℕ)) (m : ℕ) (o : Option Record) → eqb (length x) 0 ≡ false → with_text r x ≡ o → ((s : Record) → records_from (n + 1) s lines ≡ Err m → ToldFrom (n + 1) s lines m) → records_from n r (x ∷ lines) ≡ Err m → ToldFrom n r (x ∷ lines) m
+told_line : (n : ℕ) (r : Record) (x : List ℕ) (lines : List (List ℕ)) (m : ℕ) (o : Option Record) → eqb (length x) 0 ≡ false → record_with_text_line r x ≡ o → ((s : Record) → records_from (n + 1) s lines ≡ Err m → ToldFrom (n + 1) s lines m) → records_from n r (x ∷ lines) ≡ Err m → ToldFrom n r (x ∷ lines) m
 told_line n r x lines m None e t on h =
     let p : n + 1 ≡ m = same_number (n + 1) m (sym (at_bad_line n r x lines e t) ∙ h) in
     record {
@@ -74,7 +74,7 @@ told_line n r x lines m (Some s) e t on h =
 
 report_for_command : (n : ℕ) (r : Record) (x : List ℕ) (lines : List (List ℕ)) (m : ℕ) (b : Bool) → eqb (length x) 0 ≡ b → ((s : Record) → records_from (n + 1) s lines ≡ Err m → ToldFrom (n + 1) s lines m) → records_from n r (x ∷ lines) ≡ Err m → ToldFrom n r (x ∷ lines) m
 report_for_command n r x lines m true e on h = told_empty n r x lines m r.has_line (lacks_needed_line r.info) e refl refl (λ _. on empty_record) h
-report_for_command n r x lines m false e on h = told_line n r x lines m (with_text r x) e refl on h
+report_for_command n r x lines m false e on h = told_line n r x lines m (record_with_text_line r x) e refl on h
 
 pub told_from : (n : ℕ) (r : Record) (lines : List (List ℕ)) (m : ℕ) → records_from n r lines ≡ Err m → ToldFrom n r lines m
 told_from n r [] m h = told_end n r m r.has_line (lacks_needed_line r.info) refl refl h

@@ -15,7 +15,7 @@ use Rattle.v2_lines.specs.declared.field.InfoField.{InfoField}
 use Rattle.v2_lines.specs.Views.{line_value_view}
 use Rattle.v2_lines.specs.declared.value.Value.{Value}
 use Rattle.v2_lines.specs.declared.value.Value.TheVariants as Values
-use Rattle.v2_core.specs.Database.{value_of_first, values_for}
+use Rattle.v2_core.specs.Database.{value_of_first_or_null, values_for}
 use Rattle.v2_core.specs.Records.{InfoLine, is_line_of}
 use Rattle.v2_lines.proofs.make_info.Mapped.{with_list}
 use Rattle.v2_core.proofs.Lists.{with_list-append}
@@ -58,7 +58,7 @@ pub lines_given : (f : InfoField) (info : List InfoLine) (i : ℕ) (d opened bef
 lines_given f info i d opened before h left is = list_given (λ ls. plains_of_list (plains_of_lines f ls)) info refl i d opened before h left is
 
 -- a text, some bytes or a number is one value
-pub one_value : (v : Value) → ((ds : Vec Dep Global) → v ≡ Values.Needs ds → ⊥) → (v ≡ Values.Nothing → ⊥) → map plain_value (line_value_view v) ≡ value_of_first (line_value_view v) ∷ []
+pub one_value : (v : Value) → ((ds : Vec Dep Global) → v ≡ Values.Needs ds → ⊥) → (v ≡ Values.Nothing → ⊥) → map plain_value (line_value_view v) ≡ value_of_first_or_null (line_value_view v) ∷ []
 one_value (Values.Text t) list none = refl
 one_value (Values.Bytes b) list none = refl
 one_value (Values.Number n) list none = refl

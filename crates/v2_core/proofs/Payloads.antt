@@ -3,19 +3,19 @@ use Rattle.std.proofs.Common.{◌≡◌, ℕ, List, [], ◌∷◌, map, Result, 
 use Rattle.adb_view.specs.Plain.{Plain, none, more, arr_value, obj_value}
 use Rattle.v2_lines.specs.adb_values.Drafts.{DraftState, draft_with, draft_with_open_list, empty_draft}
 use Rattle.v2_lines.proofs.adb_values.Lists.{Closes}
-use Rattle.v2_lines.specs.adb_write.Canonical.{PayloadCounts, written_of}
+use Rattle.v2_lines.specs.adb_write.Canonical.{PayloadCounts, payload_or_overflow}
 use Rattle.v2_lines.specs.make_info.Values.{plains_of_list}
 use Rattle.v2_core.specs.Database.{array_of, record_value, value_of_records}
 use Rattle.v2_core.specs.Payload.{IsV2Fault, or_too_large, payload_if_sound, written_payload}
 use Rattle.v2_core.specs.Records.{Record}
-use Rattle.v2_core.specs.Writing.{IsLineFault, draft_with_database, draft_with_read}
+use Rattle.v2_core.specs.Writing.{IsLineFault, draft_with_database, draft_with_records}
 use Rattle.v2_core.specs.declared.read.V2Fault.{V2Fault}
 use Rattle.v2_core.specs.declared.read.V2Fault.TheVariants.{Bad, TooLarge, Memory}
 use Rattle.v2_lines.proofs.make_info.Mapped.{with_list}
 
 -- what a draft of the database ends with is the payload, or the counts at which it overflows
 pub finished : (read : Result (List Record) ℕ) (start d : DraftState) (answer : Result (List ℕ) PayloadCounts) → start ≡ empty_draft → draft_with_database read start ≡ Ok d
-    → ((v : Plain) → d ≡ draft_with v empty_draft → written_of v ≡ answer) → written_payload read ≡ or_too_large answer
+    → ((v : Plain) → d ≡ draft_with v empty_draft → payload_or_overflow v ≡ answer) → written_payload read ≡ or_too_large answer
 finished (Ok records) start d answer fresh so end =
     let v : Plain = value_of_records records in
     let same : draft_with v start ≡ d = cc in
@@ -35,7 +35,7 @@ untested_fault (TooLarge bytes values) written is = ap payload_if_sound is
 untested_fault Memory written is = is
 
 -- the packages make the database
-pub database_closed : (read : Result (List Record) ℕ) (a b c d e f : DraftState) → b ≡ draft_with_open_list a → c ≡ draft_with_open_list b → draft_with_read read c ≡ Ok d → Closes arr_value d e → Closes obj_value e f
+pub database_closed : (read : Result (List Record) ℕ) (a b c d e f : DraftState) → b ≡ draft_with_open_list a → c ≡ draft_with_open_list b → draft_with_records read c ≡ Ok d → Closes arr_value d e → Closes obj_value e f
     → draft_with_database read a ≡ Ok f
 database_closed (Ok records) a b c d e f first second so array object =
     let packages : List Plain = map record_value records in

@@ -8,11 +8,11 @@ use Rattle.std.proofs.lemmas.List.Splits.{slice_split_at}
 use Rattle.std.proofs.lemmas.List.Sums.{AllPass-from_list_all}
 use Rattle.dep_core.specs.World.{is_line_end, lines_of}
 use Rattle.v2_lines.specs.Accesses.{Access}
-use Rattle.v2_lines.specs.InfoFields.{adds_to_list}
+use Rattle.v2_lines.specs.InfoFields.{is_list_info_field}
 use Rattle.v2_lines.specs.Lines.{RecordLine, info_line, folder_access_line, file_line, file_access_line, file_hash_line, record_line_of}
 use Rattle.v2_core.specs.Reading.{records_from, records_of, with_records}
-use Rattle.v2_core.specs.Records.{InfoLine, ListedFile, ListedFolder, Record, empty_record, file_by, file_with_access, file_with_hash, folder_by, folder_with_access, folder_with_file, folder_with_last, has_line_of, lacks_needed_line, record_by, record_of_parts, with_last_changed, with_record_line}
-use Rattle.v2_core.specs.Spelling.{AreLines, SpellsRecord, SpellsText, access_lines, file_lines, folder_lines, hash_lines, info_lines, is_one_line, lines_before, record_lines, have_no_repeated_field}
+use Rattle.v2_core.specs.Records.{InfoLine, ListedFile, ListedFolder, Record, empty_record, listed_file_from_parts, file_with_access, file_with_hash, listed_folder_from_parts, folder_with_access, folder_with_file, folder_with_last, has_line_of, lacks_needed_line, record_from_parts, record_if_both_parts, with_last_changed, with_record_line}
+use Rattle.v2_core.specs.Spelling.{AreLines, SpellsRecord, SpellsText, access_lines, file_lines, folder_lines, hash_lines, info_lines, is_one_line, lines_text_before, record_lines, have_no_repeated_single_field}
 use Rattle.v2_core.proofs.Lists.{with_last-push}
 use Rattle.v2_core.proofs.RecordEnds.{good_end}
 use Rattle.v2_core.proofs.TextLines.{at_empty_line, at_good_line, not_zero}
@@ -37,38 +37,38 @@ after_more r s l ls h = ap (option_and_then (λ q. after q ls)) h
 -- ---- files
 
 -- the last folder of some is changed
-at_folder : (info : List InfoLine) (done : List ListedFolder) (f g : ListedFolder) (change : ListedFolder → Option ListedFolder) → change f ≡ Some g → record_of_parts (Some info) (with_last_changed change (done ++ f ∷ [])) ≡ Some (record_by true info (done ++ g ∷ []))
+at_folder : (info : List InfoLine) (done : List ListedFolder) (f g : ListedFolder) (change : ListedFolder → Option ListedFolder) → change f ≡ Some g → record_if_both_parts (Some info) (with_last_changed change (done ++ f ∷ [])) ≡ Some (record_from_parts true info (done ++ g ∷ []))
 at_folder info done f g change h =
-    ap (record_of_parts (Some info)) (with_last-push change done f ∙ ap (option_map (λ y. done ++ y ∷ [])) h)
+    ap (record_if_both_parts (Some info)) (with_last-push change done f ∙ ap (option_map (λ y. done ++ y ∷ [])) h)
 
 -- the last file of a folder is changed
-at_file : (folder : ListedFolder) (before : List ListedFile) (f g : ListedFile) (change : ListedFile → Option ListedFile) → folder.files ≡ before ++ f ∷ [] → change f ≡ Some g → folder_with_last change folder ≡ Some (folder_by folder.name folder.access (before ++ g ∷ []))
+at_file : (folder : ListedFolder) (before : List ListedFile) (f g : ListedFile) (change : ListedFile → Option ListedFile) → folder.files ≡ before ++ f ∷ [] → change f ≡ Some g → folder_with_last change folder ≡ Some (listed_folder_from_parts folder.name folder.access (before ++ g ∷ []))
 at_file folder before f g change is h =
-    ap (option_map (λ files. folder_by folder.name folder.access files))
+    ap (option_map (λ files. listed_folder_from_parts folder.name folder.access files))
     (ap (with_last_changed change) is ∙ (with_last-push change before f ∙ ap (option_map (λ y. before ++ y ∷ [])) h))
 
 abbrev with_files : List InfoLine → List ListedFolder → List ℕ → Option Access → List ListedFile → Record
 with_files info done name access files =
-    record_by true info (done ++ folder_by name access files ∷ [])
+    record_from_parts true info (done ++ listed_folder_from_parts name access files ∷ [])
 
-after_access : (info : List InfoLine) (done : List ListedFolder) (name : List ℕ) (access : Option Access) (before : List ListedFile) (file : List ℕ) (a : Option Access) → after (with_files info done name access (before ++ file_by file None None ∷ [])) (access_lines file_access_line a) ≡ Some (with_files info done name access (before ++ file_by file a None ∷ []))
+after_access : (info : List InfoLine) (done : List ListedFolder) (name : List ℕ) (access : Option Access) (before : List ListedFile) (file : List ℕ) (a : Option Access) → after (with_files info done name access (before ++ listed_file_from_parts file None None ∷ [])) (access_lines file_access_line a) ≡ Some (with_files info done name access (before ++ listed_file_from_parts file a None ∷ []))
 after_access info done name access before file None = refl
 after_access info done name access before file (Some a) =
-    let folder : ListedFolder = folder_by name access (before ++ file_by file None None ∷ []) in
-    after_more (with_files info done name access (before ++ file_by file None None ∷ [])) (with_files info done name access (before ++ file_by file (Some a) None ∷ [])) (file_access_line a) []
+    let folder : ListedFolder = listed_folder_from_parts name access (before ++ listed_file_from_parts file None None ∷ []) in
+    after_more (with_files info done name access (before ++ listed_file_from_parts file None None ∷ [])) (with_files info done name access (before ++ listed_file_from_parts file (Some a) None ∷ [])) (file_access_line a) []
     (at_folder info done folder _ (folder_with_last (file_with_access a)) (at_file folder before _ _ (file_with_access a) refl refl))
 
-after_hash : (info : List InfoLine) (done : List ListedFolder) (name : List ℕ) (access : Option Access) (before : List ListedFile) (file : List ℕ) (a : Option Access) (hash : Option (List ℕ)) → after (with_files info done name access (before ++ file_by file a None ∷ [])) (hash_lines hash) ≡ Some (with_files info done name access (before ++ file_by file a hash ∷ []))
+after_hash : (info : List InfoLine) (done : List ListedFolder) (name : List ℕ) (access : Option Access) (before : List ListedFile) (file : List ℕ) (a : Option Access) (hash : Option (List ℕ)) → after (with_files info done name access (before ++ listed_file_from_parts file a None ∷ [])) (hash_lines hash) ≡ Some (with_files info done name access (before ++ listed_file_from_parts file a hash ∷ []))
 after_hash info done name access before file a None = refl
 after_hash info done name access before file a (Some hash) =
-    let folder : ListedFolder = folder_by name access (before ++ file_by file a None ∷ []) in
-    after_more (with_files info done name access (before ++ file_by file a None ∷ [])) (with_files info done name access (before ++ file_by file a (Some hash) ∷ [])) (file_hash_line hash) []
+    let folder : ListedFolder = listed_folder_from_parts name access (before ++ listed_file_from_parts file a None ∷ []) in
+    after_more (with_files info done name access (before ++ listed_file_from_parts file a None ∷ [])) (with_files info done name access (before ++ listed_file_from_parts file a (Some hash) ∷ [])) (file_hash_line hash) []
     (at_folder info done folder _ (folder_with_last (file_with_hash hash)) (at_file folder before _ _ (file_with_hash hash) refl refl))
 
 after_file : (info : List InfoLine) (done : List ListedFolder) (name : List ℕ) (access : Option Access) (before : List ListedFile) (f : ListedFile) → after (with_files info done name access before) (file_lines f) ≡ Some (with_files info done name access (before ++ f ∷ []))
 after_file info done name access before f =
-    after_more (with_files info done name access before) (with_files info done name access (before ++ file_by f.name None None ∷ [])) (file_line f.name) (access_lines file_access_line f.access ++ hash_lines f.hash) (at_folder info done (folder_by name access before) _ (folder_with_file f.name) refl)
-    ∙ (after_both (with_files info done name access (before ++ file_by f.name None None ∷ [])) (with_files info done name access (before ++ file_by f.name f.access None ∷ [])) (access_lines file_access_line f.access) (hash_lines f.hash) (after_access info done name access before f.name f.access)
+    after_more (with_files info done name access before) (with_files info done name access (before ++ listed_file_from_parts f.name None None ∷ [])) (file_line f.name) (access_lines file_access_line f.access ++ hash_lines f.hash) (at_folder info done (listed_folder_from_parts name access before) _ (folder_with_file f.name) refl)
+    ∙ (after_both (with_files info done name access (before ++ listed_file_from_parts f.name None None ∷ [])) (with_files info done name access (before ++ listed_file_from_parts f.name f.access None ∷ [])) (access_lines file_access_line f.access) (hash_lines f.hash) (after_access info done name access before f.name f.access)
     ∙ after_hash info done name access before f.name f.access f.hash)
 
 after_files : (info : List InfoLine) (done : List ListedFolder) (name : List ℕ) (access : Option Access) (before files : List ListedFile) → after (with_files info done name access before) (flat_map file_lines files) ≡ Some (with_files info done name access (before ++ files))
@@ -85,19 +85,19 @@ after_folder_access : (info : List InfoLine) (done : List ListedFolder) (name : 
 after_folder_access info done name None = refl
 after_folder_access info done name (Some a) =
     after_more (with_files info done name None []) (with_files info done name (Some a) []) (folder_access_line a) []
-    (at_folder info done (folder_by name None []) _ (folder_with_access a) refl)
+    (at_folder info done (listed_folder_from_parts name None []) _ (folder_with_access a) refl)
 
-after_folder : (info : List InfoLine) (done : List ListedFolder) (f : ListedFolder) → after (record_by true info done) (folder_lines f) ≡ Some (record_by true info (done ++ f ∷ []))
+after_folder : (info : List InfoLine) (done : List ListedFolder) (f : ListedFolder) → after (record_from_parts true info done) (folder_lines f) ≡ Some (record_from_parts true info (done ++ f ∷ []))
 after_folder info done f =
     after_both (with_files info done f.name None []) (with_files info done f.name f.access []) (access_lines folder_access_line f.access) (flat_map file_lines f.files) (after_folder_access info done f.name f.access)
     ∙ after_files info done f.name f.access [] f.files
 
-after_folders : (info : List InfoLine) (done folders : List ListedFolder) → after (record_by true info done) (flat_map folder_lines folders) ≡ Some (record_by true info (done ++ folders))
-after_folders info done [] = ap (λ fs. Some (record_by true info fs)) (sym (append-nil done))
+after_folders : (info : List InfoLine) (done folders : List ListedFolder) → after (record_from_parts true info done) (flat_map folder_lines folders) ≡ Some (record_from_parts true info (done ++ folders))
+after_folders info done [] = ap (λ fs. Some (record_from_parts true info fs)) (sym (append-nil done))
 after_folders info done (f ∷ fs) =
-    after_both (record_by true info done) (record_by true info (done ++ f ∷ [])) (folder_lines f) (flat_map folder_lines fs) (after_folder info done f)
+    after_both (record_from_parts true info done) (record_from_parts true info (done ++ f ∷ [])) (folder_lines f) (flat_map folder_lines fs) (after_folder info done f)
     ∙ (after_folders info (done ++ f ∷ []) fs
-    ∙ ap (λ fs. Some (record_by true info fs)) (append_assoc done (f ∷ []) fs))
+    ∙ ap (λ fs. Some (record_from_parts true info fs)) (append_assoc done (f ∷ []) fs))
 
 -- ---- the package's information
 
@@ -106,23 +106,23 @@ taken true has info more h = refl
 taken false false info more h = refl
 taken false true info more h = cc
 
-with_info_line : (has_line : Bool) (info : List InfoLine) (folders : List ListedFolder) (l : InfoLine) → (adds_to_list l.field || not (has_line_of l.field info)) ≡ true → with_record_line (record_by has_line info folders) (info_line l.field l.values) ≡ Some (record_by true (info ++ l ∷ []) folders)
+with_info_line : (has_line : Bool) (info : List InfoLine) (folders : List ListedFolder) (l : InfoLine) → (is_list_info_field l.field || not (has_line_of l.field info)) ≡ true → with_record_line (record_from_parts has_line info folders) (info_line l.field l.values) ≡ Some (record_from_parts true (info ++ l ∷ []) folders)
 with_info_line has_line info folders l h =
-    ap (λ i. record_of_parts i (Some folders)) (taken (adds_to_list l.field) (has_line_of l.field info) info (info ++ l ∷ []) h)
+    ap (λ i. record_if_both_parts i (Some folders)) (taken (is_list_info_field l.field) (has_line_of l.field info) info (info ++ l ∷ []) h)
 
-after_info : (done info : List InfoLine) → have_no_repeated_field done info ≡ true → after (record_by true done []) (info_lines info) ≡ Some (record_by true (done ++ info) [])
-after_info done [] h = ap (λ i. Some (record_by true i [])) (sym (append-nil done))
+after_info : (done info : List InfoLine) → have_no_repeated_single_field done info ≡ true → after (record_from_parts true done []) (info_lines info) ≡ Some (record_from_parts true (done ++ info) [])
+after_info done [] h = ap (λ i. Some (record_from_parts true i [])) (sym (append-nil done))
 after_info done (l ∷ ls) h =
-    let once = and_parts (adds_to_list l.field || not (has_line_of l.field done)) (have_no_repeated_field (done ++ l ∷ []) ls) h in
-    after_more (record_by true done []) (record_by true (done ++ l ∷ []) []) (info_line l.field l.values) (info_lines ls) (with_info_line true done [] l once.0)
+    let once = and_parts (is_list_info_field l.field || not (has_line_of l.field done)) (have_no_repeated_single_field (done ++ l ∷ []) ls) h in
+    after_more (record_from_parts true done []) (record_from_parts true (done ++ l ∷ []) []) (info_line l.field l.values) (info_lines ls) (with_info_line true done [] l once.0)
     ∙ (after_info (done ++ l ∷ []) ls once.1
-    ∙ ap (λ i. Some (record_by true i [])) (append_assoc done (l ∷ []) ls))
+    ∙ ap (λ i. Some (record_from_parts true i [])) (append_assoc done (l ∷ []) ls))
 
-after_first : (info : List InfoLine) → lacks_needed_line info ≡ false → have_no_repeated_field [] info ≡ true → after empty_record (info_lines info) ≡ Some (record_by true info [])
+after_first : (info : List InfoLine) → lacks_needed_line info ≡ false → have_no_repeated_single_field [] info ≡ true → after empty_record (info_lines info) ≡ Some (record_from_parts true info [])
 after_first [] complete h = cc
 after_first (l ∷ ls) complete h =
-    let once = and_parts (adds_to_list l.field || not (has_line_of l.field [])) (have_no_repeated_field (l ∷ []) ls) h in
-    after_more empty_record (record_by true (l ∷ []) []) (info_line l.field l.values) (info_lines ls) (with_info_line false [] [] l once.0)
+    let once = and_parts (is_list_info_field l.field || not (has_line_of l.field [])) (have_no_repeated_single_field (l ∷ []) ls) h in
+    after_more empty_record (record_from_parts true (l ∷ []) []) (info_line l.field l.values) (info_lines ls) (with_info_line false [] [] l once.0)
     ∙ after_info (l ∷ []) ls once.1
 
 -- ---- texts
@@ -150,13 +150,13 @@ read_on n r s (t ∷ ts) [] rest lines h = absurd lines
 read_on n r s (t ∷ ts) (l ∷ ls) rest lines h =
     read_on_by n r s (with_record_line r l) t ts l ls rest lines.1 refl (λ q g. read_on (n + 1) q s ts ls rest lines.2 g) h
 
-whole : (r : Record) → r.has_line ≡ true → record_by true r.info r.folders ≡ r
-whole r h = ap (λ b. record_by b r.info r.folders) (sym h)
+whole : (r : Record) → r.has_line ≡ true → record_from_parts true r.info r.folders ≡ r
+whole r h = ap (λ b. record_from_parts b r.info r.folders) (sym h)
 
 read_record : (n : ℕ) (r : Record) (texts rest : List (List ℕ)) → SpellsRecord texts r → records_from n empty_record (texts ++ rest) ≡ records_from (n + length texts) r rest
 read_record n r texts rest spells =
     read_on n empty_record r texts (record_lines r) rest spells.lines_say
-    (after_both empty_record (record_by true r.info []) (info_lines r.info) (flat_map folder_lines r.folders) (after_first r.info spells.complete spells.once)
+    (after_both empty_record (record_from_parts true r.info []) (info_lines r.info) (flat_map folder_lines r.folders) (after_first r.info spells.complete spells.once)
     ∙ (after_folders r.info [] r.folders ∙ ap Some (whole r spells.begun)))
 
 -- ---- the lines of a text
@@ -164,11 +164,11 @@ read_record n r texts rest spells =
 no_line_ends : (t : List ℕ) → is_one_line t ≡ true → All (λ b. is_line_end b ≡ false) t
 no_line_ends t h = λ k d l. not-true (is_line_end (get_or t k d)) (AllPass-from_list_all (λ b. not (is_line_end b)) t h k d l)
 
-split_lines : (ts : List (List ℕ)) (ls : List RecordLine) (rest : List ℕ) → AreLines ts ls → lines_of (lines_before ts rest) ≡ ts ++ lines_of rest
+split_lines : (ts : List (List ℕ)) (ls : List RecordLine) (rest : List ℕ) → AreLines ts ls → lines_of (lines_text_before ts rest) ≡ ts ++ lines_of rest
 split_lines [] ls rest lines = refl
 split_lines (t ∷ ts) [] rest lines = absurd lines
 split_lines (t ∷ ts) (l ∷ ls) rest lines =
-    slice_split_at is_line_end t 10 (lines_before ts rest) (no_line_ends t lines.0) refl
+    slice_split_at is_line_end t 10 (lines_text_before ts rest) (no_line_ends t lines.0) refl
     ∙ ap (λ more. t ∷ more) (split_lines ts ls rest lines.2)
 
 read_back : (n : ℕ) (text : List ℕ) (rs : List Record) → SpellsText text rs → records_from n empty_record (lines_of text) ≡ Ok rs

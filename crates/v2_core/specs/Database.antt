@@ -23,41 +23,41 @@ object_of vs = obj_value (plains_of_list vs)
 -- ---- the package's information
 
 -- the plain value of a field that takes one value; Null if its line gives none
-abbrev pub value_of_first : List FieldValue → Plain
-value_of_first [] = null
-value_of_first (v ∷ vs) = plain_value v
+abbrev pub value_of_first_or_null : List FieldValue → Plain
+value_of_first_or_null [] = null
+value_of_first_or_null (v ∷ vs) = plain_value v
 
 -- the plain value of the line of a field; Null if there is no line
 abbrev pub value_of_line : Option InfoLine → Plain
 value_of_line None = null
-value_of_line (Some line) = value_of_first line.values
+value_of_line (Some line) = value_of_first_or_null line.values
 
 -- the value of a field of which a record has one line at most
-abbrev pub single_value : InfoField → List InfoLine → Plain
-single_value f info = value_of_line (find (is_line_of f) info)
+abbrev pub value_of_single_line_field : InfoField → List InfoLine → Plain
+value_of_single_line_field f info = value_of_line (find (is_line_of f) info)
 
 -- the values of a line if it is of the field, otherwise none
 abbrev pub values_for : InfoField → InfoLine → List FieldValue
 values_for f line = if is_line_of f line then line.values else []
 
 -- the array of all values that the lines of a field give
-abbrev pub joined_value : InfoField → List InfoLine → Plain
-joined_value f info = array_of (map plain_value (flat_map (values_for f) info))
+abbrev pub array_of_field_values : InfoField → List InfoLine → Plain
+array_of_field_values f info = array_of (map plain_value (flat_map (values_for f) info))
 
 -- the object of a package's information: the first 18 fields of table 3 in order. The 13th, file-size,
 -- is Null, since the text does not have it, and so are the fields after these
 unfoldable pub record_info_value : List InfoLine → Plain
 record_info_value info =
     object_of
-    (single_value Fields.Name info ∷ single_value Fields.Version info
-    ∷ single_value Fields.Hashes info
-    ∷ single_value Fields.Description info ∷ single_value Fields.Arch info
-    ∷ single_value Fields.License info ∷ single_value Fields.Origin info
-    ∷ single_value Fields.Maintainer info ∷ single_value Fields.Url info
-    ∷ single_value Fields.RepoCommit info ∷ single_value Fields.BuildTime info
-    ∷ single_value Fields.InstalledSize info ∷ null ∷ single_value Fields.ProviderPriority info
-    ∷ joined_value Fields.Depends info ∷ joined_value Fields.Provides info
-    ∷ joined_value Fields.Replaces info ∷ joined_value Fields.InstallIf info ∷ [])
+    (value_of_single_line_field Fields.Name info ∷ value_of_single_line_field Fields.Version info
+    ∷ value_of_single_line_field Fields.Hashes info
+    ∷ value_of_single_line_field Fields.Description info ∷ value_of_single_line_field Fields.Arch info
+    ∷ value_of_single_line_field Fields.License info ∷ value_of_single_line_field Fields.Origin info
+    ∷ value_of_single_line_field Fields.Maintainer info ∷ value_of_single_line_field Fields.Url info
+    ∷ value_of_single_line_field Fields.RepoCommit info ∷ value_of_single_line_field Fields.BuildTime info
+    ∷ value_of_single_line_field Fields.InstalledSize info ∷ null ∷ value_of_single_line_field Fields.ProviderPriority info
+    ∷ array_of_field_values Fields.Depends info ∷ array_of_field_values Fields.Provides info
+    ∷ array_of_field_values Fields.Replaces info ∷ array_of_field_values Fields.InstallIf info ∷ [])
 
 -- ---- folders and files
 
@@ -94,7 +94,7 @@ abbrev pub record_value : Record → Plain
 record_value r =
     object_of
     (record_info_value r.info ∷ array_of (map listed_folder_value r.folders) ∷ null ∷ null
-    ∷ single_value Fields.ReplacesPriority r.info ∷ [])
+    ∷ value_of_single_line_field Fields.ReplacesPriority r.info ∷ [])
 
 -- the object of an installed database (table 9): a package for each record, in the order of the text
 abbrev pub value_of_records : List Record → Plain

@@ -4,7 +4,7 @@
 use Rattle.std.specs.Prelude.{◌≡◌, ℕ, ⊤, List, Option, Some, None, Result, Ok, Err}
 use Rattle.base_core.specs.declared.cause.Cause.{Cause}
 use Rattle.base_core.specs.declared.cause.Cause.TheVariants.{TextLine}
-use Rattle.v2_lines.specs.adb_write.Canonical.{PayloadCounts, written_of}
+use Rattle.v2_lines.specs.adb_write.Canonical.{PayloadCounts, payload_or_overflow}
 use Rattle.v2_lines.specs.adb_schema.Soundness.{payload_fault}
 use Rattle.adb_view.specs.declared.tables.Which.TheVariants.{Idb}
 use Rattle.v2_core.specs.declared.read.V2Fault.{V2Fault}
@@ -25,7 +25,7 @@ or_too_large (Err counts) = Err (TooLarge counts.0 counts.1)
 
 -- the payload of the database of a text's records, before it is tested
 abbrev pub written_payload : Result (List Record) ℕ → Result (List ℕ) V2Fault
-written_payload (Ok records) = or_too_large (written_of (value_of_records records))
+written_payload (Ok records) = or_too_large (payload_or_overflow (value_of_records records))
 written_payload (Err line) = Err (Bad (TextLine line))
 
 -- a payload that passes the tests of an installed database, or the first of them that it fails

@@ -8,8 +8,8 @@ use Rattle.v2_lines.specs.Lines.{record_line_of}
 use Rattle.v2_core.specs.Records.{Record, empty_record, lacks_needed_line, with_record_line}
 
 -- a record with one more line of a text; None if the line is bad
-abbrev pub with_text : Record → List ℕ → Option Record
-with_text r line = option_and_then (with_record_line r) (record_line_of line)
+abbrev pub record_with_text_line : Record → List ℕ → Option Record
+record_with_text_line r line = option_and_then (with_record_line r) (record_line_of line)
 
 -- records before others, unless these have a bad line
 abbrev pub with_records : List Record → Result (List Record) ℕ → Result (List Record) ℕ
@@ -18,8 +18,8 @@ with_records records (Err line) = Err line
 
 -- The records from one on that has ended, with this many lines up to its end; a record without a line
 -- is none, and one without a name or a version is bad at its last line.
-abbrev pub at_record_end : ℕ → Record → Result (List Record) ℕ → Result (List Record) ℕ
-at_record_end lines r others =
+abbrev pub records_from_record_end : ℕ → Record → Result (List Record) ℕ → Result (List Record) ℕ
+records_from_record_end lines r others =
     if r.has_line
     then (if lacks_needed_line r.info then Err lines else with_records (r ∷ []) others)
     else others
@@ -27,10 +27,10 @@ at_record_end lines r others =
 -- the records of some lines, after this many lines and a record that these began; or the number of the
 -- first bad line
 abbrev pub records_from : ℕ → Record → List (List ℕ) → Result (List Record) ℕ
-records_from before r [] = at_record_end before r (Ok [])
+records_from before r [] = records_from_record_end before r (Ok [])
 records_from before r (line ∷ lines) =
-    if length line == 0 then at_record_end before r (records_from (before + 1) empty_record lines)
-    else option_map_or (λ next. records_from (before + 1) next lines) (with_text r line)
+    if length line == 0 then records_from_record_end before r (records_from (before + 1) empty_record lines)
+    else option_map_or (λ next. records_from (before + 1) next lines) (record_with_text_line r line)
     (Err (before + 1))
 
 -- the records of a text, each ended by an empty line or the text's end, or the number of its first

@@ -5,7 +5,7 @@ use Rattle.std.specs.Prelude.{ℕ, Bool, true, false, not, ◌&&◌, ◌||◌, �
 use Rattle.std.specs.List.{list_any}
 use Rattle.v2_lines.specs.make_info.Fields.{FieldValue}
 use Rattle.v2_lines.specs.Accesses.{Access}
-use Rattle.v2_lines.specs.InfoFields.{adds_to_list, letter_of}
+use Rattle.v2_lines.specs.InfoFields.{is_list_info_field, letter_of}
 use Rattle.v2_lines.specs.Lines.{RecordLine, info_line, folder_line, folder_access_line, file_line, file_access_line, file_hash_line, other_line}
 use Rattle.v2_lines.specs.declared.field.InfoField.{InfoField}
 use Rattle.v2_lines.specs.declared.field.InfoField.TheVariants as Fields
@@ -35,25 +35,25 @@ pub record Record : Type 0 where
   pub folders : List ListedFolder
 
 -- a record by its parts
-abbrev pub record_by : Bool → List InfoLine → List ListedFolder → Record
-record_by has_line info folders =
+abbrev pub record_from_parts : Bool → List InfoLine → List ListedFolder → Record
+record_from_parts has_line info folders =
     record { has_line = has_line; info = info; folders = folders }
 
 -- a record before its first line
 abbrev pub empty_record : Record
-empty_record = record_by false [] []
+empty_record = record_from_parts false [] []
 
 -- a line on a field, by its parts
-abbrev pub info_by : InfoField → List FieldValue → InfoLine
-info_by f values = record { field = f; values = values }
+abbrev pub info_line_from_parts : InfoField → List FieldValue → InfoLine
+info_line_from_parts f values = record { field = f; values = values }
 
 -- a file by its parts
-abbrev pub file_by : List ℕ → Option Access → Option (List ℕ) → ListedFile
-file_by name access hash = record { name = name; access = access; hash = hash }
+abbrev pub listed_file_from_parts : List ℕ → Option Access → Option (List ℕ) → ListedFile
+listed_file_from_parts name access hash = record { name = name; access = access; hash = hash }
 
 -- a folder by its parts
-abbrev pub folder_by : List ℕ → Option Access → List ListedFile → ListedFolder
-folder_by name access files = record { name = name; access = access; files = files }
+abbrev pub listed_folder_from_parts : List ℕ → Option Access → List ListedFile → ListedFolder
+listed_folder_from_parts name access files = record { name = name; access = access; files = files }
 
 -- ---- one more line; None if the line is not allowed there
 
@@ -67,10 +67,10 @@ has_line_of f info = list_any (is_line_of f) info
 
 -- the information with one more line of a field, which has to be the first one unless the field is a
 -- list
-abbrev pub with_info : InfoField → List FieldValue → List InfoLine → Option (List InfoLine)
-with_info f values info =
-    if not (adds_to_list f) && has_line_of f info then None
-    else Some (info ++ info_by f values ∷ [])
+abbrev pub with_info_values : InfoField → List FieldValue → List InfoLine → Option (List InfoLine)
+with_info_values f values info =
+    if not (is_list_info_field f) && has_line_of f info then None
+    else Some (info ++ info_line_from_parts f values ∷ [])
 
 -- a list with its last element changed; None if there is none, or the change is not possible
 abbrev pub with_last_changed : {A : Type 0} → (A → Option A) → List A → Option (List A)
@@ -82,26 +82,26 @@ with_last_changed change (x ∷ y ∷ rest) =
 -- a file with its access, which may be given once
 abbrev pub file_with_access : Access → ListedFile → Option ListedFile
 file_with_access a file =
-    if is_some file.access then None else Some (file_by file.name (Some a) file.hash)
+    if is_some file.access then None else Some (listed_file_from_parts file.name (Some a) file.hash)
 
 -- a file with its hash, which may be given once
 abbrev pub file_with_hash : List ℕ → ListedFile → Option ListedFile
 file_with_hash hash file =
-    if is_some file.hash then None else Some (file_by file.name file.access (Some hash))
+    if is_some file.hash then None else Some (listed_file_from_parts file.name file.access (Some hash))
 
 -- a folder with its access, which may be given once
 abbrev pub folder_with_access : Access → ListedFolder → Option ListedFolder
 folder_with_access a folder =
-    if is_some folder.access then None else Some (folder_by folder.name (Some a) folder.files)
+    if is_some folder.access then None else Some (listed_folder_from_parts folder.name (Some a) folder.files)
 
 -- a folder with these files in place of its own
 abbrev pub folder_with_files : ListedFolder → List ListedFile → ListedFolder
-folder_with_files folder files = folder_by folder.name folder.access files
+folder_with_files folder files = listed_folder_from_parts folder.name folder.access files
 
 -- a folder with one more file, of which only the name is known
 abbrev pub folder_with_file : List ℕ → ListedFolder → Option ListedFolder
 folder_with_file name folder =
-    Some (folder_with_files folder (folder.files ++ file_by name None None ∷ []))
+    Some (folder_with_files folder (folder.files ++ listed_file_from_parts name None None ∷ []))
 
 -- a folder with its last file changed; None if there is none, or the change is not possible
 abbrev pub folder_with_last : (ListedFile → Option ListedFile) → ListedFolder → Option ListedFolder
@@ -111,7 +111,7 @@ folder_with_last change folder =
 -- folders and their files with one more line; None if it is not allowed there
 abbrev pub with_path_line : RecordLine → List ListedFolder → Option (List ListedFolder)
 with_path_line (info_line f values) folders = Some folders
-with_path_line (folder_line name) folders = Some (folders ++ folder_by name None [] ∷ [])
+with_path_line (folder_line name) folders = Some (folders ++ listed_folder_from_parts name None [] ∷ [])
 with_path_line (folder_access_line a) folders = with_last_changed (folder_with_access a) folders
 with_path_line (file_line name) folders = with_last_changed (folder_with_file name) folders
 with_path_line (file_access_line a) folders =
@@ -122,20 +122,20 @@ with_path_line other_line folders = Some folders
 
 -- the information with one more line; None if it is not allowed there
 abbrev pub with_info_line : RecordLine → List InfoLine → Option (List InfoLine)
-with_info_line (info_line f values) info = with_info f values info
+with_info_line (info_line f values) info = with_info_values f values info
 with_info_line line info = Some info
 
 -- the record of the information and the folders after one more line; None if the line is not allowed
 -- for one of them
-abbrev pub record_of_parts : Option (List InfoLine) → Option (List ListedFolder) → Option Record
-record_of_parts None folders = None
-record_of_parts (Some info) None = None
-record_of_parts (Some info) (Some folders) = Some (record_by true info folders)
+abbrev pub record_if_both_parts : Option (List InfoLine) → Option (List ListedFolder) → Option Record
+record_if_both_parts None folders = None
+record_if_both_parts (Some info) None = None
+record_if_both_parts (Some info) (Some folders) = Some (record_from_parts true info folders)
 
 -- a record with one more line; None if the line is not allowed there
 abbrev pub with_record_line : Record → RecordLine → Option Record
 with_record_line r line =
-    record_of_parts (with_info_line line r.info) (with_path_line line r.folders)
+    record_if_both_parts (with_info_line line r.info) (with_path_line line r.folders)
 
 -- whether the line of the package's name or that of its version is missing
 abbrev pub lacks_needed_line : List InfoLine → Bool

@@ -5,7 +5,7 @@ use Rattle.std.specs.Prelude.{◌≡◌, ℕ, Bool, true, false, not, ◌&&◌, 
 use Rattle.std.specs.List.{flat_map, list_all}
 use Rattle.dep_core.specs.World.{is_line_end}
 use Rattle.v2_lines.specs.Accesses.{Access}
-use Rattle.v2_lines.specs.InfoFields.{adds_to_list}
+use Rattle.v2_lines.specs.InfoFields.{is_list_info_field}
 use Rattle.v2_lines.specs.Lines.{RecordLine, info_line, folder_line, folder_access_line, file_line, file_access_line, file_hash_line, record_line_of}
 use Rattle.v2_core.specs.Records.{InfoLine, ListedFile, ListedFolder, Record, has_line_of, lacks_needed_line}
 
@@ -40,10 +40,10 @@ record_lines r = info_lines r.info ++ flat_map folder_lines r.folders
 
 -- whether each of these lines is the first one of its field, unless the field is a list, given the
 -- lines before them
-abbrev pub have_no_repeated_field : List InfoLine → List InfoLine → Bool
-have_no_repeated_field before [] = true
-have_no_repeated_field before (l ∷ ls) =
-    (adds_to_list l.field || not (has_line_of l.field before)) && have_no_repeated_field (before ++ l ∷
+abbrev pub have_no_repeated_single_field : List InfoLine → List InfoLine → Bool
+have_no_repeated_single_field before [] = true
+have_no_repeated_single_field before (l ∷ ls) =
+    (is_list_info_field l.field || not (has_line_of l.field before)) && have_no_repeated_single_field (before ++ l ∷
     []) ls
 
 -- whether a text holds no line end
@@ -62,16 +62,16 @@ AreLines (t ∷ ts) (l ∷ ls) =
 pub record SpellsRecord (lines : List (List ℕ)) (r : Record) : Type 0 where
   pub begun : r.has_line ≡ true
   pub complete : lacks_needed_line r.info ≡ false
-  pub once : have_no_repeated_field [] r.info ≡ true
+  pub once : have_no_repeated_single_field [] r.info ≡ true
   pub lines_say : AreLines lines (record_lines r)
 
 -- the text of some lines, each with its line end (10), followed by another text
-abbrev pub lines_before : List (List ℕ) → List ℕ → List ℕ
-lines_before [] text = text
-lines_before (line ∷ lines) text = line ++ 10 ∷ lines_before lines text
+abbrev pub lines_text_before : List (List ℕ) → List ℕ → List ℕ
+lines_text_before [] text = text
+lines_text_before (line ∷ lines) text = line ++ 10 ∷ lines_text_before lines text
 
 -- a text is that of these records: the lines of each, followed by an empty line
 abbrev pub SpellsText : List ℕ → List Record → Type 0
 SpellsText text [] = text ≡ []
 SpellsText text (r ∷ rs) = (lines : List (List ℕ)) × (rest : List ℕ)
-    × (text ≡ lines_before lines (10 ∷ rest)) × SpellsRecord lines r × SpellsText rest rs
+    × (text ≡ lines_text_before lines (10 ∷ rest)) × SpellsRecord lines r × SpellsText rest rs

@@ -7,8 +7,8 @@ use Rattle.v2_lines.specs.Views.{bytes_view}
 use Rattle.v2_lines.specs.declared.access.Access.{Access as AccessSlices}
 
 -- the access of a file or a folder, if it is known
-abbrev pub access_views : Option AccessSlices → Option Access
-access_views a = option_map access_view a
+abbrev pub access_view_if_any : Option AccessSlices → Option Access
+access_view_if_any a = option_map access_view a
 
 -- the hash of a file, if it is known
 abbrev pub hash_view : Option (Vec ℕ Global) → Option (List ℕ)

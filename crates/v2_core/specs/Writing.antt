@@ -11,9 +11,9 @@ use Rattle.v2_core.specs.Database.{value_of_records, record_value}
 use Rattle.v2_core.specs.Records.{Record}
 
 -- a draft with the package of each record that is read, or the first bad line
-abbrev pub draft_with_read : Result (List Record) ℕ → DraftState → Result DraftState ℕ
-draft_with_read (Ok records) d = Ok (draft_with_all (plains_of_list (map record_value records)) d)
-draft_with_read (Err line) d = Err line
+abbrev pub draft_with_records : Result (List Record) ℕ → DraftState → Result DraftState ℕ
+draft_with_records (Ok records) d = Ok (draft_with_all (plains_of_list (map record_value records)) d)
+draft_with_records (Err line) d = Err line
 
 -- a draft with the database of the records that are read, or the first bad line
 abbrev pub draft_with_database : Result (List Record) ℕ → DraftState → Result DraftState ℕ

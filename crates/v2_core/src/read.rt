@@ -9,9 +9,9 @@ ghost use Rattle.v2_core.specs.declared.read.V2Fault.TheVariants.{Bad};
 ghost use Rattle.v2_lines.specs.adb_schema.Soundness.{payload_fault};
 ghost use Rattle.adb_view.specs.declared.tables.Which.TheVariants as Tables;
 ghost use Rattle.v2_core.specs.Payload.{IsV2Fault, payload_of_text, written_payload};
-ghost use Rattle.v2_core.specs.Reading.{at_record_end, records_from, records_of};
+ghost use Rattle.v2_core.specs.Reading.{records_from_record_end, records_from, records_of};
 ghost use Rattle.v2_core.specs.Records.{Record as RecordModel, empty_record};
-ghost use Rattle.v2_core.specs.Writing.{IsLineFault, draft_with_database, draft_with_read};
+ghost use Rattle.v2_core.specs.Writing.{IsLineFault, draft_with_database, draft_with_records};
 ghost use Rattle.dep_core.specs.World.{lines_of};
 ghost use Rattle.v2_core.specs.FirstBadLine.{IsReportedLine};
 ghost use Rattle.v2_core.specs.Spelling.{SpellsText};
@@ -92,7 +92,7 @@ fn write_database(alloc: Global, draft: &mut Draft, bytes: &[u8]) -> Result<(), 
 // Writes the packages of a text, each at the end of its record.
 #[tactic(auto, unfolding(crate::specs::Reading::records_of))]
 fn write_packages(alloc: Global, draft: &mut Draft, bytes: &[u8]) -> Result<(), V2Fault>
-    ensures ok { OnOk result (draft_with_read (records_of bytes.now) draft.old ≡ Ok draft.new) }
+    ensures ok { OnOk result (draft_with_records (records_of bytes.now) draft.old ≡ Ok draft.new) }
     ensures bad { IfErr result (λ fault. IsLineFault fault (records_of bytes.now)) }
 {
     let mut record = Record::new(alloc);
@@ -115,8 +115,8 @@ fn add_line<'a>(
 ) -> Result<(), V2Fault>
     requires { 0 < number }
     ensures ok { OnOk result ((rest : List (List ℕ))
-        → draft_with_read (records_from number text_record.new rest) draft.new
-        ≡ draft_with_read (records_from (number - 1) text_record.old (line.entry.now ∷ rest))
+        → draft_with_records (records_from number text_record.new rest) draft.new
+        ≡ draft_with_records (records_from (number - 1) text_record.old (line.entry.now ∷ rest))
         draft.old) }
     ensures bad { IfErr result (λ fault. (rest : List (List ℕ))
         → IsLineFault fault (records_from (number - 1) text_record.old (line.entry.now ∷ rest))) }
@@ -135,10 +135,10 @@ fn add_line<'a>(
 fn end_record(draft: &mut Draft, text_record: &mut Record<'_>, lines: u64) -> Result<(), V2Fault>
     ensures new { OnOk result (text_record.new ≡ empty_record) }
     ensures ok { OnOk result ((others : Result (List RecordModel) ℕ)
-        → draft_with_read others draft.new
-        ≡ draft_with_read (at_record_end lines text_record.old others) draft.old) }
+        → draft_with_records others draft.new
+        ≡ draft_with_records (records_from_record_end lines text_record.old others) draft.old) }
     ensures bad { IfErr result (λ fault. (others : Result (List RecordModel) ℕ)
-        → IsLineFault fault (at_record_end lines text_record.old others)) }
+        → IsLineFault fault (records_from_record_end lines text_record.old others)) }
 {
     write_record(draft, text_record, lines)?;
     text_record.clear();
@@ -149,10 +149,10 @@ fn end_record(draft: &mut Draft, text_record: &mut Record<'_>, lines: u64) -> Re
 // none. The clauses hold for any records that follow.
 fn write_record(draft: &mut Draft, text_record: &Record<'_>, lines: u64) -> Result<(), V2Fault>
     ensures ok { OnOk result ((others : Result (List RecordModel) ℕ)
-        → draft_with_read others draft.new
-        ≡ draft_with_read (at_record_end lines text_record.now others) draft.old) }
+        → draft_with_records others draft.new
+        ≡ draft_with_records (records_from_record_end lines text_record.now others) draft.old) }
     ensures bad { IfErr result (λ fault. (others : Result (List RecordModel) ℕ)
-        → IsLineFault fault (at_record_end lines text_record.now others)) }
+        → IsLineFault fault (records_from_record_end lines text_record.now others)) }
 {
     if !text_record.has_line() {
         return Ok(());

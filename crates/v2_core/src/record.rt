@@ -4,8 +4,8 @@
 ghost use Rattle.std.specs.List.{find, list_any};
 ghost use Rattle.std.specs.Option.{option_map};
 ghost use Rattle.std.specs.Prelude.{◌≡◌, ◌++◌, ◌∷◌, [], IfOk, None, OnOk, Some, if◌then◌else◌, is_some, option_and_then};
-ghost use Rattle.v2_core.specs.Reading.{with_text};
-ghost use Rattle.v2_core.specs.Records.{empty_record, file_by, file_with_access, file_with_hash, folder_by, folder_with_access, folder_with_file, folder_with_last, has_line_of, info_by, is_line_of, lacks_needed_line, with_info, with_last_changed, with_record_line};
+ghost use Rattle.v2_core.specs.Reading.{record_with_text_line};
+ghost use Rattle.v2_core.specs.Records.{empty_record, listed_file_from_parts, file_with_access, file_with_hash, listed_folder_from_parts, folder_with_access, folder_with_file, folder_with_last, has_line_of, info_line_from_parts, is_line_of, lacks_needed_line, with_info_values, with_last_changed, with_record_line};
 ghost use Rattle.v2_lines.specs.Accesses.{access_view};
 ghost use Rattle.v2_lines.specs.Lines.{record_line_of};
 ghost use Rattle.v2_lines.specs.Views.{line_view, line_value_view};
@@ -24,12 +24,12 @@ pub(crate) struct InfoLine<'a> {
 }
 
 impl<'a> Model for InfoLine<'a> {
-    ghost use Rattle.v2_core.specs.Records.{InfoLine as InfoLineModel, info_by};
+    ghost use Rattle.v2_core.specs.Records.{InfoLine as InfoLineModel, info_line_from_parts};
     ghost use Rattle.v2_lines.specs.Views.{line_value_view};
 
     ghost Value = { InfoLineModel };
 
-    ghost view = { λ line. info_by line.field (line_value_view line.value) };
+    ghost view = { λ line. info_line_from_parts line.field (line_value_view line.value) };
 }
 
 /// A file that a record lists.
@@ -44,12 +44,12 @@ pub(crate) struct File<'a> {
 }
 
 impl<'a> Model for File<'a> {
-    ghost use Rattle.v2_core.specs.Records.{ListedFile as ListedFileModel, file_by};
-    ghost use Rattle.v2_core.specs.Views.{access_views, hash_view};
+    ghost use Rattle.v2_core.specs.Records.{ListedFile as ListedFileModel, listed_file_from_parts};
+    ghost use Rattle.v2_core.specs.Views.{access_view_if_any, hash_view};
 
     ghost Value = { ListedFileModel };
 
-    ghost view = { λ file. file_by file.name.now (access_views file.access) (hash_view file.hash) };
+    ghost view = { λ file. listed_file_from_parts file.name.now (access_view_if_any file.access) (hash_view file.hash) };
 }
 
 impl<'a> File<'a> {
@@ -90,12 +90,12 @@ pub(crate) struct Folder<'a> {
 }
 
 impl<'a> Model for Folder<'a> {
-    ghost use Rattle.v2_core.specs.Records.{ListedFolder as ListedFolderModel, folder_by};
-    ghost use Rattle.v2_core.specs.Views.{access_views};
+    ghost use Rattle.v2_core.specs.Records.{ListedFolder as ListedFolderModel, listed_folder_from_parts};
+    ghost use Rattle.v2_core.specs.Views.{access_view_if_any};
 
     ghost Value = { ListedFolderModel };
 
-    ghost view = { λ folder. folder_by folder.name.now (access_views folder.access)
+    ghost view = { λ folder. listed_folder_from_parts folder.name.now (access_view_if_any folder.access)
         folder.files.items };
 }
 
@@ -176,11 +176,11 @@ pub(crate) struct Record<'a> {
 }
 
 impl<'a> Model for Record<'a> {
-    ghost use Rattle.v2_core.specs.Records.{Record as RecordModel, record_by};
+    ghost use Rattle.v2_core.specs.Records.{Record as RecordModel, record_from_parts};
 
     ghost Value = { RecordModel };
 
-    ghost view = { λ r. record_by r.has_line r.info.items r.folders.items };
+    ghost view = { λ r. record_from_parts r.has_line r.info.items r.folders.items };
 }
 
 impl<'a> Record<'a> {
@@ -222,7 +222,7 @@ impl<'a> Record<'a> {
     /// Adds a line of a text. False: the line is bad.
     pub(crate) fn add_text(&mut self, text: &'a [u8]) -> Result<bool, AllocError>
         ensures { IfOk result (λ good. (if good then Some self.new else None)
-            ≡ with_text self.old text.entry.now) }
+            ≡ record_with_text_line self.old text.entry.now) }
     {
         match read_line(self.alloc, text)? {
             Some(line) => self.add(line),
@@ -262,9 +262,9 @@ fn add_info<'a>(
     value: Value<'a>,
 ) -> Result<bool, AllocError>
     ensures { IfOk result (λ good. (if good then Some info.new.items else None)
-        ≡ with_info field (line_value_view value.entry) info.old.items) }
+        ≡ with_info_values field (line_value_view value.entry) info.old.items) }
 {
-    if !field.adds_to_list() && has_line_of(info, field) {
+    if !field.is_list_info_field() && has_line_of(info, field) {
         return Ok(false);
     }
     info.push(InfoLine { field, value })?;
@@ -278,7 +278,7 @@ fn add_folder<'a>(
     name: &'a [u8],
 ) -> Result<bool, AllocError>
     ensures { IfOk result (λ good. (if good then Some folders.new.items else None)
-        ≡ Some (folders.old.items ++ folder_by name.entry.now None [] ∷ [])) }
+        ≡ Some (folders.old.items ++ listed_folder_from_parts name.entry.now None [] ∷ [])) }
 {
     folders.push(Folder {
         name,

@@ -10,9 +10,9 @@ ghost use Rattle.std.specs.List.{find};
 ghost use Rattle.std.specs.Option.{option_map};
 ghost use Rattle.std.specs.Prelude.{◌≡◌, OnOk, Some, map};
 ghost use Rattle.v2_core.specs.Columns.{value_of_column};
-ghost use Rattle.v2_core.specs.Database.{listed_access_value, array_of, listed_file_value, value_of_first, listed_folder_value, listed_hash_value, record_info_value, joined_value, single_value, record_value};
+ghost use Rattle.v2_core.specs.Database.{listed_access_value, array_of, listed_file_value, value_of_first_or_null, listed_folder_value, listed_hash_value, record_info_value, array_of_field_values, value_of_single_line_field, record_value};
 ghost use Rattle.v2_core.specs.Records.{is_line_of};
-ghost use Rattle.v2_core.specs.Views.{access_views, hash_view};
+ghost use Rattle.v2_core.specs.Views.{access_view_if_any, hash_view};
 ghost use Rattle.v2_lines.specs.Accesses.{access_view};
 ghost use Rattle.v2_lines.specs.Views.{line_value_view};
 
@@ -110,7 +110,7 @@ fn write_column(draft: &mut Draft, info: &[InfoLine<'_>], column: Column) -> Res
 
 // Writes the line of a field, or NULL if there is none.
 fn write_once(draft: &mut Draft, info: &[InfoLine<'_>], field: InfoField) -> Result<(), AllocError>
-    ensures { OnOk result (draft.new ≡ draft_with (single_value field info.now) draft.old) }
+    ensures { OnOk result (draft.new ≡ draft_with (value_of_single_line_field field info.now) draft.old) }
 {
     match find_line(info, field) {
         Some(line) => write_first(draft, &line.value),
@@ -128,7 +128,7 @@ fn find_line<'a, 'b>(info: &'a [InfoLine<'b>], field: InfoField) -> Option<&'a I
 // Writes the value that a field has once.
 fn write_first(draft: &mut Draft, value: &Value<'_>) -> Result<(), AllocError>
     ensures { OnOk result
-        (draft.new ≡ draft_with (value_of_first (line_value_view value.now)) draft.old) }
+        (draft.new ≡ draft_with (value_of_first_or_null (line_value_view value.now)) draft.old) }
 {
     match value {
         Value::Text(text) => draft.blob(text),
@@ -144,7 +144,7 @@ fn write_first(draft: &mut Draft, value: &Value<'_>) -> Result<(), AllocError>
 
 // Writes the values of all lines of a field, as an array.
 fn write_list(draft: &mut Draft, info: &[InfoLine<'_>], field: InfoField) -> Result<(), AllocError>
-    ensures { OnOk result (draft.new ≡ draft_with (joined_value field info.now) draft.old) }
+    ensures { OnOk result (draft.new ≡ draft_with (array_of_field_values field info.now) draft.old) }
 {
     draft.open_list()?;
     for line in info {
@@ -234,7 +234,7 @@ fn write_file(draft: &mut Draft, file: &File<'_>) -> Result<(), AllocError>
 // Writes an access, or NULL if no line gives it.
 fn write_access(draft: &mut Draft, access: &Option<Access<'_>>) -> Result<(), AllocError>
     ensures { OnOk result
-        (draft.new ≡ draft_with (listed_access_value (access_views access.now)) draft.old) }
+        (draft.new ≡ draft_with (listed_access_value (access_view_if_any access.now)) draft.old) }
 {
     let Some(access) = access else {
         return draft.null();

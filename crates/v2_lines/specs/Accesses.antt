@@ -16,12 +16,12 @@ pub record Access : Type 0 where
   pub mode : ℕ
 
 -- an access by its parts
-abbrev pub access_by : List ℕ → List ℕ → ℕ → Access
-access_by user group mode = record { user = user; group = group; mode = mode }
+abbrev pub access_from_parts : List ℕ → List ℕ → ℕ → Access
+access_from_parts user group mode = record { user = user; group = group; mode = mode }
 
 -- the access that a value of the program is, with texts in place of slices
 abbrev pub access_view : AccessSlices → Access
-access_view a = access_by a.user.now a.group.now a.mode
+access_view a = access_from_parts a.user.now a.group.now a.mode
 
 -- the text before the first colon; all if there is none
 abbrev pub before_colon : List ℕ → List ℕ
@@ -56,5 +56,5 @@ access_in text =
     let group = before_colon (after_colon text) in
     let mode = before_colon (after_colon (after_colon text)) in
     if is_uid_or_gid user && is_uid_or_gid group
-    then option_map (access_by user group) (octal_number mode)
+    then option_map (access_from_parts user group) (octal_number mode)
     else None

@@ -68,9 +68,9 @@ grammar_of Fields.Replaces = Grammars.Dependencies
 grammar_of Fields.InstallIf = Grammars.Dependencies
 
 -- whether a record may have several lines of a field, each of which adds to a list
-abbrev pub adds_to_list : InfoField → Bool
-adds_to_list Fields.Depends = true
-adds_to_list Fields.Provides = true
-adds_to_list Fields.Replaces = true
-adds_to_list Fields.InstallIf = true
-adds_to_list f = false
+abbrev pub is_list_info_field : InfoField → Bool
+is_list_info_field Fields.Depends = true
+is_list_info_field Fields.Provides = true
+is_list_info_field Fields.Replaces = true
+is_list_info_field Fields.InstallIf = true
+is_list_info_field f = false

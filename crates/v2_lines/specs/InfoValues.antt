@@ -8,7 +8,7 @@ use Rattle.hex.specs.Hex.{decode_of as hex_bytes}
 use Rattle.hex.specs.declared.error.FromHexError.{FromHexError}
 use Rattle.version_core.specs.Order.{is_version}
 use Rattle.dep_core.specs.Dependency.{is_package_name}
-use Rattle.make_info.specs.Fields.{FieldValue, text, number, decimal_number, needs_in, nonempty_parts, text_if}
+use Rattle.make_info.specs.Fields.{FieldValue, text, number, decimal_number, dependency_values_in, nonempty_parts, text_value_if}
 use Rattle.v2_lines.specs.declared.field.Grammar.{Grammar}
 use Rattle.v2_lines.specs.declared.field.Grammar.TheVariants as Grammars
 
@@ -25,28 +25,28 @@ sha1_of (q ∷ one ∷ encoded) =
     if (q == 81) && (one == 49) then twenty_bytes (base64_bytes standard encoded) else None
 
 -- the values of a field that has one text
-abbrev pub one_text : List ℕ → List FieldValue
-one_text bytes = text bytes ∷ []
+abbrev pub single_text_value : List ℕ → List FieldValue
+single_text_value bytes = text bytes ∷ []
 
 -- the values of a field that has one number
-abbrev pub one_number : ℕ → List FieldValue
-one_number n = number n ∷ []
+abbrev pub single_number_value : ℕ → List FieldValue
+single_number_value n = number n ∷ []
 
 -- the values of a commit: the bytes of pairs of hexadecimal digits; another text is dropped, and gives
 -- none
 abbrev pub commit_values : Result (List ℕ) FromHexError → List FieldValue
-commit_values (Ok bytes) = one_text bytes
+commit_values (Ok bytes) = single_text_value bytes
 commit_values (Err e) = []
 
 -- the values of a text under a grammar; None if it is not in it
-abbrev pub values_by_grammar : Grammar → List ℕ → Option (List FieldValue)
-values_by_grammar Grammars.Sha1Text value = option_map one_text (sha1_of value)
-values_by_grammar Grammars.PackageName value = text_if (is_package_name value) value
-values_by_grammar Grammars.PackageVersion value = text_if (is_version value) value
-values_by_grammar Grammars.AnyText value = text_if true value
-values_by_grammar Grammars.Number value = option_map one_number (decimal_number value)
-values_by_grammar Grammars.Commit value = Some (commit_values (hex_bytes value))
-values_by_grammar Grammars.Dependencies value = needs_in (nonempty_parts value)
+abbrev pub values_under_grammar : Grammar → List ℕ → Option (List FieldValue)
+values_under_grammar Grammars.Sha1Text value = option_map single_text_value (sha1_of value)
+values_under_grammar Grammars.PackageName value = text_value_if (is_package_name value) value
+values_under_grammar Grammars.PackageVersion value = text_value_if (is_version value) value
+values_under_grammar Grammars.AnyText value = text_value_if true value
+values_under_grammar Grammars.Number value = option_map single_number_value (decimal_number value)
+values_under_grammar Grammars.Commit value = Some (commit_values (hex_bytes value))
+values_under_grammar Grammars.Dependencies value = dependency_values_in (nonempty_parts value)
 
 -- dependencies followed by more of them, unless one of these is none
 abbrev pub with_needs : List FieldValue → Option (List FieldValue) → Option (List FieldValue)

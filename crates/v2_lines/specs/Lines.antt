@@ -6,7 +6,7 @@ use Rattle.adb_schema.specs.Rules.{is_folder_name, is_one_part}
 use Rattle.make_info.specs.Fields.{FieldValue}
 use Rattle.v2_lines.specs.Accesses.{Access, access_in}
 use Rattle.v2_lines.specs.InfoFields.{field_of_letter, grammar_of}
-use Rattle.v2_lines.specs.InfoValues.{sha1_of, values_by_grammar}
+use Rattle.v2_lines.specs.InfoValues.{sha1_of, values_under_grammar}
 use Rattle.v2_lines.specs.declared.field.InfoField.{InfoField}
 use Rattle.v2_lines.specs.declared.line.TheConstants.{MARK, FOLDER, FOLDER_ACCESS, FILE, FILE_ACCESS, FILE_HASH}
 
@@ -30,23 +30,23 @@ abbrev pub file_line_of : List ℕ → Option RecordLine
 file_line_of name = if is_one_part name then Some (file_line name) else None
 
 -- the meaning of a line on the package itself; one with an unlisted letter has none that is kept
-abbrev pub info_line_by : Option InfoField → List ℕ → Option RecordLine
-info_line_by None value = Some other_line
-info_line_by (Some f) value = option_map (info_line f) (values_by_grammar (grammar_of f) value)
+abbrev pub info_record_line : Option InfoField → List ℕ → Option RecordLine
+info_record_line None value = Some other_line
+info_record_line (Some f) value = option_map (info_line f) (values_under_grammar (grammar_of f) value)
 
 -- the meaning of a line with this letter and this value; None if the value is not in the letter's
 -- grammar
-unfoldable pub record_line_by : ℕ → List ℕ → Option RecordLine
-record_line_by letter value =
+unfoldable pub record_line_of_letter : ℕ → List ℕ → Option RecordLine
+record_line_of_letter letter value =
     if letter == FOLDER then folder_line_of value else
     if letter == FOLDER_ACCESS then option_map folder_access_line (access_in value) else
     if letter == FILE then file_line_of value else
     if letter == FILE_ACCESS then option_map file_access_line (access_in value) else
     if letter == FILE_HASH then option_map file_hash_line (sha1_of value) else
-    info_line_by (field_of_letter letter) value
+    info_record_line (field_of_letter letter) value
 
 -- the meaning of a line, which is a letter, a colon and a value; None if it is bad
 abbrev pub record_line_of : List ℕ → Option RecordLine
 record_line_of [] = None
 record_line_of (letter ∷ []) = None
-record_line_of (letter ∷ mark ∷ value) = if mark == MARK then record_line_by letter value else None
+record_line_of (letter ∷ mark ∷ value) = if mark == MARK then record_line_of_letter letter value else None

@@ -2,7 +2,7 @@
 //! The rules are in `docs/formats.md`, "Text database of version 2", the table, from C to the row
 //! D, p, r, i.
 ghost use Rattle.std.specs.Prelude.{◌≡◌, ◌==◌};
-ghost use Rattle.v2_lines.specs.InfoFields.{info_field_among, field_of_letter, grammar_of, adds_to_list, letter_of};
+ghost use Rattle.v2_lines.specs.InfoFields.{info_field_among, field_of_letter, grammar_of, is_list_info_field, letter_of};
 
 /// A field of a package that a line gives (the installed database of apk-tools 2).
 #[derive(Clone, Copy, Debug, PartialEq, Eq)]
@@ -146,8 +146,8 @@ impl InfoField {
     }
 
     /// Whether a record may have several lines of the field, each of which adds to a list.
-    pub fn adds_to_list(self) -> bool
-        ensures { result ≡ adds_to_list self }
+    pub fn is_list_info_field(self) -> bool
+        ensures { result ≡ is_list_info_field self }
     {
         matches!(
             self,

@@ -6,7 +6,7 @@ ghost use Rattle.std.specs.Option.{option_map};
 ghost use Rattle.std.specs.Prelude.{◌≡◌, IfOk};
 ghost use Rattle.v2_lines.specs.InfoFields.{field_of_letter};
 ghost use Rattle.v2_lines.specs.InfoValues.{sha1_of};
-ghost use Rattle.v2_lines.specs.Lines.{file_hash_line, folder_line_of, file_line_of, info_line_by, record_line_by, record_line_of};
+ghost use Rattle.v2_lines.specs.Lines.{file_hash_line, folder_line_of, file_line_of, info_record_line, record_line_of_letter, record_line_of};
 ghost use Rattle.v2_lines.specs.Views.{line_view};
 
 use crate::access::{Access, read_access};
@@ -64,14 +64,14 @@ pub fn read_line<'a>(alloc: Global, line: &'a [u8]) -> Result<Option<Line<'a>>, 
 }
 
 // Reads the value of a line by its letter. A line with an unknown letter has no meaning.
-#[tactic(auto, unfolding(crate::specs::Lines::record_line_by))]
+#[tactic(auto, unfolding(crate::specs::Lines::record_line_of_letter))]
 fn read_by_letter<'a>(
     alloc: Global,
     letter: u8,
     value: &'a [u8],
 ) -> Result<Option<Line<'a>>, AllocError>
     ensures { IfOk result (λ found. option_map line_view found
-        ≡ record_line_by letter value.entry.now) }
+        ≡ record_line_of_letter letter value.entry.now) }
 {
     match letter {
         FOLDER => Ok(folder_line(value)),
@@ -117,7 +117,7 @@ fn read_file_hash<'a>(alloc: Global, value: &[u8]) -> Result<Option<Line<'a>>, A
 // Reads a line on the package itself; one with an unlisted letter has no meaning that is kept.
 fn read_info<'a>(alloc: Global, letter: u8, value: &'a [u8]) -> Result<Option<Line<'a>>, AllocError>
     ensures { IfOk result (λ found. option_map line_view found
-        ≡ info_line_by (field_of_letter letter) value.entry.now) }
+        ≡ info_record_line (field_of_letter letter) value.entry.now) }
 {
     let Some(field) = InfoField::of(letter) else {
         return Ok(Some(Line::Other));

@@ -4,12 +4,12 @@ ghost use Rattle.dep_core.specs.Meets.{dependency};
 ghost use Rattle.hex.specs.Hex.{decode_of};
 ghost use Rattle.base64.specs.Engines.{standard};
 ghost use Rattle.base64.specs.GeneralPurpose.{decode_of as base64_bytes};
-ghost use Rattle.make_info.specs.Fields.{decimal_number, needs_in, nonempty_parts, text_if};
+ghost use Rattle.make_info.specs.Fields.{decimal_number, dependency_values_in, nonempty_parts, text_value_if};
 ghost use Rattle.make_info.specs.Reading.{nonempty_part};
 ghost use Rattle.std.specs.Option.{option_map};
 ghost use Rattle.std.specs.Prelude.{◌≡◌, ◌++◌, ◌==◌, IfOk, None, Some, if◌then◌else◌, length};
 ghost use Rattle.v2_lines.specs.InfoFields.{grammar_of};
-ghost use Rattle.v2_lines.specs.InfoValues.{commit_values, one_number, one_text, sha1_of, twenty_bytes, values_by_grammar, with_needs};
+ghost use Rattle.v2_lines.specs.InfoValues.{commit_values, single_number_value, single_text_value, sha1_of, twenty_bytes, values_under_grammar, with_needs};
 ghost use Rattle.v2_lines.specs.Views.{bytes_view, needs_view, line_value_view};
 
 use crate::field::{Grammar, InfoField};
@@ -46,13 +46,13 @@ pub(crate) fn read_value<'a>(
     text: &'a [u8],
 ) -> Result<Option<Value<'a>>, AllocError>
     ensures { IfOk result (λ found. option_map line_value_view found
-        ≡ values_by_grammar (grammar_of field) text.entry.now) }
+        ≡ values_under_grammar (grammar_of field) text.entry.now) }
 {
     match field.grammar() {
         Grammar::Sha1Text => read_bytes(alloc, text),
-        Grammar::PackageName => Ok(text_if(text, is_package_name(text))),
-        Grammar::PackageVersion => Ok(text_if(text, Version::read(text).is_some())),
-        Grammar::AnyText => Ok(text_if(text, true)),
+        Grammar::PackageName => Ok(text_value_if(text, is_package_name(text))),
+        Grammar::PackageVersion => Ok(text_value_if(text, Version::read(text).is_some())),
+        Grammar::AnyText => Ok(text_value_if(text, true)),
         Grammar::Number => Ok(number_value(text)),
         Grammar::Commit => read_commit(alloc, text),
         Grammar::Dependencies => read_needs(alloc, text),
@@ -60,8 +60,8 @@ pub(crate) fn read_value<'a>(
 }
 
 // A text as a value, if its rule allows it.
-fn text_if(text: &[u8], is_good: bool) -> Option<Value<'_>>
-    ensures { option_map line_value_view result ≡ text_if is_good text.now }
+fn text_value_if(text: &[u8], is_good: bool) -> Option<Value<'_>>
+    ensures { option_map line_value_view result ≡ text_value_if is_good text.now }
 {
     if !is_good {
         return None;
@@ -72,7 +72,7 @@ fn text_if(text: &[u8], is_good: bool) -> Option<Value<'_>>
 // A number as a value. None: the text is no number below 2^64, or has a leading zero.
 fn number_value<'a>(digits: &[u8]) -> Option<Value<'a>>
     ensures { option_map line_value_view result
-        ≡ option_map one_number (decimal_number digits.now) }
+        ≡ option_map single_number_value (decimal_number digits.now) }
 {
     let n = read_number(digits)?;
     Some(Value::Number(n))
@@ -81,7 +81,7 @@ fn number_value<'a>(digits: &[u8]) -> Option<Value<'a>>
 // A hash as a value: `Q1` and its base64. None: the text is none.
 fn read_bytes<'a>(alloc: Global, text: &[u8]) -> Result<Option<Value<'a>>, AllocError>
     ensures { IfOk result (λ found. option_map line_value_view found
-        ≡ option_map one_text (sha1_of text.now)) }
+        ≡ option_map single_text_value (sha1_of text.now)) }
 {
     match read_sha1(alloc, text)? {
         Some(bytes) => Ok(Some(Value::Bytes(bytes))),
@@ -128,7 +128,7 @@ fn read_commit<'a>(alloc: Global, text: &[u8]) -> Result<Option<Value<'a>>, Allo
 // tag.
 fn read_needs<'a>(alloc: Global, text: &'a [u8]) -> Result<Option<Value<'a>>, AllocError>
     ensures { IfOk result (λ found. option_map line_value_view found
-        ≡ needs_in (nonempty_parts text.entry.now)) }
+        ≡ dependency_values_in (nonempty_parts text.entry.now)) }
 {
     let mut needs = Vec::new(alloc);
     for part in text.split(|byte| *byte == b' ') {
@@ -142,7 +142,7 @@ fn read_needs<'a>(alloc: Global, text: &'a [u8]) -> Result<Option<Value<'a>>, Al
 // Adds a dependency, or nothing for an empty part. False: it is no dependency without tag.
 fn add_need<'a>(needs: &mut Vec<Dep<'a>>, part: &'a [u8]) -> Result<bool, AllocError>
     ensures { IfOk result (λ good. (if good then Some (needs_view needs.new) else None)
-        ≡ with_needs (needs_view needs.old) (needs_in (nonempty_part part.entry.now))) }
+        ≡ with_needs (needs_view needs.old) (dependency_values_in (nonempty_part part.entry.now))) }
 {
     if part.is_empty() {
         return Ok(true);

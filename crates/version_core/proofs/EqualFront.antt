@@ -16,7 +16,7 @@ use Rattle.std.proofs.Math.Bool.{and-false}
 use Rattle.version_core.specs.declared.token.Class.{Class}
 use Rattle.version_core.specs.declared.token.Class.TheVariants.{Revision, Hash, SuffixNumber, Letter, Component}
 use Rattle.version_core.specs.Token.{Token, Lexeme, number_token, text_token, lexeme, stray_lexeme, is_component, is_suffix, is_before_hash, is_before_revision, is_hex_digit, leading_digits, leading_hex_digits, leading_letters, number_lexeme, component_lexeme, suffix_lexeme, hash_lexeme, revision_lexeme, next_lexeme, lexeme_at}
-use Rattle.version_core.specs.Order.{are_in_grammar, is_last, is_stray, is_version, token_cmp, tokens, tokens_after, version_cmp}
+use Rattle.version_core.specs.Order.{are_in_grammar, is_last_token_class, is_stray_class, is_version, token_cmp, tokens, tokens_after, version_cmp}
 use Rattle.version_core.specs.Matching.{all_fit, is_prefix_of, fits, is_fuzzy_match, is_zero_component}
 use Rattle.version_core.specs.Reading.{AreEqualUpTo, IsLastMark, begins_with_mark, hash_cmp, hash_fits, is_token_mark, is_unmarked}
 use Rattle.version_core.proofs.OrderLaws.{token_cmp-total}
@@ -79,17 +79,17 @@ lexeme_front (Some last) b a m x h = λ i.
 
 -- ---- what a version has from a mark on does not depend on the token before
 
-plain_by : (b : Bool) (x : Lexeme) → is_last (cond b x stray_lexeme).token.class ≡ false → cond b x stray_lexeme ≡ x
+plain_by : (b : Bool) (x : Lexeme) → is_last_token_class (cond b x stray_lexeme).token.class ≡ false → cond b x stray_lexeme ≡ x
 plain_by true x h = refl
 plain_by false x h = absurd (false≢true (sym h))
 
-mark_lexeme : (last : Option Class) (m : ℕ) (x : List ℕ) → is_token_mark m ≡ true → is_last (lexeme_at last (m ∷ x)).token.class ≡ false → lexeme_at last (m ∷ x) ≡ lexeme_at (Some Component) (m ∷ x)
+mark_lexeme : (last : Option Class) (m : ℕ) (x : List ℕ) → is_token_mark m ≡ true → is_last_token_class (lexeme_at last (m ∷ x)).token.class ≡ false → lexeme_at last (m ∷ x) ≡ lexeme_at (Some Component) (m ∷ x)
 unfolding next_lexeme number_lexeme
 mark_lexeme None m x mark h =
     let none : number_lexeme Component 0 (leading_digits (m ∷ x)) ≡ stray_lexeme = ap (number_lexeme Component 0) (run_front is_ascii_digit [] m x (no_digit m mark)) in
-    absurd (false≢true (sym h ∙ ap (λ (l : Lexeme). is_last l.token.class) none))
+    absurd (false≢true (sym h ∙ ap (λ (l : Lexeme). is_last_token_class l.token.class) none))
 mark_lexeme (Some last) m x mark h =
-    by_mark (λ m. is_last (next_lexeme last (m ∷ x)).token.class ≡ false → next_lexeme last (m ∷ x) ≡ next_lexeme Component (m ∷ x)) m mark
+    by_mark (λ m. is_last_token_class (next_lexeme last (m ∷ x)).token.class ≡ false → next_lexeme last (m ∷ x) ≡ next_lexeme Component (m ∷ x)) m mark
     (plain_by (is_component last) (component_lexeme (leading_digits x)))
     (plain_by (is_before_hash last) (suffix_lexeme (leading_letters x)))
     (plain_by (is_before_hash last) (hash_lexeme (leading_hex_digits x)))
@@ -109,12 +109,12 @@ bool_by : (b : Bool) → (b ≡ true → false ≡ true) → b ≡ false
 bool_by true f = sym (f refl)
 bool_by false f = refl
 
-pub goes_on : (last : Option Class) (b : ℕ) (rest : List ℕ) → IsGood last 0 (b ∷ rest) → is_last (lexeme_at last (b ∷ rest)).token.class ≡ false
+pub goes_on : (last : Option Class) (b : ℕ) (rest : List ℕ) → IsGood last 0 (b ∷ rest) → is_last_token_class (lexeme_at last (b ∷ rest)).token.class ≡ false
 goes_on last b rest good = bool_by _ (λ h. sym (stray_first last (b ∷ rest) (no_end last b rest) h) ∙ good)
 
 -- the tokens after a token, if it begins a text of which so much follows its first byte
 abbrev tokens_by : List ℕ → Lexeme → List Token
-tokens_by rest found = found.token ∷ cond (is_last found.token.class) [] (tokens_after (Some found.token.class) (found.width - 1) rest)
+tokens_by rest found = found.token ∷ cond (is_last_token_class found.token.class) [] (tokens_after (Some found.token.class) (found.width - 1) rest)
 
 pub good_after : (rest : List ℕ) (found : Lexeme) (stray : Bool) (last : Bool) → last ≡ false → (not stray && are_in_grammar (cond last [] (tokens_after (Some found.token.class) (found.width - 1) rest))) ≡ true → IsGood (Some found.token.class) (found.width - 1) rest
 good_after rest found true last e h = absurd (false≢true h)
@@ -123,7 +123,7 @@ good_after rest found false false e h = h
 
 -- what is made of two lists of tokens, where a token that both begin with makes no difference
 abbrev pub PassesEqual : {X : Type 0} → (List Token → List Token → X) → Type 0
-PassesEqual make = (token : Token) (ts us : List Token) → is_last token.class ≡ false → make (token ∷ ts) (token ∷ us) ≡ make ts us
+PassesEqual make = (token : Token) (ts us : List Token) → is_last_token_class token.class ≡ false → make (token ∷ ts) (token ∷ us) ≡ make ts us
 
 -- what is made of the tokens of two texts after a token of some class
 abbrev made_at : {X : Type 0} → (List Token → List Token → X) → Option Class → ℕ → List ℕ → List ℕ → X
@@ -131,7 +131,7 @@ made_at make last inside left right = make (tokens_after last inside left) (toke
 
 module _ {X : Type 0} (make : List Token → List Token → X) (passes : PassesEqual make) where
   -- of two texts that begin with one token the same is made as of what follows it
-  same_token : (found : Lexeme) (x y : List ℕ) → is_last found.token.class ≡ false → make (tokens_by x found) (tokens_by y found) ≡ made_at make (Some found.token.class) (found.width - 1) x y
+  same_token : (found : Lexeme) (x y : List ℕ) → is_last_token_class found.token.class ≡ false → make (tokens_by x found) (tokens_by y found) ≡ made_at make (Some found.token.class) (found.width - 1) x y
   same_token found x y h =
       ap (λ b. make (found.token ∷ cond b [] (tokens_after (Some found.token.class) (found.width - 1) x)) (found.token ∷ cond b [] (tokens_after (Some found.token.class) (found.width - 1) y))) h
       ∙ passes found.token (tokens_after (Some found.token.class) (found.width - 1) x) (tokens_after (Some found.token.class) (found.width - 1) y) h
@@ -146,13 +146,13 @@ module _ {X : Type 0} (make : List Token → List Token → X) (passes : PassesE
       let found = lexeme_at last (b ∷ a) in
       let e = lexeme_front last b a m x mark in
       let f = lexeme_front last b a m y mark in
-      let on : is_last found.token.class ≡ false = ap (λ (l : Lexeme). is_last l.token.class) (sym e) ∙ goes_on last b (a ++ m ∷ x) left in
+      let on : is_last_token_class found.token.class ≡ false = ap (λ (l : Lexeme). is_last_token_class l.token.class) (sym e) ∙ goes_on last b (a ++ m ∷ x) left in
       let most = (lexeme_at_within last (b ∷ a)).most in
       (λ i. make (tokens_by (a ++ m ∷ x) (e i)) (tokens_by (a ++ m ∷ y) (f i)))
       ∙ same_token found (a ++ m ∷ x) (a ++ m ∷ y) on
       ∙ made_after (Some found.token.class) (found.width - 1) a m x y mark (omega arith)
-      (good_after (a ++ m ∷ x) found (is_stray found.token.class) (is_last found.token.class) on (ap (λ (l : Lexeme). are_in_grammar (tokens_by (a ++ m ∷ x) l)) (sym e) ∙ left))
-      (good_after (a ++ m ∷ y) found (is_stray found.token.class) (is_last found.token.class) on (ap (λ (l : Lexeme). are_in_grammar (tokens_by (a ++ m ∷ y) l)) (sym f) ∙ right))
+      (good_after (a ++ m ∷ x) found (is_stray_class found.token.class) (is_last_token_class found.token.class) on (ap (λ (l : Lexeme). are_in_grammar (tokens_by (a ++ m ∷ x) l)) (sym e) ∙ left))
+      (good_after (a ++ m ∷ y) found (is_stray_class found.token.class) (is_last_token_class found.token.class) on (ap (λ (l : Lexeme). are_in_grammar (tokens_by (a ++ m ∷ y) l)) (sym f) ∙ right))
 
 -- and each is in the grammar from the mark on
 pub good_front : (last : Option Class) (inside : ℕ) (a : List ℕ) (m : ℕ) (x : List ℕ) → is_token_mark m ≡ true → inside ≤ length a → IsGood last inside (a ++ m ∷ x) → IsGood (Some Component) 0 (m ∷ x)
@@ -163,10 +163,10 @@ good_front last (suc inside) (b ∷ a) m x mark room good = good_front last insi
 good_front last zero (b ∷ a) m x mark room good =
     let found = lexeme_at last (b ∷ a) in
     let e = lexeme_front last b a m x mark in
-    let on : is_last found.token.class ≡ false = ap (λ (l : Lexeme). is_last l.token.class) (sym e) ∙ goes_on last b (a ++ m ∷ x) good in
+    let on : is_last_token_class found.token.class ≡ false = ap (λ (l : Lexeme). is_last_token_class l.token.class) (sym e) ∙ goes_on last b (a ++ m ∷ x) good in
     let most = (lexeme_at_within last (b ∷ a)).most in
     good_front (Some found.token.class) (found.width - 1) a m x mark (omega arith)
-    (good_after (a ++ m ∷ x) found (is_stray found.token.class) (is_last found.token.class) on (ap (λ (l : Lexeme). are_in_grammar (tokens_by (a ++ m ∷ x) l)) (sym e) ∙ good))
+    (good_after (a ++ m ∷ x) found (is_stray_class found.token.class) (is_last_token_class found.token.class) on (ap (λ (l : Lexeme). are_in_grammar (tokens_by (a ++ m ∷ x) l)) (sym e) ∙ good))
 
 -- ---- within the hash of both
 
@@ -208,7 +208,7 @@ hash_digits_by b digits rest true h plain good later =
 hash_digits_by b digits rest false h plain good later =
     let run : leading_hex_digits (b ∷ (digits ++ rest)) ≡ [] = take_while-cons is_hex_digit b (digits ++ rest) ∙ ap (λ c. cond c (b ∷ leading_hex_digits (digits ++ rest)) []) h in
     let here : IsGood (Some Hash) 0 (b ∷ (digits ++ rest)) = ap (λ ds. are_in_grammar (tokens_after (Some Hash) (length ds) (b ∷ (digits ++ rest)))) (sym run) ∙ good in
-    let stray : is_last (lexeme_at (Some Hash) (b ∷ (digits ++ rest))).token.class ≡ true = ap (λ (l : Lexeme). is_last l.token.class) (no_hash_byte b (digits ++ rest) plain) in
+    let stray : is_last_token_class (lexeme_at (Some Hash) (b ∷ (digits ++ rest))).token.class ≡ true = ap (λ (l : Lexeme). is_last_token_class l.token.class) (no_hash_byte b (digits ++ rest) plain) in
     absurd (false≢true (sym (goes_on (Some Hash) b (digits ++ rest) here) ∙ stray))
 
 hash_digits : (digits rest : List ℕ) → is_unmarked digits ≡ true → IsGood (Some Hash) (length (leading_hex_digits (digits ++ rest))) (digits ++ rest) → AreHashDigits digits rest

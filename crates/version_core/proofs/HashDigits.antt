@@ -10,10 +10,10 @@ use Rattle.std.proofs.lemmas.List.{drop-drop}
 use Rattle.version_core.specs.declared.token.Class.{Class}
 use Rattle.version_core.specs.declared.token.Class.TheVariants as Classes
 use Rattle.version_core.specs.declared.overlapping.Place.{Place}
-use Rattle.version_core.specs.Token.{Lexeme, number_token, text_token, lexeme, stray_lexeme, is_number, is_component, is_suffix, is_before_hash, is_before_revision, is_hex_digit, begins_with_zero, leading_digits, leading_hex_digits, leading_letters, number_lexeme, component_lexeme, suffix_rank, suffix_lexeme, suffix_lexeme_by, hash_lexeme, revision_lexeme, next_lexeme}
+use Rattle.version_core.specs.Token.{Lexeme, number_token, text_token, lexeme, stray_lexeme, is_number, is_component, is_suffix, is_before_hash, is_before_revision, is_hex_digit, begins_with_zero, leading_digits, leading_hex_digits, leading_letters, number_lexeme, component_lexeme, suffix_rank, suffix_lexeme, suffix_lexeme_of_rank, hash_lexeme, revision_lexeme, next_lexeme}
 use Rattle.version_core.specs.Order.{are_in_grammar, tokens_after}
 use Rattle.version_core.specs.Reading.{is_hash, unread_len}
-use Rattle.version_core.specs.Overlapping.{IsNextPlace, can_follow, is_good_rest}
+use Rattle.version_core.specs.Overlapping.{IsNextPlace, can_rest_follow_place, is_valid_version_rest}
 use Rattle.version_core.proofs.Walk.{after, tokens_after-drop, tokens_after-step}
 use Rattle.version_core.proofs.Local.{drop_range, run_by}
 
@@ -86,12 +86,12 @@ tokens_on class k j xs =
     tokens_after-drop (Some class) (k + j) xs ∙ ap (tokens_after (Some class) 0) (sym (drop-drop j k xs)) ∙ sym (tokens_after-drop (Some class) j (drop k xs))
 
 -- what follows a place may follow after some more digits, and the other way round
-pub digits_follow : (bytes : List ℕ) (place : Place) (n end k : ℕ) → k ≡ unread_len (Some place.class) (take n (drop place.at bytes)) → place.at + k ≤ end → can_follow bytes place end ≡ can_follow bytes (record { at = place.at + k; class = place.class }) end
+pub digits_follow : (bytes : List ℕ) (place : Place) (n end k : ℕ) → k ≡ unread_len (Some place.class) (take n (drop place.at bytes)) → place.at + k ≤ end → can_rest_follow_place bytes place end ≡ can_rest_follow_place bytes (record { at = place.at + k; class = place.class }) end
 digits_follow bytes place n end k e fits =
     let xs : List ℕ = slice_range bytes place.at end in
     ap (λ u. are_in_grammar (tokens_after (Some place.class) u xs)) (unread_front place.class (drop place.at bytes) n (end - place.at) k e (omega arith))
     ∙ ap are_in_grammar (tokens_on place.class k (unread_len (Some place.class) (drop k xs)) xs)
-    ∙ ap (is_good_rest place) (drop_range bytes place.at end k fits)
+    ∙ ap (is_valid_version_rest place) (drop_range bytes place.at end k fits)
 
 unread_fits : (class : Class) (xs : List ℕ) (n : ℕ) → unread_len (Some class) (take n xs) ≤ n
 unread_fits class xs n = unread_fits_by (is_hash class)
@@ -153,7 +153,7 @@ suffix_class_no_hash : (b : Bool) → is_hash (cond b Classes.PreRelease Classes
 suffix_class_no_hash true = refl
 suffix_class_no_hash false = refl
 
-suffix_no_hash : (word : List ℕ) (rank : Option ℕ) → is_hash (suffix_lexeme_by word rank).token.class ≡ false
+suffix_no_hash : (word : List ℕ) (rank : Option ℕ) → is_hash (suffix_lexeme_of_rank word rank).token.class ≡ false
 suffix_no_hash word None = refl
 suffix_no_hash word (Some rank) = suffix_class_no_hash _
 

@@ -9,8 +9,8 @@ use Rattle.std.specs.Prelude.{slice_range}
 use Rattle.std.proofs.lemmas.List.Sums.{take_while-cons}
 use Rattle.version_core.specs.declared.token.Class.{Class}
 use Rattle.version_core.specs.declared.token.Class.TheVariants.{Revision, SuffixNumber, Letter, ZeroComponent, Component}
-use Rattle.version_core.specs.Token.{Lexeme, number_token, text_token, lexeme, stray_lexeme, is_number, is_component, is_suffix, is_before_hash, is_before_revision, begins_with_zero, is_hex_digit, leading_digits, leading_hex_digits, leading_letters, number_lexeme, component_lexeme, suffix_rank, suffix_lexeme, suffix_lexeme_by, hash_lexeme, revision_lexeme, next_lexeme}
-use Rattle.version_core.specs.Order.{is_last}
+use Rattle.version_core.specs.Token.{Lexeme, number_token, text_token, lexeme, stray_lexeme, is_number, is_component, is_suffix, is_before_hash, is_before_revision, begins_with_zero, is_hex_digit, leading_digits, leading_hex_digits, leading_letters, number_lexeme, component_lexeme, suffix_rank, suffix_lexeme, suffix_lexeme_of_rank, hash_lexeme, revision_lexeme, next_lexeme}
+use Rattle.version_core.specs.Order.{is_last_token_class}
 use Rattle.version_core.proofs.Walk.{lexeme_at_within}
 
 -- ---- ranges
@@ -49,7 +49,7 @@ run_local q (x ∷ xs) (suc n) m ends fits = run_local_by (q x) refl m (run_loca
 
 -- the second is the first, if the first is a token that ends before n and not after m
 abbrev IsLocal : ℕ → ℕ → Lexeme → Lexeme → Type 0
-IsLocal n m found other = is_last found.token.class ≡ false → found.width < n → found.width ≤ m → other ≡ found
+IsLocal n m found other = is_last_token_class found.token.class ≡ false → found.width < n → found.width ≤ m → other ≡ found
 
 stray_local : (n m : ℕ) → IsLocal n m stray_lexeme stray_lexeme
 stray_local n m token ends fits = refl
@@ -58,36 +58,36 @@ cond_local : (n m : ℕ) (b : Bool) (x y u v : Lexeme) → IsLocal n m x u → I
 cond_local n m true x y u v f g = f
 cond_local n m false x y u v f g = g
 
-number_width_by : (b : Bool) (class : Class) (value width : ℕ) → is_last (cond b (lexeme (number_token class value) width) stray_lexeme).token.class ≡ false → (cond b (lexeme (number_token class value) width) stray_lexeme).width ≡ width
+number_width_by : (b : Bool) (class : Class) (value width : ℕ) → is_last_token_class (cond b (lexeme (number_token class value) width) stray_lexeme).token.class ≡ false → (cond b (lexeme (number_token class value) width) stray_lexeme).width ≡ width
 number_width_by true class value width h = refl
 number_width_by false class value width h = absurd (false≢true (sym h))
 
-number_width : (class : Class) (mark : ℕ) (ds : List ℕ) → is_last (number_lexeme class mark ds).token.class ≡ false → (number_lexeme class mark ds).width ≡ mark + length ds
+number_width : (class : Class) (mark : ℕ) (ds : List ℕ) → is_last_token_class (number_lexeme class mark ds).token.class ≡ false → (number_lexeme class mark ds).width ≡ mark + length ds
 unfolding number_lexeme
 number_width class mark ds h = number_width_by (is_number ds) class (digits_value 10 ds) (mark + length ds) h
 
-component_width_by : (b : Bool) (ds : List ℕ) → is_last (cond b (lexeme (text_token ZeroComponent ds) (1 + length ds)) (number_lexeme Component 1 ds)).token.class ≡ false → (cond b (lexeme (text_token ZeroComponent ds) (1 + length ds)) (number_lexeme Component 1 ds)).width ≡ 1 + length ds
+component_width_by : (b : Bool) (ds : List ℕ) → is_last_token_class (cond b (lexeme (text_token ZeroComponent ds) (1 + length ds)) (number_lexeme Component 1 ds)).token.class ≡ false → (cond b (lexeme (text_token ZeroComponent ds) (1 + length ds)) (number_lexeme Component 1 ds)).width ≡ 1 + length ds
 component_width_by true ds h = refl
 component_width_by false ds h = number_width Component 1 ds h
 
-component_width : (ds : List ℕ) → is_last (component_lexeme ds).token.class ≡ false → (component_lexeme ds).width ≡ 1 + length ds
+component_width : (ds : List ℕ) → is_last_token_class (component_lexeme ds).token.class ≡ false → (component_lexeme ds).width ≡ 1 + length ds
 unfolding component_lexeme
 component_width ds h = component_width_by (is_number ds && begins_with_zero ds) ds h
 
-suffix_width_by : (word : List ℕ) (rank : Option ℕ) → is_last (suffix_lexeme_by word rank).token.class ≡ false → (suffix_lexeme_by word rank).width ≡ 1 + length word
+suffix_width_by : (word : List ℕ) (rank : Option ℕ) → is_last_token_class (suffix_lexeme_of_rank word rank).token.class ≡ false → (suffix_lexeme_of_rank word rank).width ≡ 1 + length word
 suffix_width_by word None h = absurd (false≢true (sym h))
 suffix_width_by word (Some rank) h = refl
 
-hash_width_by : (b : Bool) (x : Lexeme) (width : ℕ) → x.width ≡ width → is_last (cond b x stray_lexeme).token.class ≡ false → (cond b x stray_lexeme).width ≡ width
+hash_width_by : (b : Bool) (x : Lexeme) (width : ℕ) → x.width ≡ width → is_last_token_class (cond b x stray_lexeme).token.class ≡ false → (cond b x stray_lexeme).width ≡ width
 hash_width_by true x width e h = e
 hash_width_by false x width e h = absurd (false≢true (sym h))
 
-hash_width : (ds : List ℕ) → is_last (hash_lexeme ds).token.class ≡ false → (hash_lexeme ds).width ≡ 1 + length ds
+hash_width : (ds : List ℕ) → is_last_token_class (hash_lexeme ds).token.class ≡ false → (hash_lexeme ds).width ≡ 1 + length ds
 unfolding hash_lexeme
 hash_width ds h = hash_width_by (ltb 0 (length ds)) _ (1 + length ds) refl h
 
 -- a lexeme of the run that a text begins with, whose bytes are counted after a mark
-local_by : (q : ℕ → Bool) (make : List ℕ → Lexeme) (mark : ℕ) → ((ds : List ℕ) → is_last (make ds).token.class ≡ false → (make ds).width ≡ mark + length ds)
+local_by : (q : ℕ → Bool) (make : List ℕ → Lexeme) (mark : ℕ) → ((ds : List ℕ) → is_last_token_class (make ds).token.class ≡ false → (make ds).width ≡ mark + length ds)
     → (xs : List ℕ) (n m : ℕ) → IsLocal (mark + n) (mark + m) (make (take_while q (take n xs))) (make (take_while q (take m xs)))
 local_by q make mark width xs n m token ends fits =
     let e = width (take_while q (take n xs)) token in
@@ -106,7 +106,7 @@ revision_local [] (suc n) (suc m) token ends fits = refl
 revision_local (c ∷ rest) zero m token ends fits = absurd (false≢true (sym token))
 revision_local (c ∷ rest) (suc n) m token ends fits = go m (eqb c 114) refl token ends fits
   where
-    go : (m : ℕ) (b : Bool) → eqb c 114 ≡ b → is_last (cond b (number_lexeme Revision 2 (leading_digits (take n rest))) stray_lexeme).token.class ≡ false → (cond b (number_lexeme Revision 2 (leading_digits (take n rest))) stray_lexeme).width < suc (suc n) → (cond b (number_lexeme Revision 2 (leading_digits (take n rest))) stray_lexeme).width ≤ suc m
+    go : (m : ℕ) (b : Bool) → eqb c 114 ≡ b → is_last_token_class (cond b (number_lexeme Revision 2 (leading_digits (take n rest))) stray_lexeme).token.class ≡ false → (cond b (number_lexeme Revision 2 (leading_digits (take n rest))) stray_lexeme).width < suc (suc n) → (cond b (number_lexeme Revision 2 (leading_digits (take n rest))) stray_lexeme).width ≤ suc m
         → revision_lexeme (take m (c ∷ rest)) ≡ cond b (number_lexeme Revision 2 (leading_digits (take n rest))) stray_lexeme
     go m false h token ends fits = absurd (false≢true (sym token))
     go zero true h token ends fits = let e = number_width Revision 2 (leading_digits (take n rest)) token in absurd (omega arith)

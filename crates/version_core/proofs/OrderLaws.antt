@@ -13,7 +13,7 @@ use Rattle.std.proofs.lemmas.Slice.Eq.{bytes_eq-Decides}
 use Rattle.version_core.specs.declared.token.Class.{Class}
 use Rattle.version_core.specs.declared.token.Class.TheVariants.{Stray, PreRelease, End, Revision, Hash, SuffixNumber, Suffix, Letter, ZeroComponent, Component}
 use Rattle.version_core.specs.Token.{Token}
-use Rattle.version_core.specs.Order.{class_rank, is_last, token_cmp, tokens, version_cmp}
+use Rattle.version_core.specs.Order.{class_rank, is_last_token_class, token_cmp, tokens, version_cmp}
 use Rattle.version_core.specs.Matching.{all_fit, is_prefix_of, fits, is_fuzzy_match, is_zero_component, matches, has_bit}
 use Rattle.version_core.proofs.Fits.{nat_cmp-Equal}
 
@@ -111,7 +111,7 @@ fits-itself t =
 
 all_fit-itself : (ts : List Token) → all_fit ts ts ≡ true
 all_fit-itself [] = refl
-all_fit-itself (t ∷ ts) = or_right (is_last t.class) (fits t t && all_fit ts ts) (rw (fits-itself t) (all_fit-itself ts))
+all_fit-itself (t ∷ ts) = or_right (is_last_token_class t.class) (fits t t && all_fit ts ts) (rw (fits-itself t) (all_fit-itself ts))
 
 pub fuzzy_by_tokens : (found wanted : List ℕ) → version_cmp found wanted ≡ Equal → is_fuzzy_match found wanted ≡ true
 unfolding is_fuzzy_match

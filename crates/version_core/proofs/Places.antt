@@ -7,9 +7,9 @@ use Rattle.std.proofs.lemmas.List.{length-drop, length-take-le}
 use Rattle.version_core.specs.declared.token.Class.{Class}
 use Rattle.version_core.specs.declared.token.Class.TheVariants as Classes
 use Rattle.version_core.specs.declared.overlapping.Place.{Place}
-use Rattle.version_core.specs.Token.{Token, Lexeme, number_token, text_token, lexeme, stray_lexeme, is_number, is_component, is_suffix, is_before_hash, is_before_revision, begins_with_zero, leading_digits, leading_hex_digits, leading_letters, number_lexeme, component_lexeme, suffix_rank, suffix_lexeme, suffix_lexeme_by, hash_lexeme, revision_lexeme, next_lexeme, lexeme_at}
-use Rattle.version_core.specs.Order.{are_in_grammar, is_last, is_stray, is_version, tokens, tokens_after}
-use Rattle.version_core.specs.Overlapping.{IsNextPlace, IsLeap, can_follow, is_good_rest, passed_len}
+use Rattle.version_core.specs.Token.{Token, Lexeme, number_token, text_token, lexeme, stray_lexeme, is_number, is_component, is_suffix, is_before_hash, is_before_revision, begins_with_zero, leading_digits, leading_hex_digits, leading_letters, number_lexeme, component_lexeme, suffix_rank, suffix_lexeme, suffix_lexeme_of_rank, hash_lexeme, revision_lexeme, next_lexeme, lexeme_at}
+use Rattle.version_core.specs.Order.{are_in_grammar, is_last_token_class, is_stray_class, is_version, tokens, tokens_after}
+use Rattle.version_core.specs.Overlapping.{IsNextPlace, IsSafeSkip, can_rest_follow_place, is_valid_version_rest, passed_len}
 use Rattle.version_core.proofs.Walk.{after, lexeme_at_within, tokens_after-step}
 use Rattle.version_core.specs.Reading.{is_hash, unread_len}
 use Rattle.version_core.proofs.Local.{drop_range, token_local}
@@ -17,10 +17,10 @@ use Rattle.version_core.proofs.HashDigits.{digits_follow, hash_follow, hash_room
 
 -- ---- places
 
-pub leads_itself : (bytes : List ℕ) (place : Place) → IsLeap bytes place place
+pub leads_itself : (bytes : List ℕ) (place : Place) → IsSafeSkip bytes place place
 leads_itself bytes place = record { forth = omega arith; same = λ end past. refl }
 
-pub leads_on : (bytes : List ℕ) (a b c : Place) → IsLeap bytes a b → IsLeap bytes b c → IsLeap bytes a c
+pub leads_on : (bytes : List ℕ) (a b c : Place) → IsSafeSkip bytes a b → IsSafeSkip bytes b c → IsSafeSkip bytes a c
 leads_on bytes a b c f g = record {
   forth = let p = f.forth in let q = g.forth in omega arith;
   same = λ end past. let q = g.forth in f.same end (omega arith) ∙ g.same end past;
@@ -28,7 +28,7 @@ leads_on bytes a b c f g = record {
 
 -- ---- after a token
 
-no_last : (class : Class) → is_last class ≡ false → is_stray class ≡ false
+no_last : (class : Class) → is_last_token_class class ≡ false → is_stray_class class ≡ false
 no_last Classes.Stray h = h
 no_last Classes.PreRelease h = refl
 no_last Classes.End h = refl
@@ -47,7 +47,7 @@ grammar_by false true ts l s = absurd (false≢true (sym s))
 
 -- ---- places that are not between the digits of a hash
 
-follow_by : (bytes : List ℕ) (place : Place) (end n : ℕ) → unread_len (Some place.class) (slice_range bytes place.at end) ≡ n → can_follow bytes place end ≡ are_in_grammar (tokens_after (Some place.class) n (slice_range bytes place.at end))
+follow_by : (bytes : List ℕ) (place : Place) (end n : ℕ) → unread_len (Some place.class) (slice_range bytes place.at end) ≡ n → can_rest_follow_place bytes place end ≡ are_in_grammar (tokens_after (Some place.class) n (slice_range bytes place.at end))
 follow_by bytes place end n e = ap (λ u. are_in_grammar (tokens_after (Some place.class) u (slice_range bytes place.at end))) e
 
 no_hash_unread : (class : Class) (rest : List ℕ) → is_hash class ≡ false → unread_len (Some class) rest ≡ 0
@@ -55,11 +55,11 @@ no_hash_unread class rest h = ap (λ b. cond b (length (leading_hex_digits rest)
 
 -- what is in a range is in the grammar exactly if what follows its first token, no hash, may follow
 -- there
-behind_first : (bytes : List ℕ) (last : Option Class) (at end : ℕ) (found : Lexeme) → lexeme_at last (slice_range bytes at end) ≡ found → is_last found.token.class ≡ false → is_hash found.token.class ≡ false → at + found.width ≤ end
-    → are_in_grammar (tokens_after last 0 (slice_range bytes at end)) ≡ can_follow bytes (record { at = at + found.width; class = found.token.class }) end
+behind_first : (bytes : List ℕ) (last : Option Class) (at end : ℕ) (found : Lexeme) → lexeme_at last (slice_range bytes at end) ≡ found → is_last_token_class found.token.class ≡ false → is_hash found.token.class ≡ false → at + found.width ≤ end
+    → are_in_grammar (tokens_after last 0 (slice_range bytes at end)) ≡ can_rest_follow_place bytes (record { at = at + found.width; class = found.token.class }) end
 behind_first bytes last at end found is token plain fits =
     ap are_in_grammar (tokens_after-step last (slice_range bytes at end) ∙ ap (λ (l : Lexeme). l.token ∷ after (slice_range bytes at end) l) is)
-    ∙ grammar_by (is_last found.token.class) (is_stray found.token.class) (tokens_after (Some found.token.class) 0 (drop found.width (slice_range bytes at end))) token (no_last found.token.class token)
+    ∙ grammar_by (is_last_token_class found.token.class) (is_stray_class found.token.class) (tokens_after (Some found.token.class) 0 (drop found.width (slice_range bytes at end))) token (no_last found.token.class token)
     ∙ ap (λ ts. are_in_grammar (tokens_after (Some found.token.class) 0 ts)) (drop_range bytes at end found.width fits)
     ∙ sym (follow_by bytes (record { at = at + found.width; class = found.token.class }) end 0 (no_hash_unread found.token.class (slice_range bytes (at + found.width) end) plain))
 
@@ -67,13 +67,13 @@ behind_first bytes last at end found is token plain fits =
 
 -- a last class that is not the end's
 abbrev pub NoEnd : Lexeme → Type 0
-NoEnd found = is_last found.token.class ≡ true → is_stray found.token.class ≡ true
+NoEnd found = is_last_token_class found.token.class ≡ true → is_stray_class found.token.class ≡ true
 
 cond_no_end : (b : Bool) (x y : Lexeme) → NoEnd x → NoEnd y → NoEnd (cond b x y)
 cond_no_end true x y f g = f
 cond_no_end false x y f g = g
 
-pub number_no_end : (class : Class) (mark : ℕ) (ds : List ℕ) → (is_last class ≡ true → is_stray class ≡ true) → NoEnd (number_lexeme class mark ds)
+pub number_no_end : (class : Class) (mark : ℕ) (ds : List ℕ) → (is_last_token_class class ≡ true → is_stray_class class ≡ true) → NoEnd (number_lexeme class mark ds)
 unfolding number_lexeme
 number_no_end class mark ds h = cond_no_end (is_number ds) _ stray_lexeme h (λ _. refl)
 
@@ -81,11 +81,11 @@ component_no_end : (ds : List ℕ) → NoEnd (component_lexeme ds)
 unfolding component_lexeme
 component_no_end ds = cond_no_end (is_number ds && begins_with_zero ds) (lexeme (text_token Classes.ZeroComponent ds) (1 + length ds)) (number_lexeme Classes.Component 1 ds) (λ h. h) (number_no_end Classes.Component 1 ds (λ h. h))
 
-suffix_class_no_end : (b : Bool) → is_last (cond b Classes.PreRelease Classes.Suffix) ≡ true → is_stray (cond b Classes.PreRelease Classes.Suffix) ≡ true
+suffix_class_no_end : (b : Bool) → is_last_token_class (cond b Classes.PreRelease Classes.Suffix) ≡ true → is_stray_class (cond b Classes.PreRelease Classes.Suffix) ≡ true
 suffix_class_no_end true h = h
 suffix_class_no_end false h = h
 
-suffix_no_end : (word : List ℕ) (rank : Option ℕ) → NoEnd (suffix_lexeme_by word rank)
+suffix_no_end : (word : List ℕ) (rank : Option ℕ) → NoEnd (suffix_lexeme_of_rank word rank)
 suffix_no_end word None h = refl
 suffix_no_end word (Some rank) h = suffix_class_no_end _ h
 
@@ -116,25 +116,25 @@ stray_by : (stray : Bool) (ts : List Token) → stray ≡ true → (not stray &&
 stray_by true ts h = refl
 stray_by false ts h = absurd (false≢true h)
 
-pub stray_first : (last : Option Class) (text : List ℕ) → NoEnd (lexeme_at last text) → is_last (lexeme_at last text).token.class ≡ true → are_in_grammar (tokens_after last 0 text) ≡ false
+pub stray_first : (last : Option Class) (text : List ℕ) → NoEnd (lexeme_at last text) → is_last_token_class (lexeme_at last text).token.class ≡ true → are_in_grammar (tokens_after last 0 text) ≡ false
 stray_first last text no_end h =
-    ap are_in_grammar (tokens_after-step last text) ∙ stray_by (is_stray (lexeme_at last text).token.class) (after text (lexeme_at last text)) (no_end h)
+    ap are_in_grammar (tokens_after-step last text) ∙ stray_by (is_stray_class (lexeme_at last text).token.class) (after text (lexeme_at last text)) (no_end h)
 
 -- ---- what the reader finds
 
 length_range : (bytes : List ℕ) (at end : ℕ) → at ≤ end → end ≤ length bytes → length (slice_range bytes at end) ≡ end - at
 length_range bytes at end order within = omega (arith, length-take-le (end - at) (drop at bytes) (omega (arith, length-drop at bytes)))
 
-pub no_version : (bytes : List ℕ) (at end : ℕ) (class : Class) → class ≡ (lexeme_at None (slice_range bytes at end)).token.class → is_last class ≡ true → is_version (slice_range bytes at end) ≡ false
+pub no_version : (bytes : List ℕ) (at end : ℕ) (class : Class) → class ≡ (lexeme_at None (slice_range bytes at end)).token.class → is_last_token_class class ≡ true → is_version (slice_range bytes at end) ≡ false
 unfolding is_version tokens
 no_version bytes at end class is h =
-    stray_first None (slice_range bytes at end) (number_no_end Classes.Component 0 (leading_digits (slice_range bytes at end)) (λ h. h)) (ap is_last (sym is) ∙ h)
+    stray_first None (slice_range bytes at end) (number_no_end Classes.Component 0 (leading_digits (slice_range bytes at end)) (λ h. h)) (ap is_last_token_class (sym is) ∙ h)
 
-pub none_follows : (bytes : List ℕ) (place : Place) (end : ℕ) (class : Class) → place.at < end → end ≤ length bytes → unread_len (Some place.class) (slice_range bytes place.at end) ≡ 0 → class ≡ (lexeme_at (Some place.class) (slice_range bytes place.at end)).token.class → is_last class ≡ true → can_follow bytes place end ≡ false
+pub none_follows : (bytes : List ℕ) (place : Place) (end : ℕ) (class : Class) → place.at < end → end ≤ length bytes → unread_len (Some place.class) (slice_range bytes place.at end) ≡ 0 → class ≡ (lexeme_at (Some place.class) (slice_range bytes place.at end)).token.class → is_last_token_class class ≡ true → can_rest_follow_place bytes place end ≡ false
 none_follows bytes place end class order within none is h =
     let long = length_range bytes place.at end (omega arith) within in
     follow_by bytes place end 0 none
-    ∙ stray_first (Some place.class) (slice_range bytes place.at end) (some_no_end place.class (slice_range bytes place.at end) (omega arith)) (ap is_last (sym is) ∙ h)
+    ∙ stray_first (Some place.class) (slice_range bytes place.at end) (some_no_end place.class (slice_range bytes place.at end) (omega arith)) (ap is_last_token_class (sym is) ∙ h)
 
 first_width : (bytes : List ℕ) (last : Option Class) (at end len : ℕ) → at ≤ end → end ≤ length bytes → len ≡ (lexeme_at last (slice_range bytes at end)).width → at + len ≤ end
 first_width bytes last at end len order within is =
@@ -160,24 +160,24 @@ pub first_passed : (bytes : List ℕ) (at end len : ℕ) → at ≤ end → end 
 first_passed bytes at end len order within is =
     first_width bytes None at end len order within (is ∙ passed_plain (lexeme_at None (slice_range bytes at end)) (first_plain (slice_range bytes at end)))
 
-pub first_version : (bytes : List ℕ) (at end len : ℕ) (class : Class) → at ≤ end → end ≤ length bytes → class ≡ (lexeme_at None (slice_range bytes at end)).token.class → len ≡ passed_len (lexeme_at None (slice_range bytes at end)) → is_last class ≡ false
-    → is_version (slice_range bytes at end) ≡ can_follow bytes (record { at = at + len; class = class }) end
+pub first_version : (bytes : List ℕ) (at end len : ℕ) (class : Class) → at ≤ end → end ≤ length bytes → class ≡ (lexeme_at None (slice_range bytes at end)).token.class → len ≡ passed_len (lexeme_at None (slice_range bytes at end)) → is_last_token_class class ≡ false
+    → is_version (slice_range bytes at end) ≡ can_rest_follow_place bytes (record { at = at + len; class = class }) end
 unfolding is_version tokens
 first_version bytes at end len class order within is passed h =
     let found = lexeme_at None (slice_range bytes at end) in
     let plain = first_plain (slice_range bytes at end) in
     let width : len ≡ found.width = passed ∙ passed_plain found plain in
-    behind_first bytes None at end found refl (ap is_last (sym is) ∙ h) plain (first_width bytes None at end found.width order within refl)
-    ∙ ap (λ (n : ℕ). can_follow bytes (record { at = at + n; class = found.token.class }) end) (sym width)
-    ∙ ap (λ (c : Class). can_follow bytes (record { at = at + len; class = c }) end) (sym is)
+    behind_first bytes None at end found refl (ap is_last_token_class (sym is) ∙ h) plain (first_width bytes None at end found.width order within refl)
+    ∙ ap (λ (n : ℕ). can_rest_follow_place bytes (record { at = at + n; class = found.token.class }) end) (sym width)
+    ∙ ap (λ (c : Class). can_rest_follow_place bytes (record { at = at + len; class = c }) end) (sym is)
 
 -- ---- the next token
 
-after_plain : (bytes : List ℕ) (place : Place) (end : ℕ) (found : Lexeme) → place.at < end → end ≤ length bytes → unread_len (Some place.class) (slice_range bytes place.at end) ≡ 0 → found ≡ lexeme_at (Some place.class) (slice_range bytes place.at end) → is_last found.token.class ≡ false → is_hash found.token.class ≡ false
+after_plain : (bytes : List ℕ) (place : Place) (end : ℕ) (found : Lexeme) → place.at < end → end ≤ length bytes → unread_len (Some place.class) (slice_range bytes place.at end) ≡ 0 → found ≡ lexeme_at (Some place.class) (slice_range bytes place.at end) → is_last_token_class found.token.class ≡ false → is_hash found.token.class ≡ false
     → IsNextPlace bytes end place (record { at = place.at + found.width; class = found.token.class })
 after_plain bytes place end found order within none is token plain =
     let fits = first_width bytes (Some place.class) place.at end found.width (omega arith) within (ap (λ (l : Lexeme). l.width) is) in
-    let some = (lexeme_at_within (Some place.class) (slice_range bytes place.at end)).some (ap (λ (l : Lexeme). is_last l.token.class) (sym is) ∙ token) in
+    let some = (lexeme_at_within (Some place.class) (slice_range bytes place.at end)).some (ap (λ (l : Lexeme). is_last_token_class l.token.class) (sym is) ∙ token) in
     let width : found.width ≡ (lexeme_at (Some place.class) (slice_range bytes place.at end)).width = ap (λ (l : Lexeme). l.width) is in
     record {
       forth = omega arith;
@@ -188,15 +188,15 @@ after_plain bytes place end found order within none is token plain =
         same = λ other past.
             follow_by bytes place other 0 (unread_none place.class (drop place.at bytes) (end - place.at) (other - place.at) (omega arith) none)
             ∙ behind_first bytes (Some place.class) place.at other found
-            (token_local place.class (drop place.at bytes) (end - place.at) (other - place.at) (ap (λ (l : Lexeme). is_last l.token.class) (sym is) ∙ token) (omega arith) (omega arith) ∙ sym is) token plain past;
+            (token_local place.class (drop place.at bytes) (end - place.at) (other - place.at) (ap (λ (l : Lexeme). is_last_token_class l.token.class) (sym is) ∙ token) (omega arith) (omega arith) ∙ sym is) token plain past;
       };
     }
 
 hash_behind : (bytes : List ℕ) (place : Place) (end other : ℕ) → is_hash (lexeme_at (Some place.class) (slice_range bytes place.at end)).token.class ≡ true → place.at + 2 ≤ other
-    → are_in_grammar (tokens_after (Some place.class) 0 (slice_range bytes place.at other)) ≡ can_follow bytes (record { at = place.at + 2; class = Classes.Hash }) other
+    → are_in_grammar (tokens_after (Some place.class) 0 (slice_range bytes place.at other)) ≡ can_rest_follow_place bytes (record { at = place.at + 2; class = Classes.Hash }) other
 hash_behind bytes place end other marked fits =
     hash_follow place.class (drop place.at bytes) (end - place.at) (other - place.at) marked (omega arith)
-    ∙ ap (is_good_rest (record { at = place.at + 2; class = Classes.Hash })) (drop_range bytes place.at other 2 fits)
+    ∙ ap (is_valid_version_rest (record { at = place.at + 2; class = Classes.Hash })) (drop_range bytes place.at other 2 fits)
 
 behind_hash : (bytes : List ℕ) (place : Place) (end : ℕ) → place.at < end → unread_len (Some place.class) (slice_range bytes place.at end) ≡ 0 → is_hash (lexeme_at (Some place.class) (slice_range bytes place.at end)).token.class ≡ true
     → IsNextPlace bytes end place (record { at = place.at + 2; class = Classes.Hash })
@@ -226,7 +226,7 @@ hash_class Classes.Letter h = absurd (false≢true h)
 hash_class Classes.ZeroComponent h = absurd (false≢true h)
 hash_class Classes.Component h = absurd (false≢true h)
 
-behind_by : (bytes : List ℕ) (place : Place) (end : ℕ) (found : Lexeme) (b : Bool) → is_hash found.token.class ≡ b → place.at < end → end ≤ length bytes → unread_len (Some place.class) (slice_range bytes place.at end) ≡ 0 → found ≡ lexeme_at (Some place.class) (slice_range bytes place.at end) → is_last found.token.class ≡ false
+behind_by : (bytes : List ℕ) (place : Place) (end : ℕ) (found : Lexeme) (b : Bool) → is_hash found.token.class ≡ b → place.at < end → end ≤ length bytes → unread_len (Some place.class) (slice_range bytes place.at end) ≡ 0 → found ≡ lexeme_at (Some place.class) (slice_range bytes place.at end) → is_last_token_class found.token.class ≡ false
     → IsNextPlace bytes end place (record { at = place.at + passed_len found; class = found.token.class })
 behind_by bytes place end found false e order within none is token =
     subst (λ (n : ℕ). IsNextPlace bytes end place (record { at = place.at + n; class = found.token.class })) (sym (passed_plain found e)) (after_plain bytes place end found order within none is token e)
@@ -236,11 +236,11 @@ behind_by bytes place end found true e order within none is token =
     let one = subst (λ (n : ℕ). IsNextPlace bytes end place (record { at = place.at + n; class = Classes.Hash })) passed there in
     subst (λ (c : Class). IsNextPlace bytes end place (record { at = place.at + passed_len found; class = c })) (sym (hash_class found.token.class e)) one
 
-pub is_after_members : (bytes : List ℕ) (place : Place) (end len : ℕ) (class : Class) → place.at < end → end ≤ length bytes → unread_len (Some place.class) (slice_range bytes place.at end) ≡ 0 → class ≡ (lexeme_at (Some place.class) (slice_range bytes place.at end)).token.class → len ≡ passed_len (lexeme_at (Some place.class) (slice_range bytes place.at end)) → is_last class ≡ false
+pub is_after_members : (bytes : List ℕ) (place : Place) (end len : ℕ) (class : Class) → place.at < end → end ≤ length bytes → unread_len (Some place.class) (slice_range bytes place.at end) ≡ 0 → class ≡ (lexeme_at (Some place.class) (slice_range bytes place.at end)).token.class → len ≡ passed_len (lexeme_at (Some place.class) (slice_range bytes place.at end)) → is_last_token_class class ≡ false
     → IsNextPlace bytes end place (record { at = place.at + len; class = class })
 is_after_members bytes place end len class order within none is passed h =
     let found = lexeme_at (Some place.class) (slice_range bytes place.at end) in
-    let there = behind_by bytes place end found (is_hash found.token.class) refl order within none refl (ap is_last (sym is) ∙ h) in
+    let there = behind_by bytes place end found (is_hash found.token.class) refl order within none refl (ap is_last_token_class (sym is) ∙ h) in
     let one = subst (λ (n : ℕ). IsNextPlace bytes end place (record { at = place.at + n; class = found.token.class })) (sym passed) there in
     subst (λ (c : Class). IsNextPlace bytes end place (record { at = place.at + len; class = c })) (sym is) one
 
@@ -254,11 +254,11 @@ comes_after_digits bytes place end n len most is few some order = record {
 }
 
 -- nothing follows at the end
-pub follows_at_end : (bytes : List ℕ) (place : Place) (end : ℕ) → end ≤ place.at → can_follow bytes place end ≡ true
+pub follows_at_end : (bytes : List ℕ) (place : Place) (end : ℕ) → end ≤ place.at → can_rest_follow_place bytes place end ≡ true
 unfolding next_lexeme
 follows_at_end bytes place end past =
     let none : end - place.at ≡ 0 = omega arith in
-    ap (λ n. is_good_rest place (take n (drop place.at bytes))) none ∙ good_end (is_hash place.class)
+    ap (λ n. is_valid_version_rest place (take n (drop place.at bytes))) none ∙ good_end (is_hash place.class)
   where
     good_end : (b : Bool) → are_in_grammar (tokens_after (Some place.class) (cond b 0 0) []) ≡ true
     good_end true = refl

@@ -11,9 +11,9 @@ use Rattle.std.proofs.lemmas.List.Sums.{take_while-cons}
 use Rattle.std.proofs.lemmas.List.Folds.{length-prefix_len}
 use Rattle.version_core.specs.declared.token.Class.{Class}
 use Rattle.version_core.specs.declared.token.Class.TheVariants.{Stray, PreRelease, End, Revision, Hash, SuffixNumber, Suffix, Letter, ZeroComponent, Component}
-use Rattle.version_core.specs.Token.{Token, Lexeme, number_token, text_token, lexeme, stray_lexeme, is_number, is_hex_digit, is_component, is_suffix, is_before_hash, is_before_revision, begins_with_zero, leading_digits, leading_hex_digits, leading_letters, number_lexeme, component_lexeme, suffix_rank, suffix_lexeme, suffix_lexeme_by, hash_lexeme, revision_lexeme, next_lexeme}
-use Rattle.version_core.specs.Order.{are_in_grammar, is_last, is_stray, is_version, tokens, tokens_after}
-use Rattle.version_core.specs.Grammar.{Parts, IsSpelled, is_none_or, is_numeral, is_hash_text, is_suffix_part, SuffixPart, later_text, letter_text, number_text, suffixes_text, hash_text, revision_text, component_token}
+use Rattle.version_core.specs.Token.{Token, Lexeme, number_token, text_token, lexeme, stray_lexeme, is_number, is_hex_digit, is_component, is_suffix, is_before_hash, is_before_revision, begins_with_zero, leading_digits, leading_hex_digits, leading_letters, number_lexeme, component_lexeme, suffix_rank, suffix_lexeme, suffix_lexeme_of_rank, hash_lexeme, revision_lexeme, next_lexeme}
+use Rattle.version_core.specs.Order.{are_in_grammar, is_last_token_class, is_stray_class, is_version, tokens, tokens_after}
+use Rattle.version_core.specs.Grammar.{Parts, IsSpelledVersion, is_none_or, is_numeral, is_hash_text, is_suffix_part, SuffixPart, later_components_text, letter_text, number_text, suffixes_text, hash_text, revision_text, component_token}
 use Rattle.version_core.proofs.Walk.{after, is_number-pos, tokens_after-step}
 use Rattle.version_core.proofs.Spelled.{first_true, then_true, number_read, component_read, component_is_not_last_by, suffix_whole_by, suffix_class_by, suffix_is_not_last, hash_read, component_before_hash, before_hash_before_revision, suffix_before_hash}
 
@@ -54,7 +54,7 @@ unfolding component_lexeme
 component_goes_on text ds h =
     component_by text ds (begins_with_zero ds) (lexeme (text_token ZeroComponent ds) (1 + length ds)) h (is_number ds && begins_with_zero ds) refl
 
-suffix_by : (text word : List ℕ) (rank : Option ℕ) → CountsOnlyRise text (suffix_lexeme_by word rank) → is_some rank ≡ true
+suffix_by : (text word : List ℕ) (rank : Option ℕ) → CountsOnlyRise text (suffix_lexeme_of_rank word rank) → is_some rank ≡ true
 suffix_by text word None h = h
 suffix_by text word (Some rank) h = refl
 
@@ -63,18 +63,18 @@ unfolding hash_lexeme
 hash_goes_on text ds h = sound_or_stray text (ltb 0 (length ds)) (lexeme (text_token Hash ds) (1 + length ds)) h
 
 -- what follows a lexeme is sound too
-sound_after : (text behind : List ℕ) (found : Lexeme) (token : Token) (width : ℕ) → found ≡ lexeme token width → is_last token.class ≡ false → drop width text ≡ behind → CountsOnlyRise text found → are_in_grammar (tokens_after (Some token.class) 0 behind) ≡ true
+sound_after : (text behind : List ℕ) (found : Lexeme) (token : Token) (width : ℕ) → found ≡ lexeme token width → is_last_token_class token.class ≡ false → drop width text ≡ behind → CountsOnlyRise text found → are_in_grammar (tokens_after (Some token.class) 0 behind) ≡ true
 sound_after text behind found token width e h d sound =
     let here : are_in_grammar (token ∷ after text (lexeme token width)) ≡ true = subst (CountsOnlyRise text) e sound in
-    let rest = then_true (not (is_stray token.class)) (are_in_grammar (after text (lexeme token width))) here in
+    let rest = then_true (not (is_stray_class token.class)) (are_in_grammar (after text (lexeme token width))) here in
     subst (λ b. are_in_grammar (cond b [] (tokens_after (Some token.class) 0 behind)) ≡ true) h
-    (subst (λ t. are_in_grammar (cond (is_last token.class) [] (tokens_after (Some token.class) 0 t)) ≡ true) d rest)
+    (subst (λ t. are_in_grammar (cond (is_last_token_class token.class) [] (tokens_after (Some token.class) 0 t)) ≡ true) d rest)
 
 -- ---- the end of a version, after a token of some class
 
 abbrev tail_text : List (List ℕ) → Option ℕ → Option (List ℕ) → List SuffixPart → Option (List ℕ) → Option (List ℕ) → List ℕ
 tail_text later letter number suffixes hash revision =
-    later_text later ++ (letter_text letter ++ (number_text number ++ (suffixes_text suffixes ++ (hash_text hash ++ revision_text revision))))
+    later_components_text later ++ (letter_text letter ++ (number_text number ++ (suffixes_text suffixes ++ (hash_text hash ++ revision_text revision))))
 
 record IsTail (last : Class) (text : List ℕ) : Type 0 where
   later : List (List ℕ)
@@ -146,7 +146,7 @@ with_component last class ds behind h plain numeral end = record {
   no_revision = λ k. impossible (is_before_revision last) (before_hash_before_revision last (component_before_hash last h)) k;
   whole =
       ap (λ t. 46 ∷ (ds ++ t)) (end.whole ∙ ap (λ n. tail_text end.later end.letter n end.suffixes end.hash end.revision) (end.no_number plain))
-      ∙ ap (λ t. 46 ∷ t) (sym (append_assoc ds (later_text end.later) (letter_text end.letter ++ (suffixes_text end.suffixes ++ (hash_text end.hash ++ revision_text end.revision)))));
+      ∙ ap (λ t. 46 ∷ t) (sym (append_assoc ds (later_components_text end.later) (letter_text end.letter ++ (suffixes_text end.suffixes ++ (hash_text end.hash ++ revision_text end.revision)))));
 }
 
 -- a letter before such an end
@@ -425,7 +425,7 @@ tails (suc n) last [] few sound = at_end last
 tails (suc n) last (b ∷ rest) few sound =
     lexeme_case n (tails n) last b rest (omega arith) (ap are_in_grammar (sym (tokens_after-step (Some last) (b ∷ rest))) ∙ sound)
 
-pub spelled : (text : List ℕ) → is_version text ≡ true → IsSpelled text
+pub spelled : (text : List ℕ) → is_version text ≡ true → IsSpelledVersion text
 unfolding is_version tokens
 spelled text h =
     let ds : List ℕ = leading_digits text in

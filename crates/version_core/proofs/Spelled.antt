@@ -12,9 +12,9 @@ use Rattle.std.proofs.lemmas.List.Sums.{take_while-cons}
 use Rattle.std.proofs.lemmas.Slice.Eq.{bytes_eq-Decides}
 use Rattle.version_core.specs.declared.token.Class.{Class}
 use Rattle.version_core.specs.declared.token.Class.TheVariants.{Stray, PreRelease, End, Revision, Hash, SuffixNumber, Suffix, Letter, ZeroComponent, Component}
-use Rattle.version_core.specs.Token.{Token, Lexeme, bare_token, number_token, text_token, lexeme, stray_lexeme, is_number, is_hex_digit, is_component, is_suffix, is_before_hash, is_before_revision, begins_with_zero, leading_digits, leading_hex_digits, leading_letters, number_lexeme, component_lexeme, suffix_rank, suffix_lexeme, suffix_lexeme_by, hash_lexeme, revision_lexeme, next_lexeme, lexeme_at}
-use Rattle.version_core.specs.Order.{are_in_grammar, is_last, is_stray, is_version, tokens, tokens_after}
-use Rattle.version_core.specs.Grammar.{Parts, are_parts, spelling, tokens_of, is_none_or, is_numeral, is_hash_text, is_suffix_part, SuffixPart, later_text, letter_text, number_text, suffixes_text, hash_text, revision_text, component_token, later_tokens, letter_tokens, number_tokens, suffix_tokens, hash_tokens, revision_tokens}
+use Rattle.version_core.specs.Token.{Token, Lexeme, bare_token, number_token, text_token, lexeme, stray_lexeme, is_number, is_hex_digit, is_component, is_suffix, is_before_hash, is_before_revision, begins_with_zero, leading_digits, leading_hex_digits, leading_letters, number_lexeme, component_lexeme, suffix_rank, suffix_lexeme, suffix_lexeme_of_rank, hash_lexeme, revision_lexeme, next_lexeme, lexeme_at}
+use Rattle.version_core.specs.Order.{are_in_grammar, is_last_token_class, is_stray_class, is_version, tokens, tokens_after}
+use Rattle.version_core.specs.Grammar.{Parts, are_version_parts, spelling, tokens_of, is_none_or, is_numeral, is_hash_text, is_suffix_part, SuffixPart, later_components_text, letter_text, number_text, suffixes_text, hash_text, revision_text, component_token, later_component_tokens, letter_tokens, number_tokens, suffix_tokens, hash_tokens, revision_tokens}
 use Rattle.version_core.proofs.Walk.{after, tokens_after-step}
 
 -- ---- tests
@@ -60,7 +60,7 @@ run-append q (d ∷ ds) rest all h =
     ∙ ap (λ t. cond t (d ∷ take_while q (ds ++ rest)) []) (first_true (q d) (list_all q ds) all)
     ∙ ap (λ xs. d ∷ xs) (run-append q ds rest (then_true (q d) (list_all q ds) all) h)
 
-begins-later : (q : ℕ → Bool) (ds : List (List ℕ)) (rest : List ℕ) → q 46 ≡ false → begins q rest ≡ false → begins q (later_text ds ++ rest) ≡ false
+begins-later : (q : ℕ → Bool) (ds : List (List ℕ)) (rest : List ℕ) → q 46 ≡ false → begins q rest ≡ false → begins q (later_components_text ds ++ rest) ≡ false
 begins-later q [] rest dot h = h
 begins-later q (d ∷ ds) rest dot h = dot
 
@@ -89,7 +89,7 @@ run_all q ds all = ap (take_while q) (sym (append-nil ds)) ∙ run-append q ds [
 
 -- ---- one token
 
-read_token : (last : Option Class) (text front rest : List ℕ) (token : Token) (width : ℕ) → text ≡ front ++ rest → width ≡ length front → lexeme_at last text ≡ lexeme token width → is_last token.class ≡ false → tokens_after last 0 text ≡ token ∷ tokens_after (Some token.class) 0 rest
+read_token : (last : Option Class) (text front rest : List ℕ) (token : Token) (width : ℕ) → text ≡ front ++ rest → width ≡ length front → lexeme_at last text ≡ lexeme token width → is_last_token_class token.class ≡ false → tokens_after last 0 text ≡ token ∷ tokens_after (Some token.class) 0 rest
 read_token last text front rest token width whole long e h =
     let behind : drop width text ≡ rest = (λ i. drop (long i) (whole i)) ∙ drop-append_seam front rest in
     tokens_after-step last text
@@ -178,7 +178,7 @@ suffix_before_hash Letter h = refl
 suffix_before_hash ZeroComponent h = refl
 suffix_before_hash Component h = refl
 
-pub suffix_is_not_last : (last : Class) → is_suffix last ≡ true → is_last last ≡ false
+pub suffix_is_not_last : (last : Class) → is_suffix last ≡ true → is_last_token_class last ≡ false
 suffix_is_not_last PreRelease h = refl
 suffix_is_not_last Suffix h = refl
 suffix_is_not_last Stray h = absurd (false≢true h)
@@ -205,7 +205,7 @@ next_suffix : (last : Class) (rest : List ℕ) → is_before_hash last ≡ true 
 unfolding next_lexeme
 next_suffix last rest h = rw h refl
 
-pub suffix_whole_by : (word : List ℕ) (rank : Option ℕ) → is_some rank ≡ true → suffix_lexeme_by word rank ≡ lexeme (suffix_lexeme_by word rank).token (1 + length word)
+pub suffix_whole_by : (word : List ℕ) (rank : Option ℕ) → is_some rank ≡ true → suffix_lexeme_of_rank word rank ≡ lexeme (suffix_lexeme_of_rank word rank).token (1 + length word)
 suffix_whole_by word None h = absurd (false≢true h)
 suffix_whole_by word (Some rank) h = refl
 
@@ -213,7 +213,7 @@ two_suffixes : (b : Bool) → is_suffix (cond b PreRelease Suffix) ≡ true
 two_suffixes true = refl
 two_suffixes false = refl
 
-pub suffix_class_by : (word : List ℕ) (rank : Option ℕ) → is_some rank ≡ true → is_suffix (suffix_lexeme_by word rank).token.class ≡ true
+pub suffix_class_by : (word : List ℕ) (rank : Option ℕ) → is_some rank ≡ true → is_suffix (suffix_lexeme_of_rank word rank).token.class ≡ true
 suffix_class_by word None h = absurd (false≢true h)
 suffix_class_by word (Some rank) h = two_suffixes (ltb rank 4)
 
@@ -310,17 +310,17 @@ pub component_class_by : (zero : Bool) (text : List ℕ) (n : ℕ) → is_compon
 component_class_by true text n = refl
 component_class_by false text n = refl
 
-pub component_is_not_last_by : (zero : Bool) (text : List ℕ) (n : ℕ) → is_last (cond zero (text_token ZeroComponent text) (number_token Component n)).class ≡ false
+pub component_is_not_last_by : (zero : Bool) (text : List ℕ) (n : ℕ) → is_last_token_class (cond zero (text_token ZeroComponent text) (number_token Component n)).class ≡ false
 component_is_not_last_by true text n = refl
 component_is_not_last_by false text n = refl
 
-read_later : (later : List (List ℕ)) (last : Class) (rest : List ℕ) (ts : List Token) → is_component last ≡ true → list_all is_numeral later ≡ true → begins is_ascii_digit rest ≡ false → ((class : Class) → is_component class ≡ true → tokens_after (Some class) 0 rest ≡ ts) → tokens_after (Some last) 0 (later_text later ++ rest) ≡ later_tokens later ++ ts
+read_later : (later : List (List ℕ)) (last : Class) (rest : List ℕ) (ts : List Token) → is_component last ≡ true → list_all is_numeral later ≡ true → begins is_ascii_digit rest ≡ false → ((class : Class) → is_component class ≡ true → tokens_after (Some class) 0 rest ≡ ts) → tokens_after (Some last) 0 (later_components_text later ++ rest) ≡ later_component_tokens later ++ ts
 read_later [] last rest ts h ok other more = more last h
 read_later (ds ∷ later) last rest ts h ok other more =
-    let behind : List ℕ = later_text later ++ rest in
+    let behind : List ℕ = later_components_text later ++ rest in
     let numeral = first_true (is_numeral ds) (list_all is_numeral later) ok in
     let long : 1 + length ds ≡ length (46 ∷ ds) = omega arith in
-    ap (λ t. tokens_after (Some last) 0 (46 ∷ t)) (append_assoc ds (later_text later) rest)
+    ap (λ t. tokens_after (Some last) 0 (46 ∷ t)) (append_assoc ds (later_components_text later) rest)
     ∙ read_token (Some last) (46 ∷ (ds ++ behind)) (46 ∷ ds) behind (component_token ds) (1 + length ds) refl long
     (next_component last (ds ++ behind) h
     ∙ ap component_lexeme (run-append is_ascii_digit ds behind (numeral_digits ds numeral) (begins-later is_ascii_digit later rest refl other))
@@ -349,13 +349,13 @@ in_grammar_by true true false d e f h = absurd (false≢true h)
 in_grammar_by true false c d e f h = absurd (false≢true h)
 in_grammar_by false b c d e f h = absurd (false≢true h)
 
-in_grammar : (parts : Parts) → are_parts parts ≡ true → InGrammar parts
+in_grammar : (parts : Parts) → are_version_parts parts ≡ true → InGrammar parts
 in_grammar parts ok =
     let six = in_grammar_by (is_numeral parts.first) (list_all is_numeral parts.later) (is_none_or is_ascii_lowercase parts.letter)
     (list_all is_suffix_part parts.suffixes) (is_none_or is_hash_text parts.hash) (is_none_or is_numeral parts.revision) ok in
     record { first = six.0; later = six.1; letter = six.2; suffixes = six.3; hash = six.4; revision = six.5 }
 
-pub read_spelling : (parts : Parts) → are_parts parts ≡ true → tokens (spelling parts) ≡ tokens_of parts
+pub read_spelling : (parts : Parts) → are_version_parts parts ≡ true → tokens (spelling parts) ≡ tokens_of parts
 unfolding tokens
 read_spelling parts ok =
     let each = in_grammar parts ok in
@@ -363,7 +363,7 @@ read_spelling parts ok =
     let t4 : List ℕ = hash_text parts.hash ++ t5 in
     let t3 : List ℕ = suffixes_text parts.suffixes ++ t4 in
     let t2 : List ℕ = letter_text parts.letter ++ t3 in
-    let t1 : List ℕ = later_text parts.later ++ t2 in
+    let t1 : List ℕ = later_components_text parts.later ++ t2 in
     let s5 : List Token = revision_tokens parts.revision ++ bare_token End ∷ [] in
     let s4 : List Token = hash_tokens parts.hash ++ s5 in
     let s3 : List Token = suffix_tokens parts.suffixes ++ s4 in
@@ -387,13 +387,13 @@ read_spelling parts ok =
 sound-append : (xs ys : List Token) → are_in_grammar xs ≡ true → are_in_grammar ys ≡ true → are_in_grammar (xs ++ ys) ≡ true
 sound-append [] ys h k = k
 sound-append (x ∷ xs) ys h k =
-    rw (first_true (not (is_stray x.class)) (are_in_grammar xs) h) (sound-append xs ys (then_true (not (is_stray x.class)) (are_in_grammar xs) h) k)
+    rw (first_true (not (is_stray_class x.class)) (are_in_grammar xs) h) (sound-append xs ys (then_true (not (is_stray_class x.class)) (are_in_grammar xs) h) k)
 
-component_sound : (zero : Bool) (text : List ℕ) (n : ℕ) → not (is_stray (cond zero (text_token ZeroComponent text) (number_token Component n)).class) ≡ true
+component_sound : (zero : Bool) (text : List ℕ) (n : ℕ) → not (is_stray_class (cond zero (text_token ZeroComponent text) (number_token Component n)).class) ≡ true
 component_sound true text n = refl
 component_sound false text n = refl
 
-later_sound : (later : List (List ℕ)) → are_in_grammar (later_tokens later) ≡ true
+later_sound : (later : List (List ℕ)) → are_in_grammar (later_component_tokens later) ≡ true
 later_sound [] = refl
 later_sound (ds ∷ later) = rw (component_sound (begins_with_zero ds) ds (digits_value 10 ds)) (later_sound later)
 
@@ -405,11 +405,11 @@ number_sound : (number : Option (List ℕ)) → are_in_grammar (number_tokens nu
 number_sound None = refl
 number_sound (Some ds) = refl
 
-suffix_sound_by : (b : Bool) → not (is_stray (cond b PreRelease Suffix)) ≡ true
+suffix_sound_by : (b : Bool) → not (is_stray_class (cond b PreRelease Suffix)) ≡ true
 suffix_sound_by true = refl
 suffix_sound_by false = refl
 
-suffix_sound : (word : List ℕ) (rank : Option ℕ) → is_some rank ≡ true → not (is_stray (suffix_lexeme_by word rank).token.class) ≡ true
+suffix_sound : (word : List ℕ) (rank : Option ℕ) → is_some rank ≡ true → not (is_stray_class (suffix_lexeme_of_rank word rank).token.class) ≡ true
 suffix_sound word None h = absurd (false≢true h)
 suffix_sound word (Some rank) h = suffix_sound_by (ltb rank 4)
 
@@ -428,12 +428,12 @@ revision_sound : (revision : Option (List ℕ)) → are_in_grammar (revision_tok
 revision_sound None = refl
 revision_sound (Some ds) = refl
 
-pub spelling_is_version : (parts : Parts) → are_parts parts ≡ true → is_version (spelling parts) ≡ true
+pub spelling_is_version : (parts : Parts) → are_version_parts parts ≡ true → is_version (spelling parts) ≡ true
 unfolding is_version
 spelling_is_version parts ok =
     let each = in_grammar parts ok in
     ap are_in_grammar (read_spelling parts ok)
-    ∙ sound-append (later_tokens parts.later) _ (later_sound parts.later)
+    ∙ sound-append (later_component_tokens parts.later) _ (later_sound parts.later)
     (sound-append (letter_tokens parts.letter) _ (letter_sound parts.letter)
     (sound-append (suffix_tokens parts.suffixes) _ (suffixes_sound parts.suffixes each.suffixes)
     (sound-append (hash_tokens parts.hash) _ (hash_sound parts.hash)

@@ -11,9 +11,9 @@ use Rattle.std.proofs.lemmas.List.{drop-drop, drop_more, length-drop, length-tak
 use Rattle.std.proofs.lemmas.Slice.Eq.{bytes_eq-Decides}
 use Rattle.version_core.specs.declared.token.Class.{Class}
 use Rattle.version_core.specs.declared.token.Class.TheVariants.{PreRelease, Revision, SuffixNumber, Suffix, Letter, ZeroComponent, Component}
-use Rattle.version_core.specs.Token.{Lexeme, number_token, text_token, lexeme, stray_lexeme, is_number, is_component, is_suffix, is_before_hash, is_before_revision, begins_with_zero, leading_digits, leading_hex_digits, leading_letters, number_lexeme, component_lexeme, suffix_class, suffix_rank, suffix_lexeme_by, hash_lexeme, revision_lexeme, next_lexeme, lexeme_at}
-use Rattle.version_core.specs.Order.{is_last, is_stray, is_version}
-use Rattle.version_core.specs.Reading.{AreEqualUpTo, ArePartedInHash, HasUnmarkedEnd, IsLastMark, begins_with_mark, is_token_mark, is_unmarked}
+use Rattle.version_core.specs.Token.{Lexeme, number_token, text_token, lexeme, stray_lexeme, is_number, is_component, is_suffix, is_before_hash, is_before_revision, begins_with_zero, leading_digits, leading_hex_digits, leading_letters, number_lexeme, component_lexeme, suffix_class, suffix_rank, suffix_lexeme_of_rank, hash_lexeme, revision_lexeme, next_lexeme, lexeme_at}
+use Rattle.version_core.specs.Order.{is_last_token_class, is_stray_class, is_version}
+use Rattle.version_core.specs.Reading.{AreEqualUpTo, AreEqualUpToHash, HasUnmarkedEnd, IsLastMark, begins_with_mark, is_token_mark, is_unmarked}
 use Rattle.version_core.proofs.EqualFront.{IsGood, and_left, and_right, by_mark, cut_text, good_after, good_front, good_whole, goes_on, mark_within, with_mark}
 use Rattle.version_core.proofs.Walk.{lexeme_at_within}
 
@@ -34,7 +34,7 @@ room_component false false h = absurd (false≢true h)
 
 -- a token, and what may follow it without a mark, have so many bytes at most
 abbrev IsShort : ℕ → Lexeme → Type 0
-IsShort most found = is_last found.token.class ≡ false → found.width + room found.token.class ≤ most
+IsShort most found = is_last_token_class found.token.class ≡ false → found.width + room found.token.class ≤ most
 
 shorter : (n m : ℕ) (found : Lexeme) → n ≤ m → IsShort n found → IsShort m found
 shorter n m found le short token = omega (arith, le, short token)
@@ -88,14 +88,14 @@ suffix_room : (pre : Bool) → room (cond pre PreRelease Suffix) ≡ 18
 suffix_room true = refl
 suffix_room false = refl
 
-suffix_short_by : (word : List ℕ) (rank : Option ℕ) → (is_some rank ≡ true → length word ≤ 5) → IsShort 24 (suffix_lexeme_by word rank)
+suffix_short_by : (word : List ℕ) (rank : Option ℕ) → (is_some rank ≡ true → length word ≤ 5) → IsShort 24 (suffix_lexeme_of_rank word rank)
 suffix_short_by word None few token = stray_short 24 token
 suffix_short_by word (Some rank) few token =
     let after : room (suffix_class rank) ≡ 18 = suffix_room (ltb rank 4) in
     let whole : 1 + length word + room (suffix_class rank) ≤ 24 = omega (arith, few refl, after) in
     whole
 
-suffix_short : (word : List ℕ) → IsShort 24 (suffix_lexeme_by word (suffix_rank word))
+suffix_short : (word : List ℕ) → IsShort 24 (suffix_lexeme_of_rank word (suffix_rank word))
 suffix_short word = suffix_short_by word (suffix_rank word) (word_few word)
 
 revision_short : (rest : List ℕ) → IsShort 20 (revision_lexeme rest)
@@ -125,7 +125,7 @@ unfolding next_lexeme
 unmarked_short last b rest bare =
     cond_short (room last) (eqb b 46 && is_component last) (component_lexeme (leading_digits rest)) _ (no_mark b 46 (is_component last) bare refl)
     (cond_short (room last) (is_ascii_lowercase b && is_component last) (lexeme (number_token Letter b) 1) _ (λ h. letter_short last b (and_right (is_ascii_lowercase b) (is_component last) h))
-    (cond_short (room last) (eqb b 95 && is_before_hash last) (suffix_lexeme_by (leading_letters rest) (suffix_rank (leading_letters rest))) _ (no_mark b 95 (is_before_hash last) bare refl)
+    (cond_short (room last) (eqb b 95 && is_before_hash last) (suffix_lexeme_of_rank (leading_letters rest) (suffix_rank (leading_letters rest))) _ (no_mark b 95 (is_before_hash last) bare refl)
     (cond_short (room last) (is_ascii_digit b && is_suffix last) (number_lexeme SuffixNumber 0 (leading_digits (b ∷ rest))) _ (λ h. suffix_number_short last (leading_digits (b ∷ rest)) (and_right (is_ascii_digit b) (is_suffix last) h))
     (cond_short (room last) (eqb b 126 && is_before_hash last) (hash_lexeme (leading_hex_digits rest)) _ (no_mark b 126 (is_before_hash last) bare refl)
     (cond_short (room last) (eqb b 45 && is_before_revision last) (revision_lexeme rest) stray_lexeme (no_mark b 45 (is_before_revision last) bare refl)
@@ -140,23 +140,23 @@ few_unmarked last (suc inside) (b ∷ p) x bare good =
     omega (arith, few_unmarked last inside p x (and_right (not (is_token_mark b)) (is_unmarked p) bare) good)
 few_unmarked last zero (b ∷ p) x bare good =
     let found = lexeme_at (Some last) (b ∷ (p ++ x)) in
-    let token : is_last found.token.class ≡ false = goes_on (Some last) b (p ++ x) good in
+    let token : is_last_token_class found.token.class ≡ false = goes_on (Some last) b (p ++ x) good in
     let short : found.width + room found.token.class ≤ room last = unmarked_short last b (p ++ x) (and_left (not (is_token_mark b)) (is_unmarked p) bare) token in
     let some : 0 < found.width = (lexeme_at_within (Some last) (b ∷ (p ++ x))).some token in
     let more : length p ≤ found.width - 1 + room found.token.class =
     few_unmarked found.token.class (found.width - 1) p x (and_right (not (is_token_mark b)) (is_unmarked p) bare)
-    (good_after (p ++ x) found (is_stray found.token.class) (is_last found.token.class) token good) in
+    (good_after (p ++ x) found (is_stray_class found.token.class) (is_last_token_class found.token.class) token good) in
     omega (arith, short, some, more)
 
 -- after the first byte of a token
 few_after : (last : Option Class) (b : ℕ) (p x : List ℕ) (most : ℕ) → is_unmarked p ≡ true → IsShort most (lexeme_at last (b ∷ (p ++ x))) → IsGood last 0 (b ∷ (p ++ x)) → length p < most
 few_after last b p x most bare short good =
     let found = lexeme_at last (b ∷ (p ++ x)) in
-    let token : is_last found.token.class ≡ false = goes_on last b (p ++ x) good in
+    let token : is_last_token_class found.token.class ≡ false = goes_on last b (p ++ x) good in
     let whole : found.width + room found.token.class ≤ most = short token in
     let some : 0 < found.width = (lexeme_at_within last (b ∷ (p ++ x))).some token in
     let more : length p ≤ found.width - 1 + room found.token.class =
-    few_unmarked found.token.class (found.width - 1) p x bare (good_after (p ++ x) found (is_stray found.token.class) (is_last found.token.class) token good) in
+    few_unmarked found.token.class (found.width - 1) p x bare (good_after (p ++ x) found (is_stray_class found.token.class) (is_last_token_class found.token.class) token good) in
     omega (arith, whole, some, more)
 
 -- at the front of a version
@@ -226,11 +226,11 @@ tilde_at left len at found end one =
     sym (ap (λ t. get_or t 0 0) (sym l.rest ∙ drop_more left at 0 (mark_within left len at found))) ∙ is)
 
 -- where the front that they have in common ends without a mark, both are within their hash
-pub parted_in_hash : (left right : List ℕ) (len : ℕ) → AreEqualUpTo left right len → 23 < len → HasUnmarkedEnd (take len left) → is_version left ≡ true → ArePartedInHash left right len
+pub parted_in_hash : (left right : List ℕ) (len : ℕ) → AreEqualUpTo left right len → 23 < len → HasUnmarkedEnd (take len left) → is_version left ≡ true → AreEqualUpToHash left right len
 parted_in_hash left right len equal many end one =
     let front = take len left in
     let size : length front ≡ len = length-take-le len left equal.within.0 in
-    by_last_mark (ArePartedInHash left right len) front
+    by_last_mark (AreEqualUpToHash left right len) front
     (λ bare.
     let few : length front ≤ 23 = few_at_front front (drop len left) bare (subst (IsGood None 0) (sym (take-append-drop len left)) (good_whole left one)) in
     absurd (omega (arith, few, size, many)))

@@ -10,7 +10,7 @@ use Rattle.std.proofs.lemmas.Bool.Decides.{nat_tests}
 use Rattle.std.proofs.lemmas.List.Folds.{list_all-append}
 use Rattle.version_core.specs.Order.{is_version}
 use Rattle.version_core.specs.Token.{is_hex_digit, is_number, suffix_rank}
-use Rattle.version_core.specs.Grammar.{IsSpelled, Parts, SuffixPart, are_parts, hash_text, is_none_or, is_hash_text, is_numeral, is_suffix_part, later_text, letter_text, number_text, revision_text, spelling, suffixes_text, begins_with_digit, is_version_byte}
+use Rattle.version_core.specs.Grammar.{IsSpelledVersion, Parts, SuffixPart, are_version_parts, hash_text, is_none_or, is_hash_text, is_numeral, is_suffix_part, later_components_text, letter_text, number_text, revision_text, spelling, suffixes_text, begins_with_digit, is_version_byte}
 use Rattle.version_core.proofs.ReadBack.{spelled}
 
 pub all-imp : (P Q : ℕ → Bool) → ((b : ℕ) → P b ≡ true → Q b ≡ true) → (xs : List ℕ) → list_all P xs ≡ true → list_all Q xs ≡ true
@@ -63,11 +63,11 @@ word-bytes word h =
 
 -- ---- the parts of a version
 
-later-bytes : (later : List (List ℕ)) → list_all is_numeral later ≡ true → list_all is_version_byte (later_text later) ≡ true
+later-bytes : (later : List (List ℕ)) → list_all is_numeral later ≡ true → list_all is_version_byte (later_components_text later) ≡ true
 later-bytes [] h = refl
 later-bytes (digits ∷ later) h =
     let parts : (is_numeral digits ≡ true) × (list_all is_numeral later ≡ true) = and_parts (is_numeral digits) (list_all is_numeral later) h in
-    all-append is_version_byte digits (later_text later) (numeral-bytes digits parts.0) (later-bytes later parts.1)
+    all-append is_version_byte digits (later_components_text later) (numeral-bytes digits parts.0) (later-bytes later parts.1)
 
 letter-bytes : (letter : Option ℕ) → is_none_or is_ascii_lowercase letter ≡ true → list_all is_version_byte (letter_text letter) ≡ true
 letter-bytes None h = refl
@@ -94,14 +94,14 @@ revision-bytes : (revision : Option (List ℕ)) → is_none_or is_numeral revisi
 revision-bytes None h = refl
 revision-bytes (Some digits) h = numeral-bytes digits h
 
-spelling-bytes : (parts : Parts) → are_parts parts ≡ true → list_all is_version_byte (spelling parts) ≡ true
+spelling-bytes : (parts : Parts) → are_version_parts parts ≡ true → list_all is_version_byte (spelling parts) ≡ true
 spelling-bytes parts h =
     let a = and_parts (is_numeral parts.first) _ h in
     let b = and_parts (list_all is_numeral parts.later) _ a.1 in
     let c = and_parts (is_none_or is_ascii_lowercase parts.letter) _ b.1 in
     let d = and_parts (list_all is_suffix_part parts.suffixes) _ c.1 in
     let e = and_parts (is_none_or is_hash_text parts.hash) _ d.1 in
-    all-append is_version_byte parts.first _ (numeral-bytes parts.first a.0) (all-append is_version_byte (later_text parts.later) _ (later-bytes parts.later b.0) (all-append is_version_byte (letter_text parts.letter) _ (letter-bytes parts.letter c.0) (all-append is_version_byte (suffixes_text parts.suffixes) _ (suffixes-bytes parts.suffixes d.0) (all-append is_version_byte (hash_text parts.hash) (revision_text parts.revision) (hash-bytes parts.hash e.0) (revision-bytes parts.revision e.1)))))
+    all-append is_version_byte parts.first _ (numeral-bytes parts.first a.0) (all-append is_version_byte (later_components_text parts.later) _ (later-bytes parts.later b.0) (all-append is_version_byte (letter_text parts.letter) _ (letter-bytes parts.letter c.0) (all-append is_version_byte (suffixes_text parts.suffixes) _ (suffixes-bytes parts.suffixes d.0) (all-append is_version_byte (hash_text parts.hash) (revision_text parts.revision) (hash-bytes parts.hash e.0) (revision-bytes parts.revision e.1)))))
 
 first-by : (first rest : List ℕ) → is_numeral first ≡ true → begins_with_digit (first ++ rest) ≡ true
 first-by [] rest h = (cc)
@@ -110,12 +110,12 @@ first-by (b ∷ digits) rest h =
 
 pub version-bytes : (text : List ℕ) → is_version text ≡ true → list_all is_version_byte text ≡ true
 version-bytes text h =
-    let s : IsSpelled text = spelled text h in
+    let s : IsSpelledVersion text = spelled text h in
     let P : List ℕ → Type 0 = λ t. list_all is_version_byte t ≡ true in
     subst P s.whole (spelling-bytes s.parts s.sound)
 
 pub version-first : (text : List ℕ) → is_version text ≡ true → begins_with_digit text ≡ true
 version-first text h =
-    let s : IsSpelled text = spelled text h in
+    let s : IsSpelledVersion text = spelled text h in
     let P : List ℕ → Type 0 = λ t. begins_with_digit t ≡ true in
     subst P s.whole (first-by s.parts.first _ (and_parts (is_numeral s.parts.first) _ s.sound).0)

@@ -10,15 +10,15 @@ use Rattle.std.proofs.lemmas.List.Folds.{length-prefix_len}
 use Rattle.std.proofs.lemmas.List.Sums.{prefix_len-le-length}
 use Rattle.version_core.specs.declared.token.Class.{Class}
 use Rattle.version_core.specs.declared.token.Class.TheVariants.{Revision, Hash, SuffixNumber, Letter, ZeroComponent, Component}
-use Rattle.version_core.specs.Token.{Token, Lexeme, number_token, text_token, lexeme, stray_lexeme, is_number, is_component, is_suffix, is_before_hash, is_before_revision, begins_with_zero, is_hex_digit, leading_digits, leading_hex_digits, leading_letters, number_lexeme, component_lexeme, suffix_rank, suffix_lexeme, suffix_lexeme_by, hash_lexeme, revision_lexeme, next_lexeme, lexeme_at}
+use Rattle.version_core.specs.Token.{Token, Lexeme, number_token, text_token, lexeme, stray_lexeme, is_number, is_component, is_suffix, is_before_hash, is_before_revision, begins_with_zero, is_hex_digit, leading_digits, leading_hex_digits, leading_letters, number_lexeme, component_lexeme, suffix_rank, suffix_lexeme, suffix_lexeme_of_rank, hash_lexeme, revision_lexeme, next_lexeme, lexeme_at}
 use Rattle.version_core.specs.declared.lexeme.Lexeme.{Lexeme as LexemeAt}
-use Rattle.version_core.specs.Order.{is_last, tokens_after}
+use Rattle.version_core.specs.Order.{is_last_token_class, tokens_after}
 use Rattle.version_core.specs.Reading.{lexeme_view, token_view, unread_len}
 
 -- a lexeme is no longer than its text, and has a byte at least, unless it is the last
 pub record HasNamesAmong (text : List ℕ) (found : Lexeme) : Type 0 where
   pub most : found.width ≤ length text
-  pub some : is_last found.token.class ≡ false → 0 < found.width
+  pub some : is_last_token_class found.token.class ≡ false → 0 < found.width
 
 stray_within : (text : List ℕ) → HasNamesAmong text stray_lexeme
 stray_within text = record { most = omega arith; some = λ h. absurd (false≢true (sym h)) }
@@ -50,7 +50,7 @@ component_within text ds most =
     (λ _. lexeme_within text _ (1 + length ds) most (omega arith))
     (number_within text Component 1 ds most)
 
-suffix_within_by : (text word : List ℕ) (rank : Option ℕ) → 1 + length word ≤ length text → HasNamesAmong text (suffix_lexeme_by word rank)
+suffix_within_by : (text word : List ℕ) (rank : Option ℕ) → 1 + length word ≤ length text → HasNamesAmong text (suffix_lexeme_of_rank word rank)
 suffix_within_by text word None most = stray_within text
 suffix_within_by text word (Some rank) most = lexeme_within text _ (1 + length word) most (omega arith)
 
@@ -97,10 +97,10 @@ tokens_after-drop last (suc inside) (b ∷ rest) = tokens_after-drop last inside
 
 -- the tokens after a lexeme
 abbrev pub after : List ℕ → Lexeme → List Token
-after text found = cond (is_last found.token.class) [] (tokens_after (Some found.token.class) 0 (drop found.width text))
+after text found = cond (is_last_token_class found.token.class) [] (tokens_after (Some found.token.class) 0 (drop found.width text))
 
 -- what is at the end is the last
-last_at_end : (last : Option Class) → is_last (lexeme_at last []).token.class ≡ true
+last_at_end : (last : Option Class) → is_last_token_class (lexeme_at last []).token.class ≡ true
 unfolding number_lexeme next_lexeme
 last_at_end None = refl
 last_at_end (Some last) = refl
@@ -122,10 +122,10 @@ end_by b x ts h = rw h refl
 pub tokens_after-step : (last : Option Class) (text : List ℕ) → tokens_after last 0 text ≡ (lexeme_at last text).token ∷ after text (lexeme_at last text)
 tokens_after-step last [] =
     let found = lexeme_at last [] in
-    end_by (is_last found.token.class) found.token (tokens_after (Some found.token.class) 0 (drop found.width [])) (last_at_end last)
+    end_by (is_last_token_class found.token.class) found.token (tokens_after (Some found.token.class) 0 (drop found.width [])) (last_at_end last)
 tokens_after-step last (b ∷ rest) =
     let found = lexeme_at last (b ∷ rest) in
-    ap (λ ts. found.token ∷ ts) (after_by (is_last found.token.class) found b rest (lexeme_at_within last (b ∷ rest)).some)
+    ap (λ ts. found.token ∷ ts) (after_by (is_last_token_class found.token.class) found b rest (lexeme_at_within last (b ∷ rest)).some)
 
 -- what is left after a lexeme that was read
 pub advance_within : (last : Option Class) (text : List ℕ) (found : LexemeAt) → lexeme_view text found ≡ lexeme_at last text → found.advance ≤ length text
@@ -139,27 +139,27 @@ behind_at class text advance =
     sym (tokens_after-drop (Some class) (unread_len (Some class) (drop advance text)) (drop advance text)
     ∙ ap (tokens_after (Some class) 0) (drop-drop (unread_len (Some class) (drop advance text)) advance text))
 
-left_at : (last : Option Class) (text : List ℕ) (found : LexemeAt) → lexeme_view text found ≡ lexeme_at last text → tokens_after last 0 text ≡ token_view found.token ∷ cond (is_last found.token.class) [] (tokens_after (Some found.token.class) (unread_len (Some found.token.class) (drop found.advance text)) (drop found.advance text))
+left_at : (last : Option Class) (text : List ℕ) (found : LexemeAt) → lexeme_view text found ≡ lexeme_at last text → tokens_after last 0 text ≡ token_view found.token ∷ cond (is_last_token_class found.token.class) [] (tokens_after (Some found.token.class) (unread_len (Some found.token.class) (drop found.advance text)) (drop found.advance text))
 left_at last text found e =
     tokens_after-step last text
     ∙ ap (λ (l : Lexeme). l.token ∷ after text l) (sym e)
-    ∙ ap (λ ts. token_view found.token ∷ cond (is_last found.token.class) [] ts) (behind_at found.token.class text found.advance)
+    ∙ ap (λ ts. token_view found.token ∷ cond (is_last_token_class found.token.class) [] ts) (behind_at found.token.class text found.advance)
 
-pub left_after : (last : Option Class) (rest text behind : List ℕ) (found : LexemeAt) → text ≡ drop (unread_len last rest) rest → lexeme_view text found ≡ lexeme_at last text → behind ≡ drop found.advance text → tokens_after last (unread_len last rest) rest ≡ token_view found.token ∷ cond (is_last found.token.class) [] (tokens_after (Some found.token.class) (unread_len (Some found.token.class) behind) behind)
+pub left_after : (last : Option Class) (rest text behind : List ℕ) (found : LexemeAt) → text ≡ drop (unread_len last rest) rest → lexeme_view text found ≡ lexeme_at last text → behind ≡ drop found.advance text → tokens_after last (unread_len last rest) rest ≡ token_view found.token ∷ cond (is_last_token_class found.token.class) [] (tokens_after (Some found.token.class) (unread_len (Some found.token.class) behind) behind)
 left_after last rest text behind found here e there =
     tokens_after-drop last (unread_len last rest) rest
     ∙ ap (tokens_after last 0) (sym here)
     ∙ left_at last text found e
-    ∙ ap (λ b. token_view found.token ∷ cond (is_last found.token.class) [] (tokens_after (Some found.token.class) (unread_len (Some found.token.class) b) b)) (sym there)
+    ∙ ap (λ b. token_view found.token ∷ cond (is_last_token_class found.token.class) [] (tokens_after (Some found.token.class) (unread_len (Some found.token.class) b) b)) (sym there)
 
-fewer_at : (last : Option Class) (text : List ℕ) (found : LexemeAt) → lexeme_view text found ≡ lexeme_at last text → is_last found.token.class ≡ false → length (drop (unread_len (Some found.token.class) (drop found.advance text)) (drop found.advance text)) < length text
+fewer_at : (last : Option Class) (text : List ℕ) (found : LexemeAt) → lexeme_view text found ≡ lexeme_at last text → is_last_token_class found.token.class ≡ false → length (drop (unread_len (Some found.token.class) (drop found.advance text)) (drop found.advance text)) < length text
 fewer_at last text found e h =
     let within = lexeme_at_within last text in
     let width : found.advance + unread_len (Some found.token.class) (drop found.advance text) ≡ (lexeme_at last text).width = ap (λ (l : Lexeme). l.width) e in
     let class : found.token.class ≡ (lexeme_at last text).token.class = ap (λ (l : Lexeme). l.token.class) e in
-    let some = within.some (ap is_last (sym class) ∙ h) in
+    let some = within.some (ap is_last_token_class (sym class) ∙ h) in
     omega (arith, within.most, some, width, length-drop (unread_len (Some found.token.class) (drop found.advance text)) (drop found.advance text), length-drop found.advance text)
 
-pub fewer_bytes : (last : Option Class) (rest text behind : List ℕ) (found : LexemeAt) → text ≡ drop (unread_len last rest) rest → lexeme_view text found ≡ lexeme_at last text → behind ≡ drop found.advance text → is_last found.token.class ≡ false → length (drop (unread_len (Some found.token.class) behind) behind) < length (drop (unread_len last rest) rest)
+pub fewer_bytes : (last : Option Class) (rest text behind : List ℕ) (found : LexemeAt) → text ≡ drop (unread_len last rest) rest → lexeme_view text found ≡ lexeme_at last text → behind ≡ drop found.advance text → is_last_token_class found.token.class ≡ false → length (drop (unread_len (Some found.token.class) behind) behind) < length (drop (unread_len last rest) rest)
 fewer_bytes last rest text behind found here e there h =
     rw (there, ← here) (fewer_at last text found e h)

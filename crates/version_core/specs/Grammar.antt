@@ -51,16 +51,16 @@ abbrev pub is_suffix_part : SuffixPart → Bool
 is_suffix_part suffix = is_some (suffix_rank suffix.name) && is_none_or is_numeral suffix.number
 
 -- whether each part follows the grammar, so that the parts are those of a version
-abbrev pub are_parts : Parts → Bool
-are_parts parts =
+abbrev pub are_version_parts : Parts → Bool
+are_version_parts parts =
     is_numeral parts.first && (list_all is_numeral parts.later
     && (is_none_or is_ascii_lowercase parts.letter && (list_all is_suffix_part parts.suffixes
     && (is_none_or is_hash_text parts.hash && is_none_or is_numeral parts.revision))))
 
 -- the text of the components after the first: `.` before each
-abbrev pub later_text : List (List ℕ) → List ℕ
-later_text [] = []
-later_text (digits ∷ later) = 46 ∷ (digits ++ later_text later)
+abbrev pub later_components_text : List (List ℕ) → List ℕ
+later_components_text [] = []
+later_components_text (digits ∷ later) = 46 ∷ (digits ++ later_components_text later)
 
 -- the text of the letter after the components, which is empty if there is none
 abbrev pub letter_text : Option ℕ → List ℕ
@@ -91,7 +91,7 @@ revision_text (Some digits) = 45 ∷ 114 ∷ digits
 -- the text of a version, spelled from its parts
 abbrev pub spelling : Parts → List ℕ
 spelling parts =
-    parts.first ++ (later_text parts.later ++ (letter_text parts.letter
+    parts.first ++ (later_components_text parts.later ++ (letter_text parts.letter
     ++ (suffixes_text parts.suffixes ++ (hash_text parts.hash ++ revision_text parts.revision))))
 
 -- the token of a component after the first, which is compared as text if it begins with 0
@@ -101,9 +101,9 @@ component_token digits =
     else number_token Component (digits_value 10 digits)
 
 -- the tokens of the components after the first
-abbrev pub later_tokens : List (List ℕ) → List Token
-later_tokens [] = []
-later_tokens (digits ∷ later) = component_token digits ∷ later_tokens later
+abbrev pub later_component_tokens : List (List ℕ) → List Token
+later_component_tokens [] = []
+later_component_tokens (digits ∷ later) = component_token digits ∷ later_component_tokens later
 
 -- the token of the letter, if there is one
 abbrev pub letter_tokens : Option ℕ → List Token
@@ -135,13 +135,13 @@ revision_tokens (Some digits) = number_token Revision (digits_value 10 digits) �
 abbrev pub tokens_of : Parts → List Token
 tokens_of parts =
     number_token Component (digits_value 10 parts.first)
-    ∷ (later_tokens parts.later ++ (letter_tokens parts.letter ++ (suffix_tokens parts.suffixes
+    ∷ (later_component_tokens parts.later ++ (letter_tokens parts.letter ++ (suffix_tokens parts.suffixes
     ++ (hash_tokens parts.hash ++ (revision_tokens parts.revision ++ bare_token End ∷ [])))))
 
 -- a text is spelled after the grammar: some parts of a version spell it
-pub record IsSpelled (text : List ℕ) : Type 0 where
+pub record IsSpelledVersion (text : List ℕ) : Type 0 where
   pub parts : Parts
-  pub sound : are_parts parts ≡ true
+  pub sound : are_version_parts parts ≡ true
   pub whole : spelling parts ≡ text
 
 -- ---- the bytes of a version

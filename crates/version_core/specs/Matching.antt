@@ -5,13 +5,13 @@ use Rattle.std.specs.Str.{bytes_eq}
 use Rattle.std.specs.Ordering.{is_lt, is_eq, is_gt}
 use Rattle.version_core.specs.declared.token.Class.{Class}
 use Rattle.version_core.specs.declared.token.Class.TheVariants.{ZeroComponent}
-use Rattle.version_core.specs.Op.{EQUAL, LESS, GREATER, FUZZY, is_op}
-use Rattle.version_core.specs.Order.{is_last, token_cmp, tokens, version_cmp}
+use Rattle.version_core.specs.Op.{EQUAL, LESS, GREATER, FUZZY, is_operator_bits}
+use Rattle.version_core.specs.Order.{is_last_token_class, token_cmp, tokens, version_cmp}
 use Rattle.version_core.specs.Token.{Token}
 
 -- the operator with these match bits, if they are those of an operator
-abbrev pub op_of : ℕ → Option ℕ
-op_of bits = if is_op bits then Some bits else None
+abbrev pub operator_if_bits : ℕ → Option ℕ
+operator_if_bits bits = if is_operator_bits bits then Some bits else None
 
 -- whether an operator accepts the relation of this match bit
 abbrev pub has_bit : ℕ → ℕ → Bool
@@ -37,8 +37,8 @@ fits wanted found =
 -- whether each wanted token, up to the end of the wanted version, fits the found token at its place
 abbrev pub all_fit : List Token → List Token → Bool
 all_fit [] found = true
-all_fit (w ∷ ws) [] = is_last w.class
-all_fit (w ∷ ws) (f ∷ fs) = is_last w.class || (fits w f && all_fit ws fs)
+all_fit (w ∷ ws) [] = is_last_token_class w.class
+all_fit (w ∷ ws) (f ∷ fs) = is_last_token_class w.class || (fits w f && all_fit ws fs)
 
 -- the fuzzy match: whether a version begins with the tokens of the wanted one
 unfoldable pub is_fuzzy_match : List ℕ → List ℕ → Bool

@@ -10,14 +10,14 @@ use Rattle.version_core.specs.declared.token.Class.TheVariants.{Stray, PreReleas
 use Rattle.version_core.specs.Token.{Token, lexeme_at}
 
 -- whether a token is the one for bytes outside the grammar
-abbrev pub is_stray : Class → Bool
-is_stray Stray = true
-is_stray _ = false
+abbrev pub is_stray_class : Class → Bool
+is_stray_class Stray = true
+is_stray_class _ = false
 
 -- whether no token follows one of this class, which is the end or stray
-abbrev pub is_last : Class → Bool
-is_last End = true
-is_last class = is_stray class
+abbrev pub is_last_token_class : Class → Bool
+is_last_token_class End = true
+is_last_token_class class = is_stray_class class
 
 -- the tokens of a text after a token of some class (None: at the front of a version), if its first
 -- `inside` bytes still belong to that token
@@ -27,7 +27,7 @@ tokens_after last (suc inside) (b ∷ rest) = tokens_after last inside rest
 tokens_after last zero (b ∷ rest) =
     let found = lexeme_at last (b ∷ rest) in
     found.token
-    ∷ (if is_last found.token.class then []
+    ∷ (if is_last_token_class found.token.class then []
     else tokens_after (Some found.token.class) (found.width - 1) rest)
 
 -- the tokens of a text, the end included; at bytes outside the grammar they stop with a stray one
@@ -36,7 +36,7 @@ tokens text = tokens_after None 0 text
 
 -- whether none of the tokens is stray, so that they are those of a version
 abbrev pub are_in_grammar : List Token → Bool
-are_in_grammar found = list_all (λ token. not (is_stray token.class)) found
+are_in_grammar found = list_all (λ token. not (is_stray_class token.class)) found
 
 -- whether a text is a version
 unfoldable pub is_version : List ℕ → Bool

@@ -13,27 +13,27 @@ passed_len found = if is_hash found.token.class then 2 else found.width
 
 -- whether this text may be the rest of a version after a place, which may be between the digits of a
 -- hash
-abbrev pub is_good_rest : Place → List ℕ → Bool
-is_good_rest place rest =
+abbrev pub is_valid_version_rest : Place → List ℕ → Bool
+is_valid_version_rest place rest =
     are_in_grammar (tokens_after (Some place.class) (unread_len (Some place.class) rest) rest)
 
 -- whether the bytes between a place and an end may be the rest of a version
-abbrev pub can_follow : List ℕ → Place → ℕ → Bool
-can_follow bytes place end = is_good_rest place (slice_range bytes place.at end)
+abbrev pub can_rest_follow_place : List ℕ → Place → ℕ → Bool
+can_rest_follow_place bytes place end = is_valid_version_rest place (slice_range bytes place.at end)
 
 -- a version may end anywhere at or after the second place: the bytes after the first place are a
 -- possible rest if and only if those after the second are
-pub record IsLeap (bytes : List ℕ) (from to : Place) : Type 0 where
+pub record IsSafeSkip (bytes : List ℕ) (from to : Place) : Type 0 where
   -- the second place is not before the first
   pub forth : from.at ≤ to.at
   -- for each end after the second place, the rest is allowed after both places or after neither
-  pub same : (end : ℕ) → to.at ≤ end → can_follow bytes from end ≡ can_follow bytes to end
+  pub same : (end : ℕ) → to.at ≤ end → can_rest_follow_place bytes from end ≡ can_rest_follow_place bytes to end
 
 -- a version with this end that is at the first place reaches the second. So does each other version,
 -- unless the second place is the end, which may be within a token of another version
 pub record IsNextPlace (bytes : List ℕ) (end : ℕ) (from to : Place) : Type 0 where
   pub forth : from.at < to.at
   pub within : to.at ≤ end
-  pub same : can_follow bytes from end ≡ can_follow bytes to end
+  pub same : can_rest_follow_place bytes from end ≡ can_rest_follow_place bytes to end
   -- unless the second place is the end, the first leads to it for each end
-  pub leads : to.at < end → IsLeap bytes from to
+  pub leads : to.at < end → IsSafeSkip bytes from to

@@ -55,13 +55,13 @@ abbrev pub AreDigits : List ℕ → Type 0
 AreDigits digits = EachIndex digits (λ i. IsTrue (is_ascii_digit (slice_index digits i)))
 
 -- the byte, if there is one and it is a lower-case hexadecimal digit
-abbrev pub hex_digit_by : Option ℕ → Option ℕ
-hex_digit_by None = None
-hex_digit_by (Some byte) = if is_hex_digit byte then Some byte else None
+abbrev pub hex_digit_if_some : Option ℕ → Option ℕ
+hex_digit_if_some None = None
+hex_digit_if_some (Some byte) = if is_hex_digit byte then Some byte else None
 
 -- the byte at an index of a text, if there is one and it is a hexadecimal digit
 abbrev pub hex_digit_at : List ℕ → ℕ → Option ℕ
-hex_digit_at text at = hex_digit_by (slice_get text at)
+hex_digit_at text at = hex_digit_if_some (slice_get text at)
 
 -- how many bytes a reader has before it, without those of a hash that it has taken
 abbrev pub bytes_left : Tokens → ℕ
@@ -100,23 +100,23 @@ pub record AreEqualUpTo (left right : List ℕ) (len : ℕ) : Type 0 where
   pub same : take len left ≡ take len right
 
 -- two texts are equal up to a place, and the last mark before it is at this offset
-pub record ArePartedAtMark (left right : List ℕ) (at : ℕ) : Type 0 where
+pub record AreEqualUpToMark (left right : List ℕ) (at : ℕ) : Type 0 where
   pub len : ℕ
   pub equal : AreEqualUpTo left right len
   pub last : IsLastMark (take len left) at
 
 -- two texts are equal up to this offset, and the last mark before it is that of a hash, `~`
-pub record ArePartedInHash (left right : List ℕ) (len : ℕ) : Type 0 where
+pub record AreEqualUpToHash (left right : List ℕ) (len : ℕ) : Type 0 where
   pub at : ℕ
   pub equal : AreEqualUpTo left right len
   pub last : IsLastMark (take len left) at
   pub tilde : slice_index_or left at 0 ≡ 126
 
 -- two texts are equal before the place from which they are read
-abbrev pub ArePartedBy : List ℕ → List ℕ → Parting → Type 0
-ArePartedBy left right AtFront = Unit {0}
-ArePartedBy left right (AtMark at) = ArePartedAtMark left right at
-ArePartedBy left right (InHash len) = ArePartedInHash left right len
+abbrev pub AreEqualUpToParting : List ℕ → List ℕ → Parting → Type 0
+AreEqualUpToParting left right AtFront = Unit {0}
+AreEqualUpToParting left right (AtMark at) = AreEqualUpToMark left right at
+AreEqualUpToParting left right (InHash len) = AreEqualUpToHash left right len
 
 -- the order of two versions by their rests from a place within the hash of both on
 abbrev pub hash_cmp : List ℕ → List ℕ → Ordering

@@ -109,14 +109,14 @@ abbrev pub suffix_class : ℕ → Class
 suffix_class rank = if nat_lt rank 4 then PreRelease else Suffix
 
 -- the lexeme of a suffix with this rank, which is stray if its word has none
-abbrev pub suffix_lexeme_by : List ℕ → Option ℕ → Lexeme
-suffix_lexeme_by word None = stray_lexeme
-suffix_lexeme_by word (Some rank) =
+abbrev pub suffix_lexeme_of_rank : List ℕ → Option ℕ → Lexeme
+suffix_lexeme_of_rank word None = stray_lexeme
+suffix_lexeme_of_rank word (Some rank) =
     lexeme (number_token (suffix_class rank) rank) (1 + length word)
 
 -- the lexeme of a suffix by its word, whose mark is one byte more
 abbrev pub suffix_lexeme : List ℕ → Lexeme
-suffix_lexeme word = suffix_lexeme_by word (suffix_rank word)
+suffix_lexeme word = suffix_lexeme_of_rank word (suffix_rank word)
 
 -- the lexeme of a hash by the digits after its mark; without a digit it is stray
 unfoldable pub hash_lexeme : List ℕ → Lexeme

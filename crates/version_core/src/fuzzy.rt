@@ -44,7 +44,7 @@ fn all_fit(wanted: Tokens<'_>, found: Tokens<'_>) -> bool
     let mut wanted_tokens = wanted;
     loop {
         let token = wanted_tokens.next();
-        if token.class.is_last() {
+        if token.class.is_last_token_class() {
             return true;
         }
         if !token.fits(&found_tokens.next()) {

@@ -5,7 +5,7 @@
 ghost use Rattle.std.specs.Prelude.{◌≡◌, ◌∷◌, ◌↔◌, [], ℕ, List, count_by, true};
 ghost use Rattle.std.specs.Cmp.{IsTotalOrder};
 ghost use Rattle.std.specs.declared.cmp.Ordering.TheVariants.{Equal};
-ghost use Rattle.version_core.specs.Grammar.{IsSpelled, Parts, are_parts, begins_with_digit, is_version_byte, spelling, tokens_of};
+ghost use Rattle.version_core.specs.Grammar.{IsSpelledVersion, Parts, are_version_parts, begins_with_digit, is_version_byte, spelling, tokens_of};
 ghost use Rattle.version_core.specs.Op.{EQUAL, GREATER, LESS};
 ghost use Rattle.std.specs.List.{list_all};
 ghost use Rattle.version_core.specs.Order.{is_version, tokens, version_cmp};
@@ -43,14 +43,14 @@ pub fn equal_versions_match_fuzzily()
 /// Parts that follow the grammar spell a version, and it is read as the tokens of its parts.
 pub fn spelled_is_read()
     ensures version { (parts : Parts)
-        → are_parts parts ≡ true → is_version (spelling parts) ≡ true }
+        → are_version_parts parts ≡ true → is_version (spelling parts) ≡ true }
     ensures tokens { (parts : Parts)
-        → are_parts parts ≡ true → tokens (spelling parts) ≡ tokens_of parts }
+        → are_version_parts parts ≡ true → tokens (spelling parts) ≡ tokens_of parts }
 {}
 
 /// Every version is spelled from parts that follow the grammar.
 pub fn read_is_spelled()
-    ensures { (text : List ℕ) → is_version text ≡ true → IsSpelled text }
+    ensures { (text : List ℕ) → is_version text ≡ true → IsSpelledVersion text }
 {}
 
 /// A version begins with a digit, and consists of digits, lower-case letters, `.`, `_`, `~` and

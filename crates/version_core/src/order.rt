@@ -7,7 +7,7 @@ ghost use Rattle.std.specs.Prelude.{◌≡◌, ◌≤◌, ◌<◌, IsTrue, IfSom
 ghost use Rattle.std.specs.Cmp.Lexicographic.{slice_cmp};
 ghost use Rattle.version_core.specs.declared.token.Class.TheVariants.{Component};
 ghost use Rattle.version_core.specs.Order.{is_version, token_cmp, tokens_after, version_cmp};
-ghost use Rattle.version_core.specs.Reading.{AreEqualUpTo, ArePartedBy, HasUnmarkedEnd, IsLastMark, hash_cmp, is_token_mark, tokens_left};
+ghost use Rattle.version_core.specs.Reading.{AreEqualUpTo, AreEqualUpToParting, HasUnmarkedEnd, IsLastMark, hash_cmp, is_token_mark, tokens_left};
 
 use crate::lexeme::{behind, compare_hex_digits};
 use crate::token::{Class, Tokens};
@@ -49,7 +49,7 @@ pub fn compare(left: &[u8], right: &[u8]) -> Ordering
 /// The place from which two versions have to be read. Their common front is skipped.
 pub fn parting_of(left: &[u8], right: &[u8]) -> Parting
     requires { IsTrue (is_version left.now) }
-    ensures { ArePartedBy left.now right.now result }
+    ensures { AreEqualUpToParting left.now right.now result }
 {
     let len = equal_len(left, right);
     let Some(at) = last_mark(&left[..len]) else {
@@ -67,7 +67,7 @@ fn parting_without_mark(left: &[u8], right: &[u8], len: usize) -> Parting
     requires version { IsTrue (is_version left.now) }
     requires equal { AreEqualUpTo left.now right.now len }
     requires unmarked { HasUnmarkedEnd (take len left.now) }
-    ensures { ArePartedBy left.now right.now result }
+    ensures { AreEqualUpToParting left.now right.now result }
 {
     if len <= MOST_UNMARKED {
         return Parting::AtFront;
@@ -105,7 +105,7 @@ fn compare_tokens(left: Tokens<'_>, right: Tokens<'_>) -> Ordering
     loop {
         let token = left_tokens.next();
         let order = token.compare(&right_tokens.next());
-        if order.is_ne() || token.class.is_last() {
+        if order.is_ne() || token.class.is_last_token_class() {
             return order;
         }
     }

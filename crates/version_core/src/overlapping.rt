@@ -8,7 +8,7 @@
 
 ghost use Rattle.std.specs.Prelude.{◌≡◌, ◌<◌, ◌≤◌, false, length, slice_range, IfOk, IfSome, IfNone, Some};
 ghost use Rattle.version_core.specs.Order.{is_version};
-ghost use Rattle.version_core.specs.Overlapping.{IsNextPlace, IsLeap, can_follow};
+ghost use Rattle.version_core.specs.Overlapping.{IsNextPlace, IsSafeSkip, can_rest_follow_place};
 ghost use Rattle.version_core.specs.Reading.{unread_len};
 
 use crate::lexeme::{first_token, leading_hex_digits};
@@ -51,14 +51,14 @@ pub struct OverlappingVersions<'a> {
 
 impl<'a> Model for OverlappingVersions<'a> {
     ghost use Rattle.std.specs.Prelude.{ℕ, List, All};
-    ghost use Rattle.version_core.specs.Overlapping.{IsLeap};
+    ghost use Rattle.version_core.specs.Overlapping.{IsSafeSkip};
 
     ghost Value = { List ℕ };
 
     ghost view = { λ versions. versions.bytes.now };
 
     ghost invariant = { λ versions.
-        All (λ leap. IsLeap versions.bytes.now leap.from leap.to) versions.leaps.items };
+        All (λ leap. IsSafeSkip versions.bytes.now leap.from leap.to) versions.leaps.items };
 }
 
 impl<'a> OverlappingVersions<'a> {
@@ -92,7 +92,7 @@ impl<'a> OverlappingVersions<'a> {
     fn is_passed(&mut self, first: Place, end: usize) -> bool
         requires order { first.at ≤ end }
         requires within { end ≤ length self.old }
-        ensures value { result ≡ can_follow self.old first end }
+        ensures value { result ≡ can_rest_follow_place self.old first end }
         ensures bytes { self.new ≡ self.old }
     {
         let mut begun = first;
@@ -113,7 +113,7 @@ impl<'a> OverlappingVersions<'a> {
         requires order { place.at < end }
         requires within { end ≤ length self.now }
         ensures some { IfSome result (IsNextPlace self.now end place) }
-        ensures none { IfNone result (can_follow self.now place end ≡ false) }
+        ensures none { IfNone result (can_rest_follow_place self.now place end ≡ false) }
     {
         match self.leap(place, end) {
             Some(to) => Some(to),
@@ -141,8 +141,8 @@ impl<'a> OverlappingVersions<'a> {
     /// Records the leap from one place to another if the second is in another block, and returns
     /// the place where the next leap begins.
     fn pass(&mut self, begun: Place, place: Place) -> Place
-        requires { IsLeap self.old begun place }
-        ensures leads { IsLeap self.old result place }
+        requires { IsSafeSkip self.old begun place }
+        ensures leads { IsSafeSkip self.old result place }
         ensures bytes { self.new ≡ self.old }
     {
         if place.at / BYTES_PER_LEAP == begun.at / BYTES_PER_LEAP {
@@ -154,7 +154,7 @@ impl<'a> OverlappingVersions<'a> {
 
     /// Records a leap, in place of any other over the same block.
     fn remember(&mut self, from: Place, to: Place)
-        requires { IsLeap self.old from to }
+        requires { IsSafeSkip self.old from to }
         ensures { self.new ≡ self.old }
     {
         let block = from.at / BYTES_PER_LEAP;
@@ -189,11 +189,11 @@ fn first_place(bytes: &[u8], from: usize, end: usize) -> Option<Place>
     requires order { from ≤ end }
     requires within { end ≤ length bytes.now }
     ensures some { IfSome result (λ place. (place.at ≤ end)
-        × (is_version (slice_range bytes.now from end) ≡ can_follow bytes.now place end)) }
+        × (is_version (slice_range bytes.now from end) ≡ can_rest_follow_place bytes.now place end)) }
     ensures none { IfNone result (is_version (slice_range bytes.now from end) ≡ false) }
 {
     let (class, len) = first_token(None, &bytes[from..end]);
-    if class.is_last() {
+    if class.is_last_token_class() {
         return None;
     }
     Some(Place {
@@ -207,7 +207,7 @@ fn place_after_lexeme(bytes: &[u8], place: Place, end: usize) -> Option<Place>
     requires order { place.at < end }
     requires within { end ≤ length bytes.now }
     ensures some { IfSome result (IsNextPlace bytes.now end place) }
-    ensures none { IfNone result (can_follow bytes.now place end ≡ false) }
+    ensures none { IfNone result (can_rest_follow_place bytes.now place end ≡ false) }
 {
     let len = (end - place.at).min(BYTES_PER_LEAP);
     let digits = unread_digits(place.class, &bytes[place.at..place.at + len]);
@@ -236,10 +236,10 @@ fn place_after_token(bytes: &[u8], place: Place, end: usize) -> Option<Place>
     requires within { end ≤ length bytes.now }
     requires none { unread_len (Some place.class) (slice_range bytes.now place.at end) ≡ 0 }
     ensures some { IfSome result (IsNextPlace bytes.now end place) }
-    ensures none { IfNone result (can_follow bytes.now place end ≡ false) }
+    ensures none { IfNone result (can_rest_follow_place bytes.now place end ≡ false) }
 {
     let (class, len) = first_token(Some(place.class), &bytes[place.at..end]);
-    if class.is_last() {
+    if class.is_last_token_class() {
         return None;
     }
     Some(Place {

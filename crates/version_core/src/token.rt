@@ -4,7 +4,7 @@
 
 ghost use Rattle.std.specs.Prelude.{◌≡◌, ◌<◌, Some, false, [], ◌∷◌, drop, if◌then◌else◌};
 ghost use Rattle.version_core.specs.Token.{is_before_hash, is_before_revision, is_component, is_suffix};
-ghost use Rattle.version_core.specs.Order.{class_rank, is_last, token_cmp, tokens, tokens_after};
+ghost use Rattle.version_core.specs.Order.{class_rank, is_last_token_class, token_cmp, tokens, tokens_after};
 ghost use Rattle.version_core.specs.Matching.{fits};
 ghost use Rattle.version_core.specs.Reading.{bytes_left, token_view, tokens_left, unread_len};
 
@@ -45,8 +45,8 @@ impl Class {
     }
 
     /// Whether no token follows one of this class.
-    pub fn is_last(self) -> bool
-        ensures { result ≡ is_last self }
+    pub fn is_last_token_class(self) -> bool
+        ensures { result ≡ is_last_token_class self }
     {
         matches!(self, Class::End | Class::Stray)
     }
@@ -159,8 +159,8 @@ impl<'a> Tokens<'a> {
     /// one.
     pub fn next(&mut self) -> TokenAt<'a>
         ensures tokens { tokens_left self.old
-            ≡ token_view result ∷ (if is_last result.class then [] else tokens_left self.new) }
-        ensures shorter { is_last result.class ≡ false → bytes_left self.new < bytes_left self.old }
+            ≡ token_view result ∷ (if is_last_token_class result.class then [] else tokens_left self.new) }
+        ensures shorter { is_last_token_class result.class ≡ false → bytes_left self.new < bytes_left self.old }
     {
         let rest = self.unread_text();
         let lexeme = lexeme_at(self.last, rest);

@@ -2,9 +2,9 @@
 //! "Versions"; the operators and their match bits below "An operator has four bits".
 
 ghost use Rattle.std.specs.Prelude.{◌≡◌, IfSome, IsTrue, is_some};
-ghost use Rattle.version_core.specs.Op.{is_op};
+ghost use Rattle.version_core.specs.Op.{is_operator_bits};
 ghost use Rattle.version_core.specs.Order.{is_version, tokens, version_cmp};
-ghost use Rattle.version_core.specs.Matching.{has_bit, op_of, matches};
+ghost use Rattle.version_core.specs.Matching.{has_bit, operator_if_bits, matches};
 
 use crate::fuzzy::is_fuzzy_match;
 use crate::order::compare;
@@ -34,13 +34,13 @@ pub struct Op {
 
 impl Model for Op {
     ghost use Rattle.std.specs.Prelude.{ℕ, IsTrue};
-    ghost use Rattle.version_core.specs.Op.{is_op};
+    ghost use Rattle.version_core.specs.Op.{is_operator_bits};
 
     ghost Value = { ℕ };
 
     ghost view = { λ op. op.bits };
 
-    ghost invariant = { λ op. IsTrue (is_op op.bits) };
+    ghost invariant = { λ op. IsTrue (is_operator_bits op.bits) };
 
     ghost inverse = { λ bits. record { bits = bits } };
 }
@@ -49,7 +49,7 @@ impl Op {
     /// The operator of these bits. None if the bits are 6 or 14 (less or greater without equal) or
     /// above 15.
     pub fn of(bits: u8) -> Option<Op>
-        ensures { result ≡ op_of bits }
+        ensures { result ≡ operator_if_bits bits }
     {
         if bits > 15 || bits == 6 || bits == 14 {
             return None;
@@ -60,7 +60,7 @@ impl Op {
     /// The match bits that the operator was made of.
     pub fn bits(self) -> u8
         ensures bits { result ≡ self }
-        ensures op { IsTrue (is_op self) }
+        ensures op { IsTrue (is_operator_bits self) }
     {
         self.bits
     }

@@ -16,9 +16,9 @@ use Rattle.words_core.specs.declared.options.Meaning.TheVariants.{Flag as Plain}
 use Rattle.words_core.specs.declared.reading.AppletSite.{AppletSite}
 use Rattle.words_core.specs.declared.reading.OptionState.{OptionState}
 use Rattle.words_core.specs.declared.reading.Start.{Start}
-use Rattle.words_core.specs.Grammar.{applet_site, command_from, line_command, command_read, early_flags, first_state, is_double_dash, is_option, line_start, operands_of, option_reading, reading_after_applet, reading_by, site_at, site_after_end, site_by, start_by, start_from, start_with, command_of_reading, with_meaning, with_option, with_spec}
-use Rattle.words_core.specs.Kinds.{can_get_kind}
-use Rattle.words_core.specs.Options.{OptionSpec, applets, common_options, early_words, is_early, option_spelled, options_of}
+use Rattle.words_core.specs.Grammar.{applet_site, spelled_command_from_start, spelled_command, command_read, early_flags, option_state_at_start, is_double_dash, is_option, start_of_command_line, operands_of, option_reading, reading_after_applet, words_reading_from_parts, applet_site_at, site_after_end, applet_site_from_parts, start_from_parts, start_after_site, start_with_early_flags, command_of_reading, flags_with_meaning, flags_with_option_word, flags_with_option}
+use Rattle.words_core.specs.Kinds.{can_info_kind_follow}
+use Rattle.words_core.specs.Options.{OptionSpec, applets, common_options, early_option_words, is_early_option_word, option_of_word, options_of}
 use Rattle.words_core.specs.Stuck.{is_stuck_by, are_options_of}
 use Rattle.words_core.proofs.LinesRead.{by_early}
 use Rattle.words_core.proofs.KindCompleted.{kind_completes}
@@ -49,24 +49,24 @@ says_same (Some o) None = false
 says_same (Some o) (Some v) = is_same_meaning o.meaning v.meaning
 
 abbrev is_as_add : Applet → List ℕ → Bool
-is_as_add applet word = says_same (option_spelled (options_of applet) word) (option_spelled (options_of Add) word)
+is_as_add applet word = says_same (option_of_word (options_of applet) word) (option_of_word (options_of Add) word)
 
 -- the applets that exist, without `add` and `del`
 abbrev other_applets : List Applet
 other_applets = drop 2 applets
 
-today : list_all (λ applet. list_all (is_as_add applet) early_words) other_applets ≡ true
-unfolding common_options options_of early_words
+today : list_all (λ applet. list_all (is_as_add applet) early_option_words) other_applets ≡ true
+unfolding common_options options_of early_option_words
 today = refl
 
-same_flags : (flags more : Flags) (a b : Meaning) → is_same_meaning a b ≡ true → with_meaning flags a ≡ Some more → with_meaning flags b ≡ Some more
+same_flags : (flags more : Flags) (a b : Meaning) → is_same_meaning a b ≡ true → flags_with_meaning flags a ≡ Some more → flags_with_meaning flags b ≡ Some more
 same_flags flags more (Plain AllowUntrusted) (Plain AllowUntrusted) s h = h
 same_flags flags more (Plain NoScripts) (Plain NoScripts) s h = h
 same_flags flags more (Plain Initdb) (Plain Initdb) s h = h
 same_flags flags more (Plain Simulate) (Plain Simulate) s h = h
 same_flags flags more a b s h = absurd (false≢true s)
 
-same_option : (flags more : Flags) (o v : Option OptionSpec) → says_same o v ≡ true → option_and_then (with_spec flags) o ≡ Some more → option_and_then (with_spec flags) v ≡ Some more
+same_option : (flags more : Flags) (o v : Option OptionSpec) → says_same o v ≡ true → option_and_then (flags_with_option flags) o ≡ Some more → option_and_then (flags_with_option flags) v ≡ Some more
 same_option flags more None v s h = absurd (none-some more h)
 same_option flags more (Some o) None s h = absurd (false≢true s)
 same_option flags more (Some o) (Some v) s h = same_flags flags more o.meaning v.meaning s h
@@ -75,7 +75,7 @@ same_option flags more (Some o) (Some v) s h = same_flags flags more o.meaning v
 abbrev IsSuited : Applet → Flags → ℕ → List (List ℕ) → Type 0
 IsSuited applet flags place words = (more : Flags) × (early_flags (options_of applet) flags place words ≡ Ok more)
 
-suited : (applet : Applet) (flags : Flags) (place : ℕ) (words : List (List ℕ)) → list_all (is_as_add applet) early_words ≡ true → applet_site place words ≡ Err (place + length words) → IsSuited applet flags place words → IsSuited Add flags place words
+suited : (applet : Applet) (flags : Flags) (place : ℕ) (words : List (List ℕ)) → list_all (is_as_add applet) early_option_words ≡ true → applet_site place words ≡ Err (place + length words) → IsSuited applet flags place words → IsSuited Add flags place words
 suited applet flags place [] each s f = (flags, refl)
 suited applet flags place (word ∷ words) each s f =
     let next : place + length (word ∷ words) ≡ place + 1 + length words = omega arith in
@@ -83,12 +83,12 @@ suited applet flags place (word ∷ words) each s f =
       | true ↦ λ e. (flags, flags_end (options_of Add) flags place word words e)
       | false ↦ λ e. elim (is_option word) as (λ b. is_option word ≡ b → IsSuited Add flags place (word ∷ words)) [
         | false ↦ λ o. absurd (let same : place + length (word ∷ words) ≡ place = err_here place (place + length (word ∷ words)) false word (sym (seek_here place word words e o) ∙ s) in omega arith)
-        | true ↦ λ o. elim (is_early word) as (λ b. is_early word ≡ b → IsSuited Add flags place (word ∷ words)) [
+        | true ↦ λ o. elim (is_early_option_word word) as (λ b. is_early_option_word word ≡ b → IsSuited Add flags place (word ∷ words)) [
           | false ↦ λ y. absurd (let same : Err place ≡ Err (place + length (word ∷ words)) = sym (seek_late place word words e o y) ∙ s in let is : place ≡ place + length (word ∷ words) = cc in omega arith)
-          | true ↦ λ y. elim (with_option (options_of applet) flags word) as (λ m. with_option (options_of applet) flags word ≡ m → IsSuited Add flags place (word ∷ words)) [
+          | true ↦ λ y. elim (flags_with_option_word (options_of applet) flags word) as (λ m. flags_with_option_word (options_of applet) flags word ≡ m → IsSuited Add flags place (word ∷ words)) [
             | None ↦ λ m. absurd (let none : Err place ≡ Ok f.0 = sym (flags_step (options_of applet) flags place word words None e m) ∙ f.1 in cc)
             | Some g ↦ λ m.
-                let same : with_option (options_of Add) flags word ≡ Some g = same_option flags g (option_spelled (options_of applet) word) (option_spelled (options_of Add) word) (by_early (is_as_add applet) word each y) m in
+                let same : flags_with_option_word (options_of Add) flags word ≡ Some g = same_option flags g (option_of_word (options_of applet) word) (option_of_word (options_of Add) word) (by_early (is_as_add applet) word each y) m in
                 let rest = suited applet g (place + 1) words each (sym (seek_early place word words e o y) ∙ (s ∙ ap Err next)) (f.0, sym (flags_step (options_of applet) flags place word words (Some g) e m) ∙ f.1) in
                 (rest.0, flags_step (options_of Add) flags place word words (Some g) e same ∙ rest.1)
           ] refl
@@ -96,10 +96,10 @@ suited applet flags place (word ∷ words) each s f =
       ] refl
     ] refl
 
-any_suits : (words : List (List ℕ)) (xs : List Applet) → list_all (λ applet. list_all (is_as_add applet) early_words) xs ≡ true → applet_site 1 words ≡ Err (1 + length words) → list_any (are_options_of words) xs ≡ true → IsSuited Add no_flags 1 words
+any_suits : (words : List (List ℕ)) (xs : List Applet) → list_all (λ applet. list_all (is_as_add applet) early_option_words) xs ≡ true → applet_site 1 words ≡ Err (1 + length words) → list_any (are_options_of words) xs ≡ true → IsSuited Add no_flags 1 words
 any_suits words [] each s h = absurd (false≢true h)
 any_suits words (x ∷ xs) each s h =
-    let parts = and_parts (list_all (is_as_add x) early_words) (list_all (λ applet. list_all (is_as_add applet) early_words) xs) each in
+    let parts = and_parts (list_all (is_as_add x) early_option_words) (list_all (λ applet. list_all (is_as_add applet) early_option_words) xs) each in
     elim (early_flags (options_of x) no_flags 1 words) as (λ r. early_flags (options_of x) no_flags 1 words ≡ r → (is_ok r || list_any (are_options_of words) xs) ≡ true → IsSuited Add no_flags 1 words) [
       | Ok more ↦ λ f h. suited x no_flags 1 words parts.0 s (more, f)
       | Err at ↦ λ f h. any_suits words xs parts.1 s h
@@ -116,54 +116,54 @@ one_suits words s h =
       ] refl h
     ] refl h
 
-none_good : (state : OptionState) → IsJudgedGood Add (reading_by state [] None)
-none_good state end = judged_good Add (reading_by state [] None) end refl refl refl
+none_good : (state : OptionState) → IsJudgedGood Add (words_reading_from_parts state [] None)
+none_good state end = judged_good Add (words_reading_from_parts state [] None) end refl refl refl
 
-one_good : (state : OptionState) (place : ℕ) → IsJudgedGood Del (reading_by state (operand_at place (codes "a") ∷ []) None)
-one_good state place end = judged_good Del (reading_by state (operand_at place (codes "a") ∷ []) None) end refl refl refl
+one_good : (state : OptionState) (place : ℕ) → IsJudgedGood Del (words_reading_from_parts state (operand_at place (codes "a") ∷ []) None)
+one_good state place end = judged_good Del (words_reading_from_parts state (operand_at place (codes "a") ∷ []) None) end refl refl refl
 
 -- ---- an applet behind words that lack it: its word, and operands behind it
 
 module _ (applet : Applet) (named : List ℕ) (operands : List (List ℕ))
-    (here : (place : ℕ) → applet_site place (named ∷ operands) ≡ Ok (site_by false place applet))
-    (after_end : (place : ℕ) → site_after_end place (named ∷ operands) ≡ Ok (site_by true place applet))
-    (texts : AreTexts operands) (good : (state : OptionState) (place : ℕ) → IsJudgedGood applet (reading_by state (operands_of place operands) None)) where
+    (here : (place : ℕ) → applet_site place (named ∷ operands) ≡ Ok (applet_site_from_parts false place applet))
+    (after_end : (place : ℕ) → site_after_end place (named ∷ operands) ≡ Ok (applet_site_from_parts true place applet))
+    (texts : AreTexts operands) (good : (state : OptionState) (place : ℕ) → IsJudgedGood applet (words_reading_from_parts state (operands_of place operands) None)) where
   abbrev more : List (List ℕ)
   more = named ∷ operands
 
   -- the words before the applet, whether or not the options have ended
   abbrev IsSought : ℕ → List (List ℕ) → Type 0
-  IsSought place words = (ended : Bool) × (applet_site place (words ++ more) ≡ Ok (site_by ended (place + length words) applet))
+  IsSought place words = (ended : Bool) × (applet_site place (words ++ more) ≡ Ok (applet_site_from_parts ended (place + length words) applet))
 
   end_sought : (place : ℕ) (word : List ℕ) (words : List (List ℕ)) → is_double_dash word ≡ true → site_after_end (place + 1) words ≡ Err (place + length (word ∷ words)) → IsSought place (word ∷ words)
-  unfolding site_after_end site_at
+  unfolding site_after_end applet_site_at
   end_sought place word [] e h = (true, seek_end place word more e ∙ after_end (place + 1))
   end_sought place word (next ∷ words) e h = absurd (let same : place + length (word ∷ (next ∷ words)) ≡ place + 1 = err_here (place + 1) (place + length (word ∷ (next ∷ words))) true next h in omega arith)
 
   sought : (place : ℕ) (words : List (List ℕ)) → applet_site place words ≡ Err (place + length words) → IsSought place words
-  sought place [] h = (false, here place ∙ (let same : place ≡ place + 0 = omega arith in ap (λ k. Ok (site_by false k applet)) same))
+  sought place [] h = (false, here place ∙ (let same : place ≡ place + 0 = omega arith in ap (λ k. Ok (applet_site_from_parts false k applet)) same))
   sought place (word ∷ words) h =
       let next : place + length (word ∷ words) ≡ place + 1 + length words = omega arith in
       elim (is_double_dash word) as (λ b. is_double_dash word ≡ b → IsSought place (word ∷ words)) [
         | true ↦ λ e. end_sought place word words e (sym (seek_end place word words e) ∙ h)
         | false ↦ λ e. elim (is_option word) as (λ b. is_option word ≡ b → IsSought place (word ∷ words)) [
-          | true ↦ λ o. elim (is_early word) as (λ b. is_early word ≡ b → IsSought place (word ∷ words)) [
+          | true ↦ λ o. elim (is_early_option_word word) as (λ b. is_early_option_word word ≡ b → IsSought place (word ∷ words)) [
             | false ↦ λ y. absurd (let same : Err place ≡ Err (place + length (word ∷ words)) = sym (seek_late place word words e o y) ∙ h in let is : place ≡ place + length (word ∷ words) = cc in omega arith)
             | true ↦ λ y. (let rest = sought (place + 1) words (sym (seek_early place word words e o y) ∙ (h ∙ ap Err next)) in
-                (rest.0, seek_early place word (words ++ more) e o y ∙ (rest.1 ∙ ap (λ k. Ok (site_by rest.0 k applet)) (sym next))))
+                (rest.0, seek_early place word (words ++ more) e o y ∙ (rest.1 ∙ ap (λ k. Ok (applet_site_from_parts rest.0 k applet)) (sym next))))
           ] refl
           | false ↦ λ o. absurd (let same : place + length (word ∷ words) ≡ place = err_here place (place + length (word ∷ words)) false word (sym (seek_here place word words e o) ∙ h) in omega arith)
         ] refl
       ] refl
 
-  from_named : (start : Start) (words : List (List ℕ)) → start.applet ≡ applet → start.read ≡ 1 + length words → reading_after_applet start (words ++ more) ≡ reading_by (first_state start.flags) (operands_of (start.read + 1) operands) None
+  from_named : (start : Start) (words : List (List ℕ)) → start.applet ≡ applet → start.read ≡ 1 + length words → reading_after_applet start (words ++ more) ≡ words_reading_from_parts (option_state_at_start start.flags) (operands_of (start.read + 1) operands) None
   unfolding reading_after_applet
   from_named start words v r =
-      subst (λ left. (if start.ended then reading_by (first_state start.flags) (operands_of (start.read + 1) left) None else option_reading (options_of start.applet) (first_state start.flags) (start.read + 1) left) ≡ reading_by (first_state start.flags) (operands_of (start.read + 1) operands) None)
+      subst (λ left. (if start.ended then words_reading_from_parts (option_state_at_start start.flags) (operands_of (start.read + 1) left) None else option_reading (options_of start.applet) (option_state_at_start start.flags) (start.read + 1) left) ≡ words_reading_from_parts (option_state_at_start start.flags) (operands_of (start.read + 1) operands) None)
       (sym (ap (λ k. drop k (words ++ more)) r ∙ named_after words named operands))
-      (elim start.ended as (λ b. (if b then reading_by (first_state start.flags) (operands_of (start.read + 1) operands) None else option_reading (options_of start.applet) (first_state start.flags) (start.read + 1) operands) ≡ reading_by (first_state start.flags) (operands_of (start.read + 1) operands) None) [
+      (elim start.ended as (λ b. (if b then words_reading_from_parts (option_state_at_start start.flags) (operands_of (start.read + 1) operands) None else option_reading (options_of start.applet) (option_state_at_start start.flags) (start.read + 1) operands) ≡ words_reading_from_parts (option_state_at_start start.flags) (operands_of (start.read + 1) operands) None) [
         | true ↦ refl
-        | false ↦ texts (options_of start.applet) (first_state start.flags) (start.read + 1) refl
+        | false ↦ texts (options_of start.applet) (option_state_at_start start.flags) (start.read + 1) refl
       ])
 
   take_all : (ws : List (List ℕ)) → take (length ws) ws ≡ ws
@@ -171,36 +171,36 @@ module _ (applet : Applet) (named : List ℕ) (operands : List (List ℕ))
   take_all (w ∷ ws) = ap (λ xs. w ∷ xs) (take_all ws)
 
   completed_by : (words : List (List ℕ)) → applet_site 1 words ≡ Err (1 + length words) → IsSuited applet no_flags 1 words → CanBeCompleted words
-  unfolding line_command
+  unfolding spelled_command
   completed_by words h flags =
       let found = sought 1 words h in
-      let site : AppletSite = site_by found.0 (1 + length words) applet in
-      let start : Start = start_by site flags.0 in
-      let reading = reading_by (first_state flags.0) (operands_of (1 + length words + 1) operands) None in
+      let site : AppletSite = applet_site_from_parts found.0 (1 + length words) applet in
+      let start : Start = start_from_parts site flags.0 in
+      let reading = words_reading_from_parts (option_state_at_start flags.0) (operands_of (1 + length words + 1) operands) None in
       let before : 1 + length words - 1 ≡ length words = omega arith in
       let early : early_flags (options_of applet) no_flags 1 (take (1 + length words - 1) (words ++ more)) ≡ Ok flags.0 =
       ap (λ n. early_flags (options_of applet) no_flags 1 (take n (words ++ more))) before
       ∙ (ap (early_flags (options_of applet) no_flags 1) (take_stays (length words) words more (omega arith) ∙ take_all words) ∙ flags.1) in
-      let is : line_start (words ++ more) ≡ Ok start = ap (start_from (words ++ more)) found.1 ∙ ap (start_with site) early in (
+      let is : start_of_command_line (words ++ more) ≡ Ok start = ap (start_after_site (words ++ more)) found.1 ∙ ap (start_with_early_flags site) early in (
         more,
         command_read (length (words ++ more) + 1) applet reading,
-        ap (command_from (words ++ more)) is ∙ (ap (command_of_reading (length (words ++ more) + 1) applet) (from_named start words refl refl) ∙ good (first_state flags.0) (1 + length words + 1) (length (words ++ more) + 1)),
+        ap (spelled_command_from_start (words ++ more)) is ∙ (ap (command_of_reading (length (words ++ more) + 1) applet) (from_named start words refl refl) ∙ good (option_state_at_start flags.0) (1 + length words + 1) (length (words ++ more) + 1)),
       )
 
-add_here : (place : ℕ) → applet_site place (codes "add" ∷ []) ≡ Ok (site_by false place Add)
-unfolding site_at
+add_here : (place : ℕ) → applet_site place (codes "add" ∷ []) ≡ Ok (applet_site_from_parts false place Add)
+unfolding applet_site_at
 add_here place = refl
 
-add_after : (place : ℕ) → site_after_end place (codes "add" ∷ []) ≡ Ok (site_by true place Add)
-unfolding site_at site_after_end
+add_after : (place : ℕ) → site_after_end place (codes "add" ∷ []) ≡ Ok (applet_site_from_parts true place Add)
+unfolding applet_site_at site_after_end
 add_after place = refl
 
-del_here : (place : ℕ) → applet_site place (codes "del" ∷ (codes "a" ∷ [])) ≡ Ok (site_by false place Del)
-unfolding site_at
+del_here : (place : ℕ) → applet_site place (codes "del" ∷ (codes "a" ∷ [])) ≡ Ok (applet_site_from_parts false place Del)
+unfolding applet_site_at
 del_here place = refl
 
-del_after : (place : ℕ) → site_after_end place (codes "del" ∷ (codes "a" ∷ [])) ≡ Ok (site_by true place Del)
-unfolding site_at site_after_end
+del_after : (place : ℕ) → site_after_end place (codes "del" ∷ (codes "a" ∷ [])) ≡ Ok (applet_site_from_parts true place Del)
+unfolding applet_site_at site_after_end
 del_after place = refl
 
 pub applet_completed : (words : List (List ℕ)) → applet_site 1 words ≡ Err (1 + length words) → list_any (are_options_of words) applets ≡ true → CanBeCompleted words
@@ -213,31 +213,31 @@ applet_completed words h k =
 -- whether words can become no line: no applet has all the options before it, or they are stuck behind it
 abbrev pub line_stuck_by : List (List ℕ) → Result AppletSite ℕ → Bool
 line_stuck_by words (Err place) = not (list_any (are_options_of words) applets)
-line_stuck_by words (Ok site) = is_stuck_by words (start_from words (Ok site))
+line_stuck_by words (Ok site) = is_stuck_by words (start_after_site words (Ok site))
 
 unfoldable pub line_stuck : List (List ℕ) → Bool
 line_stuck words = line_stuck_by words (applet_site 1 words)
 
-pub completed_unless : (words : List (List ℕ)) → line_stuck words ≡ false → line_command words ≡ Err (length words + 1) → CanBeCompleted words
-unfolding line_command line_stuck
+pub completed_unless : (words : List (List ℕ)) → line_stuck words ≡ false → spelled_command words ≡ Err (length words + 1) → CanBeCompleted words
+unfolding spelled_command line_stuck
 completed_unless words k c =
     elim (applet_site 1 words) as (λ s. applet_site 1 words ≡ s → line_stuck_by words s ≡ false → CanBeCompleted words) [
       | Err at ↦ λ s k.
-          (let none : Err at ≡ Err (length words + 1) = sym (ap (λ r. command_from words (start_from words r)) s) ∙ c in
+          (let none : Err at ≡ Err (length words + 1) = sym (ap (λ r. spelled_command_from_start words (start_after_site words r)) s) ∙ c in
           let same : at ≡ length words + 1 = cc in
           let is : at ≡ 1 + length words = omega arith in
           applet_completed words (s ∙ ap Err is) (is_so (list_any (are_options_of words) applets) k))
-      | Ok site ↦ λ s k. by_start site s (line_start words) refl (ap (λ r. is_stuck_by words (start_from words r)) s ∙ k)
+      | Ok site ↦ λ s k. by_start site s (start_of_command_line words) refl (ap (λ r. is_stuck_by words (start_after_site words r)) s ∙ k)
     ] refl k
   where
     is_so : (b : Bool) → not b ≡ false → b ≡ true
     is_so true h = refl
     is_so false h = sym h
 
-    by_start : (site : AppletSite) → applet_site 1 words ≡ Ok site → (r : Result Start ℕ) → line_start words ≡ r → is_stuck_by words (line_start words) ≡ false → CanBeCompleted words
-    by_start site found (Ok start) s k = completed_from words start (sym (ap (is_stuck_by words) s) ∙ k) s (sym (ap (command_from words) s) ∙ c)
+    by_start : (site : AppletSite) → applet_site 1 words ≡ Ok site → (r : Result Start ℕ) → start_of_command_line words ≡ r → is_stuck_by words (start_of_command_line words) ≡ false → CanBeCompleted words
+    by_start site found (Ok start) s k = completed_from words start (sym (ap (is_stuck_by words) s) ∙ k) s (sym (ap (spelled_command_from_start words) s) ∙ c)
     by_start site found (Err at) s k =
-        let none : Err at ≡ Err (length words + 1) = sym (ap (command_from words) s) ∙ c in
+        let none : Err at ≡ Err (length words + 1) = sym (ap (spelled_command_from_start words) s) ∙ c in
         let same : at ≡ length words + 1 = cc in
         elim (no_start words at s) as (λ _. CanBeCompleted words) [
           | inl e ↦ absurd (let both : Ok site ≡ Err at = sym found ∙ e in cc)
@@ -245,10 +245,10 @@ completed_unless words k c =
         ]
 
 -- the words before a usage error can be completed
-pub usage_is_first : (words : List (List ℕ)) (place : ℕ) → not (line_stuck (take (place - 1) words)) ≡ true → line_command words ≡ Err place → CanBeCompleted (take (place - 1) words)
+pub usage_is_first : (words : List (List ℕ)) (place : ℕ) → not (line_stuck (take (place - 1) words)) ≡ true → spelled_command words ≡ Err place → CanBeCompleted (take (place - 1) words)
 usage_is_first words place n c =
-    elim (line_command (take (place - 1) words)) as (λ r. line_command (take (place - 1) words) ≡ r → CanBeCompleted (take (place - 1) words)) [
-      | Ok command ↦ λ e. ([], command, ap line_command (append-nil (take (place - 1) words)) ∙ e)
+    elim (spelled_command (take (place - 1) words)) as (λ r. spelled_command (take (place - 1) words) ≡ r → CanBeCompleted (take (place - 1) words)) [
+      | Ok command ↦ λ e. ([], command, ap spelled_command (append-nil (take (place - 1) words)) ∙ e)
       | Err at ↦ λ e. by_place at e (usage_between (take (place - 1) words) at e)
     ] refl
   where
@@ -258,19 +258,19 @@ usage_is_first words place n c =
     size : length (take (place - 1) words) ≡ place - 1
     size = length-take-le (place - 1) words (omega (arith, bounds.0, bounds.1))
 
-    whole : line_command (take (place - 1) words ++ drop (place - 1) words) ≡ Err place
-    whole = ap line_command (take-append-drop (place - 1) words) ∙ c
+    whole : spelled_command (take (place - 1) words ++ drop (place - 1) words) ≡ Err place
+    whole = ap spelled_command (take-append-drop (place - 1) words) ∙ c
 
-    no_earlier : (at : ℕ) → can_get_kind (take (place - 1) words) ≡ false → line_command (take (place - 1) words) ≡ Err at → at ≤ length (take (place - 1) words) → at ≡ place
+    no_earlier : (at : ℕ) → can_info_kind_follow (take (place - 1) words) ≡ false → spelled_command (take (place - 1) words) ≡ Err at → at ≤ length (take (place - 1) words) → at ≡ place
     no_earlier at k e l = (let same : Err at ≡ Err place = sym (usage_stays (take (place - 1) words) (drop (place - 1) words) at k e l) ∙ whole in cc)
 
-    by_kind : (at : ℕ) → line_command (take (place - 1) words) ≡ Err at → at ≤ length (take (place - 1) words) → CanBeCompleted (take (place - 1) words)
-    by_kind at e l = elim (can_get_kind (take (place - 1) words)) as (λ k. can_get_kind (take (place - 1) words) ≡ k → CanBeCompleted (take (place - 1) words)) [
+    by_kind : (at : ℕ) → spelled_command (take (place - 1) words) ≡ Err at → at ≤ length (take (place - 1) words) → CanBeCompleted (take (place - 1) words)
+    by_kind at e l = elim (can_info_kind_follow (take (place - 1) words)) as (λ k. can_info_kind_follow (take (place - 1) words) ≡ k → CanBeCompleted (take (place - 1) words)) [
       | true ↦ λ k. kind_completes (take (place - 1) words) (drop (place - 1) words) at place k e l whole (omega (arith, bounds.0, size)) (omega (arith, length-append (take (place - 1) words) (drop (place - 1) words)))
       | false ↦ λ k. absurd (let same : at ≡ place = no_earlier at k e l in omega (arith, bounds.0, size))
     ] refl
 
-    by_place : (at : ℕ) → line_command (take (place - 1) words) ≡ Err at → (1 ≤ at) × (at ≤ length (take (place - 1) words) + 1) → CanBeCompleted (take (place - 1) words)
+    by_place : (at : ℕ) → spelled_command (take (place - 1) words) ≡ Err at → (1 ≤ at) × (at ≤ length (take (place - 1) words) + 1) → CanBeCompleted (take (place - 1) words)
     by_place at e between = elim (cases_lt at (length (take (place - 1) words) + 1)) as (λ _. CanBeCompleted (take (place - 1) words)) [
       | inl less ↦ by_kind at e (omega arith)
       | inr more ↦ (let same : at ≡ length (take (place - 1) words) + 1 = omega (arith, between.1) in completed_unless (take (place - 1) words) (not-true (line_stuck (take (place - 1) words)) n) (e ∙ ap Err same))

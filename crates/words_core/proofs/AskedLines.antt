@@ -11,13 +11,13 @@ use Rattle.command_core.specs.declared.operands.Operand.{Operand}
 use Rattle.command_core.specs.declared.operands.OperandRule.{OperandRule}
 use Rattle.command_core.specs.declared.values.ValueRule.{ValueRule}
 use Rattle.command_core.specs.Applets.{operand_rule}
-use Rattle.command_core.specs.Operands.{first_refused}
+use Rattle.command_core.specs.Operands.{first_refused_operand}
 use Rattle.words_core.specs.declared.next.NextWord.TheVariants.{OptionOrOperand, Operand as OperandAlone, Value as NextValue}
 use Rattle.words_core.specs.declared.reading.Reading.{Reading}
 use Rattle.words_core.specs.declared.reading.Start.{Start}
-use Rattle.words_core.specs.Grammar.{asked_at, command_from, first_state, line_command, line_start, next_after, next_words, operands_of, option_reading, reading_after_applet, reading_by, refused_operand, start_from, takes_option}
-use Rattle.words_core.specs.Options.{OptionSpec, asked_by, options_of}
-use Rattle.words_core.specs.Stuck.{have_ended}
+use Rattle.words_core.specs.Grammar.{help_or_version_option_at, spelled_command_from_start, option_state_at_start, spelled_command, start_of_command_line, next_after, next_words, operands_of, option_reading, reading_after_applet, words_reading_from_parts, refused_operand, start_after_site, can_be_option}
+use Rattle.words_core.specs.Options.{OptionSpec, applet_of_help_or_version_option, options_of}
+use Rattle.words_core.specs.Stuck.{have_options_ended}
 use Rattle.words_core.proofs.Asked.{HasNoMeaning, asks_first, asks_now, awaited_next, ended_alone, found_next, next_at, next_behind, operand_stays}
 use Rattle.words_core.proofs.GoneOn.{from_going, IsRemovedPackage}
 use Rattle.words_core.proofs.KindsKept.{IsPlain, start_known, start_parts}
@@ -27,7 +27,7 @@ use Rattle.words_core.proofs.Sites.{foreign_between, no_start, no_start_stays, s
 
 -- ---- what can follow the words before, by their start
 
-pub next_of_start : (words : List (List ℕ)) (start : Start) → line_start words ≡ Ok start → next_after words ≡ next_words (if start.ended then OperandAlone start.applet else OptionOrOperand start.applet) (drop start.read words)
+pub next_of_start : (words : List (List ℕ)) (start : Start) → start_of_command_line words ≡ Ok start → next_after words ≡ next_words (if start.ended then OperandAlone start.applet else OptionOrOperand start.applet) (drop start.read words)
 next_of_start words start s =
     let parts = start_parts words start s in
     let found = found_next 1 words parts.site parts.found in
@@ -37,19 +37,19 @@ next_of_start words start s =
     ∙ ap (λ (x : Start). next_words (if x.ended then OperandAlone x.applet else OptionOrOperand x.applet) (drop x.read words)) parts.same)
 
 -- where options have ended, none can follow
-pub ended_next : (words : List (List ℕ)) (start : Start) → line_start words ≡ Ok start → (start.ended || have_ended (options_of start.applet) None (drop start.read words)) ≡ true → next_after words ≡ OperandAlone start.applet
+pub ended_next : (words : List (List ℕ)) (start : Start) → start_of_command_line words ≡ Ok start → (start.ended || have_options_ended (options_of start.applet) None (drop start.read words)) ≡ true → next_after words ≡ OperandAlone start.applet
 ended_next words start s h =
     next_of_start words start s
-    ∙ elim start.ended as (λ b. (b || have_ended (options_of start.applet) None (drop start.read words)) ≡ true → next_words (if b then OperandAlone start.applet else OptionOrOperand start.applet) (drop start.read words) ≡ OperandAlone start.applet) [
+    ∙ elim start.ended as (λ b. (b || have_options_ended (options_of start.applet) None (drop start.read words)) ≡ true → next_words (if b then OperandAlone start.applet else OptionOrOperand start.applet) (drop start.read words) ≡ OperandAlone start.applet) [
       | true ↦ λ h. operand_stays start.applet (drop start.read words)
       | false ↦ λ h. ended_alone start.applet None (drop start.read words) h
     ] h
 
 -- where an option can follow, options have not ended
-pub not_ended : (words : List (List ℕ)) (start : Start) → line_start words ≡ Ok start → takes_option (next_after words) ≡ true → (start.ended || have_ended (options_of start.applet) None (drop start.read words)) ≡ false
+pub not_ended : (words : List (List ℕ)) (start : Start) → start_of_command_line words ≡ Ok start → can_be_option (next_after words) ≡ true → (start.ended || have_options_ended (options_of start.applet) None (drop start.read words)) ≡ false
 not_ended words start s t =
-    elim (start.ended || have_ended (options_of start.applet) None (drop start.read words)) as (λ b. (start.ended || have_ended (options_of start.applet) None (drop start.read words)) ≡ b → b ≡ false) [
-      | true ↦ λ e. absurd (false≢true (sym (ap takes_option (ended_next words start s e)) ∙ t))
+    elim (start.ended || have_options_ended (options_of start.applet) None (drop start.read words)) as (λ b. (start.ended || have_options_ended (options_of start.applet) None (drop start.read words)) ≡ b → b ≡ false) [
+      | true ↦ λ e. absurd (false≢true (sym (ap can_be_option (ended_next words start s e)) ∙ t))
       | false ↦ λ e. refl
     ] refl
 
@@ -59,9 +59,9 @@ unfolding reading_after_applet
 awaited_after words start rule l a u =
     let left = drop start.read words in
     let ends : length words + 1 ≡ start.read + 1 + length (drop start.read words) = omega (arith, length-drop start.read words) in
-    elim start.ended as (λ b. (if b then reading_by (first_state start.flags) (operands_of (start.read + 1) left) None else option_reading (options_of start.applet) (first_state start.flags) (start.read + 1) left).state.awaiting ≡ Some rule → (if b then reading_by (first_state start.flags) (operands_of (start.read + 1) left) None else option_reading (options_of start.applet) (first_state start.flags) (start.read + 1) left).unread ≡ Some (length words + 1) → next_words (if b then OperandAlone start.applet else OptionOrOperand start.applet) (drop start.read words) ≡ NextValue start.applet rule) [
+    elim start.ended as (λ b. (if b then words_reading_from_parts (option_state_at_start start.flags) (operands_of (start.read + 1) left) None else option_reading (options_of start.applet) (option_state_at_start start.flags) (start.read + 1) left).state.awaiting ≡ Some rule → (if b then words_reading_from_parts (option_state_at_start start.flags) (operands_of (start.read + 1) left) None else option_reading (options_of start.applet) (option_state_at_start start.flags) (start.read + 1) left).unread ≡ Some (length words + 1) → next_words (if b then OperandAlone start.applet else OptionOrOperand start.applet) (drop start.read words) ≡ NextValue start.applet rule) [
       | true ↦ λ a u. absurd (none-some (length words + 1) u)
-      | false ↦ λ a u. awaited_next start.applet (first_state start.flags) (start.read + 1) left rule a (u ∙ ap Some ends)
+      | false ↦ λ a u. awaited_next start.applet (option_state_at_start start.flags) (start.read + 1) left rule a (u ∙ ap Some ends)
     ] a u
 
 -- the first that offends in what was read, and before the end of the words
@@ -77,18 +77,18 @@ pub record IsFree (applet : Applet) (reading : Reading) : Type 0 where
 abbrev pub IsAskedIn : ℕ → Applet → Reading → Reading → Type 0
 IsAskedIn end applet reading longer =
     (IsBad end applet reading × (longer ≡ reading))
-    ⊎ ((reading.unread ≡ None) × (longer ≡ reading_by reading.state reading.operands (Some end)))
+    ⊎ ((reading.unread ≡ None) × (longer ≡ words_reading_from_parts reading.state reading.operands (Some end)))
 
 -- the first that offends, where a word cannot be read
 pub first_near : (low end : ℕ) (rule : Option OperandRule) (operands : List Operand) (at : ℕ) → AllBetween low end operands → at < end → (p : ℕ) × (option_or (refused_operand rule operands) (Some at) ≡ Some p) × (p < end)
 first_near low end None operands at p l = (at, refl, l)
 first_near low end (Some rule) operands at p l =
-    elim (first_refused rule 0 operands) as (λ o. first_refused rule 0 operands ≡ o → (q : ℕ) × (option_or o (Some at) ≡ Some q) × (q < end)) [
+    elim (first_refused_operand rule 0 operands) as (λ o. first_refused_operand rule 0 operands ≡ o → (q : ℕ) × (option_or o (Some at) ≡ Some q) × (q < end)) [
       | None ↦ λ f. (at, refl, l)
       | Some q ↦ λ f. (q, refl, (refused_between rule 0 low end q operands p f).1)
     ] refl
 
-asked_in : (words after : List (List ℕ)) (start : Start) (word : List ℕ) → HasNoMeaning word → line_start words ≡ Ok start → takes_option (next_after words) ≡ true → IsAskedIn (length words + 1) start.applet (reading_after_applet start words) (reading_after_applet start (words ++ (word ∷ after)))
+asked_in : (words after : List (List ℕ)) (start : Start) (word : List ℕ) → HasNoMeaning word → start_of_command_line words ≡ Ok start → can_be_option (next_after words) ≡ true → IsAskedIn (length words + 1) start.applet (reading_after_applet start words) (reading_after_applet start (words ++ (word ∷ after)))
 asked_in words after start word m s t = by_going (from_going start words low)
   where
     end : ℕ
@@ -101,7 +101,7 @@ asked_in words after start word m s t = by_going (from_going start words low)
     reading = reading_after_applet start words
 
     ended : Bool
-    ended = start.ended || have_ended options None (drop start.read words)
+    ended = start.ended || have_options_ended options None (drop start.read words)
 
     known : IsPlain start (1 + length words)
     known = start_known words start s
@@ -117,9 +117,9 @@ asked_in words after start word m s t = by_going (from_going start words low)
       u,
       on (word ∷ after)
           ∙ (ap (behind reading.operands) (asks_now start.applet reading.state end word after m a)
-          ∙ ap (λ os. reading_by reading.state os (Some end)) (append-nil reading.operands)),
+          ∙ ap (λ os. words_reading_from_parts reading.state os (Some end)) (append-nil reading.operands)),
     )
-    by_awaiting (Some rule) a u on = absurd (false≢true (sym (ap takes_option (next_of_start words start s ∙ awaited_after words start rule low a u)) ∙ t))
+    by_awaiting (Some rule) a u on = absurd (false≢true (sym (ap can_be_option (next_of_start words start s ∙ awaited_after words start rule low a u)) ∙ t))
 
     by_going : IsRemovedPackage options end ended reading (λ more. reading_after_applet start (words ++ more)) → IsAskedIn end start.applet reading (reading_after_applet start (words ++ (word ∷ after)))
     by_going (inl stopped) =
@@ -132,21 +132,21 @@ asked_in words after start word m s t = by_going (from_going start words low)
 
 -- a word of these offends
 abbrev pub Offends : List (List ℕ) → Type 0
-Offends words = (place : ℕ) × (line_command words ≡ Err place) × (place ≤ length words)
+Offends words = (place : ℕ) × (spelled_command words ≡ Err place) × (place ≤ length words)
 
 -- none of these words offends
 abbrev pub AreFine : List (List ℕ) → Type 0
-AreFine words = (place : ℕ) → line_command words ≡ Err place → length words < place
+AreFine words = (place : ℕ) → spelled_command words ≡ Err place → length words < place
 
 abbrev pub IsAskedAfter : List (List ℕ) → List (List ℕ) → Type 0
 IsAskedAfter before all =
-    ((bad : Offends before) × (line_command all ≡ Err bad.0))
-    ⊎ (AreFine before × (line_command all ≡ Err (length before + 1)))
+    ((bad : Offends before) × (spelled_command all ≡ Err bad.0))
+    ⊎ (AreFine before × (spelled_command all ≡ Err (length before + 1)))
 
-pub asked_after : (before after : List (List ℕ)) (word : List ℕ) → HasNoMeaning word → takes_option (next_after before) ≡ true → IsAskedAfter before (before ++ (word ∷ after))
-unfolding line_command
+pub asked_after : (before after : List (List ℕ)) (word : List ℕ) → HasNoMeaning word → can_be_option (next_after before) ≡ true → IsAskedAfter before (before ++ (word ∷ after))
+unfolding spelled_command
 asked_after before after word m t =
-    elim (line_start before) as (λ s. line_start before ≡ s → IsAskedAfter before (before ++ (word ∷ after))) [
+    elim (start_of_command_line before) as (λ s. start_of_command_line before ≡ s → IsAskedAfter before (before ++ (word ∷ after))) [
       | Err at ↦ λ s. no_applet at s (cases_lt at (length before + 1))
       | Ok start ↦ λ s. by_reading start s (asked_in before after start word m s t)
     ] refl
@@ -154,20 +154,20 @@ asked_after before after word m t =
     all : List (List ℕ)
     all = before ++ (word ∷ after)
 
-    fails : (at : ℕ) → line_start before ≡ Err at → line_command before ≡ Err at
-    fails at s = ap (command_from before) s
+    fails : (at : ℕ) → start_of_command_line before ≡ Err at → spelled_command before ≡ Err at
+    fails at s = ap (spelled_command_from_start before) s
 
-    no_applet : (at : ℕ) → line_start before ≡ Err at → (at < length before + 1) ⊎ (length before + 1 ≤ at) → IsAskedAfter before all
+    no_applet : (at : ℕ) → start_of_command_line before ≡ Err at → (at < length before + 1) ⊎ (length before + 1 ≤ at) → IsAskedAfter before all
     no_applet at s (inl less) =
         let low : at ≤ length before = omega (arith, less) in
-        inl ((at, fails at s, low), ap (command_from all) (no_start_stays before (word ∷ after) at s low))
+        inl ((at, fails at s, low), ap (spelled_command_from_start all) (no_start_stays before (word ∷ after) at s low))
     no_applet at s (inr more) =
         let between = usage_between before at (fails at s) in
         let is : at ≡ 1 + length before = omega (arith, between.1, more) in
         elim (no_start before at s) as (λ _. IsAskedAfter before all) [
           | inl none ↦ inr (
             λ place e. (let same : Err at ≡ Err place = sym (fails at s) ∙ e in let here : at ≡ place = cc in omega (arith, is)),
-            ap (λ r. command_from all (start_from all r)) (asks_first 1 before after word m t (none ∙ ap Err is)) ∙ (let same : 1 + length before ≡ length before + 1 = omega arith in ap Err same),
+            ap (λ r. spelled_command_from_start all (start_after_site all r)) (asks_first 1 before after word m t (none ∙ ap Err is)) ∙ (let same : 1 + length before ≡ length before + 1 = omega arith in ap Err same),
           )
           | inr f ↦ absurd (let far = foreign_between before at f in omega (arith, far.1, more))
         ]
@@ -176,14 +176,14 @@ asked_after before after word m t =
     refused_near None low end at operands p e = absurd (none-some at e)
     refused_near (Some rule) low end at operands p e = (refused_between rule 0 low end at operands p e).1
 
-    by_operands : (start : Start) → line_start before ≡ Ok start → (reading_after_applet start before).unread ≡ None → reading_after_applet start all ≡ reading_by (reading_after_applet start before).state (reading_after_applet start before).operands (Some (length before + 1)) → (o : Option ℕ) → refused_operand (operand_rule start.applet (reading_after_applet start before).state.flags) (reading_after_applet start before).operands ≡ o → IsAskedAfter before all
+    by_operands : (start : Start) → start_of_command_line before ≡ Ok start → (reading_after_applet start before).unread ≡ None → reading_after_applet start all ≡ words_reading_from_parts (reading_after_applet start before).state (reading_after_applet start before).operands (Some (length before + 1)) → (o : Option ℕ) → refused_operand (operand_rule start.applet (reading_after_applet start before).state.flags) (reading_after_applet start before).operands ≡ o → IsAskedAfter before all
     by_operands start s u l None r =
         let known : IsPlain start (1 + length before) = start_known before start s in
         let longer : option_or (refused_operand (operand_rule start.applet (reading_after_applet start all).state.flags) (reading_after_applet start all).operands) (reading_after_applet start all).unread ≡ Some (length before + 1) =
         ap (λ (x : Reading). option_or (refused_operand (operand_rule start.applet x.state.flags) x.operands) x.unread) l ∙ ap (λ o. option_or o (Some (length before + 1))) r in
         inr (
-          λ place e. far place (judged_at start.applet (reading_after_applet start before) (length before + 1) place (sym (ap (command_from before) s) ∙ e)),
-          ap (command_from all) (start_stays before (word ∷ after) start s) ∙ judged_bad start.applet (reading_after_applet start all) (length all + 1) (length before + 1) longer,
+          λ place e. far place (judged_at start.applet (reading_after_applet start before) (length before + 1) place (sym (ap (spelled_command_from_start before) s) ∙ e)),
+          ap (spelled_command_from_start all) (start_stays before (word ∷ after) start s) ∙ judged_bad start.applet (reading_after_applet start all) (length all + 1) (length before + 1) longer,
         )
       where
         nothing : option_or (refused_operand (operand_rule start.applet (reading_after_applet start before).state.flags) (reading_after_applet start before).operands) (reading_after_applet start before).unread ≡ None
@@ -199,18 +199,18 @@ asked_after before after word m t =
         let longer : option_or (refused_operand (operand_rule start.applet (reading_after_applet start all).state.flags) (reading_after_applet start all).operands) (reading_after_applet start all).unread ≡ Some at =
         ap (λ (x : Reading). option_or (refused_operand (operand_rule start.applet x.state.flags) x.operands) x.unread) l ∙ ap (λ o. option_or o (Some (length before + 1))) r in
         inl (
-          (at, ap (command_from before) s ∙ judged_bad start.applet (reading_after_applet start before) (length before + 1) at (ap (λ o. option_or o (reading_after_applet start before).unread) r), omega (arith, near)),
-          ap (command_from all) (start_stays before (word ∷ after) start s) ∙ judged_bad start.applet (reading_after_applet start all) (length all + 1) at longer,
+          (at, ap (spelled_command_from_start before) s ∙ judged_bad start.applet (reading_after_applet start before) (length before + 1) at (ap (λ o. option_or o (reading_after_applet start before).unread) r), omega (arith, near)),
+          ap (spelled_command_from_start all) (start_stays before (word ∷ after) start s) ∙ judged_bad start.applet (reading_after_applet start all) (length all + 1) at longer,
         )
 
-    by_reading : (start : Start) → line_start before ≡ Ok start → IsAskedIn (length before + 1) start.applet (reading_after_applet start before) (reading_after_applet start all) → IsAskedAfter before all
+    by_reading : (start : Start) → start_of_command_line before ≡ Ok start → IsAskedIn (length before + 1) start.applet (reading_after_applet start before) (reading_after_applet start all) → IsAskedAfter before all
     by_reading start s (inl same) =
         let bad = same.0 in
         let longer : option_or (refused_operand (operand_rule start.applet (reading_after_applet start all).state.flags) (reading_after_applet start all).operands) (reading_after_applet start all).unread ≡ Some bad.0 =
         ap (λ (r : Reading). option_or (refused_operand (operand_rule start.applet r.state.flags) r.operands) r.unread) same.1 ∙ bad.1 in
         inl (
-          (bad.0, ap (command_from before) s ∙ judged_bad start.applet (reading_after_applet start before) (length before + 1) bad.0 bad.1, omega (arith, bad.2)),
-          ap (command_from all) (start_stays before (word ∷ after) start s) ∙ judged_bad start.applet (reading_after_applet start all) (length all + 1) bad.0 longer,
+          (bad.0, ap (spelled_command_from_start before) s ∙ judged_bad start.applet (reading_after_applet start before) (length before + 1) bad.0 bad.1, omega (arith, bad.2)),
+          ap (spelled_command_from_start all) (start_stays before (word ∷ after) start s) ∙ judged_bad start.applet (reading_after_applet start all) (length all + 1) bad.0 longer,
         )
     by_reading start s (inr free) = by_operands start s free.0 free.1 (refused_operand (operand_rule start.applet (reading_after_applet start before).state.flags) (reading_after_applet start before).operands) refl
 
@@ -224,7 +224,7 @@ pub get_after : (before after : List (List ℕ)) (word : List ℕ) → slice_get
 get_after [] after word = refl
 get_after (w ∷ before) after word = get_after before after word
 
-pub asked_here : (before after : List (List ℕ)) (word : List ℕ) (applet : Applet) → asked_by word ≡ Some applet → takes_option (next_after before) ≡ true → asked_at (before ++ (word ∷ after)) (length before + 1) ≡ Some applet
+pub asked_here : (before after : List (List ℕ)) (word : List ℕ) (applet : Applet) → applet_of_help_or_version_option word ≡ Some applet → can_be_option (next_after before) ≡ true → help_or_version_option_at (before ++ (word ∷ after)) (length before + 1) ≡ Some applet
 asked_here before after word applet a t =
     let count : length before + 1 - 1 ≡ length before = omega arith in
     rw count (rw (take_front before (word ∷ after)) (rw t (rw (get_after before after word) a)))
@@ -233,8 +233,8 @@ asked_here before after word applet a t =
 pub record HasAsked (words : List (List ℕ)) (place : ℕ) (applet : Applet) : Type 0 where
   pub word : List ℕ
   pub after : List (List ℕ)
-  pub asks : asked_by word ≡ Some applet
-  pub option : takes_option (next_after (take (place - 1) words)) ≡ true
+  pub asks : applet_of_help_or_version_option word ≡ Some applet
+  pub option : can_be_option (next_after (take (place - 1) words)) ≡ true
   pub whole : words ≡ take (place - 1) words ++ (word ∷ after)
   pub within : place - 1 < length words
 
@@ -243,11 +243,11 @@ get_within [] i x e = absurd (cc)
 get_within (y ∷ xs) zero x e = omega arith
 get_within (y ∷ xs) (suc i) x e = (let rest = get_within xs i x e in omega (arith, rest))
 
-pub asked_parts : (words : List (List ℕ)) (place : ℕ) (applet : Applet) → asked_at words place ≡ Some applet → HasAsked words place applet
+pub asked_parts : (words : List (List ℕ)) (place : ℕ) (applet : Applet) → help_or_version_option_at words place ≡ Some applet → HasAsked words place applet
 asked_parts words place applet h =
-    elim (takes_option (next_after (take (place - 1) words))) as (λ b. takes_option (next_after (take (place - 1) words)) ≡ b → (if b then option_and_then asked_by (slice_get words (place - 1)) else None) ≡ Some applet → HasAsked words place applet) [
+    elim (can_be_option (next_after (take (place - 1) words))) as (λ b. can_be_option (next_after (take (place - 1) words)) ≡ b → (if b then option_and_then applet_of_help_or_version_option (slice_get words (place - 1)) else None) ≡ Some applet → HasAsked words place applet) [
       | false ↦ λ t (h : None ≡ Some applet). absurd (none-some applet h)
-      | true ↦ λ t. elim (slice_get words (place - 1)) as (λ o. slice_get words (place - 1) ≡ o → option_and_then asked_by o ≡ Some applet → HasAsked words place applet) [
+      | true ↦ λ t. elim (slice_get words (place - 1)) as (λ o. slice_get words (place - 1) ≡ o → option_and_then applet_of_help_or_version_option o ≡ Some applet → HasAsked words place applet) [
         | None ↦ λ g (h : None ≡ Some applet). absurd (none-some applet h)
         | Some word ↦ λ g h. record {
           word = word;

@@ -16,9 +16,9 @@ use Rattle.words_core.specs.declared.next.NextWord.TheVariants.{OptionOrCommand,
 use Rattle.words_core.specs.declared.reading.AppletSite.{AppletSite}
 use Rattle.words_core.specs.declared.reading.Reading.{Reading}
 use Rattle.words_core.specs.declared.reading.Start.{Start}
-use Rattle.words_core.specs.Grammar.{applet_site, asked_at, asked_command, command_from, command_of, is_double_dash, is_option, line_command, line_start, next_after, next_words, option_reading, reading_after_applet, reading_by, refused_operand, site_after_end, start_from, takes_option}
-use Rattle.words_core.specs.Options.{OptionSpec, applets, is_early, options_of}
-use Rattle.words_core.specs.Stuck.{are_stuck, are_stuck_by, awaits_none, have_ended, is_stuck_by, lacks_option, are_options_of}
+use Rattle.words_core.specs.Grammar.{applet_site, help_or_version_option_at, help_or_version_command, spelled_command_from_start, command_of, is_double_dash, is_option, spelled_command, start_of_command_line, next_after, next_words, option_reading, reading_after_applet, words_reading_from_parts, refused_operand, site_after_end, start_after_site, can_be_option}
+use Rattle.words_core.specs.Options.{OptionSpec, applets, is_early_option_word, options_of}
+use Rattle.words_core.specs.Stuck.{are_stuck, are_stuck_by, awaits_impossible_value, have_options_ended, is_stuck_by, is_required_option_missing, are_options_of}
 use Rattle.words_core.proofs.AppletCompleted.{line_stuck, line_stuck_by, usage_is_first}
 use Rattle.words_core.proofs.Asked.{alone_stays, asking, next_append, next_early, next_end, operand_stays}
 use Rattle.words_core.proofs.AskedLaws.{asked_command_is, asked_made, asked_stays, line_is, offends_unasked, same_fault, unasked_is}
@@ -44,7 +44,7 @@ first_next place (word ∷ words) h =
     elim (is_double_dash word) as (λ b. is_double_dash word ≡ b → next_words OptionOrCommand (word ∷ words) ≡ (if b || list_any is_double_dash words then CommandAlone else OptionOrCommand)) [
       | true ↦ λ e. ap (λ n. next_words n words) (next_end word e) ∙ alone words (sym (seek_end place word words e) ∙ h)
       | false ↦ λ e. elim (is_option word) as (λ b. is_option word ≡ b → next_words OptionOrCommand (word ∷ words) ≡ (if list_any is_double_dash words then CommandAlone else OptionOrCommand)) [
-        | true ↦ λ o. elim (is_early word) as (λ b. is_early word ≡ b → next_words OptionOrCommand (word ∷ words) ≡ (if list_any is_double_dash words then CommandAlone else OptionOrCommand)) [
+        | true ↦ λ o. elim (is_early_option_word word) as (λ b. is_early_option_word word ≡ b → next_words OptionOrCommand (word ∷ words) ≡ (if list_any is_double_dash words then CommandAlone else OptionOrCommand)) [
           | true ↦ λ y. ap (λ n. next_words n words) (next_early word e o) ∙ first_next (place + 1) words (sym (seek_early place word words e o y) ∙ (h ∙ ap Err next))
           | false ↦ λ y. absurd (let same : Err place ≡ Err (place + length (word ∷ words)) = sym (seek_late place word words e o y) ∙ h in let is : place ≡ place + length (word ∷ words) = cc in omega arith)
         ] refl
@@ -62,24 +62,24 @@ abbrev pub CanBeCommand : List (List ℕ) → Type 0
 CanBeCommand words = (more : List (List ℕ)) × (command : CommandLine) × (command_of (words ++ more) ≡ Ok command)
 
 -- `--help` completes words in which no applet is named, and options have not ended
-asks_help : (words : List (List ℕ)) → line_command words ≡ Err (length words + 1) → next_after words ≡ OptionOrCommand → CanBeCommand words
+asks_help : (words : List (List ℕ)) → spelled_command words ≡ Err (length words + 1) → next_after words ≡ OptionOrCommand → CanBeCommand words
 asks_help words e n = (
   codes "--help" ∷ [],
-  asked_command (words ++ (codes "--help" ∷ [])) Help,
-  asked_made (words ++ (codes "--help" ∷ [])) (asked_command (words ++ (codes "--help" ∷ [])) Help) (record {
+  help_or_version_command (words ++ (codes "--help" ∷ [])) Help,
+  asked_made (words ++ (codes "--help" ∷ [])) (help_or_version_command (words ++ (codes "--help" ∷ [])) Help) (record {
     before = words;
     word = codes "--help";
     after = [];
     whole = refl;
     asks = refl;
-    option = ap takes_option n;
+    option = ap can_be_option n;
     fine = λ at h. (let same : Err at ≡ Err (length words + 1) = sym h ∙ e in let is : at ≡ length words + 1 = cc in omega (arith, is));
     is = refl;
   }),
 )
 
 pub completed_words : (words : List (List ℕ)) (place : ℕ) → not (are_stuck (take (place - 1) words)) ≡ true → command_of words ≡ Err place → CanBeCommand (take (place - 1) words)
-unfolding are_stuck line_stuck line_command
+unfolding are_stuck line_stuck spelled_command
 completed_words words place n c =
     elim (command_of before) as (λ r. command_of before ≡ r → not (not (is_ok r) && are_stuck_by before (applet_site 1 before)) ≡ true → CanBeCommand before) [
       | Ok command ↦ λ e n. ([], command, ap command_of (append-nil before) ∙ e)
@@ -89,7 +89,7 @@ completed_words words place n c =
     before : List (List ℕ)
     before = take (place - 1) words
 
-    offends : line_command words ≡ Err place
+    offends : spelled_command words ≡ Err place
     offends = (offends_unasked words place c).offends
 
     bounds : (1 ≤ place) × (place ≤ length words + 1)
@@ -98,18 +98,18 @@ completed_words words place n c =
     size : length (take (place - 1) words) ≡ place - 1
     size = length-take-le (place - 1) words (omega (arith, bounds.0, bounds.1))
 
-    whole : line_command (before ++ drop (place - 1) words) ≡ Err place
-    whole = ap line_command (take-append-drop (place - 1) words) ∙ offends
+    whole : spelled_command (before ++ drop (place - 1) words) ≡ Err place
+    whole = ap spelled_command (take-append-drop (place - 1) words) ∙ offends
 
     -- no applet is found before the end
     no_applet : (at : ℕ) → applet_site 1 before ≡ Err at → (at < 1 + length before) ⊎ (1 + length before ≤ at) → list_any is_double_dash before ≡ false → CanBeCommand before
     no_applet at s (inl less) f =
-        absurd (let same : Err at ≡ Err place = sym (ap (command_from (before ++ drop (place - 1) words)) (no_start_stays before (drop (place - 1) words) at (ap (start_from before) s) (omega (arith, less)))) ∙ whole in let is : at ≡ place = cc in omega (arith, less, size, bounds.0))
+        absurd (let same : Err at ≡ Err place = sym (ap (spelled_command_from_start (before ++ drop (place - 1) words)) (no_start_stays before (drop (place - 1) words) at (ap (start_after_site before) s) (omega (arith, less)))) ∙ whole in let is : at ≡ place = cc in omega (arith, less, size, bounds.0))
     no_applet at s (inr more) f =
         let between : IsBetween 1 (length before + 2) at = subst (λ r. IsSearched 1 (length before + 2) r) s (site_searched 1 1 (length before + 2) before (omega arith) (omega arith)) in
         let is : at ≡ 1 + length before = omega (arith, between.1, more) in
         let end : 1 + length before ≡ length before + 1 = omega arith in
-        asks_help before (ap (λ r. command_from before (start_from before r)) s ∙ ap Err (is ∙ end))
+        asks_help before (ap (λ r. spelled_command_from_start before (start_after_site before r)) s ∙ ap Err (is ∙ end))
         (first_next 1 before (s ∙ ap Err is) ∙ ap (λ b. if b then CommandAlone else OptionOrCommand) f)
 
     by_site : (r : Result AppletSite ℕ) → applet_site 1 before ≡ r → line_stuck_by before r ≡ true → are_stuck_by before r ≡ false → CanBeCommand before
@@ -133,7 +133,7 @@ all_wider low end [] h = tt
 all_wider low end (o ∷ os) h = ((h.0.0, omega (arith, h.0.1)), all_wider low end os h.1)
 
 -- no word asks after stuck words
-module _ (words more : List (List ℕ)) (place : ℕ) (applet : Applet) (offends : line_command (words ++ more) ≡ Err place) (asked : asked_at (words ++ more) place ≡ Some applet) where
+module _ (words more : List (List ℕ)) (place : ℕ) (applet : Applet) (offends : spelled_command (words ++ more) ≡ Err place) (asked : help_or_version_option_at (words ++ more) place ≡ Some applet) where
   abbrev later : List (List ℕ)
   later = take (place - 1 - length words) more
 
@@ -141,41 +141,41 @@ module _ (words more : List (List ℕ)) (place : ℕ) (applet : Applet) (offends
   parts = asked_parts (words ++ more) place applet asked
 
   -- a word of these asks
-  within : place - 1 < length words → command_of words ≡ Ok (asked_command words applet)
+  within : place - 1 < length words → command_of words ≡ Ok (help_or_version_command words applet)
   within l =
-      let same : asked_at words place ≡ Some applet = sym (asked_stays words more place l) ∙ asked in
+      let same : help_or_version_option_at words place ≡ Some applet = sym (asked_stays words more place l) ∙ asked in
       let here : HasAsked words place applet = asked_parts words place applet same in
       let before : List (List ℕ) = take (place - 1) words in
       let longer : words ++ more ≡ before ++ (here.word ∷ (here.after ++ more)) = ap (λ ws. ws ++ more) here.whole ∙ append_assoc before (here.word ∷ here.after) more in
       asked_command_is words place applet
-      (ap line_command here.whole ∙ same_fault before (here.after ++ more) here.after here.word place (asking here.word applet here.asks) here.option (sym (ap line_command longer) ∙ offends))
+      (ap spelled_command here.whole ∙ same_fault before (here.after ++ more) here.after here.word place (asking here.word applet here.asks) here.option (sym (ap spelled_command longer) ∙ offends))
       same
 
-  option : length words ≤ place - 1 → takes_option (next_words (next_after words) later) ≡ true
-  option l = ap takes_option (sym (ap (next_words OptionOrCommand) (take_more (place - 1) words more l) ∙ next_append OptionOrCommand words later)) ∙ parts.option
+  option : length words ≤ place - 1 → can_be_option (next_words (next_after words) later) ≡ true
+  option l = ap can_be_option (sym (ap (next_words OptionOrCommand) (take_more (place - 1) words more l) ∙ next_append OptionOrCommand words later)) ∙ parts.option
 
   no_applet : (at : ℕ) → applet_site 1 words ≡ Err at → list_any is_double_dash words ≡ true → length words ≤ place - 1 → (at < 1 + length words) ⊎ (1 + length words ≤ at) → ⊥
-  unfolding line_command
+  unfolding spelled_command
   no_applet at s e l (inl less) =
       let low = (usage_between (words ++ more) place offends).0 in
-      let same : Err at ≡ Err place = sym (ap (command_from (words ++ more)) (no_start_stays words more at (ap (start_from words) s) (omega (arith, less)))) ∙ offends in
+      let same : Err at ≡ Err place = sym (ap (spelled_command_from_start (words ++ more)) (no_start_stays words more at (ap (start_after_site words) s) (omega (arith, less)))) ∙ offends in
       let is : at ≡ place = cc in omega (arith, less, l, low)
   no_applet at s e l (inr high) =
       let between : IsBetween 1 (length words + 2) at = subst (λ r. IsSearched 1 (length words + 2) r) s (site_searched 1 1 (length words + 2) words (omega arith) (omega arith)) in
       let is : at ≡ 1 + length words = omega (arith, between.1, high) in
       let next : next_after words ≡ CommandAlone = first_next 1 words (s ∙ ap Err is) ∙ ap (λ b. if b then CommandAlone else OptionOrCommand) e in
-      false≢true (sym (ap (λ n. takes_option (next_words n later)) next ∙ alone_stays later) ∙ option l)
+      false≢true (sym (ap (λ n. can_be_option (next_words n later)) next ∙ alone_stays later) ∙ option l)
 
-  ended : (start : Start) → line_start words ≡ Ok start → (start.ended || have_ended (options_of start.applet) None (drop start.read words)) ≡ true → length words ≤ place - 1 → ⊥
-  ended start s e l = false≢true (sym (ap (λ n. takes_option (next_words n later)) (ended_next words start s e) ∙ ap takes_option (operand_stays start.applet later)) ∙ option l)
+  ended : (start : Start) → start_of_command_line words ≡ Ok start → (start.ended || have_options_ended (options_of start.applet) None (drop start.read words)) ≡ true → length words ≤ place - 1 → ⊥
+  ended start s e l = false≢true (sym (ap (λ n. can_be_option (next_words n later)) (ended_next words start s e) ∙ ap can_be_option (operand_stays start.applet later)) ∙ option l)
 
   -- what was read of all words offends at the place
-  judged : (start : Start) (at : ℕ) → line_start words ≡ Ok start → option_or (refused_operand (operand_rule start.applet (reading_after_applet start (words ++ more)).state.flags) (reading_after_applet start (words ++ more)).operands) (reading_after_applet start (words ++ more)).unread ≡ Some at → at ≡ place
-  unfolding line_command
+  judged : (start : Start) (at : ℕ) → start_of_command_line words ≡ Ok start → option_or (refused_operand (operand_rule start.applet (reading_after_applet start (words ++ more)).state.flags) (reading_after_applet start (words ++ more)).operands) (reading_after_applet start (words ++ more)).unread ≡ Some at → at ≡ place
+  unfolding spelled_command
   judged start at s first =
-      let same : Err at ≡ Err place = sym (ap (command_from (words ++ more)) (start_stays words more start s) ∙ judged_bad start.applet (reading_after_applet start (words ++ more)) (length (words ++ more) + 1) at first) ∙ offends in cc
+      let same : Err at ≡ Err place = sym (ap (spelled_command_from_start (words ++ more)) (start_stays words more start s) ∙ judged_bad start.applet (reading_after_applet start (words ++ more)) (length (words ++ more) + 1) at first) ∙ offends in cc
 
-  awaits : (start : Start) → line_start words ≡ Ok start → awaits_none (reading_after_applet start words).state.awaiting (reading_after_applet start words).state.values ≡ true → length words ≤ place - 1 → ⊥
+  awaits : (start : Start) → start_of_command_line words ≡ Ok start → awaits_impossible_value (reading_after_applet start words).state.awaiting (reading_after_applet start words).state.values ≡ true → length words ≤ place - 1 → ⊥
   awaits start s w l = by_going (from_going start words low)
     where
       end : ℕ
@@ -199,7 +199,7 @@ module _ (words more : List (List ℕ)) (place : ℕ) (applet : Applet) (offends
       rule : Option OperandRule
       rule = operand_rule start.applet reading.state.flags
 
-      near : (at : ℕ) → reading_after_applet start (words ++ more) ≡ reading_by reading.state reading.operands (Some at) → at ≤ end → (p : ℕ) × (p ≡ place) × (p ≤ end)
+      near : (at : ℕ) → reading_after_applet start (words ++ more) ≡ words_reading_from_parts reading.state reading.operands (Some at) → at ≤ end → (p : ℕ) × (p ≡ place) × (p ≤ end)
       near at same h = (
         first.0,
         judged start first.0 s (ap (λ (r : Reading). option_or (refused_operand (operand_rule start.applet r.state.flags) r.operands) r.unread) same ∙ first.1),
@@ -223,35 +223,35 @@ module _ (words more : List (List ℕ)) (place : ℕ) (applet : Applet) (offends
           let start_low = (usage_between (words ++ more) place offends).0 in
           omega (arith, is, bound, l, start_low)
 
-      by_rule : (awaiting : Option ValueRule) → reading.state.awaiting ≡ awaiting → awaits_none awaiting reading.state.values ≡ true → reading.unread ≡ option_map (λ (r : ValueRule). end) awaiting → ((rest : List (List ℕ)) → reading_after_applet start (words ++ rest) ≡ behind reading.operands (option_reading options reading.state end rest)) → ⊥
+      by_rule : (awaiting : Option ValueRule) → reading.state.awaiting ≡ awaiting → awaits_impossible_value awaiting reading.state.values ≡ true → reading.unread ≡ option_map (λ (r : ValueRule). end) awaiting → ((rest : List (List ℕ)) → reading_after_applet start (words ++ rest) ≡ behind reading.operands (option_reading options reading.state end rest)) → ⊥
       by_rule None a w u on = false≢true w
       by_rule (Some value) a w u on =
-          let same : reading_after_applet start (words ++ more) ≡ reading_by reading.state reading.operands (Some end) =
-          on more ∙ (ap (behind reading.operands) (awaited_whole options reading.state end value more a w) ∙ ap (λ os. reading_by reading.state os (Some end)) (append-nil reading.operands)) in
+          let same : reading_after_applet start (words ++ more) ≡ words_reading_from_parts reading.state reading.operands (Some end) =
+          on more ∙ (ap (behind reading.operands) (awaited_whole options reading.state end value more a w) ∙ ap (λ os. words_reading_from_parts reading.state os (Some end)) (append-nil reading.operands)) in
           let p = near end same (omega arith) in
           let is = p.1 in
           let bound = p.2 in
           let none : place - 1 - length words ≡ 0 = omega (arith, is, bound, l) in
           let next : next_after words ≡ NextValue start.applet value = next_of_start words start s ∙ awaited_after words start value low a u in
-          false≢true (sym (ap (λ k. takes_option (next_words (next_after words) (take k more))) none ∙ ap takes_option next) ∙ option l)
+          false≢true (sym (ap (λ k. can_be_option (next_words (next_after words) (take k more))) none ∙ ap can_be_option next) ∙ option l)
 
-      by_going : IsRemovedPackage options end (start.ended || have_ended options None (drop start.read words)) reading (λ rest. reading_after_applet start (words ++ rest)) → ⊥
+      by_going : IsRemovedPackage options end (start.ended || have_options_ended options None (drop start.read words)) reading (λ rest. reading_after_applet start (words ++ rest)) → ⊥
       by_going (inl stop) = stopped stop.0 stop.1 stop.2 (stop.3 more)
       by_going (inr (inl on)) = by_rule reading.state.awaiting refl w on.unread on.goes_on
-      by_going (inr (inr off)) = false≢true (sym (ap (λ o. awaits_none o reading.state.values) off.awaiting) ∙ w)
+      by_going (inr (inr off)) = false≢true (sym (ap (λ o. awaits_impossible_value o reading.state.values) off.awaiting) ∙ w)
 
-  by_start : (r : Result Start ℕ) → line_start words ≡ r → is_stuck_by words r ≡ true → length words ≤ place - 1 → ⊥
+  by_start : (r : Result Start ℕ) → start_of_command_line words ≡ r → is_stuck_by words r ≡ true → length words ≤ place - 1 → ⊥
   by_start (Err at) s k l = false≢true k
   by_start (Ok start) s k l =
-      let over : Bool = start.ended || have_ended (options_of start.applet) None (drop start.read words) in
-      elim (or_cases (over && lacks_option start.applet (reading_after_applet start words).state) (awaits_none (reading_after_applet start words).state.awaiting (reading_after_applet start words).state.values) k) as (λ _. ⊥) [
-        | inl both ↦ ended start s (and_parts over (lacks_option start.applet (reading_after_applet start words).state) both).0 l
+      let over : Bool = start.ended || have_options_ended (options_of start.applet) None (drop start.read words) in
+      elim (or_cases (over && is_required_option_missing start.applet (reading_after_applet start words).state) (awaits_impossible_value (reading_after_applet start words).state.awaiting (reading_after_applet start words).state.values) k) as (λ _. ⊥) [
+        | inl both ↦ ended start s (and_parts over (is_required_option_missing start.applet (reading_after_applet start words).state) both).0 l
         | inr none ↦ awaits start s none l
       ]
 
   by_site : (r : Result AppletSite ℕ) → applet_site 1 words ≡ r → are_stuck_by words r ≡ true → length words ≤ place - 1 → ⊥
   by_site (Err at) s k l = no_applet at s (and_parts (list_any is_double_dash words) (not (list_any (are_options_of words) applets)) k).0 l (cases_lt at (1 + length words))
-  by_site (Ok site) s k l = by_start (line_start words) refl (ap (λ r. is_stuck_by words (start_from words r)) s ∙ k) l
+  by_site (Ok site) s k l = by_start (start_of_command_line words) refl (ap (λ r. is_stuck_by words (start_after_site words r)) s ∙ k) l
 
   none_asks : not (is_ok (command_of words)) ≡ true → are_stuck_by words (applet_site 1 words) ≡ true → (place - 1 < length words) ⊎ (length words ≤ place - 1) → ⊥
   none_asks n k (inl less) = false≢true (sym (ap (λ r. not (is_ok r)) (within less)) ∙ n)
@@ -262,7 +262,7 @@ unfolding are_stuck
 stuck_words words more k =
     let both = and_parts (not (is_ok (command_of words))) (are_stuck_by words (applet_site 1 words)) k in
     let bad = stuck_stay words more both.1 in
-    elim (asked_at (words ++ more) bad.0) as (λ o. asked_at (words ++ more) bad.0 ≡ o → (place : ℕ) × (command_of (words ++ more) ≡ Err place)) [
+    elim (help_or_version_option_at (words ++ more) bad.0) as (λ o. help_or_version_option_at (words ++ more) bad.0 ≡ o → (place : ℕ) × (command_of (words ++ more) ≡ Err place)) [
       | None ↦ λ a. (bad.0, unasked_is (words ++ more) bad.0 bad.1 a)
       | Some applet ↦ λ a. absurd (none_asks words more bad.0 applet bad.1 a both.0 both.1 (cases_lt (bad.0 - 1) (length words)))
     ] refl

@@ -5,7 +5,7 @@ use Rattle.std.specs.Option.{option_map, option_or}
 use Rattle.std.specs.Prelude.{◌||◌}
 use Rattle.std.specs.Str.{bytes_eq}
 use Rattle.std.proofs.lemmas.List.Folds.{find-append}
-use Rattle.words_core.specs.Options.{OptionSpec, option_spelled}
+use Rattle.words_core.specs.Options.{OptionSpec, option_of_word}
 
 pub find-map : {A B : Type 0} (p : B → Bool) (f : A → B) (xs : List A) → find p (map f xs) ≡ option_map f (find (λ x. p (f x)) xs)
 find-map p f [] = refl
@@ -20,16 +20,16 @@ option_map-same None = refl
 option_map-same (Some x) = refl
 
 -- a table that is seen as another
-pub found_seen : {A : Type 0} (f : A → OptionSpec) (xs : List A) (word : List ℕ) (r : Option A) → option_map (λ x. x) r ≡ find (λ x. bytes_eq (f x).long word || bytes_eq (f x).short word) xs → option_map f r ≡ option_spelled (map f xs) word
+pub found_seen : {A : Type 0} (f : A → OptionSpec) (xs : List A) (word : List ℕ) (r : Option A) → option_map (λ x. x) r ≡ find (λ x. bytes_eq (f x).long word || bytes_eq (f x).short word) xs → option_map f r ≡ option_of_word (map f xs) word
 found_seen f xs word r h =
     ap (option_map f) (sym (option_map-same r) ∙ h) ∙ sym (find-map (λ (e : OptionSpec). bytes_eq e.long word || bytes_eq e.short word) f xs)
 
 -- in the first of two tables
-pub found_first : (xs ys : List OptionSpec) (word : List ℕ) (e : OptionSpec) → Some e ≡ option_spelled xs word → Some e ≡ option_spelled (xs ++ ys) word
+pub found_first : (xs ys : List OptionSpec) (word : List ℕ) (e : OptionSpec) → Some e ≡ option_of_word xs word → Some e ≡ option_of_word (xs ++ ys) word
 found_first xs ys word e h =
-    sym (find-append (λ (x : OptionSpec). bytes_eq x.long word || bytes_eq x.short word) xs ys ∙ ap (λ o. option_or o (option_spelled ys word)) (sym h))
+    sym (find-append (λ (x : OptionSpec). bytes_eq x.long word || bytes_eq x.short word) xs ys ∙ ap (λ o. option_or o (option_of_word ys word)) (sym h))
 
 -- in the second of two tables
-pub found_second : (xs ys : List OptionSpec) (word : List ℕ) (r : Option OptionSpec) → None ≡ option_spelled xs word → r ≡ option_spelled ys word → r ≡ option_spelled (xs ++ ys) word
+pub found_second : (xs ys : List OptionSpec) (word : List ℕ) (r : Option OptionSpec) → None ≡ option_of_word xs word → r ≡ option_of_word ys word → r ≡ option_of_word (xs ++ ys) word
 found_second xs ys word r n h =
-    sym (find-append (λ (x : OptionSpec). bytes_eq x.long word || bytes_eq x.short word) xs ys ∙ (ap (λ o. option_or o (option_spelled ys word)) (sym n) ∙ sym h))
+    sym (find-append (λ (x : OptionSpec). bytes_eq x.long word || bytes_eq x.short word) xs ys ∙ (ap (λ o. option_or o (option_of_word ys word)) (sym n) ∙ sym h))

@@ -11,15 +11,15 @@ use Rattle.command_core.specs.declared.command.Applet.TheVariants.{Add, Del, Fix
 use Rattle.command_core.specs.declared.command.Flags.{Flags}
 use Rattle.command_core.specs.declared.values.OptionValue.{OptionValue}
 use Rattle.command_core.specs.declared.values.ValueRule.{ValueRule}
-use Rattle.command_core.specs.Sound.{may_have, value_rules, may_both_be_given, are_values, excludes_by, is_value_by, rule_for}
+use Rattle.command_core.specs.Sound.{may_have_flags, value_rules, may_both_be_given, are_allowed_values, are_exclusive_values, is_allowed_value, rule_for}
 use Rattle.command_core.specs.Operands.{operand_at}
-use Rattle.command_core.specs.Values.{excludes, is_excluded, is_given, is_spent, is_value, option_value}
+use Rattle.command_core.specs.Values.{excludes, is_excluded_by_earlier_value, is_given, is_single_and_given, is_value, option_value}
 use Rattle.words_core.specs.declared.options.Meaning.{Meaning}
 use Rattle.words_core.specs.declared.options.Meaning.TheVariants.{Flag as Plain, Kind, Value}
 use Rattle.words_core.specs.declared.reading.OptionState.{OptionState}
 use Rattle.words_core.specs.declared.reading.Start.{Start}
-use Rattle.words_core.specs.Grammar.{first_state, attached_value, is_double_dash, is_option_or_value, operands_of, option_name, option_reading, or_unread, reading_after_applet, reading_by, state_by, with_flags, with_attached, with_meaning, with_meaning_at, with_operand, with_rule, with_spec, with_spelled, with_value, with_word, with_word_by}
-use Rattle.words_core.specs.Options.{OptionSpec, common_options, option_spelled, options_of}
+use Rattle.words_core.specs.Grammar.{option_state_at_start, attached_value, is_double_dash, is_option_or_value, operands_of, option_name, option_reading, or_stop_at_unread_word, reading_after_applet, words_reading_from_parts, option_state_from_parts, with_flags_if_some, with_value_or_awaited, flags_with_meaning, state_with_meaning, with_operand, with_value_option, flags_with_option, with_option_word, with_option_value, with_option_or_value_word, with_word_if_awaited}
+use Rattle.words_core.specs.Options.{OptionSpec, common_options, option_of_word, options_of}
 use Rattle.words_core.specs.Steps.{IsSoundReading}
 use Rattle.words_core.proofs.KindsKept.{IsPlain, find_passes, options_kept, pass_or_none}
 
@@ -48,12 +48,12 @@ all_own Help = tt
 all_own ProgramVersion = tt
 all_own applet = (tt, (tt, tt))
 
-pub found_own : (applet : Applet) (options : List OptionSpec) (word : List ℕ) (e : OptionSpec) → AllOwn applet options → option_spelled options word ≡ Some e → IsOwn applet e.meaning
+pub found_own : (applet : Applet) (options : List OptionSpec) (word : List ℕ) (e : OptionSpec) → AllOwn applet options → option_of_word options word ≡ Some e → IsOwn applet e.meaning
 found_own applet [] word e own f = absurd (none-some e f)
 found_own applet (x ∷ xs) word e own f =
-    elim (bytes_eq x.long word || bytes_eq x.short word) as (λ b. cond b (Some x) (option_spelled xs word) ≡ Some e → IsOwn applet e.meaning) [
+    elim (bytes_eq x.long word || bytes_eq x.short word) as (λ b. cond b (Some x) (option_of_word xs word) ≡ Some e → IsOwn applet e.meaning) [
       | true ↦ λ (same : Some x ≡ Some e). subst (λ (z : OptionSpec). IsOwn applet z.meaning) (same_Some x e same) own.0
-      | false ↦ λ (later : option_spelled xs word ≡ Some e). found_own applet xs word e own.1 later
+      | false ↦ λ (later : option_of_word xs word ≡ Some e). found_own applet xs word e own.1 later
     ] f
 
 -- one more value that no earlier one excludes
@@ -63,7 +63,7 @@ both_false false b c h = (refl, refl)
 
 pub apart_by : (rules : List ValueRule) (rule : ValueRule) (w : OptionValue) (text : List ℕ) (place : ℕ) → rule_for rules rule.letter ≡ Some rule → (rule.single && (w.letter == rule.letter)) ≡ false → ((w.letter == rule.letter) && excludes rule.kind w.text text) ≡ false → may_both_be_given rules w (option_value place rule.letter text) ≡ true
 apart_by rules rule w text place own spent excluded =
-    elim (w.letter == rule.letter) as (λ b. (w.letter == rule.letter) ≡ b → (rule.single && b) ≡ false → (b && excludes rule.kind w.text text) ≡ false → not (b && excludes_by (rule_for rules w.letter) w.text text) ≡ true) [
+    elim (w.letter == rule.letter) as (λ b. (w.letter == rule.letter) ≡ b → (rule.single && b) ≡ false → (b && excludes rule.kind w.text text) ≡ false → not (b && are_exclusive_values (rule_for rules w.letter) w.text text) ≡ true) [
       | true ↦ λ e s x.
           let found : rule_for rules w.letter ≡ Some rule = ap (rule_for rules) (eqb-true w.letter rule.letter e) ∙ own in
           let single : rule.single ≡ false = alone rule.single s in
@@ -76,34 +76,34 @@ apart_by rules rule w text place own spent excluded =
     alone true h = h
     alone false h = h
 
-pub values_push : (rules : List ValueRule) (rule : ValueRule) (text : List ℕ) (place : ℕ) (values : List OptionValue) → rule_for rules rule.letter ≡ Some rule → is_value rule.kind text ≡ true → is_spent rule values ≡ false → is_excluded rule text values ≡ false → are_values rules values ≡ true → are_values rules (values ++ (option_value place rule.letter text ∷ [])) ≡ true
+pub values_push : (rules : List ValueRule) (rule : ValueRule) (text : List ℕ) (place : ℕ) (values : List OptionValue) → rule_for rules rule.letter ≡ Some rule → is_value rule.kind text ≡ true → is_single_and_given rule values ≡ false → is_excluded_by_earlier_value rule text values ≡ false → are_allowed_values rules values ≡ true → are_allowed_values rules (values ++ (option_value place rule.letter text ∷ [])) ≡ true
 values_push rules rule text place [] own good spent excluded are = rw own (rw good refl)
 values_push rules rule text place (w ∷ ws) own good spent excluded are =
     let first = both_false rule.single (w.letter == rule.letter) (is_given rule.letter ws) spent in
-    let others = or_parts ((w.letter == rule.letter) && excludes rule.kind w.text text) (is_excluded rule text ws) excluded in
-    let parts = and_parts (is_value_by (rule_for rules w.letter) w.text && list_all (may_both_be_given rules w) ws) (are_values rules ws) are in
-    let both = and_parts (is_value_by (rule_for rules w.letter) w.text) (list_all (may_both_be_given rules w) ws) parts.0 in
+    let others = or_parts ((w.letter == rule.letter) && excludes rule.kind w.text text) (is_excluded_by_earlier_value rule text ws) excluded in
+    let parts = and_parts (is_allowed_value (rule_for rules w.letter) w.text && list_all (may_both_be_given rules w) ws) (are_allowed_values rules ws) are in
+    let both = and_parts (is_allowed_value (rule_for rules w.letter) w.text) (list_all (may_both_be_given rules w) ws) parts.0 in
     let last : list_all (may_both_be_given rules w) (option_value place rule.letter text ∷ []) ≡ true = and_from (may_both_be_given rules w (option_value place rule.letter text)) true (apart_by rules rule w text place own first.0 others.0) refl in
     let all : list_all (may_both_be_given rules w) (ws ++ (option_value place rule.letter text ∷ [])) ≡ true = list_all-append (may_both_be_given rules w) ws (option_value place rule.letter text ∷ []) ∙ and_from (list_all (may_both_be_given rules w) ws) _ both.1 last in
-    and_from (is_value_by (rule_for rules w.letter) w.text && list_all (may_both_be_given rules w) (ws ++ (option_value place rule.letter text ∷ []))) _
-    (and_from (is_value_by (rule_for rules w.letter) w.text) _ both.0 all)
+    and_from (is_allowed_value (rule_for rules w.letter) w.text && list_all (may_both_be_given rules w) (ws ++ (option_value place rule.letter text ∷ []))) _
+    (and_from (is_allowed_value (rule_for rules w.letter) w.text) _ both.0 all)
     (values_push rules rule text place ws own good first.1 others.1 parts.1)
 
 -- an option that awaits its value is the applet's, and may stand
 abbrev pub IsAwaited : Applet → List OptionValue → Option ValueRule → Type 0
 IsAwaited applet values None = Unit {0}
-IsAwaited applet values (Some rule) = (rule_for (value_rules applet) rule.letter ≡ Some rule) × (is_spent rule values ≡ false)
+IsAwaited applet values (Some rule) = (rule_for (value_rules applet) rule.letter ≡ Some rule) × (is_single_and_given rule values ≡ false)
 
 pub record IsGood (applet : Applet) (state : OptionState) : Type 0 where
-  pub flags : may_have applet state.flags ≡ true
-  pub values : are_values (value_rules applet) state.values ≡ true
+  pub flags : may_have_flags applet state.flags ≡ true
+  pub values : are_allowed_values (value_rules applet) state.values ≡ true
   pub awaiting : IsAwaited applet state.values state.awaiting
 
-pub value_good : (applet : Applet) (state more : OptionState) (place : ℕ) (text : List ℕ) (rule : ValueRule) → IsGood applet state → rule_for (value_rules applet) rule.letter ≡ Some rule → is_spent rule state.values ≡ false → with_value state place text rule ≡ Some more → IsGood applet more
+pub value_good : (applet : Applet) (state more : OptionState) (place : ℕ) (text : List ℕ) (rule : ValueRule) → IsGood applet state → rule_for (value_rules applet) rule.letter ≡ Some rule → is_single_and_given rule state.values ≡ false → with_option_value state place text rule ≡ Some more → IsGood applet more
 value_good applet state more place text rule good own spent w =
-    elim (is_value rule.kind text) as (λ b. is_value rule.kind text ≡ b → (if b && not (is_excluded rule text state.values) then Some (state_by state.flags (state.values ++ (option_value place rule.letter text ∷ [])) None) else None) ≡ Some more → IsGood applet more) [
+    elim (is_value rule.kind text) as (λ b. is_value rule.kind text ≡ b → (if b && not (is_excluded_by_earlier_value rule text state.values) then Some (option_state_from_parts state.flags (state.values ++ (option_value place rule.letter text ∷ [])) None) else None) ≡ Some more → IsGood applet more) [
       | false ↦ λ v (h : None ≡ Some more). absurd (none-some more h)
-      | true ↦ λ v. elim (is_excluded rule text state.values) as (λ b. is_excluded rule text state.values ≡ b → (if not b then Some (state_by state.flags (state.values ++ (option_value place rule.letter text ∷ [])) None) else None) ≡ Some more → IsGood applet more) [
+      | true ↦ λ v. elim (is_excluded_by_earlier_value rule text state.values) as (λ b. is_excluded_by_earlier_value rule text state.values ≡ b → (if not b then Some (option_state_from_parts state.flags (state.values ++ (option_value place rule.letter text ∷ [])) None) else None) ≡ Some more → IsGood applet more) [
         | true ↦ λ x (h : None ≡ Some more). absurd (none-some more h)
         | false ↦ λ x h. subst (λ (g : OptionState). IsGood applet g) (same_Some _ more h) (record {
           flags = good.flags;
@@ -113,41 +113,41 @@ value_good applet state more place text rule good own spent w =
       ] refl
     ] refl w
 
-pub rule_good : (applet : Applet) (state more : OptionState) (place : ℕ) (held : Option (List ℕ)) (rule : ValueRule) → IsGood applet state → rule_for (value_rules applet) rule.letter ≡ Some rule → with_rule state place held rule ≡ Some more → IsGood applet more
+pub rule_good : (applet : Applet) (state more : OptionState) (place : ℕ) (held : Option (List ℕ)) (rule : ValueRule) → IsGood applet state → rule_for (value_rules applet) rule.letter ≡ Some rule → with_value_option state place held rule ≡ Some more → IsGood applet more
 rule_good applet state more place held rule good own w =
-    elim (is_spent rule state.values) as (λ b. is_spent rule state.values ≡ b → (if b then None else with_attached state place rule held) ≡ Some more → IsGood applet more) [
+    elim (is_single_and_given rule state.values) as (λ b. is_single_and_given rule state.values ≡ b → (if b then None else with_value_or_awaited state place rule held) ≡ Some more → IsGood applet more) [
       | true ↦ λ s (h : None ≡ Some more). absurd (none-some more h)
       | false ↦ λ s h. by_held held s h
     ] refl w
   where
-    by_held : (o : Option (List ℕ)) → is_spent rule state.values ≡ false → with_attached state place rule o ≡ Some more → IsGood applet more
-    by_held None s h = subst (λ (g : OptionState). IsGood applet g) (same_Some (state_by state.flags state.values (Some rule)) more h) (record { flags = good.flags; values = good.values; awaiting = (own, s) })
+    by_held : (o : Option (List ℕ)) → is_single_and_given rule state.values ≡ false → with_value_or_awaited state place rule o ≡ Some more → IsGood applet more
+    by_held None s h = subst (λ (g : OptionState). IsGood applet g) (same_Some (option_state_from_parts state.flags state.values (Some rule)) more h) (record { flags = good.flags; values = good.values; awaiting = (own, s) })
     by_held (Some text) s h = value_good applet state more place text rule good own s h
 
-pub flags_good : (applet : Applet) (state more : OptionState) (flags : Option Flags) → IsGood applet state → pass_or_none (may_have applet) flags ≡ true → with_flags state flags ≡ Some more → IsGood applet more
+pub flags_good : (applet : Applet) (state more : OptionState) (flags : Option Flags) → IsGood applet state → pass_or_none (may_have_flags applet) flags ≡ true → with_flags_if_some state flags ≡ Some more → IsGood applet more
 flags_good applet state more None good p w = absurd (none-some more w)
 flags_good applet state more (Some flags) good p w =
-    subst (λ (g : OptionState). IsGood applet g) (same_Some (state_by flags state.values state.awaiting) more w) (record { flags = p; values = good.values; awaiting = good.awaiting })
+    subst (λ (g : OptionState). IsGood applet g) (same_Some (option_state_from_parts flags state.values state.awaiting) more w) (record { flags = p; values = good.values; awaiting = good.awaiting })
 
-pub meaning_good : (applet : Applet) (state more : OptionState) (place : ℕ) (held : Option (List ℕ)) (meaning : Meaning) → IsGood applet state → IsOwn applet meaning → pass_or_none (may_have applet) (with_meaning state.flags meaning) ≡ true → with_meaning_at state place held meaning ≡ Some more → IsGood applet more
+pub meaning_good : (applet : Applet) (state more : OptionState) (place : ℕ) (held : Option (List ℕ)) (meaning : Meaning) → IsGood applet state → IsOwn applet meaning → pass_or_none (may_have_flags applet) (flags_with_meaning state.flags meaning) ≡ true → state_with_meaning state place held meaning ≡ Some more → IsGood applet more
 meaning_good applet state more place held (Value rule) good own p w = rule_good applet state more place held rule good own w
 meaning_good applet state more place (Some text) (Plain flag) good own p w = absurd (none-some more w)
 meaning_good applet state more place (Some text) (Kind flag) good own p w = absurd (none-some more w)
-meaning_good applet state more place None (Plain flag) good own p w = flags_good applet state more (with_meaning state.flags (Plain flag)) good p w
-meaning_good applet state more place None (Kind flag) good own p w = flags_good applet state more (with_meaning state.flags (Kind flag)) good p w
+meaning_good applet state more place None (Plain flag) good own p w = flags_good applet state more (flags_with_meaning state.flags (Plain flag)) good p w
+meaning_good applet state more place None (Kind flag) good own p w = flags_good applet state more (flags_with_meaning state.flags (Kind flag)) good p w
 
-pub spelled_good : (applet : Applet) (state more : OptionState) (place : ℕ) (word : List ℕ) → IsGood applet state → with_spelled (options_of applet) state place word ≡ Some more → IsGood applet more
+pub spelled_good : (applet : Applet) (state more : OptionState) (place : ℕ) (word : List ℕ) → IsGood applet state → with_option_word (options_of applet) state place word ≡ Some more → IsGood applet more
 spelled_good applet state more place word good w =
-    option_and_then_some (λ (e : OptionSpec). with_meaning_at state place (attached_value word) e.meaning) (option_spelled (options_of applet) (option_name word)) more w
+    option_and_then_some (λ (e : OptionSpec). state_with_meaning state place (attached_value word) e.meaning) (option_of_word (options_of applet) (option_name word)) more w
     (λ found is made. meaning_good applet state more place (attached_value word) found.meaning good
     (found_own applet (options_of applet) (option_name word) found (all_own applet) is)
-    (find_passes (λ x. pass_or_none (may_have applet) (with_spec state.flags x)) (λ (x : OptionSpec). bytes_eq x.long (option_name word) || bytes_eq x.short (option_name word)) (options_of applet) found (options_kept applet state.flags good.flags) is)
+    (find_passes (λ x. pass_or_none (may_have_flags applet) (flags_with_option state.flags x)) (λ (x : OptionSpec). bytes_eq x.long (option_name word) || bytes_eq x.short (option_name word)) (options_of applet) found (options_kept applet state.flags good.flags) is)
     made)
 
-pub word_good : (applet : Applet) (state more : OptionState) (place : ℕ) (word : List ℕ) → IsGood applet state → with_word (options_of applet) state place word ≡ Some more → IsGood applet more
+pub word_good : (applet : Applet) (state more : OptionState) (place : ℕ) (word : List ℕ) → IsGood applet state → with_option_or_value_word (options_of applet) state place word ≡ Some more → IsGood applet more
 word_good applet state more place word good w = by_rule state.awaiting refl w
   where
-    by_rule : (rule : Option ValueRule) → state.awaiting ≡ rule → with_word_by (options_of applet) state place word rule ≡ Some more → IsGood applet more
+    by_rule : (rule : Option ValueRule) → state.awaiting ≡ rule → with_word_if_awaited (options_of applet) state place word rule ≡ Some more → IsGood applet more
     by_rule None a h = spelled_good applet state more place word good h
     by_rule (Some rule) a h =
         let awaited : IsAwaited applet state.values (Some rule) = subst (λ o. IsAwaited applet state.values o) a good.awaiting in
@@ -156,12 +156,12 @@ word_good applet state more place word good w = by_rule state.awaiting refl w
 pub reading_good : (applet : Applet) (state : OptionState) (place : ℕ) (words : List (List ℕ)) → IsGood applet state → IsGood applet (option_reading (options_of applet) state place words).state
 reading_good applet state place [] good = good
 reading_good applet state place (word ∷ words) good =
-    elim (is_option_or_value state word) as (λ b. IsGood applet (if b then or_unread state place (λ more. option_reading (options_of applet) more (place + 1) words) (with_word (options_of applet) state place word) else if is_double_dash word then reading_by state (operands_of (place + 1) words) None else with_operand (operand_at place word) (option_reading (options_of applet) state (place + 1) words)).state) [
-      | true ↦ elim (with_word (options_of applet) state place word) as (λ o. with_word (options_of applet) state place word ≡ o → IsGood applet (or_unread state place (λ more. option_reading (options_of applet) more (place + 1) words) o).state) [
+    elim (is_option_or_value state word) as (λ b. IsGood applet (if b then or_stop_at_unread_word state place (λ more. option_reading (options_of applet) more (place + 1) words) (with_option_or_value_word (options_of applet) state place word) else if is_double_dash word then words_reading_from_parts state (operands_of (place + 1) words) None else with_operand (operand_at place word) (option_reading (options_of applet) state (place + 1) words)).state) [
+      | true ↦ elim (with_option_or_value_word (options_of applet) state place word) as (λ o. with_option_or_value_word (options_of applet) state place word ≡ o → IsGood applet (or_stop_at_unread_word state place (λ more. option_reading (options_of applet) more (place + 1) words) o).state) [
         | None ↦ λ w. good
         | Some more ↦ λ w. reading_good applet more (place + 1) words (word_good applet state more place word good w)
       ] refl
-      | false ↦ elim (is_double_dash word) as (λ b. IsGood applet (if b then reading_by state (operands_of (place + 1) words) None else with_operand (operand_at place word) (option_reading (options_of applet) state (place + 1) words)).state) [
+      | false ↦ elim (is_double_dash word) as (λ b. IsGood applet (if b then words_reading_from_parts state (operands_of (place + 1) words) None else with_operand (operand_at place word) (option_reading (options_of applet) state (place + 1) words)).state) [
         | true ↦ good
         | false ↦ reading_good applet state (place + 1) words good
       ]
@@ -171,12 +171,12 @@ reading_good applet state place (word ∷ words) good =
 pub from_good : (start : Start) (behind : ℕ) (words : List (List ℕ)) → IsPlain start behind → IsGood start.applet (reading_after_applet start words).state
 unfolding reading_after_applet
 from_good start behind words p =
-    elim start.ended as (λ b. IsGood start.applet (if b then reading_by (first_state start.flags) (operands_of (start.read + 1) (drop start.read words)) None else option_reading (options_of start.applet) (first_state start.flags) (start.read + 1) (drop start.read words)).state) [
+    elim start.ended as (λ b. IsGood start.applet (if b then words_reading_from_parts (option_state_at_start start.flags) (operands_of (start.read + 1) (drop start.read words)) None else option_reading (options_of start.applet) (option_state_at_start start.flags) (start.read + 1) (drop start.read words)).state) [
       | true ↦ first
-      | false ↦ reading_good start.applet (first_state start.flags) (start.read + 1) (drop start.read words) first
+      | false ↦ reading_good start.applet (option_state_at_start start.flags) (start.read + 1) (drop start.read words) first
     ]
   where
-    first : IsGood start.applet (first_state start.flags)
+    first : IsGood start.applet (option_state_at_start start.flags)
     first = record {
       flags = p.flags;
       values = refl;

@@ -10,9 +10,9 @@ use Rattle.command_core.specs.Operands.{operand_at}
 use Rattle.words_core.specs.declared.reading.OptionState.{OptionState}
 use Rattle.words_core.specs.declared.reading.Reading.{Reading}
 use Rattle.words_core.specs.declared.reading.Start.{Start}
-use Rattle.words_core.specs.Grammar.{first_state, attached_value, is_double_dash, is_option, is_option_or_value, operands_of, option_name, option_reading, or_unread, reading_after_applet, reading_by, awaited_rule, rule_unless, with_meaning_at, with_operand, with_word, with_word_by}
-use Rattle.words_core.specs.Options.{OptionSpec, option_spelled, options_of}
-use Rattle.words_core.specs.Stuck.{have_ended}
+use Rattle.words_core.specs.Grammar.{option_state_at_start, attached_value, is_double_dash, is_option, is_option_or_value, operands_of, option_name, option_reading, or_stop_at_unread_word, reading_after_applet, words_reading_from_parts, awaited_rule, value_rule_unless_attached, state_with_meaning, with_operand, with_option_or_value_word, with_word_if_awaited}
+use Rattle.words_core.specs.Options.{OptionSpec, option_of_word, options_of}
+use Rattle.words_core.specs.Stuck.{have_options_ended}
 use Rattle.words_core.proofs.LinesRead.{Says, meaning_says, rule_at_is, value_says}
 use Rattle.words_core.proofs.MoreWords.{drop_append, operands_append}
 use Rattle.words_core.proofs.OneMore.{behind}
@@ -32,17 +32,17 @@ pub record IsOff (end : ℕ) (ended : Bool) (reading : Reading) (longer : List (
   pub over : ended ≡ true
   pub unread : reading.unread ≡ None
   pub awaiting : reading.state.awaiting ≡ None
-  pub goes_on : (more : List (List ℕ)) → longer more ≡ behind reading.operands (reading_by reading.state (operands_of end more) None)
+  pub goes_on : (more : List (List ℕ)) → longer more ≡ behind reading.operands (words_reading_from_parts reading.state (operands_of end more) None)
 
 abbrev pub IsRemovedPackage : List OptionSpec → ℕ → Bool → Reading → (List (List ℕ) → Reading) → Type 0
 IsRemovedPackage options end ended reading longer = IsStopped end reading longer ⊎ (IsOn options end ended reading longer ⊎ IsOff end ended reading longer)
 
-pub going_off : (options : List OptionSpec) (state : OptionState) (end place : ℕ) (words : List (List ℕ)) → place + length words ≡ end → state.awaiting ≡ None → IsRemovedPackage options end true (reading_by state (operands_of place words) None) (λ more. reading_by state (operands_of place (words ++ more)) None)
+pub going_off : (options : List OptionSpec) (state : OptionState) (end place : ℕ) (words : List (List ℕ)) → place + length words ≡ end → state.awaiting ≡ None → IsRemovedPackage options end true (words_reading_from_parts state (operands_of place words) None) (λ more. words_reading_from_parts state (operands_of place (words ++ more)) None)
 going_off options state end place words l a = inr (inr (record {
   over = refl;
   unread = refl;
   awaiting = a;
-  goes_on = λ more. ap (λ os. reading_by state os None) (operands_append place words more ∙ ap (λ k. operands_of place words ++ operands_of k more) l);
+  goes_on = λ more. ap (λ os. words_reading_from_parts state os None) (operands_append place words more ∙ ap (λ k. operands_of place words ++ operands_of k more) l);
 }))
 
 pub going_after : (options : List OptionSpec) (end : ℕ) (ended : Bool) (operand : Operand) (reading : Reading) (longer : List (List ℕ) → Reading) → IsRemovedPackage options end ended reading longer → IsRemovedPackage options end ended (with_operand operand reading) (λ more. with_operand operand (longer more))
@@ -56,31 +56,31 @@ going_same options end ended reading longer same e (inr (inl on)) = inr (inl (re
 going_same options end ended reading longer same e (inr (inr off)) = inr (inr (record { over = off.over; unread = off.unread; awaiting = off.awaiting; goes_on = λ more. e more ∙ off.goes_on more }))
 
 -- whether the options have ended, at one more word
-pub none_ended : (options : List OptionSpec) (rule : Option ValueRule) → have_ended options rule [] ≡ false
+pub none_ended : (options : List OptionSpec) (rule : Option ValueRule) → have_options_ended options rule [] ≡ false
 none_ended options None = refl
 none_ended options (Some rule) = refl
 
-pub ended_here : (options : List OptionSpec) (word : List ℕ) (words : List (List ℕ)) → is_double_dash word ≡ true → have_ended options None (word ∷ words) ≡ true
+pub ended_here : (options : List OptionSpec) (word : List ℕ) (words : List (List ℕ)) → is_double_dash word ≡ true → have_options_ended options None (word ∷ words) ≡ true
 ended_here options word words e = rw e refl
 
-pub ended_option : (options : List OptionSpec) (word : List ℕ) (words : List (List ℕ)) → is_double_dash word ≡ false → is_option word ≡ true → have_ended options None (word ∷ words) ≡ have_ended options (awaited_rule options word) words
+pub ended_option : (options : List OptionSpec) (word : List ℕ) (words : List (List ℕ)) → is_double_dash word ≡ false → is_option word ≡ true → have_options_ended options None (word ∷ words) ≡ have_options_ended options (awaited_rule options word) words
 ended_option options word words e o = rw e (rw o refl)
 
-pub ended_after : (options : List OptionSpec) (word : List ℕ) (words : List (List ℕ)) → is_double_dash word ≡ false → is_option word ≡ false → have_ended options None (word ∷ words) ≡ have_ended options None words
+pub ended_after : (options : List OptionSpec) (word : List ℕ) (words : List (List ℕ)) → is_double_dash word ≡ false → is_option word ≡ false → have_options_ended options None (word ∷ words) ≡ have_options_ended options None words
 ended_after options word words e o = rw e (rw o refl)
 
-pub ended_taken : (options : List OptionSpec) (state more : OptionState) (place : ℕ) (word : List ℕ) (words : List (List ℕ)) → is_option_or_value state word ≡ true → with_word options state place word ≡ Some more → have_ended options state.awaiting (word ∷ words) ≡ have_ended options more.awaiting words
+pub ended_taken : (options : List OptionSpec) (state more : OptionState) (place : ℕ) (word : List ℕ) (words : List (List ℕ)) → is_option_or_value state word ≡ true → with_option_or_value_word options state place word ≡ Some more → have_options_ended options state.awaiting (word ∷ words) ≡ have_options_ended options more.awaiting words
 ended_taken options state more place word words t w = by_rule state.awaiting refl t w
   where
-    by_rule : (rule : Option ValueRule) → state.awaiting ≡ rule → (is_some rule || (is_option word && not (is_double_dash word))) ≡ true → with_word_by options state place word rule ≡ Some more → have_ended options rule (word ∷ words) ≡ have_ended options more.awaiting words
-    by_rule (Some rule) a t h = ap (λ o. have_ended options o words) (ap (λ (g : OptionState). g.awaiting) (value_says state more place word rule h))
+    by_rule : (rule : Option ValueRule) → state.awaiting ≡ rule → (is_some rule || (is_option word && not (is_double_dash word))) ≡ true → with_word_if_awaited options state place word rule ≡ Some more → have_options_ended options rule (word ∷ words) ≡ have_options_ended options more.awaiting words
+    by_rule (Some rule) a t h = ap (λ o. have_options_ended options o words) (ap (λ (g : OptionState). g.awaiting) (value_says state more place word rule h))
     by_rule None a t h =
         let parts = and_parts (is_option word) (not (is_double_dash word)) t in
-        option_and_then_some (λ (e : OptionSpec). with_meaning_at state place (attached_value word) e.meaning) (option_spelled options (option_name word)) more h
+        option_and_then_some (λ (e : OptionSpec). state_with_meaning state place (attached_value word) e.meaning) (option_of_word options (option_name word)) more h
         (λ found is made.
         (let says : Says state place (attached_value word) found.meaning more = meaning_says state more place (attached_value word) found.meaning a made in
         ended_option options word words (not-true (is_double_dash word) parts.1) parts.0
-        ∙ ap (λ o. have_ended options o words) (ap (rule_unless (attached_value word)) (rule_at_is options word found is) ∙ says.awaiting)))
+        ∙ ap (λ o. have_options_ended options o words) (ap (value_rule_unless_attached (attached_value word)) (rule_at_is options word found is) ∙ says.awaiting)))
 
 -- what is said of a word that is not taken
 pub none_is : (o : Option ValueRule) → is_some o ≡ false → o ≡ None
@@ -92,7 +92,7 @@ not_option true true e h = e
 not_option true false e h = h
 not_option false end e h = refl
 
-pub going : (options : List OptionSpec) (state : OptionState) (end place : ℕ) (words : List (List ℕ)) → place + length words ≡ end → IsRemovedPackage options end (have_ended options state.awaiting words) (option_reading options state place words) (λ more. option_reading options state place (words ++ more))
+pub going : (options : List OptionSpec) (state : OptionState) (end place : ℕ) (words : List (List ℕ)) → place + length words ≡ end → IsRemovedPackage options end (have_options_ended options state.awaiting words) (option_reading options state place words) (λ more. option_reading options state place (words ++ more))
 going options state end place [] l =
     let same : place ≡ end = omega arith in
     inr (inl (record {
@@ -103,35 +103,35 @@ going options state end place [] l =
 going options state end place (word ∷ words) l =
     let next : place + 1 + length words ≡ end = omega arith in
     let here : place < end = omega arith in
-    elim (is_option_or_value state word) as (λ b. is_option_or_value state word ≡ b → IsRemovedPackage options end (have_ended options state.awaiting (word ∷ words)) (if b then or_unread state place (λ m. option_reading options m (place + 1) words) (with_word options state place word) else if is_double_dash word then reading_by state (operands_of (place + 1) words) None else with_operand (operand_at place word) (option_reading options state (place + 1) words)) (λ more. if b then or_unread state place (λ m. option_reading options m (place + 1) (words ++ more)) (with_word options state place word) else if is_double_dash word then reading_by state (operands_of (place + 1) (words ++ more)) None else with_operand (operand_at place word) (option_reading options state (place + 1) (words ++ more)))) [
-      | true ↦ λ t. elim (with_word options state place word) as (λ w. with_word options state place word ≡ w → IsRemovedPackage options end (have_ended options state.awaiting (word ∷ words)) (or_unread state place (λ m. option_reading options m (place + 1) words) w) (λ more. or_unread state place (λ m. option_reading options m (place + 1) (words ++ more)) w)) [
+    elim (is_option_or_value state word) as (λ b. is_option_or_value state word ≡ b → IsRemovedPackage options end (have_options_ended options state.awaiting (word ∷ words)) (if b then or_stop_at_unread_word state place (λ m. option_reading options m (place + 1) words) (with_option_or_value_word options state place word) else if is_double_dash word then words_reading_from_parts state (operands_of (place + 1) words) None else with_operand (operand_at place word) (option_reading options state (place + 1) words)) (λ more. if b then or_stop_at_unread_word state place (λ m. option_reading options m (place + 1) (words ++ more)) (with_option_or_value_word options state place word) else if is_double_dash word then words_reading_from_parts state (operands_of (place + 1) (words ++ more)) None else with_operand (operand_at place word) (option_reading options state (place + 1) (words ++ more)))) [
+      | true ↦ λ t. elim (with_option_or_value_word options state place word) as (λ w. with_option_or_value_word options state place word ≡ w → IsRemovedPackage options end (have_options_ended options state.awaiting (word ∷ words)) (or_stop_at_unread_word state place (λ m. option_reading options m (place + 1) words) w) (λ more. or_stop_at_unread_word state place (λ m. option_reading options m (place + 1) (words ++ more)) w)) [
         | None ↦ λ w. inl (place, refl, here, λ more. refl)
         | Some g ↦ λ w. subst (λ b. IsRemovedPackage options end b (option_reading options g (place + 1) words) (λ more. option_reading options g (place + 1) (words ++ more))) (sym (ended_taken options state g place word words t w)) (going options g end (place + 1) words next)
       ] refl
       | false ↦ λ t.
           let parts = or_parts (is_some state.awaiting) (is_option word && not (is_double_dash word)) t in
           let a : state.awaiting ≡ None = none_is state.awaiting parts.0 in
-          elim (is_double_dash word) as (λ b. is_double_dash word ≡ b → IsRemovedPackage options end (have_ended options state.awaiting (word ∷ words)) (if b then reading_by state (operands_of (place + 1) words) None else with_operand (operand_at place word) (option_reading options state (place + 1) words)) (λ more. if b then reading_by state (operands_of (place + 1) (words ++ more)) None else with_operand (operand_at place word) (option_reading options state (place + 1) (words ++ more)))) [
-            | true ↦ λ e. subst (λ b. IsRemovedPackage options end b (reading_by state (operands_of (place + 1) words) None) (λ more. reading_by state (operands_of (place + 1) (words ++ more)) None)) (sym (ap (λ o. have_ended options o (word ∷ words)) a ∙ ended_here options word words e)) (going_off options state end (place + 1) words next a)
+          elim (is_double_dash word) as (λ b. is_double_dash word ≡ b → IsRemovedPackage options end (have_options_ended options state.awaiting (word ∷ words)) (if b then words_reading_from_parts state (operands_of (place + 1) words) None else with_operand (operand_at place word) (option_reading options state (place + 1) words)) (λ more. if b then words_reading_from_parts state (operands_of (place + 1) (words ++ more)) None else with_operand (operand_at place word) (option_reading options state (place + 1) (words ++ more)))) [
+            | true ↦ λ e. subst (λ b. IsRemovedPackage options end b (words_reading_from_parts state (operands_of (place + 1) words) None) (λ more. words_reading_from_parts state (operands_of (place + 1) (words ++ more)) None)) (sym (ap (λ o. have_options_ended options o (word ∷ words)) a ∙ ended_here options word words e)) (going_off options state end (place + 1) words next a)
             | false ↦ λ e. subst (λ b. IsRemovedPackage options end b (with_operand (operand_at place word) (option_reading options state (place + 1) words)) (λ more. with_operand (operand_at place word) (option_reading options state (place + 1) (words ++ more))))
-                (sym (ap (λ o. have_ended options o (word ∷ words)) a ∙ (ended_after options word words e (not_option (is_option word) (is_double_dash word) e parts.1) ∙ ap (λ o. have_ended options o words) (sym a))))
-                (going_after options end (have_ended options state.awaiting words) (operand_at place word) (option_reading options state (place + 1) words) (λ more. option_reading options state (place + 1) (words ++ more)) (going options state end (place + 1) words next))
+                (sym (ap (λ o. have_options_ended options o (word ∷ words)) a ∙ (ended_after options word words e (not_option (is_option word) (is_double_dash word) e parts.1) ∙ ap (λ o. have_options_ended options o words) (sym a))))
+                (going_after options end (have_options_ended options state.awaiting words) (operand_at place word) (option_reading options state (place + 1) words) (λ more. option_reading options state (place + 1) (words ++ more)) (going options state end (place + 1) words next))
           ] refl
     ] refl
 
 -- .. behind the applet
-pub from_going : (start : Start) (words : List (List ℕ)) → start.read ≤ length words → IsRemovedPackage (options_of start.applet) (length words + 1) (start.ended || have_ended (options_of start.applet) None (drop start.read words)) (reading_after_applet start words) (λ more. reading_after_applet start (words ++ more))
+pub from_going : (start : Start) (words : List (List ℕ)) → start.read ≤ length words → IsRemovedPackage (options_of start.applet) (length words + 1) (start.ended || have_options_ended (options_of start.applet) None (drop start.read words)) (reading_after_applet start words) (λ more. reading_after_applet start (words ++ more))
 unfolding reading_after_applet
 from_going start words l =
     let options = options_of start.applet in
-    let state = first_state start.flags in
+    let state = option_state_at_start start.flags in
     let left = drop start.read words in
     let ends : start.read + 1 + length (drop start.read words) ≡ length words + 1 = omega (arith, length-drop start.read words) in
-    going_same options (length words + 1) (start.ended || have_ended options None left) (reading_after_applet start words)
-    (λ more. if start.ended then reading_by state (operands_of (start.read + 1) (left ++ more)) None else option_reading options state (start.read + 1) (left ++ more))
+    going_same options (length words + 1) (start.ended || have_options_ended options None left) (reading_after_applet start words)
+    (λ more. if start.ended then words_reading_from_parts state (operands_of (start.read + 1) (left ++ more)) None else option_reading options state (start.read + 1) (left ++ more))
     (λ more. reading_after_applet start (words ++ more))
-    (λ more. ap (λ rest. if start.ended then reading_by state (operands_of (start.read + 1) rest) None else option_reading options state (start.read + 1) rest) (drop_append start.read words more l))
-    (elim start.ended as (λ b. IsRemovedPackage options (length words + 1) (b || have_ended options None left) (if b then reading_by state (operands_of (start.read + 1) left) None else option_reading options state (start.read + 1) left) (λ more. if b then reading_by state (operands_of (start.read + 1) (left ++ more)) None else option_reading options state (start.read + 1) (left ++ more))) [
+    (λ more. ap (λ rest. if start.ended then words_reading_from_parts state (operands_of (start.read + 1) rest) None else option_reading options state (start.read + 1) rest) (drop_append start.read words more l))
+    (elim start.ended as (λ b. IsRemovedPackage options (length words + 1) (b || have_options_ended options None left) (if b then words_reading_from_parts state (operands_of (start.read + 1) left) None else option_reading options state (start.read + 1) left) (λ more. if b then words_reading_from_parts state (operands_of (start.read + 1) (left ++ more)) None else option_reading options state (start.read + 1) (left ++ more))) [
       | true ↦ going_off options state (length words + 1) (start.read + 1) left ends refl
       | false ↦ going options state (length words + 1) (start.read + 1) left ends
     ])

@@ -3,7 +3,7 @@ use Rattle.std.proofs.Common.{List, Some, [], ap, append-nil, append_assoc, arit
 use Rattle.std.specs.List.{slice_get}
 use Rattle.command_core.specs.declared.operands.Operand.{Operand}
 use Rattle.command_core.specs.declared.command.Applet.{Applet}
-use Rattle.words_core.specs.HelpTexts.{HelpLine, command_column, command_line, commands_text, common_help, common_text, help_line, line_text, lines_text, listed_commands, option_column, purpose, topic_of, usage_line, usage_lines_after}
+use Rattle.words_core.specs.HelpTexts.{HelpLine, command_column, command_line, commands_text, common_help, common_text, help_line, line_text, lines_text, listed_commands, option_column, purpose, help_topic_of, usage_line, usage_lines_after}
 use Rattle.words_core.specs.Options.{applet_of, applet_word}
 
 drop_all : {X : Type 0} (xs : List X) (i : ℕ) → length xs ≤ i → drop i xs ≡ []
@@ -44,7 +44,7 @@ pub usage_done : {X : Type 0} (f : X → List ℕ) (xs : List X) (i : ℕ) (fron
 usage_done f xs i front text l = ap (λ ys. text ++ usage_lines_after front (map f ys)) (drop_all xs i l) ∙ append-nil text
 
 -- the operand that is asked about
-pub topic_first : (operands : List Operand) (operand : Operand) → slice_get operands 0 ≡ Some operand → applet_of operand.text ≡ topic_of operands
+pub topic_first : (operands : List Operand) (operand : Operand) → slice_get operands 0 ≡ Some operand → applet_of operand.text ≡ help_topic_of operands
 topic_first [] operand h = absurd (cc)
 topic_first (o ∷ operands) operand h = (let same : o ≡ operand = cc in ap (λ (x : Operand). applet_of x.text) (sym same))
 

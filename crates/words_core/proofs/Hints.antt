@@ -14,9 +14,9 @@ use Rattle.words_core.specs.declared.options.Meaning.{Meaning}
 use Rattle.words_core.specs.declared.options.Meaning.TheVariants.{Flag as Plain, Kind, Value}
 use Rattle.words_core.specs.declared.reading.OptionState.{OptionState}
 use Rattle.words_core.specs.declared.reading.Reading.{Reading}
-use Rattle.words_core.specs.Grammar.{attached_value, is_double_dash, is_option, option_name, option_reading, rule_in, state_by, with_meaning, with_meaning_at, with_spec, with_word}
-use Rattle.words_core.specs.Options.{OptionSpec, common_options, option_spelled, options_of}
-use Rattle.words_core.specs.Steps.{asks_flags, flags_spelled, has_no_values, is_plain_option}
+use Rattle.words_core.specs.Grammar.{attached_value, is_double_dash, is_option, option_name, option_reading, value_rule_of_meaning, option_state_from_parts, flags_with_meaning, state_with_meaning, flags_with_option, with_option_or_value_word}
+use Rattle.words_core.specs.Options.{OptionSpec, common_options, option_of_word, options_of}
+use Rattle.words_core.specs.Steps.{operands_depend_on_flags, flags_with_spelled_option, has_no_values, is_option_without_value}
 use Rattle.words_core.specs.Usage.{shown_byte, shown_bytes, texts_joined}
 use Rattle.words_core.proofs.KindsKept.{find_passes}
 use Rattle.words_core.proofs.LinesRead.{end_kept, option_taken}
@@ -43,24 +43,24 @@ joined_chain f (x ∷ a) b = ap (λ t. f x ++ t) (joined_chain f a b) ∙ sym (a
 
 -- ---- the flags that are read
 
-plain_meaning : (flags : Flags) (place : ℕ) (held : Option (List ℕ)) (meaning : Meaning) → not (is_some (rule_in meaning)) ≡ true → with_meaning_at (state_by flags [] None) place held meaning ≡ option_map (λ more. state_by more [] None) (if is_some held then None else with_meaning flags meaning)
+plain_meaning : (flags : Flags) (place : ℕ) (held : Option (List ℕ)) (meaning : Meaning) → not (is_some (value_rule_of_meaning meaning)) ≡ true → state_with_meaning (option_state_from_parts flags [] None) place held meaning ≡ option_map (λ more. option_state_from_parts more [] None) (if is_some held then None else flags_with_meaning flags meaning)
 plain_meaning flags place held (Value rule) p = absurd (false≢true p)
 plain_meaning flags place (Some text) (Plain flag) p = refl
 plain_meaning flags place (Some text) (Kind flag) p = refl
 plain_meaning flags place None (Plain flag) p = refl
 plain_meaning flags place None (Kind flag) p = refl
 
-pub spelled_by : (options : List OptionSpec) (flags : Flags) (place : ℕ) (word : List ℕ) → list_all is_plain_option options ≡ true → with_word options (state_by flags [] None) place word ≡ option_map (λ more. state_by more [] None) (flags_spelled options flags word)
+pub spelled_by : (options : List OptionSpec) (flags : Flags) (place : ℕ) (word : List ℕ) → list_all is_option_without_value options ≡ true → with_option_or_value_word options (option_state_from_parts flags [] None) place word ≡ option_map (λ more. option_state_from_parts more [] None) (flags_with_spelled_option options flags word)
 spelled_by options flags place word p =
-    elim (option_spelled options (option_name word)) as (λ o. option_spelled options (option_name word) ≡ o → option_and_then (λ (e : OptionSpec). with_meaning_at (state_by flags [] None) place (attached_value word) e.meaning) o ≡ option_map (λ more. state_by more [] None) (if is_some (attached_value word) then None else option_and_then (with_spec flags) o)) [
-      | None ↦ λ s. elim (attached_value word) as (λ h. None ≡ option_map (λ more. state_by more [] None) (if is_some h then None else None)) [
+    elim (option_of_word options (option_name word)) as (λ o. option_of_word options (option_name word) ≡ o → option_and_then (λ (e : OptionSpec). state_with_meaning (option_state_from_parts flags [] None) place (attached_value word) e.meaning) o ≡ option_map (λ more. option_state_from_parts more [] None) (if is_some (attached_value word) then None else option_and_then (flags_with_option flags) o)) [
+      | None ↦ λ s. elim (attached_value word) as (λ h. None ≡ option_map (λ more. option_state_from_parts more [] None) (if is_some h then None else None)) [
         | None ↦ refl
         | Some text ↦ refl
       ]
-      | Some option ↦ λ s. plain_meaning flags place (attached_value word) option.meaning (find_passes is_plain_option (λ (x : OptionSpec). bytes_eq x.long (option_name word) || bytes_eq x.short (option_name word)) options option p s)
+      | Some option ↦ λ s. plain_meaning flags place (attached_value word) option.meaning (find_passes is_option_without_value (λ (x : OptionSpec). bytes_eq x.long (option_name word) || bytes_eq x.short (option_name word)) options option p s)
     ] refl
 
-pub plain_options : (applet : Applet) → has_no_values applet ≡ true → list_all is_plain_option (options_of applet) ≡ true
+pub plain_options : (applet : Applet) → has_no_values applet ≡ true → list_all is_option_without_value (options_of applet) ≡ true
 unfolding has_no_values
 plain_options applet h = h
 
@@ -75,7 +75,7 @@ version_plain = refl
 -- one more word behind the applet
 module _ (options : List OptionSpec) (flags : Flags) (words : List (List ℕ)) (i : ℕ) (word : List ℕ) (at : slice_get words i ≡ Some word) where
   abbrev state : OptionState
-  state = state_by flags [] None
+  state = option_state_from_parts flags [] None
 
   pub flags_ended : is_double_dash word ≡ true → (option_reading options state (i + 1) (drop i words)).state.flags ≡ flags
   flags_ended e = ap (λ (r : Reading). r.state.flags) (reading_ended options state words i word at (end_kept state word refl e) e)
@@ -83,24 +83,24 @@ module _ (options : List OptionSpec) (flags : Flags) (words : List (List ℕ)) (
   pub flags_operand : is_double_dash word ≡ false → is_option word ≡ false → (option_reading options state (i + 1) (drop i words)).state.flags ≡ (option_reading options state (i + 1 + 1) (drop (i + 1) words)).state.flags
   flags_operand e o = ap (λ (r : Reading). r.state.flags) (reading_operand options state words i word at (rw o refl) e)
 
-  pub flags_unread : list_all is_plain_option options ≡ true → is_double_dash word ≡ false → is_option word ≡ true → flags_spelled options flags word ≡ None → (option_reading options state (i + 1) (drop i words)).state.flags ≡ flags
+  pub flags_unread : list_all is_option_without_value options ≡ true → is_double_dash word ≡ false → is_option word ≡ true → flags_with_spelled_option options flags word ≡ None → (option_reading options state (i + 1) (drop i words)).state.flags ≡ flags
   flags_unread p e o n =
       ap (λ (r : Reading). r.state.flags) (reading_more options state words i word None at (option_taken state word refl e o)
-      (spelled_by options flags (i + 1) word p ∙ ap (option_map (λ m. state_by m [] None)) n))
+      (spelled_by options flags (i + 1) word p ∙ ap (option_map (λ m. option_state_from_parts m [] None)) n))
 
-  pub flags_taken : (more : Flags) → list_all is_plain_option options ≡ true → is_double_dash word ≡ false → is_option word ≡ true → flags_spelled options flags word ≡ Some more → (option_reading options state (i + 1) (drop i words)).state.flags ≡ (option_reading options (state_by more [] None) (i + 1 + 1) (drop (i + 1) words)).state.flags
+  pub flags_taken : (more : Flags) → list_all is_option_without_value options ≡ true → is_double_dash word ≡ false → is_option word ≡ true → flags_with_spelled_option options flags word ≡ Some more → (option_reading options state (i + 1) (drop i words)).state.flags ≡ (option_reading options (option_state_from_parts more [] None) (i + 1 + 1) (drop (i + 1) words)).state.flags
   flags_taken more p e o n =
-      ap (λ (r : Reading). r.state.flags) (reading_more options state words i word (Some (state_by more [] None)) at (option_taken state word refl e o)
-      (spelled_by options flags (i + 1) word p ∙ ap (option_map (λ m. state_by m [] None)) n))
+      ap (λ (r : Reading). r.state.flags) (reading_more options state words i word (Some (option_state_from_parts more [] None)) at (option_taken state word refl e o)
+      (spelled_by options flags (i + 1) word p ∙ ap (option_map (λ m. option_state_from_parts m [] None)) n))
 
 -- ---- the operands of a command without such flags
 
-pub plain_asked : (applet : Applet) → asks_flags applet ≡ true → has_no_values applet ≡ true
+pub plain_asked : (applet : Applet) → operands_depend_on_flags applet ≡ true → has_no_values applet ≡ true
 plain_asked Info h = info_plain
 plain_asked Version h = version_plain
 plain_asked applet h = absurd (false≢true h)
 
-pub rule_same : (applet : Applet) (flags more : Flags) → asks_flags applet ≡ false → operand_rule applet flags ≡ operand_rule applet more
+pub rule_same : (applet : Applet) (flags more : Flags) → operands_depend_on_flags applet ≡ false → operand_rule applet flags ≡ operand_rule applet more
 rule_same Info flags more h = absurd (false≢true (sym h))
 rule_same Version flags more h = absurd (false≢true (sym h))
 rule_same applet flags more h = refl

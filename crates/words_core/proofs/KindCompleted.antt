@@ -14,15 +14,15 @@ use Rattle.command_core.specs.declared.operands.OperandKind.{OperandKind}
 use Rattle.command_core.specs.declared.operands.OperandKind.TheVariants.{PackageName, Path}
 use Rattle.command_core.specs.declared.operands.OperandRule.{OperandRule}
 use Rattle.command_core.specs.declared.values.OptionValue.{OptionValue}
-use Rattle.command_core.specs.Applets.{info_operands, operand_rule}
-use Rattle.command_core.specs.Flags.{has_kind, with_flag}
-use Rattle.command_core.specs.Operands.{at_least, exactly, first_refused, is_of_kind}
+use Rattle.command_core.specs.Applets.{info_operand_rule, operand_rule}
+use Rattle.command_core.specs.Flags.{has_command_kind_flag, with_flag}
+use Rattle.command_core.specs.Operands.{at_least, exactly, first_refused_operand, is_operand_of_kind}
 use Rattle.words_core.specs.declared.reading.Reading.{Reading}
 use Rattle.words_core.specs.declared.reading.Start.{Start}
-use Rattle.words_core.specs.Grammar.{command_from, line_command, command_read, attached_value, line_start, option_name, option_reading, reading_after_applet, reading_by, refused_operand, state_by, command_of_reading}
-use Rattle.words_core.specs.Kinds.{can_get_kind, can_get_kind_by, can_get_kind_from, is_info}
+use Rattle.words_core.specs.Grammar.{spelled_command_from_start, spelled_command, command_read, attached_value, start_of_command_line, option_name, option_reading, reading_after_applet, words_reading_from_parts, refused_operand, option_state_from_parts, command_of_reading}
+use Rattle.words_core.specs.Kinds.{can_info_kind_follow, can_info_kind_follow_if_started, can_info_kind_follow_start, is_info_applet}
 use Rattle.words_core.specs.Options.{common_options, options_of}
-use Rattle.words_core.specs.Stuck.{have_ended}
+use Rattle.words_core.specs.Stuck.{have_options_ended}
 use Rattle.words_core.proofs.GoneOn.{IsRemovedPackage, from_going}
 use Rattle.words_core.proofs.KindsKept.{IsPlain, start_known}
 use Rattle.words_core.proofs.MoreWords.{refused_append}
@@ -34,7 +34,7 @@ use Rattle.words_core.proofs.WordsCompleted.{CanBeCompleted, IsJudgedGood, judge
 
 -- ---- what it is to be able to get a kind
 
-info_is : (applet : Applet) → is_info applet ≡ true → applet ≡ Info
+info_is : (applet : Applet) → is_info_applet applet ≡ true → applet ≡ Info
 info_is Info h = refl
 info_is applet h = absurd (false≢true h)
 
@@ -48,10 +48,10 @@ four true false false true h = absurd (false≢true h)
 -- ---- rules of the operands of `info`
 
 -- how many there have to be says nothing of each
-least_aside : (a b before : ℕ) (kind : OperandKind) (operands : List Operand) → first_refused (at_least a kind) before operands ≡ first_refused (at_least b kind) before operands
+least_aside : (a b before : ℕ) (kind : OperandKind) (operands : List Operand) → first_refused_operand (at_least a kind) before operands ≡ first_refused_operand (at_least b kind) before operands
 least_aside a b before kind [] = refl
 least_aside a b before kind (o ∷ operands) =
-    elim (is_of_kind kind o.text) as (λ t. (if true && t then first_refused (at_least a kind) (before + 1) operands else Some o.place) ≡ (if true && t then first_refused (at_least b kind) (before + 1) operands else Some o.place)) [
+    elim (is_operand_of_kind kind o.text) as (λ t. (if true && t then first_refused_operand (at_least a kind) (before + 1) operands else Some o.place) ≡ (if true && t then first_refused_operand (at_least b kind) (before + 1) operands else Some o.place)) [
       | true ↦ least_aside a b (before + 1) kind operands
       | false ↦ refl
     ]
@@ -65,44 +65,44 @@ packages_unless false false true owns h = absurd (false≢true (sym h))
 packages_unless false false false true h = absurd (false≢true (sym h))
 
 -- operands that are refused without a kind, and not under flags, are a path
-path_of : (flags : Flags) (operands : List Operand) (at : ℕ) → first_refused (at_least 0 PackageName) 0 operands ≡ Some at → first_refused (info_operands flags) 0 operands ≡ None → first_refused (exactly 1 Path) 0 operands ≡ None
+path_of : (flags : Flags) (operands : List Operand) (at : ℕ) → first_refused_operand (at_least 0 PackageName) 0 operands ≡ Some at → first_refused_operand (info_operand_rule flags) 0 operands ≡ None → first_refused_operand (exactly 1 Path) 0 operands ≡ None
 path_of flags operands at bad good = by_flags flags.who_owns (flags.installed || flags.contents || flags.depends) good
   where
-    refused : (least : ℕ) → first_refused (at_least least PackageName) 0 operands ≡ None → ⊥
+    refused : (least : ℕ) → first_refused_operand (at_least least PackageName) 0 operands ≡ None → ⊥
     refused least h = none-some at (sym h ∙ (least_aside least 0 0 PackageName operands ∙ bad))
 
-    by_flags : (owns packages : Bool) → first_refused (if owns then exactly 1 Path else if packages then at_least 1 PackageName else at_least 0 PackageName) 0 operands ≡ None → first_refused (exactly 1 Path) 0 operands ≡ None
+    by_flags : (owns packages : Bool) → first_refused_operand (if owns then exactly 1 Path else if packages then at_least 1 PackageName else at_least 0 PackageName) 0 operands ≡ None → first_refused_operand (exactly 1 Path) 0 operands ≡ None
     by_flags true packages h = h
     by_flags false true h = absurd (refused 1 h)
     by_flags false false h = absurd (refused 0 h)
 
 -- ---- `-W` behind the words
 
-owner_read : (flags : Flags) (values : List OptionValue) (at : ℕ) → has_kind flags ≡ false → option_reading (options_of Info) (state_by flags values None) at (codes "-W" ∷ []) ≡ reading_by (state_by (with_flag WhoOwns flags) values None) [] None
+owner_read : (flags : Flags) (values : List OptionValue) (at : ℕ) → has_command_kind_flag flags ≡ false → option_reading (options_of Info) (option_state_from_parts flags values None) at (codes "-W" ∷ []) ≡ words_reading_from_parts (option_state_from_parts (with_flag WhoOwns flags) values None) [] None
 unfolding common_options options_of option_name attached_value
 owner_read flags values at k = rw k refl
 
-enough : (operands : List Operand) (at : ℕ) → first_refused (at_least 0 PackageName) 0 operands ≡ Some at → nat_lt (length (operands ++ [])) 1 ≡ false
+enough : (operands : List Operand) (at : ℕ) → first_refused_operand (at_least 0 PackageName) 0 operands ≡ Some at → nat_lt (length (operands ++ [])) 1 ≡ false
 enough [] at h = absurd (none-some at h)
 enough (o ∷ operands) at h = le-ltb (length (o ∷ (operands ++ []))) 1 (omega arith)
 
-owner_good : (flags : Flags) (values : List OptionValue) (operands : List Operand) (at : ℕ) → first_refused (at_least 0 PackageName) 0 operands ≡ Some at → first_refused (exactly 1 Path) 0 operands ≡ None
-    → IsJudgedGood Info (behind operands (reading_by (state_by (with_flag WhoOwns flags) values None) [] None))
+owner_good : (flags : Flags) (values : List OptionValue) (operands : List Operand) (at : ℕ) → first_refused_operand (at_least 0 PackageName) 0 operands ≡ Some at → first_refused_operand (exactly 1 Path) 0 operands ≡ None
+    → IsJudgedGood Info (behind operands (words_reading_from_parts (option_state_from_parts (with_flag WhoOwns flags) values None) [] None))
 owner_good flags values operands at bad good end =
-    judged_good Info (behind operands (reading_by (state_by (with_flag WhoOwns flags) values None) [] None)) end
-    (ap (first_refused (exactly 1 Path) 0) (append-nil operands) ∙ good) refl (rw (enough operands at bad) refl)
+    judged_good Info (behind operands (words_reading_from_parts (option_state_from_parts (with_flag WhoOwns flags) values None) [] None)) end
+    (ap (first_refused_operand (exactly 1 Path) 0) (append-nil operands) ∙ good) refl (rw (enough operands at bad) refl)
 
 -- ---- the words before an operand that offends
 
 -- none of the operands before a place offends where the first that does is there
 none_before : (rule : OperandRule) (low end last place : ℕ) (operands new : List Operand) (unread : Option ℕ) → AllBetween low end operands → end ≤ place → end ≤ last
-    → IsJudgedAt last (option_or (first_refused rule 0 (operands ++ new)) unread) place → first_refused rule 0 operands ≡ None
+    → IsJudgedAt last (option_or (first_refused_operand rule 0 (operands ++ new)) unread) place → first_refused_operand rule 0 operands ≡ None
 none_before rule low end last place operands new unread placed far behind judged =
-    elim (first_refused rule 0 operands) as (λ o. first_refused rule 0 operands ≡ o → o ≡ None) [
+    elim (first_refused_operand rule 0 operands) as (λ o. first_refused_operand rule 0 operands ≡ o → o ≡ None) [
       | None ↦ λ h. refl
       | Some at ↦ λ h. absurd (
           let is = refused_between rule 0 low end at operands placed h in
-          let all : option_or (first_refused rule 0 (operands ++ new)) unread ≡ Some at = ap (λ o. option_or o unread) (refused_append rule 0 at operands new h) in
+          let all : option_or (first_refused_operand rule 0 (operands ++ new)) unread ≡ Some at = ap (λ o. option_or o unread) (refused_append rule 0 at operands new h) in
           elim judged as (λ _. ⊥) [
             | inl there ↦ (let same : at ≡ place = same_Some at place (sym all ∙ there) in omega (arith, is.1))
             | inr none ↦ none-some at (sym none.0 ∙ all)
@@ -110,7 +110,7 @@ none_before rule low end last place operands new unread placed far behind judged
           )
     ] refl
 
-module _ (words rest : List (List ℕ)) (start : Start) (at place : ℕ) (known : IsPlain start (1 + length words)) (can : can_get_kind_from words start ≡ true) (found : line_start words ≡ Ok start)
+module _ (words rest : List (List ℕ)) (start : Start) (at place : ℕ) (known : IsPlain start (1 + length words)) (can : can_info_kind_follow_start words start ≡ true) (found : start_of_command_line words ≡ Ok start)
     (bad : command_of_reading (length words + 1) start.applet (reading_after_applet start words) ≡ Err at) (before : at ≤ length words)
     (later : command_of_reading (length (words ++ rest) + 1) start.applet (reading_after_applet start (words ++ rest)) ≡ Err place) (far : length words + 1 ≤ place) (all : length words ≤ length (words ++ rest)) where
   abbrev end : ℕ
@@ -120,10 +120,10 @@ module _ (words rest : List (List ℕ)) (start : Start) (at place : ℕ) (known 
   reading = reading_after_applet start words
 
   abbrev over : Bool
-  over = start.ended || have_ended (options_of start.applet) None (drop start.read words)
+  over = start.ended || have_options_ended (options_of start.applet) None (drop start.read words)
 
-  parts : (is_info start.applet ≡ true) × (has_kind reading.state.flags ≡ false) × (is_some reading.unread ≡ false) × (over ≡ false)
-  parts = four (is_info start.applet) (has_kind reading.state.flags) (is_some reading.unread) over can
+  parts : (is_info_applet start.applet ≡ true) × (has_command_kind_flag reading.state.flags ≡ false) × (is_some reading.unread ≡ false) × (over ≡ false)
+  parts = four (is_info_applet start.applet) (has_command_kind_flag reading.state.flags) (is_some reading.unread) over can
 
   is : start.applet ≡ Info
   is = info_is start.applet parts.0
@@ -134,7 +134,7 @@ module _ (words rest : List (List ℕ)) (start : Start) (at place : ℕ) (known 
   low : start.read ≤ length words
   low = omega (arith, known.read)
 
-  rule_is : info_operands reading.state.flags ≡ at_least 0 PackageName
+  rule_is : info_operand_rule reading.state.flags ≡ at_least 0 PackageName
   rule_is = packages_unless reading.state.flags.installed reading.state.flags.contents reading.state.flags.depends reading.state.flags.who_owns (kinds_of reading.state.flags parts.1)
     where
       front : (a b c d t k : Bool) → (a || (b || (c || (d || (t || (k || false)))))) ≡ false → (a || (b || (c || (d || false)))) ≡ false
@@ -144,14 +144,14 @@ module _ (words rest : List (List ℕ)) (start : Start) (at place : ℕ) (known 
       front false false true d t k h = absurd (false≢true (sym h))
       front false false false true t k h = absurd (false≢true (sym h))
 
-      kinds_of : (flags : Flags) → has_kind flags ≡ false → (flags.installed || (flags.contents || (flags.depends || (flags.who_owns || false)))) ≡ false
+      kinds_of : (flags : Flags) → has_command_kind_flag flags ≡ false → (flags.installed || (flags.contents || (flags.depends || (flags.who_owns || false)))) ≡ false
       kinds_of flags h = front flags.installed flags.contents flags.depends flags.who_owns flags.test flags.check h
 
-  refused : first_refused (at_least 0 PackageName) 0 reading.operands ≡ Some at
+  refused : first_refused_operand (at_least 0 PackageName) 0 reading.operands ≡ Some at
   refused =
       let judged : IsJudgedAt end (option_or (refused_operand (operand_rule Info reading.state.flags) reading.operands) reading.unread) at = judged_at Info reading end at (ap (λ (a : Applet). command_of_reading end a reading) (sym is) ∙ bad) in
-      elim judged as (λ _. first_refused (at_least 0 PackageName) 0 reading.operands ≡ Some at) [
-        | inl first ↦ by_first (first_refused (at_least 0 PackageName) 0 reading.operands) (ap (λ o. option_or (first_refused (at_least 0 PackageName) 0 reading.operands) o) (sym unread) ∙ (ap (λ (r : OperandRule). option_or (first_refused r 0 reading.operands) reading.unread) (sym rule_is) ∙ first))
+      elim judged as (λ _. first_refused_operand (at_least 0 PackageName) 0 reading.operands ≡ Some at) [
+        | inl first ↦ by_first (first_refused_operand (at_least 0 PackageName) 0 reading.operands) (ap (λ o. option_or (first_refused_operand (at_least 0 PackageName) 0 reading.operands) o) (sym unread) ∙ (ap (λ (r : OperandRule). option_or (first_refused_operand r 0 reading.operands) reading.unread) (sym rule_is) ∙ first))
         | inr none ↦ absurd (omega (arith, none.1))
       ]
     where
@@ -163,28 +163,28 @@ module _ (words rest : List (List ℕ)) (start : Start) (at place : ℕ) (known 
     abbrev longer : Reading
     longer = behind reading.operands (option_reading (options_of start.applet) reading.state end rest)
 
-    path : first_refused (exactly 1 Path) 0 reading.operands ≡ None
+    path : first_refused_operand (exactly 1 Path) 0 reading.operands ≡ None
     path =
         let last : ℕ = length (words ++ rest) + 1 in
         let judged : IsJudgedAt last (option_or (refused_operand (operand_rule Info longer.state.flags) longer.operands) longer.unread) place = judged_at Info longer last place (ap (λ (a : Applet). command_of_reading last a longer) (sym is) ∙ (ap (command_of_reading last start.applet) (sym (goes_on rest)) ∙ later)) in
         path_of longer.state.flags reading.operands at refused
-        (none_before (info_operands longer.state.flags) (start.read + 1) end last place reading.operands (option_reading (options_of start.applet) reading.state end rest).operands longer.unread (from_placed start words low).operands far (omega (arith, all)) judged)
+        (none_before (info_operand_rule longer.state.flags) (start.read + 1) end last place reading.operands (option_reading (options_of start.applet) reading.state end rest).operands longer.unread (from_placed start words low).operands far (omega (arith, all)) judged)
 
-    owner : reading_after_applet start (words ++ (codes "-W" ∷ [])) ≡ behind reading.operands (reading_by (state_by (with_flag WhoOwns reading.state.flags) reading.state.values None) [] None)
+    owner : reading_after_applet start (words ++ (codes "-W" ∷ [])) ≡ behind reading.operands (words_reading_from_parts (option_state_from_parts (with_flag WhoOwns reading.state.flags) reading.state.values None) [] None)
     owner =
         goes_on (codes "-W" ∷ [])
         ∙ (ap (λ (a : Applet). behind reading.operands (option_reading (options_of a) reading.state end (codes "-W" ∷ []))) is
-        ∙ (ap (λ o. behind reading.operands (option_reading (options_of Info) (state_by reading.state.flags reading.state.values o) end (codes "-W" ∷ []))) (info_awaits words start known is)
+        ∙ (ap (λ o. behind reading.operands (option_reading (options_of Info) (option_state_from_parts reading.state.flags reading.state.values o) end (codes "-W" ∷ []))) (info_awaits words start known is)
         ∙ ap (behind reading.operands) (owner_read reading.state.flags reading.state.values end parts.1)))
 
     completed_on : CanBeCompleted words
-    unfolding line_command
+    unfolding spelled_command
     completed_on =
         let last : ℕ = length (words ++ (codes "-W" ∷ [])) + 1 in
-        let read : Reading = behind reading.operands (reading_by (state_by (with_flag WhoOwns reading.state.flags) reading.state.values None) [] None) in (
+        let read : Reading = behind reading.operands (words_reading_from_parts (option_state_from_parts (with_flag WhoOwns reading.state.flags) reading.state.values None) [] None) in (
           codes "-W" ∷ [],
           command_read last Info read,
-          ap (command_from (words ++ (codes "-W" ∷ []))) (start_stays words (codes "-W" ∷ []) start found)
+          ap (spelled_command_from_start (words ++ (codes "-W" ∷ []))) (start_stays words (codes "-W" ∷ []) start found)
               ∙ (ap (command_of_reading last start.applet) owner
               ∙ (ap (λ (a : Applet). command_of_reading last a read) is
               ∙ owner_good reading.state.flags reading.state.values reading.operands at refused path last)),
@@ -199,10 +199,10 @@ module _ (words rest : List (List ℕ)) (start : Start) (at place : ℕ) (known 
   kind_completes_from = by_going (from_going start words low)
 
 -- where more words behind offend at a later place, a kind completes the words
-pub kind_completes : (words rest : List (List ℕ)) (at place : ℕ) → can_get_kind words ≡ true → line_command words ≡ Err at → at ≤ length words → line_command (words ++ rest) ≡ Err place → length words + 1 ≤ place → length words ≤ length (words ++ rest) → CanBeCompleted words
-unfolding line_command can_get_kind
+pub kind_completes : (words rest : List (List ℕ)) (at place : ℕ) → can_info_kind_follow words ≡ true → spelled_command words ≡ Err at → at ≤ length words → spelled_command (words ++ rest) ≡ Err place → length words + 1 ≤ place → length words ≤ length (words ++ rest) → CanBeCompleted words
+unfolding spelled_command can_info_kind_follow
 kind_completes words rest at place can bad before later far all =
-    elim (line_start words) as (λ s. line_start words ≡ s → can_get_kind_by words s ≡ true → command_from words s ≡ Err at → CanBeCompleted words) [
+    elim (start_of_command_line words) as (λ s. start_of_command_line words ≡ s → can_info_kind_follow_if_started words s ≡ true → spelled_command_from_start words s ≡ Err at → CanBeCompleted words) [
       | Err first ↦ λ s none bad. absurd (false≢true none)
-      | Ok start ↦ λ s can bad. kind_completes_from words rest start at place (start_known words start s) can s bad before (sym (ap (command_from (words ++ rest)) (start_stays words rest start s)) ∙ later) far all
+      | Ok start ↦ λ s can bad. kind_completes_from words rest start at place (start_known words start s) can s bad before (sym (ap (spelled_command_from_start (words ++ rest)) (start_stays words rest start s)) ∙ later) far all
     ] refl can bad

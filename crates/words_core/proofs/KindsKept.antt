@@ -12,14 +12,14 @@ use Rattle.command_core.specs.declared.command.Applet.TheVariants.{Add}
 use Rattle.command_core.specs.declared.command.Flag.{Flag}
 use Rattle.command_core.specs.declared.command.Flag.TheVariants.{AllowUntrusted, Check, Contents, Depends, Initdb, Installed, NoScripts, Purge, Simulate, Test, WhoOwns}
 use Rattle.command_core.specs.declared.command.Flags.{Flags}
-use Rattle.command_core.specs.Sound.{allowed_flags, may_have, all_flags, are_within, has_at_most_one}
-use Rattle.command_core.specs.Flags.{has_flag, has_kind, kinds, no_flags, with_flag}
+use Rattle.command_core.specs.Sound.{allowed_flags, may_have_flags, all_flags, are_flags_allowed, has_at_most_one}
+use Rattle.command_core.specs.Flags.{has_flag, has_command_kind_flag, kinds, no_flags, with_flag}
 use Rattle.words_core.specs.declared.options.Meaning.{Meaning}
 use Rattle.words_core.specs.declared.options.Meaning.TheVariants.{Flag as Plain, Kind, Value}
 use Rattle.words_core.specs.declared.reading.AppletSite.{AppletSite}
 use Rattle.words_core.specs.declared.reading.Start.{Start}
-use Rattle.words_core.specs.Grammar.{applet_site, early_flags, is_double_dash, is_option, line_start, or_at, site_at, site_after_end, site_by, start_by, start_from, start_with, with_meaning, with_option, with_spec}
-use Rattle.words_core.specs.Options.{OptionSpec, applet_of, common_options, is_early, option_spelled, options_of}
+use Rattle.words_core.specs.Grammar.{applet_site, early_flags, is_double_dash, is_option, start_of_command_line, or_err_at, applet_site_at, site_after_end, applet_site_from_parts, start_from_parts, start_after_site, start_with_early_flags, flags_with_meaning, flags_with_option_word, flags_with_option}
+use Rattle.words_core.specs.Options.{OptionSpec, applet_of, common_options, is_early_option_word, option_of_word, options_of}
 
 -- ---- tests on lists
 pub find_passes : {A : Type 0} (q p : A → Bool) (xs : List A) (x : A) → list_all q xs ≡ true → find p xs ≡ Some x → q x ≡ true
@@ -61,11 +61,11 @@ all_listed p WhoOwns h = passes_at p all_flags 8 WhoOwns h refl
 all_listed p Test h = passes_at p all_flags 9 Test h refl
 all_listed p Check h = passes_at p all_flags 10 Check h refl
 
-pub within_at : (allowed flags : Flags) (f : Flag) → are_within allowed flags ≡ true → has_flag f flags ≡ true → has_flag f allowed ≡ true
+pub within_at : (allowed flags : Flags) (f : Flag) → are_flags_allowed allowed flags ≡ true → has_flag f flags ≡ true → has_flag f allowed ≡ true
 within_at allowed flags f w h =
     implied (has_flag f flags) (has_flag f allowed) (all_listed (λ g. not (has_flag g flags) || has_flag g allowed) f w) h
 
-pub within_from : (allowed flags : Flags) → ((f : Flag) → has_flag f flags ≡ true → has_flag f allowed ≡ true) → are_within allowed flags ≡ true
+pub within_from : (allowed flags : Flags) → ((f : Flag) → has_flag f flags ≡ true → has_flag f allowed ≡ true) → are_flags_allowed allowed flags ≡ true
 within_from allowed flags h =
     all_from (λ g. not (has_flag g flags) || has_flag g allowed) all_flags (λ g. implies (has_flag g flags) (has_flag g allowed) (h g))
 
@@ -123,11 +123,11 @@ same_with s WhoOwns h = ap (λ b. record s { who_owns = b }) (sym h)
 same_with s Test h = ap (λ b. record s { test = b }) (sym h)
 same_with s Check h = ap (λ b. record s { check = b }) (sym h)
 
-pub within_with : (allowed flags : Flags) (g : Flag) → has_flag g allowed ≡ true → are_within allowed flags ≡ true → are_within allowed (with_flag g flags) ≡ true
+pub within_with : (allowed flags : Flags) (g : Flag) → has_flag g allowed ≡ true → are_flags_allowed allowed flags ≡ true → are_flags_allowed allowed (with_flag g flags) ≡ true
 within_with allowed flags g o w =
     within_from allowed (with_flag g flags) (λ f h. has_with allowed flags g f o (λ k. within_at allowed flags f w k) h)
 
-pub within_less : (allowed flags : Flags) (g : Flag) → are_within allowed (with_flag g flags) ≡ true → are_within allowed flags ≡ true
+pub within_less : (allowed flags : Flags) (g : Flag) → are_flags_allowed allowed (with_flag g flags) ≡ true → are_flags_allowed allowed flags ≡ true
 within_less allowed flags g w =
     within_from allowed flags (λ f h. within_at allowed (with_flag g flags) f w (has_more flags g f h))
 
@@ -168,7 +168,7 @@ flags_by a b c d e i o p w t k = record {
 }
 
 -- the first kind is the only one
-single_first_by : (g : Flag) (a b c d e i o p w t k : Bool) → has_kind (flags_by a b c d e i o p w t k) ≡ false → has_at_most_one kinds (with_flag g (flags_by a b c d e i o p w t k)) ≡ true
+single_first_by : (g : Flag) (a b c d e i o p w t k : Bool) → has_command_kind_flag (flags_by a b c d e i o p w t k) ≡ false → has_at_most_one kinds (with_flag g (flags_by a b c d e i o p w t k)) ≡ true
 single_first_by g a b c d e true o p w t k h = absurd (true≢false h)
 single_first_by g a b c d e false true p w t k h = absurd (true≢false h)
 single_first_by g a b c d e false false true w t k h = absurd (true≢false h)
@@ -187,7 +187,7 @@ single_first_by WhoOwns a b c d e false false false false false false h = refl
 single_first_by Test a b c d e false false false false false false h = refl
 single_first_by Check a b c d e false false false false false false h = refl
 
-pub single_first : (g : Flag) (s : Flags) → has_kind s ≡ false → has_at_most_one kinds (with_flag g s) ≡ true
+pub single_first : (g : Flag) (s : Flags) → has_command_kind_flag s ≡ false → has_at_most_one kinds (with_flag g s) ≡ true
 single_first g s h = single_first_by g s.allow_untrusted s.no_scripts s.initdb s.simulate s.purge s.installed s.contents s.depends s.who_owns s.test s.check h
 
 any_more : (flags more : Flags) (xs : List Flag) → ((f : Flag) → has_flag f flags ≡ true → has_flag f more ≡ true) → list_any (λ f. has_flag f flags) xs ≡ true → list_any (λ f. has_flag f more) xs ≡ true
@@ -255,7 +255,7 @@ among_kinds Test k = inr (inr (inr (inr (inl refl))))
 among_kinds Check k = inr (inr (inr (inr (inr (inl refl)))))
 among_kinds g k = absurd (false≢true k)
 
-pub second_kind : (g : Flag) (flags : Flags) → is_kind g ≡ true → has_kind flags ≡ true → has_flag g flags ≡ false → has_at_most_one kinds (with_flag g flags) ≡ false
+pub second_kind : (g : Flag) (flags : Flags) → is_kind g ≡ true → has_command_kind_flag flags ≡ true → has_flag g flags ≡ false → has_at_most_one kinds (with_flag g flags) ≡ false
 second_kind g flags k h n = clash flags (with_flag g flags) g kinds (has_more flags g) n (has_it flags g) (among_kinds g k) h
 
 -- ---- the flags of an applet
@@ -279,40 +279,40 @@ unfolding common_options options_of
 own_meanings Add = refl
 own_meanings applet = refl
 
-may_have_with : (applet : Applet) (flags : Flags) (g : Flag) → has_flag g (allowed_flags applet) ≡ true → has_at_most_one kinds (with_flag g flags) ≡ true → may_have applet flags ≡ true → may_have applet (with_flag g flags) ≡ true
+may_have_with : (applet : Applet) (flags : Flags) (g : Flag) → has_flag g (allowed_flags applet) ≡ true → has_at_most_one kinds (with_flag g flags) ≡ true → may_have_flags applet flags ≡ true → may_have_flags applet (with_flag g flags) ≡ true
 may_have_with applet flags g o s m =
-    and_from (are_within (allowed_flags applet) (with_flag g flags)) (has_at_most_one kinds (with_flag g flags))
-    (within_with (allowed_flags applet) flags g o (and_parts (are_within (allowed_flags applet) flags) (has_at_most_one kinds flags) m).0) s
+    and_from (are_flags_allowed (allowed_flags applet) (with_flag g flags)) (has_at_most_one kinds (with_flag g flags))
+    (within_with (allowed_flags applet) flags g o (and_parts (are_flags_allowed (allowed_flags applet) flags) (has_at_most_one kinds flags) m).0) s
 
-pub meaning_kept : (applet : Applet) (flags : Flags) (meaning : Meaning) → is_own_meaning applet meaning ≡ true → may_have applet flags ≡ true → pass_or_none (may_have applet) (with_meaning flags meaning) ≡ true
+pub meaning_kept : (applet : Applet) (flags : Flags) (meaning : Meaning) → is_own_meaning applet meaning ≡ true → may_have_flags applet flags ≡ true → pass_or_none (may_have_flags applet) (flags_with_meaning flags meaning) ≡ true
 meaning_kept applet flags (Value rule) o m = refl
 meaning_kept applet flags (Plain g) o m =
     let own = and_parts (has_flag g (allowed_flags applet)) (not (is_kind g)) o in
-    may_have_with applet flags g own.0 (single_plain g flags (is_not (is_kind g) own.1) (and_parts (are_within (allowed_flags applet) flags) (has_at_most_one kinds flags) m).1) m
+    may_have_with applet flags g own.0 (single_plain g flags (is_not (is_kind g) own.1) (and_parts (are_flags_allowed (allowed_flags applet) flags) (has_at_most_one kinds flags) m).1) m
   where
     is_not : (b : Bool) → not b ≡ true → b ≡ false
     is_not true h = sym h
     is_not false h = refl
 meaning_kept applet flags (Kind g) o m =
     let own = and_parts (has_flag g (allowed_flags applet)) (is_kind g) o in
-    elim (has_kind flags) as (λ b. has_kind flags ≡ b → pass_or_none (may_have applet) (if b && not (has_flag g flags) then None else Some (with_flag g flags)) ≡ true) [
+    elim (has_command_kind_flag flags) as (λ b. has_command_kind_flag flags ≡ b → pass_or_none (may_have_flags applet) (if b && not (has_flag g flags) then None else Some (with_flag g flags)) ≡ true) [
       | false ↦ λ n. may_have_with applet flags g own.0 (single_first g flags n) m
-      | true ↦ λ n. elim (has_flag g flags) as (λ b. has_flag g flags ≡ b → pass_or_none (may_have applet) (if not b then None else Some (with_flag g flags)) ≡ true) [
-        | true ↦ λ e. ap (may_have applet) (same_with flags g e) ∙ m
+      | true ↦ λ n. elim (has_flag g flags) as (λ b. has_flag g flags ≡ b → pass_or_none (may_have_flags applet) (if not b then None else Some (with_flag g flags)) ≡ true) [
+        | true ↦ λ e. ap (may_have_flags applet) (same_with flags g e) ∙ m
         | false ↦ λ e. refl
       ] refl
     ] refl
 
 -- flags with an option of a table pass, where they do with each of its options
-pub option_passes : (test : Flags → Bool) (options : List OptionSpec) (flags more : Flags) (word : List ℕ) → list_all (λ o. pass_or_none test (with_spec flags o)) options ≡ true → with_option options flags word ≡ Some more → test more ≡ true
+pub option_passes : (test : Flags → Bool) (options : List OptionSpec) (flags more : Flags) (word : List ℕ) → list_all (λ o. pass_or_none test (flags_with_option flags o)) options ≡ true → flags_with_option_word options flags word ≡ Some more → test more ≡ true
 option_passes test options flags more word each e =
-    option_and_then_some (with_spec flags) (option_spelled options word) more e
-    (λ found is made. subst (λ o. pass_or_none test o ≡ true) made (find_passes (λ x. pass_or_none test (with_spec flags x)) (λ (x : OptionSpec). bytes_eq x.long word || bytes_eq x.short word) options found each is))
+    option_and_then_some (flags_with_option flags) (option_of_word options word) more e
+    (λ found is made. subst (λ o. pass_or_none test o ≡ true) made (find_passes (λ x. pass_or_none test (flags_with_option flags x)) (λ (x : OptionSpec). bytes_eq x.long word || bytes_eq x.short word) options found each is))
 
 -- the options of an applet leave it at most one kind
-pub options_kept : (applet : Applet) (flags : Flags) → may_have applet flags ≡ true → list_all (λ o. pass_or_none (may_have applet) (with_spec flags o)) (options_of applet) ≡ true
+pub options_kept : (applet : Applet) (flags : Flags) → may_have_flags applet flags ≡ true → list_all (λ o. pass_or_none (may_have_flags applet) (flags_with_option flags o)) (options_of applet) ≡ true
 options_kept applet flags m =
-    all_weaken (is_own_option applet) (λ o. pass_or_none (may_have applet) (with_spec flags o)) (options_of applet)
+    all_weaken (is_own_option applet) (λ o. pass_or_none (may_have_flags applet) (flags_with_option flags o)) (options_of applet)
     (λ o own. meaning_kept applet flags o.meaning own m) (own_meanings applet)
 
 -- ---- the applet, and the flags before it
@@ -321,10 +321,10 @@ pub record IsSite (site : AppletSite) (behind : ℕ) : Type 0 where
   pub low : 1 ≤ site.read
   pub read : site.read < behind
 
-pub named_known : (ended : Bool) (place behind : ℕ) (word : List ℕ) → 1 ≤ place → place < behind → IfOk (site_at ended place word) (λ s. IsSite s behind)
-unfolding site_at
+pub named_known : (ended : Bool) (place behind : ℕ) (word : List ℕ) → 1 ≤ place → place < behind → IfOk (applet_site_at ended place word) (λ s. IsSite s behind)
+unfolding applet_site_at
 named_known ended place behind word low l =
-    elim (applet_of word) as (λ o. applet_of word ≡ o → IfOk (or_at place (λ applet. Ok (site_by ended place applet)) o) (λ s. IsSite s behind)) [
+    elim (applet_of word) as (λ o. applet_of word ≡ o → IfOk (or_err_at place (λ applet. Ok (applet_site_from_parts ended place applet)) o) (λ s. IsSite s behind)) [
       | None ↦ λ e. tt
       | Some applet ↦ λ e. record { low = low; read = l }
     ] refl
@@ -339,10 +339,10 @@ site_known place behind [] low l = tt
 site_known place behind (word ∷ words) low l =
     let less : place + 1 + length words ≤ behind = omega arith in
     let next : 1 ≤ place + 1 = omega arith in
-    elim (is_double_dash word) as (λ b. IfOk (if b then site_after_end (place + 1) words else if is_option word then (if is_early word then applet_site (place + 1) words else Err place) else site_at false place word) (λ s. IsSite s behind)) [
+    elim (is_double_dash word) as (λ b. IfOk (if b then site_after_end (place + 1) words else if is_option word then (if is_early_option_word word then applet_site (place + 1) words else Err place) else applet_site_at false place word) (λ s. IsSite s behind)) [
       | true ↦ after_end_known (place + 1) behind words next less
-      | false ↦ elim (is_option word) as (λ b. IfOk (if b then (if is_early word then applet_site (place + 1) words else Err place) else site_at false place word) (λ s. IsSite s behind)) [
-        | true ↦ elim (is_early word) as (λ b. IfOk (if b then applet_site (place + 1) words else Err place) (λ s. IsSite s behind)) [
+      | false ↦ elim (is_option word) as (λ b. IfOk (if b then (if is_early_option_word word then applet_site (place + 1) words else Err place) else applet_site_at false place word) (λ s. IsSite s behind)) [
+        | true ↦ elim (is_early_option_word word) as (λ b. IfOk (if b then applet_site (place + 1) words else Err place) (λ s. IsSite s behind)) [
           | true ↦ site_known (place + 1) behind words next less
           | false ↦ tt
         ]
@@ -350,23 +350,23 @@ site_known place behind (word ∷ words) low l =
       ]
     ]
 
-pub early_kept : (applet : Applet) (flags : Flags) (place : ℕ) (words : List (List ℕ)) → may_have applet flags ≡ true → IfOk (early_flags (options_of applet) flags place words) (λ more. may_have applet more ≡ true)
+pub early_kept : (applet : Applet) (flags : Flags) (place : ℕ) (words : List (List ℕ)) → may_have_flags applet flags ≡ true → IfOk (early_flags (options_of applet) flags place words) (λ more. may_have_flags applet more ≡ true)
 early_kept applet flags place [] m = m
 early_kept applet flags place (word ∷ words) m =
-    elim (is_double_dash word) as (λ b. IfOk (if b then Ok flags else or_at place (λ more. early_flags (options_of applet) more (place + 1) words) (with_option (options_of applet) flags word)) (λ more. may_have applet more ≡ true)) [
+    elim (is_double_dash word) as (λ b. IfOk (if b then Ok flags else or_err_at place (λ more. early_flags (options_of applet) more (place + 1) words) (flags_with_option_word (options_of applet) flags word)) (λ more. may_have_flags applet more ≡ true)) [
       | true ↦ m
-      | false ↦ elim (with_option (options_of applet) flags word) as (λ o. with_option (options_of applet) flags word ≡ o → IfOk (or_at place (λ more. early_flags (options_of applet) more (place + 1) words) o) (λ more. may_have applet more ≡ true)) [
+      | false ↦ elim (flags_with_option_word (options_of applet) flags word) as (λ o. flags_with_option_word (options_of applet) flags word ≡ o → IfOk (or_err_at place (λ more. early_flags (options_of applet) more (place + 1) words) o) (λ more. may_have_flags applet more ≡ true)) [
         | None ↦ λ e. tt
-        | Some more ↦ λ e. early_kept applet more (place + 1) words (option_passes (may_have applet) (options_of applet) flags more word (options_kept applet flags m) e)
+        | Some more ↦ λ e. early_kept applet more (place + 1) words (option_passes (may_have_flags applet) (options_of applet) flags more word (options_kept applet flags m) e)
       ] refl
     ]
 
 -- what is known of where the applet was found
 pub record IsPlain (start : Start) (behind : ℕ) : Type 0 where
-  pub flags : may_have start.applet start.flags ≡ true
+  pub flags : may_have_flags start.applet start.flags ≡ true
   pub read : start.read < behind
 
-none_had : (applet : Applet) → may_have applet no_flags ≡ true
+none_had : (applet : Applet) → may_have_flags applet no_flags ≡ true
 none_had applet = refl
 
 -- the parts of a start that was found
@@ -375,24 +375,24 @@ pub record IsStart (words : List (List ℕ)) (start : Start) : Type 0 where
   pub found : applet_site 1 words ≡ Ok site
   pub flags : Flags
   pub early : early_flags (options_of site.applet) no_flags 1 (take (site.read - 1) words) ≡ Ok flags
-  pub same : start_by site flags ≡ start
+  pub same : start_from_parts site flags ≡ start
 
-pub start_parts : (words : List (List ℕ)) (start : Start) → line_start words ≡ Ok start → IsStart words start
+pub start_parts : (words : List (List ℕ)) (start : Start) → start_of_command_line words ≡ Ok start → IsStart words start
 start_parts words start e =
-    elim (applet_site 1 words) as (λ s. applet_site 1 words ≡ s → start_from words s ≡ Ok start → IsStart words start) [
+    elim (applet_site 1 words) as (λ s. applet_site 1 words ≡ s → start_after_site words s ≡ Ok start → IsStart words start) [
       | Err place ↦ λ s (h : Err place ≡ Ok start). absurd (cc)
       | Ok site ↦ λ s h. by_flags site s (early_flags (options_of site.applet) no_flags 1 (take (site.read - 1) words)) refl h
     ] refl e
   where
-    by_flags : (site : AppletSite) → applet_site 1 words ≡ Ok site → (f : Result Flags ℕ) → early_flags (options_of site.applet) no_flags 1 (take (site.read - 1) words) ≡ f → start_with site f ≡ Ok start → IsStart words start
+    by_flags : (site : AppletSite) → applet_site 1 words ≡ Ok site → (f : Result Flags ℕ) → early_flags (options_of site.applet) no_flags 1 (take (site.read - 1) words) ≡ f → start_with_early_flags site f ≡ Ok start → IsStart words start
     by_flags site s (Err place) f h = absurd (cc)
-    by_flags site s (Ok flags) f h = (let same : start_by site flags ≡ start = cc in record { site = site; found = s; flags = flags; early = f; same = same })
+    by_flags site s (Ok flags) f h = (let same : start_from_parts site flags ≡ start = cc in record { site = site; found = s; flags = flags; early = f; same = same })
 
-pub start_known : (words : List (List ℕ)) (start : Start) → line_start words ≡ Ok start → IsPlain start (1 + length words)
+pub start_known : (words : List (List ℕ)) (start : Start) → start_of_command_line words ≡ Ok start → IsPlain start (1 + length words)
 start_known words start e =
     let parts = start_parts words start e in
     let site : IsSite parts.site (1 + length words) = IfOk-at_ok (λ s. IsSite s (1 + length words)) parts.found (site_known 1 (1 + length words) words (omega arith) (omega arith)) in
     subst (λ (s : Start). IsPlain s (1 + length words)) parts.same (record {
-      flags = IfOk-at_ok (λ more. may_have parts.site.applet more ≡ true) parts.early (early_kept parts.site.applet no_flags 1 (take (parts.site.read - 1) words) (none_had parts.site.applet));
+      flags = IfOk-at_ok (λ more. may_have_flags parts.site.applet more ≡ true) parts.early (early_kept parts.site.applet no_flags 1 (take (parts.site.read - 1) words) (none_had parts.site.applet));
       read = site.read;
     })

@@ -11,15 +11,15 @@ use Rattle.command_core.specs.declared.command.Flag.{Flag}
 use Rattle.command_core.specs.declared.command.Flags.{Flags}
 use Rattle.command_core.specs.declared.values.OptionValue.{OptionValue}
 use Rattle.command_core.specs.declared.values.ValueRule.{ValueRule}
-use Rattle.command_core.specs.Sound.{allowed_flags, may_have, are_within, has_at_most_one, may_both_be_given, are_values, excludes_by, is_value_by, rule_for}
-use Rattle.command_core.specs.Flags.{has_flag, has_kind, kinds, with_flag}
-use Rattle.command_core.specs.Values.{excludes, is_excluded, is_given, is_spent, is_value, option_value}
+use Rattle.command_core.specs.Sound.{allowed_flags, may_have_flags, are_flags_allowed, has_at_most_one, may_both_be_given, are_allowed_values, are_exclusive_values, is_allowed_value, rule_for}
+use Rattle.command_core.specs.Flags.{has_flag, has_command_kind_flag, kinds, with_flag}
+use Rattle.command_core.specs.Values.{excludes, is_excluded_by_earlier_value, is_given, is_single_and_given, is_value, option_value}
 use Rattle.words_core.specs.declared.options.Meaning.{Meaning}
 use Rattle.words_core.specs.declared.options.Meaning.TheVariants.{Flag as Plain, Kind, Value}
 use Rattle.words_core.specs.declared.reading.OptionState.{OptionState}
-use Rattle.words_core.specs.Grammar.{attached_value, option_name, rule_in, state_by, with_meaning, with_value}
-use Rattle.words_core.specs.Lines.{flags_after, flags_with}
-use Rattle.words_core.specs.Options.{OptionSpec, option_spelled, options_of}
+use Rattle.words_core.specs.Grammar.{attached_value, option_name, value_rule_of_meaning, option_state_from_parts, flags_with_meaning, with_option_value}
+use Rattle.words_core.specs.Lines.{flags_after, flags_with_held_meaning}
+use Rattle.words_core.specs.Options.{OptionSpec, option_of_word, options_of}
 use Rattle.words_core.proofs.KindsKept.{all_weaken, has_more, is_kind, is_own_meaning, is_own_option, own_meanings, second_kind, single_less, within_less}
 
 pub same_head : {A : Type 0} (x y : A) (xs ys : List A) → x ∷ xs ≡ y ∷ ys → x ≡ y
@@ -29,37 +29,37 @@ pub same_tail : {A : Type 0} (x y : A) (xs ys : List A) → x ∷ xs ≡ y ∷ y
 same_tail x y xs ys e = cc
 
 -- flags are an applet's where they are so with one more
-pub less_by : (applet : Applet) (flag : Flag) (flags : Flags) → may_have applet (with_flag flag flags) ≡ true → may_have applet flags ≡ true
+pub less_by : (applet : Applet) (flag : Flag) (flags : Flags) → may_have_flags applet (with_flag flag flags) ≡ true → may_have_flags applet flags ≡ true
 less_by applet flag flags m =
-    let parts = and_parts (are_within (allowed_flags applet) (with_flag flag flags)) (has_at_most_one kinds (with_flag flag flags)) m in
-    and_from (are_within (allowed_flags applet) flags) (has_at_most_one kinds flags)
+    let parts = and_parts (are_flags_allowed (allowed_flags applet) (with_flag flag flags)) (has_at_most_one kinds (with_flag flag flags)) m in
+    and_from (are_flags_allowed (allowed_flags applet) flags) (has_at_most_one kinds flags)
     (within_less (allowed_flags applet) flags flag parts.0)
     (single_less flags (with_flag flag flags) kinds (has_more flags flag) parts.1)
 
-pub less_with : (applet : Applet) (flags more : Flags) (held : Option (List ℕ)) (meaning : Meaning) → flags_with flags held meaning ≡ Some more → may_have applet more ≡ true → may_have applet flags ≡ true
-less_with applet flags more held (Value rule) e m = subst (λ f. may_have applet f ≡ true) (sym (same_Some flags more e)) m
+pub less_with : (applet : Applet) (flags more : Flags) (held : Option (List ℕ)) (meaning : Meaning) → flags_with_held_meaning flags held meaning ≡ Some more → may_have_flags applet more ≡ true → may_have_flags applet flags ≡ true
+less_with applet flags more held (Value rule) e m = subst (λ f. may_have_flags applet f ≡ true) (sym (same_Some flags more e)) m
 less_with applet flags more (Some text) (Plain flag) e m = absurd (none-some more e)
 less_with applet flags more (Some text) (Kind flag) e m = absurd (none-some more e)
-less_with applet flags more None (Plain flag) e m = less_by applet flag flags (subst (λ f. may_have applet f ≡ true) (sym (same_Some (with_flag flag flags) more e)) m)
-less_with applet flags more None (Kind flag) e m = less_by applet flag flags (subst (λ f. may_have applet f ≡ true) (sym (same_Some (with_flag flag flags) more e)) m)
+less_with applet flags more None (Plain flag) e m = less_by applet flag flags (subst (λ f. may_have_flags applet f ≡ true) (sym (same_Some (with_flag flag flags) more e)) m)
+less_with applet flags more None (Kind flag) e m = less_by applet flag flags (subst (λ f. may_have_flags applet f ≡ true) (sym (same_Some (with_flag flag flags) more e)) m)
 
 -- the first of some options that say flags, and the flags behind it
 pub record IsFirstOption (options : List OptionSpec) (flags more : Flags) (word : List ℕ) (words : List (List ℕ)) : Type 0 where
   pub entry : OptionSpec
-  pub is : option_spelled options (option_name word) ≡ Some entry
+  pub is : option_of_word options (option_name word) ≡ Some entry
   pub next : Flags
-  pub says : flags_with flags (attached_value word) entry.meaning ≡ Some next
+  pub says : flags_with_held_meaning flags (attached_value word) entry.meaning ≡ Some next
   pub rest : flags_after options next words ≡ Some more
 
 pub first_option : (options : List OptionSpec) (flags more : Flags) (word : List ℕ) (words : List (List ℕ)) → flags_after options flags (word ∷ words) ≡ Some more → IsFirstOption options flags more word words
 first_option options flags more word words f =
-    option_and_then_some (λ (x : OptionSpec). option_and_then (λ m. flags_after options m words) (flags_with flags (attached_value word) x.meaning)) (option_spelled options (option_name word)) more f
-    (λ x is made. option_and_then_some (λ m. flags_after options m words) (flags_with flags (attached_value word) x.meaning) more made
+    option_and_then_some (λ (x : OptionSpec). option_and_then (λ m. flags_after options m words) (flags_with_held_meaning flags (attached_value word) x.meaning)) (option_of_word options (option_name word)) more f
+    (λ x is made. option_and_then_some (λ m. flags_after options m words) (flags_with_held_meaning flags (attached_value word) x.meaning) more made
     (λ next says rest. record { entry = x; is = is; next = next; says = says; rest = rest }))
 
 -- .. and where they are so with all that some options say
-pub less_kept : (applet : Applet) (options : List OptionSpec) (flags more : Flags) (words : List (List ℕ)) → flags_after options flags words ≡ Some more → may_have applet more ≡ true → may_have applet flags ≡ true
-less_kept applet options flags more [] e m = subst (λ f. may_have applet f ≡ true) (sym (same_Some flags more e)) m
+pub less_kept : (applet : Applet) (options : List OptionSpec) (flags more : Flags) (words : List (List ℕ)) → flags_after options flags words ≡ Some more → may_have_flags applet more ≡ true → may_have_flags applet flags ≡ true
+less_kept applet options flags more [] e m = subst (λ f. may_have_flags applet f ≡ true) (sym (same_Some flags more e)) m
 less_kept applet options flags more (word ∷ words) e m =
     let first = first_option options flags more word words e in
     less_with applet flags first.next (attached_value word) first.entry.meaning first.says (less_kept applet options first.next more words first.rest m)
@@ -67,7 +67,7 @@ less_kept applet options flags more (word ∷ words) e m =
 -- a kind may stand where the flags with it are the applet's
 abbrev pub stands_as : Applet → Flags → Meaning → Bool
 stands_as applet flags (Plain flag) = true
-stands_as applet flags (Kind flag) = is_some (with_meaning flags (Kind flag)) || not (may_have applet (with_flag flag flags))
+stands_as applet flags (Kind flag) = is_some (flags_with_meaning flags (Kind flag)) || not (may_have_flags applet (with_flag flag flags))
 stands_as applet flags (Value rule) = true
 
 abbrev pub located : Applet → Flags → OptionSpec → Bool
@@ -78,11 +78,11 @@ stands_by applet flags (Plain flag) own = refl
 stands_by applet flags (Value rule) own = refl
 stands_by applet flags (Kind flag) own =
     let kind : is_kind flag ≡ true = (and_parts (has_flag flag (allowed_flags applet)) (is_kind flag) own).1 in
-    elim (has_kind flags) as (λ b. has_kind flags ≡ b → (is_some (if b && not (has_flag flag flags) then None else Some (with_flag flag flags)) || not (may_have applet (with_flag flag flags))) ≡ true) [
+    elim (has_command_kind_flag flags) as (λ b. has_command_kind_flag flags ≡ b → (is_some (if b && not (has_flag flag flags) then None else Some (with_flag flag flags)) || not (may_have_flags applet (with_flag flag flags))) ≡ true) [
       | false ↦ λ h. refl
-      | true ↦ λ h. elim (has_flag flag flags) as (λ b. has_flag flag flags ≡ b → (is_some (if not b then None else Some (with_flag flag flags)) || not (may_have applet (with_flag flag flags))) ≡ true) [
+      | true ↦ λ h. elim (has_flag flag flags) as (λ b. has_flag flag flags ≡ b → (is_some (if not b then None else Some (with_flag flag flags)) || not (may_have_flags applet (with_flag flag flags))) ≡ true) [
         | true ↦ λ e. refl
-        | false ↦ λ e. ap not (and_right (are_within (allowed_flags applet) (with_flag flag flags)) (has_at_most_one kinds (with_flag flag flags)) (second_kind flag flags kind h e))
+        | false ↦ λ e. ap not (and_right (are_flags_allowed (allowed_flags applet) (with_flag flag flags)) (has_at_most_one kinds (with_flag flag flags)) (second_kind flag flags kind h e))
       ] refl
     ] refl
 
@@ -90,18 +90,18 @@ pub all_stand : (applet : Applet) (flags : Flags) → list_all (located applet f
 all_stand applet flags =
     all_weaken (is_own_option applet) (located applet flags) (options_of applet) (λ o own. stands_by applet flags o.meaning own) (own_meanings applet)
 
-pub kind_made : (flags : Flags) (flag : Flag) → is_some (with_meaning flags (Kind flag)) ≡ true → with_meaning flags (Kind flag) ≡ Some (with_flag flag flags)
+pub kind_made : (flags : Flags) (flag : Flag) → is_some (flags_with_meaning flags (Kind flag)) ≡ true → flags_with_meaning flags (Kind flag) ≡ Some (with_flag flag flags)
 kind_made flags flag h =
-    elim (has_kind flags && not (has_flag flag flags)) as (λ b. is_some (if b then None else Some (with_flag flag flags)) ≡ true → (if b then None else Some (with_flag flag flags)) ≡ Some (with_flag flag flags)) [
+    elim (has_command_kind_flag flags && not (has_flag flag flags)) as (λ b. is_some (if b then None else Some (with_flag flag flags)) ≡ true → (if b then None else Some (with_flag flag flags)) ≡ Some (with_flag flag flags)) [
       | true ↦ λ (none : false ≡ true). absurd (false≢true none)
       | false ↦ λ some. refl
     ] h
 
-pub flag_made : (applet : Applet) (flags next : Flags) (meaning : Meaning) → rule_in meaning ≡ None → stands_as applet flags meaning ≡ true → flags_with flags None meaning ≡ Some next → may_have applet next ≡ true → with_meaning flags meaning ≡ Some next
+pub flag_made : (applet : Applet) (flags next : Flags) (meaning : Meaning) → value_rule_of_meaning meaning ≡ None → stands_as applet flags meaning ≡ true → flags_with_held_meaning flags None meaning ≡ Some next → may_have_flags applet next ≡ true → flags_with_meaning flags meaning ≡ Some next
 flag_made applet flags next (Plain flag) r s f m = f
 flag_made applet flags next (Kind flag) r s f m =
-    let own : may_have applet (with_flag flag flags) ≡ true = subst (λ x. may_have applet x ≡ true) (sym (same_Some (with_flag flag flags) next f)) m in
-    kind_made flags flag (first (is_some (with_meaning flags (Kind flag))) (may_have applet (with_flag flag flags)) own s) ∙ f
+    let own : may_have_flags applet (with_flag flag flags) ≡ true = subst (λ x. may_have_flags applet x ≡ true) (sym (same_Some (with_flag flag flags) next f)) m in
+    kind_made flags flag (first (is_some (flags_with_meaning flags (Kind flag))) (may_have_flags applet (with_flag flag flags)) own s) ∙ f
   where
     first : (b : Bool) (c : Bool) → c ≡ true → (b || not c) ≡ true → b ≡ true
     first true c h e = refl
@@ -111,16 +111,16 @@ flag_made applet flags next (Value rule) r s f m = absurd (none-some rule (sym r
 
 -- a value among those of a command: its option was not spent, and it fits
 pub record Fits (rule : ValueRule) (text : List ℕ) (before : List OptionValue) : Type 0 where
-  pub spent : is_spent rule before ≡ false
+  pub spent : is_single_and_given rule before ≡ false
   pub good : is_value rule.kind text ≡ true
-  pub excluded : is_excluded rule text before ≡ false
+  pub excluded : is_excluded_by_earlier_value rule text before ≡ false
 
 pub apart_back : (rules : List ValueRule) (rule : ValueRule) (w : OptionValue) (text : List ℕ) (place : ℕ) → rule_for rules rule.letter ≡ Some rule → may_both_be_given rules w (option_value place rule.letter text) ≡ true → ((rule.single && (w.letter == rule.letter)) ≡ false) × (((w.letter == rule.letter) && excludes rule.kind w.text text) ≡ false)
 apart_back rules rule w text place own apart =
-    elim (w.letter == rule.letter) as (λ b. (w.letter == rule.letter) ≡ b → not (b && excludes_by (rule_for rules w.letter) w.text text) ≡ true → ((rule.single && b) ≡ false) × ((b && excludes rule.kind w.text text) ≡ false)) [
+    elim (w.letter == rule.letter) as (λ b. (w.letter == rule.letter) ≡ b → not (b && are_exclusive_values (rule_for rules w.letter) w.text text) ≡ true → ((rule.single && b) ≡ false) × ((b && excludes rule.kind w.text text) ≡ false)) [
       | true ↦ λ e h.
           let found : rule_for rules w.letter ≡ Some rule = ap (rule_for rules) (eqb-true w.letter rule.letter e) ∙ own in
-          let none : excludes_by (Some rule) w.text text ≡ false = ap (λ r. excludes_by r w.text text) (sym found) ∙ not-true (excludes_by (rule_for rules w.letter) w.text text) h in
+          let none : are_exclusive_values (Some rule) w.text text ≡ false = ap (λ r. are_exclusive_values r w.text text) (sym found) ∙ not-true (are_exclusive_values (rule_for rules w.letter) w.text text) h in
           let both = or_parts rule.single (excludes rule.kind w.text text) none in
           (alone rule.single both.0, both.1)
       | false ↦ λ e h. (and_right rule.single false refl, refl)
@@ -135,21 +135,21 @@ joined_spent false b c x y = refl
 joined_spent true true c x y = x
 joined_spent true false c x y = y
 
-pub fits_in : (rules : List ValueRule) (rule : ValueRule) (text : List ℕ) (place : ℕ) (before behind : List OptionValue) → rule_for rules rule.letter ≡ Some rule → are_values rules (before ++ (option_value place rule.letter text ∷ behind)) ≡ true → Fits rule text before
+pub fits_in : (rules : List ValueRule) (rule : ValueRule) (text : List ℕ) (place : ℕ) (before behind : List OptionValue) → rule_for rules rule.letter ≡ Some rule → are_allowed_values rules (before ++ (option_value place rule.letter text ∷ behind)) ≡ true → Fits rule text before
 fits_in rules rule text place [] behind own are =
     let v = option_value place rule.letter text in
-    let parts = and_parts (is_value_by (rule_for rules rule.letter) text && list_all (may_both_be_given rules v) behind) (are_values rules behind) are in
-    let good = (and_parts (is_value_by (rule_for rules rule.letter) text) (list_all (may_both_be_given rules v) behind) parts.0).0 in
+    let parts = and_parts (is_allowed_value (rule_for rules rule.letter) text && list_all (may_both_be_given rules v) behind) (are_allowed_values rules behind) are in
+    let good = (and_parts (is_allowed_value (rule_for rules rule.letter) text) (list_all (may_both_be_given rules v) behind) parts.0).0 in
     record {
       spent = and_right rule.single false refl;
-      good = ap (λ r. is_value_by r text) (sym own) ∙ good;
+      good = ap (λ r. is_allowed_value r text) (sym own) ∙ good;
       excluded = refl;
     }
 fits_in rules rule text place (w ∷ ws) behind own are =
     let v = option_value place rule.letter text in
     let all = ws ++ (v ∷ behind) in
-    let parts = and_parts (is_value_by (rule_for rules w.letter) w.text && list_all (may_both_be_given rules w) all) (are_values rules all) are in
-    let apart = (and_parts (is_value_by (rule_for rules w.letter) w.text) (list_all (may_both_be_given rules w) all) parts.0).1 in
+    let parts = and_parts (is_allowed_value (rule_for rules w.letter) w.text && list_all (may_both_be_given rules w) all) (are_allowed_values rules all) are in
+    let apart = (and_parts (is_allowed_value (rule_for rules w.letter) w.text) (list_all (may_both_be_given rules w) all) parts.0).1 in
     let both = and_parts (list_all (may_both_be_given rules w) ws) (list_all (may_both_be_given rules w) (v ∷ behind)) (sym (list_all-append (may_both_be_given rules w) ws (v ∷ behind)) ∙ apart) in
     let here = apart_back rules rule w text place own (and_parts (may_both_be_given rules w v) (list_all (may_both_be_given rules w) behind) both.1).0 in
     let rest = fits_in rules rule text place ws behind own parts.1 in
@@ -159,7 +159,7 @@ fits_in rules rule text place (w ∷ ws) behind own are =
       excluded = rw here.1 rest.excluded;
     }
 
-pub value_made : (state : OptionState) (place : ℕ) (text : List ℕ) (rule : ValueRule) → Fits rule text state.values → with_value state place text rule ≡ Some (state_by state.flags (state.values ++ (option_value place rule.letter text ∷ [])) None)
+pub value_made : (state : OptionState) (place : ℕ) (text : List ℕ) (rule : ValueRule) → Fits rule text state.values → with_option_value state place text rule ≡ Some (option_state_from_parts state.flags (state.values ++ (option_value place rule.letter text ∷ [])) None)
 value_made state place text rule fits = rw fits.good (rw fits.excluded refl)
 
 -- values behind others

@@ -6,41 +6,41 @@ use Rattle.std.proofs.lemmas.Bool.{and_parts, false≢true, le-ltb, leb-true, lt
 use Rattle.command_core.specs.declared.command.Applet.{Applet}
 use Rattle.command_core.specs.declared.operands.Operand.{Operand}
 use Rattle.command_core.specs.declared.operands.OperandRule.{OperandRule}
-use Rattle.command_core.specs.Applets.{needed_option, operand_rule}
-use Rattle.command_core.specs.Sound.{may_have, value_rules, is_command, are_operands, is_at_most, are_values}
+use Rattle.command_core.specs.Applets.{required_option_letter, operand_rule}
+use Rattle.command_core.specs.Sound.{may_have_flags, value_rules, is_valid_command, are_allowed_operands, is_count_within_limit, are_allowed_values}
 use Rattle.command_core.specs.Command.{CommandLine}
-use Rattle.command_core.specs.Operands.{first_refused, allows_one_more, is_of_kind}
-use Rattle.command_core.specs.Values.{lacks_value}
+use Rattle.command_core.specs.Operands.{first_refused_operand, allows_one_more, is_operand_of_kind}
+use Rattle.command_core.specs.Values.{is_required_value_missing}
 use Rattle.words_core.specs.declared.reading.Reading.{Reading}
 use Rattle.words_core.specs.Grammar.{command_of_reading, command_read, lacks_operand, refused_operand}
 
 -- there is room for one more where as many more fit
-pub room_by : (most : Option ℕ) (before more : ℕ) → is_at_most most (before + (more + 1)) ≡ true → allows_one_more most before ≡ true
+pub room_by : (most : Option ℕ) (before more : ℕ) → is_count_within_limit most (before + (more + 1)) ≡ true → allows_one_more most before ≡ true
 room_by None before more h = refl
 room_by (Some most) before more h = (let fits : before + (more + 1) ≤ most = leb-true (before + (more + 1)) most h in lt-ltb before most (omega arith))
 
 -- operands of the rule's kind, not too many, are taken
-pub taken_all : (rule : OperandRule) (before : ℕ) (operands : List Operand) → is_at_most rule.most (before + length operands) ≡ true → list_all (λ (o : Operand). is_of_kind rule.kind o.text) operands ≡ true → first_refused rule before operands ≡ None
+pub taken_all : (rule : OperandRule) (before : ℕ) (operands : List Operand) → is_count_within_limit rule.most (before + length operands) ≡ true → list_all (λ (o : Operand). is_operand_of_kind rule.kind o.text) operands ≡ true → first_refused_operand rule before operands ≡ None
 taken_all rule before [] m h = refl
 taken_all rule before (o ∷ os) m h =
-    let parts = and_parts (is_of_kind rule.kind o.text) (list_all (λ (x : Operand). is_of_kind rule.kind x.text) os) h in
+    let parts = and_parts (is_operand_of_kind rule.kind o.text) (list_all (λ (x : Operand). is_operand_of_kind rule.kind x.text) os) h in
     let here : before + length (o ∷ os) ≡ before + (length os + 1) = omega arith in
     let next : before + length (o ∷ os) ≡ before + 1 + length os = omega arith in
-    rw (room_by rule.most before (length os) (ap (is_at_most rule.most) (sym here) ∙ m))
-    (rw parts.0 (taken_all rule (before + 1) os (ap (is_at_most rule.most) (sym next) ∙ m) parts.1))
+    rw (room_by rule.most before (length os) (ap (is_count_within_limit rule.most) (sym here) ∙ m))
+    (rw parts.0 (taken_all rule (before + 1) os (ap (is_count_within_limit rule.most) (sym next) ∙ m) parts.1))
 
 -- the parts of a command
 pub record HasParts (c : CommandLine) : Type 0 where
-  pub flags : may_have c.applet c.flags ≡ true
-  pub operands : are_operands (operand_rule c.applet c.flags) c.operands ≡ true
-  pub values : are_values (value_rules c.applet) c.values ≡ true
-  pub needed : not (lacks_value (needed_option c.applet) c.values) ≡ true
+  pub flags : may_have_flags c.applet c.flags ≡ true
+  pub operands : are_allowed_operands (operand_rule c.applet c.flags) c.operands ≡ true
+  pub values : are_allowed_values (value_rules c.applet) c.values ≡ true
+  pub needed : not (is_required_value_missing (required_option_letter c.applet) c.values) ≡ true
 
-pub has_parts : (c : CommandLine) → is_command c ≡ true → HasParts c
+pub has_parts : (c : CommandLine) → is_valid_command c ≡ true → HasParts c
 has_parts c h =
-    let last = and_parts (may_have c.applet c.flags && are_operands (operand_rule c.applet c.flags) c.operands && are_values (value_rules c.applet) c.values) (not (lacks_value (needed_option c.applet) c.values)) h in
-    let values = and_parts (may_have c.applet c.flags && are_operands (operand_rule c.applet c.flags) c.operands) (are_values (value_rules c.applet) c.values) last.0 in
-    let first = and_parts (may_have c.applet c.flags) (are_operands (operand_rule c.applet c.flags) c.operands) values.0 in
+    let last = and_parts (may_have_flags c.applet c.flags && are_allowed_operands (operand_rule c.applet c.flags) c.operands && are_allowed_values (value_rules c.applet) c.values) (not (is_required_value_missing (required_option_letter c.applet) c.values)) h in
+    let values = and_parts (may_have_flags c.applet c.flags && are_allowed_operands (operand_rule c.applet c.flags) c.operands) (are_allowed_values (value_rules c.applet) c.values) last.0 in
+    let first = and_parts (may_have_flags c.applet c.flags) (are_allowed_operands (operand_rule c.applet c.flags) c.operands) values.0 in
     record { flags = first.0; operands = first.1; values = values.1; needed = last.1 }
 
 -- the operands are taken, and none is lacking
@@ -48,20 +48,20 @@ pub record AreTaken (rule : Option OperandRule) (operands : List Operand) : Type
   pub taken : refused_operand rule operands ≡ None
   pub enough : lacks_operand rule operands ≡ false
 
-pub operands_taken : (rule : Option OperandRule) (operands : List Operand) → are_operands rule operands ≡ true → AreTaken rule operands
+pub operands_taken : (rule : Option OperandRule) (operands : List Operand) → are_allowed_operands rule operands ≡ true → AreTaken rule operands
 operands_taken None operands h = absurd (false≢true h)
 operands_taken (Some rule) operands h =
-    let kind = and_parts (nat_le rule.least (length operands) && is_at_most rule.most (length operands)) (list_all (λ (o : Operand). is_of_kind rule.kind o.text) operands) h in
-    let count = and_parts (nat_le rule.least (length operands)) (is_at_most rule.most (length operands)) kind.0 in
+    let kind = and_parts (nat_le rule.least (length operands) && is_count_within_limit rule.most (length operands)) (list_all (λ (o : Operand). is_operand_of_kind rule.kind o.text) operands) h in
+    let count = and_parts (nat_le rule.least (length operands)) (is_count_within_limit rule.most (length operands)) kind.0 in
     let same : length operands ≡ 0 + length operands = omega arith in
     record {
-      taken = taken_all rule 0 operands (ap (is_at_most rule.most) (sym same) ∙ count.1) kind.1;
+      taken = taken_all rule 0 operands (ap (is_count_within_limit rule.most) (sym same) ∙ count.1) kind.1;
       enough = le-ltb (length operands) rule.least (leb-true rule.least (length operands) count.0);
     }
 
-pub sound_judged : (behind : ℕ) (applet : Applet) (reading : Reading) → reading.unread ≡ None → is_command (command_read behind applet reading) ≡ true → command_of_reading behind applet reading ≡ Ok (command_read behind applet reading)
+pub sound_judged : (behind : ℕ) (applet : Applet) (reading : Reading) → reading.unread ≡ None → is_valid_command (command_read behind applet reading) ≡ true → command_of_reading behind applet reading ≡ Ok (command_read behind applet reading)
 unfolding command_of_reading
 sound_judged behind applet reading u s =
     let parts = has_parts (command_read behind applet reading) s in
     let taken = operands_taken (operand_rule applet reading.state.flags) reading.operands parts.operands in
-    rw taken.taken (rw u (rw taken.enough (rw (not-true (lacks_value (needed_option applet) reading.state.values) parts.needed) refl)))
+    rw taken.taken (rw u (rw taken.enough (rw (not-true (is_required_value_missing (required_option_letter applet) reading.state.values) parts.needed) refl)))

@@ -12,20 +12,20 @@ use Rattle.command_core.specs.declared.command.Flags.{Flags}
 use Rattle.command_core.specs.declared.operands.Operand.{Operand}
 use Rattle.command_core.specs.declared.values.OptionValue.{OptionValue}
 use Rattle.command_core.specs.declared.values.ValueRule.{ValueRule}
-use Rattle.command_core.specs.Sound.{may_have, value_rules, is_command, are_values, rule_for}
-use Rattle.command_core.specs.Command.{CommandLine, command_by}
+use Rattle.command_core.specs.Sound.{may_have_flags, value_rules, is_valid_command, are_allowed_values, rule_for}
+use Rattle.command_core.specs.Command.{CommandLine, command_from_parts}
 use Rattle.command_core.specs.Flags.{no_flags}
 use Rattle.command_core.specs.Operands.{operand_at}
-use Rattle.command_core.specs.Values.{is_spent, option_value}
+use Rattle.command_core.specs.Values.{is_single_and_given, option_value}
 use Rattle.words_core.specs.declared.options.Meaning.{Meaning}
 use Rattle.words_core.specs.declared.options.Meaning.TheVariants.{Flag as Plain, Kind, Value}
 use Rattle.words_core.specs.declared.reading.AppletSite.{AppletSite}
 use Rattle.words_core.specs.declared.reading.OptionState.{OptionState}
 use Rattle.words_core.specs.declared.reading.Reading.{Reading}
 use Rattle.words_core.specs.declared.reading.Start.{Start}
-use Rattle.words_core.specs.Grammar.{applet_site, command_from, command_read, early_flags, first_state, attached_value, is_double_dash, is_option, line_command, line_start, operands_of, option_name, option_reading, or_at, reading_after_applet, reading_by, awaited_rule, rule_in, rule_unless, site_at, site_after_end, site_by, start_by, start_from, start_with, state_by, command_of_reading, with_meaning, with_meaning_at, with_option, with_spec, with_spelled, with_word_by}
-use Rattle.words_core.specs.Lines.{IsLineOf, flags_after, flags_with, free_words, attached_at, words_that_are_options, may_precede_applet, values_of}
-use Rattle.words_core.specs.Options.{OptionSpec, applet_of, common_options, early_words, is_early, option_spelled, options_of}
+use Rattle.words_core.specs.Grammar.{applet_site, spelled_command_from_start, command_read, early_flags, option_state_at_start, attached_value, is_double_dash, is_option, spelled_command, start_of_command_line, operands_of, option_name, option_reading, or_err_at, reading_after_applet, words_reading_from_parts, awaited_rule, value_rule_of_meaning, value_rule_unless_attached, applet_site_at, site_after_end, applet_site_from_parts, start_from_parts, start_after_site, start_with_early_flags, option_state_from_parts, command_of_reading, flags_with_meaning, state_with_meaning, flags_with_option_word, flags_with_option, with_option_word, with_word_if_awaited}
+use Rattle.words_core.specs.Lines.{IsLineOf, flags_after, flags_with_held_meaning, operand_words, attached_values, words_that_are_options, may_precede_applet, values_of}
+use Rattle.words_core.specs.Options.{OptionSpec, applet_of, common_options, early_option_words, is_early_option_word, option_of_word, options_of}
 use Rattle.words_core.proofs.GivenKept.{IsOwn, all_own, found_own}
 use Rattle.words_core.proofs.KindsKept.{find_passes}
 use Rattle.words_core.proofs.LinesFit.{Fits, IsFirstOption, all_stand, first_option, fits_in, flag_made, joined, joined_one, less_kept, same_head, same_tail, located, stands_as, value_made}
@@ -40,9 +40,9 @@ pub record IsMade (applet : Applet) (state : OptionState) (more : Flags) (all : 
   pub awaiting : state.awaiting ≡ rule
   pub own : (r : ValueRule) → rule ≡ Some r → rule_for (value_rules applet) r.letter ≡ Some r
 
-pub given_is : (state : OptionState) (more : Flags) (all : List OptionValue) → state.flags ≡ more → state.values ≡ all → state.awaiting ≡ None → state ≡ state_by more all None
+pub given_is : (state : OptionState) (more : Flags) (all : List OptionValue) → state.flags ≡ more → state.values ≡ all → state.awaiting ≡ None → state ≡ option_state_from_parts more all None
 given_is state more all f v a =
-    ap (λ x. state_by x state.values state.awaiting) f ∙ (ap (λ x. state_by more x state.awaiting) v ∙ ap (λ x. state_by more all x) a)
+    ap (λ x. option_state_from_parts x state.values state.awaiting) f ∙ (ap (λ x. option_state_from_parts more x state.awaiting) v ∙ ap (λ x. option_state_from_parts more all x) a)
 
 pub no_own : (applet : Applet) (r : ValueRule) → None ≡ Some r → rule_for (value_rules applet) r.letter ≡ Some r
 no_own applet r h = absurd (none-some r h)
@@ -50,17 +50,17 @@ no_own applet r h = absurd (none-some r h)
 -- the reading of words that are made so
 abbrev pub ReadsOldOrReplaced : Applet → OptionState → Flags → List OptionValue → ℕ → List (List ℕ) → Option ValueRule → Type 0
 ReadsOldOrReplaced applet state more all place words rule =
-    option_reading (options_of applet) state place words ≡ reading_by (state_by more all None) (free_words (options_of applet) rule place words) None
+    option_reading (options_of applet) state place words ≡ words_reading_from_parts (option_state_from_parts more all None) (operand_words (options_of applet) rule place words) None
 
 pub made_empty : (applet : Applet) (state : OptionState) (more : Flags) (all : List OptionValue) (place : ℕ) (rule : Option ValueRule) → IsMade applet state more all place [] rule → ReadsOldOrReplaced applet state more all place [] rule
 made_empty applet state more all place None made =
-    ap (λ r. reading_by state [] (option_map (λ (x : ValueRule). place) r)) made.awaiting
-    ∙ ap (λ g. reading_by g [] None) (given_is state more all (same_Some state.flags more made.flags) (sym (append-nil state.values) ∙ same_Some (state.values ++ []) all made.values) made.awaiting)
+    ap (λ r. words_reading_from_parts state [] (option_map (λ (x : ValueRule). place) r)) made.awaiting
+    ∙ ap (λ g. words_reading_from_parts g [] None) (given_is state more all (same_Some state.flags more made.flags) (sym (append-nil state.values) ∙ same_Some (state.values ++ []) all made.values) made.awaiting)
 made_empty applet state more all place (Some rule) made = absurd (none-some all made.values)
 
-pub made_value : (applet : Applet) (state : OptionState) (more : Flags) (all : List OptionValue) (place : ℕ) (word : List ℕ) (words : List (List ℕ)) (rule : ValueRule) → are_values (value_rules applet) all ≡ true → ((next : OptionState) (r : Option ValueRule) → IsMade applet next more all (place + 1) words r → ReadsOldOrReplaced applet next more all (place + 1) words r) → IsMade applet state more all place (word ∷ words) (Some rule) → ReadsOldOrReplaced applet state more all place (word ∷ words) (Some rule)
+pub made_value : (applet : Applet) (state : OptionState) (more : Flags) (all : List OptionValue) (place : ℕ) (word : List ℕ) (words : List (List ℕ)) (rule : ValueRule) → are_allowed_values (value_rules applet) all ≡ true → ((next : OptionState) (r : Option ValueRule) → IsMade applet next more all (place + 1) words r → ReadsOldOrReplaced applet next more all (place + 1) words r) → IsMade applet state more all place (word ∷ words) (Some rule) → ReadsOldOrReplaced applet state more all place (word ∷ words) (Some rule)
 made_value applet state more all place word words rule are rest made =
-    step_taken options state place word words (Some next) (awaited_taken state word rule made.awaiting) (ap (with_word_by options state place word) made.awaiting ∙ value_made state place word rule fits)
+    step_taken options state place word words (Some next) (awaited_taken state word rule made.awaiting) (ap (with_word_if_awaited options state place word) made.awaiting ∙ value_made state place word rule fits)
     ∙ rest next None (record {
       flags = made.flags;
       values = sym (one_joined state.values v (values_of options None (place + 1) words)) ∙ made.values;
@@ -75,35 +75,35 @@ made_value applet state more all place word words rule are rest made =
     v = option_value place rule.letter word
 
     next : OptionState
-    next = state_by state.flags (state.values ++ (v ∷ [])) None
+    next = option_state_from_parts state.flags (state.values ++ (v ∷ [])) None
 
     fits : Fits rule word state.values
     fits =
         let outer = joined state.values all (option_map (λ vs. v ∷ vs) (values_of options None (place + 1) words)) made.values in
         let inner = joined_one v outer.more (values_of options None (place + 1) words) outer.some in
         fits_in (value_rules applet) rule word place state.values inner.more (made.own rule refl)
-        (subst (λ vs. are_values (value_rules applet) vs ≡ true) (sym (ap (λ vs. state.values ++ vs) inner.same ∙ outer.same)) are)
+        (subst (λ vs. are_allowed_values (value_rules applet) vs ≡ true) (sym (ap (λ vs. state.values ++ vs) inner.same ∙ outer.same)) are)
 
 -- there is room for what an option says
 abbrev pub IsOutputPathFree : OptionState → Option (List ℕ) → Meaning → Type 0
 IsOutputPathFree state held (Plain flag) = Unit {0}
 IsOutputPathFree state held (Kind flag) = Unit {0}
-IsOutputPathFree state None (Value rule) = is_spent rule state.values ≡ false
+IsOutputPathFree state None (Value rule) = is_single_and_given rule state.values ≡ false
 IsOutputPathFree state (Some text) (Value rule) = Fits rule text state.values
 
-pub meaning_made : (applet : Applet) (state : OptionState) (next : Flags) (place : ℕ) (held : Option (List ℕ)) (meaning : Meaning) → state.awaiting ≡ None → stands_as applet state.flags meaning ≡ true → flags_with state.flags held meaning ≡ Some next → may_have applet next ≡ true → IsOutputPathFree state held meaning → with_meaning_at state place held meaning ≡ Some (state_by next (state.values ++ attached_at place (rule_in meaning) held) (rule_unless held (rule_in meaning)))
+pub meaning_made : (applet : Applet) (state : OptionState) (next : Flags) (place : ℕ) (held : Option (List ℕ)) (meaning : Meaning) → state.awaiting ≡ None → stands_as applet state.flags meaning ≡ true → flags_with_held_meaning state.flags held meaning ≡ Some next → may_have_flags applet next ≡ true → IsOutputPathFree state held meaning → state_with_meaning state place held meaning ≡ Some (option_state_from_parts next (state.values ++ attached_values place (value_rule_of_meaning meaning) held) (value_rule_unless_attached held (value_rule_of_meaning meaning)))
 meaning_made applet state next place None (Value rule) a s f m room =
-    rw room (ap Some (ap (λ x. state_by x state.values (Some rule)) (same_Some state.flags next f) ∙ ap (λ vs. state_by next vs (Some rule)) (sym (append-nil state.values))))
+    rw room (ap Some (ap (λ x. option_state_from_parts x state.values (Some rule)) (same_Some state.flags next f) ∙ ap (λ vs. option_state_from_parts next vs (Some rule)) (sym (append-nil state.values))))
 meaning_made applet state next place (Some text) (Value rule) a s f m room =
-    rw room.spent (value_made state place text rule room ∙ ap (λ x. Some (state_by x (state.values ++ (option_value place rule.letter text ∷ [])) None)) (same_Some state.flags next f))
+    rw room.spent (value_made state place text rule room ∙ ap (λ x. Some (option_state_from_parts x (state.values ++ (option_value place rule.letter text ∷ [])) None)) (same_Some state.flags next f))
 meaning_made applet state next place (Some text) (Plain flag) a s f m room = absurd (none-some next f)
 meaning_made applet state next place (Some text) (Kind flag) a s f m room = absurd (none-some next f)
 meaning_made applet state next place None (Plain flag) a s f m room =
-    ap (option_map (λ x. state_by x state.values state.awaiting)) (flag_made applet state.flags next (Plain flag) refl s f m)
-    ∙ ap Some (ap (λ vs. state_by next vs state.awaiting) (sym (append-nil state.values)) ∙ ap (λ r. state_by next (state.values ++ []) r) a)
+    ap (option_map (λ x. option_state_from_parts x state.values state.awaiting)) (flag_made applet state.flags next (Plain flag) refl s f m)
+    ∙ ap Some (ap (λ vs. option_state_from_parts next vs state.awaiting) (sym (append-nil state.values)) ∙ ap (λ r. option_state_from_parts next (state.values ++ []) r) a)
 meaning_made applet state next place None (Kind flag) a s f m room =
-    ap (option_map (λ x. state_by x state.values state.awaiting)) (flag_made applet state.flags next (Kind flag) refl s f m)
-    ∙ ap Some (ap (λ vs. state_by next vs state.awaiting) (sym (append-nil state.values)) ∙ ap (λ r. state_by next (state.values ++ []) r) a)
+    ap (option_map (λ x. option_state_from_parts x state.values state.awaiting)) (flag_made applet state.flags next (Kind flag) refl s f m)
+    ∙ ap Some (ap (λ vs. option_state_from_parts next vs state.awaiting) (sym (append-nil state.values)) ∙ ap (λ r. option_state_from_parts next (state.values ++ []) r) a)
 
 -- the value that is awaited comes first
 pub record ComesFirst (rule : ValueRule) (all : List OptionValue) : Type 0 where
@@ -118,37 +118,37 @@ comes_first options rule place (word ∷ words) all h =
     let one = joined_one (option_value place rule.letter word) all (values_of options None (place + 1) words) h in
     record { place = place; text = word; more = one.more; same = one.same }
 
-pub room_for : (applet : Applet) (state : OptionState) (all : List OptionValue) (place : ℕ) (words : List (List ℕ)) (held : Option (List ℕ)) (meaning : Meaning) → IsOwn applet meaning → are_values (value_rules applet) all ≡ true → option_map (λ vs. state.values ++ vs) (option_map (λ vs. attached_at place (rule_in meaning) held ++ vs) (values_of (options_of applet) (rule_unless held (rule_in meaning)) (place + 1) words)) ≡ Some all → IsOutputPathFree state held meaning
+pub room_for : (applet : Applet) (state : OptionState) (all : List OptionValue) (place : ℕ) (words : List (List ℕ)) (held : Option (List ℕ)) (meaning : Meaning) → IsOwn applet meaning → are_allowed_values (value_rules applet) all ≡ true → option_map (λ vs. state.values ++ vs) (option_map (λ vs. attached_values place (value_rule_of_meaning meaning) held ++ vs) (values_of (options_of applet) (value_rule_unless_attached held (value_rule_of_meaning meaning)) (place + 1) words)) ≡ Some all → IsOutputPathFree state held meaning
 room_for applet state all place words held (Plain flag) own are h = tt
 room_for applet state all place words held (Kind flag) own are h = tt
 room_for applet state all place words None (Value rule) own are h =
     let outer = joined state.values all (option_map (λ vs. [] ++ vs) (values_of (options_of applet) (Some rule) (place + 1) words)) h in
     let first = comes_first (options_of applet) rule (place + 1) words outer.more (sym (values_same (values_of (options_of applet) (Some rule) (place + 1) words)) ∙ outer.some) in
     (fits_in (value_rules applet) rule first.text first.place state.values first.more own
-    (subst (λ vs. are_values (value_rules applet) vs ≡ true) (sym (ap (λ vs. state.values ++ vs) first.same ∙ outer.same)) are)).spent
+    (subst (λ vs. are_allowed_values (value_rules applet) vs ≡ true) (sym (ap (λ vs. state.values ++ vs) first.same ∙ outer.same)) are)).spent
 room_for applet state all place words (Some text) (Value rule) own are h =
     let v = option_value place rule.letter text in
     let outer = joined state.values all (option_map (λ vs. (v ∷ []) ++ vs) (values_of (options_of applet) None (place + 1) words)) h in
     let inner = joined (v ∷ []) outer.more (values_of (options_of applet) None (place + 1) words) outer.some in
     fits_in (value_rules applet) rule text place state.values inner.more own
-    (subst (λ vs. are_values (value_rules applet) vs ≡ true) (sym (ap (λ vs. state.values ++ vs) inner.same ∙ outer.same)) are)
+    (subst (λ vs. are_allowed_values (value_rules applet) vs ≡ true) (sym (ap (λ vs. state.values ++ vs) inner.same ∙ outer.same)) are)
 
-pub own_rule : (applet : Applet) (held : Option (List ℕ)) (meaning : Meaning) (r : ValueRule) → IsOwn applet meaning → rule_unless held (rule_in meaning) ≡ Some r → rule_for (value_rules applet) r.letter ≡ Some r
+pub own_rule : (applet : Applet) (held : Option (List ℕ)) (meaning : Meaning) (r : ValueRule) → IsOwn applet meaning → value_rule_unless_attached held (value_rule_of_meaning meaning) ≡ Some r → rule_for (value_rules applet) r.letter ≡ Some r
 own_rule applet (Some text) meaning r own h = absurd (none-some r h)
 own_rule applet None (Plain flag) r own h = absurd (none-some r h)
 own_rule applet None (Kind flag) r own h = absurd (none-some r h)
 own_rule applet None (Value rule) r own h = subst (λ (x : ValueRule). rule_for (value_rules applet) x.letter ≡ Some x) (same_Some rule r h) own
 
-pub made_option : (applet : Applet) (state : OptionState) (more : Flags) (all : List OptionValue) (place : ℕ) (word : List ℕ) (words : List (List ℕ)) → may_have applet more ≡ true → are_values (value_rules applet) all ≡ true → is_double_dash word ≡ false → is_option word ≡ true → ((next : OptionState) (r : Option ValueRule) → IsMade applet next more all (place + 1) words r → ReadsOldOrReplaced applet next more all (place + 1) words r) → IsMade applet state more all place (word ∷ words) None → ReadsOldOrReplaced applet state more all place (word ∷ words) None
+pub made_option : (applet : Applet) (state : OptionState) (more : Flags) (all : List OptionValue) (place : ℕ) (word : List ℕ) (words : List (List ℕ)) → may_have_flags applet more ≡ true → are_allowed_values (value_rules applet) all ≡ true → is_double_dash word ≡ false → is_option word ≡ true → ((next : OptionState) (r : Option ValueRule) → IsMade applet next more all (place + 1) words r → ReadsOldOrReplaced applet next more all (place + 1) words r) → IsMade applet state more all place (word ∷ words) None → ReadsOldOrReplaced applet state more all place (word ∷ words) None
 made_option applet state more all place word words m are e o rest made =
-    step_taken options state place word words (Some next) (option_taken state word made.awaiting e o) (ap (with_word_by options state place word) made.awaiting ∙ spelled)
-    ∙ (rest next (rule_unless held (rule_in x.meaning)) (record {
+    step_taken options state place word words (Some next) (option_taken state word made.awaiting e o) (ap (with_word_if_awaited options state place word) made.awaiting ∙ spelled)
+    ∙ (rest next (value_rule_unless_attached held (value_rule_of_meaning x.meaning)) (record {
       flags = ap (λ r. flags_after options first.next (words_that_are_options options r words)) (sym awaits) ∙ first.rest;
-      values = sym (values_joined state.values (attached_at place (rule_in x.meaning) held) (values_of options (rule_unless held (rule_in x.meaning)) (place + 1) words)) ∙ values;
+      values = sym (values_joined state.values (attached_values place (value_rule_of_meaning x.meaning) held) (values_of options (value_rule_unless_attached held (value_rule_of_meaning x.meaning)) (place + 1) words)) ∙ values;
       awaiting = refl;
       own = λ r h. own_rule applet held x.meaning r own h;
     })
-    ∙ ap (λ os. reading_by (state_by more all None) os None) (ap (λ r. free_words options r (place + 1) words) (sym awaits) ∙ sym (free_option options place word words e o)))
+    ∙ ap (λ os. words_reading_from_parts (option_state_from_parts more all None) os None) (ap (λ r. operand_words options r (place + 1) words) (sym awaits) ∙ sym (free_option options place word words e o)))
   where
     options : List OptionSpec
     options = options_of applet
@@ -165,20 +165,20 @@ made_option applet state more all place word words m are e o rest made =
     own : IsOwn applet first.entry.meaning
     own = found_own applet (options_of applet) (option_name word) first.entry (all_own applet) first.is
 
-    awaits : awaited_rule (options_of applet) word ≡ rule_unless (attached_value word) (rule_in first.entry.meaning)
-    awaits = ap (rule_unless (attached_value word)) (rule_at_is (options_of applet) word first.entry first.is)
+    awaits : awaited_rule (options_of applet) word ≡ value_rule_unless_attached (attached_value word) (value_rule_of_meaning first.entry.meaning)
+    awaits = ap (value_rule_unless_attached (attached_value word)) (rule_at_is (options_of applet) word first.entry first.is)
 
-    values : option_map (λ vs. state.values ++ vs) (option_map (λ vs. attached_at place (rule_in first.entry.meaning) (attached_value word) ++ vs) (values_of (options_of applet) (rule_unless (attached_value word) (rule_in first.entry.meaning)) (place + 1) words)) ≡ Some all
+    values : option_map (λ vs. state.values ++ vs) (option_map (λ vs. attached_values place (value_rule_of_meaning first.entry.meaning) (attached_value word) ++ vs) (values_of (options_of applet) (value_rule_unless_attached (attached_value word) (value_rule_of_meaning first.entry.meaning)) (place + 1) words)) ≡ Some all
     values =
-        ap (λ r. option_map (λ vs. state.values ++ vs) (option_map (λ vs. attached_at place r (attached_value word) ++ vs) (values_of (options_of applet) (rule_unless (attached_value word) r) (place + 1) words))) (sym (rule_at_is (options_of applet) word first.entry first.is))
+        ap (λ r. option_map (λ vs. state.values ++ vs) (option_map (λ vs. attached_values place r (attached_value word) ++ vs) (values_of (options_of applet) (value_rule_unless_attached (attached_value word) r) (place + 1) words))) (sym (rule_at_is (options_of applet) word first.entry first.is))
         ∙ (ap (option_map (λ vs. state.values ++ vs)) (sym (values_option (options_of applet) place word words e o)) ∙ made.values)
 
     next : OptionState
-    next = state_by first.next (state.values ++ attached_at place (rule_in first.entry.meaning) (attached_value word)) (rule_unless (attached_value word) (rule_in first.entry.meaning))
+    next = option_state_from_parts first.next (state.values ++ attached_values place (value_rule_of_meaning first.entry.meaning) (attached_value word)) (value_rule_unless_attached (attached_value word) (value_rule_of_meaning first.entry.meaning))
 
-    spelled : with_spelled (options_of applet) state place word ≡ Some (state_by first.next (state.values ++ attached_at place (rule_in first.entry.meaning) (attached_value word)) (rule_unless (attached_value word) (rule_in first.entry.meaning)))
+    spelled : with_option_word (options_of applet) state place word ≡ Some (option_state_from_parts first.next (state.values ++ attached_values place (value_rule_of_meaning first.entry.meaning) (attached_value word)) (value_rule_unless_attached (attached_value word) (value_rule_of_meaning first.entry.meaning)))
     spelled =
-        ap (option_and_then (λ (y : OptionSpec). with_meaning_at state place (attached_value word) y.meaning)) first.is
+        ap (option_and_then (λ (y : OptionSpec). state_with_meaning state place (attached_value word) y.meaning)) first.is
         ∙ meaning_made applet state first.next place (attached_value word) first.entry.meaning made.awaiting
         (find_passes (located applet state.flags) (λ (y : OptionSpec). bytes_eq y.long (option_name word) || bytes_eq y.short (option_name word)) (options_of applet) first.entry (all_stand applet state.flags) first.is)
         first.says (less_kept applet (options_of applet) first.next more _ first.rest m)
@@ -190,8 +190,8 @@ made_end applet state more all place word words e made =
     let flags = same_Some state.flags more (sym (ap (flags_after options state.flags) (options_end options word words e)) ∙ made.flags) in
     let values = sym (append-nil state.values) ∙ same_Some (state.values ++ []) all (sym (ap (option_map (λ vs. state.values ++ vs)) (values_end options place word words e)) ∙ made.values) in
     step_end options state place word words (end_kept state word made.awaiting e) e
-    ∙ (ap (λ g. reading_by g (operands_of (place + 1) words) None) (given_is state more all flags values made.awaiting)
-    ∙ ap (λ os. reading_by (state_by more all None) os None) (sym (free_end options place word words e)))
+    ∙ (ap (λ g. words_reading_from_parts g (operands_of (place + 1) words) None) (given_is state more all flags values made.awaiting)
+    ∙ ap (λ os. words_reading_from_parts (option_state_from_parts more all None) os None) (sym (free_end options place word words e)))
 
 pub made_free : (applet : Applet) (state : OptionState) (more : Flags) (all : List OptionValue) (place : ℕ) (word : List ℕ) (words : List (List ℕ)) → is_double_dash word ≡ false → is_option word ≡ false → (IsMade applet state more all (place + 1) words None → ReadsOldOrReplaced applet state more all (place + 1) words None) → IsMade applet state more all place (word ∷ words) None → ReadsOldOrReplaced applet state more all place (word ∷ words) None
 made_free applet state more all place word words e o rest made =
@@ -203,10 +203,10 @@ made_free applet state more all place word words e o rest made =
       own = made.own;
     }) in
     step_free options state place word words (free_kept state word made.awaiting o) e
-    ∙ (ap (λ (r : Reading). reading_by r.state (operand_at place word ∷ r.operands) r.unread) left
-    ∙ ap (λ os. reading_by (state_by more all None) os None) (sym (free_here options place word words e o)))
+    ∙ (ap (λ (r : Reading). words_reading_from_parts r.state (operand_at place word ∷ r.operands) r.unread) left
+    ∙ ap (λ os. words_reading_from_parts (option_state_from_parts more all None) os None) (sym (free_here options place word words e o)))
 
-pub made_word : (applet : Applet) (state : OptionState) (more : Flags) (all : List OptionValue) (place : ℕ) (word : List ℕ) (words : List (List ℕ)) (rule : Option ValueRule) → may_have applet more ≡ true → are_values (value_rules applet) all ≡ true → ((next : OptionState) (r : Option ValueRule) → IsMade applet next more all (place + 1) words r → ReadsOldOrReplaced applet next more all (place + 1) words r) → IsMade applet state more all place (word ∷ words) rule → ReadsOldOrReplaced applet state more all place (word ∷ words) rule
+pub made_word : (applet : Applet) (state : OptionState) (more : Flags) (all : List OptionValue) (place : ℕ) (word : List ℕ) (words : List (List ℕ)) (rule : Option ValueRule) → may_have_flags applet more ≡ true → are_allowed_values (value_rules applet) all ≡ true → ((next : OptionState) (r : Option ValueRule) → IsMade applet next more all (place + 1) words r → ReadsOldOrReplaced applet next more all (place + 1) words r) → IsMade applet state more all place (word ∷ words) rule → ReadsOldOrReplaced applet state more all place (word ∷ words) rule
 made_word applet state more all place word words (Some rule) m are rest made = made_value applet state more all place word words rule are rest made
 made_word applet state more all place word words None m are rest made =
     elim (is_double_dash word) as (λ b. is_double_dash word ≡ b → ReadsOldOrReplaced applet state more all place (word ∷ words) None) [
@@ -218,13 +218,13 @@ made_word applet state more all place word words None m are rest made =
     ] refl
 
 -- options, values and operands of an applet are read
-pub reading_made : (applet : Applet) (more : Flags) (all : List OptionValue) → may_have applet more ≡ true → are_values (value_rules applet) all ≡ true → (place : ℕ) (words : List (List ℕ)) (state : OptionState) (rule : Option ValueRule) → IsMade applet state more all place words rule → ReadsOldOrReplaced applet state more all place words rule
+pub reading_made : (applet : Applet) (more : Flags) (all : List OptionValue) → may_have_flags applet more ≡ true → are_allowed_values (value_rules applet) all ≡ true → (place : ℕ) (words : List (List ℕ)) (state : OptionState) (rule : Option ValueRule) → IsMade applet state more all place words rule → ReadsOldOrReplaced applet state more all place words rule
 reading_made applet more all m are place [] state rule made = made_empty applet state more all place rule made
 reading_made applet more all m are place (word ∷ words) state rule made =
     made_word applet state more all place word words rule m are (λ next r h. reading_made applet more all m are (place + 1) words next r h) made
 
 -- the first word that is no option stands no earlier than the words
-pub free_place : (options : List OptionSpec) (rule : Option ValueRule) (place : ℕ) (words : List (List ℕ)) (first : Operand) (rest : List Operand) → free_words options rule place words ≡ first ∷ rest → place ≤ first.place
+pub free_place : (options : List OptionSpec) (rule : Option ValueRule) (place : ℕ) (words : List (List ℕ)) (first : Operand) (rest : List Operand) → operand_words options rule place words ≡ first ∷ rest → place ≤ first.place
 free_place options rule place [] first rest h = absurd (cc)
 free_place options (Some rule) place (word ∷ words) first rest h =
     let later : place + 1 ≤ first.place = free_place options None (place + 1) words first rest h in omega arith
@@ -242,18 +242,18 @@ free_place options None place (word ∷ words) first rest h =
     by_operands (next ∷ left) e = (let same : place + 1 ≡ first.place = ap (λ (x : Operand). x.place) (same_head (operand_at (place + 1) next) first _ rest e) in omega arith)
 
 -- a word that names an applet is found
-pub at_named : (ended : Bool) (place : ℕ) (word : List ℕ) (applet : Applet) → applet_of word ≡ Some applet → site_at ended place word ≡ Ok (site_by ended place applet)
-unfolding site_at
-at_named ended place word applet n = ap (or_at place (λ a. Ok (site_by ended place a))) n
+pub at_named : (ended : Bool) (place : ℕ) (word : List ℕ) (applet : Applet) → applet_of word ≡ Some applet → applet_site_at ended place word ≡ Ok (applet_site_from_parts ended place applet)
+unfolding applet_site_at
+at_named ended place word applet n = ap (or_err_at place (λ a. Ok (applet_site_from_parts ended place a))) n
 
 -- the applet is found, where a word names it
 pub record IsFound (applet : Applet) (flags : Flags) (place : ℕ) (words : List (List ℕ)) (read : ℕ) (r : Result AppletSite ℕ) : Type 0 where
   pub ended : Bool
-  pub is : r ≡ Ok (site_by ended read applet)
+  pub is : r ≡ Ok (applet_site_from_parts ended read applet)
   pub more : Flags
   pub early : early_flags (options_of applet) flags place (take (read - place) words) ≡ Ok more
 
-after_end_found : (place : ℕ) (words : List (List ℕ)) (first : Operand) (rest : List Operand) (applet : Applet) → applet_of first.text ≡ Some applet → operands_of place words ≡ first ∷ rest → (first.place ≡ place) × (site_after_end place words ≡ Ok (site_by true place applet))
+after_end_found : (place : ℕ) (words : List (List ℕ)) (first : Operand) (rest : List Operand) (applet : Applet) → applet_of first.text ≡ Some applet → operands_of place words ≡ first ∷ rest → (first.place ≡ place) × (site_after_end place words ≡ Ok (applet_site_from_parts true place applet))
 unfolding site_after_end
 after_end_found place [] first rest applet n h = absurd (cc)
 after_end_found place (word ∷ words) first rest applet n h = (
@@ -271,28 +271,28 @@ is_flag None = true
 is_flag (Some o) = is_flag_meaning o.meaning
 
 abbrev pub says_flag : Applet → List ℕ → Bool
-says_flag applet word = is_flag (option_spelled (options_of applet) word)
+says_flag applet word = is_flag (option_of_word (options_of applet) word)
 
-pub early_flag : (applet : Applet) → list_all (says_flag applet) early_words ≡ true
-unfolding common_options options_of early_words
+pub early_flag : (applet : Applet) → list_all (says_flag applet) early_option_words ≡ true
+unfolding common_options options_of early_option_words
 early_flag Add = refl
 early_flag applet = refl
 
-flag_read : (flags more : Flags) (meaning : Meaning) → is_flag_meaning meaning ≡ true → flags_with flags None meaning ≡ Some more → with_meaning flags meaning ≡ Some more
+flag_read : (flags more : Flags) (meaning : Meaning) → is_flag_meaning meaning ≡ true → flags_with_held_meaning flags None meaning ≡ Some more → flags_with_meaning flags meaning ≡ Some more
 flag_read flags more (Plain flag) f h = h
 flag_read flags more (Kind flag) f h = absurd (false≢true f)
 flag_read flags more (Value rule) f h = absurd (false≢true f)
 
-early_read : (applet : Applet) (flags next : Flags) (word : List ℕ) (option : OptionSpec) → is_early word ≡ true → option_spelled (options_of applet) (option_name word) ≡ Some option → flags_with flags (attached_value word) option.meaning ≡ Some next → with_option (options_of applet) flags word ≡ Some next
+early_read : (applet : Applet) (flags next : Flags) (word : List ℕ) (option : OptionSpec) → is_early_option_word word ≡ true → option_of_word (options_of applet) (option_name word) ≡ Some option → flags_with_held_meaning flags (attached_value word) option.meaning ≡ Some next → flags_with_option_word (options_of applet) flags word ≡ Some next
 early_read applet flags next word option early is says =
     let whole = whole_early word early in
-    let found : option_spelled (options_of applet) word ≡ Some option = ap (option_spelled (options_of applet)) (sym whole.name) ∙ is in
+    let found : option_of_word (options_of applet) word ≡ Some option = ap (option_of_word (options_of applet)) (sym whole.name) ∙ is in
     let flag : is_flag_meaning option.meaning ≡ true = ap is_flag (sym found) ∙ by_early (says_flag applet) word (early_flag applet) early in
-    ap (option_and_then (with_spec flags)) found
-    ∙ flag_read flags next option.meaning flag (ap (λ h. flags_with flags h option.meaning) (sym whole.held) ∙ says)
+    ap (option_and_then (flags_with_option flags)) found
+    ∙ flag_read flags next option.meaning flag (ap (λ h. flags_with_held_meaning flags h option.meaning) (sym whole.held) ∙ says)
 
 -- the words up to the applet are read
-pub site_found : (flags all : Flags) (place : ℕ) (words : List (List ℕ)) (first : Operand) (rest : List Operand) (applet : Applet) → applet_of first.text ≡ Some applet → free_words (options_of applet) None place words ≡ first ∷ rest → list_all may_precede_applet (take (first.place - place) words) ≡ true → flags_after (options_of applet) flags (words_that_are_options (options_of applet) None words) ≡ Some all → IsFound applet flags place words first.place (applet_site place words)
+pub site_found : (flags all : Flags) (place : ℕ) (words : List (List ℕ)) (first : Operand) (rest : List Operand) (applet : Applet) → applet_of first.text ≡ Some applet → operand_words (options_of applet) None place words ≡ first ∷ rest → list_all may_precede_applet (take (first.place - place) words) ≡ true → flags_after (options_of applet) flags (words_that_are_options (options_of applet) None words) ≡ Some all → IsFound applet flags place words first.place (applet_site place words)
 site_found flags all place [] first rest applet n h early says = absurd (cc)
 site_found flags all place (word ∷ words) first rest applet n h early says =
     elim (is_double_dash word) as (λ b. is_double_dash word ≡ b → IsFound applet flags place (word ∷ words) first.place (applet_site place (word ∷ words))) [
@@ -301,7 +301,7 @@ site_found flags all place (word ∷ words) first rest applet n h early says =
           let one : first.place - place ≡ suc 0 = omega (arith, found.0) in
           record {
             ended = true;
-            is = seek_end place word words e ∙ (found.1 ∙ ap (λ k. Ok (site_by true k applet)) (sym found.0));
+            is = seek_end place word words e ∙ (found.1 ∙ ap (λ k. Ok (applet_site_from_parts true k applet)) (sym found.0));
             more = flags;
             early = ap (λ k. early_flags (options_of applet) flags place (take k (word ∷ words))) one ∙ flags_end (options_of applet) flags place word [] e;
           }
@@ -313,34 +313,34 @@ site_found flags all place (word ∷ words) first rest applet n h early says =
             let none : first.place - place ≡ 0 = omega (arith, at) in
             record {
               ended = false;
-              is = seek_here place word words e o ∙ (at_named false place word applet (ap (λ (x : Operand). applet_of x.text) same ∙ n) ∙ ap (λ k. Ok (site_by false k applet)) at);
+              is = seek_here place word words e o ∙ (at_named false place word applet (ap (λ (x : Operand). applet_of x.text) same ∙ n) ∙ ap (λ k. Ok (applet_site_from_parts false k applet)) at);
               more = flags;
               early = ap (λ k. early_flags (options_of applet) flags place (take k (word ∷ words))) none;
             }
       ] refl
     ] refl
   where
-    flag_rule : (meaning : Meaning) → is_flag_meaning meaning ≡ true → rule_in meaning ≡ None
+    flag_rule : (meaning : Meaning) → is_flag_meaning meaning ≡ true → value_rule_of_meaning meaning ≡ None
     flag_rule (Plain flag) f = refl
     flag_rule (Kind flag) f = refl
     flag_rule (Value rule) f = absurd (false≢true f)
 
-    by_option : ((next : Flags) → free_words (options_of applet) None (place + 1) words ≡ first ∷ rest → list_all may_precede_applet (take (first.place - (place + 1)) words) ≡ true → flags_after (options_of applet) next (words_that_are_options (options_of applet) None words) ≡ Some all → IsFound applet next (place + 1) words first.place (applet_site (place + 1) words)) → is_double_dash word ≡ false → is_option word ≡ true → IsFound applet flags place (word ∷ words) first.place (applet_site place (word ∷ words))
+    by_option : ((next : Flags) → operand_words (options_of applet) None (place + 1) words ≡ first ∷ rest → list_all may_precede_applet (take (first.place - (place + 1)) words) ≡ true → flags_after (options_of applet) next (words_that_are_options (options_of applet) None words) ≡ Some all → IsFound applet next (place + 1) words first.place (applet_site (place + 1) words)) → is_double_dash word ≡ false → is_option word ≡ true → IsFound applet flags place (word ∷ words) first.place (applet_site place (word ∷ words))
     by_option later_found e o =
         let options = options_of applet in
-        let behind_it : free_words options (awaited_rule options word) (place + 1) words ≡ first ∷ rest = sym (free_option options place word words e o) ∙ h in
+        let behind_it : operand_words options (awaited_rule options word) (place + 1) words ≡ first ∷ rest = sym (free_option options place word words e o) ∙ h in
         let later : place + 1 ≤ first.place = free_place options (awaited_rule options word) (place + 1) words first rest behind_it in
         let next : suc (first.place - (place + 1)) ≡ first.place - place = omega (arith, later) in
         let parts = and_parts (may_precede_applet word) (list_all may_precede_applet (take (first.place - (place + 1)) words)) (ap (λ k. list_all may_precede_applet (take k (word ∷ words))) next ∙ early) in
-        let y : is_early word ≡ true = ap (λ b. b || is_early word) (sym e) ∙ parts.0 in
+        let y : is_early_option_word word ≡ true = ap (λ b. b || is_early_option_word word) (sym e) ∙ parts.0 in
         let option = first_option options flags all word (words_that_are_options options (awaited_rule options word) words) (sym (ap (flags_after options flags) (options_here options word words e o)) ∙ says) in
         let whole = whole_early word y in
         let flag : is_flag_meaning option.entry.meaning ≡ true =
-        ap is_flag (sym (ap (option_spelled options) (sym whole.name) ∙ option.is)) ∙ by_early (says_flag applet) word (early_flag applet) y in
+        ap is_flag (sym (ap (option_of_word options) (sym whole.name) ∙ option.is)) ∙ by_early (says_flag applet) word (early_flag applet) y in
         let none : awaited_rule options word ≡ None = no_rule_after options word whole.held (rule_at_is options word option.entry option.is ∙ flag_rule option.entry.meaning flag) in
-        let m : with_option options flags word ≡ Some option.next = early_read applet flags option.next word option.entry y option.is option.says in
+        let m : flags_with_option_word options flags word ≡ Some option.next = early_read applet flags option.next word option.entry y option.is option.says in
         let found = later_found option.next
-        (ap (λ r. free_words options r (place + 1) words) (sym none) ∙ behind_it) parts.1
+        (ap (λ r. operand_words options r (place + 1) words) (sym none) ∙ behind_it) parts.1
         (ap (λ r. flags_after options option.next (words_that_are_options options r words)) (sym none) ∙ option.rest) in
         record {
           ended = found.ended;
@@ -351,13 +351,13 @@ site_found flags all place (word ∷ words) first rest applet n h early says =
         }
 
 -- the words behind the applet are read
-pub from_made : (start : Start) (more : Flags) (all : List OptionValue) (words : List (List ℕ)) → flags_after (options_of start.applet) start.flags (option_rest start.ended (options_of start.applet) (drop start.read words)) ≡ Some more → value_rest start.ended (options_of start.applet) (start.read + 1) (drop start.read words) ≡ Some all → may_have start.applet more ≡ true → are_values (value_rules start.applet) all ≡ true → reading_after_applet start words ≡ reading_by (state_by more all None) (free_rest start.ended (options_of start.applet) (start.read + 1) (drop start.read words)) None
+pub from_made : (start : Start) (more : Flags) (all : List OptionValue) (words : List (List ℕ)) → flags_after (options_of start.applet) start.flags (option_rest start.ended (options_of start.applet) (drop start.read words)) ≡ Some more → value_rest start.ended (options_of start.applet) (start.read + 1) (drop start.read words) ≡ Some all → may_have_flags start.applet more ≡ true → are_allowed_values (value_rules start.applet) all ≡ true → reading_after_applet start words ≡ words_reading_from_parts (option_state_from_parts more all None) (free_rest start.ended (options_of start.applet) (start.read + 1) (drop start.read words)) None
 unfolding reading_after_applet
 from_made start more all words f v m are =
     let options = options_of start.applet in
-    elim start.ended as (λ b. flags_after options start.flags (option_rest b options (drop start.read words)) ≡ Some more → value_rest b options (start.read + 1) (drop start.read words) ≡ Some all → (if b then reading_by (first_state start.flags) (operands_of (start.read + 1) (drop start.read words)) None else option_reading options (first_state start.flags) (start.read + 1) (drop start.read words)) ≡ reading_by (state_by more all None) (free_rest b options (start.read + 1) (drop start.read words)) None) [
-      | true ↦ λ (h : Some start.flags ≡ Some more) (w : Some [] ≡ Some all). ap (λ g. reading_by g (operands_of (start.read + 1) (drop start.read words)) None) (given_is (first_state start.flags) more all (same_Some start.flags more h) (same_Some [] all w) refl)
-      | false ↦ λ h w. reading_made start.applet more all m are (start.read + 1) (drop start.read words) (first_state start.flags) None (record {
+    elim start.ended as (λ b. flags_after options start.flags (option_rest b options (drop start.read words)) ≡ Some more → value_rest b options (start.read + 1) (drop start.read words) ≡ Some all → (if b then words_reading_from_parts (option_state_at_start start.flags) (operands_of (start.read + 1) (drop start.read words)) None else option_reading options (option_state_at_start start.flags) (start.read + 1) (drop start.read words)) ≡ words_reading_from_parts (option_state_from_parts more all None) (free_rest b options (start.read + 1) (drop start.read words)) None) [
+      | true ↦ λ (h : Some start.flags ≡ Some more) (w : Some [] ≡ Some all). ap (λ g. words_reading_from_parts g (operands_of (start.read + 1) (drop start.read words)) None) (given_is (option_state_at_start start.flags) more all (same_Some start.flags more h) (same_Some [] all w) refl)
+      | false ↦ λ h w. reading_made start.applet more all m are (start.read + 1) (drop start.read words) (option_state_at_start start.flags) None (record {
         flags = h;
         values = values_same (values_of options None (start.read + 1) (drop start.read words)) ∙ w;
         awaiting = refl;
@@ -365,32 +365,32 @@ from_made start more all words f v m are =
       })
     ] f v
 
-pub made_line : (words : List (List ℕ)) (command : CommandLine) → IsLineOf words command → line_command words ≡ Ok command
-unfolding line_command
+pub made_line : (words : List (List ℕ)) (command : CommandLine) → IsLineOf words command → spelled_command words ≡ Ok command
+unfolding spelled_command
 made_line words command line =
     let found = site_found no_flags command.flags 1 words line.applet command.operands command.applet line.names line.free line.early line.flags in
-    let site : AppletSite = site_by found.ended line.applet.place command.applet in
-    by_start (start_by site found.more) refl
-    (ap (start_from words) found.is ∙ ap (start_with site) found.early)
+    let site : AppletSite = applet_site_from_parts found.ended line.applet.place command.applet in
+    by_start (start_from_parts site found.more) refl
+    (ap (start_after_site words) found.is ∙ ap (start_with_early_flags site) found.early)
   where
-    by_start : (start : Start) → start.applet ≡ command.applet → line_start words ≡ Ok start → command_from words (line_start words) ≡ Ok command
+    by_start : (start : Start) → start.applet ≡ command.applet → start_of_command_line words ≡ Ok start → spelled_command_from_start words (start_of_command_line words) ≡ Ok command
     by_start start applet s =
         let options = options_of start.applet in
         let from : IsFrom no_flags 1 words start = line_from words start s in
         let at : suc from.count ≡ start.read = (let is : start.read ≡ 1 + from.count = from.read in omega arith) in
-        let free : free_words options None 1 words ≡ line.applet ∷ command.operands = subst (λ a. free_words (options_of a) None 1 words ≡ line.applet ∷ command.operands) (sym applet) line.free in
+        let free : operand_words options None 1 words ≡ line.applet ∷ command.operands = subst (λ a. operand_words (options_of a) None 1 words ≡ line.applet ∷ command.operands) (sym applet) line.free in
         let operands : free_rest start.ended options (start.read + 1) (drop start.read words) ≡ command.operands = ap (λ n. free_rest start.ended options (start.read + 1) (drop n words)) (sym at) ∙ same_tail (operand_at start.read from.word) line.applet _ _ (sym from.free ∙ free) in
         let says : flags_after options no_flags (words_that_are_options options None words) ≡ Some command.flags = subst (λ a. flags_after (options_of a) no_flags (words_that_are_options (options_of a) None words) ≡ Some command.flags) (sym applet) line.flags in
         let flags : flags_after options start.flags (option_rest start.ended options (drop start.read words)) ≡ Some command.flags = ap (λ n. flags_after options start.flags (option_rest start.ended options (drop n words))) (sym at) ∙ (sym from.says ∙ says) in
         let give : values_of options None 1 words ≡ Some command.values = subst (λ a. values_of (options_of a) None 1 words ≡ Some command.values) (sym applet) line.values in
         let values : value_rest start.ended options (start.read + 1) (drop start.read words) ≡ Some command.values = ap (λ n. value_rest start.ended options (start.read + 1) (drop n words)) (sym at) ∙ (sym from.values ∙ give) in
-        let whole : Reading = reading_by (state_by command.flags command.values None) command.operands None in
-        let sound : is_command (command_read (length words + 1) start.applet whole) ≡ true =
-        subst (λ a. is_command (command_by a command.flags command.operands command.values (length words + 1)) ≡ true) (sym applet)
-        (ap (λ n. is_command (command_by command.applet command.flags command.operands command.values n)) (sym line.behind) ∙ line.sound) in
+        let whole : Reading = words_reading_from_parts (option_state_from_parts command.flags command.values None) command.operands None in
+        let sound : is_valid_command (command_read (length words + 1) start.applet whole) ≡ true =
+        subst (λ a. is_valid_command (command_from_parts a command.flags command.operands command.values (length words + 1)) ≡ true) (sym applet)
+        (ap (λ n. is_valid_command (command_from_parts command.applet command.flags command.operands command.values n)) (sym line.behind) ∙ line.sound) in
         let parts = has_parts (command_read (length words + 1) start.applet whole) sound in
-        let read : reading_after_applet start words ≡ whole = from_made start command.flags command.values words flags values parts.flags parts.values ∙ ap (λ os. reading_by (state_by command.flags command.values None) os None) operands in
-        ap (command_from words) s
+        let read : reading_after_applet start words ≡ whole = from_made start command.flags command.values words flags values parts.flags parts.values ∙ ap (λ os. words_reading_from_parts (option_state_from_parts command.flags command.values None) os None) operands in
+        ap (spelled_command_from_start words) s
         ∙ (ap (command_of_reading (length words + 1) start.applet) read
         ∙ (sound_judged (length words + 1) start.applet whole refl sound
         ∙ (ap (λ a. Ok (command_read (length words + 1) a whole)) applet

@@ -7,13 +7,13 @@ use Rattle.command_core.specs.declared.operands.Operand.{Operand}
 use Rattle.command_core.specs.declared.operands.OperandRule.{OperandRule}
 use Rattle.command_core.specs.declared.values.ValueRule.{ValueRule}
 use Rattle.command_core.specs.Applets.{operand_rule}
-use Rattle.command_core.specs.Operands.{first_refused, operand_at, takes}
+use Rattle.command_core.specs.Operands.{first_refused_operand, operand_at, takes}
 use Rattle.words_core.specs.declared.reading.AppletSite.{AppletSite}
 use Rattle.words_core.specs.declared.reading.OptionState.{OptionState}
 use Rattle.words_core.specs.declared.reading.Reading.{Reading}
 use Rattle.words_core.specs.declared.reading.Start.{Start}
-use Rattle.words_core.specs.Grammar.{applet_site, command_from, line_command, command_read, first_state, is_double_dash, is_option, is_option_or_value, lacks_word, line_start, operands_of, option_reading, or_at, or_unread, reading_after_applet, reading_by, reading_end, refused_operand, site_at, site_after_end, site_by, unless_at, command_of_reading, with_operand, with_word}
-use Rattle.words_core.specs.Options.{OptionSpec, applet_of, is_early, options_of}
+use Rattle.words_core.specs.Grammar.{applet_site, spelled_command_from_start, spelled_command, command_read, option_state_at_start, is_double_dash, is_option, is_option_or_value, lacks_word, start_of_command_line, operands_of, option_reading, or_err_at, or_stop_at_unread_word, reading_after_applet, words_reading_from_parts, reading_at_end_of_words, refused_operand, applet_site_at, site_after_end, applet_site_from_parts, unless_refused_at, command_of_reading, with_operand, with_option_or_value_word}
+use Rattle.words_core.specs.Options.{OptionSpec, applet_of, is_early_option_word, options_of}
 use Rattle.words_core.proofs.KindsKept.{IsPlain, start_known}
 use Rattle.words_core.proofs.Sites.{IsForeign, foreign_between, no_start}
 
@@ -35,11 +35,11 @@ operands_between place behind (word ∷ words) l =
     let less : place + 1 + length words ≤ behind = omega arith in
     ((omega arith, omega arith), all_lower (place + 1) place behind (operands_of (place + 1) words) (omega arith) (operands_between (place + 1) behind words less))
 
-pub refused_between : (rule : OperandRule) (before low behind place : ℕ) (operands : List Operand) → AllBetween low behind operands → first_refused rule before operands ≡ Some place → IsBetween low behind place
+pub refused_between : (rule : OperandRule) (before low behind place : ℕ) (operands : List Operand) → AllBetween low behind operands → first_refused_operand rule before operands ≡ Some place → IsBetween low behind place
 refused_between rule before low behind place [] h e = absurd (none-some place e)
 refused_between rule before low behind place (o ∷ os) h e =
-    elim (takes rule before o.text) as (λ b. (if b then first_refused rule (before + 1) os else Some o.place) ≡ Some place → IsBetween low behind place) [
-      | true ↦ λ (later : first_refused rule (before + 1) os ≡ Some place). refused_between rule (before + 1) low behind place os h.1 later
+    elim (takes rule before o.text) as (λ b. (if b then first_refused_operand rule (before + 1) os else Some o.place) ≡ Some place → IsBetween low behind place) [
+      | true ↦ λ (later : first_refused_operand rule (before + 1) os ≡ Some place). refused_between rule (before + 1) low behind place os h.1 later
       | false ↦ λ (here : Some o.place ≡ Some place). subst (λ n. IsBetween low behind n) (same_Some o.place place here) h.0
     ] e
 
@@ -54,15 +54,15 @@ placed_lower low lower behind reading l h = record {
   unread = λ place e. (let is = h.unread place e in (omega (arith, is.0), is.1));
 }
 
-pub placed_operands : (state : OptionState) (low behind : ℕ) (operands : List Operand) → AllBetween low behind operands → IsPlaced low behind (reading_by state operands None)
+pub placed_operands : (state : OptionState) (low behind : ℕ) (operands : List Operand) → AllBetween low behind operands → IsPlaced low behind (words_reading_from_parts state operands None)
 placed_operands state low behind operands h = record { operands = h; unread = λ place e. absurd (none-some place e) }
 
-pub placed_unread : (state : OptionState) (low behind at : ℕ) → IsBetween low (behind + 1) at → IsPlaced low behind (reading_by state [] (Some at))
+pub placed_unread : (state : OptionState) (low behind at : ℕ) → IsBetween low (behind + 1) at → IsPlaced low behind (words_reading_from_parts state [] (Some at))
 placed_unread state low behind at h = record { operands = tt; unread = λ place e. subst (λ n. IsBetween low (behind + 1) n) (same_Some at place e) h }
 
-pub placed_end : (state : OptionState) (place behind : ℕ) → place ≤ behind → IsPlaced place behind (reading_end state place)
+pub placed_end : (state : OptionState) (place behind : ℕ) → place ≤ behind → IsPlaced place behind (reading_at_end_of_words state place)
 placed_end state place behind l =
-    elim state.awaiting as (λ a. IsPlaced place behind (reading_by state [] (option_map (λ (rule : ValueRule). place) a))) [
+    elim state.awaiting as (λ a. IsPlaced place behind (words_reading_from_parts state [] (option_map (λ (rule : ValueRule). place) a))) [
       | None ↦ placed_operands state place behind [] tt
       | Some rule ↦ placed_unread state place behind place (omega arith, omega arith)
     ]
@@ -72,13 +72,13 @@ reading_placed options state place behind [] l = placed_end state place behind (
 reading_placed options state place behind (word ∷ words) l =
     let less : place + 1 + length words ≤ behind = omega arith in
     let here : IsBetween place behind place = (omega arith, omega arith) in
-    elim (is_option_or_value state word) as (λ b. IsPlaced place behind (if b then or_unread state place (λ more. option_reading options more (place + 1) words) (with_word options state place word) else if is_double_dash word then reading_by state (operands_of (place + 1) words) None else with_operand (operand_at place word) (option_reading options state (place + 1) words))) [
-      | true ↦ elim (with_word options state place word) as (λ m. IsPlaced place behind (or_unread state place (λ more. option_reading options more (place + 1) words) m)) [
+    elim (is_option_or_value state word) as (λ b. IsPlaced place behind (if b then or_stop_at_unread_word state place (λ more. option_reading options more (place + 1) words) (with_option_or_value_word options state place word) else if is_double_dash word then words_reading_from_parts state (operands_of (place + 1) words) None else with_operand (operand_at place word) (option_reading options state (place + 1) words))) [
+      | true ↦ elim (with_option_or_value_word options state place word) as (λ m. IsPlaced place behind (or_stop_at_unread_word state place (λ more. option_reading options more (place + 1) words) m)) [
         | None ↦ placed_unread state place behind place (omega arith, omega arith)
         | Some more ↦ placed_lower (place + 1) place behind (option_reading options more (place + 1) words) (omega arith) (reading_placed options more (place + 1) behind words less)
       ]
-      | false ↦ elim (is_double_dash word) as (λ b. IsPlaced place behind (if b then reading_by state (operands_of (place + 1) words) None else with_operand (operand_at place word) (option_reading options state (place + 1) words))) [
-        | true ↦ placed_lower (place + 1) place behind (reading_by state (operands_of (place + 1) words) None) (omega arith) (placed_operands state (place + 1) behind (operands_of (place + 1) words) (operands_between (place + 1) behind words less))
+      | false ↦ elim (is_double_dash word) as (λ b. IsPlaced place behind (if b then words_reading_from_parts state (operands_of (place + 1) words) None else with_operand (operand_at place word) (option_reading options state (place + 1) words))) [
+        | true ↦ placed_lower (place + 1) place behind (words_reading_from_parts state (operands_of (place + 1) words) None) (omega arith) (placed_operands state (place + 1) behind (operands_of (place + 1) words) (operands_between (place + 1) behind words less))
         | false ↦
             let rest = placed_lower (place + 1) place behind (option_reading options state (place + 1) words) (omega arith) (reading_placed options state (place + 1) behind words less) in
             record { operands = (here, rest.operands); unread = rest.unread }
@@ -89,16 +89,16 @@ pub from_placed : (start : Start) (words : List (List ℕ)) → start.read ≤ l
 unfolding reading_after_applet
 from_placed start words l =
     let less : start.read + 1 + length (drop start.read words) ≤ length words + 1 = omega (arith, length-drop start.read words) in
-    elim start.ended as (λ b. IsPlaced (start.read + 1) (length words + 1) (if b then reading_by (first_state start.flags) (operands_of (start.read + 1) (drop start.read words)) None else option_reading (options_of start.applet) (first_state start.flags) (start.read + 1) (drop start.read words))) [
-      | true ↦ placed_operands (first_state start.flags) (start.read + 1) (length words + 1) (operands_of (start.read + 1) (drop start.read words)) (operands_between (start.read + 1) (length words + 1) (drop start.read words) less)
-      | false ↦ reading_placed (options_of start.applet) (first_state start.flags) (start.read + 1) (length words + 1) (drop start.read words) less
+    elim start.ended as (λ b. IsPlaced (start.read + 1) (length words + 1) (if b then words_reading_from_parts (option_state_at_start start.flags) (operands_of (start.read + 1) (drop start.read words)) None else option_reading (options_of start.applet) (option_state_at_start start.flags) (start.read + 1) (drop start.read words))) [
+      | true ↦ placed_operands (option_state_at_start start.flags) (start.read + 1) (length words + 1) (operands_of (start.read + 1) (drop start.read words)) (operands_between (start.read + 1) (length words + 1) (drop start.read words) less)
+      | false ↦ reading_placed (options_of start.applet) (option_state_at_start start.flags) (start.read + 1) (length words + 1) (drop start.read words) less
     ]
 
 -- the first that offends, at most behind the words
 pub first_between : (rule : Option OperandRule) (low behind place : ℕ) (reading : Reading) → IsPlaced low behind reading → option_or (refused_operand rule reading.operands) reading.unread ≡ Some place → IsBetween low (behind + 1) place
 first_between None low behind place reading p h = p.unread place h
 first_between (Some rule) low behind place reading p h =
-    elim (first_refused rule 0 reading.operands) as (λ o. first_refused rule 0 reading.operands ≡ o → option_or o reading.unread ≡ Some place → IsBetween low (behind + 1) place) [
+    elim (first_refused_operand rule 0 reading.operands) as (λ o. first_refused_operand rule 0 reading.operands ≡ o → option_or o reading.unread ≡ Some place → IsBetween low (behind + 1) place) [
       | None ↦ λ f e. p.unread place e
       | Some at ↦ λ f (e : Some at ≡ Some place).
           let is = refused_between rule 0 low behind place reading.operands p.operands (f ∙ e) in (is.0, omega (arith, is.1))
@@ -112,7 +112,7 @@ pub judged_at : (applet : Applet) (reading : Reading) (behind place : ℕ) → c
 unfolding command_of_reading
 judged_at applet reading behind place h =
     let rule = operand_rule applet reading.state.flags in
-    elim (option_or (refused_operand rule reading.operands) reading.unread) as (λ o. unless_at o (if lacks_word applet rule reading then Err behind else Ok (command_read behind applet reading)) ≡ Err place → IsJudgedAt behind o place) [
+    elim (option_or (refused_operand rule reading.operands) reading.unread) as (λ o. unless_refused_at o (if lacks_word applet rule reading then Err behind else Ok (command_read behind applet reading)) ≡ Err place → IsJudgedAt behind o place) [
       | None ↦ elim (lacks_word applet rule reading) as (λ b. (if b then Err behind else Ok (command_read behind applet reading)) ≡ Err place → IsJudgedAt behind None place) [
         | true ↦ λ (e : Err behind ≡ Err place). inr (refl, cc)
         | false ↦ λ (e : Ok (command_read behind applet reading) ≡ Err place). absurd (cc)
@@ -123,17 +123,17 @@ judged_at applet reading behind place h =
 pub judged_bad : (applet : Applet) (reading : Reading) (behind place : ℕ) → option_or (refused_operand (operand_rule applet reading.state.flags) reading.operands) reading.unread ≡ Some place → command_of_reading behind applet reading ≡ Err place
 unfolding command_of_reading
 judged_bad applet reading behind place h =
-    ap (λ o. unless_at o (if lacks_word applet (operand_rule applet reading.state.flags) reading then Err behind else Ok (command_read behind applet reading))) h
+    ap (λ o. unless_refused_at o (if lacks_word applet (operand_rule applet reading.state.flags) reading then Err behind else Ok (command_read behind applet reading))) h
 
 -- where the search for the applet ends
 abbrev pub IsSearched : ℕ → ℕ → Result AppletSite ℕ → Type 0
 IsSearched low behind (Ok site) = Unit {0}
 IsSearched low behind (Err place) = IsBetween low behind place
 
-pub named_searched : (ended : Bool) (place low behind : ℕ) (word : List ℕ) → IsBetween low behind place → IsSearched low behind (site_at ended place word)
-unfolding site_at
+pub named_searched : (ended : Bool) (place low behind : ℕ) (word : List ℕ) → IsBetween low behind place → IsSearched low behind (applet_site_at ended place word)
+unfolding applet_site_at
 named_searched ended place low behind word h =
-    elim (applet_of word) as (λ o. IsSearched low behind (or_at place (λ applet. Ok (site_by ended place applet)) o)) [
+    elim (applet_of word) as (λ o. IsSearched low behind (or_err_at place (λ applet. Ok (applet_site_from_parts ended place applet)) o)) [
       | None ↦ h
       | Some applet ↦ tt
     ]
@@ -148,10 +148,10 @@ site_searched place low behind [] l h = (omega arith, omega arith)
 site_searched place low behind (word ∷ words) l h =
     let less : place + 1 + length words < behind = omega arith in
     let here : IsBetween low behind place = (omega arith, omega arith) in
-    elim (is_double_dash word) as (λ b. IsSearched low behind (if b then site_after_end (place + 1) words else if is_option word then (if is_early word then applet_site (place + 1) words else Err place) else site_at false place word)) [
+    elim (is_double_dash word) as (λ b. IsSearched low behind (if b then site_after_end (place + 1) words else if is_option word then (if is_early_option_word word then applet_site (place + 1) words else Err place) else applet_site_at false place word)) [
       | true ↦ end_searched (place + 1) low behind words (omega arith, omega arith)
-      | false ↦ elim (is_option word) as (λ b. IsSearched low behind (if b then (if is_early word then applet_site (place + 1) words else Err place) else site_at false place word)) [
-        | true ↦ elim (is_early word) as (λ b. IsSearched low behind (if b then applet_site (place + 1) words else Err place)) [
+      | false ↦ elim (is_option word) as (λ b. IsSearched low behind (if b then (if is_early_option_word word then applet_site (place + 1) words else Err place) else applet_site_at false place word)) [
+        | true ↦ elim (is_early_option_word word) as (λ b. IsSearched low behind (if b then applet_site (place + 1) words else Err place)) [
           | true ↦ site_searched (place + 1) low behind words (omega arith) less
           | false ↦ here
         ]
@@ -160,10 +160,10 @@ site_searched place low behind (word ∷ words) l h =
     ]
 
 -- a usage error is at a word, or behind the last one
-pub usage_between : (words : List (List ℕ)) (place : ℕ) → line_command words ≡ Err place → (1 ≤ place) × (place ≤ length words + 1)
-unfolding line_command
+pub usage_between : (words : List (List ℕ)) (place : ℕ) → spelled_command words ≡ Err place → (1 ≤ place) × (place ≤ length words + 1)
+unfolding spelled_command
 usage_between words place c =
-    elim (line_start words) as (λ s. line_start words ≡ s → command_from words s ≡ Err place → (1 ≤ place) × (place ≤ length words + 1)) [
+    elim (start_of_command_line words) as (λ s. start_of_command_line words ≡ s → spelled_command_from_start words s ≡ Err place → (1 ≤ place) × (place ≤ length words + 1)) [
       | Err at ↦ λ s (e : Err at ≡ Err place). by_place at place (cc) (no_start words at s)
       | Ok start ↦ λ s e. by_start start s e
     ] refl c
@@ -174,7 +174,7 @@ usage_between words place c =
         (omega (arith, is.0), omega (arith, is.1))
     by_place at place e (inr f) = (let is = foreign_between words at f in (omega (arith, is.0), omega (arith, is.1)))
 
-    by_start : (start : Start) → line_start words ≡ Ok start → command_of_reading (length words + 1) start.applet (reading_after_applet start words) ≡ Err place → (1 ≤ place) × (place ≤ length words + 1)
+    by_start : (start : Start) → start_of_command_line words ≡ Ok start → command_of_reading (length words + 1) start.applet (reading_after_applet start words) ≡ Err place → (1 ≤ place) × (place ≤ length words + 1)
     by_start start s e =
         let known : IsPlain start (1 + length words) = start_known words start s in
         let placed : IsPlaced (start.read + 1) (length words + 1) (reading_after_applet start words) = from_placed start words (omega (arith, known.read)) in

@@ -7,8 +7,8 @@ use Rattle.command_core.specs.declared.operands.Operand.{Operand}
 use Rattle.command_core.specs.Operands.{operand_at}
 use Rattle.words_core.specs.declared.reading.OptionState.{OptionState}
 use Rattle.words_core.specs.declared.reading.Reading.{Reading}
-use Rattle.words_core.specs.Grammar.{applet_site, early_flags, is_double_dash, is_option, is_option_or_value, operands_of, option_reading, or_at, or_unread, reading_by, site_at, site_after_end, with_operand, with_option, with_spec, with_word}
-use Rattle.words_core.specs.Options.{OptionSpec, is_early, option_spelled}
+use Rattle.words_core.specs.Grammar.{applet_site, early_flags, is_double_dash, is_option, is_option_or_value, operands_of, option_reading, or_err_at, or_stop_at_unread_word, words_reading_from_parts, applet_site_at, site_after_end, with_operand, flags_with_option_word, flags_with_option, with_option_or_value_word}
+use Rattle.words_core.specs.Options.{OptionSpec, is_early_option_word, option_of_word}
 use Rattle.words_core.specs.Steps.{IsReadingStep}
 
 -- what is left of a list where an element stands
@@ -30,23 +30,23 @@ pushed_front operands pushed rest word place at p e =
 
 pub behind_front : (operands pushed : List Operand) (reading : Reading) (word : List ℕ) (place at : ℕ) → place ≡ at → pushed ≡ operands ++ (operand_at place word ∷ []) → behind operands (with_operand (operand_at at word) reading) ≡ behind pushed reading
 behind_front operands pushed reading word place at p e =
-    ap (λ os. reading_by reading.state os reading.unread) (pushed_front operands pushed reading.operands word place at p e)
+    ap (λ os. words_reading_from_parts reading.state os reading.unread) (pushed_front operands pushed reading.operands word place at p e)
 
 -- flags with an option that was found
-pub option_found : (options : List OptionSpec) (flags : Flags) (word : List ℕ) (found : Option OptionSpec) (result more : Option Flags) → found ≡ option_spelled options word → result ≡ option_and_then (with_spec flags) found → result ≡ more → with_option options flags word ≡ more
-option_found options flags word found result more f r m = sym (ap (option_and_then (with_spec flags)) f) ∙ (sym r ∙ m)
+pub option_found : (options : List OptionSpec) (flags : Flags) (word : List ℕ) (found : Option OptionSpec) (result more : Option Flags) → found ≡ option_of_word options word → result ≡ option_and_then (flags_with_option flags) found → result ≡ more → flags_with_option_word options flags word ≡ more
+option_found options flags word found result more f r m = sym (ap (option_and_then (flags_with_option flags)) f) ∙ (sym r ∙ m)
 
 -- the search for the applet
 pub site_ended : (words : List (List ℕ)) (i : ℕ) (word : List ℕ) → slice_get words i ≡ Some word → is_double_dash word ≡ true → applet_site (i + 1) (drop i words) ≡ site_after_end (i + 1 + 1) (drop (i + 1) words)
 site_ended words i word at e = rw (left_at words i word at) (rw e refl)
 
-pub site_named : (words : List (List ℕ)) (i : ℕ) (word : List ℕ) → slice_get words i ≡ Some word → is_double_dash word ≡ false → is_option word ≡ false → applet_site (i + 1) (drop i words) ≡ site_at false (i + 1) word
+pub site_named : (words : List (List ℕ)) (i : ℕ) (word : List ℕ) → slice_get words i ≡ Some word → is_double_dash word ≡ false → is_option word ≡ false → applet_site (i + 1) (drop i words) ≡ applet_site_at false (i + 1) word
 site_named words i word at e o = rw (left_at words i word at) (rw e (rw o refl))
 
-pub site_unread : (words : List (List ℕ)) (i : ℕ) (word : List ℕ) → slice_get words i ≡ Some word → is_double_dash word ≡ false → is_option word ≡ true → is_early word ≡ false → applet_site (i + 1) (drop i words) ≡ Err (i + 1)
+pub site_unread : (words : List (List ℕ)) (i : ℕ) (word : List ℕ) → slice_get words i ≡ Some word → is_double_dash word ≡ false → is_option word ≡ true → is_early_option_word word ≡ false → applet_site (i + 1) (drop i words) ≡ Err (i + 1)
 site_unread words i word at e o y = rw (left_at words i word at) (rw e (rw o (rw y refl)))
 
-pub site_more : (words : List (List ℕ)) (i : ℕ) (word : List ℕ) → slice_get words i ≡ Some word → is_double_dash word ≡ false → is_option word ≡ true → is_early word ≡ true → applet_site (i + 1) (drop i words) ≡ applet_site (i + 1 + 1) (drop (i + 1) words)
+pub site_more : (words : List (List ℕ)) (i : ℕ) (word : List ℕ) → slice_get words i ≡ Some word → is_double_dash word ≡ false → is_option word ≡ true → is_early_option_word word ≡ true → applet_site (i + 1) (drop i words) ≡ applet_site (i + 1 + 1) (drop (i + 1) words)
 site_more words i word at e o y = rw (left_at words i word at) (rw e (rw o (rw y refl)))
 
 -- the flags before the applet
@@ -59,7 +59,7 @@ taken_at (w ∷ words) (suc count) (suc i) word l at = taken_at words count i wo
 pub early_ended : (options : List OptionSpec) (flags : Flags) (words : List (List ℕ)) (i : ℕ) (word : List ℕ) → slice_get words i ≡ Some word → is_double_dash word ≡ true → early_flags options flags (i + 1) (drop i words) ≡ Ok flags
 early_ended options flags words i word at e = rw (left_at words i word at) (rw e refl)
 
-pub early_more : (options : List OptionSpec) (flags : Flags) (words : List (List ℕ)) (i : ℕ) (word : List ℕ) (more : Option Flags) → slice_get words i ≡ Some word → is_double_dash word ≡ false → with_option options flags word ≡ more → early_flags options flags (i + 1) (drop i words) ≡ or_at (i + 1) (λ m. early_flags options m (i + 1 + 1) (drop (i + 1) words)) more
+pub early_more : (options : List OptionSpec) (flags : Flags) (words : List (List ℕ)) (i : ℕ) (word : List ℕ) (more : Option Flags) → slice_get words i ≡ Some word → is_double_dash word ≡ false → flags_with_option_word options flags word ≡ more → early_flags options flags (i + 1) (drop i words) ≡ or_err_at (i + 1) (λ m. early_flags options m (i + 1 + 1) (drop (i + 1) words)) more
 early_more options flags words i word more at e m = rw (left_at words i word at) (rw e (rw m refl))
 
 pub early_done : (options : List OptionSpec) (flags : Flags) (words : List (List ℕ)) (i : ℕ) → length words ≤ i → early_flags options flags (i + 1) (drop i words) ≡ Ok flags
@@ -72,13 +72,13 @@ early_done options flags words i l = rw (drop_all words i l) refl
     drop_all (w ∷ ws) (suc k) l = drop_all ws k (omega (arith, l))
 
 -- the reading behind the applet
-pub reading_ended : (options : List OptionSpec) (state : OptionState) (words : List (List ℕ)) (i : ℕ) (word : List ℕ) → slice_get words i ≡ Some word → is_option_or_value state word ≡ false → is_double_dash word ≡ true → option_reading options state (i + 1) (drop i words) ≡ reading_by state (operands_of (i + 1 + 1) (drop (i + 1) words)) None
+pub reading_ended : (options : List OptionSpec) (state : OptionState) (words : List (List ℕ)) (i : ℕ) (word : List ℕ) → slice_get words i ≡ Some word → is_option_or_value state word ≡ false → is_double_dash word ≡ true → option_reading options state (i + 1) (drop i words) ≡ words_reading_from_parts state (operands_of (i + 1 + 1) (drop (i + 1) words)) None
 reading_ended options state words i word at t e = rw (left_at words i word at) (rw t (rw e refl))
 
 pub reading_operand : (options : List OptionSpec) (state : OptionState) (words : List (List ℕ)) (i : ℕ) (word : List ℕ) → slice_get words i ≡ Some word → is_option_or_value state word ≡ false → is_double_dash word ≡ false → option_reading options state (i + 1) (drop i words) ≡ with_operand (operand_at (i + 1) word) (option_reading options state (i + 1 + 1) (drop (i + 1) words))
 reading_operand options state words i word at t e = rw (left_at words i word at) (rw t (rw e refl))
 
-pub reading_more : (options : List OptionSpec) (state : OptionState) (words : List (List ℕ)) (i : ℕ) (word : List ℕ) (more : Option OptionState) → slice_get words i ≡ Some word → is_option_or_value state word ≡ true → with_word options state (i + 1) word ≡ more → option_reading options state (i + 1) (drop i words) ≡ or_unread state (i + 1) (λ m. option_reading options m (i + 1 + 1) (drop (i + 1) words)) more
+pub reading_more : (options : List OptionSpec) (state : OptionState) (words : List (List ℕ)) (i : ℕ) (word : List ℕ) (more : Option OptionState) → slice_get words i ≡ Some word → is_option_or_value state word ≡ true → with_option_or_value_word options state (i + 1) word ≡ more → option_reading options state (i + 1) (drop i words) ≡ or_stop_at_unread_word state (i + 1) (λ m. option_reading options m (i + 1 + 1) (drop (i + 1) words)) more
 reading_more options state words i word more at t m = rw (left_at words i word at) (rw t (rw m refl))
 
 -- one more operand
@@ -95,21 +95,21 @@ reading_push all options state operands pushed words i word place at t e p d kep
     ∙ behind_front operands pushed (option_reading options state (i + 1 + 1) (drop (i + 1) words)) word place (i + 1) p d)
 
 -- the reading ends, as all that is left are operands
-pub reading_rest : (all : Reading) (options : List OptionSpec) (state : OptionState) (operands : List Operand) (words : List (List ℕ)) (i : ℕ) (word : List ℕ) → slice_get words i ≡ Some word → is_option_or_value state word ≡ false → is_double_dash word ≡ true → all ≡ behind operands (option_reading options state (i + 1) (drop i words)) → reading_by state (operands ++ operands_of (i + 1 + 1) (drop (i + 1) words)) None ≡ all
+pub reading_rest : (all : Reading) (options : List OptionSpec) (state : OptionState) (operands : List Operand) (words : List (List ℕ)) (i : ℕ) (word : List ℕ) → slice_get words i ≡ Some word → is_option_or_value state word ≡ false → is_double_dash word ≡ true → all ≡ behind operands (option_reading options state (i + 1) (drop i words)) → words_reading_from_parts state (operands ++ operands_of (i + 1 + 1) (drop (i + 1) words)) None ≡ all
 reading_rest all options state operands words i word at t e kept =
     sym (kept ∙ ap (behind operands) (reading_ended options state words i word at t e))
 
 -- the reading goes on, as the word was taken
-pub reading_taken : (all : Reading) (options : List OptionSpec) (state more : OptionState) (operands : List Operand) (words : List (List ℕ)) (i : ℕ) (word : List ℕ) (place : ℕ) → slice_get words i ≡ Some word → is_option_or_value state word ≡ true → place ≡ i + 1 → with_word options state place word ≡ Some more → all ≡ behind operands (option_reading options state (i + 1) (drop i words)) → all ≡ behind operands (option_reading options more (i + 1 + 1) (drop (i + 1) words))
+pub reading_taken : (all : Reading) (options : List OptionSpec) (state more : OptionState) (operands : List Operand) (words : List (List ℕ)) (i : ℕ) (word : List ℕ) (place : ℕ) → slice_get words i ≡ Some word → is_option_or_value state word ≡ true → place ≡ i + 1 → with_option_or_value_word options state place word ≡ Some more → all ≡ behind operands (option_reading options state (i + 1) (drop i words)) → all ≡ behind operands (option_reading options more (i + 1 + 1) (drop (i + 1) words))
 reading_taken all options state more operands words i word place at t p m kept =
-    kept ∙ ap (behind operands) (reading_more options state words i word (Some more) at t (ap (λ n. with_word options state n word) (sym p) ∙ m))
+    kept ∙ ap (behind operands) (reading_more options state words i word (Some more) at t (ap (λ n. with_option_or_value_word options state n word) (sym p) ∙ m))
 
 -- the reading ends, as the word cannot be read
-pub reading_unread : (all : Reading) (options : List OptionSpec) (state : OptionState) (operands : List Operand) (words : List (List ℕ)) (i : ℕ) (word : List ℕ) (place at : ℕ) → slice_get words i ≡ Some word → is_option_or_value state word ≡ true → place ≡ i + 1 → at ≡ i + 1 → with_word options state at word ≡ None → all ≡ behind operands (option_reading options state (i + 1) (drop i words)) → reading_by state operands (Some place) ≡ all
+pub reading_unread : (all : Reading) (options : List OptionSpec) (state : OptionState) (operands : List Operand) (words : List (List ℕ)) (i : ℕ) (word : List ℕ) (place at : ℕ) → slice_get words i ≡ Some word → is_option_or_value state word ≡ true → place ≡ i + 1 → at ≡ i + 1 → with_option_or_value_word options state at word ≡ None → all ≡ behind operands (option_reading options state (i + 1) (drop i words)) → words_reading_from_parts state operands (Some place) ≡ all
 reading_unread all options state operands words i word place at located t p q m kept =
-    ap (λ n. reading_by state operands (Some n)) p
-    ∙ (ap (λ os. reading_by state os (Some (i + 1))) (sym (append-nil operands))
-    ∙ sym (kept ∙ ap (behind operands) (reading_more options state words i word None located t (ap (λ n. with_word options state n word) (sym q) ∙ m))))
+    ap (λ n. words_reading_from_parts state operands (Some n)) p
+    ∙ (ap (λ os. words_reading_from_parts state os (Some (i + 1))) (sym (append-nil operands))
+    ∙ sym (kept ∙ ap (behind operands) (reading_more options state words i word None located t (ap (λ n. with_option_or_value_word options state n word) (sym q) ∙ m))))
 
 -- what a call says that took a word, or refused it
 pub taken_is : (taken : Bool) (old new : OptionState) (more : Option OptionState) → taken ≡ true → IsReadingStep taken old new more → more ≡ Some new

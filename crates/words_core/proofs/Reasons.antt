@@ -12,7 +12,7 @@ use Rattle.command_core.specs.Operands.{operand_at}
 use Rattle.words_core.specs.declared.next.NextWord.{NextWord}
 use Rattle.words_core.specs.declared.next.NextWord.TheVariants.{OptionOrCommand, OptionOrOperand, Value as NextValue, Operand as OperandAlone}
 use Rattle.words_core.specs.declared.reading.OptionState.{OptionState}
-use Rattle.words_core.specs.Grammar.{is_double_dash, is_option, is_option_or_value, next_after, next_by_rule, next_word, next_words, operands_of, option_reading, or_unread, reading_by, with_operand, with_word}
+use Rattle.words_core.specs.Grammar.{is_double_dash, is_option, is_option_or_value, next_after, next_word_after_option, next_word, next_words, operands_of, option_reading, or_stop_at_unread_word, words_reading_from_parts, with_operand, with_option_or_value_word}
 use Rattle.words_core.specs.Options.{options_of}
 use Rattle.words_core.proofs.Asked.{next_append, next_ended, next_operand, next_taken, operand_stays}
 use Rattle.words_core.proofs.AskedLines.{get_after, take_front}
@@ -60,26 +60,26 @@ texts_at applet front (word ∷ words) n = (
       (texts_at applet (front ++ (word ∷ [])) words (next_one front word ∙ ap (λ x. next_word x word) n))),
 )
 
-pub operands_at : (applet : Applet) (state : OptionState) (front words : List (List ℕ)) → next_after front ≡ next_by_rule applet state.awaiting → AreOperandsAt applet (front ++ words) (option_reading (options_of applet) state (length front + 1) words).operands
+pub operands_at : (applet : Applet) (state : OptionState) (front words : List (List ℕ)) → next_after front ≡ next_word_after_option applet state.awaiting → AreOperandsAt applet (front ++ words) (option_reading (options_of applet) state (length front + 1) words).operands
 operands_at applet state front [] n = tt
 operands_at applet state front (word ∷ words) n =
-    elim (is_option_or_value state word) as (λ b. is_option_or_value state word ≡ b → AreOperandsAt applet (front ++ (word ∷ words)) (if b then or_unread state (length front + 1) (λ m. option_reading (options_of applet) m (length front + 1 + 1) words) (with_word (options_of applet) state (length front + 1) word) else if is_double_dash word then reading_by state (operands_of (length front + 1 + 1) words) None else with_operand (operand_at (length front + 1) word) (option_reading (options_of applet) state (length front + 1 + 1) words)).operands) [
-      | true ↦ λ t. elim (with_word (options_of applet) state (length front + 1) word) as (λ w. with_word (options_of applet) state (length front + 1) word ≡ w → AreOperandsAt applet (front ++ (word ∷ words)) (or_unread state (length front + 1) (λ m. option_reading (options_of applet) m (length front + 1 + 1) words) w).operands) [
+    elim (is_option_or_value state word) as (λ b. is_option_or_value state word ≡ b → AreOperandsAt applet (front ++ (word ∷ words)) (if b then or_stop_at_unread_word state (length front + 1) (λ m. option_reading (options_of applet) m (length front + 1 + 1) words) (with_option_or_value_word (options_of applet) state (length front + 1) word) else if is_double_dash word then words_reading_from_parts state (operands_of (length front + 1 + 1) words) None else with_operand (operand_at (length front + 1) word) (option_reading (options_of applet) state (length front + 1 + 1) words)).operands) [
+      | true ↦ λ t. elim (with_option_or_value_word (options_of applet) state (length front + 1) word) as (λ w. with_option_or_value_word (options_of applet) state (length front + 1) word ≡ w → AreOperandsAt applet (front ++ (word ∷ words)) (or_stop_at_unread_word state (length front + 1) (λ m. option_reading (options_of applet) m (length front + 1 + 1) words) w).operands) [
         | None ↦ λ w. tt
         | Some g ↦ λ w. on g (operands_at applet g (front ++ (word ∷ [])) words (next_one front word ∙ (ap (λ x. next_word x word) n ∙ next_taken applet state g (length front + 1) word t w)))
       ] refl
       | false ↦ λ t.
           let parts = or_parts (is_some state.awaiting) (is_option word && not (is_double_dash word)) t in
           let none : state.awaiting ≡ None = none_is state.awaiting parts.0 in
-          let free : next_after front ≡ OptionOrOperand applet = n ∙ ap (next_by_rule applet) none in
-          elim (is_double_dash word) as (λ b. is_double_dash word ≡ b → AreOperandsAt applet (front ++ (word ∷ words)) (if b then reading_by state (operands_of (length front + 1 + 1) words) None else with_operand (operand_at (length front + 1) word) (option_reading (options_of applet) state (length front + 1 + 1) words)).operands) [
+          let free : next_after front ≡ OptionOrOperand applet = n ∙ ap (next_word_after_option applet) none in
+          elim (is_double_dash word) as (λ b. is_double_dash word ≡ b → AreOperandsAt applet (front ++ (word ∷ words)) (if b then words_reading_from_parts state (operands_of (length front + 1 + 1) words) None else with_operand (operand_at (length front + 1) word) (option_reading (options_of applet) state (length front + 1 + 1) words)).operands) [
             | true ↦ λ e.
                 subst (λ ws. AreOperandsAt applet ws (operands_of (length front + 1 + 1) words)) (shifted front words word)
                 (subst (λ k. AreOperandsAt applet ((front ++ (word ∷ [])) ++ words) (operands_of k words)) (longer front word)
                 (texts_at applet (front ++ (word ∷ [])) words (next_one front word ∙ (ap (λ x. next_word x word) free ∙ next_ended applet word e))))
             | false ↦ λ e. (
               operand_here applet front words word (inr (free, parts.1)),
-              on state (operands_at applet state (front ++ (word ∷ [])) words (next_one front word ∙ (ap (λ x. next_word x word) free ∙ (next_operand applet word e (not_option (is_option word) (is_double_dash word) e parts.1) ∙ ap (next_by_rule applet) (sym none))))),
+              on state (operands_at applet state (front ++ (word ∷ [])) words (next_one front word ∙ (ap (λ x. next_word x word) free ∙ (next_operand applet word e (not_option (is_option word) (is_double_dash word) e parts.1) ∙ ap (next_word_after_option applet) (sym none))))),
             )
           ] refl
     ] refl
@@ -95,8 +95,8 @@ pub record IsUnreadWord (applet : Applet) (words : List (List ℕ)) (place : ℕ
   pub word : List ℕ
   pub at : slice_get words (place - 1) ≡ Some word
   pub taken : is_option_or_value state word ≡ true
-  pub unread : with_word (options_of applet) state place word ≡ None
-  pub next : next_after (take (place - 1) words) ≡ next_by_rule applet state.awaiting
+  pub unread : with_option_or_value_word (options_of applet) state place word ≡ None
+  pub next : next_after (take (place - 1) words) ≡ next_word_after_option applet state.awaiting
 
 pub record IsUnreadEnd (applet : Applet) (words : List (List ℕ)) (place : ℕ) (state : OptionState) : Type 0 where
   pub end : place ≡ length words + 1
@@ -111,7 +111,7 @@ pub append-none : (front : List (List ℕ)) → front ++ [] ≡ front
 append-none [] = refl
 append-none (word ∷ front) = ap (λ ws. word ∷ ws) (append-none front)
 
-pub unread_at : (applet : Applet) (state : OptionState) (front words : List (List ℕ)) (place : ℕ) → next_after front ≡ next_by_rule applet state.awaiting → (option_reading (options_of applet) state (length front + 1) words).unread ≡ Some place → IsUnreadAt applet (front ++ words) place (option_reading (options_of applet) state (length front + 1) words).state
+pub unread_at : (applet : Applet) (state : OptionState) (front words : List (List ℕ)) (place : ℕ) → next_after front ≡ next_word_after_option applet state.awaiting → (option_reading (options_of applet) state (length front + 1) words).unread ≡ Some place → IsUnreadAt applet (front ++ words) place (option_reading (options_of applet) state (length front + 1) words).state
 unread_at applet state front [] place n u =
     elim state.awaiting as (λ a. state.awaiting ≡ a → option_map (λ (rule : ValueRule). length front + 1) a ≡ Some place → IsUnreadAt applet (front ++ []) place state) [
       | None ↦ λ a u. absurd (none-some place u)
@@ -121,27 +121,27 @@ unread_at applet state front [] place n u =
             end = sym same;
             rule = rule;
             awaits = a;
-            next = n ∙ ap (next_by_rule applet) a;
+            next = n ∙ ap (next_word_after_option applet) a;
           }))
     ] refl u
 unread_at applet state front (word ∷ words) place n u =
-    elim (is_option_or_value state word) as (λ b. is_option_or_value state word ≡ b → (if b then or_unread state (length front + 1) (λ m. option_reading (options_of applet) m (length front + 1 + 1) words) (with_word (options_of applet) state (length front + 1) word) else if is_double_dash word then reading_by state (operands_of (length front + 1 + 1) words) None else with_operand (operand_at (length front + 1) word) (option_reading (options_of applet) state (length front + 1 + 1) words)).unread ≡ Some place
-    → IsUnreadAt applet (front ++ (word ∷ words)) place (if b then or_unread state (length front + 1) (λ m. option_reading (options_of applet) m (length front + 1 + 1) words) (with_word (options_of applet) state (length front + 1) word) else if is_double_dash word then reading_by state (operands_of (length front + 1 + 1) words) None else with_operand (operand_at (length front + 1) word) (option_reading (options_of applet) state (length front + 1 + 1) words)).state) [
-      | true ↦ λ t. elim (with_word (options_of applet) state (length front + 1) word) as (λ w. with_word (options_of applet) state (length front + 1) word ≡ w → (or_unread state (length front + 1) (λ m. option_reading (options_of applet) m (length front + 1 + 1) words) w).unread ≡ Some place → IsUnreadAt applet (front ++ (word ∷ words)) place (or_unread state (length front + 1) (λ m. option_reading (options_of applet) m (length front + 1 + 1) words) w).state) [
+    elim (is_option_or_value state word) as (λ b. is_option_or_value state word ≡ b → (if b then or_stop_at_unread_word state (length front + 1) (λ m. option_reading (options_of applet) m (length front + 1 + 1) words) (with_option_or_value_word (options_of applet) state (length front + 1) word) else if is_double_dash word then words_reading_from_parts state (operands_of (length front + 1 + 1) words) None else with_operand (operand_at (length front + 1) word) (option_reading (options_of applet) state (length front + 1 + 1) words)).unread ≡ Some place
+    → IsUnreadAt applet (front ++ (word ∷ words)) place (if b then or_stop_at_unread_word state (length front + 1) (λ m. option_reading (options_of applet) m (length front + 1 + 1) words) (with_option_or_value_word (options_of applet) state (length front + 1) word) else if is_double_dash word then words_reading_from_parts state (operands_of (length front + 1 + 1) words) None else with_operand (operand_at (length front + 1) word) (option_reading (options_of applet) state (length front + 1 + 1) words)).state) [
+      | true ↦ λ t. elim (with_option_or_value_word (options_of applet) state (length front + 1) word) as (λ w. with_option_or_value_word (options_of applet) state (length front + 1) word ≡ w → (or_stop_at_unread_word state (length front + 1) (λ m. option_reading (options_of applet) m (length front + 1 + 1) words) w).unread ≡ Some place → IsUnreadAt applet (front ++ (word ∷ words)) place (or_stop_at_unread_word state (length front + 1) (λ m. option_reading (options_of applet) m (length front + 1 + 1) words) w).state) [
         | None ↦ λ w (u : Some (length front + 1) ≡ Some place). subst (λ p. IsUnreadAt applet (front ++ (word ∷ words)) p state) (same_Some (length front + 1) place u) (inl (here t w))
         | Some g ↦ λ w u. on g (λ v. unread_at applet g (front ++ (word ∷ [])) words place (next_one front word ∙ (ap (λ x. next_word x word) n ∙ next_taken applet state g (length front + 1) word t w)) v) u
       ] refl
       | false ↦ λ t.
           let parts = or_parts (is_some state.awaiting) (is_option word && not (is_double_dash word)) t in
           let none : state.awaiting ≡ None = none_is state.awaiting parts.0 in
-          let free : next_after front ≡ OptionOrOperand applet = n ∙ ap (next_by_rule applet) none in
-          elim (is_double_dash word) as (λ b. is_double_dash word ≡ b → (if b then reading_by state (operands_of (length front + 1 + 1) words) None else with_operand (operand_at (length front + 1) word) (option_reading (options_of applet) state (length front + 1 + 1) words)).unread ≡ Some place → IsUnreadAt applet (front ++ (word ∷ words)) place (if b then reading_by state (operands_of (length front + 1 + 1) words) None else with_operand (operand_at (length front + 1) word) (option_reading (options_of applet) state (length front + 1 + 1) words)).state) [
+          let free : next_after front ≡ OptionOrOperand applet = n ∙ ap (next_word_after_option applet) none in
+          elim (is_double_dash word) as (λ b. is_double_dash word ≡ b → (if b then words_reading_from_parts state (operands_of (length front + 1 + 1) words) None else with_operand (operand_at (length front + 1) word) (option_reading (options_of applet) state (length front + 1 + 1) words)).unread ≡ Some place → IsUnreadAt applet (front ++ (word ∷ words)) place (if b then words_reading_from_parts state (operands_of (length front + 1 + 1) words) None else with_operand (operand_at (length front + 1) word) (option_reading (options_of applet) state (length front + 1 + 1) words)).state) [
             | true ↦ λ e u. absurd (none-some place u)
-            | false ↦ λ e u. on state (λ v. unread_at applet state (front ++ (word ∷ [])) words place (next_one front word ∙ (ap (λ x. next_word x word) free ∙ (next_operand applet word e (not_option (is_option word) (is_double_dash word) e parts.1) ∙ ap (next_by_rule applet) (sym none)))) v) u
+            | false ↦ λ e u. on state (λ v. unread_at applet state (front ++ (word ∷ [])) words place (next_one front word ∙ (ap (λ x. next_word x word) free ∙ (next_operand applet word e (not_option (is_option word) (is_double_dash word) e parts.1) ∙ ap (next_word_after_option applet) (sym none)))) v) u
           ] refl
     ] refl u
   where
-    here : is_option_or_value state word ≡ true → with_word (options_of applet) state (length front + 1) word ≡ None → IsUnreadWord applet (front ++ (word ∷ words)) (length front + 1) state
+    here : is_option_or_value state word ≡ true → with_option_or_value_word (options_of applet) state (length front + 1) word ≡ None → IsUnreadWord applet (front ++ (word ∷ words)) (length front + 1) state
     here t w =
         let count : length front ≡ length front + 1 - 1 = omega arith in
         record {
@@ -149,7 +149,7 @@ unread_at applet state front (word ∷ words) place n u =
           at = subst (λ k. slice_get (front ++ (word ∷ words)) k ≡ Some word) count (get_after front words word);
           taken = t;
           unread = w;
-          next = subst (λ k. next_after (take k (front ++ (word ∷ words))) ≡ next_by_rule applet state.awaiting) count (ap next_after (take_front front (word ∷ words)) ∙ n);
+          next = subst (λ k. next_after (take k (front ++ (word ∷ words))) ≡ next_word_after_option applet state.awaiting) count (ap next_after (take_front front (word ∷ words)) ∙ n);
         }
 
     on : (g : OptionState) → ((option_reading (options_of applet) g (length (front ++ (word ∷ [])) + 1) words).unread ≡ Some place → IsUnreadAt applet ((front ++ (word ∷ [])) ++ words) place (option_reading (options_of applet) g (length (front ++ (word ∷ [])) + 1) words).state)
@@ -165,25 +165,25 @@ unread_at applet state front (word ∷ words) place n u =
 abbrev pub IsFreeNext : Applet → NextWord → Type 0
 IsFreeNext applet next = (next ≡ OperandAlone applet) ⊎ (next ≡ OptionOrOperand applet)
 
-pub end_at : (applet : Applet) (state : OptionState) (front words : List (List ℕ)) → next_after front ≡ next_by_rule applet state.awaiting → (option_reading (options_of applet) state (length front + 1) words).unread ≡ None → IsFreeNext applet (next_after (front ++ words))
+pub end_at : (applet : Applet) (state : OptionState) (front words : List (List ℕ)) → next_after front ≡ next_word_after_option applet state.awaiting → (option_reading (options_of applet) state (length front + 1) words).unread ≡ None → IsFreeNext applet (next_after (front ++ words))
 end_at applet state front [] n u =
     elim state.awaiting as (λ a. state.awaiting ≡ a → option_map (λ (rule : ValueRule). length front + 1) a ≡ None → IsFreeNext applet (next_after (front ++ []))) [
-      | None ↦ λ a u. inr (ap next_after (append-none front) ∙ (n ∙ ap (next_by_rule applet) a))
+      | None ↦ λ a u. inr (ap next_after (append-none front) ∙ (n ∙ ap (next_word_after_option applet) a))
       | Some rule ↦ λ a u. absurd (none-some (length front + 1) (sym u))
     ] refl u
 end_at applet state front (word ∷ words) n u =
-    elim (is_option_or_value state word) as (λ b. is_option_or_value state word ≡ b → (if b then or_unread state (length front + 1) (λ m. option_reading (options_of applet) m (length front + 1 + 1) words) (with_word (options_of applet) state (length front + 1) word) else if is_double_dash word then reading_by state (operands_of (length front + 1 + 1) words) None else with_operand (operand_at (length front + 1) word) (option_reading (options_of applet) state (length front + 1 + 1) words)).unread ≡ None → IsFreeNext applet (next_after (front ++ (word ∷ words)))) [
-      | true ↦ λ t. elim (with_word (options_of applet) state (length front + 1) word) as (λ w. with_word (options_of applet) state (length front + 1) word ≡ w → (or_unread state (length front + 1) (λ m. option_reading (options_of applet) m (length front + 1 + 1) words) w).unread ≡ None → IsFreeNext applet (next_after (front ++ (word ∷ words)))) [
+    elim (is_option_or_value state word) as (λ b. is_option_or_value state word ≡ b → (if b then or_stop_at_unread_word state (length front + 1) (λ m. option_reading (options_of applet) m (length front + 1 + 1) words) (with_option_or_value_word (options_of applet) state (length front + 1) word) else if is_double_dash word then words_reading_from_parts state (operands_of (length front + 1 + 1) words) None else with_operand (operand_at (length front + 1) word) (option_reading (options_of applet) state (length front + 1 + 1) words)).unread ≡ None → IsFreeNext applet (next_after (front ++ (word ∷ words)))) [
+      | true ↦ λ t. elim (with_option_or_value_word (options_of applet) state (length front + 1) word) as (λ w. with_option_or_value_word (options_of applet) state (length front + 1) word ≡ w → (or_stop_at_unread_word state (length front + 1) (λ m. option_reading (options_of applet) m (length front + 1 + 1) words) w).unread ≡ None → IsFreeNext applet (next_after (front ++ (word ∷ words)))) [
         | None ↦ λ w (u : Some (length front + 1) ≡ None). absurd (none-some (length front + 1) (sym u))
         | Some g ↦ λ w u. on g (λ v. end_at applet g (front ++ (word ∷ [])) words (next_one front word ∙ (ap (λ x. next_word x word) n ∙ next_taken applet state g (length front + 1) word t w)) v) u
       ] refl
       | false ↦ λ t.
           let parts = or_parts (is_some state.awaiting) (is_option word && not (is_double_dash word)) t in
           let none : state.awaiting ≡ None = none_is state.awaiting parts.0 in
-          let free : next_after front ≡ OptionOrOperand applet = n ∙ ap (next_by_rule applet) none in
-          elim (is_double_dash word) as (λ b. is_double_dash word ≡ b → (if b then reading_by state (operands_of (length front + 1 + 1) words) None else with_operand (operand_at (length front + 1) word) (option_reading (options_of applet) state (length front + 1 + 1) words)).unread ≡ None → IsFreeNext applet (next_after (front ++ (word ∷ words)))) [
+          let free : next_after front ≡ OptionOrOperand applet = n ∙ ap (next_word_after_option applet) none in
+          elim (is_double_dash word) as (λ b. is_double_dash word ≡ b → (if b then words_reading_from_parts state (operands_of (length front + 1 + 1) words) None else with_operand (operand_at (length front + 1) word) (option_reading (options_of applet) state (length front + 1 + 1) words)).unread ≡ None → IsFreeNext applet (next_after (front ++ (word ∷ words)))) [
             | true ↦ λ e u. inl (next_append OptionOrCommand front (word ∷ words) ∙ (ap (λ x. next_words (next_word x word) words) free ∙ (ap (λ x. next_words x words) (next_ended applet word e) ∙ operand_stays applet words)))
-            | false ↦ λ e u. on state (λ v. end_at applet state (front ++ (word ∷ [])) words (next_one front word ∙ (ap (λ x. next_word x word) free ∙ (next_operand applet word e (not_option (is_option word) (is_double_dash word) e parts.1) ∙ ap (next_by_rule applet) (sym none)))) v) u
+            | false ↦ λ e u. on state (λ v. end_at applet state (front ++ (word ∷ [])) words (next_one front word ∙ (ap (λ x. next_word x word) free ∙ (next_operand applet word e (not_option (is_option word) (is_double_dash word) e parts.1) ∙ ap (next_word_after_option applet) (sym none)))) v) u
           ] refl
     ] refl u
   where

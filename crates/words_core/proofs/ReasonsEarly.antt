@@ -12,8 +12,8 @@ use Rattle.words_core.specs.declared.options.Meaning.{Meaning}
 use Rattle.words_core.specs.declared.options.Meaning.TheVariants.{Flag as Plain, Kind, Value}
 use Rattle.words_core.specs.declared.reading.AppletSite.{AppletSite}
 use Rattle.words_core.specs.declared.usage.UsageReason.TheVariants.{CommandUnknown, OptionEarly}
-use Rattle.words_core.specs.Grammar.{applet_site, early_flags, is_double_dash, is_option, next_after, next_word, option_name, or_at, site_at, site_after_end, site_by, with_meaning, with_option, with_spec}
-use Rattle.words_core.specs.Options.{OptionSpec, applet_of, is_early, option_spelled, options_of}
+use Rattle.words_core.specs.Grammar.{applet_site, early_flags, is_double_dash, is_option, next_after, next_word, option_name, or_err_at, applet_site_at, site_after_end, applet_site_from_parts, flags_with_meaning, flags_with_option_word, flags_with_option}
+use Rattle.words_core.specs.Options.{OptionSpec, applet_of, is_early_option_word, option_of_word, options_of}
 use Rattle.words_core.specs.Reasons.{IsUsageReason}
 use Rattle.words_core.specs.Usage.{command_reason}
 use Rattle.words_core.proofs.Asked.{named_site, next_early, next_end}
@@ -44,22 +44,22 @@ pub record IsLateOption (words : List (List ℕ)) (place : ℕ) : Type 0 where
   pub word : List ℕ
   pub at : slice_get words (place - 1) ≡ Some word
   pub option : is_option word ≡ true
-  pub early : is_early word ≡ false
+  pub early : is_early_option_word word ≡ false
   pub next : next_after (take (place - 1) words) ≡ OptionOrCommand
 
 abbrev pub IsSoughtErr : List (List ℕ) → ℕ → Type 0
 IsSoughtErr words place = (place ≡ length words + 1) ⊎ (IsNoCommand words place ⊎ IsLateOption words place)
 
-no_name : (ended : Bool) (place at : ℕ) (word : List ℕ) → site_at ended place word ≡ Err at → applet_of word ≡ None
-unfolding site_at
+no_name : (ended : Bool) (place at : ℕ) (word : List ℕ) → applet_site_at ended place word ≡ Err at → applet_of word ≡ None
+unfolding applet_site_at
 no_name ended place at word h =
-    elim (applet_of word) as (λ o. or_at place (λ applet. Ok (site_by ended place applet)) o ≡ Err at → o ≡ None) [
+    elim (applet_of word) as (λ o. or_err_at place (λ applet. Ok (applet_site_from_parts ended place applet)) o ≡ Err at → o ≡ None) [
       | None ↦ λ e. refl
-      | Some applet ↦ λ (e : Ok (site_by ended place applet) ≡ Err at). absurd (cc)
+      | Some applet ↦ λ (e : Ok (applet_site_from_parts ended place applet) ≡ Err at). absurd (cc)
     ] h
 
 -- the word behind some names no command
-nameless : (front words : List (List ℕ)) (word : List ℕ) (ended : Bool) (place at : ℕ) → place ≡ length front + 1 → site_at ended place word ≡ Err at → (next_after front ≡ CommandAlone) ⊎ ((next_after front ≡ OptionOrCommand) × (is_option word ≡ false)) → IsNoCommand (front ++ (word ∷ words)) at
+nameless : (front words : List (List ℕ)) (word : List ℕ) (ended : Bool) (place at : ℕ) → place ≡ length front + 1 → applet_site_at ended place word ≡ Err at → (next_after front ≡ CommandAlone) ⊎ ((next_after front ≡ OptionOrCommand) × (is_option word ≡ false)) → IsNoCommand (front ++ (word ∷ words)) at
 nameless front words word ended place at p h n =
     let here : at ≡ place = err_here place at ended word h in
     let count : length front ≡ at - 1 = omega (arith, here, p) in
@@ -85,7 +85,7 @@ sought_err front (word ∷ words) at n h =
           (end_sought (front ++ (word ∷ [])) words at (next_one front word ∙ (ap (λ x. next_word x word) n ∙ next_end word e))
           (ap (λ k. site_after_end k words) (longer front word) ∙ (sym (seek_end (length front + 1) word words e) ∙ h)))
       | false ↦ λ e. elim (is_option word) as (λ b. is_option word ≡ b → IsSoughtErr (front ++ (word ∷ words)) at) [
-        | true ↦ λ o. elim (is_early word) as (λ b. is_early word ≡ b → IsSoughtErr (front ++ (word ∷ words)) at) [
+        | true ↦ λ o. elim (is_early_option_word word) as (λ b. is_early_option_word word ≡ b → IsSoughtErr (front ++ (word ∷ words)) at) [
           | true ↦ λ y.
               subst (λ ws. IsSoughtErr ws at) (shifted front words word)
               (sought_err (front ++ (word ∷ [])) words at (next_one front word ∙ (ap (λ x. next_word x word) n ∙ next_early word e o))
@@ -127,9 +127,9 @@ command_why words place s (inr (inr k)) =
 pub record IsForeignWord (applet : Applet) (words : List (List ℕ)) (index : ℕ) : Type 0 where
   pub word : List ℕ
   pub at : slice_get words index ≡ Some word
-  pub early : is_early word ≡ true
+  pub early : is_early_option_word word ≡ true
   pub flags : Flags
-  pub refused : with_option (options_of applet) flags word ≡ None
+  pub refused : flags_with_option_word (options_of applet) flags word ≡ None
 
 pub foreign_word : (flags : Flags) (place at : ℕ) (words : List (List ℕ)) (site : AppletSite) → applet_site place words ≡ Ok site → early_flags (options_of site.applet) flags place (take (site.read - place) words) ≡ Err at → IsForeignWord site.applet words (at - place)
 foreign_word flags place at [] site s f = absurd (cc)
@@ -137,8 +137,8 @@ foreign_word flags place at (word ∷ words) site s f =
     elim (is_double_dash word) as (λ b. is_double_dash word ≡ b → IsForeignWord site.applet (word ∷ words) (at - place)) [
       | true ↦ λ e. absurd (at_end e (site.read - place) refl)
       | false ↦ λ e. elim (is_option word) as (λ b. is_option word ≡ b → IsForeignWord site.applet (word ∷ words) (at - place)) [
-        | true ↦ λ o. elim (is_early word) as (λ b. is_early word ≡ b → IsForeignWord site.applet (word ∷ words) (at - place)) [
-          | true ↦ λ y. by_flags e y (sym (seek_early place word words e o y) ∙ s) (λ g read. foreign_word g (place + 1) at words site (sym (seek_early place word words e o y) ∙ s) read) (with_option (options_of site.applet) flags word) refl
+        | true ↦ λ o. elim (is_early_option_word word) as (λ b. is_early_option_word word ≡ b → IsForeignWord site.applet (word ∷ words) (at - place)) [
+          | true ↦ λ y. by_flags e y (sym (seek_early place word words e o y) ∙ s) (λ g read. foreign_word g (place + 1) at words site (sym (seek_early place word words e o y) ∙ s) read) (flags_with_option_word (options_of site.applet) flags word) refl
           | false ↦ λ y. absurd (let both : Err place ≡ Ok site = sym (seek_late place word words e o y) ∙ s in cc)
         ] refl
         | false ↦ λ o. absurd (
@@ -154,14 +154,14 @@ foreign_word flags place at (word ∷ words) site s f =
     at_end e zero c = (let both : Ok flags ≡ Err at = sym (ap (λ k. early_flags (options_of site.applet) flags place (take k (word ∷ words))) c) ∙ f in cc)
     at_end e (suc count) c = (let both : Ok flags ≡ Err at = sym (ap (λ k. early_flags (options_of site.applet) flags place (take k (word ∷ words))) c ∙ flags_end (options_of site.applet) flags place word (take count words) e) ∙ f in cc)
 
-    by_flags : is_double_dash word ≡ false → is_early word ≡ true → applet_site (place + 1) words ≡ Ok site → ((g : Flags) → early_flags (options_of site.applet) g (place + 1) (take (site.read - (place + 1)) words) ≡ Err at → IsForeignWord site.applet words (at - (place + 1))) → (more : Option Flags) → with_option (options_of site.applet) flags word ≡ more → IsForeignWord site.applet (word ∷ words) (at - place)
+    by_flags : is_double_dash word ≡ false → is_early_option_word word ≡ true → applet_site (place + 1) words ≡ Ok site → ((g : Flags) → early_flags (options_of site.applet) g (place + 1) (take (site.read - (place + 1)) words) ≡ Err at → IsForeignWord site.applet words (at - (place + 1))) → (more : Option Flags) → flags_with_option_word (options_of site.applet) flags word ≡ more → IsForeignWord site.applet (word ∷ words) (at - place)
     by_flags e y rest others more m =
         let least : place + 1 ≤ site.read = IfOk-at_ok (λ (x : AppletSite). place + 1 ≤ x.read) rest (site_low (place + 1) words) in
         let next : site.read - place ≡ suc (site.read - (place + 1)) = omega (arith, least) in
         let read : early_flags (options_of site.applet) flags place (word ∷ take (site.read - (place + 1)) words) ≡ Err at = ap (λ k. early_flags (options_of site.applet) flags place (take k (word ∷ words))) (sym next) ∙ f in
         by_option more m read
       where
-        by_option : (more : Option Flags) → with_option (options_of site.applet) flags word ≡ more → early_flags (options_of site.applet) flags place (word ∷ take (site.read - (place + 1)) words) ≡ Err at → IsForeignWord site.applet (word ∷ words) (at - place)
+        by_option : (more : Option Flags) → flags_with_option_word (options_of site.applet) flags word ≡ more → early_flags (options_of site.applet) flags place (word ∷ take (site.read - (place + 1)) words) ≡ Err at → IsForeignWord site.applet (word ∷ words) (at - place)
         by_option None m read =
             let same : Err place ≡ Err at = sym (flags_step (options_of site.applet) flags place word (take (site.read - (place + 1)) words) None e m) ∙ read in
             let here : place ≡ at = cc in
@@ -175,16 +175,16 @@ foreign_word flags place at (word ∷ words) site s f =
             subst (λ i. IsForeignWord site.applet (word ∷ words) i) index (record { word = found.word; at = found.at; early = found.early; flags = found.flags; refused = found.refused })
 
 -- it is not spelled by an option of the applet
-pub unspelled : (applet : Applet) (flags : Flags) (word : List ℕ) → is_early word ≡ true → with_option (options_of applet) flags word ≡ None → option_spelled (options_of applet) (option_name word) ≡ None
+pub unspelled : (applet : Applet) (flags : Flags) (word : List ℕ) → is_early_option_word word ≡ true → flags_with_option_word (options_of applet) flags word ≡ None → option_of_word (options_of applet) (option_name word) ≡ None
 unspelled applet flags word early m =
     let name : option_name word ≡ word = (whole_early word early).name in
-    ap (option_spelled (options_of applet)) name ∙ by_option (option_spelled (options_of applet) word) (by_early (says_flag applet) word (early_flag applet) early) m
+    ap (option_of_word (options_of applet)) name ∙ by_option (option_of_word (options_of applet) word) (by_early (says_flag applet) word (early_flag applet) early) m
   where
-    by_meaning : (meaning : Meaning) → is_flag_meaning meaning ≡ true → with_meaning flags meaning ≡ None → ⊥
+    by_meaning : (meaning : Meaning) → is_flag_meaning meaning ≡ true → flags_with_meaning flags meaning ≡ None → ⊥
     by_meaning (Plain flag) f n = none-some (with_flag flag flags) (sym n)
     by_meaning (Kind flag) f n = false≢true f
     by_meaning (Value rule) f n = false≢true f
 
-    by_option : (o : Option OptionSpec) → is_flag o ≡ true → option_and_then (with_spec flags) o ≡ None → o ≡ None
+    by_option : (o : Option OptionSpec) → is_flag o ≡ true → option_and_then (flags_with_option flags) o ≡ None → o ≡ None
     by_option None f n = refl
     by_option (Some option) f n = absurd (by_meaning option.meaning f n)

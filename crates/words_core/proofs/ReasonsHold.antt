@@ -14,10 +14,10 @@ use Rattle.command_core.specs.declared.operands.OperandKind.TheVariants.{File}
 use Rattle.command_core.specs.declared.operands.OperandRule.{OperandRule}
 use Rattle.command_core.specs.declared.values.OptionValue.{OptionValue}
 use Rattle.command_core.specs.declared.values.ValueRule.{ValueRule}
-use Rattle.command_core.specs.Applets.{needed_option, operand_rule}
-use Rattle.command_core.specs.Flags.{has_flag, has_kind, no_flags, with_flag}
-use Rattle.command_core.specs.Operands.{at_least, first_refused, allows_one_more, is_of_kind, takes}
-use Rattle.command_core.specs.Values.{excludes, is_excluded, is_given, is_spent, is_value, lacks_value, option_value}
+use Rattle.command_core.specs.Applets.{required_option_letter, operand_rule}
+use Rattle.command_core.specs.Flags.{has_flag, has_command_kind_flag, no_flags, with_flag}
+use Rattle.command_core.specs.Operands.{at_least, first_refused_operand, allows_one_more, is_operand_of_kind, takes}
+use Rattle.command_core.specs.Values.{excludes, is_excluded_by_earlier_value, is_given, is_single_and_given, is_value, is_required_value_missing, option_value}
 use Rattle.words_core.specs.declared.next.NextWord.{NextWord}
 use Rattle.words_core.specs.declared.next.NextWord.TheVariants.{OptionOrCommand, OptionOrOperand, Value as NextValue, Operand as OperandAlone}
 use Rattle.words_core.specs.declared.options.Meaning.{Meaning}
@@ -27,10 +27,10 @@ use Rattle.words_core.specs.declared.reading.Reading.{Reading}
 use Rattle.words_core.specs.declared.reading.Start.{Start}
 use Rattle.words_core.specs.declared.usage.UsageReason.{UsageReason}
 use Rattle.words_core.specs.declared.usage.UsageReason.TheVariants.{OptionRepeated, OperandBad, ScriptRepeated, SecondKind, TooManyOperands, ValueBad}
-use Rattle.words_core.specs.Grammar.{applet_site, command_from, command_of, command_read, first_state, attached_value, is_double_dash, is_option, lacks_operand, lacks_word, line_command, line_start, next_after, next_by_rule, next_words, operands_of, option_name, option_reading, reading_after_applet, reading_by, refused_operand, rule_in, state_by, command_of_reading, with_flags, with_meaning_at, with_value, with_word_by}
-use Rattle.words_core.specs.Options.{OptionSpec, option_spelled, options_of}
-use Rattle.words_core.specs.Reasons.{IsUsageReason, IsRuleAt, HasValue}
-use Rattle.words_core.specs.Usage.{early_reason, end_reason, line_reason, line_rule, meaning_reason, missing_reason, operand_reason, option_reason, reason_from, repeated_by, usage_reason, value_reason, word_reason}
+use Rattle.words_core.specs.Grammar.{applet_site, spelled_command_from_start, command_of, command_read, option_state_at_start, attached_value, is_double_dash, is_option, lacks_operand, lacks_word, spelled_command, start_of_command_line, next_after, next_word_after_option, next_words, operands_of, option_name, option_reading, reading_after_applet, words_reading_from_parts, refused_operand, value_rule_of_meaning, option_state_from_parts, command_of_reading, with_flags_if_some, state_with_meaning, with_option_value, with_word_if_awaited}
+use Rattle.words_core.specs.Options.{OptionSpec, option_of_word, options_of}
+use Rattle.words_core.specs.Reasons.{IsUsageReason, IsValueRuleOfWord, HasOptionValue}
+use Rattle.words_core.specs.Usage.{early_reason, end_reason, line_reason, operand_rule_of_words, meaning_reason, missing_reason, operand_reason, option_reason, usage_reason_after_start, repeated_value_reason, usage_reason, value_reason, word_reason}
 use Rattle.words_core.proofs.Asked.{found_next, next_append, operand_stays}
 use Rattle.words_core.proofs.AskedLaws.{offends_unasked}
 use Rattle.words_core.proofs.KindsKept.{IsPlain, start_known, start_parts}
@@ -58,10 +58,10 @@ record IsRefused (applet : Applet) (words : List (List ℕ)) (rule : OperandRule
   less : count < end
   refuses : takes rule count word ≡ false
 
-refused_is : (applet : Applet) (words : List (List ℕ)) (rule : OperandRule) (before place : ℕ) (operands : List Operand) → AreOperandsAt applet words operands → first_refused rule before operands ≡ Some place → IsRefused applet words rule (before + length operands) place
+refused_is : (applet : Applet) (words : List (List ℕ)) (rule : OperandRule) (before place : ℕ) (operands : List Operand) → AreOperandsAt applet words operands → first_refused_operand rule before operands ≡ Some place → IsRefused applet words rule (before + length operands) place
 refused_is applet words rule before place [] at h = absurd (none-some place h)
 refused_is applet words rule before place (o ∷ operands) at h =
-    elim (takes rule before o.text) as (λ b. takes rule before o.text ≡ b → (if b then first_refused rule (before + 1) operands else Some o.place) ≡ Some place → IsRefused applet words rule (before + length (o ∷ operands)) place) [
+    elim (takes rule before o.text) as (λ b. takes rule before o.text ≡ b → (if b then first_refused_operand rule (before + 1) operands else Some o.place) ≡ Some place → IsRefused applet words rule (before + length (o ∷ operands)) place) [
       | true ↦ λ t h.
           let end : before + 1 + length operands ≡ before + length (o ∷ operands) = omega arith in
           subst (λ n. IsRefused applet words rule n place) end (refused_is applet words rule (before + 1) place operands at.1 h)
@@ -79,14 +79,14 @@ operand_why : (applet : Applet) (rule : Option OperandRule) (word : List ℕ) (n
 operand_why applet rule word next (inl e) = ap (word_reason rule word) e
 operand_why applet rule word next (inr e) =
     ap (word_reason rule word) e.0
-    ∙ ap (λ b. if b then option_reason word (option_spelled (options_of applet) (option_name word)) else operand_reason word rule) e.1
+    ∙ ap (λ b. if b then option_reason word (option_of_word (options_of applet) (option_name word)) else operand_reason word rule) e.1
 
 -- ---- values
 
-excluded_given : (rule : ValueRule) (text : List ℕ) (values : List OptionValue) → is_excluded rule text values ≡ true → is_given rule.letter values ≡ true
+excluded_given : (rule : ValueRule) (text : List ℕ) (values : List OptionValue) → is_excluded_by_earlier_value rule text values ≡ true → is_given rule.letter values ≡ true
 excluded_given rule text [] h = absurd (false≢true h)
 excluded_given rule text (v ∷ values) h =
-    elim (or_cases ((v.letter == rule.letter) && excludes rule.kind v.text text) (is_excluded rule text values) h) as (λ _. ((v.letter == rule.letter) || is_given rule.letter values) ≡ true) [
+    elim (or_cases ((v.letter == rule.letter) && excludes rule.kind v.text text) (is_excluded_by_earlier_value rule text values) h) as (λ _. ((v.letter == rule.letter) || is_given rule.letter values) ≡ true) [
       | inl here ↦ ap (λ b. b || is_given rule.letter values) (and_parts (v.letter == rule.letter) (excludes rule.kind v.text text) here).0
       | inr later ↦ or_right (v.letter == rule.letter) (is_given rule.letter values) (excluded_given rule text values later)
     ]
@@ -98,7 +98,7 @@ not_both false b a h = absurd (false≢true a)
 
 -- ---- the place after a command that was found
 
-module _ (words : List (List ℕ)) (start : Start) (s : line_start words ≡ Ok start) where
+module _ (words : List (List ℕ)) (start : Start) (s : start_of_command_line words ≡ Ok start) where
   abbrev applet : Applet
   applet = start.applet
 
@@ -131,60 +131,60 @@ module _ (words : List (List ℕ)) (start : Start) (s : line_start words ≡ Ok 
   operands : AreOperandsAt start.applet words (reading_after_applet start words).operands
   unfolding reading_after_applet
   operands =
-      elim start.ended as (λ b. next_after front ≡ (if b then OperandAlone applet else OptionOrOperand applet) → AreOperandsAt applet words (if b then reading_by (first_state start.flags) (operands_of (start.read + 1) left) None else option_reading (options_of applet) (first_state start.flags) (start.read + 1) left).operands) [
+      elim start.ended as (λ b. next_after front ≡ (if b then OperandAlone applet else OptionOrOperand applet) → AreOperandsAt applet words (if b then words_reading_from_parts (option_state_at_start start.flags) (operands_of (start.read + 1) left) None else option_reading (options_of applet) (option_state_at_start start.flags) (start.read + 1) left).operands) [
         | true ↦ λ n. subst (λ ws. AreOperandsAt applet ws (operands_of (start.read + 1) left)) whole (subst (λ k. AreOperandsAt applet (front ++ left) (operands_of (k + 1) left)) size (texts_at applet front left n))
-        | false ↦ λ n. subst (λ ws. AreOperandsAt applet ws (option_reading (options_of applet) (first_state start.flags) (start.read + 1) left).operands) whole
-            (subst (λ k. AreOperandsAt applet (front ++ left) (option_reading (options_of applet) (first_state start.flags) (k + 1) left).operands) size (operands_at applet (first_state start.flags) front left n))
+        | false ↦ λ n. subst (λ ws. AreOperandsAt applet ws (option_reading (options_of applet) (option_state_at_start start.flags) (start.read + 1) left).operands) whole
+            (subst (λ k. AreOperandsAt applet (front ++ left) (option_reading (options_of applet) (option_state_at_start start.flags) (k + 1) left).operands) size (operands_at applet (option_state_at_start start.flags) front left n))
       ] next_front
 
   unread : (place : ℕ) → (reading_after_applet start words).unread ≡ Some place → IsUnreadAt start.applet words place (reading_after_applet start words).state
   unfolding reading_after_applet
   unread place =
-      elim start.ended as (λ b. next_after front ≡ (if b then OperandAlone applet else OptionOrOperand applet) → (if b then reading_by (first_state start.flags) (operands_of (start.read + 1) left) None else option_reading (options_of applet) (first_state start.flags) (start.read + 1) left).unread ≡ Some place → IsUnreadAt applet words place (if b then reading_by (first_state start.flags) (operands_of (start.read + 1) left) None else option_reading (options_of applet) (first_state start.flags) (start.read + 1) left).state) [
+      elim start.ended as (λ b. next_after front ≡ (if b then OperandAlone applet else OptionOrOperand applet) → (if b then words_reading_from_parts (option_state_at_start start.flags) (operands_of (start.read + 1) left) None else option_reading (options_of applet) (option_state_at_start start.flags) (start.read + 1) left).unread ≡ Some place → IsUnreadAt applet words place (if b then words_reading_from_parts (option_state_at_start start.flags) (operands_of (start.read + 1) left) None else option_reading (options_of applet) (option_state_at_start start.flags) (start.read + 1) left).state) [
         | true ↦ λ n u. absurd (none-some place u)
-        | false ↦ λ n. subst (λ k. (option_reading (options_of applet) (first_state start.flags) (k + 1) left).unread ≡ Some place → IsUnreadAt applet words place (option_reading (options_of applet) (first_state start.flags) (k + 1) left).state) size
-            (λ u. subst (λ ws. IsUnreadAt applet ws place (option_reading (options_of applet) (first_state start.flags) (length front + 1) left).state) whole (unread_at applet (first_state start.flags) front left place n u))
+        | false ↦ λ n. subst (λ k. (option_reading (options_of applet) (option_state_at_start start.flags) (k + 1) left).unread ≡ Some place → IsUnreadAt applet words place (option_reading (options_of applet) (option_state_at_start start.flags) (k + 1) left).state) size
+            (λ u. subst (λ ws. IsUnreadAt applet ws place (option_reading (options_of applet) (option_state_at_start start.flags) (length front + 1) left).state) whole (unread_at applet (option_state_at_start start.flags) front left place n u))
       ] next_front
 
   free : (reading_after_applet start words).unread ≡ None → IsFreeNext start.applet (next_after words)
   unfolding reading_after_applet
   free =
-      elim start.ended as (λ b. next_after front ≡ (if b then OperandAlone applet else OptionOrOperand applet) → (if b then reading_by (first_state start.flags) (operands_of (start.read + 1) left) None else option_reading (options_of applet) (first_state start.flags) (start.read + 1) left).unread ≡ None → IsFreeNext applet (next_after words)) [
+      elim start.ended as (λ b. next_after front ≡ (if b then OperandAlone applet else OptionOrOperand applet) → (if b then words_reading_from_parts (option_state_at_start start.flags) (operands_of (start.read + 1) left) None else option_reading (options_of applet) (option_state_at_start start.flags) (start.read + 1) left).unread ≡ None → IsFreeNext applet (next_after words)) [
         | true ↦ λ n u. inl (ap next_after (sym whole) ∙ (next_append OptionOrCommand front left ∙ (ap (λ x. next_words x left) n ∙ operand_stays applet left)))
-        | false ↦ λ n. subst (λ k. (option_reading (options_of applet) (first_state start.flags) (k + 1) left).unread ≡ None → IsFreeNext applet (next_after words)) size
-            (λ u. subst (λ ws. IsFreeNext applet (next_after ws)) whole (end_at applet (first_state start.flags) front left n u))
+        | false ↦ λ n. subst (λ k. (option_reading (options_of applet) (option_state_at_start start.flags) (k + 1) left).unread ≡ None → IsFreeNext applet (next_after words)) size
+            (λ u. subst (λ ws. IsFreeNext applet (next_after ws)) whole (end_at applet (option_state_at_start start.flags) front left n u))
       ] next_front
 
   -- ---- the reason, by the word there
 
-  reason_is : (place : ℕ) → usage_reason words place ≡ line_reason start.applet (line_rule words start) (next_after (take (place - 1) words)) (slice_get words (place - 1))
+  reason_is : (place : ℕ) → usage_reason words place ≡ line_reason start.applet (operand_rule_of_words words start) (next_after (take (place - 1) words)) (slice_get words (place - 1))
   unfolding usage_reason
-  reason_is place = ap (reason_from words place) s
+  reason_is place = ap (usage_reason_after_start words place) s
 
-  word_is : (place : ℕ) (word : List ℕ) (next : NextWord) → slice_get words (place - 1) ≡ Some word → next_after (take (place - 1) words) ≡ next → usage_reason words place ≡ word_reason (line_rule words start) word next
+  word_is : (place : ℕ) (word : List ℕ) (next : NextWord) → slice_get words (place - 1) ≡ Some word → next_after (take (place - 1) words) ≡ next → usage_reason words place ≡ word_reason (operand_rule_of_words words start) word next
   word_is place word next at n =
       reason_is place
-      ∙ (ap (line_reason start.applet (line_rule words start) (next_after (take (place - 1) words))) at
-      ∙ ap (word_reason (line_rule words start) word) n)
+      ∙ (ap (line_reason start.applet (operand_rule_of_words words start) (next_after (take (place - 1) words))) at
+      ∙ ap (word_reason (operand_rule_of_words words start) word) n)
 
-  end_is : (place : ℕ) (next : NextWord) → place ≡ length words + 1 → next_after words ≡ next → usage_reason words place ≡ end_reason start.applet (line_rule words start) next
+  end_is : (place : ℕ) (next : NextWord) → place ≡ length words + 1 → next_after words ≡ next → usage_reason words place ≡ end_reason start.applet (operand_rule_of_words words start) next
   end_is place next e n =
       let far : length words ≤ place - 1 = omega (arith, e) in
       reason_is place
-      ∙ (ap (line_reason start.applet (line_rule words start) (next_after (take (place - 1) words))) (get_none words (place - 1) far)
-      ∙ ap (end_reason start.applet (line_rule words start)) (ap next_after (take_all (place - 1) words far) ∙ n))
+      ∙ (ap (line_reason start.applet (operand_rule_of_words words start) (next_after (take (place - 1) words))) (get_none words (place - 1) far)
+      ∙ ap (end_reason start.applet (operand_rule_of_words words start)) (ap next_after (take_all (place - 1) words far) ∙ n))
 
   holds : (place : ℕ) (reason : UsageReason) → usage_reason words place ≡ reason → IsUsageReason reason words place → IsUsageReason (usage_reason words place) words place
   holds place reason e h = subst (λ r. IsUsageReason r words place) (sym e) h
 
   -- an operand that is refused
-  refused_why : (place : ℕ) (rule : OperandRule) → line_rule words start ≡ Some rule → IsRefused start.applet words rule (0 + length (reading_after_applet start words).operands) place → IsUsageReason (usage_reason words place) words place
+  refused_why : (place : ℕ) (rule : OperandRule) → operand_rule_of_words words start ≡ Some rule → IsRefused start.applet words rule (0 + length (reading_after_applet start words).operands) place → IsUsageReason (usage_reason words place) words place
   refused_why place rule r h =
       holds place (operand_reason h.word (Some rule))
       (word_is place h.word (next_after (take (place - 1) words)) h.at refl
-      ∙ (operand_why start.applet (line_rule words start) h.word (next_after (take (place - 1) words)) h.next
+      ∙ (operand_why start.applet (operand_rule_of_words words start) h.word (next_after (take (place - 1) words)) h.next
       ∙ ap (operand_reason h.word) r))
-      (elim (is_of_kind rule.kind h.word) as (λ b. is_of_kind rule.kind h.word ≡ b → IsUsageReason (if b then TooManyOperands else OperandBad rule.kind) words place) [
+      (elim (is_operand_of_kind rule.kind h.word) as (λ b. is_operand_of_kind rule.kind h.word ≡ b → IsUsageReason (if b then TooManyOperands else OperandBad rule.kind) words place) [
         | true ↦ λ k. too_many k (allows_one_more rule.most h.count) refl (sym (ap (λ b. allows_one_more rule.most h.count && b) k) ∙ h.refuses)
         | false ↦ λ k. (h.word, h.at, (start, s, (rule, r, (refl, k))))
       ] refl)
@@ -193,17 +193,17 @@ module _ (words : List (List ℕ)) (start : Start) (s : line_start words ≡ Ok 
       by_most None m n = absurd (true≢false n)
       by_most (Some most) m n = (let full : most ≤ h.count = ltb-false h.count most n in let less = h.less in (start, s, (rule, r, (most, m, omega (arith, full, less)))))
 
-      too_many : is_of_kind rule.kind h.word ≡ true → (room : Bool) → allows_one_more rule.most h.count ≡ room → (allows_one_more rule.most h.count && true) ≡ false → IsUsageReason TooManyOperands words place
+      too_many : is_operand_of_kind rule.kind h.word ≡ true → (room : Bool) → allows_one_more rule.most h.count ≡ room → (allows_one_more rule.most h.count && true) ≡ false → IsUsageReason TooManyOperands words place
       too_many k true e n = absurd (true≢false (sym (ap (λ b. b && true) e) ∙ n))
       too_many k false e n = by_most rule.most refl e
 
   -- a text that is no value of an option
-  value_why : (place : ℕ) (word : List ℕ) (rule : ValueRule) (text : List ℕ) → slice_get words (place - 1) ≡ Some word → IsRuleAt start (reading_after_applet start words) word rule
-      → ((P : ValueRule → List ℕ → Type 0) → P rule text → HasValue start (reading_after_applet start words) word P)
-      → ((is_value rule.kind text && not (is_excluded rule text (reading_after_applet start words).state.values)) ≡ false) ⊎ (is_spent rule (reading_after_applet start words).state.values ≡ true)
+  value_why : (place : ℕ) (word : List ℕ) (rule : ValueRule) (text : List ℕ) → slice_get words (place - 1) ≡ Some word → IsValueRuleOfWord start (reading_after_applet start words) word rule
+      → ((P : ValueRule → List ℕ → Type 0) → P rule text → HasOptionValue start (reading_after_applet start words) word P)
+      → ((is_value rule.kind text && not (is_excluded_by_earlier_value rule text (reading_after_applet start words).state.values)) ≡ false) ⊎ (is_single_and_given rule (reading_after_applet start words).state.values ≡ true)
       → IsUsageReason (value_reason rule text) words place
   value_why place word rule text at own as_value bad =
-      elim (is_value rule.kind text) as (λ b. is_value rule.kind text ≡ b → IsUsageReason (if b then repeated_by rule else ValueBad rule.kind) words place) [
+      elim (is_value rule.kind text) as (λ b. is_value rule.kind text ≡ b → IsUsageReason (if b then repeated_value_reason rule else ValueBad rule.kind) words place) [
         | true ↦ λ v. repeated v bad
         | false ↦ λ v. (word, at, (start, s, as_value (λ r t. (r.kind ≡ rule.kind) × (is_value rule.kind t ≡ false)) (refl, v)))
       ] refl
@@ -211,53 +211,53 @@ module _ (words : List (List ℕ)) (start : Start) (s : line_start words ≡ Ok 
       values : List OptionValue
       values = (reading_after_applet start words).state.values
 
-      given_is : is_value rule.kind text ≡ true → ((is_value rule.kind text && not (is_excluded rule text (reading_after_applet start words).state.values)) ≡ false) ⊎ (is_spent rule (reading_after_applet start words).state.values ≡ true) → is_given rule.letter (reading_after_applet start words).state.values ≡ true
-      given_is v (inl e) = excluded_given rule text values (not_both (is_value rule.kind text) (is_excluded rule text values) v e)
+      given_is : is_value rule.kind text ≡ true → ((is_value rule.kind text && not (is_excluded_by_earlier_value rule text (reading_after_applet start words).state.values)) ≡ false) ⊎ (is_single_and_given rule (reading_after_applet start words).state.values ≡ true) → is_given rule.letter (reading_after_applet start words).state.values ≡ true
+      given_is v (inl e) = excluded_given rule text values (not_both (is_value rule.kind text) (is_excluded_by_earlier_value rule text values) v e)
       given_is v (inr e) = (and_parts rule.single (is_given rule.letter values) e).1
 
-      excluded_is : is_value rule.kind text ≡ true → rule.single ≡ false → ((is_value rule.kind text && not (is_excluded rule text (reading_after_applet start words).state.values)) ≡ false) ⊎ (is_spent rule (reading_after_applet start words).state.values ≡ true) → is_excluded rule text (reading_after_applet start words).state.values ≡ true
-      excluded_is v g (inl e) = not_both (is_value rule.kind text) (is_excluded rule text values) v e
+      excluded_is : is_value rule.kind text ≡ true → rule.single ≡ false → ((is_value rule.kind text && not (is_excluded_by_earlier_value rule text (reading_after_applet start words).state.values)) ≡ false) ⊎ (is_single_and_given rule (reading_after_applet start words).state.values ≡ true) → is_excluded_by_earlier_value rule text (reading_after_applet start words).state.values ≡ true
+      excluded_is v g (inl e) = not_both (is_value rule.kind text) (is_excluded_by_earlier_value rule text values) v e
       excluded_is v g (inr e) = absurd (true≢false (sym (and_parts rule.single (is_given rule.letter values) e).0 ∙ g))
 
-      repeated : is_value rule.kind text ≡ true → ((is_value rule.kind text && not (is_excluded rule text (reading_after_applet start words).state.values)) ≡ false) ⊎ (is_spent rule (reading_after_applet start words).state.values ≡ true) → IsUsageReason (repeated_by rule) words place
+      repeated : is_value rule.kind text ≡ true → ((is_value rule.kind text && not (is_excluded_by_earlier_value rule text (reading_after_applet start words).state.values)) ≡ false) ⊎ (is_single_and_given rule (reading_after_applet start words).state.values ≡ true) → IsUsageReason (repeated_value_reason rule) words place
       repeated v bad =
           elim rule.single as (λ b. rule.single ≡ b → IsUsageReason (if b then OptionRepeated else ScriptRepeated) words place) [
             | true ↦ λ g. (word, at, (start, s, (rule, g, given_is v bad, own)))
-            | false ↦ λ g. (word, at, (start, s, as_value (λ r t. is_excluded r t (reading_after_applet start words).state.values ≡ true) (excluded_is v g bad)))
+            | false ↦ λ g. (word, at, (start, s, as_value (λ r t. is_excluded_by_earlier_value r t (reading_after_applet start words).state.values ≡ true) (excluded_is v g bad)))
           ] refl
 
   -- an option of the command that cannot be given
-  meaning_why : (place : ℕ) (word : List ℕ) (option : OptionSpec) → slice_get words (place - 1) ≡ Some word → option_spelled (options_of start.applet) (option_name word) ≡ Some option → (held : Option (List ℕ)) → attached_value word ≡ held → (meaning : Meaning) → option.meaning ≡ meaning
-      → with_meaning_at (reading_after_applet start words).state place held meaning ≡ None → IsUsageReason (meaning_reason held meaning) words place
-  meaning_why place word option at o (Some text) h (Plain flag) m u = (word, at, (start, s, ((option, o, ap rule_in m), ap is_some h)))
-  meaning_why place word option at o (Some text) h (Kind flag) m u = (word, at, (start, s, ((option, o, ap rule_in m), ap is_some h)))
+  meaning_why : (place : ℕ) (word : List ℕ) (option : OptionSpec) → slice_get words (place - 1) ≡ Some word → option_of_word (options_of start.applet) (option_name word) ≡ Some option → (held : Option (List ℕ)) → attached_value word ≡ held → (meaning : Meaning) → option.meaning ≡ meaning
+      → state_with_meaning (reading_after_applet start words).state place held meaning ≡ None → IsUsageReason (meaning_reason held meaning) words place
+  meaning_why place word option at o (Some text) h (Plain flag) m u = (word, at, (start, s, ((option, o, ap value_rule_of_meaning m), ap is_some h)))
+  meaning_why place word option at o (Some text) h (Kind flag) m u = (word, at, (start, s, ((option, o, ap value_rule_of_meaning m), ap is_some h)))
   meaning_why place word option at o (Some text) h (Value rule) m u =
       value_why place word rule text at (inr (option, o, m)) (λ P p. inr (option, o, (rule, text, m, h, p)))
-      (elim (is_spent rule (reading_after_applet start words).state.values) as (λ b. is_spent rule (reading_after_applet start words).state.values ≡ b → (if b then None else with_value (reading_after_applet start words).state place text rule) ≡ None → ((is_value rule.kind text && not (is_excluded rule text (reading_after_applet start words).state.values)) ≡ false) ⊎ (is_spent rule (reading_after_applet start words).state.values ≡ true)) [
+      (elim (is_single_and_given rule (reading_after_applet start words).state.values) as (λ b. is_single_and_given rule (reading_after_applet start words).state.values ≡ b → (if b then None else with_option_value (reading_after_applet start words).state place text rule) ≡ None → ((is_value rule.kind text && not (is_excluded_by_earlier_value rule text (reading_after_applet start words).state.values)) ≡ false) ⊎ (is_single_and_given rule (reading_after_applet start words).state.values ≡ true)) [
         | true ↦ λ e n. inr e
         | false ↦ λ e n. inl (no_value rule text place n)
       ] refl u)
     where
-      no_value : (rule : ValueRule) (text : List ℕ) (place : ℕ) → with_value (reading_after_applet start words).state place text rule ≡ None → (is_value rule.kind text && not (is_excluded rule text (reading_after_applet start words).state.values)) ≡ false
+      no_value : (rule : ValueRule) (text : List ℕ) (place : ℕ) → with_option_value (reading_after_applet start words).state place text rule ≡ None → (is_value rule.kind text && not (is_excluded_by_earlier_value rule text (reading_after_applet start words).state.values)) ≡ false
       no_value rule text place n =
-          elim (is_value rule.kind text && not (is_excluded rule text (reading_after_applet start words).state.values)) as (λ b. (if b then Some (state_by (reading_after_applet start words).state.flags ((reading_after_applet start words).state.values ++ (option_value place rule.letter text ∷ [])) None) else None) ≡ None → b ≡ false) [
-            | true ↦ λ (k : Some (state_by (reading_after_applet start words).state.flags ((reading_after_applet start words).state.values ++ (option_value place rule.letter text ∷ [])) None) ≡ None). absurd (none-some (state_by (reading_after_applet start words).state.flags ((reading_after_applet start words).state.values ++ (option_value place rule.letter text ∷ [])) None) (sym k))
+          elim (is_value rule.kind text && not (is_excluded_by_earlier_value rule text (reading_after_applet start words).state.values)) as (λ b. (if b then Some (option_state_from_parts (reading_after_applet start words).state.flags ((reading_after_applet start words).state.values ++ (option_value place rule.letter text ∷ [])) None) else None) ≡ None → b ≡ false) [
+            | true ↦ λ (k : Some (option_state_from_parts (reading_after_applet start words).state.flags ((reading_after_applet start words).state.values ++ (option_value place rule.letter text ∷ [])) None) ≡ None). absurd (none-some (option_state_from_parts (reading_after_applet start words).state.flags ((reading_after_applet start words).state.values ++ (option_value place rule.letter text ∷ [])) None) (sym k))
             | false ↦ λ k. refl
           ] n
-  meaning_why place word option at o None h (Plain flag) m u = absurd (none-some (state_by (with_flag flag (reading_after_applet start words).state.flags) (reading_after_applet start words).state.values (reading_after_applet start words).state.awaiting) (sym u))
+  meaning_why place word option at o None h (Plain flag) m u = absurd (none-some (option_state_from_parts (with_flag flag (reading_after_applet start words).state.flags) (reading_after_applet start words).state.values (reading_after_applet start words).state.awaiting) (sym u))
   meaning_why place word option at o None h (Kind flag) m u =
-      elim (has_kind (reading_after_applet start words).state.flags && not (has_flag flag (reading_after_applet start words).state.flags)) as (λ b. (has_kind (reading_after_applet start words).state.flags && not (has_flag flag (reading_after_applet start words).state.flags)) ≡ b → with_flags (reading_after_applet start words).state (if b then None else Some (with_flag flag (reading_after_applet start words).state.flags)) ≡ None → IsUsageReason SecondKind words place) [
-        | true ↦ λ e n. (let both = and_parts (has_kind (reading_after_applet start words).state.flags) (not (has_flag flag (reading_after_applet start words).state.flags)) e in (word, at, (start, s, (flag, both.0, is_false (has_flag flag (reading_after_applet start words).state.flags) both.1, (option, o, m)))))
-        | false ↦ λ e n. absurd (none-some (state_by (with_flag flag (reading_after_applet start words).state.flags) (reading_after_applet start words).state.values (reading_after_applet start words).state.awaiting) (sym n))
+      elim (has_command_kind_flag (reading_after_applet start words).state.flags && not (has_flag flag (reading_after_applet start words).state.flags)) as (λ b. (has_command_kind_flag (reading_after_applet start words).state.flags && not (has_flag flag (reading_after_applet start words).state.flags)) ≡ b → with_flags_if_some (reading_after_applet start words).state (if b then None else Some (with_flag flag (reading_after_applet start words).state.flags)) ≡ None → IsUsageReason SecondKind words place) [
+        | true ↦ λ e n. (let both = and_parts (has_command_kind_flag (reading_after_applet start words).state.flags) (not (has_flag flag (reading_after_applet start words).state.flags)) e in (word, at, (start, s, (flag, both.0, is_false (has_flag flag (reading_after_applet start words).state.flags) both.1, (option, o, m)))))
+        | false ↦ λ e n. absurd (none-some (option_state_from_parts (with_flag flag (reading_after_applet start words).state.flags) (reading_after_applet start words).state.values (reading_after_applet start words).state.awaiting) (sym n))
       ] refl u
     where
       is_false : (b : Bool) → not b ≡ true → b ≡ false
       is_false true h = absurd (false≢true h)
       is_false false h = refl
   meaning_why place word option at o None h (Value rule) m u =
-      elim (is_spent rule (reading_after_applet start words).state.values) as (λ b. is_spent rule (reading_after_applet start words).state.values ≡ b → (if b then None else Some (state_by (reading_after_applet start words).state.flags (reading_after_applet start words).state.values (Some rule))) ≡ None → IsUsageReason OptionRepeated words place) [
+      elim (is_single_and_given rule (reading_after_applet start words).state.values) as (λ b. is_single_and_given rule (reading_after_applet start words).state.values ≡ b → (if b then None else Some (option_state_from_parts (reading_after_applet start words).state.flags (reading_after_applet start words).state.values (Some rule))) ≡ None → IsUsageReason OptionRepeated words place) [
         | true ↦ λ e n. (let both = and_parts rule.single (is_given rule.letter (reading_after_applet start words).state.values) e in (word, at, (start, s, (rule, both.0, both.1, inr (option, o, m)))))
-        | false ↦ λ e n. absurd (none-some (state_by (reading_after_applet start words).state.flags (reading_after_applet start words).state.values (Some rule)) (sym n))
+        | false ↦ λ e n. absurd (none-some (option_state_from_parts (reading_after_applet start words).state.flags (reading_after_applet start words).state.values (Some rule)) (sym n))
       ] refl u
 
   -- a word that cannot be read
@@ -267,50 +267,50 @@ module _ (words : List (List ℕ)) (start : Start) (s : line_start words ≡ Ok 
       state : OptionState
       state = (reading_after_applet start words).state
 
-      no_value : (rule : ValueRule) → with_value (reading_after_applet start words).state place u.word rule ≡ None → (is_value rule.kind u.word && not (is_excluded rule u.word (reading_after_applet start words).state.values)) ≡ false
+      no_value : (rule : ValueRule) → with_option_value (reading_after_applet start words).state place u.word rule ≡ None → (is_value rule.kind u.word && not (is_excluded_by_earlier_value rule u.word (reading_after_applet start words).state.values)) ≡ false
       no_value rule n =
-          elim (is_value rule.kind u.word && not (is_excluded rule u.word (reading_after_applet start words).state.values)) as (λ b. (if b then Some (state_by (reading_after_applet start words).state.flags ((reading_after_applet start words).state.values ++ (option_value place rule.letter u.word ∷ [])) None) else None) ≡ None → b ≡ false) [
-            | true ↦ λ (k : Some (state_by (reading_after_applet start words).state.flags ((reading_after_applet start words).state.values ++ (option_value place rule.letter u.word ∷ [])) None) ≡ None). absurd (none-some (state_by (reading_after_applet start words).state.flags ((reading_after_applet start words).state.values ++ (option_value place rule.letter u.word ∷ [])) None) (sym k))
+          elim (is_value rule.kind u.word && not (is_excluded_by_earlier_value rule u.word (reading_after_applet start words).state.values)) as (λ b. (if b then Some (option_state_from_parts (reading_after_applet start words).state.flags ((reading_after_applet start words).state.values ++ (option_value place rule.letter u.word ∷ [])) None) else None) ≡ None → b ≡ false) [
+            | true ↦ λ (k : Some (option_state_from_parts (reading_after_applet start words).state.flags ((reading_after_applet start words).state.values ++ (option_value place rule.letter u.word ∷ [])) None) ≡ None). absurd (none-some (option_state_from_parts (reading_after_applet start words).state.flags ((reading_after_applet start words).state.values ++ (option_value place rule.letter u.word ∷ [])) None) (sym k))
             | false ↦ λ k. refl
           ] n
 
-      unknown : option_spelled (options_of start.applet) (option_name u.word) ≡ None → IsUsageReason (option_reason u.word None) words place
+      unknown : option_of_word (options_of start.applet) (option_name u.word) ≡ None → IsUsageReason (option_reason u.word None) words place
       unknown o =
           let parts = start_parts words start s in
-          (u.word, u.at, (parts.site, parts.found, subst (λ (x : Start). option_spelled (options_of x.applet) (option_name u.word) ≡ None) (sym parts.same) o))
+          (u.word, u.at, (parts.site, parts.found, subst (λ (x : Start). option_of_word (options_of x.applet) (option_name u.word) ≡ None) (sym parts.same) o))
 
-      by_option : (reading_after_applet start words).state.awaiting ≡ None → (found : Option OptionSpec) → option_spelled (options_of start.applet) (option_name u.word) ≡ found → IsUsageReason (option_reason u.word found) words place
+      by_option : (reading_after_applet start words).state.awaiting ≡ None → (found : Option OptionSpec) → option_of_word (options_of start.applet) (option_name u.word) ≡ found → IsUsageReason (option_reason u.word found) words place
       by_option a None o = unknown o
       by_option a (Some option) o =
           meaning_why place u.word option u.at o (attached_value u.word) refl option.meaning refl
-          (sym (ap (with_word_by (options_of start.applet) (reading_after_applet start words).state place u.word) a
-          ∙ ap (option_and_then (λ (e : OptionSpec). with_meaning_at (reading_after_applet start words).state place (attached_value u.word) e.meaning)) o) ∙ u.unread)
+          (sym (ap (with_word_if_awaited (options_of start.applet) (reading_after_applet start words).state place u.word) a
+          ∙ ap (option_and_then (λ (e : OptionSpec). state_with_meaning (reading_after_applet start words).state place (attached_value u.word) e.meaning)) o) ∙ u.unread)
 
       by_awaiting : (awaiting : Option ValueRule) → (reading_after_applet start words).state.awaiting ≡ awaiting → IsUsageReason (usage_reason words place) words place
       by_awaiting (Some rule) a =
           holds place (value_reason rule u.word)
-          (word_is place u.word (NextValue start.applet rule) u.at (u.next ∙ ap (next_by_rule start.applet) a))
+          (word_is place u.word (NextValue start.applet rule) u.at (u.next ∙ ap (next_word_after_option start.applet) a))
           (value_why place u.word rule u.word u.at (inl a) (λ P p. inl (rule, a, p))
-          (inl (no_value rule (sym (ap (with_word_by (options_of start.applet) (reading_after_applet start words).state place u.word) a) ∙ u.unread))))
+          (inl (no_value rule (sym (ap (with_word_if_awaited (options_of start.applet) (reading_after_applet start words).state place u.word) a) ∙ u.unread))))
       by_awaiting None a =
           let option : (is_option u.word && not (is_double_dash u.word)) ≡ true = sym (ap (λ o. is_some o || (is_option u.word && not (is_double_dash u.word))) a) ∙ u.taken in
-          holds place (option_reason u.word (option_spelled (options_of start.applet) (option_name u.word)))
-          (word_is place u.word (OptionOrOperand start.applet) u.at (u.next ∙ ap (next_by_rule start.applet) a)
-          ∙ ap (λ b. if b then option_reason u.word (option_spelled (options_of start.applet) (option_name u.word)) else operand_reason u.word (line_rule words start)) option)
-          (by_option a (option_spelled (options_of start.applet) (option_name u.word)) refl)
+          holds place (option_reason u.word (option_of_word (options_of start.applet) (option_name u.word)))
+          (word_is place u.word (OptionOrOperand start.applet) u.at (u.next ∙ ap (next_word_after_option start.applet) a)
+          ∙ ap (λ b. if b then option_reason u.word (option_of_word (options_of start.applet) (option_name u.word)) else operand_reason u.word (operand_rule_of_words words start)) option)
+          (by_option a (option_of_word (options_of start.applet) (option_name u.word)) refl)
 
   unread_why : (place : ℕ) → IsUnreadAt start.applet words place (reading_after_applet start words).state → IsUsageReason (usage_reason words place) words place
   unread_why place (inl u) = word_why place u
   unread_why place (inr u) = subst (λ r. IsUsageReason r words place) (sym (end_is place (NextValue start.applet u.rule) u.end u.next)) (u.end, (start, s, ap is_some u.awaits))
 
   -- a word that is missing
-  missing_why : (place : ℕ) → place ≡ length words + 1 → lacks_word start.applet (line_rule words start) (reading_after_applet start words) ≡ true → IsUsageReason (missing_reason (needed_option start.applet) (line_rule words start)) words place
-  missing_why place e k = by_needed (needed_option start.applet) refl
+  missing_why : (place : ℕ) → place ≡ length words + 1 → lacks_word start.applet (operand_rule_of_words words start) (reading_after_applet start words) ≡ true → IsUsageReason (missing_reason (required_option_letter start.applet) (operand_rule_of_words words start)) words place
+  missing_why place e k = by_needed (required_option_letter start.applet) refl
     where
       operands_read : List Operand
       operands_read = (reading_after_applet start words).operands
 
-      needed_rule : (applet : Applet) (flags : Flags) (letter : ℕ) → needed_option applet ≡ Some letter → operand_rule applet flags ≡ Some (at_least 0 File)
+      needed_rule : (applet : Applet) (flags : Flags) (letter : ℕ) → required_option_letter applet ≡ Some letter → operand_rule applet flags ≡ Some (at_least 0 File)
       needed_rule Mkndx flags letter n = refl
       needed_rule applet flags letter n = absurd (none-some letter n)
 
@@ -326,24 +326,24 @@ module _ (words : List (List ℕ)) (start : Start) (s : line_start words ≡ Ok 
       not_given true h = absurd (false≢true h)
       not_given false h = refl
 
-      by_rule : needed_option start.applet ≡ None → (rule : Option OperandRule) → line_rule words start ≡ rule → IsUsageReason (missing_reason None rule) words place
+      by_rule : required_option_letter start.applet ≡ None → (rule : Option OperandRule) → operand_rule_of_words words start ≡ rule → IsUsageReason (missing_reason None rule) words place
       by_rule n None r = (e, (start, s, r))
       by_rule n (Some rule) r =
           let short : nat_lt (length operands_read) rule.least ≡ true =
-          first (nat_lt (length operands_read) rule.least) (lacks_value (needed_option start.applet) (reading_after_applet start words).state.values) (ap (λ o. lacks_value o (reading_after_applet start words).state.values) n)
-          (sym (ap (λ o. lacks_operand o operands_read || lacks_value (needed_option start.applet) (reading_after_applet start words).state.values) r) ∙ k) in
+          first (nat_lt (length operands_read) rule.least) (is_required_value_missing (required_option_letter start.applet) (reading_after_applet start words).state.values) (ap (λ o. is_required_value_missing o (reading_after_applet start words).state.values) n)
+          (sym (ap (λ o. lacks_operand o operands_read || is_required_value_missing (required_option_letter start.applet) (reading_after_applet start words).state.values) r) ∙ k) in
           (e, (start, s, (rule, r, (refl, ltb-true (length operands_read) rule.least short))))
 
-      by_needed : (needed : Option ℕ) → needed_option start.applet ≡ needed → IsUsageReason (missing_reason needed (line_rule words start)) words place
+      by_needed : (needed : Option ℕ) → required_option_letter start.applet ≡ needed → IsUsageReason (missing_reason needed (operand_rule_of_words words start)) words place
       by_needed (Some letter) n =
-          let enough : lacks_operand (line_rule words start) operands_read ≡ false =
+          let enough : lacks_operand (operand_rule_of_words words start) operands_read ≡ false =
           ap (λ o. lacks_operand o operands_read) (needed_rule start.applet (reading_after_applet start words).state.flags letter n) ∙ le-ltb (length operands_read) 0 (omega arith) in
           let none : not (is_given letter (reading_after_applet start words).state.values) ≡ true =
-          sym (ap (λ o. lacks_value o (reading_after_applet start words).state.values) n) ∙ second (lacks_operand (line_rule words start) operands_read) (lacks_value (needed_option start.applet) (reading_after_applet start words).state.values) enough k in
+          sym (ap (λ o. is_required_value_missing o (reading_after_applet start words).state.values) n) ∙ second (lacks_operand (operand_rule_of_words words start) operands_read) (is_required_value_missing (required_option_letter start.applet) (reading_after_applet start words).state.values) enough k in
           (e, (start, s, (letter, n, not_given (is_given letter (reading_after_applet start words).state.values) none)))
-      by_needed None n = by_rule n (line_rule words start) refl
+      by_needed None n = by_rule n (operand_rule_of_words words start) refl
 
-  lacks_why : (place : ℕ) → place ≡ length words + 1 → (reading_after_applet start words).unread ≡ None → lacks_word start.applet (line_rule words start) (reading_after_applet start words) ≡ true → IsUsageReason (usage_reason words place) words place
+  lacks_why : (place : ℕ) → place ≡ length words + 1 → (reading_after_applet start words).unread ≡ None → lacks_word start.applet (operand_rule_of_words words start) (reading_after_applet start words) ≡ true → IsUsageReason (usage_reason words place) words place
   lacks_why place e u k =
       elim (free u) as (λ _. IsUsageReason (usage_reason words place) words place) [
         | inl n ↦ subst (λ r. IsUsageReason r words place) (sym (end_is place (OperandAlone start.applet) e n)) (missing_why place e k)
@@ -353,32 +353,32 @@ module _ (words : List (List ℕ)) (start : Start) (s : line_start words ≡ Ok 
   -- all that can be judged bad
   judged_why : (place : ℕ) → command_of_reading (length words + 1) start.applet (reading_after_applet start words) ≡ Err place → IsUsageReason (usage_reason words place) words place
   judged_why place h = elim (judged_at start.applet (reading_after_applet start words) (length words + 1) place h) as (λ _. IsUsageReason (usage_reason words place) words place) [
-    | inl first ↦ by_refused (refused_operand (line_rule words start) (reading_after_applet start words).operands) refl first
-    | inr last ↦ (let none = both_none (refused_operand (line_rule words start) (reading_after_applet start words).operands) (reading_after_applet start words).unread last.0 in
-        lacks_why place last.1 none.1 (lacking none.0 none.1 (lacks_word start.applet (line_rule words start) (reading_after_applet start words)) refl))
+    | inl first ↦ by_refused (refused_operand (operand_rule_of_words words start) (reading_after_applet start words).operands) refl first
+    | inr last ↦ (let none = both_none (refused_operand (operand_rule_of_words words start) (reading_after_applet start words).operands) (reading_after_applet start words).unread last.0 in
+        lacks_why place last.1 none.1 (lacking none.0 none.1 (lacks_word start.applet (operand_rule_of_words words start) (reading_after_applet start words)) refl))
   ]
     where
-      by_rule : (rule : Option OperandRule) → line_rule words start ≡ rule → refused_operand rule (reading_after_applet start words).operands ≡ Some place → IsUsageReason (usage_reason words place) words place
+      by_rule : (rule : Option OperandRule) → operand_rule_of_words words start ≡ rule → refused_operand rule (reading_after_applet start words).operands ≡ Some place → IsUsageReason (usage_reason words place) words place
       by_rule None r e = absurd (none-some place e)
       by_rule (Some rule) r e = refused_why place rule r (refused_is start.applet words rule 0 place (reading_after_applet start words).operands operands e)
 
-      by_refused : (o : Option ℕ) → refused_operand (line_rule words start) (reading_after_applet start words).operands ≡ o → option_or o (reading_after_applet start words).unread ≡ Some place → IsUsageReason (usage_reason words place) words place
+      by_refused : (o : Option ℕ) → refused_operand (operand_rule_of_words words start) (reading_after_applet start words).operands ≡ o → option_or o (reading_after_applet start words).unread ≡ Some place → IsUsageReason (usage_reason words place) words place
       by_refused None e f = unread_why place (unread place f)
-      by_refused (Some at) e f = by_rule (line_rule words start) refl (e ∙ f)
+      by_refused (Some at) e f = by_rule (operand_rule_of_words words start) refl (e ∙ f)
 
-      lacking : refused_operand (line_rule words start) (reading_after_applet start words).operands ≡ None → (reading_after_applet start words).unread ≡ None → (b : Bool) → lacks_word start.applet (line_rule words start) (reading_after_applet start words) ≡ b → lacks_word start.applet (line_rule words start) (reading_after_applet start words) ≡ true
+      lacking : refused_operand (operand_rule_of_words words start) (reading_after_applet start words).operands ≡ None → (reading_after_applet start words).unread ≡ None → (b : Bool) → lacks_word start.applet (operand_rule_of_words words start) (reading_after_applet start words) ≡ b → lacks_word start.applet (operand_rule_of_words words start) (reading_after_applet start words) ≡ true
       lacking r u true k = k
       lacking r u false k = absurd (let good : Ok (command_read (length words + 1) start.applet (reading_after_applet start words)) ≡ Err place = sym (judged_good start.applet (reading_after_applet start words) (length words + 1) r u k) ∙ h in cc)
 
 pub reason_so : (words : List (List ℕ)) (place : ℕ) → command_of words ≡ Err place → IsUsageReason (usage_reason words place) words place
-unfolding line_command usage_reason
+unfolding spelled_command usage_reason
 reason_so words place c =
-    elim (line_start words) as (λ s. line_start words ≡ s → command_from words s ≡ Err place → IsUsageReason (reason_from words place s) words place) [
-      | Ok start ↦ λ s h. subst (λ r. IsUsageReason r words place) (ap (reason_from words place) s) (judged_why words start s place h)
+    elim (start_of_command_line words) as (λ s. start_of_command_line words ≡ s → spelled_command_from_start words s ≡ Err place → IsUsageReason (usage_reason_after_start words place s) words place) [
+      | Ok start ↦ λ s h. subst (λ r. IsUsageReason r words place) (ap (usage_reason_after_start words place) s) (judged_why words start s place h)
       | Err at ↦ λ s (h : Err at ≡ Err place). (let same : at ≡ place = cc in early_why (s ∙ ap Err same))
     ] refl (offends_unasked words place c).offends
   where
-    early_why : line_start words ≡ Err place → IsUsageReason (early_reason (applet_site 1 words) (next_after (take (place - 1) words)) (slice_get words (place - 1))) words place
+    early_why : start_of_command_line words ≡ Err place → IsUsageReason (early_reason (applet_site 1 words) (next_after (take (place - 1) words)) (slice_get words (place - 1))) words place
     early_why s =
         elim (no_start words place s) as (λ _. IsUsageReason (early_reason (applet_site 1 words) (next_after (take (place - 1) words)) (slice_get words (place - 1))) words place) [
           | inl e ↦ subst (λ r. IsUsageReason (early_reason r (next_after (take (place - 1) words)) (slice_get words (place - 1))) words place) (sym e)

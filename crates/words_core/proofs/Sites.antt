@@ -6,35 +6,35 @@ use Rattle.command_core.specs.declared.command.Flags.{Flags}
 use Rattle.command_core.specs.Flags.{no_flags}
 use Rattle.words_core.specs.declared.reading.AppletSite.{AppletSite}
 use Rattle.words_core.specs.declared.reading.Start.{Start}
-use Rattle.words_core.specs.Grammar.{applet_site, early_flags, is_double_dash, is_option, line_start, or_at, site_at, site_after_end, site_by, start_from, start_with, with_option}
-use Rattle.words_core.specs.Options.{applet_of, OptionSpec, is_early, options_of}
+use Rattle.words_core.specs.Grammar.{applet_site, early_flags, is_double_dash, is_option, start_of_command_line, or_err_at, applet_site_at, site_after_end, applet_site_from_parts, start_after_site, start_with_early_flags, flags_with_option_word}
+use Rattle.words_core.specs.Options.{applet_of, OptionSpec, is_early_option_word, options_of}
 use Rattle.words_core.proofs.KindsKept.{IsSite, site_known, start_parts}
 
 pub seek_end : (place : ℕ) (word : List ℕ) (words : List (List ℕ)) → is_double_dash word ≡ true → applet_site place (word ∷ words) ≡ site_after_end (place + 1) words
 seek_end place word words e = rw e refl
 
-pub seek_here : (place : ℕ) (word : List ℕ) (words : List (List ℕ)) → is_double_dash word ≡ false → is_option word ≡ false → applet_site place (word ∷ words) ≡ site_at false place word
+pub seek_here : (place : ℕ) (word : List ℕ) (words : List (List ℕ)) → is_double_dash word ≡ false → is_option word ≡ false → applet_site place (word ∷ words) ≡ applet_site_at false place word
 seek_here place word words e o = rw e (rw o refl)
 
-pub seek_early : (place : ℕ) (word : List ℕ) (words : List (List ℕ)) → is_double_dash word ≡ false → is_option word ≡ true → is_early word ≡ true → applet_site place (word ∷ words) ≡ applet_site (place + 1) words
+pub seek_early : (place : ℕ) (word : List ℕ) (words : List (List ℕ)) → is_double_dash word ≡ false → is_option word ≡ true → is_early_option_word word ≡ true → applet_site place (word ∷ words) ≡ applet_site (place + 1) words
 seek_early place word words e o y = rw e (rw o (rw y refl))
 
-pub seek_late : (place : ℕ) (word : List ℕ) (words : List (List ℕ)) → is_double_dash word ≡ false → is_option word ≡ true → is_early word ≡ false → applet_site place (word ∷ words) ≡ Err place
+pub seek_late : (place : ℕ) (word : List ℕ) (words : List (List ℕ)) → is_double_dash word ≡ false → is_option word ≡ true → is_early_option_word word ≡ false → applet_site place (word ∷ words) ≡ Err place
 seek_late place word words e o y = rw e (rw o (rw y refl))
 
 pub flags_end : (options : List OptionSpec) (flags : Flags) (place : ℕ) (word : List ℕ) (words : List (List ℕ)) → is_double_dash word ≡ true → early_flags options flags place (word ∷ words) ≡ Ok flags
 flags_end options flags place word words e = rw e refl
 
-pub flags_step : (options : List OptionSpec) (flags : Flags) (place : ℕ) (word : List ℕ) (words : List (List ℕ)) (more : Option Flags) → is_double_dash word ≡ false → with_option options flags word ≡ more → early_flags options flags place (word ∷ words) ≡ or_at place (λ m. early_flags options m (place + 1) words) more
+pub flags_step : (options : List OptionSpec) (flags : Flags) (place : ℕ) (word : List ℕ) (words : List (List ℕ)) (more : Option Flags) → is_double_dash word ≡ false → flags_with_option_word options flags word ≡ more → early_flags options flags place (word ∷ words) ≡ or_err_at place (λ m. early_flags options m (place + 1) words) more
 flags_step options flags place word words more e m = rw e (rw m refl)
 
 -- a word that names no applet offends itself
-pub err_here : (place at : ℕ) (ended : Bool) (word : List ℕ) → site_at ended place word ≡ Err at → at ≡ place
-unfolding site_at
+pub err_here : (place at : ℕ) (ended : Bool) (word : List ℕ) → applet_site_at ended place word ≡ Err at → at ≡ place
+unfolding applet_site_at
 err_here place at ended word h =
-    elim (applet_of word) as (λ o. or_at place (λ applet. Ok (site_by ended place applet)) o ≡ Err at → at ≡ place) [
+    elim (applet_of word) as (λ o. or_err_at place (λ applet. Ok (applet_site_from_parts ended place applet)) o ≡ Err at → at ≡ place) [
       | None ↦ λ (e : Err place ≡ Err at). cc
-      | Some applet ↦ λ (e : Ok (site_by ended place applet) ≡ Err at). absurd (cc)
+      | Some applet ↦ λ (e : Ok (applet_site_from_parts ended place applet) ≡ Err at). absurd (cc)
     ] h
 
 -- ---- more words behind
@@ -53,10 +53,10 @@ pub site_stays : (place : ℕ) (words more : List (List ℕ)) → IsKnown (place
 site_stays place [] more k = absurd (omega (arith, k))
 site_stays place (word ∷ words) more k =
     let next : place + length (word ∷ words) ≡ place + 1 + length words = omega arith in
-    elim (is_double_dash word) as (λ b. is_double_dash word ≡ b → IsKnown (place + length (word ∷ words)) (if b then site_after_end (place + 1) words else if is_option word then (if is_early word then applet_site (place + 1) words else Err place) else site_at false place word) → applet_site place (word ∷ (words ++ more)) ≡ (if b then site_after_end (place + 1) words else if is_option word then (if is_early word then applet_site (place + 1) words else Err place) else site_at false place word)) [
+    elim (is_double_dash word) as (λ b. is_double_dash word ≡ b → IsKnown (place + length (word ∷ words)) (if b then site_after_end (place + 1) words else if is_option word then (if is_early_option_word word then applet_site (place + 1) words else Err place) else applet_site_at false place word) → applet_site place (word ∷ (words ++ more)) ≡ (if b then site_after_end (place + 1) words else if is_option word then (if is_early_option_word word then applet_site (place + 1) words else Err place) else applet_site_at false place word)) [
       | true ↦ λ e h. seek_end place word (words ++ more) e ∙ end_stays (place + 1) words more (subst (λ n. IsKnown n (site_after_end (place + 1) words)) next h)
-      | false ↦ λ e. elim (is_option word) as (λ b. is_option word ≡ b → IsKnown (place + length (word ∷ words)) (if b then (if is_early word then applet_site (place + 1) words else Err place) else site_at false place word) → applet_site place (word ∷ (words ++ more)) ≡ (if b then (if is_early word then applet_site (place + 1) words else Err place) else site_at false place word)) [
-        | true ↦ λ o. elim (is_early word) as (λ b. is_early word ≡ b → IsKnown (place + length (word ∷ words)) (if b then applet_site (place + 1) words else Err place) → applet_site place (word ∷ (words ++ more)) ≡ (if b then applet_site (place + 1) words else Err place)) [
+      | false ↦ λ e. elim (is_option word) as (λ b. is_option word ≡ b → IsKnown (place + length (word ∷ words)) (if b then (if is_early_option_word word then applet_site (place + 1) words else Err place) else applet_site_at false place word) → applet_site place (word ∷ (words ++ more)) ≡ (if b then (if is_early_option_word word then applet_site (place + 1) words else Err place) else applet_site_at false place word)) [
+        | true ↦ λ o. elim (is_early_option_word word) as (λ b. is_early_option_word word ≡ b → IsKnown (place + length (word ∷ words)) (if b then applet_site (place + 1) words else Err place) → applet_site place (word ∷ (words ++ more)) ≡ (if b then applet_site (place + 1) words else Err place)) [
           | true ↦ λ y h. seek_early place word (words ++ more) e o y ∙ site_stays (place + 1) words more (subst (λ n. IsKnown n (applet_site (place + 1) words)) next h)
           | false ↦ λ y h. seek_late place word (words ++ more) e o y
         ] refl
@@ -75,7 +75,7 @@ flags_offend options flags place at [] more h = absurd (cc)
 flags_offend options flags place at (word ∷ words) more h =
     elim (is_double_dash word) as (λ b. is_double_dash word ≡ b → early_flags options flags place (word ∷ (words ++ more)) ≡ Err at) [
       | true ↦ λ e. absurd (let same : Ok flags ≡ Err at = sym (flags_end options flags place word words e) ∙ h in cc)
-      | false ↦ λ e. elim (with_option options flags word) as (λ m. with_option options flags word ≡ m → early_flags options flags place (word ∷ (words ++ more)) ≡ Err at) [
+      | false ↦ λ e. elim (flags_with_option_word options flags word) as (λ m. flags_with_option_word options flags word ≡ m → early_flags options flags place (word ∷ (words ++ more)) ≡ Err at) [
         | None ↦ λ m. flags_step options flags place word (words ++ more) None e m ∙ (sym (flags_step options flags place word words None e m) ∙ h)
         | Some g ↦ λ m. flags_step options flags place word (words ++ more) (Some g) e m
             ∙ flags_offend options g (place + 1) at words more (sym (flags_step options flags place word words (Some g) e m) ∙ h)
@@ -87,7 +87,7 @@ flags_between options flags place at [] h = absurd (cc)
 flags_between options flags place at (word ∷ words) h =
     elim (is_double_dash word) as (λ b. is_double_dash word ≡ b → (place ≤ at) × (at < place + length (word ∷ words))) [
       | true ↦ λ e. absurd (let same : Ok flags ≡ Err at = sym (flags_end options flags place word words e) ∙ h in cc)
-      | false ↦ λ e. elim (with_option options flags word) as (λ m. with_option options flags word ≡ m → (place ≤ at) × (at < place + length (word ∷ words))) [
+      | false ↦ λ e. elim (flags_with_option_word options flags word) as (λ m. flags_with_option_word options flags word ≡ m → (place ≤ at) × (at < place + length (word ∷ words))) [
         | None ↦ λ m. (let same : Err place ≡ Err at = sym (flags_step options flags place word words None e m) ∙ h in let is : place ≡ at = cc in (omega arith, omega arith))
         | Some g ↦ λ m. (let rest = flags_between options g (place + 1) at words (sym (flags_step options flags place word words (Some g) e m) ∙ h) in (omega (arith, rest.0), omega (arith, rest.1)))
       ] refl
@@ -95,15 +95,15 @@ flags_between options flags place at (word ∷ words) h =
 
 -- ---- the start of a line
 
-pub start_stays : (words more : List (List ℕ)) (start : Start) → line_start words ≡ Ok start → line_start (words ++ more) ≡ Ok start
+pub start_stays : (words more : List (List ℕ)) (start : Start) → start_of_command_line words ≡ Ok start → start_of_command_line (words ++ more) ≡ Ok start
 start_stays words more start s =
     let parts = start_parts words start s in
     let site : IsSite parts.site (1 + length words) = IfOk-at_ok (λ x. IsSite x (1 + length words)) parts.found (site_known 1 (1 + length words) words (omega arith) (omega arith)) in
     let less : parts.site.read - 1 ≤ length words = omega (arith, site.read) in
     let found : applet_site 1 (words ++ more) ≡ Ok parts.site = site_stays 1 words more (subst (λ r. IsKnown (1 + length words) r) (sym parts.found) tt) ∙ parts.found in
-    ap (start_from (words ++ more)) found
-    ∙ (ap (λ ws. start_with parts.site (early_flags (options_of parts.site.applet) no_flags 1 ws)) (take_stays (parts.site.read - 1) words more less)
-    ∙ (ap (start_with parts.site) parts.early ∙ ap Ok parts.same))
+    ap (start_after_site (words ++ more)) found
+    ∙ (ap (λ ws. start_with_early_flags parts.site (early_flags (options_of parts.site.applet) no_flags 1 ws)) (take_stays (parts.site.read - 1) words more less)
+    ∙ (ap (start_with_early_flags parts.site) parts.early ∙ ap Ok parts.same))
 
 -- why there is no start: the search for the applet ends, or an option before it is not its own
 pub record IsForeign (words : List (List ℕ)) (at : ℕ) : Type 0 where
@@ -111,14 +111,14 @@ pub record IsForeign (words : List (List ℕ)) (at : ℕ) : Type 0 where
   pub found : applet_site 1 words ≡ Ok site
   pub early : early_flags (options_of site.applet) no_flags 1 (take (site.read - 1) words) ≡ Err at
 
-pub no_start : (words : List (List ℕ)) (at : ℕ) → line_start words ≡ Err at → (applet_site 1 words ≡ Err at) ⊎ IsForeign words at
+pub no_start : (words : List (List ℕ)) (at : ℕ) → start_of_command_line words ≡ Err at → (applet_site 1 words ≡ Err at) ⊎ IsForeign words at
 no_start words at e =
-    elim (applet_site 1 words) as (λ s. applet_site 1 words ≡ s → start_from words s ≡ Err at → (applet_site 1 words ≡ Err at) ⊎ IsForeign words at) [
+    elim (applet_site 1 words) as (λ s. applet_site 1 words ≡ s → start_after_site words s ≡ Err at → (applet_site 1 words ≡ Err at) ⊎ IsForeign words at) [
       | Err place ↦ λ s (h : Err place ≡ Err at). (let is : place ≡ at = cc in inl (s ∙ ap Err is))
       | Ok site ↦ λ s h. by_flags site s (early_flags (options_of site.applet) no_flags 1 (take (site.read - 1) words)) refl h
     ] refl e
   where
-    by_flags : (site : AppletSite) → applet_site 1 words ≡ Ok site → (f : Result Flags ℕ) → early_flags (options_of site.applet) no_flags 1 (take (site.read - 1) words) ≡ f → start_with site f ≡ Err at → (applet_site 1 words ≡ Err at) ⊎ IsForeign words at
+    by_flags : (site : AppletSite) → applet_site 1 words ≡ Ok site → (f : Result Flags ℕ) → early_flags (options_of site.applet) no_flags 1 (take (site.read - 1) words) ≡ f → start_with_early_flags site f ≡ Err at → (applet_site 1 words ≡ Err at) ⊎ IsForeign words at
     by_flags site s (Ok flags) f h = absurd (cc)
     by_flags site s (Err place) f h = (let same : Err place ≡ Err at = cc in inr (record { site = site; found = s; early = f ∙ same }))
 
@@ -131,16 +131,16 @@ foreign_between words at f =
     let size : length (take (f.site.read - 1) words) ≡ f.site.read - 1 = length-take-le (f.site.read - 1) words less in
     (is.0, omega (arith, is.1, size), less)
 
-pub no_start_stays : (words more : List (List ℕ)) (at : ℕ) → line_start words ≡ Err at → at ≤ length words → line_start (words ++ more) ≡ Err at
+pub no_start_stays : (words more : List (List ℕ)) (at : ℕ) → start_of_command_line words ≡ Err at → at ≤ length words → start_of_command_line (words ++ more) ≡ Err at
 no_start_stays words more at e l =
-    elim (no_start words at e) as (λ _. line_start (words ++ more) ≡ Err at) [
+    elim (no_start words at e) as (λ _. start_of_command_line (words ++ more) ≡ Err at) [
       | inl s ↦
           (let known : at < 1 + length words = omega arith in
-          ap (start_from (words ++ more)) (site_stays 1 words more (subst (λ r. IsKnown (1 + length words) r) (sym s) known) ∙ s))
+          ap (start_after_site (words ++ more)) (site_stays 1 words more (subst (λ r. IsKnown (1 + length words) r) (sym s) known) ∙ s))
       | inr f ↦
           (let between = foreign_between words at f in
           let found : applet_site 1 (words ++ more) ≡ Ok f.site = site_stays 1 words more (subst (λ r. IsKnown (1 + length words) r) (sym f.found) tt) ∙ f.found in
-          ap (start_from (words ++ more)) found
-          ∙ (ap (λ ws. start_with f.site (early_flags (options_of f.site.applet) no_flags 1 ws)) (take_stays (f.site.read - 1) words more between.2)
-          ∙ ap (start_with f.site) f.early))
+          ap (start_after_site (words ++ more)) found
+          ∙ (ap (λ ws. start_with_early_flags f.site (early_flags (options_of f.site.applet) no_flags 1 ws)) (take_stays (f.site.read - 1) words more between.2)
+          ∙ ap (start_with_early_flags f.site) f.early))
     ]

@@ -12,14 +12,14 @@ use Rattle.command_core.specs.declared.operands.OperandRule.{OperandRule}
 use Rattle.command_core.specs.declared.values.OptionValue.{OptionValue}
 use Rattle.command_core.specs.declared.values.ValueRule.{ValueRule}
 use Rattle.command_core.specs.Applets.{operand_rule}
-use Rattle.command_core.specs.Flags.{has_kind}
-use Rattle.command_core.specs.Operands.{first_refused}
+use Rattle.command_core.specs.Flags.{has_command_kind_flag}
+use Rattle.command_core.specs.Operands.{first_refused_operand}
 use Rattle.words_core.specs.declared.reading.Reading.{Reading}
 use Rattle.words_core.specs.declared.reading.Start.{Start}
-use Rattle.words_core.specs.Grammar.{command_from, command_of_reading, line_command, line_start, operands_of, option_reading, reading_after_applet, refused_operand}
-use Rattle.words_core.specs.Kinds.{can_get_kind, can_get_kind_by, can_get_kind_from, is_info}
+use Rattle.words_core.specs.Grammar.{spelled_command_from_start, command_of_reading, spelled_command, start_of_command_line, operands_of, option_reading, reading_after_applet, refused_operand}
+use Rattle.words_core.specs.Kinds.{can_info_kind_follow, can_info_kind_follow_if_started, can_info_kind_follow_start, is_info_applet}
 use Rattle.words_core.specs.Options.{OptionSpec, options_of}
-use Rattle.words_core.specs.Stuck.{have_ended}
+use Rattle.words_core.specs.Stuck.{have_options_ended}
 use Rattle.words_core.proofs.GivenKept.{IsAwaited, IsGood, from_good}
 use Rattle.words_core.proofs.GoneOn.{IsRemovedPackage, from_going}
 use Rattle.words_core.proofs.KindsKept.{IsPlain, start_known}
@@ -46,8 +46,8 @@ has_its_kind false true over k u e = absurd (true≢false u)
 has_its_kind false false true k u e = absurd (true≢false e)
 has_its_kind false false false k u e = absurd (true≢false k)
 
-keeps_by : (applet : Applet) (flags : Flags) (unread : Option ℕ) (over : Bool) → (is_info applet && not (has_kind flags) && not (is_some unread) && not over) ≡ false → (applet ≡ Info → unread ≡ None) → over ≡ false → keeps_rule applet flags ≡ true
-keeps_by Info flags unread over k u e = has_its_kind (has_kind flags) (is_some unread) over k (ap is_some (u refl)) e
+keeps_by : (applet : Applet) (flags : Flags) (unread : Option ℕ) (over : Bool) → (is_info_applet applet && not (has_command_kind_flag flags) && not (is_some unread) && not over) ≡ false → (applet ≡ Info → unread ≡ None) → over ≡ false → keeps_rule applet flags ≡ true
+keeps_by Info flags unread over k u e = has_its_kind (has_command_kind_flag flags) (is_some unread) over k (ap is_some (u refl)) e
 keeps_by applet flags unread over k u e = refl
 
 -- ---- the rule of the operands that were read stays
@@ -68,7 +68,7 @@ end_at end at None h = absurd (none-some at h)
 end_at end at (Some rule) h = (let same : end ≡ at = same_Some end at h in omega arith)
 
 -- or a word cannot be read, and it changes nothing
-pub longer_or_same : (words more : List (List ℕ)) (start : Start) → IsPlain start (1 + length words) → can_get_kind_from words start ≡ false
+pub longer_or_same : (words more : List (List ℕ)) (start : Start) → IsPlain start (1 + length words) → can_info_kind_follow_start words start ≡ false
     → ((reading_after_applet start (words ++ more) ≡ reading_after_applet start words) × ((reading_after_applet start words).unread ≡ None → ⊥)) ⊎ IsLonger start.applet (length words + 1) (reading_after_applet start words) (reading_after_applet start (words ++ more))
 longer_or_same words more start known k = by_going (from_going start words low)
   where
@@ -85,7 +85,7 @@ longer_or_same words more start known k = by_going (from_going start words low)
     low = omega (arith, known.read)
 
     over : Bool
-    over = start.ended || have_ended (options_of start.applet) None (drop start.read words)
+    over = start.ended || have_options_ended (options_of start.applet) None (drop start.read words)
 
     by_going : IsRemovedPackage options end over reading (λ m. reading_after_applet start (words ++ m)) → ((reading_after_applet start (words ++ more) ≡ reading) × (reading.unread ≡ None → ⊥)) ⊎ IsLonger start.applet end reading (reading_after_applet start (words ++ more))
     by_going (inl stopped) = inl (stopped.3 more, λ none. none-some stopped.0 (sym none ∙ stopped.1))
@@ -124,25 +124,25 @@ first_stays applet end reading longer place long l h =
     by_rule None r e = absurd (none-some place e)
     by_rule (Some rule) r e =
         ap (λ o. option_or (refused_operand o longer.operands) longer.unread) (long.rule rule r)
-        ∙ ap (λ o. option_or o longer.unread) (ap (first_refused rule 0) long.operands ∙ refused_append rule 0 place reading.operands long.new e)
+        ∙ ap (λ o. option_or o longer.unread) (ap (first_refused_operand rule 0) long.operands ∙ refused_append rule 0 place reading.operands long.new e)
 
 -- what is said of words is so from where their applet was found
-pub cannot_from : (words : List (List ℕ)) (start : Start) → can_get_kind words ≡ false → line_start words ≡ Ok start → can_get_kind_from words start ≡ false
-unfolding can_get_kind
-cannot_from words start k s = sym (ap (can_get_kind_by words) s) ∙ k
+pub cannot_from : (words : List (List ℕ)) (start : Start) → can_info_kind_follow words ≡ false → start_of_command_line words ≡ Ok start → can_info_kind_follow_start words start ≡ false
+unfolding can_info_kind_follow
+cannot_from words start k s = sym (ap (can_info_kind_follow_if_started words) s) ∙ k
 
 -- a word that offends does so whatever follows
-pub usage_stays : (words more : List (List ℕ)) (place : ℕ) → can_get_kind words ≡ false → line_command words ≡ Err place → place ≤ length words → line_command (words ++ more) ≡ Err place
-unfolding line_command
+pub usage_stays : (words more : List (List ℕ)) (place : ℕ) → can_info_kind_follow words ≡ false → spelled_command words ≡ Err place → place ≤ length words → spelled_command (words ++ more) ≡ Err place
+unfolding spelled_command
 usage_stays words more place k c l =
-    elim (line_start words) as (λ s. line_start words ≡ s → command_from words s ≡ Err place → command_from (words ++ more) (line_start (words ++ more)) ≡ Err place) [
+    elim (start_of_command_line words) as (λ s. start_of_command_line words ≡ s → spelled_command_from_start words s ≡ Err place → spelled_command_from_start (words ++ more) (start_of_command_line (words ++ more)) ≡ Err place) [
       | Err at ↦ λ s (e : Err at ≡ Err place).
           let same : at ≡ place = cc in
-          ap (command_from (words ++ more)) (no_start_stays words more at s (omega arith)) ∙ e
-      | Ok start ↦ λ s e. ap (command_from (words ++ more)) (start_stays words more start s) ∙ by_start start s e
+          ap (spelled_command_from_start (words ++ more)) (no_start_stays words more at s (omega arith)) ∙ e
+      | Ok start ↦ λ s e. ap (spelled_command_from_start (words ++ more)) (start_stays words more start s) ∙ by_start start s e
     ] refl c
   where
-    by_start : (start : Start) → line_start words ≡ Ok start → command_of_reading (length words + 1) start.applet (reading_after_applet start words) ≡ Err place → command_of_reading (length (words ++ more) + 1) start.applet (reading_after_applet start (words ++ more)) ≡ Err place
+    by_start : (start : Start) → start_of_command_line words ≡ Ok start → command_of_reading (length words + 1) start.applet (reading_after_applet start words) ≡ Err place → command_of_reading (length (words ++ more) + 1) start.applet (reading_after_applet start (words ++ more)) ≡ Err place
     by_start start s e =
         let less : place < length words + 1 = omega arith in
         elim (judged_at start.applet (reading_after_applet start words) (length words + 1) place e) as (λ _. command_of_reading (length (words ++ more) + 1) start.applet (reading_after_applet start (words ++ more)) ≡ Err place) [

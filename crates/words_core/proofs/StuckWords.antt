@@ -14,18 +14,18 @@ use Rattle.command_core.specs.declared.values.OptionValue.{OptionValue}
 use Rattle.command_core.specs.declared.values.ValueKind.{ValueKind}
 use Rattle.command_core.specs.declared.values.ValueKind.TheVariants.{Script}
 use Rattle.command_core.specs.declared.values.ValueRule.{ValueRule}
-use Rattle.command_core.specs.Applets.{needed_option, operand_rule}
+use Rattle.command_core.specs.Applets.{required_option_letter, operand_rule}
 use Rattle.command_core.specs.Command.{CommandLine}
 use Rattle.command_core.specs.Files.{is_file}
 use Rattle.command_core.specs.Flags.{no_flags}
-use Rattle.command_core.specs.Values.{is_excluded, is_value, lacks_value, option_value, script_file, script_type, script_types}
+use Rattle.command_core.specs.Values.{is_excluded_by_earlier_value, is_value, is_required_value_missing, option_value, script_file, script_type, script_types}
 use Rattle.words_core.specs.declared.reading.AppletSite.{AppletSite}
 use Rattle.words_core.specs.declared.reading.OptionState.{OptionState}
 use Rattle.words_core.specs.declared.reading.Reading.{Reading}
 use Rattle.words_core.specs.declared.reading.Start.{Start}
-use Rattle.words_core.specs.Grammar.{applet_site, command_from, line_command, command_read, early_flags, is_double_dash, is_option, lacks_operand, lacks_word, line_start, option_reading, or_at, reading_after_applet, reading_by, refused_operand, site_at, site_after_end, site_by, start_from, start_with, state_by, unless_at, command_of_reading, with_word_by}
-use Rattle.words_core.specs.Options.{OptionSpec, applet_of, applet_word, applets, is_early, options_of}
-use Rattle.words_core.specs.Stuck.{are_stuck_by, awaits_none, has_script, have_ended, is_full, is_stuck, is_stuck_by, lacks_option, are_options_of}
+use Rattle.words_core.specs.Grammar.{applet_site, spelled_command_from_start, spelled_command, command_read, early_flags, is_double_dash, is_option, lacks_operand, lacks_word, start_of_command_line, option_reading, or_err_at, reading_after_applet, words_reading_from_parts, refused_operand, applet_site_at, site_after_end, applet_site_from_parts, start_after_site, start_with_early_flags, option_state_from_parts, unless_refused_at, command_of_reading, with_word_if_awaited}
+use Rattle.words_core.specs.Options.{OptionSpec, applet_of, applet_word, applets, is_early_option_word, options_of}
+use Rattle.words_core.specs.Stuck.{are_stuck_by, awaits_impossible_value, has_script, have_options_ended, has_all_possible_values, is_stuck, is_stuck_by, is_required_option_missing, are_options_of}
 use Rattle.words_core.proofs.GoneOn.{IsRemovedPackage, from_going}
 use Rattle.words_core.proofs.KindsKept.{IsPlain, start_known}
 use Rattle.words_core.proofs.LinesRead.{awaited_taken, step_taken}
@@ -42,25 +42,25 @@ pub unread_bad : (applet : Applet) (reading : Reading) (at : ℕ) → reading.un
 unfolding command_of_reading
 unread_bad applet reading at u end =
     let rest = if lacks_word applet (operand_rule applet reading.state.flags) reading then Err end else Ok (command_read end applet reading) in
-    elim (refused_operand (operand_rule applet reading.state.flags) reading.operands) as (λ o. (place : ℕ) × (unless_at (option_or o reading.unread) rest ≡ Err place)) [
-      | None ↦ (at, ap (λ x. unless_at x rest) u)
+    elim (refused_operand (operand_rule applet reading.state.flags) reading.operands) as (λ o. (place : ℕ) × (unless_refused_at (option_or o reading.unread) rest ≡ Err place)) [
+      | None ↦ (at, ap (λ x. unless_refused_at x rest) u)
       | Some place ↦ (place, refl)
     ]
 
 -- nor is what lacks an option
-pub lacks_by_option : (applet : Applet) (reading : Reading) → lacks_option applet reading.state ≡ true → lacks_word applet (operand_rule applet reading.state.flags) reading ≡ true
+pub lacks_by_option : (applet : Applet) (reading : Reading) → is_required_option_missing applet reading.state ≡ true → lacks_word applet (operand_rule applet reading.state.flags) reading ≡ true
 lacks_by_option applet reading h =
-    let needed = lacks_value (needed_option applet) reading.state.values in
+    let needed = is_required_value_missing (required_option_letter applet) reading.state.values in
     elim (operand_rule applet reading.state.flags) as (λ r. (not (is_some r) || needed) ≡ true → (lacks_operand r reading.operands || needed) ≡ true) [
       | None ↦ λ h. refl
       | Some rule ↦ λ h. or_right (lacks_operand (Some rule) reading.operands) needed h
     ] h
 
-pub bad_by : (o : Option ℕ) (lacking : Bool) (end : ℕ) (command : CommandLine) → lacking ≡ true → (place : ℕ) × (unless_at o (if lacking then Err end else Ok command) ≡ Err place)
+pub bad_by : (o : Option ℕ) (lacking : Bool) (end : ℕ) (command : CommandLine) → lacking ≡ true → (place : ℕ) × (unless_refused_at o (if lacking then Err end else Ok command) ≡ Err place)
 bad_by None lacking end command e = (end, ap (λ b. if b then Err end else Ok command) e)
 bad_by (Some at) lacking end command e = (at, refl)
 
-pub lacking_bad : (applet : Applet) (reading : Reading) → lacks_option applet reading.state ≡ true → IsBad applet reading
+pub lacking_bad : (applet : Applet) (reading : Reading) → is_required_option_missing applet reading.state ≡ true → IsBad applet reading
 unfolding command_of_reading
 lacking_bad applet reading h end =
     bad_by (option_or (refused_operand (operand_rule applet reading.state.flags) reading.operands) reading.unread) (lacks_word applet (operand_rule applet reading.state.flags) reading) end (command_read end applet reading) (lacks_by_option applet reading h)
@@ -75,31 +75,31 @@ both_at p q (x ∷ xs) a h =
       | inr later ↦ both_at p q xs parts.1 later
     ]
 
-pub no_fit : (letter : ℕ) (single : Bool) (kind : ValueKind) (values : List OptionValue) (text : List ℕ) → is_full kind letter values ≡ true → (is_value kind text && not (is_excluded (rule_by letter single kind) text values)) ≡ false
+pub no_fit : (letter : ℕ) (single : Bool) (kind : ValueKind) (values : List OptionValue) (text : List ℕ) → has_all_possible_values kind letter values ≡ true → (is_value kind text && not (is_excluded_by_earlier_value (rule_by letter single kind) text values)) ≡ false
 no_fit letter single Script values text h =
-    let excluded = is_excluded (rule_by letter single Script) text values in
+    let excluded = is_excluded_by_earlier_value (rule_by letter single Script) text values in
     elim (list_any (λ t. bytes_eq t (script_type text)) script_types) as (λ b. list_any (λ t. bytes_eq t (script_type text)) script_types ≡ b → ((b && is_file (script_file text)) && not excluded) ≡ false) [
       | false ↦ λ e. refl
       | true ↦ λ e.
           let one = both_at (has_script letter values) (λ t. bytes_eq t (script_type text)) script_types h e in
           let same : one.0 ≡ script_type text = (bytes_eq-Decides one.0 (script_type text)).0 one.2 in
-          let is : is_excluded (rule_by letter single Script) text values ≡ true = ap (has_script letter values) (sym same) ∙ one.1 in
+          let is : is_excluded_by_earlier_value (rule_by letter single Script) text values ≡ true = ap (has_script letter values) (sym same) ∙ one.1 in
           and_right (is_file (script_file text)) _ (not_from_true excluded is)
     ] refl
 no_fit letter single kind values text h = absurd (false≢true h)
 
-pub awaited_whole : (options : List OptionSpec) (state : OptionState) (end : ℕ) (rule : ValueRule) (more : List (List ℕ)) → state.awaiting ≡ Some rule → is_full rule.kind rule.letter state.values ≡ true → option_reading options state end more ≡ reading_by state [] (Some end)
-awaited_whole options state end rule [] a f = ap (λ o. reading_by state [] (option_map (λ (r : ValueRule). end) o)) a
+pub awaited_whole : (options : List OptionSpec) (state : OptionState) (end : ℕ) (rule : ValueRule) (more : List (List ℕ)) → state.awaiting ≡ Some rule → has_all_possible_values rule.kind rule.letter state.values ≡ true → option_reading options state end more ≡ words_reading_from_parts state [] (Some end)
+awaited_whole options state end rule [] a f = ap (λ o. words_reading_from_parts state [] (option_map (λ (r : ValueRule). end) o)) a
 awaited_whole options state end rule (word ∷ words) a f =
-    let next : OptionState = state_by state.flags (state.values ++ (option_value end rule.letter word ∷ [])) None in
+    let next : OptionState = option_state_from_parts state.flags (state.values ++ (option_value end rule.letter word ∷ [])) None in
     step_taken options state end word words None (awaited_taken state word rule a)
-    (ap (with_word_by options state end word) a ∙ ap (λ b. if b then Some next else None) (no_fit rule.letter rule.single rule.kind state.values word f))
+    (ap (with_word_if_awaited options state end word) a ∙ ap (λ b. if b then Some next else None) (no_fit rule.letter rule.single rule.kind state.values word f))
 
-pub awaited_unread : (options : List OptionSpec) (state : OptionState) (end : ℕ) (rule : ValueRule) (more : List (List ℕ)) → state.awaiting ≡ Some rule → is_full rule.kind rule.letter state.values ≡ true → (option_reading options state end more).unread ≡ Some end
+pub awaited_unread : (options : List OptionSpec) (state : OptionState) (end : ℕ) (rule : ValueRule) (more : List (List ℕ)) → state.awaiting ≡ Some rule → has_all_possible_values rule.kind rule.letter state.values ≡ true → (option_reading options state end more).unread ≡ Some end
 awaited_unread options state end rule more a f = ap (λ (r : Reading). r.unread) (awaited_whole options state end rule more a f)
 
 -- stuck words are no command, whatever follows, where their applet was found
-pub stuck_bad : (words more : List (List ℕ)) (start : Start) → line_start words ≡ Ok start → is_stuck words start ≡ true → IsBad start.applet (reading_after_applet start (words ++ more))
+pub stuck_bad : (words more : List (List ℕ)) (start : Start) → start_of_command_line words ≡ Ok start → is_stuck words start ≡ true → IsBad start.applet (reading_after_applet start (words ++ more))
 stuck_bad words more start s k = by_going (from_going start words low)
   where
     end : ℕ
@@ -112,7 +112,7 @@ stuck_bad words more start s k = by_going (from_going start words low)
     reading = reading_after_applet start words
 
     ended : Bool
-    ended = start.ended || have_ended (options_of start.applet) None (drop start.read words)
+    ended = start.ended || have_options_ended (options_of start.applet) None (drop start.read words)
 
     known : IsPlain start (1 + length words)
     known = start_known words start s
@@ -120,21 +120,21 @@ stuck_bad words more start s k = by_going (from_going start words low)
     low : start.read ≤ length words
     low = omega (arith, known.read)
 
-    bad_on : (awaiting : Option ValueRule) → reading.state.awaiting ≡ awaiting → awaits_none awaiting reading.state.values ≡ true → reading_after_applet start (words ++ more) ≡ behind reading.operands (option_reading options reading.state end more) → IsBad start.applet (reading_after_applet start (words ++ more))
+    bad_on : (awaiting : Option ValueRule) → reading.state.awaiting ≡ awaiting → awaits_impossible_value awaiting reading.state.values ≡ true → reading_after_applet start (words ++ more) ≡ behind reading.operands (option_reading options reading.state end more) → IsBad start.applet (reading_after_applet start (words ++ more))
     bad_on None a w on = absurd (false≢true w)
     bad_on (Some rule) a w on = unread_bad start.applet (reading_after_applet start (words ++ more)) end (ap (λ (r : Reading). r.unread) on ∙ awaited_unread options reading.state end rule more a w)
 
     by_going : IsRemovedPackage options end ended reading (λ m. reading_after_applet start (words ++ m)) → IsBad start.applet (reading_after_applet start (words ++ more))
     by_going (inl stopped) = unread_bad start.applet (reading_after_applet start (words ++ more)) stopped.0 (ap (λ (r : Reading). r.unread) (stopped.3 more) ∙ stopped.1)
     by_going (inr (inl on)) =
-        elim (or_cases (ended && lacks_option start.applet reading.state) (awaits_none reading.state.awaiting reading.state.values) k) as (λ _. IsBad start.applet (reading_after_applet start (words ++ more))) [
-          | inl both ↦ absurd (true≢false (sym (and_parts ended (lacks_option start.applet reading.state) both).0 ∙ on.over))
+        elim (or_cases (ended && is_required_option_missing start.applet reading.state) (awaits_impossible_value reading.state.awaiting reading.state.values) k) as (λ _. IsBad start.applet (reading_after_applet start (words ++ more))) [
+          | inl both ↦ absurd (true≢false (sym (and_parts ended (is_required_option_missing start.applet reading.state) both).0 ∙ on.over))
           | inr none ↦ bad_on reading.state.awaiting refl none (on.goes_on more)
         ]
     by_going (inr (inr off)) =
-        elim (or_cases (ended && lacks_option start.applet reading.state) (awaits_none reading.state.awaiting reading.state.values) k) as (λ _. IsBad start.applet (reading_after_applet start (words ++ more))) [
-          | inl both ↦ lacking_bad start.applet (reading_after_applet start (words ++ more)) (ap (λ (r : Reading). lacks_option start.applet r.state) (off.goes_on more) ∙ (and_parts ended (lacks_option start.applet reading.state) both).1)
-          | inr none ↦ absurd (false≢true (sym (ap (λ o. awaits_none o reading.state.values) off.awaiting) ∙ none))
+        elim (or_cases (ended && is_required_option_missing start.applet reading.state) (awaits_impossible_value reading.state.awaiting reading.state.values) k) as (λ _. IsBad start.applet (reading_after_applet start (words ++ more))) [
+          | inl both ↦ lacking_bad start.applet (reading_after_applet start (words ++ more)) (ap (λ (r : Reading). is_required_option_missing start.applet r.state) (off.goes_on more) ∙ (and_parts ended (is_required_option_missing start.applet reading.state) both).1)
+          | inr none ↦ absurd (false≢true (sym (ap (λ o. awaits_impossible_value o reading.state.values) off.awaiting) ∙ none))
         ]
 
 -- options before the applet that no applet has are in no command
@@ -153,10 +153,10 @@ pub record IsNotFirst (words more : List (List ℕ)) (place : ℕ) (site : Apple
   pub names : applet_of word ≡ Some site.applet
   pub late : place + length words ≤ site.read
 
-named_later : (ended : Bool) (place at : ℕ) (words more : List (List ℕ)) (word : List ℕ) → at + length words ≤ place → IfOk (site_at ended place word) (λ s. IsNotFirst words more at s)
-unfolding site_at
+named_later : (ended : Bool) (place at : ℕ) (words more : List (List ℕ)) (word : List ℕ) → at + length words ≤ place → IfOk (applet_site_at ended place word) (λ s. IsNotFirst words more at s)
+unfolding applet_site_at
 named_later ended place at words more word l =
-    elim (applet_of word) as (λ o. applet_of word ≡ o → IfOk (or_at place (λ applet. Ok (site_by ended place applet)) o) (λ s. IsNotFirst words more at s)) [
+    elim (applet_of word) as (λ o. applet_of word ≡ o → IfOk (or_err_at place (λ applet. Ok (applet_site_from_parts ended place applet)) o) (λ s. IsNotFirst words more at s)) [
       | None ↦ λ e. tt
       | Some applet ↦ λ e. record { word = word; names = e; late = l }
     ] refl
@@ -170,10 +170,10 @@ any_later : (place at : ℕ) (words more : List (List ℕ)) (left : List (List �
 any_later place at words more [] l = tt
 any_later place at words more (word ∷ left) l =
     let next : at + length words ≤ place + 1 = omega arith in
-    elim (is_double_dash word) as (λ b. IfOk (if b then site_after_end (place + 1) left else if is_option word then (if is_early word then applet_site (place + 1) left else Err place) else site_at false place word) (λ s. IsNotFirst words more at s)) [
+    elim (is_double_dash word) as (λ b. IfOk (if b then site_after_end (place + 1) left else if is_option word then (if is_early_option_word word then applet_site (place + 1) left else Err place) else applet_site_at false place word) (λ s. IsNotFirst words more at s)) [
       | true ↦ end_later (place + 1) at words more left next
-      | false ↦ elim (is_option word) as (λ b. IfOk (if b then (if is_early word then applet_site (place + 1) left else Err place) else site_at false place word) (λ s. IsNotFirst words more at s)) [
-        | true ↦ elim (is_early word) as (λ b. IfOk (if b then applet_site (place + 1) left else Err place) (λ s. IsNotFirst words more at s)) [
+      | false ↦ elim (is_option word) as (λ b. IfOk (if b then (if is_early_option_word word then applet_site (place + 1) left else Err place) else applet_site_at false place word) (λ s. IsNotFirst words more at s)) [
+        | true ↦ elim (is_early_option_word word) as (λ b. IfOk (if b then applet_site (place + 1) left else Err place) (λ s. IsNotFirst words more at s)) [
           | true ↦ any_later (place + 1) at words more left next
           | false ↦ tt
         ]
@@ -195,7 +195,7 @@ site_later place (word ∷ words) more h =
       | true ↦ λ e. subst (λ r. IfOk r (λ s. IsNotFirst (word ∷ words) more place s)) (sym (seek_end place word (words ++ more) e))
           (end_site_later place word words more (sym (seek_end place word words e) ∙ h))
       | false ↦ λ e. elim (is_option word) as (λ b. is_option word ≡ b → IfOk (applet_site place (word ∷ (words ++ more))) (λ s. IsNotFirst (word ∷ words) more place s)) [
-        | true ↦ λ o. elim (is_early word) as (λ b. is_early word ≡ b → IfOk (applet_site place (word ∷ (words ++ more))) (λ s. IsNotFirst (word ∷ words) more place s)) [
+        | true ↦ λ o. elim (is_early_option_word word) as (λ b. is_early_option_word word ≡ b → IfOk (applet_site place (word ∷ (words ++ more))) (λ s. IsNotFirst (word ∷ words) more place s)) [
           | true ↦ λ y. subst (λ r. IfOk r (λ s. IsNotFirst (word ∷ words) more place s)) (sym (seek_early place word (words ++ more) e o y))
               (IfOk-weaker (applet_site (place + 1) (words ++ more)) (λ s. IsNotFirst words more (place + 1) s) (λ s. IsNotFirst (word ∷ words) more place s)
               (λ s later. record { word = later.word; names = later.names; late = omega (arith, later.late) })
@@ -212,43 +212,43 @@ take_more zero (word ∷ words) more l = absurd (omega (arith, l))
 take_more (suc count) (word ∷ words) more l =
     ap (λ ws. word ∷ ws) (take_more count words more (omega (arith, l)) ∙ ap (λ k. words ++ take k more) (let same : count - length words ≡ suc count - length (word ∷ words) = omega arith in same))
 
-no_applet_stays : (words more : List (List ℕ)) (at : ℕ) → applet_site 1 words ≡ Err at → not (list_any (are_options_of words) applets) ≡ true → (place : ℕ) × (line_command (words ++ more) ≡ Err place)
-unfolding line_command
+no_applet_stays : (words more : List (List ℕ)) (at : ℕ) → applet_site 1 words ≡ Err at → not (list_any (are_options_of words) applets) ≡ true → (place : ℕ) × (spelled_command (words ++ more) ≡ Err place)
+unfolding spelled_command
 no_applet_stays words more at s k =
-    elim (cases_lt at (1 + length words)) as (λ _. (place : ℕ) × (command_from (words ++ more) (line_start (words ++ more)) ≡ Err place)) [
-      | inl less ↦ (at, ap (λ r. command_from (words ++ more) (start_from (words ++ more) r)) (site_stays 1 words more (subst (λ r. IsKnown (1 + length words) r) (sym s) less) ∙ s))
+    elim (cases_lt at (1 + length words)) as (λ _. (place : ℕ) × (spelled_command_from_start (words ++ more) (start_of_command_line (words ++ more)) ≡ Err place)) [
+      | inl less ↦ (at, ap (λ r. spelled_command_from_start (words ++ more) (start_after_site (words ++ more) r)) (site_stays 1 words more (subst (λ r. IsKnown (1 + length words) r) (sym s) less) ∙ s))
       | inr last ↦
           (let is : IsBetween 1 (length words + 2) at = subst (λ r. IsSearched 1 (length words + 2) r) s (site_searched 1 1 (length words + 2) words (omega arith) (omega arith)) in
           let end : at ≡ 1 + length words = omega (arith, is.1) in
           by_site (applet_site 1 (words ++ more)) refl (site_later 1 words more (s ∙ ap Err end)))
     ]
   where
-    by_flags : (site : AppletSite) → applet_site 1 (words ++ more) ≡ Ok site → (f : Result Flags ℕ) → early_flags (options_of site.applet) no_flags 1 words ≡ f → is_ok f ≡ false → length words ≤ site.read - 1 → (place : ℕ) × (command_from (words ++ more) (line_start (words ++ more)) ≡ Err place)
+    by_flags : (site : AppletSite) → applet_site 1 (words ++ more) ≡ Ok site → (f : Result Flags ℕ) → early_flags (options_of site.applet) no_flags 1 words ≡ f → is_ok f ≡ false → length words ≤ site.read - 1 → (place : ℕ) × (spelled_command_from_start (words ++ more) (start_of_command_line (words ++ more)) ≡ Err place)
     by_flags site found (Ok flags) f n l = absurd (true≢false n)
     by_flags site found (Err place) f n l = (
       place,
-      ap (λ r. command_from (words ++ more) (start_from (words ++ more) r)) found
-          ∙ (ap (λ ws. command_from (words ++ more) (start_with site (early_flags (options_of site.applet) no_flags 1 ws))) (take_more (site.read - 1) words more l)
-          ∙ ap (λ r. command_from (words ++ more) (start_with site r)) (flags_offend (options_of site.applet) no_flags 1 place words (take (site.read - 1 - length words) more) f)),
+      ap (λ r. spelled_command_from_start (words ++ more) (start_after_site (words ++ more) r)) found
+          ∙ (ap (λ ws. spelled_command_from_start (words ++ more) (start_with_early_flags site (early_flags (options_of site.applet) no_flags 1 ws))) (take_more (site.read - 1) words more l)
+          ∙ ap (λ r. spelled_command_from_start (words ++ more) (start_with_early_flags site r)) (flags_offend (options_of site.applet) no_flags 1 place words (take (site.read - 1 - length words) more) f)),
     )
 
-    by_site : (r : Result AppletSite ℕ) → applet_site 1 (words ++ more) ≡ r → IfOk r (λ x. IsNotFirst words more 1 x) → (place : ℕ) × (command_from (words ++ more) (line_start (words ++ more)) ≡ Err place)
-    by_site (Err place) found later = (place, ap (λ r. command_from (words ++ more) (start_from (words ++ more) r)) found)
+    by_site : (r : Result AppletSite ℕ) → applet_site 1 (words ++ more) ≡ r → IfOk r (λ x. IsNotFirst words more 1 x) → (place : ℕ) × (spelled_command_from_start (words ++ more) (start_of_command_line (words ++ more)) ≡ Err place)
+    by_site (Err place) found later = (place, ap (λ r. spelled_command_from_start (words ++ more) (start_after_site (words ++ more) r)) found)
     by_site (Ok site) found later =
         by_flags site found (early_flags (options_of site.applet) no_flags 1 words) refl
         (not_any (are_options_of words) applets (λ applet. bytes_eq (applet_word applet) later.word) site.applet k later.names)
         (omega (arith, later.late))
 
-pub stuck_stay : (words more : List (List ℕ)) → are_stuck_by words (applet_site 1 words) ≡ true → (place : ℕ) × (line_command (words ++ more) ≡ Err place)
-unfolding line_command
+pub stuck_stay : (words more : List (List ℕ)) → are_stuck_by words (applet_site 1 words) ≡ true → (place : ℕ) × (spelled_command (words ++ more) ≡ Err place)
+unfolding spelled_command
 stuck_stay words more k =
-    elim (applet_site 1 words) as (λ s. applet_site 1 words ≡ s → are_stuck_by words s ≡ true → (place : ℕ) × (line_command (words ++ more) ≡ Err place)) [
+    elim (applet_site 1 words) as (λ s. applet_site 1 words ≡ s → are_stuck_by words s ≡ true → (place : ℕ) × (spelled_command (words ++ more) ≡ Err place)) [
       | Err at ↦ λ s k. no_applet_stays words more at s (and_parts (list_any is_double_dash words) (not (list_any (are_options_of words) applets)) k).1
-      | Ok site ↦ λ s k. by_start (line_start words) refl (ap (λ r. is_stuck_by words (start_from words r)) s ∙ k)
+      | Ok site ↦ λ s k. by_start (start_of_command_line words) refl (ap (λ r. is_stuck_by words (start_after_site words r)) s ∙ k)
     ] refl k
   where
-    by_start : (r : Result Start ℕ) → line_start words ≡ r → is_stuck_by words (line_start words) ≡ true → (place : ℕ) × (line_command (words ++ more) ≡ Err place)
+    by_start : (r : Result Start ℕ) → start_of_command_line words ≡ r → is_stuck_by words (start_of_command_line words) ≡ true → (place : ℕ) × (spelled_command (words ++ more) ≡ Err place)
     by_start (Err at) s k = absurd (false≢true (sym (ap (is_stuck_by words) s) ∙ k))
     by_start (Ok start) s k =
         let bad = stuck_bad words more start s (sym (ap (is_stuck_by words) s) ∙ k) (length (words ++ more) + 1) in
-        (bad.0, ap (command_from (words ++ more)) (start_stays words more start s) ∙ bad.1)
+        (bad.0, ap (spelled_command_from_start (words ++ more)) (start_stays words more start s) ∙ bad.1)

@@ -7,12 +7,12 @@ use Rattle.command_core.specs.declared.operands.Operand.{Operand}
 use Rattle.command_core.specs.declared.operands.OperandRule.{OperandRule}
 use Rattle.command_core.specs.Applets.{operand_rule}
 use Rattle.command_core.specs.Command.{CommandLine}
-use Rattle.command_core.specs.Operands.{first_refused, operand_at}
+use Rattle.command_core.specs.Operands.{first_refused_operand, operand_at}
 use Rattle.words_core.specs.declared.reading.OptionState.{OptionState}
 use Rattle.words_core.specs.declared.reading.Reading.{Reading}
 use Rattle.words_core.specs.declared.reading.Start.{Start}
-use Rattle.words_core.specs.Grammar.{command_from, line_command, command_read, first_state, is_double_dash, is_option_or_value, lacks_word, line_start, operands_of, option_reading, or_unread, reading_after_applet, reading_by, refused_operand, unless_at, command_of_reading, with_operand, with_word}
-use Rattle.words_core.specs.Kinds.{can_get_kind, can_get_kind_from}
+use Rattle.words_core.specs.Grammar.{spelled_command_from_start, spelled_command, command_read, option_state_at_start, is_double_dash, is_option_or_value, lacks_word, start_of_command_line, operands_of, option_reading, or_stop_at_unread_word, reading_after_applet, words_reading_from_parts, refused_operand, unless_refused_at, command_of_reading, with_operand, with_option_or_value_word}
+use Rattle.words_core.specs.Kinds.{can_info_kind_follow, can_info_kind_follow_start}
 use Rattle.words_core.specs.Options.{OptionSpec, options_of}
 use Rattle.words_core.proofs.KindsKept.{IsPlain, start_known}
 use Rattle.words_core.proofs.MoreWords.{drop_append, operands_append}
@@ -28,7 +28,7 @@ pub record IsAdded (end far : ℕ) (reading longer : Reading) : Type 0 where
   pub placed : AllBetween end far new
   pub unread : reading.unread ≡ None → (at : ℕ) → longer.unread ≡ Some at → end ≤ at
 
-pub added_texts : (state : OptionState) (end far place : ℕ) (words more : List (List ℕ)) → place + length words ≡ end → end + length more ≤ far → IsAdded end far (reading_by state (operands_of place words) None) (reading_by state (operands_of place (words ++ more)) None)
+pub added_texts : (state : OptionState) (end far place : ℕ) (words more : List (List ℕ)) → place + length words ≡ end → end + length more ≤ far → IsAdded end far (words_reading_from_parts state (operands_of place words) None) (words_reading_from_parts state (operands_of place (words ++ more)) None)
 added_texts state end far place words more l f = record {
   new = operands_of end more;
   operands = λ u. operands_append place words more ∙ ap (λ k. operands_of place words ++ operands_of k more) l;
@@ -47,12 +47,12 @@ added options state end far place [] more l f =
     }
 added options state end far place (word ∷ words) more l f =
     let next : place + 1 + length words ≡ end = omega arith in
-    elim (is_option_or_value state word) as (λ b. IsAdded end far (if b then or_unread state place (λ m. option_reading options m (place + 1) words) (with_word options state place word) else if is_double_dash word then reading_by state (operands_of (place + 1) words) None else with_operand (operand_at place word) (option_reading options state (place + 1) words)) (if b then or_unread state place (λ m. option_reading options m (place + 1) (words ++ more)) (with_word options state place word) else if is_double_dash word then reading_by state (operands_of (place + 1) (words ++ more)) None else with_operand (operand_at place word) (option_reading options state (place + 1) (words ++ more)))) [
-      | true ↦ elim (with_word options state place word) as (λ w. IsAdded end far (or_unread state place (λ m. option_reading options m (place + 1) words) w) (or_unread state place (λ m. option_reading options m (place + 1) (words ++ more)) w)) [
+    elim (is_option_or_value state word) as (λ b. IsAdded end far (if b then or_stop_at_unread_word state place (λ m. option_reading options m (place + 1) words) (with_option_or_value_word options state place word) else if is_double_dash word then words_reading_from_parts state (operands_of (place + 1) words) None else with_operand (operand_at place word) (option_reading options state (place + 1) words)) (if b then or_stop_at_unread_word state place (λ m. option_reading options m (place + 1) (words ++ more)) (with_option_or_value_word options state place word) else if is_double_dash word then words_reading_from_parts state (operands_of (place + 1) (words ++ more)) None else with_operand (operand_at place word) (option_reading options state (place + 1) (words ++ more)))) [
+      | true ↦ elim (with_option_or_value_word options state place word) as (λ w. IsAdded end far (or_stop_at_unread_word state place (λ m. option_reading options m (place + 1) words) w) (or_stop_at_unread_word state place (λ m. option_reading options m (place + 1) (words ++ more)) w)) [
         | None ↦ record { new = []; operands = λ u. refl; placed = tt; unread = λ u. absurd (none-some place (sym u)) }
         | Some g ↦ added options g end far (place + 1) words more next f
       ]
-      | false ↦ elim (is_double_dash word) as (λ b. IsAdded end far (if b then reading_by state (operands_of (place + 1) words) None else with_operand (operand_at place word) (option_reading options state (place + 1) words)) (if b then reading_by state (operands_of (place + 1) (words ++ more)) None else with_operand (operand_at place word) (option_reading options state (place + 1) (words ++ more)))) [
+      | false ↦ elim (is_double_dash word) as (λ b. IsAdded end far (if b then words_reading_from_parts state (operands_of (place + 1) words) None else with_operand (operand_at place word) (option_reading options state (place + 1) words)) (if b then words_reading_from_parts state (operands_of (place + 1) (words ++ more)) None else with_operand (operand_at place word) (option_reading options state (place + 1) (words ++ more)))) [
         | true ↦ added_texts state end far (place + 1) words more next f
         | false ↦ (let rest = added options state end far (place + 1) words more next f in record {
           new = rest.new;
@@ -66,44 +66,44 @@ added options state end far place (word ∷ words) more l f =
 pub from_added : (start : Start) (words more : List (List ℕ)) → start.read ≤ length words → IsAdded (length words + 1) (length words + 1 + length more) (reading_after_applet start words) (reading_after_applet start (words ++ more))
 unfolding reading_after_applet
 from_added start words more l =
-    let state = first_state start.flags in
+    let state = option_state_at_start start.flags in
     let end : ℕ = length words + 1 in
     let far : ℕ = length words + 1 + length more in
     let ends : start.read + 1 + length (drop start.read words) ≡ length words + 1 = omega (arith, length-drop start.read words) in
     let fits : length words + 1 + length more ≤ length words + 1 + length more = omega arith in
-    subst (λ left. IsAdded end far (if start.ended then reading_by state (operands_of (start.read + 1) (drop start.read words)) None else option_reading (options_of start.applet) state (start.read + 1) (drop start.read words)) (if start.ended then reading_by state (operands_of (start.read + 1) left) None else option_reading (options_of start.applet) state (start.read + 1) left)) (sym (drop_append start.read words more l))
-    (elim start.ended as (λ b. IsAdded end far (if b then reading_by state (operands_of (start.read + 1) (drop start.read words)) None else option_reading (options_of start.applet) state (start.read + 1) (drop start.read words)) (if b then reading_by state (operands_of (start.read + 1) (drop start.read words ++ more)) None else option_reading (options_of start.applet) state (start.read + 1) (drop start.read words ++ more))) [
+    subst (λ left. IsAdded end far (if start.ended then words_reading_from_parts state (operands_of (start.read + 1) (drop start.read words)) None else option_reading (options_of start.applet) state (start.read + 1) (drop start.read words)) (if start.ended then words_reading_from_parts state (operands_of (start.read + 1) left) None else option_reading (options_of start.applet) state (start.read + 1) left)) (sym (drop_append start.read words more l))
+    (elim start.ended as (λ b. IsAdded end far (if b then words_reading_from_parts state (operands_of (start.read + 1) (drop start.read words)) None else option_reading (options_of start.applet) state (start.read + 1) (drop start.read words)) (if b then words_reading_from_parts state (operands_of (start.read + 1) (drop start.read words ++ more)) None else option_reading (options_of start.applet) state (start.read + 1) (drop start.read words ++ more))) [
       | true ↦ added_texts state end far (start.read + 1) (drop start.read words) more ends fits
       | false ↦ added (options_of start.applet) state end far (start.read + 1) (drop start.read words) more ends fits
     ])
 
 -- what is judged good has a rule, and nothing of it offends
 abbrev pub IsGood : Applet → Reading → Type 0
-IsGood applet reading = (rule : OperandRule) × (operand_rule applet reading.state.flags ≡ Some rule) × (first_refused rule 0 reading.operands ≡ None) × (reading.unread ≡ None)
+IsGood applet reading = (rule : OperandRule) × (operand_rule applet reading.state.flags ≡ Some rule) × (first_refused_operand rule 0 reading.operands ≡ None) × (reading.unread ≡ None)
 
 pub good_of : (applet : Applet) (reading : Reading) (behind : ℕ) (command : CommandLine) → command_of_reading behind applet reading ≡ Ok command → IsGood applet reading
 unfolding command_of_reading
 good_of applet reading behind command h =
-    elim (operand_rule applet reading.state.flags) as (λ r. operand_rule applet reading.state.flags ≡ r → unless_at (option_or (refused_operand r reading.operands) reading.unread) (if lacks_word applet r reading then Err behind else Ok (command_read behind applet reading)) ≡ Ok command → IsGood applet reading) [
-      | None ↦ λ r. elim reading.unread as (λ u. unless_at (option_or None u) (Err behind) ≡ Ok command → IsGood applet reading) [
+    elim (operand_rule applet reading.state.flags) as (λ r. operand_rule applet reading.state.flags ≡ r → unless_refused_at (option_or (refused_operand r reading.operands) reading.unread) (if lacks_word applet r reading then Err behind else Ok (command_read behind applet reading)) ≡ Ok command → IsGood applet reading) [
+      | None ↦ λ r. elim reading.unread as (λ u. unless_refused_at (option_or None u) (Err behind) ≡ Ok command → IsGood applet reading) [
         | None ↦ λ (e : Err behind ≡ Ok command). absurd (cc)
         | Some at ↦ λ (e : Err at ≡ Ok command). absurd (cc)
       ]
-      | Some rule ↦ λ r. elim (option_or (first_refused rule 0 reading.operands) reading.unread) as (λ o. option_or (first_refused rule 0 reading.operands) reading.unread ≡ o → unless_at o (if lacks_word applet (Some rule) reading then Err behind else Ok (command_read behind applet reading)) ≡ Ok command → IsGood applet reading) [
-        | None ↦ λ o e. (let both = both_none (first_refused rule 0 reading.operands) reading.unread o in (rule, r, both.0, both.1))
+      | Some rule ↦ λ r. elim (option_or (first_refused_operand rule 0 reading.operands) reading.unread) as (λ o. option_or (first_refused_operand rule 0 reading.operands) reading.unread ≡ o → unless_refused_at o (if lacks_word applet (Some rule) reading then Err behind else Ok (command_read behind applet reading)) ≡ Ok command → IsGood applet reading) [
+        | None ↦ λ o e. (let both = both_none (first_refused_operand rule 0 reading.operands) reading.unread o in (rule, r, both.0, both.1))
         | Some at ↦ λ o (e : Err at ≡ Ok command). absurd (cc)
       ] refl
     ] refl h
 
-pub offends_after : (words more : List (List ℕ)) (command : CommandLine) (place : ℕ) → can_get_kind words ≡ false → line_command words ≡ Ok command → line_command (words ++ more) ≡ Err place → length words < place
-unfolding line_command
+pub offends_after : (words more : List (List ℕ)) (command : CommandLine) (place : ℕ) → can_info_kind_follow words ≡ false → spelled_command words ≡ Ok command → spelled_command (words ++ more) ≡ Err place → length words < place
+unfolding spelled_command
 offends_after words more command place k c h =
-    elim (line_start words) as (λ s. line_start words ≡ s → command_from words s ≡ Ok command → length words < place) [
+    elim (start_of_command_line words) as (λ s. start_of_command_line words ≡ s → spelled_command_from_start words s ≡ Ok command → length words < place) [
       | Err at ↦ λ s (e : Err at ≡ Ok command). absurd (cc)
       | Ok start ↦ λ s e. by_start start s e
     ] refl c
   where
-    rule_goes : (start : Start) → IsPlain start (1 + length words) → can_get_kind_from words start ≡ false → (rule : OperandRule) → operand_rule start.applet (reading_after_applet start words).state.flags ≡ Some rule → (reading_after_applet start words).unread ≡ None
+    rule_goes : (start : Start) → IsPlain start (1 + length words) → can_info_kind_follow_start words start ≡ false → (rule : OperandRule) → operand_rule start.applet (reading_after_applet start words).state.flags ≡ Some rule → (reading_after_applet start words).unread ≡ None
         → operand_rule start.applet (reading_after_applet start (words ++ more)).state.flags ≡ Some rule
     rule_goes start known fixed rule r u =
         elim (longer_or_same words more start known fixed) as (λ _. operand_rule start.applet (reading_after_applet start (words ++ more)).state.flags ≡ Some rule) [
@@ -111,24 +111,24 @@ offends_after words more command place k c h =
           | inr long ↦ long.rule rule r
         ]
 
-    by_first : (start : Start) → IsPlain start (1 + length words) → can_get_kind_from words start ≡ false → IsGood start.applet (reading_after_applet start words) → option_or (refused_operand (operand_rule start.applet (reading_after_applet start (words ++ more)).state.flags) (reading_after_applet start (words ++ more)).operands) (reading_after_applet start (words ++ more)).unread ≡ Some place → length words < place
+    by_first : (start : Start) → IsPlain start (1 + length words) → can_info_kind_follow_start words start ≡ false → IsGood start.applet (reading_after_applet start words) → option_or (refused_operand (operand_rule start.applet (reading_after_applet start (words ++ more)).state.flags) (reading_after_applet start (words ++ more)).operands) (reading_after_applet start (words ++ more)).unread ≡ Some place → length words < place
     by_first start known fixed good first =
         let low : start.read ≤ length words = omega (arith, known.read) in
         let longer = reading_after_applet start (words ++ more) in
         let add = from_added start words more low in
         let rule_is : operand_rule start.applet longer.state.flags ≡ Some good.0 = rule_goes start known fixed good.0 good.1 good.3 in
-        let refused : first_refused good.0 0 longer.operands ≡ first_refused good.0 (0 + length (reading_after_applet start words).operands) add.new =
-        ap (first_refused good.0 0) (add.operands good.3) ∙ refused_then good.0 0 (reading_after_applet start words).operands add.new good.2 in
-        elim (first_refused good.0 (0 + length (reading_after_applet start words).operands) add.new) as (λ o. first_refused good.0 (0 + length (reading_after_applet start words).operands) add.new ≡ o → option_or o longer.unread ≡ Some place → length words < place) [
+        let refused : first_refused_operand good.0 0 longer.operands ≡ first_refused_operand good.0 (0 + length (reading_after_applet start words).operands) add.new =
+        ap (first_refused_operand good.0 0) (add.operands good.3) ∙ refused_then good.0 0 (reading_after_applet start words).operands add.new good.2 in
+        elim (first_refused_operand good.0 (0 + length (reading_after_applet start words).operands) add.new) as (λ o. first_refused_operand good.0 (0 + length (reading_after_applet start words).operands) add.new ≡ o → option_or o longer.unread ≡ Some place → length words < place) [
           | None ↦ λ f e. (let behind : length words + 1 ≤ place = add.unread good.3 place e in omega arith)
           | Some at ↦ λ f (e : Some at ≡ Some place). (let is = refused_between good.0 (0 + length (reading_after_applet start words).operands) (length words + 1) (length words + 1 + length more) place add.new add.placed (f ∙ e) in omega (arith, is.0))
         ] refl (ap (λ o. option_or o longer.unread) (sym refused) ∙ (ap (λ r. option_or (refused_operand r longer.operands) longer.unread) (sym rule_is) ∙ first))
 
-    by_start : (start : Start) → line_start words ≡ Ok start → command_of_reading (length words + 1) start.applet (reading_after_applet start words) ≡ Ok command → length words < place
+    by_start : (start : Start) → start_of_command_line words ≡ Ok start → command_of_reading (length words + 1) start.applet (reading_after_applet start words) ≡ Ok command → length words < place
     by_start start s e =
         let last : ℕ = length (words ++ more) + 1 in
         let longer : command_of_reading last start.applet (reading_after_applet start (words ++ more)) ≡ Err place =
-        sym (ap (command_from (words ++ more)) (start_stays words more start s)) ∙ h in
+        sym (ap (spelled_command_from_start (words ++ more)) (start_stays words more start s)) ∙ h in
         elim (judged_at start.applet (reading_after_applet start (words ++ more)) last place longer) as (λ _. length words < place) [
           | inl first ↦ by_first start (start_known words start s) (cannot_from words start k s) (good_of start.applet (reading_after_applet start words) (length words + 1) command e) first
           | inr behind ↦ omega (arith, behind.1, length-append words more)

@@ -1,7 +1,7 @@
 -- Words that lack a word can be completed, unless they are stuck: where their applet was found.
 use Rattle.std.proofs.Common.{Bool, Err, List, None, Ok, Option, Some, [], ap, append-nil, arith, codes, drop, false, inl, inr, is_some, length, length-append, not, refl, subst, suc, sym, true, zero, ℕ, ◌++◌, ◌+◌, ◌-◌, ◌<◌, ◌∙◌, ◌∷◌, ◌≡◌, ◌≤◌, if◌then◌else◌}
 use Rattle.base_core.specs.Name.{is_name}
-use Rattle.dep_core.specs.Reading.{at_name, at_name_end, dependency_of}
+use Rattle.dep_core.specs.Reading.{dependency_from_name, dependency_after_name, dependency_of}
 use Rattle.std.specs.List.{list_all, list_any}
 use Rattle.std.specs.Option.{option_or}
 use Rattle.std.specs.Prelude.{nat_lt, ◌&&◌, ◌==◌, ◌||◌}
@@ -24,18 +24,18 @@ use Rattle.command_core.specs.declared.values.TheConstants.{OUTPUT}
 use Rattle.command_core.specs.declared.values.ValueKind.{ValueKind}
 use Rattle.command_core.specs.declared.values.ValueKind.TheVariants.{Any as AnyText, File as FileName, Nonempty, Output, Script, Uncompressed}
 use Rattle.command_core.specs.declared.values.ValueRule.{ValueRule}
-use Rattle.command_core.specs.Applets.{info_operands, needed_option, operand_rule, version_operands}
-use Rattle.command_core.specs.Sound.{allowed_flags, may_have, are_within, has_at_most_one, is_at_most}
+use Rattle.command_core.specs.Applets.{info_operand_rule, required_option_letter, operand_rule, version_operand_rule}
+use Rattle.command_core.specs.Sound.{allowed_flags, may_have_flags, are_flags_allowed, has_at_most_one, is_count_within_limit}
 use Rattle.command_core.specs.Command.{CommandLine}
-use Rattle.command_core.specs.Flags.{has_flag, has_kind, kinds, with_flag}
-use Rattle.command_core.specs.Operands.{at_least, exactly, first_refused, is_of_kind, operand_at, takes}
-use Rattle.command_core.specs.Values.{excludes, is_excluded, is_given, is_script, is_value, lacks_value, option_value, output_rule, script_type, script_types}
+use Rattle.command_core.specs.Flags.{has_flag, has_command_kind_flag, kinds, with_flag}
+use Rattle.command_core.specs.Operands.{at_least, exactly, first_refused_operand, is_operand_of_kind, operand_at, takes}
+use Rattle.command_core.specs.Values.{excludes, is_excluded_by_earlier_value, is_given, is_script, is_value, is_required_value_missing, option_value, output_rule, script_type, script_types}
 use Rattle.words_core.specs.declared.reading.OptionState.{OptionState}
 use Rattle.words_core.specs.declared.reading.Reading.{Reading}
 use Rattle.words_core.specs.declared.reading.Start.{Start}
-use Rattle.words_core.specs.Grammar.{command_from, line_command, command_read, attached_value, lacks_word, line_start, operands_of, option_name, option_reading, reading_after_applet, reading_by, refused_operand, state_by, command_of_reading, with_operand, with_word_by}
+use Rattle.words_core.specs.Grammar.{spelled_command_from_start, spelled_command, command_read, attached_value, lacks_word, start_of_command_line, operands_of, option_name, option_reading, reading_after_applet, words_reading_from_parts, refused_operand, option_state_from_parts, command_of_reading, with_operand, with_word_if_awaited}
 use Rattle.words_core.specs.Options.{OptionSpec, common_options, options_of}
-use Rattle.words_core.specs.Stuck.{awaits_none, has_script, have_ended, is_full, is_stuck, lacks_option}
+use Rattle.words_core.specs.Stuck.{awaits_impossible_value, has_script, have_options_ended, has_all_possible_values, is_stuck, is_required_option_missing}
 use Rattle.words_core.proofs.GivenKept.{from_kept}
 use Rattle.words_core.proofs.GoneOn.{IsRemovedPackage, from_going}
 use Rattle.words_core.proofs.KindsKept.{IsPlain, start_known, within_at}
@@ -47,12 +47,12 @@ use Rattle.words_core.proofs.Sites.{start_stays}
 use Rattle.words_core.proofs.WhatIsRead.{no_more}
 
 -- operands that are taken, and more of them
-pub refused_then : (rule : OperandRule) (before : ℕ) (os more : List Operand) → first_refused rule before os ≡ None → first_refused rule before (os ++ more) ≡ first_refused rule (before + length os) more
-refused_then rule before [] more h = (let same : before ≡ before + 0 = omega arith in ap (λ k. first_refused rule k more) same)
+pub refused_then : (rule : OperandRule) (before : ℕ) (os more : List Operand) → first_refused_operand rule before os ≡ None → first_refused_operand rule before (os ++ more) ≡ first_refused_operand rule (before + length os) more
+refused_then rule before [] more h = (let same : before ≡ before + 0 = omega arith in ap (λ k. first_refused_operand rule k more) same)
 refused_then rule before (o ∷ os) more h =
     let same : before + 1 + length os ≡ before + length (o ∷ os) = omega arith in
-    elim (takes rule before o.text) as (λ b. (if b then first_refused rule (before + 1) os else Some o.place) ≡ None → (if b then first_refused rule (before + 1) (os ++ more) else Some o.place) ≡ first_refused rule (before + length (o ∷ os)) more) [
-      | true ↦ λ (later : first_refused rule (before + 1) os ≡ None). refused_then rule (before + 1) os more later ∙ ap (λ k. first_refused rule k more) same
+    elim (takes rule before o.text) as (λ b. (if b then first_refused_operand rule (before + 1) os else Some o.place) ≡ None → (if b then first_refused_operand rule (before + 1) (os ++ more) else Some o.place) ≡ first_refused_operand rule (before + length (o ∷ os)) more) [
+      | true ↦ λ (later : first_refused_operand rule (before + 1) os ≡ None). refused_then rule (before + 1) os more later ∙ ap (λ k. first_refused_operand rule k more) same
       | false ↦ λ (here : Some o.place ≡ None). absurd (none-some o.place (sym here))
     ] h
 
@@ -71,7 +71,7 @@ IsJudgedGood applet reading = (end : ℕ) → command_of_reading end applet read
 
 -- words that are operands wherever they stand
 abbrev pub AreTexts : List (List ℕ) → Type 0
-AreTexts more = (options : List OptionSpec) (state : OptionState) (place : ℕ) → state.awaiting ≡ None → option_reading options state place more ≡ reading_by state (operands_of place more) None
+AreTexts more = (options : List OptionSpec) (state : OptionState) (place : ℕ) → state.awaiting ≡ None → option_reading options state place more ≡ words_reading_from_parts state (operands_of place more) None
 
 pub no_texts : AreTexts []
 no_texts options state place a = rw a refl
@@ -84,7 +84,7 @@ two_texts options state place a = rw a refl
 
 -- such words behind what was read
 abbrev pub with_texts : OptionState → List Operand → ℕ → List (List ℕ) → Reading
-with_texts state os at more = behind os (reading_by state (operands_of at more) None)
+with_texts state os at more = behind os (words_reading_from_parts state (operands_of at more) None)
 
 abbrev pub CanHaveTexts : Applet → OptionState → List Operand → ℕ → Type 0
 CanHaveTexts applet state os at = (more : List (List ℕ)) × AreTexts more × IsJudgedGood applet (with_texts state os at more)
@@ -96,8 +96,8 @@ abbrev pub sample : OperandKind → List ℕ
 sample Number = codes "1"
 sample kind = codes "a"
 
-pub sample_fits : (kind : OperandKind) → is_of_kind kind (sample kind) ≡ true
-unfolding dependency_of at_name at_name_end is_name is_utf8 chars encode
+pub sample_fits : (kind : OperandKind) → is_operand_of_kind kind (sample kind) ≡ true
+unfolding dependency_of dependency_from_name dependency_after_name is_name is_utf8 chars encode
 sample_fits File = refl
 sample_fits Any = refl
 sample_fits Dependency = refl
@@ -128,13 +128,13 @@ samples_read kind (suc count) options state place a =
     sample_read kind options state place (samples kind count) a ∙ ap (with_operand (operand_at place (sample kind))) (samples_read kind count options state (place + 1) a)
 
 -- there is room for so many
-pub samples_taken : (rule : OperandRule) (before place count : ℕ) → is_at_most rule.most (before + count) ≡ true → first_refused rule before (operands_of place (samples rule.kind count)) ≡ None
+pub samples_taken : (rule : OperandRule) (before place count : ℕ) → is_count_within_limit rule.most (before + count) ≡ true → first_refused_operand rule before (operands_of place (samples rule.kind count)) ≡ None
 samples_taken rule before place zero m = refl
 samples_taken rule before place (suc count) m =
     let here : before + suc count ≡ before + (count + 1) = omega arith in
     let next : before + suc count ≡ before + 1 + count = omega arith in
-    rw (room_by rule.most before count (ap (is_at_most rule.most) (sym here) ∙ m))
-    (rw (sample_fits rule.kind) (samples_taken rule (before + 1) (place + 1) count (ap (is_at_most rule.most) (sym next) ∙ m)))
+    rw (room_by rule.most before count (ap (is_count_within_limit rule.most) (sym here) ∙ m))
+    (rw (sample_fits rule.kind) (samples_taken rule (before + 1) (place + 1) count (ap (is_count_within_limit rule.most) (sym next) ∙ m)))
 
 samples_length : (kind : OperandKind) (place count : ℕ) → length (operands_of place (samples kind count)) ≡ count
 samples_length kind place zero = refl
@@ -142,9 +142,9 @@ samples_length kind place (suc count) = (let rest : length (operands_of (place +
 
 -- a rule asks for no more operands than it takes
 abbrev pub IsPossible : OperandRule → Type 0
-IsPossible rule = is_at_most rule.most rule.least ≡ true
+IsPossible rule = is_count_within_limit rule.most rule.least ≡ true
 
-info_possible : (flags : Flags) → IsPossible (info_operands flags)
+info_possible : (flags : Flags) → IsPossible (info_operand_rule flags)
 info_possible flags =
     elim flags.who_owns as (λ b. IsPossible (if b then exactly 1 Path else if flags.installed || flags.contents || flags.depends then at_least 1 PackageName else at_least 0 PackageName)) [
       | true ↦ refl
@@ -156,9 +156,9 @@ info_possible flags =
 
 abbrev is_possible : Option OperandRule → Bool
 is_possible None = true
-is_possible (Some rule) = is_at_most rule.most rule.least
+is_possible (Some rule) = is_count_within_limit rule.most rule.least
 
-version_possible : (flags : Flags) → is_possible (version_operands flags) ≡ true
+version_possible : (flags : Flags) → is_possible (version_operand_rule flags) ≡ true
 version_possible flags =
     elim flags.test as (λ b. is_possible (if b then Some (exactly 2 Any) else if flags.check then Some (at_least 1 Any) else None) ≡ true) [
       | true ↦ refl
@@ -177,32 +177,32 @@ pub rule_possible : (applet : Applet) (flags : Flags) (rule : OperandRule) → o
 rule_possible applet flags rule r = subst (λ o. is_possible o ≡ true) r (each_possible applet flags)
 
 -- as many as are still wanted fit behind those that are taken
-wanted_fit : (rule : OperandRule) (os : List Operand) → IsPossible rule → first_refused rule 0 os ≡ None → is_at_most rule.most (length os + (rule.least - length os)) ≡ true
+wanted_fit : (rule : OperandRule) (os : List Operand) → IsPossible rule → first_refused_operand rule 0 os ≡ None → is_count_within_limit rule.most (length os + (rule.least - length os)) ≡ true
 wanted_fit rule os p h = by_most rule.most refl
   where
-    by_most : (most : Option ℕ) → rule.most ≡ most → is_at_most most (length os + (rule.least - length os)) ≡ true
+    by_most : (most : Option ℕ) → rule.most ≡ most → is_count_within_limit most (length os + (rule.least - length os)) ≡ true
     by_most None e = refl
     by_most (Some most) e =
-        let least : rule.least ≤ most = leb-true rule.least most (ap (λ m. is_at_most m rule.least) (sym e) ∙ p) in
+        let least : rule.least ≤ most = leb-true rule.least most (ap (λ m. is_count_within_limit m rule.least) (sym e) ∙ p) in
         let fits : 0 + length os ≤ most = no_more rule most 0 os e (omega arith) h in
         le-leb (length os + (rule.least - length os)) most (omega arith)
 
 -- where no option is lacking, operands complete what was read
-pub can_have_texts : (applet : Applet) (state : OptionState) (os : List Operand) (at : ℕ) → lacks_option applet state ≡ false → refused_operand (operand_rule applet state.flags) os ≡ None → CanHaveTexts applet state os at
+pub can_have_texts : (applet : Applet) (state : OptionState) (os : List Operand) (at : ℕ) → is_required_option_missing applet state ≡ false → refused_operand (operand_rule applet state.flags) os ≡ None → CanHaveTexts applet state os at
 can_have_texts applet state os at k h = by_rule (operand_rule applet state.flags) refl k h
   where
-    wanted_fit_at : (rule : OperandRule) (os : List Operand) → operand_rule applet state.flags ≡ Some rule → first_refused rule 0 os ≡ None → is_at_most rule.most (0 + length os + (rule.least - length os)) ≡ true
+    wanted_fit_at : (rule : OperandRule) (os : List Operand) → operand_rule applet state.flags ≡ Some rule → first_refused_operand rule 0 os ≡ None → is_count_within_limit rule.most (0 + length os + (rule.least - length os)) ≡ true
     wanted_fit_at rule os r h =
         let same : 0 + length os + (rule.least - length os) ≡ length os + (rule.least - length os) = omega arith in
-        ap (is_at_most rule.most) same ∙ wanted_fit rule os (rule_possible applet state.flags rule r) h
+        ap (is_count_within_limit rule.most) same ∙ wanted_fit rule os (rule_possible applet state.flags rule r) h
 
-    by_rule : (o : Option OperandRule) → operand_rule applet state.flags ≡ o → (not (is_some o) || lacks_value (needed_option applet) state.values) ≡ false → refused_operand o os ≡ None → CanHaveTexts applet state os at
+    by_rule : (o : Option OperandRule) → operand_rule applet state.flags ≡ o → (not (is_some o) || is_required_value_missing (required_option_letter applet) state.values) ≡ false → refused_operand o os ≡ None → CanHaveTexts applet state os at
     by_rule None r k h = absurd (true≢false k)
     by_rule (Some rule) r k h =
         let count : ℕ = rule.least - length os in
         let texts : List (List ℕ) = samples rule.kind count in
         let reading : Reading = with_texts state os at texts in
-        let taken : first_refused rule 0 reading.operands ≡ None =
+        let taken : first_refused_operand rule 0 reading.operands ≡ None =
         refused_then rule 0 os (operands_of at texts) h
         ∙ samples_taken rule (0 + length os) at count (wanted_fit_at rule os r h) in
         let enough : rule.least ≤ length reading.operands =
@@ -211,7 +211,7 @@ can_have_texts applet state os at k h = by_rule (operand_rule applet state.flags
           samples_read rule.kind count,
           λ end. judged_good applet reading end
               (ap (λ o. refused_operand o reading.operands) r ∙ taken) refl
-              (ap (λ o. lacks_word applet o reading) r ∙ or_from (nat_lt (length reading.operands) rule.least) (lacks_value (needed_option applet) state.values) (le-ltb (length reading.operands) rule.least enough) k),
+              (ap (λ o. lacks_word applet o reading) r ∙ or_from (nat_lt (length reading.operands) rule.least) (is_required_value_missing (required_option_letter applet) state.values) (le-ltb (length reading.operands) rule.least enough) k),
         )
 
 -- ---- values that can follow
@@ -220,7 +220,7 @@ abbrev pub rule_by : ℕ → Bool → ValueKind → ValueRule
 rule_by letter single kind = record { letter = letter; single = single; kind = kind }
 
 abbrev pub IsFitting : ValueRule → List OptionValue → List ℕ → Type 0
-IsFitting rule values text = (is_value rule.kind text && not (is_excluded rule text values)) ≡ true
+IsFitting rule values text = (is_value rule.kind text && not (is_excluded_by_earlier_value rule text values)) ≡ true
 
 pub none_excluded : (letter : ℕ) (kind : ValueKind) (text : List ℕ) (values : List OptionValue) → ((a b : List ℕ) → excludes kind a b ≡ false) → list_any (λ (v : OptionValue). (v.letter == letter) && excludes kind v.text text) values ≡ false
 none_excluded letter kind text [] n = refl
@@ -253,7 +253,7 @@ script_fits letter single values t is none =
     let same : script_type (a_script t) ≡ t = (bytes_eq-Decides (script_type (a_script t)) t).0 parts.1 in
     and_from (is_script (a_script t)) _ parts.0 (not_from_false _ (ap (has_script letter values) same ∙ none))
 
-pub fitting : (letter : ℕ) (single : Bool) (kind : ValueKind) (values : List OptionValue) → is_full kind letter values ≡ false → (text : List ℕ) × IsFitting (rule_by letter single kind) values text
+pub fitting : (letter : ℕ) (single : Bool) (kind : ValueKind) (values : List OptionValue) → has_all_possible_values kind letter values ≡ false → (text : List ℕ) × IsFitting (rule_by letter single kind) values text
 unfolding is_name is_utf8 chars encode
 fitting letter single AnyText values h = (codes "a", not_from_false _ (none_excluded letter AnyText (codes "a") values (λ a b. refl)))
 fitting letter single Nonempty values h = (codes "a", not_from_false _ (none_excluded letter Nonempty (codes "a") values (λ a b. refl)))
@@ -262,27 +262,27 @@ fitting letter single Output values h = (codes "a", not_from_false _ (none_exclu
 fitting letter single Uncompressed values h = (codes "none", not_from_false _ (none_excluded letter Uncompressed (codes "none") values (λ a b. refl)))
 fitting letter single Script values h = (let some = some_fails (has_script letter values) is_its_script script_types all_scripts h in (a_script some.0, script_fits letter single values some.0 some.1 some.2))
 
-pub value_read : (options : List OptionSpec) (state : OptionState) (at : ℕ) (text : List ℕ) (rule : ValueRule) (more : List (List ℕ)) → state.awaiting ≡ Some rule → IsFitting rule state.values text → option_reading options state at (text ∷ more) ≡ option_reading options (state_by state.flags (state.values ++ (option_value at rule.letter text ∷ [])) None) (at + 1) more
+pub value_read : (options : List OptionSpec) (state : OptionState) (at : ℕ) (text : List ℕ) (rule : ValueRule) (more : List (List ℕ)) → state.awaiting ≡ Some rule → IsFitting rule state.values text → option_reading options state at (text ∷ more) ≡ option_reading options (option_state_from_parts state.flags (state.values ++ (option_value at rule.letter text ∷ [])) None) (at + 1) more
 value_read options state at text rule more a f =
-    let next : OptionState = state_by state.flags (state.values ++ (option_value at rule.letter text ∷ [])) None in
+    let next : OptionState = option_state_from_parts state.flags (state.values ++ (option_value at rule.letter text ∷ [])) None in
     step_taken options state at text more (Some next) (awaited_taken state text rule a)
-    (ap (with_word_by options state at text) a ∙ ap (λ b. if b then Some next else None) f)
+    (ap (with_word_if_awaited options state at text) a ∙ ap (λ b. if b then Some next else None) f)
 
 -- ---- options that can follow
 
 -- what was read of words, and more words behind it
 abbrev pub gone_on : Applet → Flags → List OptionValue → List Operand → ℕ → List (List ℕ) → Reading
-gone_on applet flags values os at more = behind os (option_reading (options_of applet) (state_by flags values None) at more)
+gone_on applet flags values os at more = behind os (option_reading (options_of applet) (option_state_from_parts flags values None) at more)
 
 abbrev pub CanGoOn : Applet → Flags → List OptionValue → List Operand → ℕ → Type 0
 CanGoOn applet flags values os at = (more : List (List ℕ)) × IsJudgedGood applet (gone_on applet flags values os at more)
 
-pub output_read : (flags : Flags) (values : List OptionValue) (at : ℕ) → is_given OUTPUT values ≡ false → option_reading (options_of Mkndx) (state_by flags values None) at (codes "-o" ∷ (codes "a" ∷ [])) ≡ reading_by (state_by flags (values ++ (option_value (at + 1) OUTPUT (codes "a") ∷ [])) None) [] None
+pub output_read : (flags : Flags) (values : List OptionValue) (at : ℕ) → is_given OUTPUT values ≡ false → option_reading (options_of Mkndx) (option_state_from_parts flags values None) at (codes "-o" ∷ (codes "a" ∷ [])) ≡ words_reading_from_parts (option_state_from_parts flags (values ++ (option_value (at + 1) OUTPUT (codes "a") ∷ [])) None) [] None
 unfolding common_options options_of option_name attached_value is_name is_utf8 chars encode
 output_read flags values at g =
-    step_taken (options_of Mkndx) (state_by flags values None) at (codes "-o") (codes "a" ∷ []) (Some (state_by flags values (Some output_rule))) refl
-    (ap (λ b. if b then None else Some (state_by flags values (Some output_rule))) g)
-    ∙ value_read (options_of Mkndx) (state_by flags values (Some output_rule)) (at + 1) (codes "a") output_rule [] refl
+    step_taken (options_of Mkndx) (option_state_from_parts flags values None) at (codes "-o") (codes "a" ∷ []) (Some (option_state_from_parts flags values (Some output_rule))) refl
+    (ap (λ b. if b then None else Some (option_state_from_parts flags values (Some output_rule))) g)
+    ∙ value_read (options_of Mkndx) (option_state_from_parts flags values (Some output_rule)) (at + 1) (codes "a") output_rule [] refl
     (not_from_false _ (none_excluded OUTPUT Output (codes "a") values (λ a b. refl)))
 
 pub given_last : (place letter : ℕ) (text : List ℕ) (values : List OptionValue) → (letter == letter) ≡ true → is_given letter (values ++ (option_value place letter text ∷ [])) ≡ true
@@ -290,9 +290,9 @@ given_last place letter text [] e = rw e refl
 given_last place letter text (v ∷ vs) e = or_right (v.letter == letter) _ (given_last place letter text vs e)
 
 -- flags of `version` without a kind of its own have none
-version_kinds : (flags : Flags) → may_have Version flags ≡ true → flags.test ≡ false → flags.check ≡ false → has_kind flags ≡ false
+version_kinds : (flags : Flags) → may_have_flags Version flags ≡ true → flags.test ≡ false → flags.check ≡ false → has_command_kind_flag flags ≡ false
 version_kinds flags m t c =
-    let within = (and_parts (are_within (allowed_flags Version) flags) (has_at_most_one kinds flags) m).0 in
+    let within = (and_parts (are_flags_allowed (allowed_flags Version) flags) (has_at_most_one kinds flags) m).0 in
     let no : (f : Flag) → has_flag f (allowed_flags Version) ≡ false → has_flag f flags ≡ false = λ f n. absent (has_flag f flags) (has_flag f (allowed_flags Version)) n (within_at (allowed_flags Version) flags f within) in
     let i : flags.installed ≡ false = no Installed refl in
     let o : flags.contents ≡ false = no Contents refl in
@@ -305,35 +305,35 @@ version_kinds flags m t c =
     absent false d n h = refl
 
 -- no operand is lacking of `mkndx`
-index_good : (state : OptionState) (os : List Operand) → first_refused (at_least 0 File) 0 os ≡ None → is_given OUTPUT state.values ≡ true → IsJudgedGood Mkndx (behind os (reading_by state [] None))
-index_good state os h g end = judged_good Mkndx (behind os (reading_by state [] None)) end
-    (ap (first_refused (at_least 0 File) 0) (append-nil os) ∙ h) refl
+index_good : (state : OptionState) (os : List Operand) → first_refused_operand (at_least 0 File) 0 os ≡ None → is_given OUTPUT state.values ≡ true → IsJudgedGood Mkndx (behind os (words_reading_from_parts state [] None))
+index_good state os h g end = judged_good Mkndx (behind os (words_reading_from_parts state [] None)) end
+    (ap (first_refused_operand (at_least 0 File) 0) (append-nil os) ∙ h) refl
     (or_from (nat_lt (length (os ++ [])) 0) (not (is_given OUTPUT state.values)) (le-ltb (length (os ++ [])) 0 (omega arith)) (not_from_true (is_given OUTPUT state.values) g))
 
-texts_taken : (before : ℕ) (operands : List Operand) → first_refused (at_least 1 Any) before operands ≡ None
+texts_taken : (before : ℕ) (operands : List Operand) → first_refused_operand (at_least 1 Any) before operands ≡ None
 texts_taken before [] = refl
 texts_taken before (o ∷ os) = texts_taken (before + 1) os
 
 -- where an option is lacking, it completes what was read
-pub options_follow : (applet : Applet) (flags : Flags) (values : List OptionValue) (os : List Operand) (at : ℕ) → may_have applet flags ≡ true → lacks_option applet (state_by flags values None) ≡ true → refused_operand (operand_rule applet flags) os ≡ None → CanGoOn applet flags values os at
+pub options_follow : (applet : Applet) (flags : Flags) (values : List OptionValue) (os : List Operand) (at : ℕ) → may_have_flags applet flags ≡ true → is_required_option_missing applet (option_state_from_parts flags values None) ≡ true → refused_operand (operand_rule applet flags) os ≡ None → CanGoOn applet flags values os at
 unfolding common_options options_of option_name attached_value
 options_follow Mkndx flags values os at m k h =
     let more : List OptionValue = values ++ (option_value (at + 1) OUTPUT (codes "a") ∷ []) in
-    (codes "-o" ∷ (codes "a" ∷ []), subst (λ r. IsJudgedGood Mkndx (behind os r)) (sym (output_read flags values at (not-true (is_given OUTPUT values) k))) (index_good (state_by flags more None) os h (given_last (at + 1) OUTPUT (codes "a") values refl)))
+    (codes "-o" ∷ (codes "a" ∷ []), subst (λ r. IsJudgedGood Mkndx (behind os r)) (sym (output_read flags values at (not-true (is_given OUTPUT values) k))) (index_good (option_state_from_parts flags more None) os h (given_last (at + 1) OUTPUT (codes "a") values refl)))
 options_follow Version flags values os at m k h =
     let none = no_kind flags (lacks_kind flags k) in
     let now : Flags = with_flag Check flags in
-    let reading : Reading = behind os (reading_by (state_by now values None) (operand_at (at + 1) (codes "a") ∷ []) None) in
-    let stand : has_kind flags ≡ false = version_kinds flags m none.0 none.1 in
-    let read : option_reading (options_of Version) (state_by flags values None) at (codes "-c" ∷ (codes "a" ∷ [])) ≡ reading_by (state_by now values None) (operand_at (at + 1) (codes "a") ∷ []) None = rw stand refl in (
+    let reading : Reading = behind os (words_reading_from_parts (option_state_from_parts now values None) (operand_at (at + 1) (codes "a") ∷ []) None) in
+    let stand : has_command_kind_flag flags ≡ false = version_kinds flags m none.0 none.1 in
+    let read : option_reading (options_of Version) (option_state_from_parts flags values None) at (codes "-c" ∷ (codes "a" ∷ [])) ≡ words_reading_from_parts (option_state_from_parts now values None) (operand_at (at + 1) (codes "a") ∷ []) None = rw stand refl in (
       codes "-c" ∷ (codes "a" ∷ []),
       subst (λ r. IsJudgedGood Version (behind os r)) (sym read) (λ end. judged_good Version reading end
           (rw none.0 (texts_taken 0 (os ++ (operand_at (at + 1) (codes "a") ∷ [])))) refl
           (rw none.0 (rw (one_more os (operand_at (at + 1) (codes "a"))) refl))),
     )
   where
-    lacks_kind : (flags : Flags) → lacks_option Version (state_by flags values None) ≡ true → is_some (version_operands flags) ≡ false
-    lacks_kind flags k = elim (version_operands flags) as (λ o. (not (is_some o) || false) ≡ true → is_some o ≡ false) [
+    lacks_kind : (flags : Flags) → is_required_option_missing Version (option_state_from_parts flags values None) ≡ true → is_some (version_operand_rule flags) ≡ false
+    lacks_kind flags k = elim (version_operand_rule flags) as (λ o. (not (is_some o) || false) ≡ true → is_some o ≡ false) [
       | None ↦ λ h. refl
       | Some rule ↦ λ (h : false ≡ true). absurd (false≢true h)
     ] k
@@ -343,28 +343,28 @@ options_follow Version flags values os at m k h =
     by_flags false true h = absurd (true≢false h)
     by_flags false false h = (refl, refl)
 
-    no_kind : (flags : Flags) → is_some (version_operands flags) ≡ false → (flags.test ≡ false) × (flags.check ≡ false)
+    no_kind : (flags : Flags) → is_some (version_operand_rule flags) ≡ false → (flags.test ≡ false) × (flags.check ≡ false)
     no_kind flags n = by_flags flags.test flags.check n
 options_follow applet flags values os at m k h = absurd (false≢true k)
 
-pub can_go_on : (applet : Applet) (flags : Flags) (values : List OptionValue) (os : List Operand) (at : ℕ) → may_have applet flags ≡ true → refused_operand (operand_rule applet flags) os ≡ None → CanGoOn applet flags values os at
+pub can_go_on : (applet : Applet) (flags : Flags) (values : List OptionValue) (os : List Operand) (at : ℕ) → may_have_flags applet flags ≡ true → refused_operand (operand_rule applet flags) os ≡ None → CanGoOn applet flags values os at
 can_go_on applet flags values os at m h =
-    elim (lacks_option applet (state_by flags values None)) as (λ b. lacks_option applet (state_by flags values None) ≡ b → CanGoOn applet flags values os at) [
+    elim (is_required_option_missing applet (option_state_from_parts flags values None)) as (λ b. is_required_option_missing applet (option_state_from_parts flags values None) ≡ b → CanGoOn applet flags values os at) [
       | true ↦ λ k. options_follow applet flags values os at m k h
-      | false ↦ λ k. (let can = can_have_texts applet (state_by flags values None) os at k h in
-          (can.0, subst (λ r. IsJudgedGood applet (behind os r)) (sym (can.1 (options_of applet) (state_by flags values None) at refl)) can.2))
+      | false ↦ λ k. (let can = can_have_texts applet (option_state_from_parts flags values None) os at k h in
+          (can.0, subst (λ r. IsJudgedGood applet (behind os r)) (sym (can.1 (options_of applet) (option_state_from_parts flags values None) at refl)) can.2))
     ] refl
 
 -- ---- words that lack a word
 
 abbrev pub CanBeCompleted : List (List ℕ) → Type 0
-CanBeCompleted words = (more : List (List ℕ)) × (command : CommandLine) × (line_command (words ++ more) ≡ Ok command)
+CanBeCompleted words = (more : List (List ℕ)) × (command : CommandLine) × (spelled_command (words ++ more) ≡ Ok command)
 
 -- no operand offends where words offend at their end
 pub none_refused : (rule : Option OperandRule) (low end : ℕ) (operands : List Operand) (unread : Option ℕ) → AllBetween low end operands → IsJudgedAt end (option_or (refused_operand rule operands) unread) end → refused_operand rule operands ≡ None
 none_refused None low end operands unread p j = refl
 none_refused (Some rule) low end operands unread p j =
-    elim (first_refused rule 0 operands) as (λ o. first_refused rule 0 operands ≡ o → IsJudgedAt end (option_or o unread) end → o ≡ None) [
+    elim (first_refused_operand rule 0 operands) as (λ o. first_refused_operand rule 0 operands ≡ o → IsJudgedAt end (option_or o unread) end → o ≡ None) [
       | None ↦ λ f j. refl
       | Some at ↦ λ f j. absurd (elim j as (λ _. ⊥) [
         | inl e ↦ (let is = refused_between rule 0 low end end operands p (f ∙ e) in omega (arith, is.1))
@@ -384,8 +384,8 @@ pub both_none : (o unread : Option ℕ) → option_or o unread ≡ None → (o �
 both_none None unread h = (refl, h)
 both_none (Some at) unread h = absurd (none-some at (sym h))
 
-pub completed_from : (words : List (List ℕ)) (start : Start) → is_stuck words start ≡ false → line_start words ≡ Ok start → command_of_reading (length words + 1) start.applet (reading_after_applet start words) ≡ Err (length words + 1) → CanBeCompleted words
-unfolding line_command
+pub completed_from : (words : List (List ℕ)) (start : Start) → is_stuck words start ≡ false → start_of_command_line words ≡ Ok start → command_of_reading (length words + 1) start.applet (reading_after_applet start words) ≡ Err (length words + 1) → CanBeCompleted words
+unfolding spelled_command
 completed_from words start k s h = by_going (from_going start words low)
   where
     end : ℕ
@@ -398,7 +398,7 @@ completed_from words start k s h = by_going (from_going start words low)
     reading = reading_after_applet start words
 
     ended : Bool
-    ended = start.ended || have_ended (options_of start.applet) None (drop start.read words)
+    ended = start.ended || have_options_ended (options_of start.applet) None (drop start.read words)
 
     known : IsPlain start (1 + length words)
     known = start_known words start s
@@ -406,7 +406,7 @@ completed_from words start k s h = by_going (from_going start words low)
     low : start.read ≤ length words
     low = omega (arith, known.read)
 
-    own : may_have start.applet reading.state.flags ≡ true
+    own : may_have_flags start.applet reading.state.flags ≡ true
     own = (from_kept start (1 + length words) words known).0
 
     at_end : IsJudgedAt end (option_or (refused_operand (operand_rule start.applet reading.state.flags) reading.operands) reading.unread) end
@@ -415,22 +415,22 @@ completed_from words start k s h = by_going (from_going start words low)
     taken : refused_operand (operand_rule start.applet reading.state.flags) reading.operands ≡ None
     taken = none_refused (operand_rule start.applet reading.state.flags) (start.read + 1) end reading.operands reading.unread (from_placed start words low).operands at_end
 
-    free : ((ended && lacks_option start.applet reading.state) ≡ false) × (awaits_none reading.state.awaiting reading.state.values ≡ false)
-    free = or_parts (ended && lacks_option start.applet reading.state) (awaits_none reading.state.awaiting reading.state.values) k
+    free : ((ended && is_required_option_missing start.applet reading.state) ≡ false) × (awaits_impossible_value reading.state.awaiting reading.state.values ≡ false)
+    free = or_parts (ended && is_required_option_missing start.applet reading.state) (awaits_impossible_value reading.state.awaiting reading.state.values) k
 
     complete : (more : List (List ℕ)) → IsJudgedGood start.applet (reading_after_applet start (words ++ more)) → CanBeCompleted words
     complete more good = (
       more,
       command_read (length (words ++ more) + 1) start.applet (reading_after_applet start (words ++ more)),
-      ap (command_from (words ++ more)) (start_stays words more start s) ∙ good (length (words ++ more) + 1),
+      ap (spelled_command_from_start (words ++ more)) (start_stays words more start s) ∙ good (length (words ++ more) + 1),
     )
 
     by_awaiting : (awaiting : Option ValueRule) → reading.state.awaiting ≡ awaiting → ((more : List (List ℕ)) → reading_after_applet start (words ++ more) ≡ behind reading.operands (option_reading options reading.state end more)) → CanBeCompleted words
     by_awaiting None a on =
         let can = can_go_on start.applet reading.state.flags reading.state.values reading.operands end own taken in
-        complete can.0 (subst (λ r. IsJudgedGood start.applet r) (sym (on can.0 ∙ ap (λ o. behind reading.operands (option_reading options (state_by reading.state.flags reading.state.values o) end can.0)) a)) can.1)
+        complete can.0 (subst (λ r. IsJudgedGood start.applet r) (sym (on can.0 ∙ ap (λ o. behind reading.operands (option_reading options (option_state_from_parts reading.state.flags reading.state.values o) end can.0)) a)) can.1)
     by_awaiting (Some rule) a on =
-        let text = fitting rule.letter rule.single rule.kind reading.state.values (ap (λ o. awaits_none o reading.state.values) (sym a) ∙ free.1) in
+        let text = fitting rule.letter rule.single rule.kind reading.state.values (ap (λ o. awaits_impossible_value o reading.state.values) (sym a) ∙ free.1) in
         let can = can_go_on start.applet reading.state.flags (reading.state.values ++ (option_value end rule.letter text.0 ∷ [])) reading.operands (end + 1) own taken in
         complete (text.0 ∷ can.0) (subst (λ r. IsJudgedGood start.applet r) (sym (on (text.0 ∷ can.0) ∙ ap (behind reading.operands) (value_read options reading.state end text.0 rule can.0 a text.1))) can.1)
 
@@ -438,5 +438,5 @@ completed_from words start k s h = by_going (from_going start words low)
     by_going (inl stopped) = absurd (not_stopped (operand_rule start.applet reading.state.flags) end stopped.0 reading.operands reading.unread taken stopped.1 stopped.2 at_end)
     by_going (inr (inl on)) = by_awaiting reading.state.awaiting refl on.goes_on
     by_going (inr (inr off)) =
-        let can = can_have_texts start.applet reading.state reading.operands end (ap (λ b. b && lacks_option start.applet reading.state) (sym off.over) ∙ free.0) taken in
+        let can = can_have_texts start.applet reading.state reading.operands end (ap (λ b. b && is_required_option_missing start.applet reading.state) (sym off.over) ∙ free.0) taken in
         complete can.0 (subst (λ r. IsJudgedGood start.applet r) (sym (off.goes_on can.0)) can.2)

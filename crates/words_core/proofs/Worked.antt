@@ -16,9 +16,9 @@ use Rattle.command_core.specs.Values.{is_value, option_value}
 use Rattle.words_core.specs.declared.options.Meaning.TheVariants.{Flag as Plain, Kind, Value}
 use Rattle.words_core.specs.declared.reading.OptionState.{OptionState}
 use Rattle.words_core.specs.declared.reading.Reading.{Reading}
-use Rattle.words_core.specs.Grammar.{command_of, first_state, attached_value, line_command, option_name, option_reading, reading_after_applet, reading_by, site_at, site_after_end, state_by, command_of_reading}
-use Rattle.words_core.specs.Kinds.{can_get_kind}
-use Rattle.words_core.specs.Options.{OptionSpec, common_options, early_words, options_of}
+use Rattle.words_core.specs.Grammar.{command_of, option_state_at_start, attached_value, spelled_command, option_name, option_reading, reading_after_applet, words_reading_from_parts, applet_site_at, site_after_end, option_state_from_parts, command_of_reading}
+use Rattle.words_core.specs.Kinds.{can_info_kind_follow}
+use Rattle.words_core.specs.Options.{OptionSpec, common_options, early_option_words, options_of}
 use Rattle.words_core.specs.Stuck.{are_stuck}
 
 -- `-o` stands once and has any value, `-f` stands once and has a file, `-I` has texts and `-s` has scripts; `-t` and `-n`
@@ -40,19 +40,19 @@ table =
 
 -- words behind an applet that is the first word
 abbrev read : List (List ℕ) → Reading
-read words = option_reading table (first_state no_flags) 2 words
+read words = option_reading table (option_state_at_start no_flags) 2 words
 
 -- values that were given, and no flags
 abbrev giving : List OptionValue → OptionState
-giving values = state_by no_flags values None
+giving values = option_state_from_parts no_flags values None
 
 -- all words were read, and they gave values
 abbrev whole : List OptionValue → Reading
-whole values = reading_by (giving values) [] None
+whole values = words_reading_from_parts (giving values) [] None
 
 -- the values were read, but not the word at a place
 abbrev up_to : List OptionValue → ℕ → Reading
-up_to values place = reading_by (giving values) [] (Some place)
+up_to values place = words_reading_from_parts (giving values) [] (Some place)
 
 -- ---- where the value of an option is, and whose place it has
 
@@ -99,17 +99,17 @@ unfolding option_name attached_value
 empty_is_value = refl
 
 -- and behind a value that its word holds comes the next word: an operand, or the end of the options
-operands_after : read (codes "-oa" ∷ (codes "b" ∷ (codes "--" ∷ (codes "-o" ∷ [])))) ≡ reading_by (giving (option_value 2 OUTPUT (codes "a") ∷ [])) (operand_at 3 (codes "b") ∷ (operand_at 5 (codes "-o") ∷ [])) None
+operands_after : read (codes "-oa" ∷ (codes "b" ∷ (codes "--" ∷ (codes "-o" ∷ [])))) ≡ words_reading_from_parts (giving (option_value 2 OUTPUT (codes "a") ∷ [])) (operand_at 3 (codes "b") ∷ (operand_at 5 (codes "-o") ∷ [])) None
 unfolding option_name attached_value
 operands_after = refl
 
 -- ---- a value that is missing is so behind the last word
 
-missing : read (codes "-o" ∷ []) ≡ reading_by (state_by no_flags [] (Some output)) [] (Some 3)
+missing : read (codes "-o" ∷ []) ≡ words_reading_from_parts (option_state_from_parts no_flags [] (Some output)) [] (Some 3)
 unfolding option_name attached_value
 missing = refl
 
-missing_after_others : read (codes "b" ∷ (codes "-oa" ∷ (codes "--info" ∷ []))) ≡ reading_by (state_by no_flags (option_value 3 OUTPUT (codes "a") ∷ []) (Some info)) (operand_at 2 (codes "b") ∷ []) (Some 5)
+missing_after_others : read (codes "b" ∷ (codes "-oa" ∷ (codes "--info" ∷ []))) ≡ words_reading_from_parts (option_state_from_parts no_flags (option_value 3 OUTPUT (codes "a") ∷ []) (Some info)) (operand_at 2 (codes "b") ∷ []) (Some 5)
 unfolding option_name attached_value
 missing_after_others = refl
 
@@ -141,7 +141,7 @@ scripts : read (codes "-s" ∷ (codes "trigger:a" ∷ (codes "--script=pre-insta
 unfolding option_name attached_value is_name is_utf8 chars encode
 scripts = refl
 
-type_twice : read (codes "-s" ∷ (codes "trigger:a" ∷ (codes "-s" ∷ (codes "trigger:b" ∷ [])))) ≡ reading_by (state_by no_flags (option_value 3 115 (codes "trigger:a") ∷ []) (Some (record { letter = 115; single = false; kind = Script }))) [] (Some 5)
+type_twice : read (codes "-s" ∷ (codes "trigger:a" ∷ (codes "-s" ∷ (codes "trigger:b" ∷ [])))) ≡ words_reading_from_parts (option_state_from_parts no_flags (option_value 3 115 (codes "trigger:a") ∷ []) (Some (record { letter = 115; single = false; kind = Script }))) [] (Some 5)
 unfolding option_name attached_value is_name is_utf8 chars encode
 type_twice = refl
 
@@ -159,7 +159,7 @@ no_colon = refl
 
 -- ---- a value that its option does not have is at its own word
 
-bad_after : read (codes "-f" ∷ (codes "/a" ∷ [])) ≡ reading_by (state_by no_flags [] (Some (record { letter = 102; single = true; kind = File }))) [] (Some 3)
+bad_after : read (codes "-f" ∷ (codes "/a" ∷ [])) ≡ words_reading_from_parts (option_state_from_parts no_flags [] (Some (record { letter = 102; single = true; kind = File }))) [] (Some 3)
 unfolding option_name attached_value is_name is_utf8 chars encode
 bad_after = refl
 
@@ -167,7 +167,7 @@ bad_in_short : read (codes "-f/a" ∷ []) ≡ up_to [] 2
 unfolding option_name attached_value is_name is_utf8 chars encode
 bad_in_short = refl
 
-empty_after : read (codes "-I" ∷ ([] ∷ [])) ≡ reading_by (state_by no_flags [] (Some info)) [] (Some 3)
+empty_after : read (codes "-I" ∷ ([] ∷ [])) ≡ words_reading_from_parts (option_state_from_parts no_flags [] (Some info)) [] (Some 3)
 unfolding option_name attached_value
 empty_after = refl
 
@@ -189,7 +189,7 @@ flag_with_more : read (codes "-nt" ∷ []) ≡ up_to [] 2
 unfolding option_name attached_value
 flag_with_more = refl
 
-flag_alone : read (codes "-t" ∷ (codes "a" ∷ [])) ≡ reading_by (state_by (with_flag Test no_flags) [] None) (operand_at 3 (codes "a") ∷ []) None
+flag_alone : read (codes "-t" ∷ (codes "a" ∷ [])) ≡ words_reading_from_parts (option_state_from_parts (with_flag Test no_flags) [] None) (operand_at 3 (codes "a") ∷ []) None
 unfolding option_name attached_value
 flag_alone = refl
 
@@ -221,108 +221,108 @@ file_of_1017 = refl
 
 -- the options have ended, and the kind is lacking
 no_kind_follows : are_stuck (codes "version" ∷ (codes "a" ∷ (codes "--" ∷ []))) ≡ true
-unfolding are_stuck command_of line_command command_of_reading reading_after_applet site_at site_after_end early_words common_options options_of option_name attached_value is_name is_utf8 chars encode
+unfolding are_stuck command_of spelled_command command_of_reading reading_after_applet applet_site_at site_after_end early_option_words common_options options_of option_name attached_value is_name is_utf8 chars encode
 no_kind_follows = refl
 
 no_kind_follows_early : are_stuck (codes "--" ∷ (codes "version" ∷ [])) ≡ true
-unfolding are_stuck command_of line_command command_of_reading reading_after_applet site_at site_after_end early_words common_options options_of option_name attached_value is_name is_utf8 chars encode
+unfolding are_stuck command_of spelled_command command_of_reading reading_after_applet applet_site_at site_after_end early_option_words common_options options_of option_name attached_value is_name is_utf8 chars encode
 no_kind_follows_early = refl
 
 kind_is_given : are_stuck (codes "version" ∷ (codes "-t" ∷ (codes "--" ∷ (codes "a" ∷ [])))) ≡ false
-unfolding are_stuck command_of line_command command_of_reading reading_after_applet site_at site_after_end early_words common_options options_of option_name attached_value is_name is_utf8 chars encode
+unfolding are_stuck command_of spelled_command command_of_reading reading_after_applet applet_site_at site_after_end early_option_words common_options options_of option_name attached_value is_name is_utf8 chars encode
 kind_is_given = refl
 
 kind_follows : are_stuck (codes "version" ∷ (codes "a" ∷ [])) ≡ false
-unfolding are_stuck command_of line_command command_of_reading reading_after_applet site_at site_after_end early_words common_options options_of option_name attached_value is_name is_utf8 chars encode
+unfolding are_stuck command_of spelled_command command_of_reading reading_after_applet applet_site_at site_after_end early_option_words common_options options_of option_name attached_value is_name is_utf8 chars encode
 kind_follows = refl
 
 no_output_follows : are_stuck (codes "mkndx" ∷ (codes "--" ∷ (codes "a" ∷ []))) ≡ true
-unfolding are_stuck command_of line_command command_of_reading reading_after_applet site_at site_after_end early_words common_options options_of option_name attached_value is_name is_utf8 chars encode
+unfolding are_stuck command_of spelled_command command_of_reading reading_after_applet applet_site_at site_after_end early_option_words common_options options_of option_name attached_value is_name is_utf8 chars encode
 no_output_follows = refl
 
 output_is_given : are_stuck (codes "mkndx" ∷ (codes "-oi" ∷ (codes "--" ∷ []))) ≡ false
-unfolding are_stuck command_of line_command command_of_reading reading_after_applet site_at site_after_end early_words common_options options_of option_name attached_value is_name is_utf8 chars encode
+unfolding are_stuck command_of spelled_command command_of_reading reading_after_applet applet_site_at site_after_end early_option_words common_options options_of option_name attached_value is_name is_utf8 chars encode
 output_is_given = refl
 
 -- `--` as a value ends nothing
 end_as_value : are_stuck (codes "mkndx" ∷ (codes "-d" ∷ (codes "--" ∷ []))) ≡ false
-unfolding are_stuck command_of line_command command_of_reading reading_after_applet site_at site_after_end early_words common_options options_of option_name attached_value is_name is_utf8 chars encode
+unfolding are_stuck command_of spelled_command command_of_reading reading_after_applet applet_site_at site_after_end early_option_words common_options options_of option_name attached_value is_name is_utf8 chars encode
 end_as_value = refl
 
 end_after_value : are_stuck (codes "mkndx" ∷ (codes "-d" ∷ (codes "--" ∷ (codes "--" ∷ [])))) ≡ true
-unfolding are_stuck command_of line_command command_of_reading reading_after_applet site_at site_after_end early_words common_options options_of option_name attached_value is_name is_utf8 chars encode
+unfolding are_stuck command_of spelled_command command_of_reading reading_after_applet applet_site_at site_after_end early_option_words common_options options_of option_name attached_value is_name is_utf8 chars encode
 end_after_value = refl
 
 nothing_is_lacking : are_stuck (codes "--" ∷ (codes "mkpkg" ∷ [])) ≡ false
-unfolding are_stuck command_of line_command command_of_reading reading_after_applet site_at site_after_end early_words common_options options_of option_name attached_value is_name is_utf8 chars encode
+unfolding are_stuck command_of spelled_command command_of_reading reading_after_applet applet_site_at site_after_end early_option_words common_options options_of option_name attached_value is_name is_utf8 chars encode
 nothing_is_lacking = refl
 
 -- a script is awaited, and there is one of each type
 no_script_follows : are_stuck (codes "mkpkg" ∷ (codes "-strigger:a" ∷ (codes "-spre-install:a" ∷ (codes "-spost-install:a" ∷ (codes "-spre-deinstall:a" ∷ (codes "-spost-deinstall:a" ∷ (codes "-spre-upgrade:a" ∷ (codes "-spost-upgrade:a" ∷ (codes "-s" ∷ []))))))))) ≡ true
-unfolding are_stuck command_of line_command command_of_reading reading_after_applet site_at site_after_end early_words common_options options_of option_name attached_value is_name is_utf8 chars encode
+unfolding are_stuck command_of spelled_command command_of_reading reading_after_applet applet_site_at site_after_end early_option_words common_options options_of option_name attached_value is_name is_utf8 chars encode
 no_script_follows = refl
 
 script_follows : are_stuck (codes "mkpkg" ∷ (codes "-spre-install:a" ∷ (codes "-spost-install:a" ∷ (codes "-spre-deinstall:a" ∷ (codes "-spost-deinstall:a" ∷ (codes "-spre-upgrade:a" ∷ (codes "-spost-upgrade:a" ∷ (codes "-s" ∷ [])))))))) ≡ false
-unfolding are_stuck command_of line_command command_of_reading reading_after_applet site_at site_after_end early_words common_options options_of option_name attached_value is_name is_utf8 chars encode
+unfolding are_stuck command_of spelled_command command_of_reading reading_after_applet applet_site_at site_after_end early_option_words common_options options_of option_name attached_value is_name is_utf8 chars encode
 script_follows = refl
 
 scripts_are_given : are_stuck (codes "mkpkg" ∷ (codes "-strigger:a" ∷ (codes "-spre-install:a" ∷ (codes "-spost-install:a" ∷ (codes "-spre-deinstall:a" ∷ (codes "-spost-deinstall:a" ∷ (codes "-spre-upgrade:a" ∷ (codes "-spost-upgrade:a" ∷ [])))))))) ≡ false
-unfolding are_stuck command_of line_command command_of_reading reading_after_applet site_at site_after_end early_words common_options options_of option_name attached_value is_name is_utf8 chars encode
+unfolding are_stuck command_of spelled_command command_of_reading reading_after_applet applet_site_at site_after_end early_option_words common_options options_of option_name attached_value is_name is_utf8 chars encode
 scripts_are_given = refl
 
 -- options before the applet that no applet has: only `--help` and `--version` can follow
 no_applet_has_them : are_stuck (codes "--initdb" ∷ (codes "--purge" ∷ (codes "--" ∷ []))) ≡ true
-unfolding are_stuck command_of line_command command_of_reading reading_after_applet site_at site_after_end early_words common_options options_of option_name attached_value is_name is_utf8 chars encode
+unfolding are_stuck command_of spelled_command command_of_reading reading_after_applet applet_site_at site_after_end early_option_words common_options options_of option_name attached_value is_name is_utf8 chars encode
 no_applet_has_them = refl
 
 help_follows : are_stuck (codes "--initdb" ∷ (codes "--purge" ∷ [])) ≡ false
-unfolding are_stuck command_of line_command command_of_reading reading_after_applet site_at site_after_end early_words common_options options_of option_name attached_value is_name is_utf8 chars encode
+unfolding are_stuck command_of spelled_command command_of_reading reading_after_applet applet_site_at site_after_end early_option_words common_options options_of option_name attached_value is_name is_utf8 chars encode
 help_follows = refl
 
 -- a word asks, and what follows it says nothing
 help_is_asked : are_stuck (codes "version" ∷ (codes "--help" ∷ (codes "--" ∷ []))) ≡ false
-unfolding are_stuck command_of line_command command_of_reading reading_after_applet site_at site_after_end early_words common_options options_of option_name attached_value is_name is_utf8 chars encode
+unfolding are_stuck command_of spelled_command command_of_reading reading_after_applet applet_site_at site_after_end early_option_words common_options options_of option_name attached_value is_name is_utf8 chars encode
 help_is_asked = refl
 
 each_has_them : are_stuck (codes "--no-scripts" ∷ (codes "--allow-untrusted" ∷ [])) ≡ false
-unfolding are_stuck command_of line_command command_of_reading reading_after_applet site_at site_after_end early_words common_options options_of option_name attached_value is_name is_utf8 chars encode
+unfolding are_stuck command_of spelled_command command_of_reading reading_after_applet applet_site_at site_after_end early_option_words common_options options_of option_name attached_value is_name is_utf8 chars encode
 each_has_them = refl
 
 -- an applet can follow
 no_applet : are_stuck (codes "--" ∷ []) ≡ false
-unfolding are_stuck command_of line_command command_of_reading reading_after_applet site_at site_after_end early_words common_options options_of option_name attached_value is_name is_utf8 chars encode
+unfolding are_stuck command_of spelled_command command_of_reading reading_after_applet applet_site_at site_after_end early_option_words common_options options_of option_name attached_value is_name is_utf8 chars encode
 no_applet = refl
 
 -- ---- words of `info` that can still get a kind
 
-kind_may_follow : can_get_kind (codes "info" ∷ (codes "usr/x" ∷ [])) ≡ true
-unfolding can_get_kind reading_after_applet site_at site_after_end early_words common_options options_of option_name attached_value is_name is_utf8 chars encode
+kind_may_follow : can_info_kind_follow (codes "info" ∷ (codes "usr/x" ∷ [])) ≡ true
+unfolding can_info_kind_follow reading_after_applet applet_site_at site_after_end early_option_words common_options options_of option_name attached_value is_name is_utf8 chars encode
 kind_may_follow = refl
 
-kind_may_follow_none : can_get_kind (codes "info" ∷ []) ≡ true
-unfolding can_get_kind reading_after_applet site_at site_after_end early_words common_options options_of option_name attached_value is_name is_utf8 chars encode
+kind_may_follow_none : can_info_kind_follow (codes "info" ∷ []) ≡ true
+unfolding can_info_kind_follow reading_after_applet applet_site_at site_after_end early_option_words common_options options_of option_name attached_value is_name is_utf8 chars encode
 kind_may_follow_none = refl
 
-kind_may_follow_packages : can_get_kind (codes "--no-scripts" ∷ (codes "info" ∷ (codes "a" ∷ (codes "b" ∷ [])))) ≡ true
-unfolding can_get_kind reading_after_applet site_at site_after_end early_words common_options options_of option_name attached_value is_name is_utf8 chars encode
+kind_may_follow_packages : can_info_kind_follow (codes "--no-scripts" ∷ (codes "info" ∷ (codes "a" ∷ (codes "b" ∷ [])))) ≡ true
+unfolding can_info_kind_follow reading_after_applet applet_site_at site_after_end early_option_words common_options options_of option_name attached_value is_name is_utf8 chars encode
 kind_may_follow_packages = refl
 
-no_kind_after_end : can_get_kind (codes "info" ∷ (codes "--" ∷ (codes "usr/x" ∷ []))) ≡ false
-unfolding can_get_kind reading_after_applet site_at site_after_end early_words common_options options_of option_name attached_value is_name is_utf8 chars encode
+no_kind_after_end : can_info_kind_follow (codes "info" ∷ (codes "--" ∷ (codes "usr/x" ∷ []))) ≡ false
+unfolding can_info_kind_follow reading_after_applet applet_site_at site_after_end early_option_words common_options options_of option_name attached_value is_name is_utf8 chars encode
 no_kind_after_end = refl
 
-no_kind_after_early_end : can_get_kind (codes "--" ∷ (codes "info" ∷ (codes "usr/x" ∷ []))) ≡ false
-unfolding can_get_kind reading_after_applet site_at site_after_end early_words common_options options_of option_name attached_value is_name is_utf8 chars encode
+no_kind_after_early_end : can_info_kind_follow (codes "--" ∷ (codes "info" ∷ (codes "usr/x" ∷ []))) ≡ false
+unfolding can_info_kind_follow reading_after_applet applet_site_at site_after_end early_option_words common_options options_of option_name attached_value is_name is_utf8 chars encode
 no_kind_after_early_end = refl
 
-no_second_kind : can_get_kind (codes "info" ∷ (codes "a" ∷ (codes "-e" ∷ []))) ≡ false
-unfolding can_get_kind reading_after_applet site_at site_after_end early_words common_options options_of option_name attached_value is_name is_utf8 chars encode
+no_second_kind : can_info_kind_follow (codes "info" ∷ (codes "a" ∷ (codes "-e" ∷ []))) ≡ false
+unfolding can_info_kind_follow reading_after_applet applet_site_at site_after_end early_option_words common_options options_of option_name attached_value is_name is_utf8 chars encode
 no_second_kind = refl
 
-no_kind_after_bad_word : can_get_kind (codes "info" ∷ (codes "usr/x" ∷ (codes "--bad" ∷ []))) ≡ false
-unfolding can_get_kind reading_after_applet site_at site_after_end early_words common_options options_of option_name attached_value is_name is_utf8 chars encode
+no_kind_after_bad_word : can_info_kind_follow (codes "info" ∷ (codes "usr/x" ∷ (codes "--bad" ∷ []))) ≡ false
+unfolding can_info_kind_follow reading_after_applet applet_site_at site_after_end early_option_words common_options options_of option_name attached_value is_name is_utf8 chars encode
 no_kind_after_bad_word = refl
 
-kind_of_version : can_get_kind (codes "version" ∷ (codes "a" ∷ [])) ≡ false
-unfolding can_get_kind reading_after_applet site_at site_after_end early_words common_options options_of option_name attached_value is_name is_utf8 chars encode
+kind_of_version : can_info_kind_follow (codes "version" ∷ (codes "a" ∷ [])) ≡ false
+unfolding can_info_kind_follow reading_after_applet applet_site_at site_after_end early_option_words common_options options_of option_name attached_value is_name is_utf8 chars encode
 kind_of_version = refl

@@ -3,8 +3,8 @@
 -- with *command_of*.
 use Rattle.std.specs.Prelude.{◌≡◌, ℕ, ◌<◌, List, ◌∷◌, ◌++◌, length, Err, Some, IsTrue}
 use Rattle.command_core.specs.Command.{CommandLine}
-use Rattle.words_core.specs.Grammar.{asked_command, line_command, next_after, takes_option}
-use Rattle.words_core.specs.Options.{asked_by}
+use Rattle.words_core.specs.Grammar.{help_or_version_command, spelled_command, next_after, can_be_option}
+use Rattle.words_core.specs.Options.{applet_of_help_or_version_option}
 
 -- a word asks for a command: an option can be there, and no word before it is wrong. What follows the
 -- word does not matter
@@ -13,7 +13,7 @@ pub record IsAskedBy (words : List (List ℕ)) (command : CommandLine) : Type 0 
   pub word : List ℕ
   pub after : List (List ℕ)
   pub whole : words ≡ before ++ (word ∷ after)
-  pub asks : asked_by word ≡ Some command.applet
-  pub option : IsTrue (takes_option (next_after before))
-  pub fine : (place : ℕ) → line_command before ≡ Err place → length before < place
-  pub is : command ≡ asked_command words command.applet
+  pub asks : applet_of_help_or_version_option word ≡ Some command.applet
+  pub option : IsTrue (can_be_option (next_after before))
+  pub fine : (place : ℕ) → spelled_command before ≡ Err place → length before < place
+  pub is : command ≡ help_or_version_command words command.applet

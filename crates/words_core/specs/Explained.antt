@@ -25,8 +25,8 @@ are_help_of (line ∷ lines) (option ∷ options) = is_help_of line option && ar
 are_help_of lines options = false
 
 -- the options that ask, as lines of help spell them; what they say is not looked at
-abbrev pub asking_options : List OptionSpec
-asking_options =
+abbrev pub help_and_version_options : List OptionSpec
+help_and_version_options =
     flag_spec (codes "--help") (codes "-h") AllowUntrusted
     ∷ (flag_spec (codes "--version") (codes "-V") AllowUntrusted ∷ [])
 

@@ -11,11 +11,11 @@ use Rattle.command_core.specs.declared.operands.Operand.{Operand}
 use Rattle.command_core.specs.declared.operands.OperandRule.{OperandRule}
 use Rattle.command_core.specs.declared.values.OptionValue.{OptionValue}
 use Rattle.command_core.specs.declared.values.ValueRule.{ValueRule}
-use Rattle.command_core.specs.Applets.{needed_option, operand_rule}
-use Rattle.command_core.specs.Command.{CommandLine, command_by}
-use Rattle.command_core.specs.Flags.{has_flag, has_kind, no_flags, with_flag}
-use Rattle.command_core.specs.Operands.{first_refused, operand_at}
-use Rattle.command_core.specs.Values.{is_excluded, is_spent, is_value, lacks_value, option_value}
+use Rattle.command_core.specs.Applets.{required_option_letter, operand_rule}
+use Rattle.command_core.specs.Command.{CommandLine, command_from_parts}
+use Rattle.command_core.specs.Flags.{has_flag, has_command_kind_flag, no_flags, with_flag}
+use Rattle.command_core.specs.Operands.{first_refused_operand, operand_at}
+use Rattle.command_core.specs.Values.{is_excluded_by_earlier_value, is_single_and_given, is_value, is_required_value_missing, option_value}
 use Rattle.words_core.specs.declared.options.Meaning.{Meaning}
 use Rattle.words_core.specs.declared.options.Meaning.TheVariants.{Flag as Plain, Kind, Value}
 use Rattle.words_core.specs.declared.next.NextWord.{NextWord}
@@ -25,7 +25,7 @@ use Rattle.words_core.specs.declared.reading.OptionState.{OptionState}
 use Rattle.words_core.specs.declared.reading.Reading.{Reading}
 use Rattle.words_core.specs.declared.reading.Start.{Start}
 use Rattle.words_core.specs.declared.word.TheConstants.{EQUALS_SIGN}
-use Rattle.words_core.specs.Options.{OptionSpec, applet_of, applet_word, asked_by, is_early, option_spelled, options_of}
+use Rattle.words_core.specs.Options.{OptionSpec, applet_of, applet_word, applet_of_help_or_version_option, is_early_option_word, option_of_word, options_of}
 
 -- ---- a word
 
@@ -56,40 +56,40 @@ attached_value word =
 -- ---- flags
 
 -- flags with the meaning of an option; None if it is no flag, or a second kind
-abbrev pub with_meaning : Flags → Meaning → Option Flags
-with_meaning flags (Plain flag) = Some (with_flag flag flags)
-with_meaning flags (Kind flag) =
-    if has_kind flags && not (has_flag flag flags) then None else Some (with_flag flag flags)
-with_meaning flags (Value rule) = None
+abbrev pub flags_with_meaning : Flags → Meaning → Option Flags
+flags_with_meaning flags (Plain flag) = Some (with_flag flag flags)
+flags_with_meaning flags (Kind flag) =
+    if has_command_kind_flag flags && not (has_flag flag flags) then None else Some (with_flag flag flags)
+flags_with_meaning flags (Value rule) = None
 
 -- flags with an option; None if it is no flag, or a second kind
-abbrev pub with_spec : Flags → OptionSpec → Option Flags
-with_spec flags option = with_meaning flags option.meaning
+abbrev pub flags_with_option : Flags → OptionSpec → Option Flags
+flags_with_option flags option = flags_with_meaning flags option.meaning
 
 -- flags with the option that a word is; None if it is none, has a value, or is a second kind
-abbrev pub with_option : List OptionSpec → Flags → List ℕ → Option Flags
-with_option options flags word = option_and_then (with_spec flags) (option_spelled options word)
+abbrev pub flags_with_option_word : List OptionSpec → Flags → List ℕ → Option Flags
+flags_with_option_word options flags word = option_and_then (flags_with_option flags) (option_of_word options word)
 
 -- ---- up to the applet
 
 -- the next result from what was read, or a refusal at this place if nothing was read
-abbrev pub or_at : {A B : Type 0} → ℕ → (A → Result B ℕ) → Option A → Result B ℕ
-or_at place next None = Err place
-or_at place next (Some x) = next x
+abbrev pub or_err_at : {A B : Type 0} → ℕ → (A → Result B ℕ) → Option A → Result B ℕ
+or_err_at place next None = Err place
+or_err_at place next (Some x) = next x
 
 -- the site of an applet: the applet, whether the options have ended before it, and how many words are
 -- read, including its own
-abbrev pub site_by : Bool → ℕ → Applet → AppletSite
-site_by ended place applet = record { applet = applet; ended = ended; read = place }
+abbrev pub applet_site_from_parts : Bool → ℕ → Applet → AppletSite
+applet_site_from_parts ended place applet = record { applet = applet; ended = ended; read = place }
 
 -- the site of the applet that the word at a place names, or this place if it names none
-unfoldable pub site_at : Bool → ℕ → List ℕ → Result AppletSite ℕ
-site_at ended place word = or_at place (λ applet. Ok (site_by ended place applet)) (applet_of word)
+unfoldable pub applet_site_at : Bool → ℕ → List ℕ → Result AppletSite ℕ
+applet_site_at ended place word = or_err_at place (λ applet. Ok (applet_site_from_parts ended place applet)) (applet_of word)
 
 -- the site of the applet after `--`, which the next word names; this is the place of the next word
 unfoldable pub site_after_end : ℕ → List (List ℕ) → Result AppletSite ℕ
 site_after_end place [] = Err place
-site_after_end place (word ∷ words) = site_at true place word
+site_after_end place (word ∷ words) = applet_site_at true place word
 
 -- the site of the applet in the words from a place on, or the first wrong place: only some options and
 -- `--` may precede the applet
@@ -97,8 +97,8 @@ abbrev pub applet_site : ℕ → List (List ℕ) → Result AppletSite ℕ
 applet_site place [] = Err place
 applet_site place (word ∷ words) =
     if is_double_dash word then site_after_end (place + 1) words else
-    if is_option word then (if is_early word then applet_site (place + 1) words else Err place) else
-    site_at false place word
+    if is_option word then (if is_early_option_word word then applet_site (place + 1) words else Err place) else
+    applet_site_at false place word
 
 -- the flags of the words before the applet, from a place on, or the first wrong place: each word is an
 -- option of the applet, up to `--`
@@ -106,77 +106,77 @@ abbrev pub early_flags : List OptionSpec → Flags → ℕ → List (List ℕ) �
 early_flags options flags place [] = Ok flags
 early_flags options flags place (word ∷ words) =
     if is_double_dash word then Ok flags else
-    or_at place (λ more. early_flags options more (place + 1) words)
-    (with_option options flags word)
+    or_err_at place (λ more. early_flags options more (place + 1) words)
+    (flags_with_option_word options flags word)
 
 -- the start of a command line: its applet, the applet's place, and the flags before it
-abbrev pub start_by : AppletSite → Flags → Start
-start_by site flags =
+abbrev pub start_from_parts : AppletSite → Flags → Start
+start_from_parts site flags =
     record { applet = site.applet; flags = flags; ended = site.ended; read = site.read }
 
 -- the start with the flags before the applet, or the place that offends there
-abbrev pub start_with : AppletSite → Result Flags ℕ → Result Start ℕ
-start_with site (Err place) = Err place
-start_with site (Ok flags) = Ok (start_by site flags)
+abbrev pub start_with_early_flags : AppletSite → Result Flags ℕ → Result Start ℕ
+start_with_early_flags site (Err place) = Err place
+start_with_early_flags site (Ok flags) = Ok (start_from_parts site flags)
 
 -- the start once an applet was found, or the wrong place before it
-abbrev pub start_from : List (List ℕ) → Result AppletSite ℕ → Result Start ℕ
-start_from words (Err place) = Err place
-start_from words (Ok site) =
-    start_with site (early_flags (options_of site.applet) no_flags 1 (take (site.read - 1) words))
+abbrev pub start_after_site : List (List ℕ) → Result AppletSite ℕ → Result Start ℕ
+start_after_site words (Err place) = Err place
+start_after_site words (Ok site) =
+    start_with_early_flags site (early_flags (options_of site.applet) no_flags 1 (take (site.read - 1) words))
 
 -- the start of a command line, or the first place that offends before the applet or is it
-abbrev pub line_start : List (List ℕ) → Result Start ℕ
-line_start words = start_from words (applet_site 1 words)
+abbrev pub start_of_command_line : List (List ℕ) → Result Start ℕ
+start_of_command_line words = start_after_site words (applet_site 1 words)
 
 -- ---- options and their values
 
 -- the effect of options: flags, values, and the option whose value is the next word, if there is one
-abbrev pub state_by : Flags → List OptionValue → Option ValueRule → OptionState
-state_by flags values awaiting = record { flags = flags; values = values; awaiting = awaiting }
+abbrev pub option_state_from_parts : Flags → List OptionValue → Option ValueRule → OptionState
+option_state_from_parts flags values awaiting = record { flags = flags; values = values; awaiting = awaiting }
 
 -- the state after the applet: the flags before it, no values, and none awaited
-abbrev pub first_state : Flags → OptionState
-first_state flags = state_by flags [] None
+abbrev pub option_state_at_start : Flags → OptionState
+option_state_at_start flags = option_state_from_parts flags [] None
 
 -- a state with a value of an option; None if the option does not have that value
-abbrev pub with_value : OptionState → ℕ → List ℕ → ValueRule → Option OptionState
-with_value state place text rule =
-    if is_value rule.kind text && not (is_excluded rule text state.values) then
-    Some (state_by state.flags
+abbrev pub with_option_value : OptionState → ℕ → List ℕ → ValueRule → Option OptionState
+with_option_value state place text rule =
+    if is_value rule.kind text && not (is_excluded_by_earlier_value rule text state.values) then
+    Some (option_state_from_parts state.flags
     (state.values ++ (option_value place rule.letter text ∷ [])) None) else
     None
 
 -- a state with an option that has values and the value that its word holds, if it holds one
-abbrev pub with_attached : OptionState → ℕ → ValueRule → Option (List ℕ) → Option OptionState
-with_attached state place rule None = Some (state_by state.flags state.values (Some rule))
-with_attached state place rule (Some text) = with_value state place text rule
+abbrev pub with_value_or_awaited : OptionState → ℕ → ValueRule → Option (List ℕ) → Option OptionState
+with_value_or_awaited state place rule None = Some (option_state_from_parts state.flags state.values (Some rule))
+with_value_or_awaited state place rule (Some text) = with_option_value state place text rule
 
 -- a state with an option that has values; None if it can have no more
-abbrev pub with_rule : OptionState → ℕ → Option (List ℕ) → ValueRule → Option OptionState
-with_rule state place held rule =
-    if is_spent rule state.values then None else with_attached state place rule held
+abbrev pub with_value_option : OptionState → ℕ → Option (List ℕ) → ValueRule → Option OptionState
+with_value_option state place held rule =
+    if is_single_and_given rule state.values then None else with_value_or_awaited state place rule held
 
 -- a state with other flags
-abbrev pub with_flags : OptionState → Option Flags → Option OptionState
-with_flags state flags = option_map (λ more. state_by more state.values state.awaiting) flags
+abbrev pub with_flags_if_some : OptionState → Option Flags → Option OptionState
+with_flags_if_some state flags = option_map (λ more. option_state_from_parts more state.values state.awaiting) flags
 
 -- a state with the meaning of an option, whose word holds this value or none; None if it may not be
 -- given so: a flag has no value
-abbrev pub with_meaning_at : OptionState → ℕ → Option (List ℕ) → Meaning → Option OptionState
-with_meaning_at state place held (Value rule) = with_rule state place held rule
-with_meaning_at state place (Some text) (Plain flag) = None
-with_meaning_at state place (Some text) (Kind flag) = None
-with_meaning_at state place None (Plain flag) =
-    with_flags state (with_meaning state.flags (Plain flag))
-with_meaning_at state place None (Kind flag) =
-    with_flags state (with_meaning state.flags (Kind flag))
+abbrev pub state_with_meaning : OptionState → ℕ → Option (List ℕ) → Meaning → Option OptionState
+state_with_meaning state place held (Value rule) = with_value_option state place held rule
+state_with_meaning state place (Some text) (Plain flag) = None
+state_with_meaning state place (Some text) (Kind flag) = None
+state_with_meaning state place None (Plain flag) =
+    with_flags_if_some state (flags_with_meaning state.flags (Plain flag))
+state_with_meaning state place None (Kind flag) =
+    with_flags_if_some state (flags_with_meaning state.flags (Kind flag))
 
 -- a state with the option that the word at a place spells; None if it cannot be read
-abbrev pub with_spelled : List OptionSpec → OptionState → ℕ → List ℕ → Option OptionState
-with_spelled options state place word =
-    option_and_then (λ (o : OptionSpec). with_meaning_at state place (attached_value word) o.meaning)
-    (option_spelled options (option_name word))
+abbrev pub with_option_word : List OptionSpec → OptionState → ℕ → List ℕ → Option OptionState
+with_option_word options state place word =
+    option_and_then (λ (o : OptionSpec). state_with_meaning state place (attached_value word) o.meaning)
+    (option_of_word options (option_name word))
 
 -- whether a word is an awaited value, or an option
 abbrev pub is_option_or_value : OptionState → List ℕ → Bool
@@ -184,22 +184,22 @@ is_option_or_value state word = is_some state.awaiting || (is_option word && not
 
 -- a state with the word at a place, by the option whose value is awaited, if one is: the word is its
 -- value, and otherwise an option; None if it cannot be read
-abbrev pub with_word_by : List OptionSpec → OptionState → ℕ → List ℕ → Option ValueRule
+abbrev pub with_word_if_awaited : List OptionSpec → OptionState → ℕ → List ℕ → Option ValueRule
     → Option OptionState
-with_word_by options state place word None = with_spelled options state place word
-with_word_by options state place word (Some rule) = with_value state place word rule
+with_word_if_awaited options state place word None = with_option_word options state place word
+with_word_if_awaited options state place word (Some rule) = with_option_value state place word rule
 
 -- a state with the word at a place, which is the value that the state awaits, or an option; None if it
 -- cannot be read
-abbrev pub with_word : List OptionSpec → OptionState → ℕ → List ℕ → Option OptionState
-with_word options state place word = with_word_by options state place word state.awaiting
+abbrev pub with_option_or_value_word : List OptionSpec → OptionState → ℕ → List ℕ → Option OptionState
+with_option_or_value_word options state place word = with_word_if_awaited options state place word state.awaiting
 
 -- ---- after the applet
 
 -- the reading of words: the effect of options, the operands, and the place of the word that cannot be
 -- read, if one ended the reading
-abbrev pub reading_by : OptionState → List Operand → Option ℕ → Reading
-reading_by state operands unread = record { state = state; operands = operands; unread = unread }
+abbrev pub words_reading_from_parts : OptionState → List Operand → Option ℕ → Reading
+words_reading_from_parts state operands unread = record { state = state; operands = operands; unread = unread }
 
 -- some words as operands, the first of which is at a place
 abbrev pub operands_of : ℕ → List (List ℕ) → List Operand
@@ -212,24 +212,24 @@ with_operand operand reading = record reading { operands = operand ∷ reading.o
 
 -- the next reading, after a word that was read; a word at this place that cannot be read ends the
 -- reading
-abbrev pub or_unread : OptionState → ℕ → (OptionState → Reading) → Option OptionState → Reading
-or_unread state place next None = reading_by state [] (Some place)
-or_unread state place next (Some more) = next more
+abbrev pub or_stop_at_unread_word : OptionState → ℕ → (OptionState → Reading) → Option OptionState → Reading
+or_stop_at_unread_word state place next None = words_reading_from_parts state [] (Some place)
+or_stop_at_unread_word state place next (Some more) = next more
 
 -- the reading if the words end at a place; an awaited value is missing there
-abbrev pub reading_end : OptionState → ℕ → Reading
-reading_end state place =
-    reading_by state [] (option_map (λ (rule : ValueRule). place) state.awaiting)
+abbrev pub reading_at_end_of_words : OptionState → ℕ → Reading
+reading_at_end_of_words state place =
+    words_reading_from_parts state [] (option_map (λ (rule : ValueRule). place) state.awaiting)
 
 -- the reading of words from a state on: options, values and operands, from a place on, up to the first
 -- word that cannot be read
 abbrev pub option_reading : List OptionSpec → OptionState → ℕ → List (List ℕ) → Reading
-option_reading options state place [] = reading_end state place
+option_reading options state place [] = reading_at_end_of_words state place
 option_reading options state place (word ∷ words) =
     if is_option_or_value state word then
-    or_unread state place (λ more. option_reading options more (place + 1) words)
-    (with_word options state place word) else
-    if is_double_dash word then reading_by state (operands_of (place + 1) words) None else
+    or_stop_at_unread_word state place (λ more. option_reading options more (place + 1) words)
+    (with_option_or_value_word options state place word) else
+    if is_double_dash word then words_reading_from_parts state (operands_of (place + 1) words) None else
     with_operand (operand_at place word) (option_reading options state (place + 1) words)
 
 -- the reading of the words after the applet; if `--` precedes it all of them are operands
@@ -237,8 +237,8 @@ unfoldable pub reading_after_applet : Start → List (List ℕ) → Reading
 reading_after_applet start words =
     let left = drop start.read words in
     if start.ended then
-    reading_by (first_state start.flags) (operands_of (start.read + 1) left) None else
-    option_reading (options_of start.applet) (first_state start.flags) (start.read + 1) left
+    words_reading_from_parts (option_state_at_start start.flags) (operands_of (start.read + 1) left) None else
+    option_reading (options_of start.applet) (option_state_at_start start.flags) (start.read + 1) left
 
 -- ---- the command, or the first wrong place
 
@@ -246,7 +246,7 @@ reading_after_applet start words =
 -- that selects the kind of the command: then no operand is wrong, and the place after the last word is
 abbrev pub refused_operand : Option OperandRule → List Operand → Option ℕ
 refused_operand None operands = None
-refused_operand (Some rule) operands = first_refused rule 0 operands
+refused_operand (Some rule) operands = first_refused_operand rule 0 operands
 
 -- whether too few operands were given, or the flag is missing that selects the kind of the command
 abbrev pub lacks_operand : Option OperandRule → List Operand → Bool
@@ -257,79 +257,79 @@ lacks_operand (Some rule) operands = nat_lt (length operands) rule.least
 -- needs
 abbrev pub lacks_word : Applet → Option OperandRule → Reading → Bool
 lacks_word applet rule reading =
-    lacks_operand rule reading.operands || lacks_value (needed_option applet) reading.state.values
+    lacks_operand rule reading.operands || is_required_value_missing (required_option_letter applet) reading.state.values
 
 -- the command of a reading, with the place after the last word
 abbrev pub command_read : ℕ → Applet → Reading → CommandLine
 command_read behind applet reading =
-    command_by applet reading.state.flags reading.operands reading.state.values behind
+    command_from_parts applet reading.state.flags reading.operands reading.state.values behind
 
 -- a refusal at a wrong place, if there is one, and otherwise this result
-abbrev pub unless_at : Option ℕ → Result CommandLine ℕ → Result CommandLine ℕ
-unless_at None otherwise = otherwise
-unless_at (Some place) otherwise = Err place
+abbrev pub unless_refused_at : Option ℕ → Result CommandLine ℕ → Result CommandLine ℕ
+unless_refused_at None otherwise = otherwise
+unless_refused_at (Some place) otherwise = Err place
 
 -- the command that was read, or the first of: an operand that is not taken, the word that cannot be
 -- read, the end of the words if a word is missing
 unfoldable pub command_of_reading : ℕ → Applet → Reading → Result CommandLine ℕ
 command_of_reading behind applet reading =
     let rule = operand_rule applet reading.state.flags in
-    unless_at (option_or (refused_operand rule reading.operands) reading.unread)
+    unless_refused_at (option_or (refused_operand rule reading.operands) reading.unread)
     (if lacks_word applet rule reading then Err behind else Ok (command_read behind applet reading))
 
 -- the command of the words, by the start that was found in them; or the first place that offends
-abbrev pub command_from : List (List ℕ) → Result Start ℕ → Result CommandLine ℕ
-command_from words (Err place) = Err place
-command_from words (Ok start) =
+abbrev pub spelled_command_from_start : List (List ℕ) → Result Start ℕ → Result CommandLine ℕ
+spelled_command_from_start words (Err place) = Err place
+spelled_command_from_start words (Ok start) =
     command_of_reading (length words + 1) start.applet (reading_after_applet start words)
 
 -- the command that the words spell, or the first place that offends
-unfoldable pub line_command : List (List ℕ) → Result CommandLine ℕ
-line_command words = command_from words (line_start words)
+unfoldable pub spelled_command : List (List ℕ) → Result CommandLine ℕ
+spelled_command words = spelled_command_from_start words (start_of_command_line words)
 
 -- ---- what the next word can be
 
 -- the rule of the values that an option has; None if it is a flag
-abbrev pub rule_in : Meaning → Option ValueRule
-rule_in (Plain flag) = None
-rule_in (Kind flag) = None
-rule_in (Value rule) = Some rule
+abbrev pub value_rule_of_meaning : Meaning → Option ValueRule
+value_rule_of_meaning (Plain flag) = None
+value_rule_of_meaning (Kind flag) = None
+value_rule_of_meaning (Value rule) = Some rule
 
 -- the rule of the option that a word spells; None if it has no values
-abbrev pub rule_at : List OptionSpec → List ℕ → Option ValueRule
-rule_at options word =
-    option_and_then (λ (e : OptionSpec). rule_in e.meaning)
-    (option_spelled options (option_name word))
+abbrev pub value_rule_of_word : List OptionSpec → List ℕ → Option ValueRule
+value_rule_of_word options word =
+    option_and_then (λ (e : OptionSpec). value_rule_of_meaning e.meaning)
+    (option_of_word options (option_name word))
 
 -- this rule, if the option's word holds no value
-abbrev pub rule_unless : Option (List ℕ) → Option ValueRule → Option ValueRule
-rule_unless None rule = rule
-rule_unless (Some text) rule = None
+abbrev pub value_rule_unless_attached : Option (List ℕ) → Option ValueRule → Option ValueRule
+value_rule_unless_attached None rule = rule
+value_rule_unless_attached (Some text) rule = None
 
 -- the rule of the option that a word spells, if its value is the next word
 abbrev pub awaited_rule : List OptionSpec → List ℕ → Option ValueRule
-awaited_rule options word = rule_unless (attached_value word) (rule_at options word)
+awaited_rule options word = value_rule_unless_attached (attached_value word) (value_rule_of_word options word)
 
 -- what the word after an option of an applet can be, by the rule of its value, if that is the next word
-abbrev pub next_by_rule : Applet → Option ValueRule → NextWord
-next_by_rule applet None = OptionOrOperand applet
-next_by_rule applet (Some rule) = NextValue applet rule
+abbrev pub next_word_after_option : Applet → Option ValueRule → NextWord
+next_word_after_option applet None = OptionOrOperand applet
+next_word_after_option applet (Some rule) = NextValue applet rule
 
 -- what the word after the command can be, by the applet that the command names, if it names one
-abbrev pub next_by_applet : (Applet → NextWord) → Option Applet → NextWord
-next_by_applet next None = Nothing
-next_by_applet next (Some applet) = next applet
+abbrev pub next_word_after_command : (Applet → NextWord) → Option Applet → NextWord
+next_word_after_command next None = Nothing
+next_word_after_command next (Some applet) = next applet
 
 -- what the word after a word can be, by what the word can be
 abbrev pub next_word : NextWord → List ℕ → NextWord
 next_word OptionOrCommand word =
     if is_double_dash word then CommandAlone else
     if is_option word then OptionOrCommand else
-    next_by_applet OptionOrOperand (applet_of word)
-next_word CommandAlone word = next_by_applet OperandAlone (applet_of word)
+    next_word_after_command OptionOrOperand (applet_of word)
+next_word CommandAlone word = next_word_after_command OperandAlone (applet_of word)
 next_word (OptionOrOperand applet) word =
     if is_double_dash word then OperandAlone applet else
-    if is_option word then next_by_rule applet (awaited_rule (options_of applet) word) else
+    if is_option word then next_word_after_option applet (awaited_rule (options_of applet) word) else
     OptionOrOperand applet
 next_word (NextValue applet rule) word = OptionOrOperand applet
 next_word (OperandAlone applet) word = OperandAlone applet
@@ -345,45 +345,45 @@ abbrev pub next_after : List (List ℕ) → NextWord
 next_after words = next_words OptionOrCommand words
 
 -- whether an option can be the next word
-abbrev pub takes_option : NextWord → Bool
-takes_option OptionOrCommand = true
-takes_option (OptionOrOperand applet) = true
-takes_option next = false
+abbrev pub can_be_option : NextWord → Bool
+can_be_option OptionOrCommand = true
+can_be_option (OptionOrOperand applet) = true
+can_be_option next = false
 
 -- ---- words that ask for help, or for the version
 
 -- the applet that the word at a place asks for, if it asks and an option can be there
-abbrev pub asked_at : List (List ℕ) → ℕ → Option Applet
-asked_at words place =
-    if takes_option (next_after (take (place - 1) words)) then
-    option_and_then asked_by (slice_get words (place - 1)) else
+abbrev pub help_or_version_option_at : List (List ℕ) → ℕ → Option Applet
+help_or_version_option_at words place =
+    if can_be_option (next_after (take (place - 1) words)) then
+    option_and_then applet_of_help_or_version_option (slice_get words (place - 1)) else
     None
 
 -- the operands of `Help`: the word of the applet, if one was found before the word that asks
-abbrev pub topic_at : Result AppletSite ℕ → List Operand
-topic_at (Err place) = []
-topic_at (Ok site) = operand_at site.read (applet_word site.applet) ∷ []
+abbrev pub help_topic_operands : Result AppletSite ℕ → List Operand
+help_topic_operands (Err place) = []
+help_topic_operands (Ok site) = operand_at site.read (applet_word site.applet) ∷ []
 
 -- the operands of what words ask for
-abbrev pub asked_operands : List (List ℕ) → Applet → List Operand
-asked_operands words Help = topic_at (applet_site 1 words)
-asked_operands words applet = []
+abbrev pub operands_of_help_or_version : List (List ℕ) → Applet → List Operand
+operands_of_help_or_version words Help = help_topic_operands (applet_site 1 words)
+operands_of_help_or_version words applet = []
 
 -- the command that words ask for
-abbrev pub asked_command : List (List ℕ) → Applet → CommandLine
-asked_command words applet =
-    command_by applet no_flags (asked_operands words applet) [] (length words + 1)
+abbrev pub help_or_version_command : List (List ℕ) → Applet → CommandLine
+help_or_version_command words applet =
+    command_from_parts applet no_flags (operands_of_help_or_version words applet) [] (length words + 1)
 
 -- the command that the word at a place asks for, or that the word is wrong there
-abbrev pub asked_or_err : List (List ℕ) → ℕ → Option Applet → Result CommandLine ℕ
-asked_or_err words place None = Err place
-asked_or_err words place (Some applet) = Ok (asked_command words applet)
+abbrev pub help_or_version_or_err : List (List ℕ) → ℕ → Option Applet → Result CommandLine ℕ
+help_or_version_or_err words place None = Err place
+help_or_version_or_err words place (Some applet) = Ok (help_or_version_command words applet)
 
 -- the command that was spelled, or otherwise the one that the first wrong word asks for, if it asks
-abbrev pub spelled_or_asked : List (List ℕ) → Result CommandLine ℕ → Result CommandLine ℕ
-spelled_or_asked words (Ok command) = Ok command
-spelled_or_asked words (Err place) = asked_or_err words place (asked_at words place)
+abbrev pub spelled_command_or_help_or_version : List (List ℕ) → Result CommandLine ℕ → Result CommandLine ℕ
+spelled_command_or_help_or_version words (Ok command) = Ok command
+spelled_command_or_help_or_version words (Err place) = help_or_version_or_err words place (help_or_version_option_at words place)
 
 -- the command of the words, or the first place that offends
 unfoldable pub command_of : List (List ℕ) → Result CommandLine ℕ
-command_of words = spelled_or_asked words (line_command words)
+command_of words = spelled_command_or_help_or_version words (spelled_command words)

@@ -254,15 +254,15 @@ abbrev pub program_help : List ℕ
 program_help = program_usage ++ commands_text ++ common_text ++ first_steps
 
 -- the help of a command, if one is asked about, and else that of the program
-abbrev pub help_on : Option Applet → List ℕ
-help_on None = program_help
-help_on (Some applet) = command_help applet
+abbrev pub help_of_topic : Option Applet → List ℕ
+help_of_topic None = program_help
+help_of_topic (Some applet) = command_help applet
 
 -- the command that is asked about, by the operands of `Help`: its word, or none
-abbrev pub topic_of : List Operand → Option Applet
-topic_of [] = None
-topic_of (operand ∷ operands) = applet_of operand.text
+abbrev pub help_topic_of : List Operand → Option Applet
+help_topic_of [] = None
+help_topic_of (operand ∷ operands) = applet_of operand.text
 
 -- what `--help` prints, by the operands of `Help`
 abbrev pub help_text : List Operand → List ℕ
-help_text operands = help_on (topic_of operands)
+help_text operands = help_of_topic (help_topic_of operands)

@@ -4,30 +4,30 @@
 use Rattle.std.specs.Prelude.{ℕ, Bool, true, false, not, ◌&&◌, ◌||◌, List, drop, None, is_some, Result, Ok, Err}
 use Rattle.command_core.specs.declared.command.Applet.{Applet}
 use Rattle.command_core.specs.declared.command.Applet.TheVariants.{Info}
-use Rattle.command_core.specs.Flags.{has_kind}
+use Rattle.command_core.specs.Flags.{has_command_kind_flag}
 use Rattle.words_core.specs.declared.reading.Start.{Start}
-use Rattle.words_core.specs.Grammar.{line_start, reading_after_applet}
+use Rattle.words_core.specs.Grammar.{start_of_command_line, reading_after_applet}
 use Rattle.words_core.specs.Options.{options_of}
-use Rattle.words_core.specs.Stuck.{have_ended}
+use Rattle.words_core.specs.Stuck.{have_options_ended}
 
 -- whether the applet is `info`
-abbrev pub is_info : Applet → Bool
-is_info Info = true
-is_info applet = false
+abbrev pub is_info_applet : Applet → Bool
+is_info_applet Info = true
+is_info_applet applet = false
 
 -- whether words whose applet was found can still get a kind: they are `info` without one, each of
 -- them can be read, and options can follow
-abbrev pub can_get_kind_from : List (List ℕ) → Start → Bool
-can_get_kind_from words start =
+abbrev pub can_info_kind_follow_start : List (List ℕ) → Start → Bool
+can_info_kind_follow_start words start =
     let reading = reading_after_applet start words in
-    is_info start.applet && not (has_kind reading.state.flags) && not (is_some reading.unread)
-    && not (start.ended || have_ended (options_of start.applet) None (drop start.read words))
+    is_info_applet start.applet && not (has_command_kind_flag reading.state.flags) && not (is_some reading.unread)
+    && not (start.ended || have_options_ended (options_of start.applet) None (drop start.read words))
 
 -- whether words can still get a kind, by their start; without a start they are not `info`
-abbrev pub can_get_kind_by : List (List ℕ) → Result Start ℕ → Bool
-can_get_kind_by words (Err place) = false
-can_get_kind_by words (Ok start) = can_get_kind_from words start
+abbrev pub can_info_kind_follow_if_started : List (List ℕ) → Result Start ℕ → Bool
+can_info_kind_follow_if_started words (Err place) = false
+can_info_kind_follow_if_started words (Ok start) = can_info_kind_follow_start words start
 
 -- whether words are `info` without a kind, and one of its four options can still follow
-unfoldable pub can_get_kind : List (List ℕ) → Bool
-can_get_kind words = can_get_kind_by words (line_start words)
+unfoldable pub can_info_kind_follow : List (List ℕ) → Bool
+can_info_kind_follow words = can_info_kind_follow_if_started words (start_of_command_line words)

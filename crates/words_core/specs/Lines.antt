@@ -9,24 +9,24 @@ use Rattle.command_core.specs.declared.operands.Operand.{Operand}
 use Rattle.command_core.specs.declared.values.OptionValue.{OptionValue}
 use Rattle.command_core.specs.declared.values.ValueRule.{ValueRule}
 use Rattle.command_core.specs.Command.{CommandLine}
-use Rattle.command_core.specs.Sound.{IsCommand}
+use Rattle.command_core.specs.Sound.{IsValidCommand}
 use Rattle.command_core.specs.Flags.{no_flags, with_flag}
 use Rattle.command_core.specs.Operands.{operand_at}
 use Rattle.command_core.specs.Values.{option_value}
 use Rattle.words_core.specs.declared.options.Meaning.{Meaning}
 use Rattle.words_core.specs.declared.options.Meaning.TheVariants.{Flag as Plain, Kind, Value}
-use Rattle.words_core.specs.Grammar.{attached_value, is_double_dash, is_option, operands_of, option_name, rule_at, awaited_rule}
-use Rattle.words_core.specs.Options.{OptionSpec, applet_of, is_early, option_spelled, options_of}
+use Rattle.words_core.specs.Grammar.{attached_value, is_double_dash, is_option, operands_of, option_name, value_rule_of_word, awaited_rule}
+use Rattle.words_core.specs.Options.{OptionSpec, applet_of, is_early_option_word, option_of_word, options_of}
 
 -- the words that are neither options nor values, each with its place: all after `--`, and before it
 -- those that are neither. With a rule the first word is the value of its option
-abbrev pub free_words : List OptionSpec → Option ValueRule → ℕ → List (List ℕ) → List Operand
-free_words options rule place [] = []
-free_words options (Some rule) place (word ∷ words) = free_words options None (place + 1) words
-free_words options None place (word ∷ words) =
+abbrev pub operand_words : List OptionSpec → Option ValueRule → ℕ → List (List ℕ) → List Operand
+operand_words options rule place [] = []
+operand_words options (Some rule) place (word ∷ words) = operand_words options None (place + 1) words
+operand_words options None place (word ∷ words) =
     if is_double_dash word then operands_of (place + 1) words else
-    if is_option word then free_words options (awaited_rule options word) (place + 1) words else
-    operand_at place word ∷ free_words options None (place + 1) words
+    if is_option word then operand_words options (awaited_rule options word) (place + 1) words else
+    operand_at place word ∷ operand_words options None (place + 1) words
 
 -- the words that are options, up to `--`. With a rule the first word is the value of its option
 abbrev pub words_that_are_options : List OptionSpec → Option ValueRule → List (List ℕ) → List (List ℕ)
@@ -39,10 +39,10 @@ words_that_are_options options None (word ∷ words) =
 
 -- the list of the value that an option's word at a place holds; empty if the option has no values, or
 -- the next word is its value
-abbrev pub attached_at : ℕ → Option ValueRule → Option (List ℕ) → List OptionValue
-attached_at place None held = []
-attached_at place (Some rule) None = []
-attached_at place (Some rule) (Some text) = option_value place rule.letter text ∷ []
+abbrev pub attached_values : ℕ → Option ValueRule → Option (List ℕ) → List OptionValue
+attached_values place None held = []
+attached_values place (Some rule) None = []
+attached_values place (Some rule) (Some text) = option_value place rule.letter text ∷ []
 
 -- the values of the options, each with the place of the word that holds it; None if one is missing.
 -- With a rule the first word is the value of its option
@@ -56,18 +56,18 @@ values_of options (Some rule) place (word ∷ words) =
 values_of options None place (word ∷ words) =
     if is_double_dash word then Some [] else
     if is_option word then
-    option_map (λ values. attached_at place (rule_at options word) (attached_value word) ++ values)
+    option_map (λ values. attached_values place (value_rule_of_word options word) (attached_value word) ++ values)
     (values_of options (awaited_rule options word) (place + 1) words) else
     values_of options None (place + 1) words
 
 -- flags with the meaning of an option, whose word holds a value or none; None if the word of a flag
 -- holds one
-abbrev pub flags_with : Flags → Option (List ℕ) → Meaning → Option Flags
-flags_with flags held (Value rule) = Some flags
-flags_with flags None (Plain flag) = Some (with_flag flag flags)
-flags_with flags None (Kind flag) = Some (with_flag flag flags)
-flags_with flags (Some text) (Plain flag) = None
-flags_with flags (Some text) (Kind flag) = None
+abbrev pub flags_with_held_meaning : Flags → Option (List ℕ) → Meaning → Option Flags
+flags_with_held_meaning flags held (Value rule) = Some flags
+flags_with_held_meaning flags None (Plain flag) = Some (with_flag flag flags)
+flags_with_held_meaning flags None (Kind flag) = Some (with_flag flag flags)
+flags_with_held_meaning flags (Some text) (Plain flag) = None
+flags_with_held_meaning flags (Some text) (Kind flag) = None
 
 -- flags with the meanings of some options, one after another; None if a word spells no option, or a
 -- flag has a value
@@ -75,21 +75,21 @@ abbrev pub flags_after : List OptionSpec → Flags → List (List ℕ) → Optio
 flags_after options flags [] = Some flags
 flags_after options flags (word ∷ words) =
     option_and_then (λ (e : OptionSpec). option_and_then (λ more. flags_after options more words)
-    (flags_with flags (attached_value word) e.meaning)) (option_spelled options (option_name word))
+    (flags_with_held_meaning flags (attached_value word) e.meaning)) (option_of_word options (option_name word))
 
 -- whether a word may precede the applet: `--`, or one of the five options
 abbrev pub may_precede_applet : List ℕ → Bool
-may_precede_applet word = is_double_dash word || is_early word
+may_precede_applet word = is_double_dash word || is_early_option_word word
 
 -- Words are a command: the first that is neither option nor value names the applet, the others are the
 -- operands, and the options are ones of the applet. Those before it are ones that may precede it.
 pub record IsLineOf (words : List (List ℕ)) (command : CommandLine) : Type 0 where
   pub applet : Operand
   pub names : applet_of applet.text ≡ Some command.applet
-  pub free : free_words (options_of command.applet) None 1 words ≡ applet ∷ command.operands
+  pub free : operand_words (options_of command.applet) None 1 words ≡ applet ∷ command.operands
   pub early : IsTrue (list_all may_precede_applet (take (applet.place - 1) words))
   pub flags : flags_after (options_of command.applet) no_flags
       (words_that_are_options (options_of command.applet) None words) ≡ Some command.flags
   pub values : values_of (options_of command.applet) None 1 words ≡ Some command.values
   pub behind : command.behind ≡ length words + 1
-  pub sound : IsCommand command
+  pub sound : IsValidCommand command

@@ -104,19 +104,19 @@ options_of ProgramVersion = []
 options_of applet = common_options ++ own_options applet
 
 -- the option that a word spells, long or short, among some
-abbrev pub option_spelled : List OptionSpec → List ℕ → Option OptionSpec
-option_spelled options word =
+abbrev pub option_of_word : List OptionSpec → List ℕ → Option OptionSpec
+option_of_word options word =
     find (λ (o : OptionSpec). bytes_eq o.long word || bytes_eq o.short word) options
 
 -- the words of the options that may precede the applet
-unfoldable pub early_words : List (List ℕ)
-early_words =
+unfoldable pub early_option_words : List (List ℕ)
+early_option_words =
     codes "--allow-untrusted" ∷ (codes "--no-scripts" ∷ (codes "--initdb" ∷ (codes "--simulate" ∷
     (codes "--purge" ∷ []))))
 
 -- whether a word is an option that may precede the applet
-abbrev pub is_early : List ℕ → Bool
-is_early word = list_any (λ early. bytes_eq early word) early_words
+abbrev pub is_early_option_word : List ℕ → Bool
+is_early_option_word word = list_any (λ early. bytes_eq early word) early_option_words
 
 -- the word of an applet; no word names `Help` and `ProgramVersion`, which options ask for
 abbrev pub applet_word : Applet → List ℕ
@@ -152,8 +152,8 @@ abbrev pub applet_of : List ℕ → Option Applet
 applet_of word = find (λ applet. bytes_eq (applet_word applet) word) applets
 
 -- the applet that an option asks for: `--help` or `-h`, and `--version` or `-V`
-abbrev pub asked_by : List ℕ → Option Applet
-asked_by word =
+abbrev pub applet_of_help_or_version_option : List ℕ → Option Applet
+applet_of_help_or_version_option word =
     if bytes_eq (codes "--help") word || bytes_eq (codes "-h") word then Some Help else
     if bytes_eq (codes "--version") word || bytes_eq (codes "-V") word then Some ProgramVersion else
     None

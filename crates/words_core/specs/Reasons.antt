@@ -7,10 +7,10 @@ use Rattle.command_core.specs.declared.command.Applet.{Applet}
 use Rattle.command_core.specs.declared.command.Flag.{Flag}
 use Rattle.command_core.specs.declared.operands.OperandRule.{OperandRule}
 use Rattle.command_core.specs.declared.values.ValueRule.{ValueRule}
-use Rattle.command_core.specs.Applets.{needed_option}
-use Rattle.command_core.specs.Flags.{has_flag, has_kind}
-use Rattle.command_core.specs.Operands.{is_of_kind}
-use Rattle.command_core.specs.Values.{is_excluded, is_given, is_value}
+use Rattle.command_core.specs.Applets.{required_option_letter}
+use Rattle.command_core.specs.Flags.{has_flag, has_command_kind_flag}
+use Rattle.command_core.specs.Operands.{is_operand_of_kind}
+use Rattle.command_core.specs.Values.{is_excluded_by_earlier_value, is_given, is_value}
 use Rattle.words_core.specs.declared.options.Meaning.{Meaning}
 use Rattle.words_core.specs.declared.options.Meaning.TheVariants.{Kind, Value}
 use Rattle.words_core.specs.declared.reading.AppletSite.{AppletSite}
@@ -18,9 +18,9 @@ use Rattle.words_core.specs.declared.reading.Reading.{Reading}
 use Rattle.words_core.specs.declared.reading.Start.{Start}
 use Rattle.words_core.specs.declared.usage.UsageReason.{UsageReason}
 use Rattle.words_core.specs.declared.usage.UsageReason.TheVariants.{CommandMissing, CommandUnknown, OptionEarly, OptionUnknown, OptionRepeated, SecondKind, ValueGiven, ValueMissing, ValueBad, ScriptRepeated, TooManyOperands, OperandBad, OperandMissing, KindMissing, OptionMissing}
-use Rattle.words_core.specs.Grammar.{applet_site, attached_value, is_option, line_start, option_name, reading_after_applet, rule_in}
-use Rattle.words_core.specs.Options.{OptionSpec, applet_of, is_early, option_spelled, options_of}
-use Rattle.words_core.specs.Usage.{line_rule}
+use Rattle.words_core.specs.Grammar.{applet_site, attached_value, is_option, start_of_command_line, option_name, reading_after_applet, value_rule_of_meaning}
+use Rattle.words_core.specs.Options.{OptionSpec, applet_of, is_early_option_word, option_of_word, options_of}
+use Rattle.words_core.specs.Usage.{operand_rule_of_words}
 
 -- ---- the words
 
@@ -41,32 +41,32 @@ HasApplet words P = (site : AppletSite) × (applet_site 1 words ≡ Ok site) × 
 -- P holds of the start that was found, and of what was read behind it
 abbrev pub HasReading : List (List ℕ) → (Start → Reading → Type 0) → Type 0
 HasReading words P =
-    (start : Start) × (line_start words ≡ Ok start) × P start (reading_after_applet start words)
+    (start : Start) × (start_of_command_line words ≡ Ok start) × P start (reading_after_applet start words)
 
 -- P holds of what the option that a word spells means
-abbrev pub HasMeaning : Applet → List ℕ → (Meaning → Type 0) → Type 0
-HasMeaning applet word P =
-    (option : OptionSpec) × (option_spelled (options_of applet) (option_name word) ≡ Some option)
+abbrev pub HasOptionMeaning : Applet → List ℕ → (Meaning → Type 0) → Type 0
+HasOptionMeaning applet word P =
+    (option : OptionSpec) × (option_of_word (options_of applet) (option_name word) ≡ Some option)
     × P option.meaning
 
 -- a rule is that of the option whose value is awaited, or that a word spells
-abbrev pub IsRuleAt : Start → Reading → List ℕ → ValueRule → Type 0
-IsRuleAt start reading word rule =
+abbrev pub IsValueRuleOfWord : Start → Reading → List ℕ → ValueRule → Type 0
+IsValueRuleOfWord start reading word rule =
     (reading.state.awaiting ≡ Some rule)
-    ⊎ HasMeaning start.applet word (λ meaning. meaning ≡ Value rule)
+    ⊎ HasOptionMeaning start.applet word (λ meaning. meaning ≡ Value rule)
 
 -- P holds of the rule of an option with values, and of a text that a word gives as its value: the word
 -- is the value that is awaited, or holds it
-abbrev pub HasValue : Start → Reading → List ℕ → (ValueRule → List ℕ → Type 0) → Type 0
-HasValue start reading word P =
+abbrev pub HasOptionValue : Start → Reading → List ℕ → (ValueRule → List ℕ → Type 0) → Type 0
+HasOptionValue start reading word P =
     ((rule : ValueRule) × (reading.state.awaiting ≡ Some rule) × P rule word)
-    ⊎ HasMeaning start.applet word (λ meaning. (rule : ValueRule) × (text : List ℕ)
+    ⊎ HasOptionMeaning start.applet word (λ meaning. (rule : ValueRule) × (text : List ℕ)
     × (meaning ≡ Value rule) × (attached_value word ≡ Some text) × P rule text)
 
 -- P holds of the rule of the operands
 abbrev pub HasOperandRule : List (List ℕ) → Start → (OperandRule → Type 0) → Type 0
 HasOperandRule words start P =
-    (rule : OperandRule) × (line_rule words start ≡ Some rule) × P rule
+    (rule : OperandRule) × (operand_rule_of_words words start ≡ Some rule) × P rule
 
 -- ---- the reasons
 
@@ -76,42 +76,42 @@ IsUsageReason CommandMissing words place =
     IsAfterLastWord words place × IsTrue (not (is_ok (applet_site 1 words)))
 IsUsageReason CommandUnknown words place = HasWordAt words place (λ word. applet_of word ≡ None)
 IsUsageReason OptionEarly words place =
-    HasWordAt words place (λ word. IsTrue (is_option word) × IsTrue (not (is_early word)))
+    HasWordAt words place (λ word. IsTrue (is_option word) × IsTrue (not (is_early_option_word word)))
 IsUsageReason OptionUnknown words place =
     HasWordAt words place (λ word. HasApplet words (λ applet.
-    option_spelled (options_of applet) (option_name word) ≡ None))
+    option_of_word (options_of applet) (option_name word) ≡ None))
 IsUsageReason ValueGiven words place =
     HasWordAt words place (λ word. HasReading words (λ start reading.
-    HasMeaning start.applet word (λ meaning. rule_in meaning ≡ None)
+    HasOptionMeaning start.applet word (λ meaning. value_rule_of_meaning meaning ≡ None)
     × IsTrue (is_some (attached_value word))))
 IsUsageReason OptionRepeated words place =
     HasWordAt words place (λ word. HasReading words (λ start reading. (rule : ValueRule)
     × IsTrue rule.single × IsTrue (is_given rule.letter reading.state.values)
-    × IsRuleAt start reading word rule))
+    × IsValueRuleOfWord start reading word rule))
 IsUsageReason SecondKind words place =
     HasWordAt words place (λ word. HasReading words (λ start reading. (flag : Flag)
-    × IsTrue (has_kind reading.state.flags) × (has_flag flag reading.state.flags ≡ false)
-    × HasMeaning start.applet word (λ meaning. meaning ≡ Kind flag)))
+    × IsTrue (has_command_kind_flag reading.state.flags) × (has_flag flag reading.state.flags ≡ false)
+    × HasOptionMeaning start.applet word (λ meaning. meaning ≡ Kind flag)))
 IsUsageReason ValueMissing words place =
     IsAfterLastWord words place × HasReading words (λ start reading. IsTrue (is_some
     reading.state.awaiting))
 IsUsageReason (ValueBad kind) words place =
     HasWordAt words place (λ word. HasReading words (λ start reading.
-    HasValue start reading word (λ rule text. (rule.kind ≡ kind) × (is_value kind text ≡ false))))
+    HasOptionValue start reading word (λ rule text. (rule.kind ≡ kind) × (is_value kind text ≡ false))))
 IsUsageReason ScriptRepeated words place =
     HasWordAt words place (λ word. HasReading words (λ start reading.
-    HasValue start reading word (λ rule text. IsTrue (is_excluded rule text reading.state.values))))
+    HasOptionValue start reading word (λ rule text. IsTrue (is_excluded_by_earlier_value rule text reading.state.values))))
 IsUsageReason TooManyOperands words place =
     HasReading words (λ start reading. HasOperandRule words start (λ rule. (most : ℕ)
     × (rule.most ≡ Some most) × (most < length reading.operands)))
 IsUsageReason (OperandBad kind) words place =
     HasWordAt words place (λ word. HasReading words (λ start reading.
-    HasOperandRule words start (λ rule. (rule.kind ≡ kind) × (is_of_kind kind word ≡ false))))
+    HasOperandRule words start (λ rule. (rule.kind ≡ kind) × (is_operand_of_kind kind word ≡ false))))
 IsUsageReason (OperandMissing kind) words place =
     IsAfterLastWord words place × HasReading words (λ start reading. HasOperandRule words start (λ rule.
     (rule.kind ≡ kind) × (length reading.operands < rule.least)))
 IsUsageReason KindMissing words place =
-    IsAfterLastWord words place × HasReading words (λ start reading. line_rule words start ≡ None)
+    IsAfterLastWord words place × HasReading words (λ start reading. operand_rule_of_words words start ≡ None)
 IsUsageReason OptionMissing words place =
     IsAfterLastWord words place × HasReading words (λ start reading. (letter : ℕ)
-    × (needed_option start.applet ≡ Some letter) × (is_given letter reading.state.values ≡ false))
+    × (required_option_letter start.applet ≡ Some letter) × (is_given letter reading.state.values ≡ false))

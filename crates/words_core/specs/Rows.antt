@@ -24,8 +24,8 @@ has_letter short (Value rule) = bytes_eq short (dash ∷ (rule.letter ∷ []))
 has_letter short meaning = true
 
 -- whether the values of an option, if it has values, are kept under the letter of its short word
-abbrev pub has_its_letter : OptionSpec → Bool
-has_its_letter option = has_letter option.short option.meaning
+abbrev pub has_letter_of_short_word : OptionSpec → Bool
+has_letter_of_short_word option = has_letter option.short option.meaning
 
 -- the line of help of a row
 abbrev pub help_row_line : HelpRow → HelpLine

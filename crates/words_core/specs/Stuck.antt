@@ -10,13 +10,13 @@ use Rattle.command_core.specs.declared.values.OptionValue.{OptionValue}
 use Rattle.command_core.specs.declared.values.ValueKind.{ValueKind}
 use Rattle.command_core.specs.declared.values.ValueKind.TheVariants.{Script}
 use Rattle.command_core.specs.declared.values.ValueRule.{ValueRule}
-use Rattle.command_core.specs.Applets.{needed_option, operand_rule}
+use Rattle.command_core.specs.Applets.{required_option_letter, operand_rule}
 use Rattle.command_core.specs.Flags.{no_flags}
-use Rattle.command_core.specs.Values.{lacks_value, script_type, script_types}
+use Rattle.command_core.specs.Values.{is_required_value_missing, script_type, script_types}
 use Rattle.words_core.specs.declared.reading.AppletSite.{AppletSite}
 use Rattle.words_core.specs.declared.reading.OptionState.{OptionState}
 use Rattle.words_core.specs.declared.reading.Start.{Start}
-use Rattle.words_core.specs.Grammar.{applet_site, command_of, early_flags, is_double_dash, is_option, reading_after_applet, awaited_rule, start_from}
+use Rattle.words_core.specs.Grammar.{applet_site, command_of, early_flags, is_double_dash, is_option, reading_after_applet, awaited_rule, start_after_site}
 use Rattle.words_core.specs.Options.{OptionSpec, applets, options_of}
 
 -- ---- before the applet
@@ -29,19 +29,19 @@ are_options_of words applet = is_ok (early_flags (options_of applet) no_flags 1 
 
 -- whether the options have ended: `--` is among the words, and not as a value. The first word is
 -- the value of an option, if there is a rule of it
-abbrev pub have_ended : List OptionSpec → Option ValueRule → List (List ℕ) → Bool
-have_ended options rule [] = false
-have_ended options (Some rule) (word ∷ words) = have_ended options None words
-have_ended options None (word ∷ words) =
+abbrev pub have_options_ended : List OptionSpec → Option ValueRule → List (List ℕ) → Bool
+have_options_ended options rule [] = false
+have_options_ended options (Some rule) (word ∷ words) = have_options_ended options None words
+have_options_ended options None (word ∷ words) =
     if is_double_dash word then true else
-    if is_option word then have_ended options (awaited_rule options word) words else
-    have_ended options None words
+    if is_option word then have_options_ended options (awaited_rule options word) words else
+    have_options_ended options None words
 
 -- whether an option is missing: one that selects the kind of the command, or the one that must be given
-abbrev pub lacks_option : Applet → OptionState → Bool
-lacks_option applet state =
+abbrev pub is_required_option_missing : Applet → OptionState → Bool
+is_required_option_missing applet state =
     not (is_some (operand_rule applet state.flags))
-    || lacks_value (needed_option applet) state.values
+    || is_required_value_missing (required_option_letter applet) state.values
 
 -- whether the option with a letter was given a script of a type
 abbrev pub has_script : ℕ → List OptionValue → List ℕ → Bool
@@ -49,23 +49,23 @@ has_script letter values t =
     list_any (λ (v : OptionValue). (v.letter == letter) && bytes_eq (script_type v.text) t) values
 
 -- whether the option with a letter can have no further value: it was given a script of each type
-abbrev pub is_full : ValueKind → ℕ → List OptionValue → Bool
-is_full Script letter values = list_all (has_script letter values) script_types
-is_full kind letter values = false
+abbrev pub has_all_possible_values : ValueKind → ℕ → List OptionValue → Bool
+has_all_possible_values Script letter values = list_all (has_script letter values) script_types
+has_all_possible_values kind letter values = false
 
 -- whether a value of an option is awaited, and no text can be one
-abbrev pub awaits_none : Option ValueRule → List OptionValue → Bool
-awaits_none None values = false
-awaits_none (Some rule) values = is_full rule.kind rule.letter values
+abbrev pub awaits_impossible_value : Option ValueRule → List OptionValue → Bool
+awaits_impossible_value None values = false
+awaits_impossible_value (Some rule) values = has_all_possible_values rule.kind rule.letter values
 
 -- whether words whose start was found are stuck: options have ended and one is missing, or no text can
 -- be the awaited value
 abbrev pub is_stuck : List (List ℕ) → Start → Bool
 is_stuck words start =
     let state = (reading_after_applet start words).state in
-    ((start.ended || have_ended (options_of start.applet) None (drop start.read words))
-    && lacks_option start.applet state)
-    || awaits_none state.awaiting state.values
+    ((start.ended || have_options_ended (options_of start.applet) None (drop start.read words))
+    && is_required_option_missing start.applet state)
+    || awaits_impossible_value state.awaiting state.values
 
 -- whether words whose applet was found are stuck, by their start; if an option before the applet is
 -- wrong they are not
@@ -78,7 +78,7 @@ is_stuck_by words (Ok start) = is_stuck words start
 abbrev pub are_stuck_by : List (List ℕ) → Result AppletSite ℕ → Bool
 are_stuck_by words (Err place) = list_any is_double_dash words && not (list_any (are_options_of words)
     applets)
-are_stuck_by words (Ok site) = is_stuck_by words (start_from words (Ok site))
+are_stuck_by words (Ok site) = is_stuck_by words (start_after_site words (Ok site))
 
 -- whether words are stuck: they are no command, and no words after them make them one
 unfoldable pub are_stuck : List (List ℕ) → Bool

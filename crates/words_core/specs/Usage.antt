@@ -11,8 +11,8 @@ use Rattle.command_core.specs.declared.operands.OperandRule.{OperandRule}
 use Rattle.command_core.specs.declared.values.ValueKind.{ValueKind}
 use Rattle.command_core.specs.declared.values.ValueKind.TheVariants.{Any as AnyText, Nonempty, File as FileValue, Output, Uncompressed, Script}
 use Rattle.command_core.specs.declared.values.ValueRule.{ValueRule}
-use Rattle.command_core.specs.Applets.{needed_option, operand_rule}
-use Rattle.command_core.specs.Operands.{is_of_kind}
+use Rattle.command_core.specs.Applets.{required_option_letter, operand_rule}
+use Rattle.command_core.specs.Operands.{is_operand_of_kind}
 use Rattle.command_core.specs.Values.{is_value}
 use Rattle.words_core.specs.declared.next.NextWord.{NextWord}
 use Rattle.words_core.specs.declared.next.NextWord.TheVariants.{OptionOrCommand, Command as CommandAlone, OptionOrOperand, Value as NextValue, Operand as OperandAlone, Nothing}
@@ -22,20 +22,20 @@ use Rattle.words_core.specs.declared.reading.AppletSite.{AppletSite}
 use Rattle.words_core.specs.declared.reading.Start.{Start}
 use Rattle.words_core.specs.declared.usage.UsageReason.{UsageReason}
 use Rattle.words_core.specs.declared.usage.UsageReason.TheVariants.{CommandMissing, CommandUnknown, OptionEarly, OptionUnknown, OptionRepeated, SecondKind, ValueGiven, ValueMissing, ValueBad, ScriptRepeated, TooManyOperands, OperandBad, OperandMissing, KindMissing, OptionMissing}
-use Rattle.words_core.specs.Grammar.{applet_site, attached_value, is_double_dash, is_option, line_start, next_after, option_name, reading_after_applet}
+use Rattle.words_core.specs.Grammar.{applet_site, attached_value, is_double_dash, is_option, start_of_command_line, next_after, option_name, reading_after_applet}
 use Rattle.words_core.specs.HelpTexts.{program_usage}
-use Rattle.words_core.specs.Options.{OptionSpec, applet_word, option_spelled, options_of}
+use Rattle.words_core.specs.Options.{OptionSpec, applet_word, option_of_word, options_of}
 
 -- ---- the reason
 
 -- why a text is no value of an option although it is a value of its kind: one was given before
-abbrev pub repeated_by : ValueRule → UsageReason
-repeated_by rule = if rule.single then OptionRepeated else ScriptRepeated
+abbrev pub repeated_value_reason : ValueRule → UsageReason
+repeated_value_reason rule = if rule.single then OptionRepeated else ScriptRepeated
 
 -- why a text is no value of an option
 abbrev pub value_reason : ValueRule → List ℕ → UsageReason
 value_reason rule text =
-    if is_value rule.kind text then repeated_by rule else ValueBad rule.kind
+    if is_value rule.kind text then repeated_value_reason rule else ValueBad rule.kind
 
 -- why an option of the command cannot be given, by what it means and the value in its word
 abbrev pub meaning_reason : Option (List ℕ) → Meaning → UsageReason
@@ -55,7 +55,7 @@ option_reason word (Some option) = meaning_reason (attached_value word) option.m
 abbrev pub operand_reason : List ℕ → Option OperandRule → UsageReason
 operand_reason word None = TooManyOperands
 operand_reason word (Some rule) =
-    if is_of_kind rule.kind word then TooManyOperands else OperandBad rule.kind
+    if is_operand_of_kind rule.kind word then TooManyOperands else OperandBad rule.kind
 
 -- why a word after the command is wrong, by what it could have been
 abbrev pub word_reason : Option OperandRule → List ℕ → NextWord → UsageReason
@@ -63,7 +63,7 @@ word_reason rule word OptionOrCommand = OptionUnknown
 word_reason rule word CommandAlone = CommandUnknown
 word_reason rule word (OptionOrOperand applet) =
     if is_option word && not (is_double_dash word) then
-    option_reason word (option_spelled (options_of applet) (option_name word)) else
+    option_reason word (option_of_word (options_of applet) (option_name word)) else
     operand_reason word rule
 word_reason rule word (NextValue applet value) = value_reason value word
 word_reason rule word (OperandAlone applet) = operand_reason word rule
@@ -79,7 +79,7 @@ missing_reason None (Some rule) = OperandMissing rule.kind
 -- which word is missing after the last one, by what it could be
 abbrev pub end_reason : Applet → Option OperandRule → NextWord → UsageReason
 end_reason applet rule (NextValue other value) = ValueMissing
-end_reason applet rule next = missing_reason (needed_option applet) rule
+end_reason applet rule next = missing_reason (required_option_letter applet) rule
 
 -- why the place after a command that was found is wrong, by the word there, if there is one
 abbrev pub line_reason : Applet → Option OperandRule → NextWord → Option (List ℕ) → UsageReason
@@ -98,43 +98,43 @@ early_reason (Err place) next word = command_reason next word
 early_reason (Ok site) next word = OptionUnknown
 
 -- the operands of the command that was found, under all flags that are read
-abbrev pub line_rule : List (List ℕ) → Start → Option OperandRule
-line_rule words start = operand_rule start.applet (reading_after_applet start words).state.flags
+abbrev pub operand_rule_of_words : List (List ℕ) → Start → Option OperandRule
+operand_rule_of_words words start = operand_rule start.applet (reading_after_applet start words).state.flags
 
 -- why a place offends, by the start that was found in the words
-abbrev pub reason_from : List (List ℕ) → ℕ → Result Start ℕ → UsageReason
-reason_from words place (Err at) =
+abbrev pub usage_reason_after_start : List (List ℕ) → ℕ → Result Start ℕ → UsageReason
+usage_reason_after_start words place (Err at) =
     early_reason (applet_site 1 words) (next_after (take (place - 1) words))
     (slice_get words (place - 1))
-reason_from words place (Ok start) =
-    line_reason start.applet (line_rule words start) (next_after (take (place - 1) words))
+usage_reason_after_start words place (Ok start) =
+    line_reason start.applet (operand_rule_of_words words start) (next_after (take (place - 1) words))
     (slice_get words (place - 1))
 
 -- why the words are a usage error at a place
 unfoldable pub usage_reason : List (List ℕ) → ℕ → UsageReason
-usage_reason words place = reason_from words place (line_start words)
+usage_reason words place = usage_reason_after_start words place (start_of_command_line words)
 
 -- ---- its text
 
 -- what a value of an option is
-abbrev pub value_kind_text : ValueKind → List ℕ
-value_kind_text AnyText = codes "a text"
-value_kind_text Nonempty = codes "a text that is not empty"
-value_kind_text FileValue = codes "a path below this folder"
-value_kind_text Output = codes "a path of at most 1016 bytes below this folder"
-value_kind_text Uncompressed = codes "none"
-value_kind_text Script = codes "TYPE:FILE with the type of a script"
+abbrev pub value_kind_description : ValueKind → List ℕ
+value_kind_description AnyText = codes "a text"
+value_kind_description Nonempty = codes "a text that is not empty"
+value_kind_description FileValue = codes "a path below this folder"
+value_kind_description Output = codes "a path of at most 1016 bytes below this folder"
+value_kind_description Uncompressed = codes "none"
+value_kind_description Script = codes "TYPE:FILE with the type of a script"
 
 -- what an operand is
-abbrev pub operand_kind_text : OperandKind → List ℕ
-operand_kind_text File = codes "a path below this folder"
-operand_kind_text Any = codes "a text"
-operand_kind_text Dependency = codes "a dependency"
-operand_kind_text DependencyName = codes "the name of a dependency"
-operand_kind_text PackageName = codes "the name of a package"
-operand_kind_text Path = codes "a path"
-operand_kind_text Number = codes "a number from 1 to 20000"
-operand_kind_text Pattern = codes "a pattern"
+abbrev pub operand_kind_description : OperandKind → List ℕ
+operand_kind_description File = codes "a path below this folder"
+operand_kind_description Any = codes "a text"
+operand_kind_description Dependency = codes "a dependency"
+operand_kind_description DependencyName = codes "the name of a dependency"
+operand_kind_description PackageName = codes "the name of a package"
+operand_kind_description Path = codes "a path"
+operand_kind_description Number = codes "a number from 1 to 20000"
+operand_kind_description Pattern = codes "a pattern"
 
 -- the text of a reason
 abbrev pub reason_text : UsageReason → List ℕ
@@ -155,11 +155,11 @@ reason_text KindMissing = codes "an option is missing: --test or --check"
 reason_text OptionMissing = codes "an option is missing: --output"
 
 -- what ends the text of a reason: the kind of the value or operand, if it is about one
-abbrev pub reason_kind : UsageReason → List ℕ
-reason_kind (ValueBad kind) = value_kind_text kind
-reason_kind (OperandBad kind) = operand_kind_text kind
-reason_kind (OperandMissing kind) = operand_kind_text kind
-reason_kind reason = []
+abbrev pub description_of_expected_kind : UsageReason → List ℕ
+description_of_expected_kind (ValueBad kind) = value_kind_description kind
+description_of_expected_kind (OperandBad kind) = operand_kind_description kind
+description_of_expected_kind (OperandMissing kind) = operand_kind_description kind
+description_of_expected_kind reason = []
 
 -- ---- the line
 
@@ -169,8 +169,8 @@ texts_joined [] = []
 texts_joined (text ∷ texts) = text ++ texts_joined texts
 
 -- how many bytes of a word are shown
-abbrev pub longest_shown : ℕ
-longest_shown = 64
+abbrev pub most_shown_bytes : ℕ
+most_shown_bytes = 64
 
 -- a hexadecimal digit, in lower case
 abbrev pub hex_digit : ℕ → ℕ
@@ -192,41 +192,41 @@ shown_bytes [] = []
 shown_bytes (byte ∷ bytes) = shown_byte byte ++ shown_bytes bytes
 
 -- what precedes a word that is shown: its place
-abbrev pub word_front : ℕ → List ℕ
-word_front place = texts_joined (codes "word " ∷ (decimal place ∷ (codes ", \"" ∷ [])))
+abbrev pub text_before_shown_word : ℕ → List ℕ
+text_before_shown_word place = texts_joined (codes "word " ∷ (decimal place ∷ (codes ", \"" ∷ [])))
 
 -- what follows a word that is shown; two dots say that it is longer
-abbrev pub word_end : List ℕ → List ℕ
-word_end word = if nat_lt longest_shown (length word) then codes "..\": " else codes "\": "
+abbrev pub text_after_shown_word : List ℕ → List ℕ
+text_after_shown_word word = if nat_lt most_shown_bytes (length word) then codes "..\": " else codes "\": "
 
 -- the wrong word, with its place; nothing if a word is missing
-abbrev pub place_text : ℕ → Option (List ℕ) → List ℕ
-place_text place None = []
-place_text place (Some word) =
-    word_front place ++ shown_bytes (take longest_shown word) ++ word_end word
+abbrev pub shown_word_with_place : ℕ → Option (List ℕ) → List ℕ
+shown_word_with_place place None = []
+shown_word_with_place place (Some word) =
+    text_before_shown_word place ++ shown_bytes (take most_shown_bytes word) ++ text_after_shown_word word
 
 -- the word of the command whose help is named, after a space; nothing if none was found
-abbrev pub asked_space : Result AppletSite ℕ → List ℕ
-asked_space (Err place) = []
-asked_space (Ok site) = codes " "
+abbrev pub space_before_help_topic : Result AppletSite ℕ → List ℕ
+space_before_help_topic (Err place) = []
+space_before_help_topic (Ok site) = codes " "
 
-abbrev pub asked_word : Result AppletSite ℕ → List ℕ
-asked_word (Err place) = []
-asked_word (Ok site) = applet_word site.applet
+abbrev pub help_topic_word : Result AppletSite ℕ → List ℕ
+help_topic_word (Err place) = []
+help_topic_word (Ok site) = applet_word site.applet
 
 -- the usage of the program, if there are no words
-abbrev pub usage_after : List (List ℕ) → List ℕ
-usage_after [] = program_usage
-usage_after (word ∷ words) = []
+abbrev pub usage_if_no_words : List (List ℕ) → List ℕ
+usage_if_no_words [] = program_usage
+usage_if_no_words (word ∷ words) = []
 
 -- the end of the line: the reason, and whose help to read
-abbrev pub hint_end : List (List ℕ) → UsageReason → List (List ℕ)
-hint_end words reason =
-    reason_text reason ∷ (reason_kind reason ∷ (codes "; see apk" ∷ (asked_space (applet_site 1 words)
-    ∷ (asked_word (applet_site 1 words) ∷ (codes " --help\n" ∷ (usage_after words ∷ []))))))
+abbrev pub end_of_usage_hint : List (List ℕ) → UsageReason → List (List ℕ)
+end_of_usage_hint words reason =
+    reason_text reason ∷ (description_of_expected_kind reason ∷ (codes "; see apk" ∷ (space_before_help_topic (applet_site 1 words)
+    ∷ (help_topic_word (applet_site 1 words) ∷ (codes " --help\n" ∷ (usage_if_no_words words ∷ []))))))
 
 -- the line that says why the words are a usage error at a place
-abbrev pub hint_text : List (List ℕ) → ℕ → List ℕ
-hint_text words place =
-    codes "apk: " ++ place_text place (slice_get words (place - 1))
-    ++ texts_joined (hint_end words (usage_reason words place))
+abbrev pub usage_hint_text : List (List ℕ) → ℕ → List ℕ
+usage_hint_text words place =
+    codes "apk: " ++ shown_word_with_place place (slice_get words (place - 1))
+    ++ texts_joined (end_of_usage_hint words (usage_reason words place))

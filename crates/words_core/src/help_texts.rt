@@ -1,7 +1,7 @@
 //! The texts of `--help` and `--version`, put together from the rows of `help_rows`. The texts are
 //! shown in `docs/commands.md`, "Help".
 ghost use Rattle.std.specs.Prelude.{◌≡◌, ◌≤◌, ◌++◌, IfOk, OnOk, codes, map};
-ghost use Rattle.words_core.specs.HelpTexts.{command_help, command_line, commands_text, common_text, first_steps, help_text, line_text, lines_text, program_help, program_usage, section_text, spaces_after, topic_of, usage_line, usage_lines_after, version_line};
+ghost use Rattle.words_core.specs.HelpTexts.{command_help, command_line, commands_text, common_text, first_steps, help_text, line_text, lines_text, program_help, program_usage, section_text, spaces_after, help_topic_of, usage_line, usage_lines_after, version_line};
 ghost use Rattle.words_core.specs.Rows.{help_row_line};
 
 use crate::help_rows::{
@@ -40,7 +40,7 @@ pub fn help(alloc: Global, operands: &Operands) -> Result<Text, AllocError>
     ensures { IfOk result (λ text. text ≡ help_text operands.now) }
 {
     let mut text = Vec::new(alloc);
-    match topic_of(operands) {
+    match help_topic_of(operands) {
         Some(applet) => push_command_help(&mut text, applet)?,
         None => push_program_help(&mut text)?,
     }
@@ -48,8 +48,8 @@ pub fn help(alloc: Global, operands: &Operands) -> Result<Text, AllocError>
 }
 
 // The command that is asked about, by the operands of `Help`.
-fn topic_of(operands: &Operands) -> Option<Applet>
-    ensures { result ≡ topic_of operands.now }
+fn help_topic_of(operands: &Operands) -> Option<Applet>
+    ensures { result ≡ help_topic_of operands.now }
 {
     if operands.is_empty() {
         return None;

@@ -6,13 +6,13 @@ ghost use Rattle.command_core.specs.Command.{CommandLine};
 ghost use Rattle.command_core.specs.declared.command.Applet.{Applet};
 ghost use Rattle.words_core.specs.Asked.{IsAskedBy};
 ghost use Rattle.words_core.specs.Grammar.{command_of};
-ghost use Rattle.words_core.specs.Kinds.{can_get_kind};
+ghost use Rattle.words_core.specs.Kinds.{can_info_kind_follow};
 ghost use Rattle.words_core.specs.Lines.{IsLineOf};
 ghost use Rattle.words_core.specs.Options.{applets, common_options, own_options};
-ghost use Rattle.words_core.specs.Explained.{are_help_of, are_listed, asking_options};
+ghost use Rattle.words_core.specs.Explained.{are_help_of, are_listed, help_and_version_options};
 ghost use Rattle.words_core.specs.HelpTexts.{common_help, option_help};
 ghost use Rattle.words_core.specs.Reasons.{IsUsageReason};
-ghost use Rattle.words_core.specs.Rows.{has_its_letter};
+ghost use Rattle.words_core.specs.Rows.{has_letter_of_short_word};
 ghost use Rattle.words_core.specs.Usage.{usage_reason};
 ghost use Rattle.words_core.specs.Stuck.{are_stuck};
 
@@ -40,7 +40,7 @@ pub fn usage_errors_are_at_words()
 /// still follow: `info usr/x` is refused at `usr/x`, and `info usr/x -W` is not.
 pub fn words_offend_whatever_follows()
     ensures { (words more : List (List ℕ)) (place : ℕ) →
-        IsTrue (not (can_get_kind words)) → command_of words ≡ Err place →
+        IsTrue (not (can_info_kind_follow words)) → command_of words ≡ Err place →
         place ≤ length words → command_of (words ++ more) ≡ Err place }
 {}
 
@@ -66,13 +66,13 @@ pub fn stuck_words_are_no_command()
 /// -W` is refused at `b`.
 pub fn what_follows_a_command_offends_after_it()
     ensures { (words more : List (List ℕ)) (command : CommandLine) (place : ℕ) →
-        IsTrue (not (can_get_kind words)) → command_of words ≡ Ok command →
+        IsTrue (not (can_info_kind_follow words)) → command_of words ≡ Ok command →
         command_of (words ++ more) ≡ Err place → length words < place }
 {}
 
 /// The letter of each option with values is that of its short word.
 pub fn letters_are_those_of_short_words()
-    ensures { (applet : Applet) → IsTrue (list_all has_its_letter (own_options applet)) }
+    ensures { (applet : Applet) → IsTrue (list_all has_letter_of_short_word (own_options applet)) }
 {}
 
 /// The reason that the line after a usage error gives is so, of the word at the place or of the
@@ -87,6 +87,6 @@ pub fn a_reason_is_so()
 pub fn help_explains_each_option()
     ensures own { (applet : Applet) → IsTrue (are_help_of (option_help applet) (own_options
         applet)) }
-    ensures common { IsTrue (are_help_of common_help (common_options ++ asking_options)) }
+    ensures common { IsTrue (are_help_of common_help (common_options ++ help_and_version_options)) }
     ensures listed { IsTrue (are_listed applets) }
 {}

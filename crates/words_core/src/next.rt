@@ -1,11 +1,11 @@
 //! What the next word of a command line can be, and what a word asks for if an option can be there:
 //! help, or the version of the program. The rules are in `docs/commands.md`, "Words" and "Help".
 ghost use Rattle.std.specs.Prelude.{◌≡◌, ◌+◌, ◌≤◌, IsTrue, length, take};
-ghost use Rattle.words_core.specs.Grammar.{asked_at, is_option, next_after, next_word, awaited_rule, takes_option};
+ghost use Rattle.words_core.specs.Grammar.{help_or_version_option_at, is_option, next_after, next_word, awaited_rule, can_be_option};
 ghost use Rattle.words_core.specs.Options.{options_of};
 ghost use Rattle.words_core.specs.declared.next.NextWord.TheVariants.{OptionOrCommand, OptionOrOperand};
 
-use crate::options::{applet_of, asked_by, option_spelled};
+use crate::options::{applet_of, applet_of_help_or_version_option, option_of_word};
 use crate::word::{attached_value, is_double_dash, is_option, option_name};
 use base_core::Words;
 use command_core::{Applet, ValueRule};
@@ -46,8 +46,8 @@ impl NextWord {
     }
 
     /// Whether an option can be the next word.
-    pub(crate) fn takes_option(self) -> bool
-        ensures { result ≡ takes_option self }
+    pub(crate) fn can_be_option(self) -> bool
+        ensures { result ≡ can_be_option self }
     {
         matches!(
             self,
@@ -96,7 +96,7 @@ fn awaited_rule(applet: Applet, word: &[u8]) -> Option<ValueRule>
     if attached_value(word).is_some() {
         return None;
     }
-    match option_spelled(applet, option_name(word)) {
+    match option_of_word(applet, option_name(word)) {
         Some(option) => option.meaning.rule(),
         None => None,
     }
@@ -115,17 +115,17 @@ pub(crate) fn next_after(words: &Words, count: usize) -> NextWord
 }
 
 /// The applet that the word at a place asks for, if it asks and an option can be there.
-pub(crate) fn asked_at(words: &Words, place: u32) -> Option<Applet>
+pub(crate) fn help_or_version_option_at(words: &Words, place: u32) -> Option<Applet>
     requires low { 1 ≤ place }
     requires high { place ≤ length words.now + 1 }
-    ensures { result ≡ asked_at words.now place }
+    ensures { result ≡ help_or_version_option_at words.now place }
 {
     let before = place as usize - 1;
-    if !next_after(words, before).takes_option() {
+    if !next_after(words, before).can_be_option() {
         return None;
     }
     if before == words.len() {
         return None;
     }
-    asked_by(words.word(before))
+    applet_of_help_or_version_option(words.word(before))
 }

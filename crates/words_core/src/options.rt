@@ -4,8 +4,8 @@
 ghost use Rattle.std.specs.Prelude.{◌≡◌, ◌||◌, ◌++◌, map};
 ghost use Rattle.std.specs.Option.{option_and_then, option_map};
 ghost use Rattle.std.specs.Str.{bytes_eq};
-ghost use Rattle.words_core.specs.Grammar.{rule_in, with_meaning, with_spec};
-ghost use Rattle.words_core.specs.Options.{applet_of, applet_word, asked_by, common_options, is_early, option_spelled, options_of, own_options};
+ghost use Rattle.words_core.specs.Grammar.{value_rule_of_meaning, flags_with_meaning, flags_with_option};
+ghost use Rattle.words_core.specs.Options.{applet_of, applet_word, applet_of_help_or_version_option, common_options, is_early_option_word, option_of_word, options_of, own_options};
 ghost use Rattle.words_core.specs.Rows.{option_spec};
 
 use command_core::{
@@ -271,17 +271,17 @@ pub(crate) fn applet_of(word: &[u8]) -> Option<Applet>
 }
 
 /// Whether a word is an option that may precede the applet.
-#[tactic(auto, unfolding(crate::specs::Options::early_words))]
-pub(crate) fn is_early(word: &[u8]) -> bool
-    ensures { result ≡ is_early word.now }
+#[tactic(auto, unfolding(crate::specs::Options::early_option_words))]
+pub(crate) fn is_early_option_word(word: &[u8]) -> bool
+    ensures { result ≡ is_early_option_word word.now }
 {
     is_among(&EARLY_WORDS, word)
 }
 
 /// The option that a word spells, among those of an applet.
 #[tactic(auto, unfolding(crate::specs::Options::options_of))]
-pub(crate) fn option_spelled(applet: Applet, word: &[u8]) -> Option<OptionRow>
-    ensures { option_map option_spec result ≡ option_spelled (options_of applet) word.now }
+pub(crate) fn option_of_word(applet: Applet, word: &[u8]) -> Option<OptionRow>
+    ensures { option_map option_spec result ≡ option_of_word (options_of applet) word.now }
 {
     match applet {
         Applet::Help | Applet::ProgramVersion => None,
@@ -292,7 +292,7 @@ pub(crate) fn option_spelled(applet: Applet, word: &[u8]) -> Option<OptionRow>
 // The option that a word spells, among those of every applet and those of this one.
 fn common_or_own(applet: Applet, word: &[u8]) -> Option<OptionRow>
     ensures { option_map option_spec result
-        ≡ option_spelled (common_options ++ own_options applet) word.now }
+        ≡ option_of_word (common_options ++ own_options applet) word.now }
 {
     match common_option(word) {
         Some(option) => Some(option),
@@ -301,8 +301,8 @@ fn common_or_own(applet: Applet, word: &[u8]) -> Option<OptionRow>
 }
 
 /// The applet that an option asks for: `--help` or `-h`, and `--version` or `-V`.
-pub(crate) fn asked_by(word: &[u8]) -> Option<Applet>
-    ensures { result ≡ asked_by word.now }
+pub(crate) fn applet_of_help_or_version_option(word: &[u8]) -> Option<Applet>
+    ensures { result ≡ applet_of_help_or_version_option word.now }
 {
     if is_among(&HELP_WORDS, word) {
         return Some(Applet::Help);
@@ -316,7 +316,7 @@ pub(crate) fn asked_by(word: &[u8]) -> Option<Applet>
 // The option that a word spells, among those of every applet.
 #[tactic(auto, unfolding(crate::specs::Options::common_options))]
 fn common_option(word: &[u8]) -> Option<OptionRow>
-    ensures { option_map option_spec result ≡ option_spelled common_options word.now }
+    ensures { option_map option_spec result ≡ option_of_word common_options word.now }
 {
     find_option(&COMMON, word)
 }
@@ -324,7 +324,7 @@ fn common_option(word: &[u8]) -> Option<OptionRow>
 // The option that a word spells, among some.
 fn find_option(options: &[OptionRow], word: &[u8]) -> Option<OptionRow>
     ensures { option_map option_spec result
-        ≡ option_spelled (map option_spec options.now) word.now }
+        ≡ option_of_word (map option_spec options.now) word.now }
 {
     options
         .iter()
@@ -334,8 +334,8 @@ fn find_option(options: &[OptionRow], word: &[u8]) -> Option<OptionRow>
 
 /// Flags with an option, if there is one. None if there is none, if it is no flag, or if it is a
 /// second kind.
-pub(crate) fn with_option(flags: Flags, option: Option<OptionRow>) -> Option<Flags>
-    ensures { result ≡ option_and_then (with_spec flags) (option_map option_spec option) }
+pub(crate) fn flags_with_option_word(flags: Flags, option: Option<OptionRow>) -> Option<Flags>
+    ensures { result ≡ option_and_then (flags_with_option flags) (option_map option_spec option) }
 {
     option?.meaning.with(flags)
 }
@@ -353,7 +353,7 @@ impl OptionRow {
 impl Meaning {
     /// The rule of the values that an option has. None: it is a flag.
     pub(crate) fn rule(self) -> Option<ValueRule>
-        ensures { result ≡ rule_in self }
+        ensures { result ≡ value_rule_of_meaning self }
     {
         match self {
             Meaning::Value(rule) => Some(rule),
@@ -363,11 +363,11 @@ impl Meaning {
 
     /// These flags and the option's. None if it is no flag, or a second kind.
     pub(crate) fn with(self, flags: Flags) -> Option<Flags>
-        ensures { result ≡ with_meaning flags self }
+        ensures { result ≡ flags_with_meaning flags self }
     {
         match self {
             Meaning::Flag(flag) => Some(flags.with(flag)),
-            Meaning::Kind(flag) if flags.has_kind() && !flags.has(flag) => None,
+            Meaning::Kind(flag) if flags.has_command_kind_flag() && !flags.has(flag) => None,
             Meaning::Kind(flag) => Some(flags.with(flag)),
             Meaning::Value(_) => None,
         }

@@ -2,12 +2,12 @@
 //! `docs/commands.md`, "Words" and "Help".
 ghost use Rattle.std.specs.Prelude.{◌≡◌, IfOk, IfErr, IsTrue, OnErr};
 ghost use Rattle.std.specs.Result.{is_ok};
-ghost use Rattle.command_core.specs.Sound.{is_command};
+ghost use Rattle.command_core.specs.Sound.{is_valid_command};
 ghost use Rattle.words_core.specs.Faults.{HasStartIfOutOfMemory, IsWordsFault};
-ghost use Rattle.words_core.specs.Grammar.{applet_site, asked_command, command_of, command_of_reading, line_command, line_start, topic_at};
+ghost use Rattle.words_core.specs.Grammar.{applet_site, help_or_version_command, command_of, command_of_reading, spelled_command, start_of_command_line, help_topic_operands};
 ghost use Rattle.words_core.specs.Steps.{IsSoundReading};
 
-use crate::next::asked_at;
+use crate::next::help_or_version_option_at;
 use crate::options::applet_word;
 use crate::reading::{Reading, find_applet, read_after_applet, read_start};
 use crate::word::place_after_word;
@@ -47,7 +47,7 @@ impl From<AllocError> for WordsFault {
 pub fn read_words(alloc: Global, words: &Words) -> Result<Command, WordsFault>
     ensures ok { IfOk result (λ command. command_of words.now ≡ Ok command) }
     ensures usage { IfErr result (λ fault. IsWordsFault fault (command_of words.now)) }
-    ensures memory { IfErr result (λ fault. HasStartIfOutOfMemory fault (line_start words.now)) }
+    ensures memory { IfErr result (λ fault. HasStartIfOutOfMemory fault (start_of_command_line words.now)) }
 {
     match read_line(alloc, words) {
         Ok(command) => Ok(command),
@@ -59,24 +59,28 @@ pub fn read_words(alloc: Global, words: &Words) -> Result<Command, WordsFault>
 // The command that the word at a place asks for, if it is the first wrong one.
 #[tactic(auto, unfolding(crate::specs::Grammar::command_of))]
 fn read_asked(alloc: Global, words: &Words, place: u32) -> Result<Command, WordsFault>
-    requires { line_command words.now ≡ Err place }
+    requires { spelled_command words.now ≡ Err place }
     ensures ok { IfOk result (λ command. command_of words.now ≡ Ok command) }
     ensures usage { IfErr result (λ fault. IsWordsFault fault (command_of words.now)) }
-    ensures memory { IfErr result (λ fault. HasStartIfOutOfMemory fault (line_start words.now)) }
+    ensures memory { IfErr result (λ fault. HasStartIfOutOfMemory fault (start_of_command_line words.now)) }
 {
-    let Some(applet) = asked_at(words, place) else {
+    let Some(applet) = help_or_version_option_at(words, place) else {
         return Err(WordsFault::Usage { place });
     };
-    match asked_command(alloc, words, applet) {
+    match help_or_version_command(alloc, words, applet) {
         Ok(command) => Ok(command),
         Err(_) => Err(WordsFault::Memory),
     }
 }
 
 // The command that words ask for.
-fn asked_command(alloc: Global, words: &Words, applet: Applet) -> Result<Command, AllocError>
-    requires { IsTrue (is_command (asked_command words.now applet)) }
-    ensures ok { IfOk result (λ command. command ≡ asked_command words.now applet) }
+fn help_or_version_command(
+    alloc: Global,
+    words: &Words,
+    applet: Applet,
+) -> Result<Command, AllocError>
+    requires { IsTrue (is_valid_command (help_or_version_command words.now applet)) }
+    ensures ok { IfOk result (λ command. command ≡ help_or_version_command words.now applet) }
     ensures memory { OnErr result (IsTrue (is_ok (applet_site 1 words.now))) }
 {
     let operands = match applet {
@@ -94,7 +98,7 @@ fn asked_command(alloc: Global, words: &Words, applet: Applet) -> Result<Command
 
 // The operands of `Help`: the word of the applet, if there is one.
 fn topic(alloc: Global, words: &Words) -> Result<Operands, AllocError>
-    ensures ok { IfOk result (λ operands. operands ≡ topic_at (applet_site 1 words.now)) }
+    ensures ok { IfOk result (λ operands. operands ≡ help_topic_operands (applet_site 1 words.now)) }
     ensures memory { OnErr result (IsTrue (is_ok (applet_site 1 words.now))) }
 {
     let mut operands = Operands::new(alloc);
@@ -106,11 +110,11 @@ fn topic(alloc: Global, words: &Words) -> Result<Operands, AllocError>
 }
 
 // The command that the words spell.
-#[tactic(auto, unfolding(crate::specs::Grammar::line_command))]
+#[tactic(auto, unfolding(crate::specs::Grammar::spelled_command))]
 fn read_line(alloc: Global, words: &Words) -> Result<Command, WordsFault>
-    ensures ok { IfOk result (λ command. line_command words.now ≡ Ok command) }
-    ensures usage { IfErr result (λ fault. IsWordsFault fault (line_command words.now)) }
-    ensures memory { IfErr result (λ fault. HasStartIfOutOfMemory fault (line_start words.now)) }
+    ensures ok { IfOk result (λ command. spelled_command words.now ≡ Ok command) }
+    ensures usage { IfErr result (λ fault. IsWordsFault fault (spelled_command words.now)) }
+    ensures memory { IfErr result (λ fault. HasStartIfOutOfMemory fault (start_of_command_line words.now)) }
 {
     let start = match read_start(words) {
         Ok(start) => start,
@@ -135,7 +139,7 @@ fn judge(applet: Applet, reading: Reading, behind: u32) -> Result<Command, Words
         return Err(WordsFault::Usage { place });
     };
     // The operands that were read precede the word that could not be read.
-    if let Some(place) = rule.first_refused(&reading.operands) {
+    if let Some(place) = rule.first_refused_operand(&reading.operands) {
         return Err(WordsFault::Usage { place });
     }
     if let Some(place) = reading.unread {

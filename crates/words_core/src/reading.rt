@@ -3,14 +3,16 @@
 //! name in `specs/Grammar.antt`, or the one that its contract cites.
 ghost use Rattle.std.specs.Prelude.{◌≡◌, ◌+◌, ◌-◌, ◌++◌, ◌≤◌, ◌<◌, Some, None, IfOk, IsTrue, OnOk, length, drop, take, not};
 ghost use Rattle.std.specs.Option.{option_map};
-ghost use Rattle.command_core.specs.Applets.{needed_option};
+ghost use Rattle.command_core.specs.Applets.{required_option_letter};
 ghost use Rattle.command_core.specs.Flags.{no_flags};
-ghost use Rattle.command_core.specs.Values.{lacks_value};
-ghost use Rattle.words_core.specs.Grammar.{applet_site, early_flags, first_state, is_option, is_option_or_value, line_start, operands_of, option_reading, reading_after_applet, reading_by, reading_end, site_at, site_after_end, with_flags, with_meaning, with_meaning_at, with_rule, with_spelled, with_value, with_word};
+ghost use Rattle.command_core.specs.Values.{is_required_value_missing};
+ghost use Rattle.words_core.specs.Grammar.{applet_site, early_flags, option_state_at_start, is_option, is_option_or_value, start_of_command_line, operands_of, option_reading, reading_after_applet, words_reading_from_parts, reading_at_end_of_words, applet_site_at, site_after_end, with_flags_if_some, flags_with_meaning, state_with_meaning, with_value_option, with_option_word, with_option_value, with_option_or_value_word};
 ghost use Rattle.words_core.specs.Options.{options_of};
 ghost use Rattle.words_core.specs.Steps.{IsReadingStep};
 
-use crate::options::{Meaning, applet_of, is_early, option_spelled, with_option};
+use crate::options::{
+    Meaning, applet_of, flags_with_option_word, is_early_option_word, option_of_word,
+};
 use crate::word::{
     MOST_PLACES, attached_value, is_double_dash, is_option, option_name, place_after_word,
 };
@@ -45,7 +47,7 @@ pub(crate) struct Start {
 
 /// Reads the words up to the applet. An error is the place of the first wrong word.
 pub(crate) fn read_start(words: &Words) -> Result<Start, u32>
-    ensures { result ≡ line_start words.now }
+    ensures { result ≡ start_of_command_line words.now }
 {
     let site = find_applet(words)?;
     let flags = read_early(words, &site)?;
@@ -70,7 +72,7 @@ pub(crate) fn find_applet(words: &Words) -> Result<AppletSite, u32>
         if !is_option(word) {
             return applet_at(word, false, i);
         }
-        if !is_early(word) {
+        if !is_early_option_word(word) {
             return Err(place_after_word(i));
         }
     }
@@ -90,10 +92,10 @@ fn applet_after_end(words: &Words, before: usize) -> Result<AppletSite, u32>
 }
 
 // The applet that a word names, if this many words precede it.
-#[tactic(auto, unfolding(crate::specs::Grammar::site_at))]
+#[tactic(auto, unfolding(crate::specs::Grammar::applet_site_at))]
 fn applet_at(word: &[u8], ended: bool, before: usize) -> Result<AppletSite, u32>
     requires { before < MOST_PLACES }
-    ensures { result ≡ site_at ended (before + 1) word.now }
+    ensures { result ≡ applet_site_at ended (before + 1) word.now }
 {
     match applet_of(word) {
         Some(applet) => Ok(AppletSite {
@@ -119,7 +121,7 @@ fn read_early(words: &Words, site: &AppletSite) -> Result<Flags, u32>
         if is_double_dash(word) {
             return Ok(flags);
         }
-        match with_option(flags, option_spelled(site.applet, word)) {
+        match flags_with_option_word(flags, option_of_word(site.applet, word)) {
             Some(more) => flags = more,
             None => return Err(place_after_word(i)),
         }
@@ -141,7 +143,7 @@ pub(crate) struct OptionState {
 impl OptionState {
     // The state after the applet: the flags before it, and no values.
     fn new(alloc: Global, flags: Flags) -> OptionState
-        ensures { result ≡ first_state flags }
+        ensures { result ≡ option_state_at_start flags }
     {
         OptionState {
             flags,
@@ -161,7 +163,7 @@ impl OptionState {
     // be read, and then nothing changes.
     fn read_word(&mut self, applet: Applet, place: u32, word: &[u8]) -> Result<bool, AllocError>
         requires { IsTrue (is_option_or_value self.old word.now) }
-        ensures { IfOk result (λ good. IsReadingStep good self.old self.new (with_word
+        ensures { IfOk result (λ good. IsReadingStep good self.old self.new (with_option_or_value_word
             (options_of applet) self.old place word.now)) }
     {
         match self.awaiting {
@@ -172,9 +174,9 @@ impl OptionState {
 
     /// Whether the option that an applet needs was given.
     pub(crate) fn has_needed(&self, applet: Applet) -> bool
-        ensures { result ≡ not (lacks_value (needed_option applet) self.now.values) }
+        ensures { result ≡ not (is_required_value_missing (required_option_letter applet) self.now.values) }
     {
-        match applet.needed_option() {
+        match applet.required_option_letter() {
             Some(letter) => self.values.is_given(letter),
             None => true,
         }
@@ -184,10 +186,10 @@ impl OptionState {
     // nothing changes.
     fn read_option(&mut self, applet: Applet, place: u32, word: &[u8]) -> Result<bool, AllocError>
         requires { IsTrue (is_option word.now) }
-        ensures { IfOk result (λ good. IsReadingStep good self.old self.new (with_spelled
+        ensures { IfOk result (λ good. IsReadingStep good self.old self.new (with_option_word
             (options_of applet) self.old place word.now)) }
     {
-        match option_spelled(applet, option_name(word)) {
+        match option_of_word(applet, option_name(word)) {
             Some(option) => self.read_meaning(place, attached_value(word), option.meaning),
             None => Ok(false),
         }
@@ -202,7 +204,7 @@ impl OptionState {
         meaning: Meaning,
     ) -> Result<bool, AllocError>
         ensures { IfOk result (λ good. IsReadingStep good self.old self.new
-            (with_meaning_at self.old place (option_map (λ text. text.now) held.entry) meaning)) }
+            (state_with_meaning self.old place (option_map (λ text. text.now) held.entry) meaning)) }
     {
         match meaning {
             Meaning::Value(rule) => self.read_rule(place, held, rule),
@@ -213,8 +215,8 @@ impl OptionState {
 
     // Reads an option without a value. Returns false if its flag is a second kind.
     fn read_flag(&mut self, meaning: Meaning) -> bool
-        ensures { IsReadingStep result self.old self.new (with_flags self.old
-            (with_meaning self.old.flags meaning)) }
+        ensures { IsReadingStep result self.old self.new (with_flags_if_some self.old
+            (flags_with_meaning self.old.flags meaning)) }
     {
         match meaning.with(self.flags) {
             Some(flags) => {
@@ -234,7 +236,7 @@ impl OptionState {
         rule: ValueRule,
     ) -> Result<bool, AllocError>
         ensures { IfOk result (λ good. IsReadingStep good self.old self.new
-            (with_rule self.old place (option_map (λ text. text.now) held.entry) rule)) }
+            (with_value_option self.old place (option_map (λ text. text.now) held.entry) rule)) }
     {
         if self.values.are_spent(rule) {
             return Ok(false);
@@ -251,7 +253,7 @@ impl OptionState {
     // Reads a text as a value of an option. Returns false if the option does not have that value.
     fn read_value(&mut self, place: u32, text: &[u8], rule: ValueRule) -> Result<bool, AllocError>
         ensures { IfOk result (λ good. IsReadingStep good self.old self.new
-            (with_value self.old place text.now rule)) }
+            (with_option_value self.old place text.now rule)) }
     {
         if !rule.kind.has(text) {
             return Ok(false);
@@ -278,7 +280,7 @@ pub(crate) struct Reading {
 impl Reading {
     // The reading if all words were read.
     fn whole(state: OptionState, operands: Operands) -> Reading
-        ensures { result ≡ reading_by state operands None }
+        ensures { result ≡ words_reading_from_parts state operands None }
     {
         Reading {
             state,
@@ -289,7 +291,7 @@ impl Reading {
 
     // The reading that ends at a place, because the word there cannot be read, or is missing.
     fn up_to(place: u32, state: OptionState, operands: Operands) -> Reading
-        ensures { result ≡ reading_by state operands (Some place) }
+        ensures { result ≡ words_reading_from_parts state operands (Some place) }
     {
         Reading {
             state,
@@ -300,7 +302,7 @@ impl Reading {
 
     // The reading if the words end at a place: an awaited value is missing there.
     fn ended(place: u32, state: OptionState, operands: Operands) -> Reading
-        ensures { result ≡ reading_by state operands (reading_end state place).unread }
+        ensures { result ≡ words_reading_from_parts state operands (reading_at_end_of_words state place).unread }
     {
         match state.awaiting {
             Some(_) => Reading::up_to(place, state, operands),
@@ -331,7 +333,7 @@ pub(crate) fn read_after_applet(
 fn read_options(alloc: Global, words: &Words, start: &Start) -> Result<Reading, AllocError>
     requires { start.now.read ≤ length words.now }
     ensures { IfOk result (λ reading.
-        reading ≡ option_reading (options_of start.now.applet) (first_state start.now.flags)
+        reading ≡ option_reading (options_of start.now.applet) (option_state_at_start start.now.flags)
         (start.now.read + 1) (drop start.now.read words.now)) }
 {
     let mut state = OptionState::new(alloc, start.flags);

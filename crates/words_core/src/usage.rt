@@ -4,18 +4,18 @@ ghost use Rattle.std.specs.Prelude.{◌≡◌, ◌-◌, ◌+◌, ◌<◌, ◌≤
 ghost use Rattle.std.specs.Option.{option_map};
 ghost use Rattle.base_core.specs.Sink.{sink_change};
 ghost use Rattle.base_core.specs.Write.{Writes};
-ghost use Rattle.words_core.specs.Grammar.{applet_site, first_state, is_option, line_start, next_after, option_reading, reading_after_applet};
+ghost use Rattle.words_core.specs.Grammar.{applet_site, option_state_at_start, is_option, start_of_command_line, next_after, option_reading, reading_after_applet};
 ghost use Rattle.words_core.specs.Options.{options_of};
 ghost use Rattle.words_core.specs.Rows.{option_spec};
-ghost use Rattle.words_core.specs.Steps.{asks_flags, flags_spelled, has_no_values};
+ghost use Rattle.words_core.specs.Steps.{operands_depend_on_flags, flags_with_spelled_option, has_no_values};
 ghost use Rattle.words_core.specs.declared.next.NextWord.TheVariants.{OptionOrOperand};
-ghost use Rattle.words_core.specs.Usage.{asked_space, asked_word, command_reason, early_reason, end_reason, hex_digit, hint_end, hint_text, is_plain_byte, line_reason, line_rule, longest_shown, meaning_reason, missing_reason, operand_reason, option_reason, place_text, repeated_by, shown_byte, shown_bytes, texts_joined, usage_after, usage_reason, value_reason, word_end, word_front, word_reason};
+ghost use Rattle.words_core.specs.Usage.{space_before_help_topic, help_topic_word, command_reason, early_reason, end_reason, hex_digit, end_of_usage_hint, usage_hint_text, is_plain_byte, line_reason, operand_rule_of_words, most_shown_bytes, meaning_reason, missing_reason, operand_reason, option_reason, shown_word_with_place, repeated_value_reason, shown_byte, shown_bytes, texts_joined, usage_if_no_words, usage_reason, value_reason, text_after_shown_word, text_before_shown_word, word_reason};
 
 use crate::help_rows::PROGRAM_USAGE;
 use crate::next::{NextWord, next_after};
-use crate::options::{Meaning, OptionRow, applet_word, option_spelled, with_option};
+use crate::options::{Meaning, OptionRow, applet_word, flags_with_option_word, option_of_word};
 use crate::reading::{Start, find_applet, read_start};
-use crate::usage_texts::{reason_kind, reason_text};
+use crate::usage_texts::{description_of_expected_kind, reason_text};
 use crate::word::{attached_value, is_double_dash, is_option, option_name};
 use base_core::{Sink, SinkFault, Words, write_all};
 use command_core::{Applet, Flags, OperandKind, OperandRule, ValueKind, ValueRule};
@@ -122,11 +122,11 @@ fn command_reason(next: NextWord, word: Option<&[u8]>) -> UsageReason
 
 // Why the place after a command that was found offends.
 fn line_reason(words: &Words, place: u32, start: &Start, next: NextWord) -> UsageReason
-    requires { line_start words.now ≡ Ok start.now }
-    ensures { result ≡ line_reason start.now.applet (line_rule words.now start.now) next
+    requires { start_of_command_line words.now ≡ Ok start.now }
+    ensures { result ≡ line_reason start.now.applet (operand_rule_of_words words.now start.now) next
         (slice_get words.now (place - 1)) }
 {
-    let rule = line_rule(words, start);
+    let rule = operand_rule_of_words(words, start);
     match word_at(words, place) {
         Some(word) => word_reason(rule, word, next),
         None => end_reason(start.applet, rule, next),
@@ -139,7 +139,7 @@ fn end_reason(applet: Applet, rule: Option<OperandRule>, next: NextWord) -> Usag
 {
     match next {
         NextWord::Value(_, _) => UsageReason::ValueMissing,
-        _ => missing_reason(applet.needed_option(), rule),
+        _ => missing_reason(applet.required_option_letter(), rule),
     }
 }
 
@@ -179,7 +179,7 @@ fn free_reason(applet: Applet, rule: Option<OperandRule>, word: &[u8]) -> UsageR
     if is_double_dash(word) {
         return operand_reason(word, rule);
     }
-    option_reason(word, option_spelled(applet, option_name(word)))
+    option_reason(word, option_of_word(applet, option_name(word)))
 }
 
 // Why a word is no option of the command.
@@ -235,19 +235,19 @@ fn operand_reason(word: &[u8], rule: Option<OperandRule>) -> UsageReason
 // ---- the operands of the command
 
 // The operands of the command that was found, under all flags that are read.
-fn line_rule(words: &Words, start: &Start) -> Option<OperandRule>
-    requires { line_start words.now ≡ Ok start.now }
-    ensures { result ≡ line_rule words.now start.now }
+fn operand_rule_of_words(words: &Words, start: &Start) -> Option<OperandRule>
+    requires { start_of_command_line words.now ≡ Ok start.now }
+    ensures { result ≡ operand_rule_of_words words.now start.now }
 {
-    if asks_flags(start.applet) {
+    if operands_depend_on_flags(start.applet) {
         return start.applet.operands(read_flags(words, start));
     }
     start.applet.operands(Flags::none())
 }
 
 // Whether the operands of an applet are others under other flags.
-fn asks_flags(applet: Applet) -> bool
-    ensures { result ≡ asks_flags applet }
+fn operands_depend_on_flags(applet: Applet) -> bool
+    ensures { result ≡ operands_depend_on_flags applet }
 {
     matches!(applet, Applet::Info | Applet::Version)
 }
@@ -270,7 +270,7 @@ fn flags_behind(words: &Words, start: &Start) -> Flags
     requires read { start.now.read ≤ length words.now }
     requires plain { IsTrue (has_no_values start.now.applet) }
     ensures { result ≡ (option_reading (options_of start.now.applet)
-        (first_state start.now.flags) (start.now.read + 1)
+        (option_state_at_start start.now.flags) (start.now.read + 1)
         (drop start.now.read words.now)).state.flags }
 {
     let mut flags = start.flags;
@@ -282,7 +282,7 @@ fn flags_behind(words: &Words, start: &Start) -> Flags
         if !is_option(word) {
             continue;
         }
-        match flags_with(start.applet, flags, word) {
+        match flags_with_held_meaning(start.applet, flags, word) {
             Some(more) => flags = more,
             None => return flags,
         }
@@ -292,14 +292,14 @@ fn flags_behind(words: &Words, start: &Start) -> Flags
 
 // Flags with the option that a word is. None: it is none of the command, has a value, or is a
 // second kind.
-fn flags_with(applet: Applet, flags: Flags, word: &[u8]) -> Option<Flags>
+fn flags_with_held_meaning(applet: Applet, flags: Flags, word: &[u8]) -> Option<Flags>
     requires { IsTrue (is_option word.now) }
-    ensures { result ≡ flags_spelled (options_of applet) flags word.now }
+    ensures { result ≡ flags_with_spelled_option (options_of applet) flags word.now }
 {
     if attached_value(word).is_some() {
         return None;
     }
-    with_option(flags, option_spelled(applet, option_name(word)))
+    flags_with_option_word(flags, option_of_word(applet, option_name(word)))
 }
 
 // ---- the line
@@ -308,17 +308,17 @@ fn flags_with(applet: Applet, flags: Flags, word: &[u8]) -> Option<Flags>
 /// wrong, and whose help to read. It allocates no memory. If the sink fails, a prefix of the line
 /// was written.
 pub fn explain_usage<S: Sink>(words: &Words, place: u32, sink: &mut S) -> Result<(), SinkFault>
-    ensures { Writes (hint_text words.now place)
+    ensures { Writes (usage_hint_text words.now place)
         (sink_change S.bytes S.counts sink.old sink.new) result }
 {
     write_all(sink, b"apk: ")?;
     write_place(words, place, sink)?;
-    write_texts(&hint_end(words, usage_reason(words, place)), sink)
+    write_texts(&end_of_usage_hint(words, usage_reason(words, place)), sink)
 }
 
 // Writes the word at a place, if there is one, and its place.
 fn write_place<S: Sink>(words: &Words, place: u32, sink: &mut S) -> Result<(), SinkFault>
-    ensures { Writes (place_text place (slice_get words.now (place - 1)))
+    ensures { Writes (shown_word_with_place place (slice_get words.now (place - 1)))
         (sink_change S.bytes S.counts sink.old sink.new) result }
 {
     match word_at(words, place) {
@@ -329,17 +329,17 @@ fn write_place<S: Sink>(words: &Words, place: u32, sink: &mut S) -> Result<(), S
 
 // Writes a wrong word, and its place.
 fn write_word<S: Sink>(place: u32, word: &[u8], sink: &mut S) -> Result<(), SinkFault>
-    ensures { Writes (place_text place (Some word.now))
+    ensures { Writes (shown_word_with_place place (Some word.now))
         (sink_change S.bytes S.counts sink.old sink.new) result }
 {
     write_front(place, sink)?;
     write_shown(shown_part(word), sink)?;
-    write_all(sink, word_end(word))
+    write_all(sink, text_after_shown_word(word))
 }
 
 // Writes what precedes a word that is shown.
 fn write_front<S: Sink>(place: u32, sink: &mut S) -> Result<(), SinkFault>
-    ensures { Writes (word_front place) (sink_change S.bytes S.counts sink.old sink.new) result }
+    ensures { Writes (text_before_shown_word place) (sink_change S.bytes S.counts sink.old sink.new) result }
 {
     let mut digits = Buffer::new();
     write_texts(&[b"word ", digits.format(place).as_bytes(), b", \""], sink)
@@ -348,7 +348,7 @@ fn write_front<S: Sink>(place: u32, sink: &mut S) -> Result<(), SinkFault>
 // The bytes of a word that are shown.
 #[tactic(auto, using(crate::proofs::Hints::take_within))]
 fn shown_part(word: &[u8]) -> &[u8]
-    ensures { result.now ≡ take longest_shown word.now }
+    ensures { result.now ≡ take most_shown_bytes word.now }
 {
     if word.len() > LONGEST_SHOWN {
         &word[..LONGEST_SHOWN]
@@ -358,8 +358,8 @@ fn shown_part(word: &[u8]) -> &[u8]
 }
 
 // What follows a word that is shown.
-fn word_end(word: &[u8]) -> &'static [u8]
-    ensures { result.now ≡ word_end word.now }
+fn text_after_shown_word(word: &[u8]) -> &'static [u8]
+    ensures { result.now ≡ text_after_shown_word word.now }
 {
     if word.len() > LONGEST_SHOWN {
         b"..\": "
@@ -426,23 +426,23 @@ fn write_texts<S: Sink>(texts: &[&[u8]], sink: &mut S) -> Result<(), SinkFault>
 }
 
 // The end of the line: the reason, and whose help to read.
-fn hint_end(words: &Words, reason: UsageReason) -> [&'static [u8]; 7]
-    ensures { map (λ text. text.now) result ≡ hint_end words.now reason }
+fn end_of_usage_hint(words: &Words, reason: UsageReason) -> [&'static [u8]; 7]
+    ensures { map (λ text. text.now) result ≡ end_of_usage_hint words.now reason }
 {
     [
         reason_text(reason),
-        reason_kind(reason),
+        description_of_expected_kind(reason),
         b"; see apk",
-        asked_space(words),
-        asked_word(words),
+        space_before_help_topic(words),
+        help_topic_word(words),
         b" --help\n",
-        usage_after(words),
+        usage_if_no_words(words),
     ]
 }
 
 // A space, if a command was found.
-fn asked_space(words: &Words) -> &'static [u8]
-    ensures { result.now ≡ asked_space (applet_site 1 words.now) }
+fn space_before_help_topic(words: &Words) -> &'static [u8]
+    ensures { result.now ≡ space_before_help_topic (applet_site 1 words.now) }
 {
     match find_applet(words) {
         Ok(_) => b" ",
@@ -451,8 +451,8 @@ fn asked_space(words: &Words) -> &'static [u8]
 }
 
 // The word of the command whose help is named, or nothing if none was found.
-fn asked_word(words: &Words) -> &'static [u8]
-    ensures { result.now ≡ asked_word (applet_site 1 words.now) }
+fn help_topic_word(words: &Words) -> &'static [u8]
+    ensures { result.now ≡ help_topic_word (applet_site 1 words.now) }
 {
     match find_applet(words) {
         Ok(site) => applet_word(site.applet),
@@ -462,8 +462,8 @@ fn asked_word(words: &Words) -> &'static [u8]
 
 // The usage of the program, if there are no words.
 #[tactic(auto, unfolding(crate::specs::HelpTexts::program_usage))]
-fn usage_after(words: &Words) -> &'static [u8]
-    ensures { result.now ≡ usage_after words.now }
+fn usage_if_no_words(words: &Words) -> &'static [u8]
+    ensures { result.now ≡ usage_if_no_words words.now }
 {
     if words.is_empty() { PROGRAM_USAGE } else { b"" }
 }

@@ -1,6 +1,6 @@
 //! The texts of the reasons of usage errors. They are listed in `docs/commands.md`, "Help".
 ghost use Rattle.std.specs.Prelude.{◌≡◌};
-ghost use Rattle.words_core.specs.Usage.{operand_kind_text, reason_kind, reason_text, value_kind_text};
+ghost use Rattle.words_core.specs.Usage.{operand_kind_description, description_of_expected_kind, reason_text, value_kind_description};
 
 use crate::usage::UsageReason;
 use command_core::{OperandKind, ValueKind};
@@ -29,21 +29,21 @@ pub(crate) fn reason_text(reason: UsageReason) -> &'static [u8]
 }
 
 /// What ends the text of a reason: the kind of the value or operand, if it is about one.
-pub(crate) fn reason_kind(reason: UsageReason) -> &'static [u8]
-    ensures { result.now ≡ reason_kind reason }
+pub(crate) fn description_of_expected_kind(reason: UsageReason) -> &'static [u8]
+    ensures { result.now ≡ description_of_expected_kind reason }
 {
     match reason {
-        UsageReason::ValueBad(kind) => value_kind_text(kind),
+        UsageReason::ValueBad(kind) => value_kind_description(kind),
         UsageReason::OperandBad(kind) | UsageReason::OperandMissing(kind) => {
-            operand_kind_text(kind)
+            operand_kind_description(kind)
         }
         _ => b"",
     }
 }
 
 // What a value of an option is.
-fn value_kind_text(kind: ValueKind) -> &'static [u8]
-    ensures { result.now ≡ value_kind_text kind }
+fn value_kind_description(kind: ValueKind) -> &'static [u8]
+    ensures { result.now ≡ value_kind_description kind }
 {
     match kind {
         ValueKind::Any => b"a text",
@@ -56,8 +56,8 @@ fn value_kind_text(kind: ValueKind) -> &'static [u8]
 }
 
 // What an operand is.
-fn operand_kind_text(kind: OperandKind) -> &'static [u8]
-    ensures { result.now ≡ operand_kind_text kind }
+fn operand_kind_description(kind: OperandKind) -> &'static [u8]
+    ensures { result.now ≡ operand_kind_description kind }
 {
     match kind {
         OperandKind::File => b"a path below this folder",

@@ -12,12 +12,12 @@ use Rattle.adb_view.specs.declared.tables.Which.TheVariants.{Index}
 use Rattle.adb_view.specs.Plain.{Plain, Plains, none, more}
 use Rattle.base_core.specs.declared.cause.Cause.{Cause}
 use Rattle.engine_core.specs.candidate_core.Candidates.{Candidate, as_installed, candidate_of, candidates_of_index, is_same_package}
-use Rattle.engine_core.specs.candidate_core.Rank.{SealedPool, UpgradedNames, sealed_pool_by}
+use Rattle.engine_core.specs.candidate_core.Rank.{SealedPool, UpgradedNames, sealed_pool_from_parts}
 use Rattle.engine_core.specs.candidate_core.declared.candidate_list.TheConstants.{MOST_CANDIDATES}
-use Rattle.engine_core.specs.change_inputs.Candidates.{candidates_from, candidates_of, installed_candidate, root_pool}
+use Rattle.engine_core.specs.change_inputs.Candidates.{candidates_of_repositories_from, candidates_of, installed_candidate, root_pool}
 use Rattle.engine_core.specs.change_inputs.Chains.{and_then, unless_cause}
 use Rattle.engine_core.specs.change_inputs.Indexes.{index_file, index_files_from, index_in_file, indexes_in_files}
-use Rattle.engine_core.specs.change_inputs.Inputs.{Inputs, first_index_read, index_reads_from, indexes_of, inputs_by, inputs_of, root_for}
+use Rattle.engine_core.specs.change_inputs.Inputs.{Inputs, first_index_read, index_reads_from, indexes_of, inputs_from_parts, inputs_of, root_for}
 use Rattle.command_core.specs.Command.{CommandLine}
 use Rattle.dep_core.specs.Repositories.{Repository}
 use Rattle.engine_core.specs.make_info.Reads.{Reads}
@@ -105,11 +105,11 @@ module _ (read : Reads) where
         is = f.is ∙ ap (λ i. candidate_of f.info (Some i) f.repository.tag false) j;
       }
 
-  from_one : (n m : ℕ) (rs : List Repository) (values : List Plain) (c : Candidate) → AreValues n rs values → IsIn c (candidates_from m rs values) → IsFromOne n m rs c
+  from_one : (n m : ℕ) (rs : List Repository) (values : List Plain) (c : Candidate) → AreValues n rs values → IsIn c (candidates_of_repositories_from m rs values) → IsFromOne n m rs c
   from_one n m [] values c are here = absurd here
   from_one n m (x ∷ rs) [] c are here = absurd are
   from_one n m (x ∷ rs) (value ∷ values) c are here =
-      elim (in_append c (candidates_of_index m x.tag (entries_in (entry_in value INDEX_PACKAGES))) (candidates_from (m + 1) rs values) here) [
+      elim (in_append c (candidates_of_index m x.tag (entries_in (entry_in value INDEX_PACKAGES))) (candidates_of_repositories_from (m + 1) rs values) here) [
         | inl first ↦ (let found = of_index m x.tag (entries_in (entry_in value INDEX_PACKAGES)) c first in
             let k : n + 0 ≡ n = omega arith in
             let j : m ≡ m + 0 = omega arith in
@@ -128,7 +128,7 @@ module _ (read : Reads) where
 
   from_all : (n m : ℕ) (rs : List Repository) (values : List Plain) → AreValues n rs values → (place : ℕ) (repository : Repository) (info : Plain) (file : List ℕ) → slice_get rs place ≡ Some repository
       → read (n + place) repository.path ≡ Some file → IsIn info (entries_at INDEX_PACKAGES (root_value Index (payload_in file)))
-      → IsIn (candidate_of info (Some (m + place)) repository.tag false) (candidates_from m rs values)
+      → IsIn (candidate_of info (Some (m + place)) repository.tag false) (candidates_of_repositories_from m rs values)
   from_all n m [] values are place repository info file listed found has = absurd (cc (listed))
   from_all n m (x ∷ rs) [] are place repository info file listed found has = absurd are
   from_all n m (x ∷ rs) (value ∷ values) are zero repository info file listed found has =
@@ -141,20 +141,20 @@ module _ (read : Reads) where
       let here = in_index m x.tag (entries_in (entry_in value INDEX_PACKAGES)) info (subst (λ (v : Plain). IsIn info (entries_at INDEX_PACKAGES v)) value_is has) in
       let named : candidate_of info (Some m) x.tag false ≡ candidate_of info (Some (m + 0)) repository.tag false =
       ap (λ i. candidate_of info (Some i) x.tag false) j ∙ ap (λ (r : Repository). candidate_of info (Some (m + 0)) r.tag false) same in
-      in_left (candidate_of info (Some (m + 0)) repository.tag false) (candidates_of_index m x.tag (entries_in (entry_in value INDEX_PACKAGES))) (candidates_from (m + 1) rs values)
+      in_left (candidate_of info (Some (m + 0)) repository.tag false) (candidates_of_index m x.tag (entries_in (entry_in value INDEX_PACKAGES))) (candidates_of_repositories_from (m + 1) rs values)
       (subst (λ (c : Candidate). IsIn c (candidates_of_index m x.tag (entries_in (entry_in value INDEX_PACKAGES)))) named here)
   from_all n m (x ∷ rs) (value ∷ values) are (suc place) repository info file listed found has =
       let k : suc n + place ≡ n + suc place = omega arith in
       let j : (m + 1) + place ≡ m + suc place = omega arith in
       let behind = from_all (suc n) (m + 1) rs values are.1 place repository info file listed (ap (λ i. read i repository.path) k ∙ found) has in
-      in_right (candidate_of info (Some (m + suc place)) repository.tag false) (candidates_of_index m x.tag (entries_in (entry_in value INDEX_PACKAGES))) (candidates_from (m + 1) rs values)
-      (subst (λ i. IsIn (candidate_of info (Some i) repository.tag false) (candidates_from (m + 1) rs values)) j behind)
+      in_right (candidate_of info (Some (m + suc place)) repository.tag false) (candidates_of_index m x.tag (entries_in (entry_in value INDEX_PACKAGES))) (candidates_of_repositories_from (m + 1) rs values)
+      (subst (λ i. IsIn (candidate_of info (Some i) repository.tag false) (candidates_of_repositories_from (m + 1) rs values)) j behind)
 
   -- ---- with the installed packages
 
   module _ (inputs : Inputs) (are : AreValues first_index_read inputs.root.repositories inputs.indexes) where
     abbrev offers : List Candidate
-    offers = candidates_from 1 inputs.root.repositories inputs.indexes
+    offers = candidates_of_repositories_from 1 inputs.root.repositories inputs.indexes
 
     abbrev packages : List Plain
     packages = inputs.root.database.packages
@@ -238,15 +238,15 @@ pub candidates_are : (command : CommandLine) (read : Reads) (inputs : Inputs) �
 unfolding inputs_of
 candidates_are command read inputs e =
     let root = and_then_ok (root_for command read) _ inputs e in
-    let indexes = and_then_ok (indexes_of read root.0.repositories) (λ indexes. Ok (inputs_by root.0 indexes)) inputs root.2 in
+    let indexes = and_then_ok (indexes_of read root.0.repositories) (λ indexes. Ok (inputs_from_parts root.0 indexes)) inputs root.2 in
     let files = and_then_ok (index_files_from 1 (index_reads_from read first_index_read root.0.repositories)) (indexes_in_files 1) indexes.0 indexes.1 in
-    let same : inputs_by root.0 indexes.0 ≡ inputs = (let last = indexes.2 in cc) in
+    let same : inputs_from_parts root.0 indexes.0 ≡ inputs = (let last = indexes.2 in cc) in
     subst (λ (i : Inputs). AreCandidates i read (candidates_of i)) same
-    (are_candidates read (inputs_by root.0 indexes.0) (are_values read first_index_read 1 root.0.repositories files.0 indexes.0 files.1 files.2))
+    (are_candidates read (inputs_from_parts root.0 indexes.0) (are_values read first_index_read 1 root.0.repositories files.0 indexes.0 files.1 files.2))
 
 -- the candidates of a pool are not too many, and its world is the new one
 pub record IsRootPool (inputs : Inputs) (upgraded : UpgradedNames) (pool : SealedPool) : Type 0 where
-  pub is : pool ≡ sealed_pool_by (candidates_of inputs) inputs.root.new_world upgraded
+  pub is : pool ≡ sealed_pool_from_parts (candidates_of inputs) inputs.root.new_world upgraded
   pub few : length (candidates_of inputs) ≤ MOST_CANDIDATES
 
 pub root_pool_is : (inputs : Inputs) (upgraded : UpgradedNames) (pool : SealedPool) → root_pool inputs upgraded ≡ Ok pool → IsRootPool inputs upgraded pool
@@ -254,8 +254,8 @@ unfolding root_pool
 root_pool_is inputs upgraded pool e = by (nat_lt MOST_CANDIDATES (length (candidates_of inputs))) refl e
   where
     by : (t : Bool) → nat_lt MOST_CANDIDATES (length (candidates_of inputs)) ≡ t
-        → (if t then Err (TooMany (MOST_CANDIDATES + 1)) else Ok (sealed_pool_by (candidates_of inputs) inputs.root.new_world upgraded)) ≡ Ok pool → IsRootPool inputs upgraded pool
+        → (if t then Err (TooMany (MOST_CANDIDATES + 1)) else Ok (sealed_pool_from_parts (candidates_of inputs) inputs.root.new_world upgraded)) ≡ Ok pool → IsRootPool inputs upgraded pool
     by true t e = absurd (cc (e))
     by false t e =
-        let same : sealed_pool_by (candidates_of inputs) inputs.root.new_world upgraded ≡ pool = cc in
+        let same : sealed_pool_from_parts (candidates_of inputs) inputs.root.new_world upgraded ≡ pool = cc in
         record { is = sym same; few = ltb-false _ _ t }

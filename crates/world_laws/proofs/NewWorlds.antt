@@ -20,7 +20,7 @@ use Rattle.dep_core.proofs.Worlds.{IsWorld-with_entry, IsWorld-without, cmp-equa
 use Rattle.dep_core.proofs.Places.{in_order}
 use Rattle.base_core.specs.ByteOrder.{bytes_cmp}
 use Rattle.base_core.proofs.Orderings.{is_less, names_total}
-use Rattle.world_laws.specs.NewWorld.{HasAddedEntries, HasOtherEntries, HasRequestedEntries, IsAdded, IsAddedByNone, IsNoOperand}
+use Rattle.world_laws.specs.NewWorld.{IsWorldAfterAdd, IsWorldAfterDel, HasRequestedEntries, IsAddedDependency, IsDependencyOfNoOperand, IsNoOperand}
 
 -- ---- order
 
@@ -130,9 +130,9 @@ left_from name (e ∷ rest) x here other = by (bytes_eq e.name name) refl here (
 -- an operand is the dependency, and none behind it is one of the same name
 abbrev AddedIn : List Operand → Dependency → Type 0
 AddedIn [] d = ⊥
-AddedIn (o ∷ os) d = ((dependency_of o.text ≡ Some d) × IsAddedByNone d.name os) ⊎ AddedIn os d
+AddedIn (o ∷ os) d = ((dependency_of o.text ≡ Some d) × IsDependencyOfNoOperand d.name os) ⊎ AddedIn os d
 
-added_to : (os : List Operand) (d : Dependency) → AddedIn os d → IsAdded os d
+added_to : (os : List Operand) (d : Dependency) → AddedIn os d → IsAddedDependency os d
 added_to [] d none = absurd none
 added_to (o ∷ os) d (inl here) = record {
   front = [];
@@ -153,16 +153,16 @@ added_to (o ∷ os) d (inr more) =
       last = further.last;
     }
 
-added_at : (front : List Operand) (o : Operand) (behind : List Operand) (d : Dependency) → dependency_of o.text ≡ Some d → IsAddedByNone d.name behind → AddedIn (front ++ o ∷ behind) d
+added_at : (front : List Operand) (o : Operand) (behind : List Operand) (d : Dependency) → dependency_of o.text ≡ Some d → IsDependencyOfNoOperand d.name behind → AddedIn (front ++ o ∷ behind) d
 added_at [] o behind d says last = inl (says, last)
 added_at (f ∷ front) o behind d says last = inr (added_at front o behind d says last)
 
-added_from : (os : List Operand) (d : Dependency) → IsAdded os d → AddedIn os d
+added_from : (os : List Operand) (d : Dependency) → IsAddedDependency os d → AddedIn os d
 added_from os d a = subst (λ (l : List Operand). AddedIn l d) (sym a.located) (added_at a.front a.operand a.behind d a.says a.last)
 
 -- what stands after `add`
 abbrev StandsAfter : List Operand → List Dependency → Dependency → Type 0
-StandsAfter os w x = AddedIn os x ⊎ (IsIn x w × IsAddedByNone x.name os)
+StandsAfter os w x = AddedIn os x ⊎ (IsIn x w × IsDependencyOfNoOperand x.name os)
 
 abbrev put_in : Option Dependency → List Dependency → List Dependency
 put_in said w = option_map_or (λ d. with_entry d w) said w
@@ -170,7 +170,7 @@ put_in said w = option_map_or (λ d. with_entry d w) said w
 said_by : (o p : Operand) (d : Dependency) (said : Option Dependency) → dependency_of o.text ≡ said → p ≡ o → dependency_of p.text ≡ Some d → said ≡ Some d
 said_by o p d said e at says = sym e ∙ (ap (λ (q : Operand). dependency_of q.text) (sym at) ∙ says)
 
-none_more : (o : Operand) (os : List Operand) (name : List ℕ) (said : Option Dependency) → dependency_of o.text ≡ said → ((d : Dependency) → said ≡ Some d → d.name ≢ name) → IsAddedByNone name os → IsAddedByNone name (o ∷ os)
+none_more : (o : Operand) (os : List Operand) (name : List ℕ) (said : Option Dependency) → dependency_of o.text ≡ said → ((d : Dependency) → said ≡ Some d → d.name ≢ name) → IsDependencyOfNoOperand name os → IsDependencyOfNoOperand name (o ∷ os)
 none_more o os name said e first none p d (inl at) says = first d (said_by o p d said e at says)
 none_more o os name said e first none p d (inr behind) says = none p d behind says
 
@@ -242,7 +242,7 @@ others_from (o ∷ os) w x stood none =
 
 -- ---- each applet
 
-holds_added : (os : List Operand) (w : List Dependency) → IsWorld w → HasAddedEntries os w (world_with_operands os w)
+holds_added : (os : List Operand) (w : List Dependency) → IsWorld w → IsWorldAfterAdd os w (world_with_operands os w)
 holds_added os w h = record {
   world = world_added os w h;
   entries = λ d. (
@@ -257,7 +257,7 @@ holds_added os w h = record {
   );
 }
 
-holds_others : (os : List Operand) (w : List Dependency) → IsWorld w → HasOtherEntries os w (world_without_operands os w)
+holds_others : (os : List Operand) (w : List Dependency) → IsWorld w → IsWorldAfterDel os w (world_without_operands os w)
 holds_others os w h = record {
   world = world_left os w h;
   entries = λ d. (λ here. others_to os w d here, λ stood. others_from os w d stood.0 stood.1);

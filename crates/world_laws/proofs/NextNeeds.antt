@@ -13,7 +13,7 @@ use Rattle.engine_core.specs.candidate_core.Options.{IsIn}
 use Rattle.engine_core.specs.candidate_core.Rank.{SealedPool, meets_at}
 use Rattle.engine_core.specs.search_tables.Selection.{depends_at, install_if_applies, is_met, is_unmet, least_name, lesser_name, names_by_install_if, next_need, positive_needs, raised_needs}
 use Rattle.engine_core.proofs.search_tables.PoolFacts.{any_in, filter_in, in_filter, in_map, least_in, least_none, map_in, in_any}
-use Rattle.world_laws.specs.NextNeed.{AreMetByChoices, AreMetOfEach, IsAskedByInstallIf, IsFirstOfChoices, IsFirstUnmet, IsMetByChoice, IsNextOrNone}
+use Rattle.world_laws.specs.NextNeed.{AreMetByChoices, AreDependenciesOfEachMet, IsAskedByInstallIf, IsFirstOfChoices, IsFirstUnmet, IsMetByChoice, IsNextNeedOrNone}
 
 -- ---- the least name
 
@@ -158,9 +158,9 @@ module _ (pool : SealedPool) (chosen : List ℕ) where
   raised cs = flat_map (λ c. positive_needs (depends_at pool c)) cs
 
   abbrev SplitsChoices : List ℕ → Option Need → Type 0
-  SplitsChoices cs found = ((d : Dependency) × IsFirstOfChoices pool chosen cs d × (found ≡ Some (entry d))) ⊎ (AreMetOfEach pool chosen cs × (found ≡ None))
+  SplitsChoices cs found = ((d : Dependency) × IsFirstOfChoices pool chosen cs d × (found ≡ Some (entry d))) ⊎ (AreDependenciesOfEachMet pool chosen cs × (found ≡ None))
 
-  each_more : (c : ℕ) (cs : List ℕ) → AreMetByChoices pool chosen (depends_at pool c) → AreMetOfEach pool chosen cs → AreMetOfEach pool chosen (c ∷ cs)
+  each_more : (c : ℕ) (cs : List ℕ) → AreMetByChoices pool chosen (depends_at pool c) → AreDependenciesOfEachMet pool chosen cs → AreDependenciesOfEachMet pool chosen (c ∷ cs)
   each_more c cs head rest k (inl is) = subst (λ (n : ℕ). AreMetByChoices pool chosen (depends_at pool n)) (sym is) head
   each_more c cs head rest k (inr here) = rest k here
 
@@ -225,7 +225,7 @@ module _ (pool : SealedPool) (chosen : List ℕ) where
         unmet = unmet (named name) (not-true (is_met pool chosen (named name)) kept.1);
       }
 
-  by_names : AreMetByChoices pool chosen pool.world → AreMetOfEach pool chosen chosen → (r : Option (List ℕ)) → least_name unmet_names ≡ r → IsNextOrNone pool chosen (option_map named r)
+  by_names : AreMetByChoices pool chosen pool.world → AreDependenciesOfEachMet pool chosen chosen → (r : Option (List ℕ)) → least_name unmet_names ≡ r → IsNextNeedOrNone pool chosen (option_map named r)
   by_names world each None e = (world, each, λ name asked. subst (λ (l : List (List ℕ)). IsIn name l) (least_none unmet_names e) (asked_in name asked))
   by_names world each (Some name) e = (
     world,
@@ -241,11 +241,11 @@ module _ (pool : SealedPool) (chosen : List ℕ) where
   abbrev by_install_if : Option Need
   by_install_if = option_map named (least_name unmet_names)
 
-  by_raised : (found : Option Need) → Splits pool.world found (find test (raised chosen)) → SplitsChoices chosen (find test (raised chosen)) → IsNextOrNone pool chosen (option_or found by_install_if)
-  by_raised found (inl (d, first, is)) more = subst (λ (r : Option Need). IsNextOrNone pool chosen (option_or r by_install_if)) (sym is) (inl first)
-  by_raised found (inr (world, is)) (inl (d, first, from)) = subst (λ (r : Option Need). IsNextOrNone pool chosen (option_or r by_install_if)) (sym (is ∙ from)) (inr (world, first))
-  by_raised found (inr (world, is)) (inr (each, from)) = subst (λ (r : Option Need). IsNextOrNone pool chosen (option_or r by_install_if)) (sym (is ∙ from)) (by_names world each (least_name unmet_names) refl)
+  by_raised : (found : Option Need) → Splits pool.world found (find test (raised chosen)) → SplitsChoices chosen (find test (raised chosen)) → IsNextNeedOrNone pool chosen (option_or found by_install_if)
+  by_raised found (inl (d, first, is)) more = subst (λ (r : Option Need). IsNextNeedOrNone pool chosen (option_or r by_install_if)) (sym is) (inl first)
+  by_raised found (inr (world, is)) (inl (d, first, from)) = subst (λ (r : Option Need). IsNextNeedOrNone pool chosen (option_or r by_install_if)) (sym (is ∙ from)) (inr (world, first))
+  by_raised found (inr (world, is)) (inr (each, from)) = subst (λ (r : Option Need). IsNextNeedOrNone pool chosen (option_or r by_install_if)) (sym (is ∙ from)) (by_names world each (least_name unmet_names) refl)
 
-  pub next : IsNextOrNone pool chosen (next_need pool chosen)
+  pub next : IsNextNeedOrNone pool chosen (next_need pool chosen)
   unfolding next_need
   next = by_raised (find test (raised_needs pool chosen)) (split pool.world (raised chosen)) (choices chosen)

@@ -10,7 +10,7 @@ use Rattle.engine_core.specs.candidate_core.Candidates.{Need, entry, named}
 use Rattle.engine_core.specs.candidate_core.Options.{IsIn}
 use Rattle.engine_core.specs.candidate_core.Rank.{SealedPool}
 use Rattle.engine_core.specs.search_tables.Selection.{depends_at}
-use Rattle.world_laws.specs.NextNeed.{AreMetByChoices, AreMetOfEach, IsFirstByInstallIf, IsFirstOfChoices, IsFirstUnmet, IsMetByChoice, IsNext, IsNextOrNone}
+use Rattle.world_laws.specs.NextNeed.{AreMetByChoices, AreDependenciesOfEachMet, IsFirstByInstallIf, IsFirstOfChoices, IsFirstUnmet, IsMetByChoice, IsNextNeed, IsNextNeedOrNone}
 
 -- ---- the first place of a list
 
@@ -51,7 +51,7 @@ module _ (pool : SealedPool) (chosen : List ℕ) where
       (not_met (depends_at pool f.choice) d f.first) (not_met (depends_at pool g.choice) e g.first) in
       one_unmet (depends_at pool g.choice) d e (subst (λ (c : ℕ). IsFirstUnmet pool chosen (depends_at pool c) d) same f.first) g.first
 
-  not_each : (d : Dependency) → IsFirstOfChoices pool chosen chosen d → ¬ AreMetOfEach pool chosen chosen
+  not_each : (d : Dependency) → IsFirstOfChoices pool chosen chosen d → ¬ AreDependenciesOfEachMet pool chosen chosen
   not_each d f all =
       not_met (depends_at pool f.choice) d f.first (all f.choice (subst (λ (l : List ℕ). IsIn f.choice l) (sym f.located) (member_at f.front f.choice f.behind)))
 
@@ -59,17 +59,17 @@ module _ (pool : SealedPool) (chosen : List ℕ) where
   one_name n m f g =
       cmp-equal n m (lt_equal (bytes_cmp n m) (g.first n f.asked) (ap is_lt (sym (names_total.antisymm m n)) ∙ f.first m g.asked))
 
-  not_all : (d : Dependency) → IsNext pool chosen (entry d) → AreMetByChoices pool chosen pool.world → AreMetOfEach pool chosen chosen → ⊥
+  not_all : (d : Dependency) → IsNextNeed pool chosen (entry d) → AreMetByChoices pool chosen pool.world → AreDependenciesOfEachMet pool chosen chosen → ⊥
   not_all d (inl first) world each = not_met pool.world d first world
   not_all d (inr next) world each = not_each d next.1 each
 
-  one_entry : (d e : Dependency) → IsNext pool chosen (entry d) → IsNext pool chosen (entry e) → d ≡ e
+  one_entry : (d e : Dependency) → IsNextNeed pool chosen (entry d) → IsNextNeed pool chosen (entry e) → d ≡ e
   one_entry d e (inl f) (inl g) = one_unmet pool.world d e f g
   one_entry d e (inl f) (inr g) = absurd (not_met pool.world d f g.0)
   one_entry d e (inr f) (inl g) = absurd (not_met pool.world e g f.0)
   one_entry d e (inr f) (inr g) = one_choice d e f.1 g.1
 
-  pub one_next : (a b : Option Need) → IsNextOrNone pool chosen a → IsNextOrNone pool chosen b → a ≡ b
+  pub one_next : (a b : Option Need) → IsNextNeedOrNone pool chosen a → IsNextNeedOrNone pool chosen b → a ≡ b
   one_next None None f g = refl
   one_next None (Some (entry d)) f g = absurd (not_all d g f.0 f.1)
   one_next None (Some (named n)) f g = absurd (f.2 n g.2.asked)

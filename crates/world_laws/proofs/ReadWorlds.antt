@@ -2,9 +2,9 @@
 use Rattle.std.proofs.Common.{◌≡◌, ℕ, List, Result, Ok, Err, refl, ap, subst}
 use Rattle.engine_core.specs.change_inputs.Chains.{and_then, refused_as}
 use Rattle.engine_core.specs.change_inputs.Database.{root_database}
-use Rattle.engine_core.specs.change_inputs.Inputs.{Inputs, Root, database_read, indexes_of, inputs_by, inputs_of, repositories_read, root_by, root_for, text_database_read, world_read}
+use Rattle.engine_core.specs.change_inputs.Inputs.{Inputs, Root, database_read, indexes_of, inputs_from_parts, inputs_of, repositories_read, root_by, root_for, text_database_read, world_read}
 use Rattle.engine_core.specs.change_inputs.Repositories.{root_repositories}
-use Rattle.engine_core.specs.change_inputs.World.{root_world, text_found}
+use Rattle.engine_core.specs.change_inputs.World.{root_world, found_text_or_empty}
 use Rattle.command_core.specs.Command.{CommandLine}
 use Rattle.dep_core.specs.World.{world_of}
 use Rattle.dep_core.proofs.WorldWords.{world-words}
@@ -24,14 +24,14 @@ refused_ok refusal (Err e) x is = absurd (cc (is))
 
 module _ (command : CommandLine) (read : Reads) where
   text : List ℕ
-  text = text_found (read world_read world_name)
+  text = found_text_or_empty (read world_read world_name)
 
   of_root : (root : Root) → root_for command read ≡ Ok root → IsReadWorld command read root
   unfolding text
   of_root root e =
       let database = and_then_ok (root_database command.flags.initdb (read database_read database_name) (read text_database_read text_database_name)) _ root e in
       let world = and_then_ok (root_world text) _ root database.2 in
-      let listed = and_then_ok (root_repositories command.flags.allow_untrusted (text_found (read repositories_read repositories_name))) (λ repositories. Ok (root_by command database.0 text world.0 repositories)) root world.2 in
+      let listed = and_then_ok (root_repositories command.flags.allow_untrusted (found_text_or_empty (read repositories_read repositories_name))) (λ repositories. Ok (root_by command database.0 text world.0 repositories)) root world.2 in
       let same : root_by command database.0 text world.0 listed.0 ≡ root = (let last = listed.2 in cc) in
       let is : world_of text ≡ Ok world.0 = refused_ok _ (world_of text) world.0 world.1 in
       subst (IsReadWorld command read) same (record {
@@ -43,6 +43,6 @@ module _ (command : CommandLine) (read : Reads) where
   unfolding inputs_of
   of_inputs inputs e =
       let root = and_then_ok (root_for command read) _ inputs e in
-      let indexes = and_then_ok (indexes_of read root.0.repositories) (λ indexes. Ok (inputs_by root.0 indexes)) inputs root.2 in
-      let same : inputs_by root.0 indexes.0 ≡ inputs = (let last = indexes.2 in cc) in
+      let indexes = and_then_ok (indexes_of read root.0.repositories) (λ indexes. Ok (inputs_from_parts root.0 indexes)) inputs root.2 in
+      let same : inputs_from_parts root.0 indexes.0 ≡ inputs = (let last = indexes.2 in cc) in
       subst (λ (i : Inputs). IsReadWorld command read i.root) same (of_root root.0 root.1)

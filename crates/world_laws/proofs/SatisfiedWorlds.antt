@@ -8,12 +8,12 @@ use Rattle.std.proofs.lemmas.Slice.Eq.{bytes_eq-Decides}
 use Rattle.dep_core.specs.Dependency.{Dependency}
 use Rattle.engine_core.specs.candidate_core.Candidates.{Candidate, Need, entry, named, has_usable_install_if, is_allowed, is_barred_by, is_eligible, meets_dependency, meets_need, occupies_name}
 use Rattle.engine_core.specs.candidate_core.Options.{IsIn}
-use Rattle.engine_core.specs.candidate_core.Rank.{SealedPool, candidate_at, is_at, meets_at}
+use Rattle.engine_core.specs.candidate_core.Rank.{SealedPool, candidate_at, candidate_at_passes, meets_at}
 use Rattle.engine_core.specs.package_changes.Placed.{candidates_at}
 use Rattle.engine_core.specs.search_tables.Selection.{IsBestMember, IsSatisfying, IsWalkFrom, conflicts_with, depends_at, install_if_applies, is_met, names_by_install_if, next_need, positive_needs}
 use Rattle.engine_core.proofs.search_tables.PoolFacts.{any_in, in_filter, in_map}
-use Rattle.world_laws.specs.NextNeed.{IsFirstUnmet, IsMetByChoice, IsNextOrNone}
-use Rattle.world_laws.specs.SatisfiedWorld.{InstallIfApplies, IsNeeded, IsMetByOne, MeetsOne, SatisfyWorld}
+use Rattle.world_laws.specs.NextNeed.{IsFirstUnmet, IsMetByChoice, IsNextNeedOrNone}
+use Rattle.world_laws.specs.SatisfiedWorld.{InstallIfApplies, IsNeeded, IsMetByOne, MeetsOneDependency, SatisfyWorld}
 use Rattle.world_laws.proofs.InstalledCounted.{in_append, in_right}
 use Rattle.world_laws.proofs.InstalledCounted as Lists
 
@@ -44,14 +44,14 @@ in_at pool (p ∷ places) c here = by (candidate_at pool p) refl (λ behind. in_
     by None f more = further (more (rw f at here))
     by (Some d) f more = elim (rw f at here) [ inl is ↦ (p, inl refl, f ∙ ap Some (sym is)) | inr behind ↦ further (more behind) ]
 
-pub test_at : (pool : SealedPool) (test : Candidate → Bool) (place : ℕ) (c : Candidate) → candidate_at pool place ≡ Some c → is_at pool test place ≡ test c
+pub test_at : (pool : SealedPool) (test : Candidate → Bool) (place : ℕ) (c : Candidate) → candidate_at pool place ≡ Some c → candidate_at_passes pool test place ≡ test c
 test_at pool test place c e = ap (λ o. option_map_or test o false) e
 
-pub at_test : (pool : SealedPool) (test : Candidate → Bool) (place : ℕ) → is_at pool test place ≡ true → (c : Candidate) × (candidate_at pool place ≡ Some c) × (test c ≡ true)
+pub at_test : (pool : SealedPool) (test : Candidate → Bool) (place : ℕ) → candidate_at_passes pool test place ≡ true → (c : Candidate) × (candidate_at pool place ≡ Some c) × (test c ≡ true)
 at_test pool test place e = by (candidate_at pool place) refl
   where
     by : (o : Option Candidate) → candidate_at pool place ≡ o → (c : Candidate) × (candidate_at pool place ≡ Some c) × (test c ≡ true)
-    by None f = let off : is_at pool test place ≡ false = ap (λ o. option_map_or test o false) f in absurd (true≢false (sym e ∙ off))
+    by None f = let off : candidate_at_passes pool test place ≡ false = ap (λ o. option_map_or test o false) f in absurd (true≢false (sym e ∙ off))
     by (Some c) f = (c, f, sym (test_at pool test place c f) ∙ e)
 
 -- ---- a satisfying selection
@@ -104,15 +104,15 @@ module _ (pool : SealedPool) (trace : List ℕ) (are : IsSatisfying pool trace) 
       let b = in_at pool trace other there in
       by a.0 b.0 a.1 b.1 a.2 b.2 (eqb a.0 b.0) refl
     where
-      meets_it : (b : ℕ) → candidate_at pool b ≡ Some other → (d.conflict && is_at pool (meets_dependency d) b) ≡ true
-      meets_it b f = and_from d.conflict (is_at pool (meets_dependency d) b) on (test_at pool (meets_dependency d) b other f ∙ meets)
+      meets_it : (b : ℕ) → candidate_at pool b ≡ Some other → (d.conflict && candidate_at_passes pool (meets_dependency d) b) ≡ true
+      meets_it b f = and_from d.conflict (candidate_at_passes pool (meets_dependency d) b) on (test_at pool (meets_dependency d) b other f ∙ meets)
 
       by : (a b : ℕ) → IsIn a trace → IsIn b trace → candidate_at pool a ≡ Some c → candidate_at pool b ≡ Some other → (t : Bool) → eqb a b ≡ t → other ≡ c
       by a b one two e f true t = other_same a b c other e f (eqb-true a b t)
       by a b one two e f false t =
           let none = are.no_conflict a b one two (eqb-false a b t) in
           let some : conflicts_with pool a b ≡ true =
-          Lists.in_any (λ (x : Dependency). x.conflict && is_at pool (meets_dependency x) b) (depends_at pool a) d (subst (IsIn d) (sym (depends_of a c e)) among) (meets_it b f) in
+          Lists.in_any (λ (x : Dependency). x.conflict && candidate_at_passes pool (meets_dependency x) b) (depends_at pool a) d (subst (IsIn d) (sym (depends_of a c e)) among) (meets_it b f) in
           absurd (true≢false (sym some ∙ none))
 
   names_alone : (c other : Candidate) (name : List ℕ) → IsIn c packages → IsIn other packages → occupies_name name c ≡ true → occupies_name name other ≡ true → other ≡ c
@@ -167,13 +167,13 @@ module _ (pool : SealedPool) (trace : List ℕ) (are : IsSatisfying pool trace) 
   unmet_in chosen deps d f = subst (IsIn d) (sym f.located) (in_right d f.front (d ∷ f.behind) (inl refl))
 
   -- a choice for the next need behind some choices
-  needed_next : (chosen : List ℕ) (need : Need) (c : Candidate) → AreOfTrace chosen → IsNextOrNone pool chosen (Some need) → meets_need need c ≡ true → IsNeeded pool.candidates pool.world packages c
+  needed_next : (chosen : List ℕ) (need : Need) (c : Candidate) → AreOfTrace chosen → IsNextNeedOrNone pool chosen (Some need) → meets_need need c ≡ true → IsNeeded pool.candidates pool.world packages c
   needed_next chosen (entry d) c of_trace (inl f) meets = inl (d, unmet_in chosen pool.world d f, f.positive, meets)
   needed_next chosen (entry d) c of_trace (inr f) meets =
       let choice_in : IsIn f.1.choice chosen = subst (IsIn f.1.choice) (sym f.1.located) (in_right f.1.choice f.1.front (f.1.choice ∷ f.1.behind) (inl refl)) in
       inr (inl (by (candidate_at pool f.1.choice) refl choice_in (unmet_in chosen (depends_at pool f.1.choice) d f.1.first)))
     where
-      by : (o : Option Candidate) → candidate_at pool f.1.choice ≡ o → IsIn f.1.choice chosen → IsIn d (depends_at pool f.1.choice) → (other : Candidate) × IsIn other packages × MeetsOne other.depends c
+      by : (o : Option Candidate) → candidate_at pool f.1.choice ≡ o → IsIn f.1.choice chosen → IsIn d (depends_at pool f.1.choice) → (other : Candidate) × IsIn other packages × MeetsOneDependency other.depends c
       by None e choice_in among = let none : depends_at pool f.1.choice ≡ [] = ap (λ o. option_map_or (λ (k : Candidate). k.depends) o []) e in absurd (subst (IsIn d) none among)
       by (Some other) e choice_in among =
           (other, at_in pool trace f.1.choice other (of_trace f.1.choice choice_in) e, (d, subst (IsIn d) (depends_of f.1.choice other e) among, f.1.first.positive, meets))
@@ -184,7 +184,7 @@ module _ (pool : SealedPool) (trace : List ℕ) (are : IsSatisfying pool trace) 
 
   -- what the next need is
   abbrev IsNextKnown : Type 0
-  IsNextKnown = (chosen : List ℕ) → IsNextOrNone pool chosen (next_need pool chosen)
+  IsNextKnown = (chosen : List ℕ) → IsNextNeedOrNone pool chosen (next_need pool chosen)
 
   module _ (next : IsNextKnown) where
     more_of : (chosen : List ℕ) (c : ℕ) → AreOfTrace chosen → IsIn c trace → AreOfTrace (chosen ++ c ∷ [])
@@ -198,7 +198,7 @@ module _ (pool : SealedPool) (trace : List ℕ) (are : IsSatisfying pool trace) 
     needed_from chosen (p ∷ rest) of_trace walk place c (inl is) e =
         let best : IsBestMember pool trace walk.0 p = walk.2 in
         let at : candidate_at pool p ≡ Some c = ap (candidate_at pool) (sym is) ∙ e in
-        needed_next chosen walk.0 c of_trace (subst (IsNextOrNone pool chosen) walk.1 (next chosen)) (sym (test_at pool (meets_need walk.0) p c at) ∙ best.1)
+        needed_next chosen walk.0 c of_trace (subst (IsNextNeedOrNone pool chosen) walk.1 (next chosen)) (sym (test_at pool (meets_need walk.0) p c at) ∙ best.1)
     needed_from chosen (p ∷ rest) of_trace walk place c (inr behind) e =
         let best : IsBestMember pool trace walk.0 p = walk.2 in
         needed_from (chosen ++ p ∷ []) rest (more_of chosen p of_trace best.0) walk.3 place c behind e

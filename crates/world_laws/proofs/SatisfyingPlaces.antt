@@ -8,7 +8,7 @@ use Rattle.base_core.proofs.AtName.{own_name}
 use Rattle.dep_core.specs.Dependency.{Dependency}
 use Rattle.engine_core.specs.candidate_core.Candidates.{Candidate, Need, entry, entry_occupies, named, has_usable_install_if, is_allowed, is_barred_by, is_eligible, meets_dependency, meets_need, occupies_name}
 use Rattle.engine_core.specs.candidate_core.Options.{IsIn}
-use Rattle.engine_core.specs.candidate_core.Rank.{SealedPool, candidate_at, is_at, is_eligible_at, meets_at}
+use Rattle.engine_core.specs.candidate_core.Rank.{SealedPool, candidate_at, candidate_at_passes, is_eligible_at, meets_at}
 use Rattle.engine_core.proofs.candidate_core.Places.{place_of}
 use Rattle.engine_core.specs.package_changes.Placed.{candidates_at}
 use Rattle.engine_core.specs.search_tables.Selection.{AreDistinct, IsSatisfying, conflicts_with, depends_at, install_if_applies, is_met, names_by_install_if, positive_needs}
@@ -148,12 +148,12 @@ module _ (pool : SealedPool) (packages : List Candidate) (are : SatisfyWorld poo
         by true e =
             let q = p.each a here in
             let r = p.each b there in
-            let found = Lists.any_in (λ (d : Dependency). d.conflict && is_at pool (meets_dependency d) b) (depends_at pool a) e in
-            let parts = and_parts found.0.conflict (is_at pool (meets_dependency found.0) b) found.2 in
+            let found = Lists.any_in (λ (d : Dependency). d.conflict && candidate_at_passes pool (meets_dependency d) b) (depends_at pool a) e in
+            let parts = and_parts found.0.conflict (candidate_at_passes pool (meets_dependency found.0) b) found.2 in
             let same = are.no_conflict q.0 r.0 found.0 q.1 r.1 (subst (IsIn found.0) (depends_of a q.0 q.2) found.1) parts.0 (sym (test_at pool (meets_dependency found.0) b r.0 r.2) ∙ parts.1) in
             absurd (differ (same_place a b q.0 r.0 here there q.2 r.2 same))
 
-    names_alone : (a b : ℕ) (name : List ℕ) → IsIn a places → IsIn b places → is_at pool (occupies_name name) a ≡ true → is_at pool (occupies_name name) b ≡ true → a ≡ b
+    names_alone : (a b : ℕ) (name : List ℕ) → IsIn a places → IsIn b places → candidate_at_passes pool (occupies_name name) a ≡ true → candidate_at_passes pool (occupies_name name) b ≡ true → a ≡ b
     names_alone a b name here there one two =
         let q = p.each a here in
         let r = p.each b there in

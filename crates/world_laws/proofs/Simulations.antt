@@ -3,7 +3,7 @@ use Rattle.std.proofs.Common.{◌≡◌, ℕ, Bool, false, List, ◌++◌, lengt
 use Rattle.std.specs.Prelude.{if◌then◌else◌, sum_by}
 use Rattle.base_core.specs.Files.{Files}
 use Rattle.engine_core.specs.change_files.FileChange.{FileChange}
-use Rattle.engine_core.specs.change_files.PlanLists.{aside_of, kept_of}
+use Rattle.engine_core.specs.change_files.PlanLists.{paths_with_apk_new_file, kept_paths_of}
 use Rattle.engine_core.specs.change_inputs.Chains.{and_then}
 use Rattle.engine_core.specs.change_inputs.Inputs.{Inputs, inputs_of}
 use Rattle.engine_core.specs.change_outcome.Made.{IsChangeMade}
@@ -13,23 +13,23 @@ use Rattle.engine_core.specs.change_outcome.Triggers.{trigger_lines}
 use Rattle.command_core.specs.Command.{CommandLine}
 use Rattle.engine_core.specs.Changed.{Selected, change_of_selected, change_of_command, selected_for, simulated_change}
 use Rattle.engine_core.specs.Choice.{IsChoiceFrom}
-use Rattle.engine_core.specs.Selecting.{pool_for}
+use Rattle.engine_core.specs.Selecting.{pool_of_command}
 use Rattle.engine_core.specs.Wishes.{wishes_of}
 use Rattle.engine_core.specs.make_info.Reads.{Reads}
 use Rattle.engine_core.specs.package_changes.Changes.{Replacement, changes_of}
-use Rattle.engine_core.specs.package_changes.Report.{candidate_size, simulated_report, stay_lines}
+use Rattle.engine_core.specs.package_changes.Report.{candidate_size, simulated_report, still_needed_lines}
 use Rattle.engine_core.specs.path_clashes.Clash.{NamePair}
 use Rattle.engine_core.specs.candidate_core.Rank.{SealedPool}
 use Rattle.report_core.specs.Reports.{change_lines, report_line, sum_text}
 use Rattle.report_core.specs.declared.refusal.Refusal.{Refusal}
-use Rattle.world_laws.specs.Simulation.{IsPredicted, with_simulation}
+use Rattle.world_laws.specs.Simulation.{IsReportPredicted, with_simulation}
 use Rattle.world_laws.proofs.ReadWorlds.{and_then_ok}
 
-pub reports_alike : (r : Replacement) (wishes : ChangeWishes) (change : FileChange) (files : Files) → IsPredicted (simulated_report r wishes.to_remove) (change_report r wishes change files)
+pub reports_alike : (r : Replacement) (wishes : ChangeWishes) (change : FileChange) (files : Files) → IsReportPredicted (simulated_report r wishes.to_remove) (change_report r wishes change files)
 unfolding simulated_report
 reports_alike r wishes change files =
-    let told = change_lines (changes_of r) ++ stay_lines r.before r.selected wishes.to_remove in
-    let configuration = configuration_lines (aside_of change files) (kept_of change files) in
+    let told = change_lines (changes_of r) ++ still_needed_lines r.before r.selected wishes.to_remove in
+    let configuration = configuration_lines (paths_with_apk_new_file change files) (kept_paths_of change files) in
     let triggers = trigger_lines (touched_paths change files) change.members in
     let sum = report_line (sum_text (sum_by member_size change.members) (length change.members)) in
     record {
@@ -57,12 +57,12 @@ selects_alike : (command : CommandLine) (read : Reads) (chosen : Option (List �
 unfolding inputs_of
 selects_alike command read chosen = refl
 
-pool_alike : (command : CommandLine) (read : Reads) → pool_for (with_simulation command) read ≡ pool_for command read
+pool_alike : (command : CommandLine) (read : Reads) → pool_of_command (with_simulation command) read ≡ pool_of_command command read
 unfolding inputs_of
 pool_alike command read = refl
 
 by_selected : IsMadeKnown → (command : CommandLine) (read : Reads) (files : Files) (other clash : Option NamePair) (s : Selected) (simulation done : ChangeDone) → command.flags.simulate ≡ false
-    → change_of_selected (with_simulation command) read files other s ≡ Ok simulation → change_of_selected command read files clash s ≡ Ok done → IsPredicted simulation.report done.report
+    → change_of_selected (with_simulation command) read files other s ≡ Ok simulation → change_of_selected command read files clash s ≡ Ok done → IsReportPredicted simulation.report done.report
 by_selected known command read files other clash s simulation done real e d =
     let first : simulated_change s.replacement (wishes_of command) files ≡ simulation = cc in
     let is : change_or_refusal s.inputs s.replacement (wishes_of command) read clash files ≡ Ok done =
@@ -70,17 +70,17 @@ by_selected known command read files other clash s simulation done real e d =
     let made = known s.inputs s.replacement (wishes_of command) read clash files done is in
     let change = file_change s.inputs (wishes_of command) made.found in
     let report : change_report s.replacement (wishes_of command) change files ≡ done.report = sym (ap (λ (x : ChangeDone). x.report) made.is) in
-    subst (IsPredicted simulation.report) report
-    (subst (λ (l : List ℕ). IsPredicted l (change_report s.replacement (wishes_of command) change files)) (ap (λ (x : ChangeDone). x.report) first)
+    subst (IsReportPredicted simulation.report) report
+    (subst (λ (l : List ℕ). IsReportPredicted l (change_report s.replacement (wishes_of command) change files)) (ap (λ (x : ChangeDone). x.report) first)
     (reports_alike s.replacement (wishes_of command) change files))
 
 module _ (one : IsOneChoice) (command : CommandLine) (read : Reads) (files : Files) (expected chosen : Option (List ℕ)) (other clash : Option NamePair) where
-  chosen_alike : IsChoiceFrom (pool_for (with_simulation command) read) expected → IsChoiceFrom (pool_for command read) chosen → expected ≡ chosen
-  chosen_alike a b = one (pool_for command read) expected chosen (subst (λ (p : Result SealedPool Refusal). IsChoiceFrom p expected) (pool_alike command read) a) b
+  chosen_alike : IsChoiceFrom (pool_of_command (with_simulation command) read) expected → IsChoiceFrom (pool_of_command command read) chosen → expected ≡ chosen
+  chosen_alike a b = one (pool_of_command command read) expected chosen (subst (λ (p : Result SealedPool Refusal). IsChoiceFrom p expected) (pool_alike command read) a) b
 
   pub foretold : IsMadeKnown → (simulation done : ChangeDone) → command.flags.simulate ≡ false
-      → IsChoiceFrom (pool_for (with_simulation command) read) expected → IsChoiceFrom (pool_for command read) chosen
-      → change_of_command (with_simulation command) read files expected other ≡ Ok simulation → change_of_command command read files chosen clash ≡ Ok done → IsPredicted simulation.report done.report
+      → IsChoiceFrom (pool_of_command (with_simulation command) read) expected → IsChoiceFrom (pool_of_command command read) chosen
+      → change_of_command (with_simulation command) read files expected other ≡ Ok simulation → change_of_command command read files chosen clash ≡ Ok done → IsReportPredicted simulation.report done.report
   unfolding change_of_command
   foretold known simulation done real a b e d =
       let first = and_then_ok (selected_for (with_simulation command) read expected) (change_of_selected (with_simulation command) read files other) simulation e in
@@ -95,7 +95,7 @@ module _ (one : IsOneChoice) (command : CommandLine) (read : Reads) (files : Fil
   refused_both (Err first) y same refusal e =
       ap (λ (z : Result Selected Refusal). and_then z (change_of_selected command read files clash)) (sym same) ∙ (let is : first ≡ refusal = cc in ap (λ (r : Refusal). Err r) is)
 
-  pub refused_alike : (refusal : Refusal) → IsChoiceFrom (pool_for (with_simulation command) read) expected → IsChoiceFrom (pool_for command read) chosen
+  pub refused_alike : (refusal : Refusal) → IsChoiceFrom (pool_of_command (with_simulation command) read) expected → IsChoiceFrom (pool_of_command command read) chosen
       → change_of_command (with_simulation command) read files expected other ≡ Err refusal → change_of_command command read files chosen clash ≡ Err refusal
   unfolding change_of_command
   refused_alike refusal a b e =

@@ -2,7 +2,7 @@
 use Rattle.std.proofs.Common.{◌≡◌, ◌↔◌, ℕ, Bool, true, false, List, [], ◌∷◌, Option, Some, None, Result, Ok, Err, refl, ap, sym, subst, ◌∙◌}
 use Rattle.std.specs.Prelude.{◌+◌, nat_lt, length, if◌then◌else◌}
 use Rattle.base_core.specs.declared.cause.Cause.{Cause}
-use Rattle.engine_core.specs.candidate_core.Rank.{SealedPool, UpgradedNames, sealed_pool_by}
+use Rattle.engine_core.specs.candidate_core.Rank.{SealedPool, UpgradedNames, sealed_pool_from_parts}
 use Rattle.engine_core.specs.candidate_core.declared.candidate_list.TheConstants.{MOST_CANDIDATES}
 use Rattle.engine_core.specs.adb_schema.Soundness.{first_fault, payload_in, root_value}
 use Rattle.adb_view.specs.declared.tables.Which.TheVariants.{Idb, Index}
@@ -11,14 +11,14 @@ use Rattle.engine_core.specs.change_inputs.Chains.{and_then, refused_as, unless_
 use Rattle.engine_core.specs.change_inputs.Database.{payload_database, root_database}
 use Rattle.engine_core.specs.change_inputs.Indexes.{index_file, index_files_from, index_in_file, indexes_in_files}
 use Rattle.engine_core.specs.change_inputs.Inputs.{Inputs, database_read, first_index_read, index_reads_from, inputs_of, repositories_read, root_for, text_database_read, world_read}
-use Rattle.engine_core.specs.change_inputs.Repositories.{if_trusted, root_repositories}
-use Rattle.engine_core.specs.change_inputs.World.{root_world, text_found}
+use Rattle.engine_core.specs.change_inputs.Repositories.{if_untrusted_allowed, root_repositories}
+use Rattle.engine_core.specs.change_inputs.World.{root_world, found_text_or_empty}
 use Rattle.command_core.specs.Command.{CommandLine}
 use Rattle.dep_core.specs.Repositories.{Repository, repositories_of}
 use Rattle.dep_core.specs.World.{world_of}
 use Rattle.engine_core.specs.Changed.{selected_by, selected_for, selected_of_inputs}
-use Rattle.engine_core.specs.Choice.{IsChoice, IsChoiceFrom}
-use Rattle.engine_core.specs.Selecting.{pool_by, pool_for}
+use Rattle.engine_core.specs.Choice.{IsPreferredChoice, IsChoiceFrom}
+use Rattle.engine_core.specs.Selecting.{pool_of_inputs, pool_of_command}
 use Rattle.engine_core.specs.Wishes.{names_to_upgrade, unknown_operand_place, unless_unknown_operand}
 use Rattle.engine_core.specs.make_info.Reads.{Reads}
 use Rattle.engine_core.specs.package_changes.Placed.{candidates_at}
@@ -35,16 +35,16 @@ use Rattle.world_laws.proofs.SatisfyingPlaces.{selection_of}
 
 -- ---- a pool
 
-pub none_of_pool : (pool : SealedPool) → IsChoice pool None ↔ IsUnsatisfiable pool.candidates pool.world
+pub none_of_pool : (pool : SealedPool) → IsPreferredChoice pool None ↔ IsUnsatisfiable pool.candidates pool.world
 none_of_pool pool = (
   λ none packages are. (let found = selection_of pool packages are in none found.0 found.1),
   λ unsatisfiable selection is. unsatisfiable (candidates_at pool selection) (satisfied pool selection is),
 )
 
-none_of_inputs : (inputs : Inputs) (upgraded : UpgradedNames) (pool : SealedPool) → root_pool inputs upgraded ≡ Ok pool → IsChoice pool None ↔ IsUnsatisfiable (candidates_of inputs) inputs.root.new_world
+none_of_inputs : (inputs : Inputs) (upgraded : UpgradedNames) (pool : SealedPool) → root_pool inputs upgraded ≡ Ok pool → IsPreferredChoice pool None ↔ IsUnsatisfiable (candidates_of inputs) inputs.root.new_world
 none_of_inputs inputs upgraded pool e =
-    let is : pool ≡ sealed_pool_by (candidates_of inputs) inputs.root.new_world upgraded = (root_pool_is inputs upgraded pool e).is in
-    subst (λ (p : SealedPool). IsChoice pool None ↔ IsUnsatisfiable p.candidates p.world) is (none_of_pool pool)
+    let is : pool ≡ sealed_pool_from_parts (candidates_of inputs) inputs.root.new_world upgraded = (root_pool_is inputs upgraded pool e).is in
+    subst (λ (p : SealedPool). IsPreferredChoice pool None ↔ IsUnsatisfiable p.candidates p.world) is (none_of_pool pool)
 
 -- ---- no input is refused so
 
@@ -76,13 +76,13 @@ database_other may_begin None (Some text) = payload_other (payload_of_text text)
 database_other true None None = λ e. cc (e)
 database_other false None None = λ e. cc (e)
 
-trusted_other : (is_allowed : Bool) (repositories : List Repository) → IsOther (if_trusted is_allowed repositories)
+trusted_other : (is_allowed : Bool) (repositories : List Repository) → IsOther (if_untrusted_allowed is_allowed repositories)
 trusted_other is_allowed [] e = cc (e)
 trusted_other true (repository ∷ others) e = cc (e)
 trusted_other false (repository ∷ others) e = cc (e)
 
 repositories_other : (is_allowed : Bool) (text : List ℕ) → IsOther (root_repositories is_allowed text)
-repositories_other is_allowed text = chain (refused_as RepositoriesBad (repositories_of text)) (if_trusted is_allowed) (as_other RepositoriesBad (repositories_of text) (λ n e. cc (e))) (trusted_other is_allowed)
+repositories_other is_allowed text = chain (refused_as RepositoriesBad (repositories_of text)) (if_untrusted_allowed is_allowed) (as_other RepositoriesBad (repositories_of text) (λ n e. cc (e))) (trusted_other is_allowed)
 
 file_other : (n : ℕ) (found : Option (List ℕ)) → IsOther (index_file n found)
 file_other n None e = cc (e)
@@ -104,8 +104,8 @@ module _ (command : CommandLine) (read : Reads) where
   root_other : IsOther (root_for command read)
   root_other =
       chain (root_database command.flags.initdb (read database_read database_name) (read text_database_read text_database_name)) _ (database_other command.flags.initdb (read database_read database_name) (read text_database_read text_database_name))
-      (λ database. chain (root_world (text_found (read world_read world_name))) _ (as_other WorldBad (world_of (text_found (read world_read world_name))) (λ n e. cc (e)))
-      (λ world. chain (root_repositories command.flags.allow_untrusted (text_found (read repositories_read repositories_name))) _ (repositories_other command.flags.allow_untrusted (text_found (read repositories_read repositories_name)))
+      (λ database. chain (root_world (found_text_or_empty (read world_read world_name))) _ (as_other WorldBad (world_of (found_text_or_empty (read world_read world_name))) (λ n e. cc (e)))
+      (λ world. chain (root_repositories command.flags.allow_untrusted (found_text_or_empty (read repositories_read repositories_name))) _ (repositories_other command.flags.allow_untrusted (found_text_or_empty (read repositories_read repositories_name)))
       (λ repositories e. cc (e))))
 
   inputs_other : IsOther (inputs_of command read)
@@ -116,48 +116,48 @@ module _ (command : CommandLine) (read : Reads) where
       (chain (index_files_from 1 (index_reads_from read first_index_read root.repositories)) (indexes_in_files 1) (files_other 1 (index_reads_from read first_index_read root.repositories)) (indexes_other 1))
       (λ indexes e. cc (e)))
 
-  pool_other : (inputs : Inputs) → IsOther (pool_by command inputs)
+  pool_other : (inputs : Inputs) → IsOther (pool_of_inputs command inputs)
   unfolding root_pool
   pool_other inputs = by (nat_lt MOST_CANDIDATES (length (candidates_of inputs)))
     where
-      by : (t : Bool) → IsOther (if t then Err (TooMany (MOST_CANDIDATES + 1)) else Ok (sealed_pool_by (candidates_of inputs) inputs.root.new_world (names_to_upgrade command.applet command.operands)))
+      by : (t : Bool) → IsOther (if t then Err (TooMany (MOST_CANDIDATES + 1)) else Ok (sealed_pool_from_parts (candidates_of inputs) inputs.root.new_world (names_to_upgrade command.applet command.operands)))
       by true e = cc (e)
       by false e = cc (e)
 
   -- ---- a command
 
-  pub none_for : (inputs : Inputs) (pool : SealedPool) → inputs_of command read ≡ Ok inputs → pool_for command read ≡ Ok pool → IsChoice pool None ↔ IsUnsatisfiable (candidates_of inputs) inputs.root.new_world
+  pub none_for : (inputs : Inputs) (pool : SealedPool) → inputs_of command read ≡ Ok inputs → pool_of_command command read ≡ Ok pool → IsPreferredChoice pool None ↔ IsUnsatisfiable (candidates_of inputs) inputs.root.new_world
   none_for inputs pool e f =
-      none_of_inputs inputs (names_to_upgrade command.applet command.operands) pool (sym (ap (λ (r : Result Inputs Refusal). and_then r (pool_by command)) e) ∙ f)
+      none_of_inputs inputs (names_to_upgrade command.applet command.operands) pool (sym (ap (λ (r : Result Inputs Refusal). and_then r (pool_of_inputs command)) e) ∙ f)
 
   -- the inputs are read, and no packages satisfy the new world
   abbrev HasNone : Type 0
   HasNone = (inputs : Inputs) × (inputs_of command read ≡ Ok inputs) × IsUnsatisfiable (candidates_of inputs) inputs.root.new_world
 
-  pub refused : (chosen : Option (List ℕ)) → IsChoiceFrom (pool_for command read) chosen → selected_for command read chosen ≡ Err Unsatisfied → HasNone
+  pub refused : (chosen : Option (List ℕ)) → IsChoiceFrom (pool_of_command command read) chosen → selected_for command read chosen ≡ Err Unsatisfied → HasNone
   refused chosen choice e = by (inputs_of command read) refl choice e
     where
-      by_chosen : (inputs : Inputs) → inputs_of command read ≡ Ok inputs → (pool : SealedPool) → pool_by command inputs ≡ Ok pool → (place : Option ℕ) (chosen : Option (List ℕ)) → IsChoice pool chosen
+      by_chosen : (inputs : Inputs) → inputs_of command read ≡ Ok inputs → (pool : SealedPool) → pool_of_inputs command inputs ≡ Ok pool → (place : Option ℕ) (chosen : Option (List ℕ)) → IsPreferredChoice pool chosen
           → unless_unknown_operand place (selected_by command inputs pool chosen) ≡ Err Unsatisfied → HasNone
       by_chosen inputs is pool made (Some place) chosen choice e = absurd (cc (e))
       by_chosen inputs is pool made None (Some trace) choice e = absurd (cc (e))
       by_chosen inputs is pool made None None choice e = (inputs, is, (none_of_inputs inputs (names_to_upgrade command.applet command.operands) pool made).0 choice)
 
-      by_pool : (inputs : Inputs) → inputs_of command read ≡ Ok inputs → (made : Result SealedPool Refusal) → pool_by command inputs ≡ made → IsChoiceFrom made chosen
+      by_pool : (inputs : Inputs) → inputs_of command read ≡ Ok inputs → (made : Result SealedPool Refusal) → pool_of_inputs command inputs ≡ made → IsChoiceFrom made chosen
           → and_then made (λ pool. unless_unknown_operand (unknown_operand_place command.applet inputs command.operands) (selected_by command inputs pool chosen)) ≡ Err Unsatisfied → HasNone
       by_pool inputs is (Err refusal) made choice e = let same : refusal ≡ Unsatisfied = cc in absurd (pool_other inputs (made ∙ ap (λ r. Err r) same))
       by_pool inputs is (Ok pool) made choice e = by_chosen inputs is pool made (unknown_operand_place command.applet inputs command.operands) chosen choice e
 
-      by : (r : Result Inputs Refusal) → inputs_of command read ≡ r → IsChoiceFrom (and_then r (pool_by command)) chosen → and_then r (selected_of_inputs command chosen) ≡ Err Unsatisfied → HasNone
+      by : (r : Result Inputs Refusal) → inputs_of command read ≡ r → IsChoiceFrom (and_then r (pool_of_inputs command)) chosen → and_then r (selected_of_inputs command chosen) ≡ Err Unsatisfied → HasNone
       by (Err refusal) is choice e = let same : refusal ≡ Unsatisfied = cc in absurd (inputs_other (is ∙ ap (λ r. Err r) same))
-      by (Ok inputs) is choice e = by_pool inputs is (pool_by command inputs) refl choice e
+      by (Ok inputs) is choice e = by_pool inputs is (pool_of_inputs command inputs) refl choice e
 
-  pub refuses : (chosen : Option (List ℕ)) (inputs : Inputs) (pool : SealedPool) → IsChoiceFrom (pool_for command read) chosen → inputs_of command read ≡ Ok inputs → pool_for command read ≡ Ok pool
+  pub refuses : (chosen : Option (List ℕ)) (inputs : Inputs) (pool : SealedPool) → IsChoiceFrom (pool_of_command command read) chosen → inputs_of command read ≡ Ok inputs → pool_of_command command read ≡ Ok pool
       → unknown_operand_place command.applet inputs command.operands ≡ None → IsUnsatisfiable (candidates_of inputs) inputs.root.new_world → selected_for command read chosen ≡ Err Unsatisfied
   refuses chosen inputs pool choice e f known none = by chosen (subst (λ (r : Result SealedPool Refusal). IsChoiceFrom r chosen) f choice) refl
     where
-      made : pool_by command inputs ≡ Ok pool
-      made = sym (ap (λ (r : Result Inputs Refusal). and_then r (pool_by command)) e) ∙ f
+      made : pool_of_inputs command inputs ≡ Ok pool
+      made = sym (ap (λ (r : Result Inputs Refusal). and_then r (pool_of_inputs command)) e) ∙ f
 
       read_so : (taken : Option (List ℕ)) → selected_for command read taken ≡ selected_by command inputs pool taken
       read_so taken =
@@ -165,6 +165,6 @@ module _ (command : CommandLine) (read : Reads) where
           ∙ (ap (λ (r : Result SealedPool Refusal). and_then r (λ p. unless_unknown_operand (unknown_operand_place command.applet inputs command.operands) (selected_by command inputs p taken))) made
           ∙ ap (λ (o : Option ℕ). unless_unknown_operand o (selected_by command inputs pool taken)) known)
 
-      by : (taken : Option (List ℕ)) → IsChoice pool taken → chosen ≡ taken → selected_for command read chosen ≡ Err Unsatisfied
+      by : (taken : Option (List ℕ)) → IsPreferredChoice pool taken → chosen ≡ taken → selected_for command read chosen ≡ Err Unsatisfied
       by None choice same = ap (selected_for command read) same ∙ read_so None
       by (Some trace) choice same = absurd ((none_for inputs pool e f).1 none trace choice.satisfies)

@@ -17,25 +17,25 @@ use Rattle.root_names.specs.RootNames.{world_name}
 -- ---- `add`
 
 -- no operand is a dependency of this name
-abbrev pub IsAddedByNone : List ℕ → List Operand → Type 0
-IsAddedByNone name operands = (o : Operand) (d : Dependency) → IsIn o operands
+abbrev pub IsDependencyOfNoOperand : List ℕ → List Operand → Type 0
+IsDependencyOfNoOperand name operands = (o : Operand) (d : Dependency) → IsIn o operands
     → dependency_of o.text ≡ Some d → d.name ≢ name
 
 -- an operand is this dependency, and none after it has the same name
-pub record IsAdded (operands : List Operand) (d : Dependency) : Type 0 where
+pub record IsAddedDependency (operands : List Operand) (d : Dependency) : Type 0 where
   pub front : List Operand
   pub operand : Operand
   pub behind : List Operand
   pub located : operands ≡ front ++ operand ∷ behind
   pub says : dependency_of operand.text ≡ Some d
-  pub last : IsAddedByNone d.name behind
+  pub last : IsDependencyOfNoOperand d.name behind
 
 -- world after `add`: an entry is one of the operands, or it was there before and no operand has its
 -- name
-pub record HasAddedEntries (operands : List Operand) (before after : List Dependency) : Type 0 where
+pub record IsWorldAfterAdd (operands : List Operand) (before after : List Dependency) : Type 0 where
   pub world : IsWorld after
   pub entries : (d : Dependency) → IsIn d after
-      ↔ (IsAdded operands d ⊎ (IsIn d before × IsAddedByNone d.name operands))
+      ↔ (IsAddedDependency operands d ⊎ (IsIn d before × IsDependencyOfNoOperand d.name operands))
 
 -- ---- `del`
 
@@ -44,7 +44,7 @@ abbrev pub IsNoOperand : List ℕ → List Operand → Type 0
 IsNoOperand name operands = (o : Operand) → IsIn o operands → o.text ≢ name
 
 -- world after `del`: an entry was there before, and no operand is its name
-pub record HasOtherEntries (operands : List Operand) (before after : List Dependency) : Type 0 where
+pub record IsWorldAfterDel (operands : List Operand) (before after : List Dependency) : Type 0 where
   pub world : IsWorld after
   pub entries : (d : Dependency) → IsIn d after ↔ (IsIn d before × IsNoOperand d.name operands)
 
@@ -53,8 +53,8 @@ pub record HasOtherEntries (operands : List Operand) (before after : List Depend
 -- world after a command, by its applet; all except `add` and `del` leave world unchanged
 abbrev pub HasRequestedEntries :
     Applet → List Operand → List Dependency → List Dependency → Type 0
-HasRequestedEntries Add operands before after = HasAddedEntries operands before after
-HasRequestedEntries Del operands before after = HasOtherEntries operands before after
+HasRequestedEntries Add operands before after = IsWorldAfterAdd operands before after
+HasRequestedEntries Del operands before after = IsWorldAfterDel operands before after
 HasRequestedEntries applet operands before after = after ≡ before
 
 -- ---- among what a change reads of a root

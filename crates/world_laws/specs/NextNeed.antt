@@ -32,8 +32,8 @@ pub record IsFirstUnmet (pool : SealedPool) (chosen : List ℕ) (deps : List Dep
 -- ---- of the choices
 
 -- the dependencies of each of these choices are met
-abbrev pub AreMetOfEach : SealedPool → List ℕ → List ℕ → Type 0
-AreMetOfEach pool chosen choices = (c : ℕ) → IsIn c choices
+abbrev pub AreDependenciesOfEachMet : SealedPool → List ℕ → List ℕ → Type 0
+AreDependenciesOfEachMet pool chosen choices = (c : ℕ) → IsIn c choices
     → AreMetByChoices pool chosen (depends_at pool c)
 
 -- a dependency is the first unmet one of a choice, and those of the choices before it are met
@@ -43,7 +43,7 @@ pub record IsFirstOfChoices (pool : SealedPool) (chosen choices : List ℕ)
   pub choice : ℕ
   pub behind : List ℕ
   pub located : choices ≡ front ++ choice ∷ behind
-  pub before : AreMetOfEach pool chosen front
+  pub before : AreDependenciesOfEachMet pool chosen front
   pub first : IsFirstUnmet pool chosen (depends_at pool choice) d
 
 -- ---- by install-if
@@ -69,15 +69,15 @@ pub record IsFirstByInstallIf (pool : SealedPool) (chosen name : List ℕ) : Typ
 
 -- Which need is next: that of world before all others; then of the choices in their order; last a name
 -- that an install-if asks for.
-abbrev pub IsNext : SealedPool → List ℕ → Need → Type 0
-IsNext pool chosen (entry d) = IsFirstUnmet pool chosen pool.world d
+abbrev pub IsNextNeed : SealedPool → List ℕ → Need → Type 0
+IsNextNeed pool chosen (entry d) = IsFirstUnmet pool chosen pool.world d
     ⊎ (AreMetByChoices pool chosen pool.world × IsFirstOfChoices pool chosen chosen d)
-IsNext pool chosen (named name) = AreMetByChoices pool chosen pool.world
-    × AreMetOfEach pool chosen chosen × IsFirstByInstallIf pool chosen name
+IsNextNeed pool chosen (named name) = AreMetByChoices pool chosen pool.world
+    × AreDependenciesOfEachMet pool chosen chosen × IsFirstByInstallIf pool chosen name
 
 -- the next need, if there is one; if there is none, all are met
-abbrev pub IsNextOrNone : SealedPool → List ℕ → Option Need → Type 0
-IsNextOrNone pool chosen (Some need) = IsNext pool chosen need
-IsNextOrNone pool chosen None = AreMetByChoices pool chosen pool.world
-    × AreMetOfEach pool chosen chosen
+abbrev pub IsNextNeedOrNone : SealedPool → List ℕ → Option Need → Type 0
+IsNextNeedOrNone pool chosen (Some need) = IsNextNeed pool chosen need
+IsNextNeedOrNone pool chosen None = AreMetByChoices pool chosen pool.world
+    × AreDependenciesOfEachMet pool chosen chosen
     × ((name : List ℕ) → ¬ IsAskedByInstallIf pool chosen name)

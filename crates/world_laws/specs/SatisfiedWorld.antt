@@ -57,8 +57,8 @@ IsUnsatisfiable candidates world =
 -- ---- what is needed
 
 -- one of these dependencies, which is no conflict, is met by a package
-abbrev pub MeetsOne : List Dependency → Candidate → Type 0
-MeetsOne deps c =
+abbrev pub MeetsOneDependency : List Dependency → Candidate → Type 0
+MeetsOneDependency deps c =
     (d : Dependency) × IsIn d deps × (d.conflict ≡ false) × (meets_dependency d c ≡ true)
 
 -- a package is needed: it meets an entry of world or a dependency of one of the packages, or it has the
@@ -66,7 +66,7 @@ MeetsOne deps c =
 abbrev pub IsNeeded :
     List Candidate → List Dependency → List Candidate → Candidate → Type 0
 IsNeeded candidates world packages c =
-    MeetsOne world c
-    ⊎ (((other : Candidate) × IsIn other packages × MeetsOne other.depends c)
+    MeetsOneDependency world c
+    ⊎ (((other : Candidate) × IsIn other packages × MeetsOneDependency other.depends c)
     ⊎ ((other : Candidate) × InstallIfApplies candidates world packages other
     × (c.name ≡ other.name)))

@@ -12,7 +12,7 @@ with_simulation command = record command { flags = with_flag Simulate command.fl
 
 -- A simulation foretells the report of a change: all that precedes the last line of its own report, a
 -- sum, is also the beginning of the change's report, to the byte; and this ends with a sum of its own.
-pub record IsPredicted (simulation report : List ℕ) : Type 0 where
+pub record IsReportPredicted (simulation report : List ℕ) : Type 0 where
   pub told : List ℕ
   pub bytes : ℕ
   pub packages : ℕ

@@ -13,14 +13,14 @@ ghost use Rattle.engine_core.specs.adb_fields.FirstPair.{IsIn};
 ghost use Rattle.engine_core.specs.candidate_core.Candidates.{Candidate, Need};
 ghost use Rattle.engine_core.specs.candidate_core.Rank.{SealedPool};
 ghost use Rattle.engine_core.specs.search_tables.Selection.{IsSatisfying, next_need};
-ghost use Rattle.world_laws.specs.NextNeed.{IsNextOrNone};
+ghost use Rattle.world_laws.specs.NextNeed.{IsNextNeedOrNone};
 ghost use Rattle.base_core.specs.Files.{Files};
 ghost use Rattle.engine_core.specs.change_files.FileChange.{FileChange};
 ghost use Rattle.engine_core.specs.change_outcome.ChangeOutcome.{ChangeDone, ChangeWishes, change_report};
 ghost use Rattle.command_core.specs.Command.{CommandLine};
 ghost use Rattle.engine_core.specs.Changed.{Selected, change_of_command, selected_for};
-ghost use Rattle.engine_core.specs.Choice.{IsChoice, IsChoiceFrom};
-ghost use Rattle.engine_core.specs.Selecting.{pool_for};
+ghost use Rattle.engine_core.specs.Choice.{IsPreferredChoice, IsChoiceFrom};
+ghost use Rattle.engine_core.specs.Selecting.{pool_of_command};
 ghost use Rattle.engine_core.specs.Wishes.{unknown_operand_place};
 ghost use Rattle.engine_core.specs.make_info.Reads.{Reads};
 ghost use Rattle.engine_core.specs.package_changes.Changes.{Replacement};
@@ -29,7 +29,7 @@ ghost use Rattle.engine_core.specs.package_changes.Report.{simulated_report};
 ghost use Rattle.engine_core.specs.path_clashes.Clash.{NamePair};
 ghost use Rattle.report_core.specs.declared.refusal.Refusal.{Refusal};
 ghost use Rattle.report_core.specs.declared.refusal.Refusal.TheVariants.{Unsatisfied};
-ghost use Rattle.world_laws.specs.Simulation.{IsPredicted, with_simulation};
+ghost use Rattle.world_laws.specs.Simulation.{IsReportPredicted, with_simulation};
 ghost use Rattle.engine_core.specs.change_inputs.Candidates.{candidates_of};
 ghost use Rattle.engine_core.specs.change_inputs.Inputs.{Inputs, inputs_of};
 ghost use Rattle.engine_core.specs.change_inputs.World.{new_world};
@@ -51,10 +51,10 @@ use engine_core::{a_change_that_is_made_passes_each_test, a_choice_is_unique};
 pub fn the_next_need_is_the_first_that_is_unmet()
     // The search takes this as its next need.
     ensures next { (pool : SealedPool) (chosen : List ℕ)
-        → IsNextOrNone pool chosen (next_need pool chosen) }
+        → IsNextNeedOrNone pool chosen (next_need pool chosen) }
     // There is only one.
     ensures one { (pool : SealedPool) (chosen : List ℕ) (need other : Option Need)
-        → IsNextOrNone pool chosen need → IsNextOrNone pool chosen other → need ≡ other }
+        → IsNextNeedOrNone pool chosen need → IsNextNeedOrNone pool chosen other → need ≡ other }
 {}
 
 /// A simulation reports what the change does, by the same candidates: which packages are added and
@@ -65,16 +65,16 @@ pub fn a_simulation_predicts_the_change()
     // Of the two reports, by one replacement.
     ensures reports { (r : Replacement) (wishes : ChangeWishes) (change : FileChange)
         (files : Files)
-        → IsPredicted (simulated_report r wishes.to_remove) (change_report r wishes change files) }
+        → IsReportPredicted (simulated_report r wishes.to_remove) (change_report r wishes change files) }
     // Of one command with and without `--simulate`.
     ensures commands { (command : CommandLine) (read : Reads) (files : Files)
         (expected chosen : Option (List ℕ)) (other clash : Option NamePair)
         (simulation done : ChangeDone) → command.flags.simulate ≡ false
-        → IsChoiceFrom (pool_for (with_simulation command) read) expected
-        → IsChoiceFrom (pool_for command read) chosen
+        → IsChoiceFrom (pool_of_command (with_simulation command) read) expected
+        → IsChoiceFrom (pool_of_command command read) chosen
         → change_of_command (with_simulation command) read files expected other ≡ Ok simulation
         → change_of_command command read files chosen clash ≡ Ok done
-        → IsPredicted simulation.report done.report }
+        → IsReportPredicted simulation.report done.report }
 {
     a_change_that_is_made_passes_each_test();
     a_choice_is_unique();
@@ -84,8 +84,8 @@ pub fn a_simulation_predicts_the_change()
 pub fn a_refused_simulation_refuses_the_change()
     ensures { (command : CommandLine) (read : Reads) (files : Files)
         (expected chosen : Option (List ℕ)) (other clash : Option NamePair) (refusal : Refusal)
-        → IsChoiceFrom (pool_for (with_simulation command) read) expected
-        → IsChoiceFrom (pool_for command read) chosen
+        → IsChoiceFrom (pool_of_command (with_simulation command) read) expected
+        → IsChoiceFrom (pool_of_command command read) chosen
         → change_of_command (with_simulation command) read files expected other ≡ Err refusal
         → change_of_command command read files chosen clash ≡ Err refusal }
 {
@@ -114,7 +114,7 @@ pub fn the_new_world_has_what_was_asked()
 /// under the world that was asked for, and with the names that the command upgrades.
 pub fn a_command_chooses_from_its_indexes_and_its_database()
     ensures { (command : CommandLine) (read : Reads) (pool : SealedPool)
-        → pool_for command read ≡ Ok pool → IsCommandPool command read pool }
+        → pool_of_command command read ≡ Ok pool → IsCommandPool command read pool }
 {}
 
 /// The packages that a command selects satisfy the new world, and each of them is needed: by world,
@@ -122,12 +122,12 @@ pub fn a_command_chooses_from_its_indexes_and_its_database()
 pub fn the_selected_packages_satisfy_the_new_world()
     // They satisfy it.
     ensures satisfied { (command : CommandLine) (read : Reads) (chosen : Option (List ℕ))
-        (s : Selected) → IsChoiceFrom (pool_for command read) chosen
+        (s : Selected) → IsChoiceFrom (pool_of_command command read) chosen
         → selected_for command read chosen ≡ Ok s
         → SatisfyWorld (candidates_of s.inputs) s.inputs.root.new_world s.replacement.selected }
     // Each is needed.
     ensures needed { (command : CommandLine) (read : Reads) (chosen : Option (List ℕ))
-        (s : Selected) (c : Candidate) → IsChoiceFrom (pool_for command read) chosen
+        (s : Selected) (c : Candidate) → IsChoiceFrom (pool_of_command command read) chosen
         → selected_for command read chosen ≡ Ok s → IsIn c s.replacement.selected
         → IsNeeded (candidates_of s.inputs) s.inputs.root.new_world s.replacement.selected c }
 {}
@@ -145,18 +145,18 @@ pub fn a_selection_satisfies_world_exactly_if_packages_do()
         × AreSamePackages (candidates_at pool selection) packages }
     // A command has no selection exactly if no packages satisfy its new world.
     ensures none { (command : CommandLine) (read : Reads) (inputs : Inputs) (pool : SealedPool)
-        → inputs_of command read ≡ Ok inputs → pool_for command read ≡ Ok pool
-        → IsChoice pool None ↔ IsUnsatisfiable (candidates_of inputs) inputs.root.new_world }
+        → inputs_of command read ≡ Ok inputs → pool_of_command command read ≡ Ok pool
+        → IsPreferredChoice pool None ↔ IsUnsatisfiable (candidates_of inputs) inputs.root.new_world }
     // If it is refused as unsatisfied, no packages satisfy its new world.
     ensures refused { (command : CommandLine) (read : Reads) (chosen : Option (List ℕ))
-        → IsChoiceFrom (pool_for command read) chosen
+        → IsChoiceFrom (pool_of_command command read) chosen
         → selected_for command read chosen ≡ Err Unsatisfied
         → (inputs : Inputs) × (inputs_of command read ≡ Ok inputs)
         × IsUnsatisfiable (candidates_of inputs) inputs.root.new_world }
     // If no packages do, it is refused so, unless an earlier test refuses it.
     ensures refuses { (command : CommandLine) (read : Reads) (chosen : Option (List ℕ))
-        (inputs : Inputs) (pool : SealedPool) → IsChoiceFrom (pool_for command read) chosen
-        → inputs_of command read ≡ Ok inputs → pool_for command read ≡ Ok pool
+        (inputs : Inputs) (pool : SealedPool) → IsChoiceFrom (pool_of_command command read) chosen
+        → inputs_of command read ≡ Ok inputs → pool_of_command command read ≡ Ok pool
         → unknown_operand_place command.applet inputs command.operands ≡ None
         → IsUnsatisfiable (candidates_of inputs) inputs.root.new_world
         → selected_for command read chosen ≡ Err Unsatisfied }

@@ -9,7 +9,7 @@ ghost use Rattle.dep_core.specs.Meets.{dependency};
 ghost use Rattle.search_tables.specs.candidate_core.Candidates.{entry, occupies_name};
 ghost use Rattle.search_tables.specs.candidate_core.Options.{IsIn};
 ghost use Rattle.search_tables.specs.candidate_core.PackageMatches.{AreMatchesAmong};
-ghost use Rattle.search_tables.specs.candidate_core.Rank.{candidate_at, is_at};
+ghost use Rattle.search_tables.specs.candidate_core.Rank.{candidate_at, candidate_at_passes};
 ghost use Rattle.search_choices.specs.Choices.{IsConsistent, choices_of, pool_of};
 ghost use Rattle.search_tables.specs.Conflicts.{AreConflictsOf};
 ghost use Rattle.search_tables.specs.Excluders.{IsConflictTable, IsExcluder, IsNotExcludedAt};
@@ -116,9 +116,9 @@ impl<'p> Choices<'p> {
     // A choice that occupies a name, if `is_occupied`.
     fn occupant_at(&self, name: &[u8], is_occupied: bool) -> Option<CandId>
         ensures { MatchOption result (is_occupied ≡ true → (k : ℕ) →
-            IsIn k (choices_of self.now) → is_at (pool_of self.now) (occupies_name name.now) k
+            IsIn k (choices_of self.now) → candidate_at_passes (pool_of self.now) (occupies_name name.now) k
             ≡ false) (λ k. (is_occupied ≡ true) × IsIn k (choices_of self.now)
-            × (is_at (pool_of self.now) (occupies_name name.now) k ≡ true)) }
+            × (candidate_at_passes (pool_of self.now) (occupies_name name.now) k ≡ true)) }
     {
         if is_occupied {
             return occupant(self.pool, &self.choices, name);

@@ -6,7 +6,7 @@ use Rattle.adb_view.specs.Values.{entries_in}
 use Rattle.adb_view.specs.declared.tables.Kind.TheVariants as Kinds
 use Rattle.adb_view.specs.declared.tables.Which.TheVariants as Tables
 use Rattle.adb_values.specs.Drafts.{draft_with_all}
-use Rattle.adb_copy.specs.Known.{AreBlobsOf}
+use Rattle.adb_copy.specs.Known.{AreRememberedBlobsOfDraft}
 use Rattle.adb_copy.specs.Zeros.{all_without_zeros}
 use Rattle.adb_copy.proofs.Lists.{rest}
 use Rattle.adb_copy.proofs.copy.write_dep_list.Given as goal
@@ -16,5 +16,5 @@ abbrev pub invariant-loop-i : goal.invariant-loop-i
 invariant-loop-i l = record {
   left : draft_with_all (all_without_zeros (rest l.i (entries_in (array_at (payload_of l.adb) (Kinds.Obj Tables.Dep) (array_entries l.deps))))) l.draft
       ≡ draft_with_all (all_without_zeros (entries_in (array_at (payload_of l.adb) (Kinds.Obj Tables.Dep) (array_entries l.deps)))) l.initial.draft;
-  known : AreBlobsOf (payload_of l.adb) l.draft l.known;
+  known : AreRememberedBlobsOfDraft (payload_of l.adb) l.draft l.known;
 }

@@ -5,14 +5,14 @@ use Rattle.adb_view.specs.Schema.{shape_of}
 use Rattle.adb_view.specs.declared.tables.Field.{Field}
 use Rattle.adb_view.specs.declared.tables.FieldName.TheVariants.{Name}
 use Rattle.adb_view.specs.declared.tables.Kind.TheVariants.{Int}
-use Rattle.adb_dump.specs.Dump.{block_lines, or_null}
-use Rattle.adb_dump.specs.Margin.{lines_at}
+use Rattle.adb_dump.specs.Dump.{block_lines, entry_lines_or_null_line}
+use Rattle.adb_dump.specs.Margin.{indented_lines_text}
 use Rattle.adb_dump.specs.Words.{is_null}
 use Rattle.adb_view.specs.Values.{value_at}
 use Rattle.adb_view.specs.Adb.{payload_of}
 use Rattle.adb_view.specs.Entries.{array_entries}
 use Rattle.adb_dump.proofs.Puts.{on_ok_then, puts_on, puts_told, so_far_all, so_far_more, so_far_none}
-use Rattle.adb_dump.proofs.Turns.{entries_end, entries_later, entry_turn, field_after, field_below, field_turn, fields_end, null_put, null_turn, object_entry_null, object_entry_some, some_put, words_end}
+use Rattle.adb_dump.proofs.Turns.{entries_end, entries_later, entry_turn, field_after, field_with_value_below, field_turn, fields_end, null_put, null_turn, object_entry_null, object_entry_some, some_put, words_end}
 use Rattle.adb_dump.proofs.Left.{fields_later, null_done, null_next, null_over, null_stop}
 use Rattle.adb_dump.proofs.Booleans.{and_go}
 use Rattle.adb_dump.proofs.block.+block.Goals as goal
@@ -42,7 +42,7 @@ write_named-returns-in_ok-write_name g t c =
 
 pub write_named-returns-in_ok-write_name_line : goal.write_named-returns-in_ok-write_name_line
 write_named-returns-in_ok-write_name_line g t c =
-    on_ok_then _ _ _ (λ block. puts_told (g.O.Out.holds (payload_of c.args.adb)) _ _ _ _ (field_below c.args.field.kind c.args.start.depth c.args.start.begun _ (value_at (payload_of c.args.adb) c.args.field.kind c.args.word) (sym c.has_one_line.ensures ∙ c.if-has_one_line.false))
+    on_ok_then _ _ _ (λ block. puts_told (g.O.Out.holds (payload_of c.args.adb)) _ _ _ _ (field_with_value_below c.args.field.kind c.args.start.depth c.args.start.begun _ (value_at (payload_of c.args.adb) c.args.field.kind c.args.word) (sym c.has_one_line.ensures ∙ c.if-has_one_line.false))
     (puts_on (g.O.Out.holds (payload_of c.args.adb)) _ _ _ _ _ (c.in_ok-write_name_line.ensures (payload_of c.args.adb)) block)) c.write_block-else-has_one_line.ensures
 
 pub write_entries-loop-i-init : goal.write_entries-loop-i-init
@@ -58,7 +58,7 @@ write_entries-loop-i-preserved g t c =
       so_far =
           so_far_more (g.O.Out.holds (payload_of c.args.adb)) _ _ _ _ _ _ _ (entry_turn c.args.start.depth c.loop-i.begun payload c.args.kind words c.loop-i.i before c.loop-i.invariant.sound)
           (puts_on (g.O.Out.holds (payload_of c.args.adb)) _ _ _ _ _ (c.in_ok-write_dash.ensures (payload_of c.args.adb))
-          (puts_told (g.O.Out.holds (payload_of c.args.adb)) _ _ _ _ (ap (λ (w : ℕ). lines_at (c.args.start.depth + 1) true (or_null (value_at payload c.args.kind w) (block_lines (shape_of c.args.kind) (value_at payload c.args.kind w)))) c.entry_word.ensures) c.in_ok-write_entry.ensures))
+          (puts_told (g.O.Out.holds (payload_of c.args.adb)) _ _ _ _ (ap (λ (w : ℕ). indented_lines_text (c.args.start.depth + 1) true (entry_lines_or_null_line (value_at payload c.args.kind w) (block_lines (shape_of c.args.kind) (value_at payload c.args.kind w)))) c.entry_word.ensures) c.in_ok-write_entry.ensures))
           c.loop-i.invariant.so_far;
     }
 

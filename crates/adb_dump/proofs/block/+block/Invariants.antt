@@ -5,7 +5,7 @@ use Rattle.adb_schema.specs.adb_fields.Fields.{are_all_sound, values_at}
 use Rattle.adb_view.specs.Schema.{shape_of, shapes_of}
 use Rattle.adb_dump.specs.Dump.{block_lines, array_lines, fields_lines}
 use Rattle.adb_view.specs.Rank.{rank, rank_of_all}
-use Rattle.adb_dump.specs.Margin.{lines_at}
+use Rattle.adb_dump.specs.Margin.{indented_lines_text}
 use Rattle.std.specs.Prelude.{◌&&◌}
 use Rattle.adb_view.specs.declared.tables.Kind.TheVariants.{Obj}
 use Rattle.adb_dump.specs.Words.{are_null, fields_sound, fields_at}
@@ -37,12 +37,12 @@ decreases-write_named g l = 2 * rank l.field.kind + 1
 abbrev pub invariant-write_entries-loop-i : goal.invariant-write_entries-loop-i
 invariant-write_entries-loop-i g l = record {
   sound : are_all_sound (payload_of l.adb) l.kind (drop l.i (array_entries l.words)) ≡ true;
-  so_far : IsSoFar (g.O.Out.holds (payload_of l.adb)) l.initial.out l.out (lines_at l.start.depth l.begun (entries_left (payload_of l.adb) l.kind (array_entries l.words) l.i)) (lines_at l.start.depth l.initial.begun (array_lines (block_lines (shape_of l.kind)) (values_at (payload_of l.adb) l.kind (array_entries l.words))));
+  so_far : IsSoFar (g.O.Out.holds (payload_of l.adb)) l.initial.out l.out (indented_lines_text l.start.depth l.begun (entries_left (payload_of l.adb) l.kind (array_entries l.words) l.i)) (indented_lines_text l.start.depth l.initial.begun (array_lines (block_lines (shape_of l.kind)) (values_at (payload_of l.adb) l.kind (array_entries l.words))));
 }
 
 abbrev pub invariant-write_fields-loop-i : goal.invariant-write_fields-loop-i
 invariant-write_fields-loop-i g l = record {
   sound : fields_sound (payload_of l.adb) (drop l.i l.fields) (drop l.i (array_entries l.words)) ≡ true;
   null : are_null (fields_at (payload_of l.adb) l.fields (array_entries l.words)) ≡ (l.all_null && are_null (fields_at (payload_of l.adb) (drop l.i l.fields) (drop l.i (array_entries l.words))));
-  so_far : IsSoFar (g.O.Out.holds (payload_of l.adb)) l.initial.out l.out (lines_at l.start.depth l.begun (fields_left (payload_of l.adb) l.fields (array_entries l.words) l.i)) (lines_at l.start.depth l.initial.begun (fields_lines (shapes_of l.fields) (fields_at (payload_of l.adb) l.fields (array_entries l.words))));
+  so_far : IsSoFar (g.O.Out.holds (payload_of l.adb)) l.initial.out l.out (indented_lines_text l.start.depth l.begun (fields_left (payload_of l.adb) l.fields (array_entries l.words) l.i)) (indented_lines_text l.start.depth l.initial.begun (fields_lines (shapes_of l.fields) (fields_at (payload_of l.adb) l.fields (array_entries l.words))));
 }

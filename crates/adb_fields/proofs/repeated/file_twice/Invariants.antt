@@ -2,9 +2,9 @@
 use Rattle.std.proofs.Common.{◌≡◌, map, drop}
 use Rattle.adb_view.specs.Adb.{payload_of}
 use Rattle.adb_view.specs.Entries.{array_entries}
-use Rattle.adb_fields.specs.ListsOf.{AreListsOf}
-use Rattle.adb_fields.specs.Pairs.{first_reported, reported_of_two}
-use Rattle.adb_fields.specs.Repeated.{twice_in_one, name_of, files_in, folders_in}
+use Rattle.adb_fields.specs.ListsOf.{AreRememberedListsOf}
+use Rattle.adb_fields.specs.Pairs.{least_pair, lesser_pair}
+use Rattle.adb_fields.specs.Repeated.{repeated_pair_in_one_list, name_of, files_in, folders_in}
 use Rattle.adb_fields.specs.NamedTexts.{plains_at}
 use Rattle.adb_view.specs.declared.tables.Kind.TheVariants as Kinds
 use Rattle.adb_view.specs.declared.tables.Which.TheVariants as Tables
@@ -12,6 +12,6 @@ use Rattle.adb_fields.proofs.repeated.file_twice.Given as goal
 
 abbrev pub invariant-loop-i : goal.invariant-loop-i
 invariant-loop-i l = record {
-  so_far : reported_of_two l.first (first_reported (map (λ pkg. twice_in_one (map (λ folder. map name_of (files_in folder)) (folders_in pkg))) (drop l.i (plains_at (payload_of l.adb) (Kinds.Obj Tables.Package) (array_entries l.packages))))) ≡ first_reported (map (λ pkg. twice_in_one (map (λ folder. map name_of (files_in folder)) (folders_in pkg))) (plains_at (payload_of l.adb) (Kinds.Obj Tables.Package) (array_entries l.packages)));
-  lists : AreListsOf l.adb Tables.File l.lists;
+  so_far : lesser_pair l.first (least_pair (map (λ pkg. repeated_pair_in_one_list (map (λ folder. map name_of (files_in folder)) (folders_in pkg))) (drop l.i (plains_at (payload_of l.adb) (Kinds.Obj Tables.Package) (array_entries l.packages))))) ≡ least_pair (map (λ pkg. repeated_pair_in_one_list (map (λ folder. map name_of (files_in folder)) (folders_in pkg))) (plains_at (payload_of l.adb) (Kinds.Obj Tables.Package) (array_entries l.packages)));
+  lists : AreRememberedListsOf l.adb Tables.File l.lists;
 }

@@ -2,8 +2,8 @@
 use Rattle.std.proofs.Common.{◌≡◌, map, drop}
 use Rattle.adb_view.specs.Adb.{payload_of}
 use Rattle.adb_view.specs.Entries.{array_entries}
-use Rattle.adb_fields.specs.ListsOf.{AreListsOf}
-use Rattle.adb_fields.specs.Pairs.{first_reported, reported_of_two}
+use Rattle.adb_fields.specs.ListsOf.{AreRememberedListsOf}
+use Rattle.adb_fields.specs.Pairs.{least_pair, lesser_pair}
 use Rattle.adb_fields.specs.Repeated.{first_repeat, name_of, files_in}
 use Rattle.adb_fields.specs.NamedTexts.{plains_at}
 use Rattle.adb_view.specs.declared.tables.Kind.TheVariants as Kinds
@@ -12,6 +12,6 @@ use Rattle.adb_fields.proofs.repeated.file_twice_in_package.Given as goal
 
 abbrev pub invariant-loop-i : goal.invariant-loop-i
 invariant-loop-i l = record {
-  so_far : reported_of_two l.first (first_reported (map (λ folder. first_repeat (map name_of (files_in folder))) (drop l.i (plains_at (payload_of l.adb) (Kinds.Obj Tables.Dir) (array_entries l.folders))))) ≡ first_reported (map (λ folder. first_repeat (map name_of (files_in folder))) (plains_at (payload_of l.adb) (Kinds.Obj Tables.Dir) (array_entries l.folders)));
-  lists : AreListsOf l.adb Tables.File l.lists;
+  so_far : lesser_pair l.first (least_pair (map (λ folder. first_repeat (map name_of (files_in folder))) (drop l.i (plains_at (payload_of l.adb) (Kinds.Obj Tables.Dir) (array_entries l.folders))))) ≡ least_pair (map (λ folder. first_repeat (map name_of (files_in folder))) (plains_at (payload_of l.adb) (Kinds.Obj Tables.Dir) (array_entries l.folders)));
+  lists : AreRememberedListsOf l.adb Tables.File l.lists;
 }

@@ -15,7 +15,7 @@ pub loop-i-preserved : goal.loop-i-preserved
 loop-i-preserved c =
     let g : Plain → Option Pair = λ pkg. first_repeat (map name_of (folders_in pkg)) in
     record {
-      so_far = one_first (payload_of c.args.adb) (Kinds.Obj Tables.Package) g (array_entries c.args.packages) c.loop-i.i c.entry_word-pkg.result c.loop-i.first c.in_ok-folder_twice_in_package.field-0 _ _ c.requires (grind arith) c.entry_word-pkg.ensures c.in_ok-folder_twice_in_package.ensures.pair c.reported_of_two-first.ensures c.loop-i.invariant.so_far;
+      so_far = one_first (payload_of c.args.adb) (Kinds.Obj Tables.Package) g (array_entries c.args.packages) c.loop-i.i c.entry_word-pkg.result c.loop-i.first c.in_ok-folder_twice_in_package.field-0 _ _ c.requires (grind arith) c.entry_word-pkg.ensures c.in_ok-folder_twice_in_package.ensures.pair c.lesser_pair-first.ensures c.loop-i.invariant.so_far;
       lists = c.in_ok-folder_twice_in_package.ensures.lists;
     }
 

@@ -8,7 +8,7 @@ use Rattle.base_core.specs.declared.cause.Cause.{Cause}
 use Rattle.base_core.specs.declared.cause.Cause.TheVariants.{BadText}
 use Rattle.adb_schema.specs.TextRules.{text_at}
 use Rattle.adb_schema.specs.TextWalk.{bad_text_at}
-use Rattle.adb_schema.specs.Texts.{field_leaves, first_bad, leaves}
+use Rattle.adb_schema.specs.Texts.{field_leaves, first_bad_leaf, leaves}
 use Rattle.adb_view.specs.Values.{entries_in, text_in, value_at}
 use Rattle.adb_view.specs.declared.tables.Kind.TheVariants.{Int, Obj}
 use Rattle.adb_view.specs.declared.tables.Field.{Field}
@@ -30,7 +30,7 @@ check_entries-returns-in-Some-clause-place t c =
 pub check_entries-loop-i-preserved-then-is_same_as_before : goal.check_entries-loop-i-preserved-then-is_same_as_before
 check_entries-loop-i-preserved-then-is_same_as_before t c =
     let words = array_entries c.args.entries in
-    let bad : ℕ → Option Cause = λ w. first_bad (leaves (shape_of c.args.kind) c.args.field_number (surroundings_of c.args.around.now) (value_at (payload_of c.args.adb) c.args.kind w)) in
+    let bad : ℕ → Option Cause = λ w. first_bad_leaf (leaves (shape_of c.args.kind) c.args.field_number (surroundings_of c.args.around.now) (value_at (payload_of c.args.adb) c.args.kind w)) in
     let within : c.loop-i.i < length words = omega (arith, c.len-i-end.ensures.value, c.loop-i-test.true) in
     let good = before_good bad words c.loop-i.i c.if-is_same_as_before.ensures c.loop-i.invariant.before in
     record {
@@ -47,7 +47,7 @@ check_entries-loop-i-preserved t c = record {
   so_far =
       sym (entry_good (payload_of c.args.adb) c.args.kind (leaves (shape_of c.args.kind) c.args.field_number (surroundings_of c.args.around.now)) (array_entries c.args.entries) c.loop-i.i c.entry_word-word.result (omega arith) c.loop-i.invariant.sound c.entry_word-word.ensures (sym (ap bad_text_at c.in_default.is) ∙ c.in_ok-place.ensures.place))
       ∙ c.loop-i.invariant.so_far;
-  before = after_good (λ w. first_bad (leaves (shape_of c.args.kind) c.args.field_number (surroundings_of c.args.around.now) (value_at (payload_of c.args.adb) c.args.kind w))) (array_entries c.args.entries) c.loop-i.i c.entry_word-word.result c.entry_word-word.ensures (sym (ap bad_text_at c.in_default.is) ∙ c.in_ok-place.ensures.place);
+  before = after_good (λ w. first_bad_leaf (leaves (shape_of c.args.kind) c.args.field_number (surroundings_of c.args.around.now) (value_at (payload_of c.args.adb) c.args.kind w))) (array_entries c.args.entries) c.loop-i.i c.entry_word-word.result c.entry_word-word.ensures (sym (ap bad_text_at c.in_default.is) ∙ c.in_ok-place.ensures.place);
 }
 
 pub check_entries-returns-clause-place : goal.check_entries-returns-clause-place
@@ -58,8 +58,8 @@ check_fields-loop-i-init t c = record {
   payload = refl;
   field_number = omega arith;
   so_far =
-      ap (λ vs. first_bad (field_leaves (shapes_of (table c.args.which)) (100 * c.number_of-field_number.result + 1) (surroundings_of c.args.around.now) vs)) (behind-zero (entries_in (value_at (payload_of c.args.adb) (Obj c.args.which) c.args.object)))
-      ∙ ap (λ (n : ℕ). first_bad (field_leaves (shapes_of (table c.args.which)) (100 * n + 1) (surroundings_of c.args.around.now) (entries_in (value_at (payload_of c.args.adb) (Obj c.args.which) c.args.object)))) c.number_of-field_number.ensures.value;
+      ap (λ vs. first_bad_leaf (field_leaves (shapes_of (table c.args.which)) (100 * c.number_of-field_number.result + 1) (surroundings_of c.args.around.now) vs)) (behind-zero (entries_in (value_at (payload_of c.args.adb) (Obj c.args.which) c.args.object)))
+      ∙ ap (λ (n : ℕ). first_bad_leaf (field_leaves (shapes_of (table c.args.which)) (100 * n + 1) (surroundings_of c.args.around.now) (entries_in (value_at (payload_of c.args.adb) (Obj c.args.which) c.args.object)))) c.number_of-field_number.ensures.value;
 }
 
 pub check_fields-check_value-requires : goal.check_fields-check_value-requires

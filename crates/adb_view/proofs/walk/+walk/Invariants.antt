@@ -6,7 +6,7 @@ use Rattle.adb_view.specs.Rank.{rank, rank_of_all}
 use Rattle.adb_view.specs.Visits.{MOST_VALUES}
 use Rattle.adb_view.specs.CountedWalk.{fields_walk}
 use Rattle.adb_view.specs.CountedWalk.{walk}
-use Rattle.adb_view.specs.CountedWalk.{each_walk}
+use Rattle.adb_view.specs.CountedWalk.{walk_each_word}
 use Rattle.adb_view.specs.declared.tables.Kind.TheVariants as Kinds
 use Rattle.adb_view.proofs.walk.+walk.Given as goal
 
@@ -30,13 +30,13 @@ decreases-walk_fields_from l = 4 * rank_of_all l.fields.now + 2
 
 abbrev pub invariant-walk_texts-loop-i : goal.invariant-walk_texts-loop-i
 invariant-walk_texts-loop-i l = record {
-  so_far : each_walk (walk (payload_of l.adb) (shape_of Kinds.Text)) l.count (drop l.i (array_entries l.texts)) ≡ each_walk (walk (payload_of l.adb) (shape_of Kinds.Text)) l.fn.before (array_entries l.texts);
+  so_far : walk_each_word (walk (payload_of l.adb) (shape_of Kinds.Text)) l.count (drop l.i (array_entries l.texts)) ≡ walk_each_word (walk (payload_of l.adb) (shape_of Kinds.Text)) l.fn.before (array_entries l.texts);
   bound : l.count ≤ MOST_VALUES;
 }
 
 abbrev pub invariant-walk_objects-loop-i : goal.invariant-walk_objects-loop-i
 invariant-walk_objects-loop-i l = record {
-  so_far : each_walk (walk (payload_of l.adb) (shape_of (Kinds.Obj l.which))) l.count (drop l.i (array_entries l.objects)) ≡ each_walk (walk (payload_of l.adb) (shape_of (Kinds.Obj l.which))) l.fn.before (array_entries l.objects);
+  so_far : walk_each_word (walk (payload_of l.adb) (shape_of (Kinds.Obj l.which))) l.count (drop l.i (array_entries l.objects)) ≡ walk_each_word (walk (payload_of l.adb) (shape_of (Kinds.Obj l.which))) l.fn.before (array_entries l.objects);
   bound : l.count ≤ MOST_VALUES;
 }
 

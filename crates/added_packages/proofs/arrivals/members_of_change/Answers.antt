@@ -2,9 +2,9 @@ use Rattle.std.proofs.Common.{◌≡◌, ◌<◌, ◌≤◌, ◌∙◌, ◌++◌
 use Rattle.std.specs.Prelude.{option_to_list}
 use Rattle.change_outcome.specs.db_core.Members.{is_after_members, member_name}
 use Rattle.adb_view.specs.Plain.{Plain}
-use Rattle.change_outcome.specs.db_core.Seen.{members_of, packages_before, packages_of}
+use Rattle.change_outcome.specs.db_core.Seen.{members_of, packages_of_old_database, packages_of}
 use Rattle.change_outcome.specs.db_core.declared.members.TheConstants.{MOST_MEMBERS}
-use Rattle.added_packages.specs.Arrivals.{ArePlaced, CanBeMembers, IsPlaced, member_read, members_read}
+use Rattle.added_packages.specs.Arrivals.{HavePlacesIfKept, CanBeMembers, HasPlaceIfKept, member_read, members_read}
 use Rattle.added_packages.specs.declared.arrivals.MemberRead.{MemberRead}
 use Rattle.added_packages.proofs.Behind.{all_taken, next_behind, next_few, next_placed, one_more}
 use Rattle.added_packages.proofs.arrivals.members_of_change.Goals as goal
@@ -21,13 +21,13 @@ push_read-requires c =
     let reads = c.deref-read-items.result.now in
     let i = c.loop-read.read-index in
     let read = c.read-item.result in
-    let same : packages_before c.loop-read.members ≡ before = c.loop-read.invariant.before in
+    let same : packages_of_old_database c.loop-read.members ≡ before = c.loop-read.invariant.before in
     let can : CanBeMembers before reads = subst (CanBeMembers before) (sym c.deref-read-items.ensures.value) c.requires in
     record {
       behind = λ m is. ap (is_after_members (member_name m)) c.loop-read.invariant.read
           ∙ next_behind before reads i read c.loop-read-test.true can m
           (ap (member_read before) (sym c.read-item.is) ∙ (sym (ap (λ (b : List Plain). member_read b read) same) ∙ is));
-      placed = subst (λ (b : List Plain). IsPlaced b read) (sym same) (subst (IsPlaced before) (sym c.read-item.is) (next_placed before reads i read c.loop-read-test.true can.placed));
+      placed = subst (λ (b : List Plain). HasPlaceIfKept b read) (sym same) (subst (HasPlaceIfKept before) (sym c.read-item.is) (next_placed before reads i read c.loop-read-test.true can.placed));
       few =
           (let few = next_few before reads i c.loop-read-test.true can.few in
           let count = ap (λ z. length z) c.loop-read.invariant.read in
@@ -37,7 +37,7 @@ push_read-requires c =
 pub loop-read-preserved : goal.loop-read-preserved
 loop-read-preserved c =
     let before = packages_of c.args.db.now in
-    let same : packages_before c.loop-read.members ≡ before = c.loop-read.invariant.before in
+    let same : packages_of_old_database c.loop-read.members ≡ before = c.loop-read.invariant.before in
     record {
       read =
           c.in_ok-push_read.ensures.added

@@ -1,7 +1,7 @@
 use Rattle.std.proofs.Common.{◌≡◌, ◌+◌, ◌≤◌, length, refl, sym, Ok, Err, arith, rules}
 use Rattle.change_outcome.specs.change_inputs.Inputs.{first_index_read}
 use Rattle.change_outcome.specs.db_core.Seen.{packages_of}
-use Rattle.change_outcome.specs.package_changes.Seen.{placed_name_seen, placed_names_seen, replacement_by}
+use Rattle.change_outcome.specs.package_changes.Seen.{placed_name_seen, placed_names_seen, placed_replacement_from_parts}
 use Rattle.added_packages.specs.Arrivals.{arrivals_seen}
 use Rattle.added_packages.specs.NameReads.{name_read}
 use Rattle.added_packages.specs.declared.arrivals.Arrivals.{Arrivals}
@@ -19,7 +19,7 @@ returns-in_err-member-clause-found g c =
       new = c.places_lead_to_packages_and_candidates.ensures.new;
     } in
     λ trace again are.
-    explained_refusal law (replacement_by c.args.db.now c.args.pool.now trace again) c.args.repositories.now c.args.no_scripts arrivals_seen (g.T.Tree.history c.args.tree.now) (placed_names_seen c.args.names.now) are c.loop-i.i (placed_name_seen c.get-name.result.now) c.loop-i.members.items
+    explained_refusal law (placed_replacement_from_parts c.args.db.now c.args.pool.now trace again) c.args.repositories.now c.args.no_scripts arrivals_seen (g.T.Tree.history c.args.tree.now) (placed_names_seen c.args.names.now) are c.loop-i.i (placed_name_seen c.get-name.result.now) c.loop-i.members.items
     c.from_residual.result c.in_err-member.field-0.0 c.from_residual.ensures.1 c.get-name.ensures c.loop-i.invariant.so_far
     (answer_as_before _ _ (packages_of c.args.db.now) (name_read (packages_of c.args.db.now) c.args.pool.now c.args.repositories.now c.args.no_scripts (placed_name_seen c.get-name.result.now)) (Err c.in_err-member.field-0.0) c.loop-i.invariant.tree.same c.in_err-member.ensures.found)
 
@@ -32,7 +32,7 @@ returns-in_err-push_member-clause-found g c =
       new = c.places_lead_to_packages_and_candidates.ensures.new;
     } in
     λ trace again are.
-    explained_failure law (replacement_by c.args.db.now c.args.pool.now trace again) c.args.repositories.now c.args.no_scripts arrivals_seen (g.T.Tree.history c.args.tree.now) (placed_names_seen c.args.names.now) are _
+    explained_failure law (placed_replacement_from_parts c.args.db.now c.args.pool.now trace again) c.args.repositories.now c.args.no_scripts arrivals_seen (g.T.Tree.history c.args.tree.now) (placed_names_seen c.args.names.now) are _
     c.from_residual-in_err-push_member.result no_memory c.from_residual-in_err-push_member.ensures.1
 
 pub loop-i-init : goal.loop-i-init
@@ -60,7 +60,7 @@ returns-clause-found g c =
     } in
     let arrivals : Arrivals = record { members = c.loop-i.members } in
     λ trace again are.
-    explained_all law (replacement_by c.args.db.now c.args.pool.now trace again) c.args.repositories.now c.args.no_scripts arrivals_seen (g.T.Tree.history c.args.tree.now) (placed_names_seen c.args.names.now) are c.loop-i.i arrivals c.loop-i.members.items refl
+    explained_all law (placed_replacement_from_parts c.args.db.now c.args.pool.now trace again) c.args.repositories.now c.args.no_scripts arrivals_seen (g.T.Tree.history c.args.tree.now) (placed_names_seen c.args.names.now) are c.loop-i.i arrivals c.loop-i.members.items refl
     (omega (arith, c.len-i-end.ensures, c.loop-i-test.false)) c.loop-i.invariant.so_far
 
 pub returns-clause-members : goal.returns-clause-members
@@ -72,5 +72,5 @@ returns-clause-members g c =
       new = c.places_lead_to_packages_and_candidates.ensures.new;
     } in
     λ trace again are few.
-    can_be_members law (replacement_by c.args.db.now c.args.pool.now trace again) c.args.repositories.now c.args.no_scripts (g.T.Tree.history c.args.tree.now) (placed_names_seen c.args.names.now) are c.loop-i.i c.loop-i.members.items
+    can_be_members law (placed_replacement_from_parts c.args.db.now c.args.pool.now trace again) c.args.repositories.now c.args.no_scripts (g.T.Tree.history c.args.tree.now) (placed_names_seen c.args.names.now) are c.loop-i.i c.loop-i.members.items
     (omega (arith, c.len-i-end.ensures, c.loop-i-test.false)) c.loop-i.invariant.so_far few

@@ -3,7 +3,7 @@ use Rattle.std.specs.Prelude.{◌||◌}
 use Rattle.std.specs.List.{list_any}
 use Rattle.std.proofs.lemmas.List.{take_all, take_more}
 use Rattle.candidate_core.specs.Candidates.{Candidate, offers_name}
-use Rattle.candidate_core.specs.CandidateList.{is_installed_package_at, marked_at}
+use Rattle.candidate_core.specs.CandidateList.{is_installed_package_at, marked_installed_if_same_at}
 use Rattle.candidate_core.specs.Options.{IsIn}
 use Rattle.candidate_core.specs.Packages.{candidates_of_packages}
 use Rattle.candidate_core.proofs.Installed.{any_same, length-marked_among, marked_all, marked_among, marked_more, same_among_still}
@@ -31,7 +31,7 @@ loop-id-preserved c =
     let more : take (i + 1) ids ≡ done ++ id ∷ [] = take_more ids i id (omega arith) ∙ ap (λ (k : ℕ). done ++ k ∷ []) (sym c.id-item.is) in
     let same : c.mark_one-found.result ≡ is_installed_package_at installed cs id =
     c.mark_one-found.ensures.same ∙ (ap (λ (z : List Candidate). is_installed_package_at installed z id) c.loop-id.invariant.0 ∙ same_among_still installed done cs id) in (
-      c.mark_one-found.ensures.marked ∙ (ap (marked_at installed id) c.loop-id.invariant.0 ∙ (sym (marked_more installed done id cs) ∙ ap (λ (ks : List ℕ). marked_among installed ks cs) (sym more))),
+      c.mark_one-found.ensures.marked ∙ (ap (marked_installed_if_same_at installed id) c.loop-id.invariant.0 ∙ (sym (marked_more installed done id cs) ∙ ap (λ (ks : List ℕ). marked_among installed ks cs) (sym more))),
       ap (λ (b : Bool). b || c.mark_one-found.result) c.loop-id.invariant.1 ∙ (ap (λ (b : Bool). list_any (is_installed_package_at installed cs) done || b) same ∙ (sym (any_snoc (is_installed_package_at installed cs) done id) ∙ ap (list_any (is_installed_package_at installed cs)) (sym more))),
     )
 

@@ -4,13 +4,13 @@ use Rattle.std.specs.List.{list_any}
 use Rattle.adb_view.specs.Values.{entries_in, entry_in}
 use Rattle.dep_core.specs.Meets.{dependency}
 use Rattle.candidate_core.specs.Candidates.{is_met_by_entry}
-use Rattle.candidate_core.specs.Matches.{AreMatchesOf, IsTextOf}
+use Rattle.candidate_core.specs.Matches.{AreRememberedMatchesOf, GivesTextsOfSource}
 use Rattle.candidate_core.specs.PackageWords.{info_in_source}
 use Rattle.candidate_core.proofs.DependencyLists.{dependencies_to}
 use Rattle.candidate_core.proofs.versions.any_entry_meets.Given as goal
 
 abbrev pub invariant-loop-i : goal.invariant-loop-i
 invariant-loop-i l =
-    (text : ℕ → ℕ → List ℕ) → IsTextOf l.source l.kept.source text → AreMatchesOf text (dependency l.dep) l.initial.known
+    (text : ℕ → ℕ → List ℕ) → GivesTextsOfSource l.source l.kept.source text → AreRememberedMatchesOf text (dependency l.dep) l.initial.known
     → (list_any (is_met_by_entry (dependency l.dep)) (dependencies_to l.i (entries_in (entry_in (info_in_source l.source l.kept.word) 15))) ≡ false)
-    × AreMatchesOf text (dependency l.dep) l.known
+    × AreRememberedMatchesOf text (dependency l.dep) l.known

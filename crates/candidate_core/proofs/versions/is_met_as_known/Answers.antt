@@ -2,7 +2,7 @@ use Rattle.std.proofs.Common.{◌≡◌, ◌∙◌, ℕ, List, true, false, ap, 
 use Rattle.std.specs.Prelude.{◌&&◌, bytes_eq, not}
 use Rattle.dep_core.specs.Dependency.{Dependency}
 use Rattle.dep_core.specs.Meets.{dependency, meets}
-use Rattle.candidate_core.specs.Matches.{is_wanted_by}
+use Rattle.candidate_core.specs.Matches.{dependency_accepts}
 use Rattle.candidate_core.proofs.WantedVersions.{read_by}
 use Rattle.candidate_core.proofs.versions.is_met_as_known.Goals as goal
 
@@ -15,4 +15,4 @@ returns c =
     let text : ℕ → ℕ → List ℕ = c.requires.known.0 in
     let read = read_by text c.version_of_entry.result c.args.source.now c.args.place c.requires.known.1 c.version_of_entry.ensures.source c.version_of_entry.ensures.text in
     c.is_wanted_as_known.ensures text read c.requires.known.2
-    ∙ (ap (is_wanted_by d) c.version_of_entry.ensures.version ∙ sym (ap (λ t. not t && meets d p.name p.version) provides ∙ ap (λ t. t && is_wanted_by d p.version) same))
+    ∙ (ap (dependency_accepts d) c.version_of_entry.ensures.version ∙ sym (ap (λ t. not t && meets d p.name p.version) provides ∙ ap (λ t. t && dependency_accepts d p.version) same))

@@ -3,7 +3,7 @@ use Rattle.std.specs.Prelude.{◌&&◌, bytes_eq, option_copied}
 use Rattle.dep_core.specs.Dependency.{Dependency}
 use Rattle.dep_core.specs.Meets.{dependency}
 use Rattle.candidate_core.specs.Candidates.{Candidate, candidate_of}
-use Rattle.candidate_core.specs.Matches.{is_wanted_by}
+use Rattle.candidate_core.specs.Matches.{dependency_accepts}
 use Rattle.candidate_core.specs.PackageWords.{info_in_source}
 use Rattle.candidate_core.proofs.WantedVersions.{read_by}
 use Rattle.candidate_core.proofs.versions.meets_by_own_name_as_known.Goals as goal
@@ -15,7 +15,7 @@ returns-then-not-is_named_as c =
     let named : ℕ → List ℕ = λ word. (candidate_of (info_in_source c.args.source.now word) c.args.source.now.repo (option_copied c.args.source.now.tag) c.args.kept.installed).name in
     let other : bytes_eq d.name own.name ≡ false =
     ap (bytes_eq d.name) (sym (c.name.ensures ∙ (ap (λ (x : Candidate). x.name) c.of-details.ensures ∙ ap named c.of.ensures))) ∙ (sym c.is_named_as.ensures ∙ c.if-not-is_named_as.true) in
-    sym (ap (λ t. t && is_wanted_by d own.version) other)
+    sym (ap (λ t. t && dependency_accepts d own.version) other)
 
 pub returns : goal.returns
 returns c =
@@ -26,4 +26,4 @@ returns c =
     ap (bytes_eq d.name) (sym (c.name.ensures ∙ (ap (λ (x : Candidate). x.name) c.of-details.ensures ∙ ap named c.of.ensures))) ∙ (sym c.is_named_as.ensures ∙ c.if-not-is_named_as.false) in
     let text : ℕ → ℕ → List ℕ = c.requires.known.0 in
     let read = read_by text c.own_version.result c.args.source.now c.args.kept.source c.requires.known.1 c.own_version.ensures.source c.own_version.ensures.text in
-    c.is_wanted_as_known.ensures text read c.requires.known.2 ∙ (ap (is_wanted_by d) c.own_version.ensures.version ∙ sym (ap (λ t. t && is_wanted_by d own.version) same))
+    c.is_wanted_as_known.ensures text read c.requires.known.2 ∙ (ap (dependency_accepts d) c.own_version.ensures.version ∙ sym (ap (λ t. t && dependency_accepts d own.version) same))

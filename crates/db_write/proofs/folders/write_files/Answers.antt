@@ -10,7 +10,7 @@ use Rattle.adb_copy.proofs.adb_fields.FieldReads.{entry_count}
 use Rattle.adb_view.specs.Values.{count_of, entries_in}
 use Rattle.adb_copy.specs.adb_values.Drafts.{DraftState, draft_with, draft_with_all, draft_with_open_list}
 use Rattle.adb_copy.proofs.adb_values.Lists.{closed, on_ok}
-use Rattle.adb_copy.specs.Known.{AreBlobsOf}
+use Rattle.adb_copy.specs.Known.{AreRememberedBlobsOfDraft}
 use Rattle.adb_copy.specs.Zeros.{without_zeros}
 use Rattle.adb_copy.specs.declared.known_texts.KnownTexts.{KnownTexts}
 use Rattle.adb_copy.proofs.Known.{known_closed_array, known_opened}
@@ -48,12 +48,12 @@ loop-i-preserved c =
             put_in vs c.args.flags.now c.loop-i.i c.is_set.result _ _ _ here c.is_set.ensures w.if-is_set.true c.loop-i.invariant.left
             (w.draft-is ∙ w.in_ok-write_file.ensures.file ∙ ap (λ (v : Plain). draft_with (without_zeros v) c.loop-i.draft) (word_value p (Kinds.Obj Tables.File) ws c.loop-i.i w.entry_word.result c.requires.sound within w.entry_word.ensures));
         known =
-            subst (λ (d : DraftState). AreBlobsOf p d c.if-is_set.known) (sym w.draft-is)
-            (subst (λ (t : KnownTexts). AreBlobsOf p w.write_file.new.draft t) (sym w.known-is) w.in_ok-write_file.ensures.known);
+            subst (λ (d : DraftState). AreRememberedBlobsOfDraft p d c.if-is_set.known) (sym w.draft-is)
+            (subst (λ (t : KnownTexts). AreRememberedBlobsOfDraft p w.write_file.new.draft t) (sym w.known-is) w.in_ok-write_file.ensures.known);
       }
       | else-is_set w ↦ record {
         left = left_out vs c.args.flags.now c.loop-i.i c.is_set.result _ _ _ here c.is_set.ensures w.if-is_set.false c.loop-i.invariant.left w.draft-is;
-        known = subst (λ (d : DraftState). AreBlobsOf p d c.if-is_set.known) (sym w.draft-is) (subst (λ (t : KnownTexts). AreBlobsOf p c.loop-i.draft t) (sym w.known-is) c.loop-i.invariant.known);
+        known = subst (λ (d : DraftState). AreRememberedBlobsOfDraft p d c.if-is_set.known) (sym w.draft-is) (subst (λ (t : KnownTexts). AreRememberedBlobsOfDraft p c.loop-i.draft t) (sym w.known-is) c.loop-i.invariant.known);
       }
     ]
 

@@ -8,7 +8,7 @@ use Rattle.adb_view.specs.declared.tables.Which.TheVariants as Tables
 use Rattle.adb_copy.specs.adb_fields.Repeated.{list_of}
 use Rattle.adb_view.specs.Values.{entries_in}
 use Rattle.adb_copy.specs.adb_values.Drafts.{draft_with_all}
-use Rattle.adb_copy.specs.Known.{AreBlobsOf}
+use Rattle.adb_copy.specs.Known.{AreRememberedBlobsOfDraft}
 use Rattle.db_write.specs.NewDatabase.{owned_entries}
 use Rattle.db_write.proofs.Marking.{owned_from}
 use Rattle.db_write.proofs.folders.write_files.Given as goal
@@ -17,5 +17,5 @@ abbrev pub invariant-loop-i : goal.invariant-loop-i
 invariant-loop-i l = record {
   left : draft_with_all (owned_from (entries_in (array_at (payload_of l.adb) (Kinds.Obj Tables.File) (array_entries l.files))) l.flags l.i) l.draft
       ≡ draft_with_all (owned_entries (list_of (entries_in (array_at (payload_of l.adb) (Kinds.Obj Tables.File) (array_entries l.files)))) l.flags) l.initial.draft;
-  known : AreBlobsOf (payload_of l.adb) l.draft l.known;
+  known : AreRememberedBlobsOfDraft (payload_of l.adb) l.draft l.known;
 }

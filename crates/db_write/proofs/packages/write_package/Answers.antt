@@ -9,7 +9,7 @@ use Rattle.adb_copy.specs.Zeros.{int_or_null, without_zeros}
 use Rattle.adb_copy.proofs.Known.{known_closed_object, known_more, known_opened}
 use Rattle.adb_copy.specs.adb_values.Drafts.{draft_with, draft_with_all, draft_with_open_list}
 use Rattle.adb_copy.proofs.adb_values.Lists.{closed_as, on_ok}
-use Rattle.db_write.specs.NewDatabase.{folders_after, info_in_new_database, package_after}
+use Rattle.db_write.specs.NewDatabase.{folders_in_new_database, info_in_new_database, package_in_new_database}
 use Rattle.db_write.proofs.packages.write_package.Goals as goal
 
 pub write_member_info-requires-clause-known : goal.write_member_info-requires-clause-known
@@ -22,7 +22,7 @@ returns c =
     let v : Plain = value_at p (Kinds.Obj Tables.Package) c.args.pkg in
     let priority = c.int_field-priority.ensures in
     let vs : Plains =
-    more (info_in_new_database c.args.id (entry_in v 0)) (more (arr_value (folders_after (folders_in v) c.args.flags.now))
+    more (info_in_new_database c.args.id (entry_in v 0)) (more (arr_value (folders_in_new_database (folders_in v) c.args.flags.now))
     (more (without_zeros (entry_in v 2)) (more (without_zeros (entry_in v 3)) (more (int_or_null c.int_field-priority.result) none)))) in
     let scripts : c.write_scripts.new.draft ≡ draft_with (without_zeros (entry_in v 2)) c.write_folders.new.draft =
     c.in_ok-write_scripts.ensures.scripts ∙ ap (λ (u : Plain). draft_with (without_zeros u) c.write_folders.new.draft) (c.field_word-scripts.ensures (Kinds.Obj Tables.Scripts) refl).1 in
@@ -33,8 +33,8 @@ returns c =
     let texts = c.write_text_list.new.known in
     record {
       value =
-          closed_as obj_value (package_after (record { pkg = v; id = c.args.id }) c.args.flags.now) vs c.args.draft.now _ _ c.close_object.result
-          (sym (λ j. obj_value (more (info_in_new_database c.args.id (entry_in v 0)) (more (arr_value (folders_after (folders_in v) c.args.flags.now))
+          closed_as obj_value (package_in_new_database (record { pkg = v; id = c.args.id }) c.args.flags.now) vs c.args.draft.now _ _ c.close_object.result
+          (sym (λ j. obj_value (more (info_in_new_database c.args.id (entry_in v 0)) (more (arr_value (folders_in_new_database (folders_in v) c.args.flags.now))
           (more (without_zeros (entry_in v 2)) (more (without_zeros (entry_in v 3)) (more (int_or_null (priority j)) none)))))))
           c.close_object.ensures.ok given;
       known =

@@ -2,7 +2,7 @@ use Rattle.std.proofs.Common.{◌≡◌, Ok, Err, ap, refl, subst}
 use Rattle.journal_staging.specs.Spoiled.{HasSpoiledFile}
 use Rattle.journal_staging.specs.declared.writes.StagedWrite.{StagedWrite}
 use Rattle.engine_core.specs.Rendering.{removals_of_plan}
-use Rattle.engine_core.specs.Writing.{write_name}
+use Rattle.engine_core.specs.Writing.{name_of_write}
 use Rattle.std.specs.Prelude.{List, map}
 use Rattle.engine_core.proofs.Carries.{bad_member, ends_by_bad, ends_by_disk, ends_well, new_stage_is, nothing_done, same_length, stage_of}
 use Rattle.engine_core.proofs.committing.commit.Goals as goal
@@ -13,14 +13,14 @@ returns-in_default-clause-comes g c = λ ready. nothing_done _ c.args.plan.now c
 pub carry_out-requires-clause-new : goal.carry_out-requires-clause-new
 carry_out-requires-clause-new g c =
     let r = c.args.rendered in
-    let names = map write_name r.writes.items in
+    let names = map name_of_write r.writes.items in
     let of = stage_of r.stage c.in-Some.stage (removals_of_plan c.args.plan.now) names c.in-Some.is c.requires.rendered.stage in
     new_stage_is c.in-Some.stage (removals_of_plan c.args.plan.now) names of.1
 
 pub carry_out-requires-clause-same : goal.carry_out-requires-clause-same
 carry_out-requires-clause-same g c =
     let r = c.args.rendered in
-    let names = map write_name r.writes.items in
+    let names = map name_of_write r.writes.items in
     let of = stage_of r.stage c.in-Some.stage (removals_of_plan c.args.plan.now) names c.in-Some.is c.requires.rendered.stage in
     same_length c.in-Some.stage (removals_of_plan c.args.plan.now) c.deref.result.now r.writes.items of.1 c.deref.ensures.value
 

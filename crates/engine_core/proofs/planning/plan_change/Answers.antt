@@ -7,7 +7,7 @@ use Rattle.change_report.specs.change_inputs.declared.root.Refused.TheVariants.{
 use Rattle.change_report.specs.change_outcome.MembersAfter.{MemberFound}
 use Rattle.change_report.specs.make_info.Reads.{Reads}
 use Rattle.change_report.specs.Due.{planned_paths}
-use Rattle.change_report.specs.change_outcome.Triggers.{unless_trigger}
+use Rattle.change_report.specs.change_outcome.Triggers.{unless_trigger_due}
 use Rattle.change_report.specs.db_core.Seen.{members_of}
 use Rattle.command_core.specs.declared.command.Flags.{Flags}
 use Rattle.engine_core.specs.Plans.{HasNoPlan, IsPlanFrom}
@@ -78,7 +78,7 @@ returns-clause-plan g c =
       packages = refl;
       members = c.in_ok-members.ensures;
       files = subst (λ (f : Flags). IsPlanFrom h f.purge a.selection.now.db c.in_ok-members.members c.in_ok-files.files) c.flags-flags.ensures.value c.in_ok-files.ensures.plan;
-      triggers = subst (λ (f : Flags). unless_trigger f.no_scripts (planned_paths c.in_ok-files.files) (members_of c.in_ok-members.members) ≡ Ok true) c.flags-flags.ensures.value c.in_ok-test_triggers.ensures;
+      triggers = subst (λ (f : Flags). unless_trigger_due f.no_scripts (planned_paths c.in_ok-files.files) (members_of c.in_ok-members.members) ≡ Ok true) c.flags-flags.ensures.value c.in_ok-test_triggers.ensures;
     }
 
 pub returns-clause-tree : goal.returns-clause-tree

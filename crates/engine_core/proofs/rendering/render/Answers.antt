@@ -8,7 +8,7 @@ use Rattle.change_report.specs.journal_core.Staged.{Staging}
 use Rattle.change_report.specs.journal_intent.IntentValue.{intent_of_lists, value_of_intent}
 use Rattle.journal_staging.specs.declared.writes.StagedWrite.{StagedWrite}
 use Rattle.engine_core.specs.Rendering.{AreWritesOf, IsOverflowOf, IsStageOf, removals_of_plan}
-use Rattle.engine_core.specs.Writing.{write_name}
+use Rattle.engine_core.specs.Writing.{name_of_write}
 use Rattle.engine_core.proofs.Carries.{IsMadeReady, entry_large, same_told, written_once}
 use Rattle.engine_core.proofs.SelectedRuns.{with_error}
 use Rattle.engine_core.proofs.rendering.render.Goals as goal
@@ -53,7 +53,7 @@ returns-in_err-stage-clause-refused c =
       removed = refl;
     } in
     entry_large {A = Bool} (λ _. true) history c.args.plan.now found files c.args.records.now c.record_writes_of-record_writes.result c.in_ok-writes.writes.items (removals_of_plan c.args.plan.now) ready _
-    (same_told {A = Option Staging} {B = Bool} (λ _. true) (λ _. true) _ (removals_of_plan c.args.plan.now) (map write_name c.deref.result.now) (removals_of_plan c.args.plan.now) (map write_name c.in_ok-writes.writes.items) refl (ap (map write_name) c.deref.ensures.value)
+    (same_told {A = Option Staging} {B = Bool} (λ _. true) (λ _. true) _ (removals_of_plan c.args.plan.now) (map name_of_write c.deref.result.now) (removals_of_plan c.args.plan.now) (map name_of_write c.in_ok-writes.writes.items) refl (ap (map name_of_write) c.deref.ensures.value)
     c.in_err-stage.ensures.told))
 
 pub returns-in_err-report-clause-refused : goal.returns-in_err-report-clause-refused
@@ -68,7 +68,7 @@ returns-clause-rendered c = record {
     names = c.in_ok-writes.ensures.names;
     each = c.in_ok-writes.ensures.each;
   };
-  stage = subst (λ (ws : List StagedWrite). IsStageOf (removals_of_plan c.args.plan.now) (map write_name ws) c.in_ok-stage.stage) c.deref.ensures.value c.in_ok-stage.ensures.stage;
-  fits = subst (λ (ws : List StagedWrite). unless_overflow (overflow_of (value_of_intent (intent_of_lists (removals_of_plan c.args.plan.now) (map write_name ws)))) true ≡ Ok true) c.deref.ensures.value c.in_ok-stage.ensures.told;
+  stage = subst (λ (ws : List StagedWrite). IsStageOf (removals_of_plan c.args.plan.now) (map name_of_write ws) c.in_ok-stage.stage) c.deref.ensures.value c.in_ok-stage.ensures.stage;
+  fits = subst (λ (ws : List StagedWrite). unless_overflow (overflow_of (value_of_intent (intent_of_lists (removals_of_plan c.args.plan.now) (map name_of_write ws)))) true ≡ Ok true) c.deref.ensures.value c.in_ok-stage.ensures.told;
   report = c.in_ok-report.ensures;
 }

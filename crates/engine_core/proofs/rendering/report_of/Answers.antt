@@ -5,7 +5,7 @@ use Rattle.std.specs.declared.alloc.AllocError.{AllocError}
 use Rattle.adb_view.specs.Plain.{Plain}
 use Rattle.change_report.specs.change_outcome.ChangeOutcome.{change_report, file_change}
 use Rattle.change_report.specs.package_changes.Placed.{PlacedChange, candidates_at, change_in}
-use Rattle.change_report.specs.package_changes.Seen.{replacement_by}
+use Rattle.change_report.specs.package_changes.Seen.{placed_replacement_from_parts}
 use Rattle.engine_core.specs.Preparing.{inputs_of_plan, wishes_of_plan}
 use Rattle.engine_core.proofs.Reporting.{changes_named}
 use Rattle.engine_core.proofs.rendering.report_of.Goals as goal
@@ -20,7 +20,7 @@ returns c =
     c.into_text.ensures
     ∙ (c.in_ok-report.ensures s.again wishes change files (record {
       changes = ap (map (λ (p : PlacedChange). p.change)) (c.in_ok-changes.ensures ∙ ap (filter_map change_in) planned.arrived.read.placed)
-          ∙ changes_named c.places_lead_to_packages_and_candidates.ensures.change (replacement_by s.db s.pool s.trace s.again);
+          ∙ changes_named c.places_lead_to_packages_and_candidates.ensures.change (placed_replacement_from_parts s.db s.pool s.trace s.again);
       to_remove = sym (c.in_ok-to_remove.ensures);
       members = sym planned.arrived.members;
       plan = planned.lists;

@@ -10,7 +10,7 @@ pub returns-then-not-is_empty : goal.returns-then-not-is_empty
 returns-then-not-is_empty c = λ further.
     let link : (length c.args.listed.target.now == 0) ≡ false = grind (arith, c.is_empty.ensures) in
     told_link c.args.listed.size c.args.listed.hash.now c.args.listed.target.now further link
-    ∙ ap (λ (text : List ℕ). bytes_eq further (codes "!<symlink>" ++ text)) (sym c.target_text.ensures)
+    ∙ ap (λ (text : List ℕ). bytes_eq further (codes "!<symlink>" ++ text)) (sym c.link_text_of_target.ensures)
 
 pub returns-then-not-is_empty-2 : goal.returns-then-not-is_empty-2
 returns-then-not-is_empty-2 c =

@@ -1,7 +1,7 @@
 use Rattle.std.proofs.Common.{◌≡◌}
 use Rattle.std.specs.Prelude.{Some, slice_get}
 use Rattle.adb_view.specs.Adb.{payload_of}
-use Rattle.db_core.specs.Members.{is_place}
+use Rattle.db_core.specs.Members.{is_found_place}
 use Rattle.db_core.specs.Seen.{members_of}
 use Rattle.file_owners.specs.Questions.{IsQuestionIn}
 use Rattle.file_owners.specs.declared.questions.Question.{Question}
@@ -18,7 +18,7 @@ pub returns : goal.returns
 returns c = λ y m g.
     let q : Question = c.index-questions-i.result in
     let at : slice_get c.args.questions.now c.args.i ≡ Some q = read_at c.args.questions.now c.args.i q c.requires.within c.index-questions-i.is in
-    next_answered (members_of c.args.members.now) (payload_of c.args.adb) c.args.questions.now c.args.i c.requires.questions y m q (is_place y c.place_if_named.result) at (c.place_if_named.ensures y m g)
+    next_answered (members_of c.args.members.now) (payload_of c.args.adb) c.args.questions.now c.args.i c.requires.questions y m q (is_found_place y c.place_if_named.result) at (c.place_if_named.ensures y m g)
 
 pub place_if_named-requires : goal.place_if_named-requires
 place_if_named-requires c =

@@ -3,7 +3,7 @@ use Rattle.std.specs.List.{list_any}
 use Rattle.std.proofs.lemmas.List.Sorted.{All-permutation, list_any-IsPermutation}
 use Rattle.adb_view.specs.Adb.{payload_of}
 use Rattle.db_core.specs.Seen.{members_of}
-use Rattle.file_owners.specs.Questions.{IsQuestionIn, question_names}
+use Rattle.file_owners.specs.Questions.{IsQuestionIn, question_names_package}
 use Rattle.file_owners.specs.declared.questions.Question.{Question}
 use Rattle.file_owners.proofs.questions.places_in.Goals as goal
 
@@ -15,7 +15,7 @@ places_asked-requires c =
 
 pub returns : goal.returns
 returns c = λ y m g.
-    let asks : Question → Bool = question_names (payload_of c.args.adb) y m.pkg in
+    let asks : Question → Bool = question_names_package (payload_of c.args.adb) y m.pkg in
     c.in_ok-places.ensures y m g
     ∙ (ap (list_any asks) c.deref.ensures.value
     ∙ (sym (list_any-IsPermutation asks c.in_ok-questions.questions.items c.sort_by.new.self.items c.in_ok-sort_by.ensures.permutation)

@@ -5,9 +5,9 @@ use Rattle.adb_view.specs.declared.tables.Kind.TheVariants as Kinds
 use Rattle.adb_view.specs.declared.tables.Which.TheVariants as Tables
 use Rattle.adb_view.specs.Adb.{payload_of}
 use Rattle.adb_view.specs.Plain.{Plain}
-use Rattle.db_core.specs.Members.{Member, is_place, member_name}
+use Rattle.db_core.specs.Members.{Member, is_found_place, member_name}
 use Rattle.db_core.specs.Seen.{members_of}
-use Rattle.file_owners.specs.Replaces.{is_named_by}
+use Rattle.file_owners.specs.Replaces.{replaces_entry_names}
 use Rattle.file_owners.proofs.NamedPlaces.{none_found}
 use Rattle.file_owners.proofs.AskedQuestions.{found_asks, named_so}
 use Rattle.file_owners.proofs.questions.question_of.Goals as goal
@@ -21,7 +21,7 @@ returns-in-None-clause-asked c =
 pub returns-in-Some-clause-asked : goal.returns-in-Some-clause-asked
 returns-in-Some-clause-asked c = λ y m g.
     let value : Plain = value_at (payload_of c.args.adb) (Kinds.Obj Tables.Dep) c.args.entry in
-    ap (λ (k : ℕ). (k == y) && is_named_by value m.pkg) c.place_of.ensures
+    ap (λ (k : ℕ). (k == y) && replaces_entry_names value m.pkg) c.place_of.ensures
     ∙ found_asks value (members_of c.args.members.now) c.in-Some.place
     (λ i m h. c.in-Some.ensures.found i m h ∙ ap (bytes_eq (member_name m)) (c.name.ensures ∙ ap (λ (v : Plain). text_in (entry_in v 0)) c.of-view.ensures)) y m g
 
@@ -39,7 +39,7 @@ returns-in-Some-clause-question c =
       sound = c.requires.texts;
       name = λ m g. sym called
           ∙ named_so members c.place_of.result c.name.result.now
-          (subst (λ (k : ℕ). (i : ℕ) (m : Member) → slice_get members i ≡ Some m → is_place i (Some k) ≡ bytes_eq (member_name m) c.name.result.now) (sym c.place_of.ensures) c.in-Some.ensures.found) m g;
+          (subst (λ (k : ℕ). (i : ℕ) (m : Member) → slice_get members i ≡ Some m → is_found_place i (Some k) ≡ bytes_eq (member_name m) c.name.result.now) (sym c.place_of.ensures) c.in-Some.ensures.found) m g;
       version = sym same;
       matching = sym (ap (λ (v : Plain). int_in (entry_in v 2)) c.of-view.ensures) ∙ sym c.matching.ensures;
     }

@@ -12,8 +12,8 @@ use Rattle.adb_view.specs.declared.tables.Kind.TheVariants.{Int, Text, Obj, Text
 use Rattle.adb_values.specs.Drafts.{DraftState, draft_with, draft_with_open_list}
 use Rattle.adb_dump.specs.Dump.{Line}
 use Rattle.adb_dump.specs.ReadBack.{ResultOrBadLine, strip_prefix, arr_read, block_read, entries_read, fields_read, named_read, obj_read}
-use Rattle.gen_core.specs.Cursors.{CursorState, after_line, block_at, line_of_block}
-use Rattle.gen_core.specs.Reads.{DraftOrBadLine, IsTextFault, block_taken, end_read, entry_block_read, line_read, line_taken, values_taken}
+use Rattle.gen_core.specs.Cursors.{CursorState, cursor_after_line, block_at, line_of_block}
+use Rattle.gen_core.specs.Reads.{DraftOrBadLine, IsTextFault, block_taken, end_or_bad_line, entry_block_read, line_read, draft_and_cursor_after_line, values_taken}
 use Rattle.gen_core.specs.declared.generate.GenFault.{GenFault}
 use Rattle.gen_core.proofs.Blocks.{Split}
 use Rattle.gen_core.proofs.Escapes.{empty_line, some_line}
@@ -113,8 +113,8 @@ read_entry-returns-then-is_null_entry-clause-ok t c =
     let f = block_read (shape_of c.args.kind) in
     let block = block_at c.args.depth c.args.cursor.now.lines in
     let whole = block_taken (entry_block_read f block.0) block c.args.draft.now c.args.cursor.now in
-    let a : Answers c.end_block.result whole (draft_with null c.args.draft.now) (after_line c.args.cursor.now.lines c.args.cursor.now) =
-    null_entry f c.args.depth c.args.draft.now c.args.cursor.now c.if-is_null_entry.ensures c.end_block.result (subst (λ (p : CursorState). c.end_block.result ≡ end_read (block_at c.args.depth p.lines).0 p.number) c.turn.ensures c.end_block.ensures) in
+    let a : Answers c.end_block.result whole (draft_with null c.args.draft.now) (cursor_after_line c.args.cursor.now.lines c.args.cursor.now) =
+    null_entry f c.args.depth c.args.draft.now c.args.cursor.now c.if-is_null_entry.ensures c.end_block.result (subst (λ (p : CursorState). c.end_block.result ≡ end_or_bad_line (block_at c.args.depth p.lines).0 p.number) c.turn.ensures c.end_block.ensures) in
     subst (λ (d : DraftState). OnOk c.end_block.result (whole ≡ taken d c.turn.new.self)) (sym c.in_ok-null.ensures.ok)
     (subst (λ (p : CursorState). OnOk c.end_block.result (whole ≡ taken (draft_with null c.args.draft.now) p)) (sym c.turn.ensures) a.ok)
 
@@ -222,7 +222,7 @@ read_named-returns-then-has_one_line-clause-err t c =
     let s = shape_of c.args.kind in
     let h = on_line c.args.kind (sym c.has_one_line.ensures ∙ c.if-has_one_line.true) in
     let block = block_at c.args.depth c.args.cursor.now.lines in
-    let line = line_taken (line_read s c.in-Some.line.now) c.args.draft.now c.args.cursor.now in
+    let line = draft_and_cursor_after_line (line_read s c.in-Some.line.now) c.args.draft.now c.args.cursor.now in
     if_err c.read_line.result (λ fault. IsTextFault fault line) (λ fault. (others : List Line → ResultOrBadLine Plains) → IsTextFault fault (values_taken (named_read s others (drop 1 block.0) c.args.value.now) block c.args.draft.now c.args.cursor.now))
     (λ fault bad others. same_fault fault line (values_taken (named_read s others (drop 1 block.0) c.args.value.now) block c.args.draft.now c.args.cursor.now)
     (λ n e. line_bad s h others (drop 1 block.0) c.args.value.now c.in-Some.line.now block c.args.draft.now c.args.cursor.now n c.in-Some.ensures e) bad) c.read_line.ensures.err

@@ -1,7 +1,7 @@
 use Rattle.adb_view.specs.Schema.{shape_of}
 use Rattle.adb_dump.specs.ReadBack.{block_read}
 use Rattle.gen_core.specs.Cursors.{block_at}
-use Rattle.gen_core.specs.Reads.{IsTextFault, block_taken, line_read, line_taken}
+use Rattle.gen_core.specs.Reads.{IsTextFault, block_taken, line_read, draft_and_cursor_after_line}
 use Rattle.gen_core.specs.declared.generate.GenFault.{GenFault}
 use Rattle.std.proofs.lemmas.Result.{err_from_is_err_and}
 use Rattle.gen_core.proofs.KindShapes.{one_line}
@@ -17,7 +17,7 @@ returns-in_err-read_line-clause-err c =
     let block = block_at c.args.depth c.args.cursor.now.lines in
     let whole = block_taken (block_read (shape_of c.args.kind) block.0) block c.args.draft.now c.args.cursor.now in
     handed_on c.from_residual.result c.in_err-read_line.field-0.0 (λ (fault : GenFault). IsTextFault fault whole) (err_from_is_err_and c.from_residual.result c.from_residual.ensures.1)
-    (same_fault c.in_err-read_line.field-0.0 (line_taken (line_read (shape_of c.args.kind) c.in-Some.line.now) c.args.draft.now c.args.cursor.now) whole
+    (same_fault c.in_err-read_line.field-0.0 (draft_and_cursor_after_line (line_read (shape_of c.args.kind) c.in-Some.line.now) c.args.draft.now c.args.cursor.now) whole
     (only_line_bad (shape_of c.args.kind) (one_line c.args.kind c.requires.line) c.args.depth c.in-Some.line.now c.args.draft.now c.args.cursor.now c.in-Some.ensures) c.in_err-read_line.ensures.err)
 
 pub returns-clause-ok : goal.returns-clause-ok

@@ -5,7 +5,7 @@ use Rattle.adb_view.specs.Schema.{shape_of}
 use Rattle.adb_view.specs.Shapes.{int_shape, text_shape, hash_shape, texts_shape, objects_shape}
 use Rattle.adb_view.specs.declared.tables.Kind.{Kind}
 use Rattle.adb_view.specs.declared.tables.Kind.TheVariants.{Int, Text, Hash, Obj, TextArr, ObjArr}
-use Rattle.adb_dump.specs.Dump.{text_form}
+use Rattle.adb_dump.specs.Dump.{bare_or_quoted_text}
 use Rattle.gen_core.specs.Reads.{IsFormOf, line_read}
 use Rattle.gen_core.proofs.Escapes.{are_items}
 use Rattle.gen_core.proofs.LineReads.{hash_not_taken, hash_taken, number_not_read, number_read, text_not_taken, text_taken}
@@ -15,7 +15,7 @@ use Rattle.gen_core.proofs.read.read_value.Goals as goal
 pub returns-then-not-branch : goal.returns-then-not-branch
 returns-then-not-branch c =
     kind_line c.args.kind Text text c.args.line.now c.in-Text.is text_shape
-    ∙ text_not_taken c.read_text.new.bytes.items c.args.line.now (subst (λ (b : Bool). IsFormOf text_form b c.read_text.new.bytes.items c.args.line.now) c.if-not-branch.true c.in_ok-read_text-in-Text.ensures)
+    ∙ text_not_taken c.read_text.new.bytes.items c.args.line.now (subst (λ (b : Bool). IsFormOf bare_or_quoted_text b c.read_text.new.bytes.items c.args.line.now) c.if-not-branch.true c.in_ok-read_text-in-Text.ensures)
 
 pub returns-then-not-branch-2 : goal.returns-then-not-branch-2
 returns-then-not-branch-2 c =
@@ -32,7 +32,7 @@ returns-in-None c = kind_line c.args.kind Int number c.args.line.now c.in-Int.is
 pub returns-in_ok-blob-in-Text : goal.returns-in_ok-blob-in-Text
 returns-in_ok-blob-in-Text c =
     let bytes = c.read_text.new.bytes.items in
-    let form : IsFormOf text_form true bytes c.args.line.now = subst (λ (b : Bool). IsFormOf text_form b bytes c.args.line.now) c.if-not-branch.false c.in_ok-read_text-in-Text.ensures in
+    let form : IsFormOf bare_or_quoted_text true bytes c.args.line.now = subst (λ (b : Bool). IsFormOf bare_or_quoted_text b bytes c.args.line.now) c.if-not-branch.false c.in_ok-read_text-in-Text.ensures in
     blob_read_as (shape_of c.args.kind) bytes c.deref.result.now c.args.line.now c.args.draft.now c.blob.new.self
     (kind_line c.args.kind Text text c.args.line.now c.in-Text.is text_shape ∙ text_taken bytes c.args.line.now (are_items bytes c.type_inv.scratch) form)
     form.0 c.deref.ensures.value c.in_ok-blob-in-Text.ensures.ok

@@ -1,6 +1,6 @@
 use Rattle.std.proofs.Common.{refl, ap, ◌∙◌}
 use Rattle.std.specs.List.{flat_map}
-use Rattle.adb_dump.specs.Dump.{escape_of, is_bare}
+use Rattle.adb_dump.specs.Dump.{escape_of, needs_no_quotes}
 use Rattle.gen_core.proofs.Escapes.{none_read, quoted_all, quoted_more, quoted_not_read, quoted_of_none}
 use Rattle.gen_core.proofs.value.read_quoted.Goals as goal
 
@@ -20,6 +20,6 @@ returns-then-not-is_quote c =
 
 pub returns : goal.returns
 returns c =
-    quoted_all c.loop-byte.bytes.items c.loop-byte.rest.now c.args.quoted.now c.is_bare.result c.loop-byte.invariant
+    quoted_all c.loop-byte.bytes.items c.loop-byte.rest.now c.args.quoted.now c.needs_no_quotes.result c.loop-byte.invariant
     (λ is. let t = c.if-is_quote.ensures.1 is in absurd cc) (c.is_quote-2.ensures.0 c.if-not-is_quote.false)
-    (c.is_bare.ensures ∙ ap is_bare c.deref.ensures.value)
+    (c.needs_no_quotes.ensures ∙ ap needs_no_quotes c.deref.ensures.value)

@@ -1,9 +1,9 @@
 use Rattle.std.proofs.Common.{List, ℕ, subst}
 use Rattle.std.specs.Prelude.{IfOk, Option, Vec}
 use Rattle.std.specs.declared.alloc.Global.{Global}
-use Rattle.hint_core.specs.Contents.{ExplainsMixedUp, mixed_up}
+use Rattle.hint_core.specs.Contents.{ExplainsMixedUp, mixed_up_positions}
 use Rattle.hint_core.proofs.contents.contents_lines.Goals as goal
 
 pub returns-clause-lines : goal.returns-clause-lines
 returns-clause-lines g c =
-    subst (λ (name : Option (List ℕ)). IfOk c.lines_of_contents.result (λ (lines : Vec ℕ Global). ExplainsMixedUp name (mixed_up c.args.refusal.now) (g.T.Tree.history c.args.tree.now) lines.items)) c.in_ok-name.ensures c.lines_of_contents.ensures.lines
+    subst (λ (name : Option (List ℕ)). IfOk c.lines_of_contents.result (λ (lines : Vec ℕ Global). ExplainsMixedUp name (mixed_up_positions c.args.refusal.now) (g.T.Tree.history c.args.tree.now) lines.items)) c.in_ok-name.ensures c.lines_of_contents.ensures.lines

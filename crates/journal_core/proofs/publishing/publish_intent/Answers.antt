@@ -1,5 +1,5 @@
 use Rattle.std.proofs.Common.{◌∙◌, ◌∷◌, [], refl}
-use Rattle.journal_core.specs.Acting.{acting_stage, full_stage}
+use Rattle.journal_core.specs.Acting.{stage_with_actions_done, fully_staged_stage}
 use Rattle.journal_core.specs.Recovery.{intent_name, stage_name}
 use Rattle.journal_core.proofs.History.{on_observable, observable_at}
 use Rattle.journal_core.proofs.Published.{few_writes, write_moments, write_reads, enter_moments, enter_reads, enter_settled, enter_published, enter_acting, write_may, enter_proper}
@@ -12,38 +12,38 @@ use Rattle.journal_core.proofs.publishing.publish_intent.Goals as goal
 pub returns-in_err-write_waiting-clause-moments : goal.returns-in_err-write_waiting-clause-moments
 returns-in_err-write_waiting-clause-moments g c =
     on_observable (g.T.Tree.history c.args.tree.now) _ (λ v rest is ignored contents base is_durable staged.
-    write_moments (full_stage c.args.intent.now) contents base v staged refl (few_writes _ _ c.names_are_free.ensures.few) c.names_are_free.ensures.free _ c.file.ensures _ c.stage_name.ensures _ rest _ (g.T.Tree.history c.args.tree.now) is ignored is_durable c.write_waiting.ensures.moments)
+    write_moments (fully_staged_stage c.args.intent.now) contents base v staged refl (few_writes _ _ c.names_are_free.ensures.few) c.names_are_free.ensures.free _ c.file.ensures _ c.stage_name.ensures _ rest _ (g.T.Tree.history c.args.tree.now) is ignored is_durable c.write_waiting.ensures.moments)
 
 pub returns-clause-moments : goal.returns-clause-moments
 returns-clause-moments g c =
     on_observable (g.T.Tree.history c.args.tree.now) _ (λ v rest is ignored contents base is_durable staged.
-    enter_moments (full_stage c.args.intent.now) contents base v staged refl (few_writes _ _ c.names_are_free.ensures.few) c.names_are_free.ensures.free _ c.file.ensures _ c.stage_name.ensures _ rest _ _ is ignored is_durable c.write_waiting.ensures.moments c.in_ok-write_waiting.ensures.written c.enter.ensures.moments)
+    enter_moments (fully_staged_stage c.args.intent.now) contents base v staged refl (few_writes _ _ c.names_are_free.ensures.few) c.names_are_free.ensures.free _ c.file.ensures _ c.stage_name.ensures _ rest _ _ is ignored is_durable c.write_waiting.ensures.moments c.in_ok-write_waiting.ensures.written c.enter.ensures.moments)
 
 pub returns-clause-settled : goal.returns-clause-settled
 returns-clause-settled g c =
     on_observable (g.T.Tree.history c.args.tree.now) _ (λ v rest is ignored contents base is_durable staged.
-    enter_settled (full_stage c.args.intent.now) contents base v staged refl (few_writes _ _ c.names_are_free.ensures.few) c.names_are_free.ensures.free _ c.file.ensures _ c.stage_name.ensures _ rest _ _ is ignored is_durable c.write_waiting.ensures.moments c.enter.result c.in_ok-write_waiting.ensures.written c.enter.ensures.entered)
+    enter_settled (fully_staged_stage c.args.intent.now) contents base v staged refl (few_writes _ _ c.names_are_free.ensures.few) c.names_are_free.ensures.free _ c.file.ensures _ c.stage_name.ensures _ rest _ _ is ignored is_durable c.write_waiting.ensures.moments c.enter.result c.in_ok-write_waiting.ensures.written c.enter.ensures.entered)
 
 pub returns-clause-published : goal.returns-clause-published
 returns-clause-published g c =
     on_observable (g.T.Tree.history c.args.tree.now) _ (λ v rest is ignored contents base is_durable staged.
-    enter_published (full_stage c.args.intent.now) contents base v staged refl (few_writes _ _ c.names_are_free.ensures.few) c.names_are_free.ensures.free _ c.file.ensures _ c.stage_name.ensures _ rest _ _ is ignored is_durable c.write_waiting.ensures.moments c.enter.result c.in_ok-write_waiting.ensures.written c.enter.ensures.moments c.enter.ensures.entered)
+    enter_published (fully_staged_stage c.args.intent.now) contents base v staged refl (few_writes _ _ c.names_are_free.ensures.few) c.names_are_free.ensures.free _ c.file.ensures _ c.stage_name.ensures _ rest _ _ is ignored is_durable c.write_waiting.ensures.moments c.enter.result c.in_ok-write_waiting.ensures.written c.enter.ensures.moments c.enter.ensures.entered)
 
 pub returns-clause-acting : goal.returns-clause-acting
 returns-clause-acting g c =
     on_observable (g.T.Tree.history c.args.tree.now) _ (λ v rest is contents base staged.
-    enter_acting (full_stage c.args.intent.now) contents base v staged refl (few_writes _ _ c.names_are_free.ensures.few) c.names_are_free.ensures.free _ c.file.ensures _ c.stage_name.ensures _ rest _ _ is (acting_stage c.args.intent.now 0) c.enter.result refl refl c.in_ok-write_waiting.ensures.written c.enter.ensures.acting)
+    enter_acting (fully_staged_stage c.args.intent.now) contents base v staged refl (few_writes _ _ c.names_are_free.ensures.few) c.names_are_free.ensures.free _ c.file.ensures _ c.stage_name.ensures _ rest _ _ is (stage_with_actions_done c.args.intent.now 0) c.enter.result refl refl c.in_ok-write_waiting.ensures.written c.enter.ensures.acting)
 
 pub returns-in_err-write_waiting-clause-proper : goal.returns-in_err-write_waiting-clause-proper
 returns-in_err-write_waiting-clause-proper g c =
     on_observable (g.T.Tree.history c.args.tree.now) _ (λ v rest is contents base staged room.
-    observable_at _ v rest is (λ u. CanCreate c.stage_name.result.now u → _) c.write_waiting.ensures.proper (write_may (full_stage c.args.intent.now) contents base v staged refl (few_writes _ _ c.names_are_free.ensures.few) c.names_are_free.ensures.free _ c.file.ensures _ c.stage_name.ensures _ rest (g.T.Tree.history c.args.tree.now) (g.T.Tree.history c.args.tree.now) is room))
+    observable_at _ v rest is (λ u. CanCreate c.stage_name.result.now u → _) c.write_waiting.ensures.proper (write_may (fully_staged_stage c.args.intent.now) contents base v staged refl (few_writes _ _ c.names_are_free.ensures.few) c.names_are_free.ensures.free _ c.file.ensures _ c.stage_name.ensures _ rest (g.T.Tree.history c.args.tree.now) (g.T.Tree.history c.args.tree.now) is room))
 
 pub returns-clause-proper : goal.returns-clause-proper
 returns-clause-proper g c =
     on_observable (g.T.Tree.history c.args.tree.now) _ (λ v rest is contents base staged room.
-    enter_proper (full_stage c.args.intent.now) contents base v staged refl (few_writes _ _ c.names_are_free.ensures.few) c.names_are_free.ensures.free _ c.file.ensures _ c.stage_name.ensures _ rest _ (g.T.Tree.history c.args.tree.now) is room _ _ c.stage_name-2.ensures c.name.ensures _ _ c.in_ok-write_waiting.ensures.written c.enter.ensures.proper
-    ∙ observable_at _ v rest is (λ u. CanCreate c.stage_name.result.now u → _) c.write_waiting.ensures.proper (write_may (full_stage c.args.intent.now) contents base v staged refl (few_writes _ _ c.names_are_free.ensures.few) c.names_are_free.ensures.free _ c.file.ensures _ c.stage_name.ensures _ rest (g.T.Tree.history c.args.tree.now) (g.T.Tree.history c.args.tree.now) is room))
+    enter_proper (fully_staged_stage c.args.intent.now) contents base v staged refl (few_writes _ _ c.names_are_free.ensures.few) c.names_are_free.ensures.free _ c.file.ensures _ c.stage_name.ensures _ rest _ (g.T.Tree.history c.args.tree.now) is room _ _ c.stage_name-2.ensures c.name.ensures _ _ c.in_ok-write_waiting.ensures.written c.enter.ensures.proper
+    ∙ observable_at _ v rest is (λ u. CanCreate c.stage_name.result.now u → _) c.write_waiting.ensures.proper (write_may (fully_staged_stage c.args.intent.now) contents base v staged refl (few_writes _ _ c.names_are_free.ensures.few) c.names_are_free.ensures.free _ c.file.ensures _ c.stage_name.ensures _ rest (g.T.Tree.history c.args.tree.now) (g.T.Tree.history c.args.tree.now) is room))
 
 pub returns-in_err-write_waiting-clause-last : goal.returns-in_err-write_waiting-clause-last
 returns-in_err-write_waiting-clause-last g c = written_last _ _ (g.T.Tree.history c.args.tree.now) c.write_waiting.ensures.unread
@@ -71,9 +71,9 @@ returns-clause-only_intent g c =
 pub returns-in_err-write_waiting-clause-reads : goal.returns-in_err-write_waiting-clause-reads
 returns-in_err-write_waiting-clause-reads g c =
     on_observable (g.T.Tree.history c.args.tree.now) _ (λ v rest is contents base staged.
-    write_reads (full_stage c.args.intent.now) contents base v staged refl (few_writes _ _ c.names_are_free.ensures.few) c.names_are_free.ensures.free _ c.file.ensures _ c.stage_name.ensures _ rest _ (g.T.Tree.history c.args.tree.now) is c.write_waiting.ensures.unread)
+    write_reads (fully_staged_stage c.args.intent.now) contents base v staged refl (few_writes _ _ c.names_are_free.ensures.few) c.names_are_free.ensures.free _ c.file.ensures _ c.stage_name.ensures _ rest _ (g.T.Tree.history c.args.tree.now) is c.write_waiting.ensures.unread)
 
 pub returns-clause-reads : goal.returns-clause-reads
 returns-clause-reads g c =
     on_observable (g.T.Tree.history c.args.tree.now) _ (λ v rest is contents base staged.
-    enter_reads (full_stage c.args.intent.now) contents base v staged refl (few_writes _ _ c.names_are_free.ensures.few) c.names_are_free.ensures.free _ c.file.ensures _ c.stage_name.ensures _ rest _ _ is c.write_waiting.ensures.unread c.in_ok-write_waiting.ensures.written c.enter.ensures.reads)
+    enter_reads (fully_staged_stage c.args.intent.now) contents base v staged refl (few_writes _ _ c.names_are_free.ensures.few) c.names_are_free.ensures.free _ c.file.ensures _ c.stage_name.ensures _ rest _ _ is c.write_waiting.ensures.unread c.in_ok-write_waiting.ensures.written c.enter.ensures.reads)

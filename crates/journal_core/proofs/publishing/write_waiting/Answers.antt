@@ -52,8 +52,8 @@ pub returns-clause-proper : goal.returns-clause-proper
 returns-clause-proper g c =
     on_observable (g.T.Tree.history c.args.tree.now) _ (λ v rest is may.
     let made = step_now (CanCreate c.args.place.now) (HasName c.args.place.now) _ _ _ (now_is _ v rest _ is may) c.in_ok-create.ensures.moves (λ w q. some_created c.args.place.now w) in
-    let full_stage = step_now (HasName c.args.place.now) (HasName c.args.place.now) _ _ _ made c.in_ok-append.ensures.moves (some_changed (λ (f : File). record { bytes = f.bytes ++ c.args.bytes.now; synced = false }) c.args.place.now) in
-    proper_now (HasName c.args.place.now) _ _ _ c.sync_file.result full_stage c.sync_file.ensures.counts (λ w q. q)
+    let fully_staged_stage = step_now (HasName c.args.place.now) (HasName c.args.place.now) _ _ _ made c.in_ok-append.ensures.moves (some_changed (λ (f : File). record { bytes = f.bytes ++ c.args.bytes.now; synced = false }) c.args.place.now) in
+    proper_now (HasName c.args.place.now) _ _ _ c.sync_file.result fully_staged_stage c.sync_file.ensures.counts (λ w q. q)
     ∙ proper_now (HasName c.args.place.now) _ _ _ _ made c.in_ok-append.ensures.counts (λ w q. q)
     ∙ proper_now (CanCreate c.args.place.now) _ _ _ _ (now_is _ v rest _ is may) c.in_ok-create.ensures.counts (λ w q. q))
 

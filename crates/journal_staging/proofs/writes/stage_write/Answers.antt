@@ -13,8 +13,8 @@ pub returns-in_ok-stage_pieces-in-Link-clause-staging : goal.returns-in_ok-stage
 returns-in_ok-stage_pieces-in-Link-clause-staging g c = λ contents v first bytes staging is.
     subst (λ (b : List ℕ). IsStaging c.stage_pieces.new.stage (contents ++ b ∷ []) None v first (g.T.Tree.history c.stage_pieces.new.tree))
     (sym (link_stands (files_of v) c.args.source.now _ bytes c.in-Link.is is))
-    (link_waits c.target_text.result.now c.in-Link.target.now (λ b. IsStaging c.stage_pieces.new.stage (contents ++ b ∷ []) None v first (g.T.Tree.history c.stage_pieces.new.tree))
-    c.target_text.ensures (c.in_ok-stage_pieces-in-Link.ensures.staging contents v first staging))
+    (link_waits c.link_text_of_target.result.now c.in-Link.target.now (λ b. IsStaging c.stage_pieces.new.stage (contents ++ b ∷ []) None v first (g.T.Tree.history c.stage_pieces.new.tree))
+    c.link_text_of_target.ensures (c.in_ok-stage_pieces-in-Link.ensures.staging contents v first staging))
 
 pub returns-in_ok-stage_bytes-in-Bytes-clause-listed : goal.returns-in_ok-stage_bytes-in-Bytes-clause-listed
 returns-in_ok-stage_bytes-in-Bytes-clause-listed g c = λ contents v first staging.
@@ -24,8 +24,8 @@ returns-in_ok-stage_bytes-in-Bytes-clause-listed g c = λ contents v first stagi
 pub returns-in_ok-stage_pieces-in-Link-clause-listed : goal.returns-in_ok-stage_pieces-in-Link-clause-listed
 returns-in_ok-stage_pieces-in-Link-clause-listed g c = λ contents v first staging.
     link_listed c.args.source.now _ (λ b. IsStaging c.stage_pieces.new.stage (contents ++ b ∷ []) None v first (g.T.Tree.history c.stage_pieces.new.tree)) c.in-Link.is
-    (link_waits c.target_text.result.now c.in-Link.target.now (λ b. IsStaging c.stage_pieces.new.stage (contents ++ b ∷ []) None v first (g.T.Tree.history c.stage_pieces.new.tree))
-    c.target_text.ensures (c.in_ok-stage_pieces-in-Link.ensures.staging contents v first staging))
+    (link_waits c.link_text_of_target.result.now c.in-Link.target.now (λ b. IsStaging c.stage_pieces.new.stage (contents ++ b ∷ []) None v first (g.T.Tree.history c.stage_pieces.new.tree))
+    c.link_text_of_target.ensures (c.in_ok-stage_pieces-in-Link.ensures.staging contents v first staging))
 
 pub returns-in-File-clause-listed : goal.returns-in-File-clause-listed
 returns-in-File-clause-listed g c = λ contents v first staging.

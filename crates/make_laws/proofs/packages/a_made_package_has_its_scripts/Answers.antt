@@ -1,10 +1,10 @@
 use Rattle.command_core.specs.declared.values.TheConstants.{SCRIPT}
 use Rattle.std.proofs.Common.{ap, sym, subst}
 use Rattle.adb_view.specs.declared.tables.Which.TheVariants.{Scripts}
-use Rattle.make_core.specs.package_files.Sources.{values_with}
+use Rattle.make_core.specs.package_files.Sources.{values_of_letter}
 use Rattle.make_laws.proofs.MadeFrom.{made_from, scripts_are}
 use Rattle.make_laws.proofs.ScriptsGiven.{scripts_given}
-use Rattle.make_laws.specs.MadePackages.{contained_package}
+use Rattle.make_laws.specs.MadePackages.{package_in_container}
 use Rattle.make_laws.specs.NamedFields.{field_named}
 use Rattle.make_laws.specs.ScriptFiles.{IsScriptGiven}
 use Rattle.make_laws.proofs.packages.a_made_package_has_its_scripts.Goals as goal
@@ -12,5 +12,5 @@ use Rattle.make_laws.proofs.packages.a_made_package_has_its_scripts.Goals as goa
 pub returns : goal.returns
 returns c = λ command names read bytes type made one.
     let m = made_from c.a_made_package_is_read_back.ensures command names read bytes made in
-    subst (IsScriptGiven read (values_with SCRIPT command.values) type) (sym (ap (field_named Scripts type) (scripts_are command names read (contained_package bytes) m)))
-    (scripts_given read (values_with SCRIPT command.values) m.scripts type m.scripts_read one)
+    subst (IsScriptGiven read (values_of_letter SCRIPT command.values) type) (sym (ap (field_named Scripts type) (scripts_are command names read (package_in_container bytes) m)))
+    (scripts_given read (values_of_letter SCRIPT command.values) m.scripts type m.scripts_read one)

@@ -3,7 +3,7 @@ use Rattle.std.specs.Option.{option_map}
 use Rattle.std.specs.Borrow.{Bor}
 use Rattle.make_package.proofs.MadeParts.{folder_file, folder_is, no_folder}
 use Rattle.make_package.proofs.MadeRuns.{listed_for, named_for, nothing_below, nothing_named}
-use Rattle.package_files.specs.Sources.{values_with}
+use Rattle.package_files.specs.Sources.{values_of_letter}
 use Rattle.command_core.specs.declared.values.TheConstants.{FILES}
 use Rattle.make_package.proofs.reading.list_names.Goals as goal
 
@@ -17,7 +17,7 @@ returns-in_ok-names-in-Some-clause-names g c =
 
 pub returns-in-None-clause-names : goal.returns-in-None-clause-names
 returns-in-None-clause-names g c =
-    nothing_below _ (values_with FILES c.args.values.now) _ (no_folder c.args.values.now (sym (ap (option_map (λ (n : Bor (List ℕ)). n.now)) c.in-None.is) ∙ c.first_file.ensures))
+    nothing_below _ (values_of_letter FILES c.args.values.now) _ (no_folder c.args.values.now (sym (ap (option_map (λ (n : Bor (List ℕ)). n.now)) c.in-None.is) ∙ c.first_file.ensures))
 
 pub returns-in_ok-names-in-Some-clause-order : goal.returns-in_ok-names-in-Some-clause-order
 returns-in_ok-names-in-Some-clause-order g c =
@@ -26,4 +26,4 @@ returns-in_ok-names-in-Some-clause-order g c =
 
 pub returns-in-None-clause-order : goal.returns-in-None-clause-order
 returns-in-None-clause-order g c =
-    nothing_named (values_with FILES c.args.values.now) _ (no_folder c.args.values.now (sym (ap (option_map (λ (n : Bor (List ℕ)). n.now)) c.in-None.is) ∙ c.first_file.ensures))
+    nothing_named (values_of_letter FILES c.args.values.now) _ (no_folder c.args.values.now (sym (ap (option_map (λ (n : Bor (List ℕ)). n.now)) c.in-None.is) ∙ c.first_file.ensures))

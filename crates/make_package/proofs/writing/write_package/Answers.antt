@@ -8,13 +8,13 @@ use Rattle.package_files.specs.make_info.Values.{number_value}
 use Rattle.package_files.specs.Package.{package_fields}
 use Rattle.package_files.specs.Packed.{packed_folder}
 use Rattle.make_package.specs.Scripts.{scripts_view}
-use Rattle.package_files.specs.Sources.{texts_of, values_with}
+use Rattle.package_files.specs.Sources.{texts_of, values_of_letter}
 use Rattle.make_package.proofs.writing.write_package.Goals as goal
 
 pub returns : goal.returns
 returns c =
     let priority = c.in_ok-write_number.ensures ∙ ap (λ n. draft_with (number_value n) c.write_triggers.new.draft) c.replaces_priority.ensures in
     closed obj_value
-    (package_fields (information_value c.args.about.now c.args.size) (map packed_folder c.args.folders.now) (scripts_view c.args.scripts.now) (texts_of (values_with TRIGGER c.args.values.now)) (replaces_priority c.args.about.now))
+    (package_fields (information_value c.args.about.now c.args.size) (map packed_folder c.args.folders.now) (scripts_view c.args.scripts.now) (texts_of (values_of_letter TRIGGER c.args.values.now)) (replaces_priority c.args.about.now))
     c.args.draft.now _ _ c.close_object.result c.close_object.ensures.ok
     (rw (priority, c.in_ok-write_triggers.ensures, c.in_ok-write_scripts.ensures, c.in_ok-write_paths.ensures, c.in_ok-write.ensures, c.in_ok-open_list.ensures.ok) refl)

@@ -3,9 +3,9 @@ use Rattle.std.specs.Prelude.{Option, Some, Vec, slice_get}
 use Rattle.std.specs.declared.alloc.Global.{Global}
 use Rattle.std.proofs.lemmas.List.{map-append, take_all}
 use Rattle.std.proofs.lemmas.List.Elements.{All-push}
-use Rattle.candidate_core.specs.VersionTexts.{IsReadBy}
+use Rattle.candidate_core.specs.VersionTexts.{HasVersionTextFrom}
 use Rattle.option_ranks.specs.Ranking.{Ranking}
-use Rattle.option_ranks.specs.VersionRanks.{IsListed, version_of, version_with_rank, versions_in}
+use Rattle.option_ranks.specs.VersionRanks.{IsVersionAmong, version_of, version_with_rank, versions_in}
 use Rattle.candidate_core.specs.declared.versions.RankedVersion.{RankedVersion}
 use Rattle.candidate_core.specs.declared.versions.VersionKind.{VersionKind}
 use Rattle.option_ranks.proofs.RankedVersions.{all_at, all_next, last_listed, listed_before, still_listed}
@@ -31,18 +31,18 @@ loop-i-preserved c =
           let texts_grown : versions_in (was ++ v ∷ []) ≡ texts ++ v.version ∷ [] = map-append (λ (v : RankedVersion). v.version) was (v ∷ []) in
           record {
             listed =
-                subst (λ (ts : List (Option (List ℕ))). All (IsListed kind ts) (take (i + 1) rs)) (sym (ap versions_in grown ∙ texts_grown))
-                (all_next (IsListed kind (texts ++ v.version ∷ [])) rs i x at (last_listed (version_of kind x).version v.version texts (ap (λ (r : RankedVersion). r.version) is)) (λ k d h. still_listed _ v.version texts (c.loop-i.invariant.listed k d h)));
+                subst (λ (ts : List (Option (List ℕ))). All (IsVersionAmong kind ts) (take (i + 1) rs)) (sym (ap versions_in grown ∙ texts_grown))
+                (all_next (IsVersionAmong kind (texts ++ v.version ∷ [])) rs i x at (last_listed (version_of kind x).version v.version texts (ap (λ (r : RankedVersion). r.version) is)) (λ k d h. still_listed _ v.version texts (c.loop-i.invariant.listed k d h)));
             read = λ text each.
-                subst (λ (vs : List RankedVersion). All (IsReadBy text) vs) (sym grown)
-                (All-push (IsReadBy text) was v (c.loop-i.invariant.read text each) (subst (IsReadBy text) is (all_at (λ (r : Ranking). IsReadBy text (version_of kind r)) rs i x each at)));
+                subst (λ (vs : List RankedVersion). All (HasVersionTextFrom text) vs) (sym grown)
+                (All-push (HasVersionTextFrom text) was v (c.loop-i.invariant.read text each) (subst (HasVersionTextFrom text) is (all_at (λ (r : Ranking). HasVersionTextFrom text (version_of kind r)) rs i x each at)));
           }
       | else-not-reads_the_text_before w ↦ record {
         listed =
-            subst (λ (vs : Vec RankedVersion Global). All (IsListed kind (versions_in vs.items)) (take (i + 1) rs)) (sym w.versions-is)
-            (λ k d h. all_next (IsListed kind texts) rs i (get_or rs i d) (get_at rs i d here)
+            subst (λ (vs : Vec RankedVersion Global). All (IsVersionAmong kind (versions_in vs.items)) (take (i + 1) rs)) (sym w.versions-is)
+            (λ k d h. all_next (IsVersionAmong kind texts) rs i (get_or rs i d) (get_at rs i d here)
             (listed_before kind texts rs i d c.requires (c.reads_the_text_before.ensures.first w.if-not-reads_the_text_before.false) here (c.reads_the_text_before.ensures.same w.if-not-reads_the_text_before.false) c.loop-i.invariant.listed) c.loop-i.invariant.listed k d h);
-        read = λ text each. subst (λ (vs : Vec RankedVersion Global). All (IsReadBy text) vs.items) (sym w.versions-is) (c.loop-i.invariant.read text each);
+        read = λ text each. subst (λ (vs : Vec RankedVersion Global). All (HasVersionTextFrom text) vs.items) (sym w.versions-is) (c.loop-i.invariant.read text each);
       }
     ]
 
@@ -50,4 +50,4 @@ pub returns-clause-listed : goal.returns-clause-listed
 returns-clause-listed c =
     let rs : List Ranking = c.args.options.now in
     let past : length rs ≤ c.loop-i.i = omega arith in
-    subst (λ (xs : List Ranking). All (IsListed c.args.kind (versions_in c.loop-i.versions.items)) xs) (take_all c.loop-i.i rs past) c.loop-i.invariant.listed
+    subst (λ (xs : List Ranking). All (IsVersionAmong c.args.kind (versions_in c.loop-i.versions.items)) xs) (take_all c.loop-i.i rs past) c.loop-i.invariant.listed

@@ -3,8 +3,8 @@ use Rattle.std.specs.Ordering.{is_lt, on}
 use Rattle.std.specs.List.Sorted.{IsPermutation}
 use Rattle.std.proofs.lemmas.List.Sorted.{All-permutation, IsPermutation-map, IsPermutation-trans, ranks_by}
 use Rattle.option_ranks.specs.Ranking.{Ranking, version_order}
-use Rattle.candidate_core.specs.VersionTexts.{IsReadBy}
-use Rattle.option_ranks.specs.VersionRanks.{HasRankAmong, IsListed, version_of, versions_in}
+use Rattle.candidate_core.specs.VersionTexts.{HasVersionTextFrom}
+use Rattle.option_ranks.specs.VersionRanks.{HasRankAmong, IsVersionAmong, version_of, versions_in}
 use Rattle.candidate_core.specs.declared.versions.RankedVersion.{RankedVersion}
 use Rattle.candidate_core.specs.declared.versions.VersionKind.{VersionKind}
 use Rattle.candidate_core.proofs.Answering.{compares_by}
@@ -16,8 +16,8 @@ use Rattle.option_ranks.proofs.version_ranks.rank_versions.Goals as goal
 pub distinct_versions-requires : goal.distinct_versions-requires
 distinct_versions-requires c = (
   c.requires.0,
-  subst (λ (rs : List Ranking). All (λ (r : Ranking). IsReadBy c.requires.0 (version_of c.args.kind r)) rs) (sym c.deref.ensures.value)
-      (All-permutation (λ (r : Ranking). IsReadBy c.requires.0 (version_of c.args.kind r)) c.args.options.now.items c.sort_by.new.self.items c.in_ok-sort_by.ensures.permutation c.requires.1),
+  subst (λ (rs : List Ranking). All (λ (r : Ranking). HasVersionTextFrom c.requires.0 (version_of c.args.kind r)) rs) (sym c.deref.ensures.value)
+      (All-permutation (λ (r : Ranking). HasVersionTextFrom c.requires.0 (version_of c.args.kind r)) c.args.options.now.items c.sort_by.new.self.items c.in_ok-sort_by.ensures.permutation c.requires.1),
 )
 
 pub rank_sorted-requires : goal.rank_sorted-requires
@@ -37,17 +37,17 @@ set_ranks-requires-clause-alike c =
     let kind : VersionKind = c.args.kind in
     let text : ℕ → ℕ → List ℕ = c.requires.0 in
     let moved : List Ranking = c.sort_by.new.self.items in
-    let each : All (λ (r : Ranking). IsReadBy text (version_of kind r)) moved =
-    All-permutation (λ (r : Ranking). IsReadBy text (version_of kind r)) c.args.options.now.items moved c.in_ok-sort_by.ensures.permutation c.requires.1 in
-    let found : All (IsReadBy text) c.in_ok-versions.versions.items =
-    c.in_ok-versions.ensures.read text (subst (λ (rs : List Ranking). All (λ (r : Ranking). IsReadBy text (version_of kind r)) rs) (sym c.deref.ensures.value) each) in
-    let guessed : All (IsReadBy text) c.sort_by-2.new.self.items =
-    All-permutation (IsReadBy text) c.in_ok-versions.versions.items c.sort_by-2.new.self.items c.in_ok-sort_by-2.ensures.permutation found in
-    let sorted : All (IsReadBy text) c.sort_by-3.new.self.items =
-    All-permutation (IsReadBy text) c.sort_by-2.new.self.items c.sort_by-3.new.self.items c.in_ok-sort_by-3.ensures.permutation guessed in
-    let placed : All (IsReadBy text) c.sort_by-4.new.self.items =
+    let each : All (λ (r : Ranking). HasVersionTextFrom text (version_of kind r)) moved =
+    All-permutation (λ (r : Ranking). HasVersionTextFrom text (version_of kind r)) c.args.options.now.items moved c.in_ok-sort_by.ensures.permutation c.requires.1 in
+    let found : All (HasVersionTextFrom text) c.in_ok-versions.versions.items =
+    c.in_ok-versions.ensures.read text (subst (λ (rs : List Ranking). All (λ (r : Ranking). HasVersionTextFrom text (version_of kind r)) rs) (sym c.deref.ensures.value) each) in
+    let guessed : All (HasVersionTextFrom text) c.sort_by-2.new.self.items =
+    All-permutation (HasVersionTextFrom text) c.in_ok-versions.versions.items c.sort_by-2.new.self.items c.in_ok-sort_by-2.ensures.permutation found in
+    let sorted : All (HasVersionTextFrom text) c.sort_by-3.new.self.items =
+    All-permutation (HasVersionTextFrom text) c.sort_by-2.new.self.items c.sort_by-3.new.self.items c.in_ok-sort_by-3.ensures.permutation guessed in
+    let placed : All (HasVersionTextFrom text) c.sort_by-4.new.self.items =
     all_are_read kind c.sort_by-3.new.self.items c.rank_sorted.new.versions.items c.sort_by-4.new.self.items c.rank_sorted.ensures c.in_ok-sort_by-4.ensures.permutation text sorted in
-    (text, (subst (λ (vs : List RankedVersion). All (IsReadBy text) vs) (sym c.deref-2.ensures.value) placed, each))
+    (text, (subst (λ (vs : List RankedVersion). All (HasVersionTextFrom text) vs) (sym c.deref-2.ensures.value) placed, each))
 
 pub returns : goal.returns
 returns c =
@@ -61,7 +61,7 @@ returns c =
     let before : IsPermutation found sorted = IsPermutation-trans found c.sort_by-2.new.self.items sorted c.in_ok-sort_by-2.ensures.permutation c.in_ok-sort_by-3.ensures.permutation in
     let moved : IsPermutation (versions_in found) (versions_in placed) =
     IsPermutation-trans (versions_in found) (versions_in sorted) (versions_in placed) (IsPermutation-map (λ (v : RankedVersion). v.version) found sorted before) again in
-    let listed : All (IsListed kind (versions_in found)) c.sort_by.new.self.items = subst (λ (rs : List Ranking). All (IsListed kind (versions_in found)) rs) c.deref.ensures.value c.in_ok-versions.ensures.listed in
+    let listed : All (IsVersionAmong kind (versions_in found)) c.sort_by.new.self.items = subst (λ (rs : List Ranking). All (IsVersionAmong kind (versions_in found)) rs) c.deref.ensures.value c.in_ok-versions.ensures.listed in
     record {
       versions = versions_in placed;
       moved = c.sort_by.new.self.items;

@@ -1,8 +1,8 @@
 use Rattle.std.proofs.Common.{◌≡◌, ◌∙◌, ◌≤◌, ◌<◌, ℕ, List, length, set, ap, sym, subst, arith}
 use Rattle.std.specs.Prelude.{Option, Some, slice_get}
 use Rattle.option_ranks.specs.Ranking.{Ranking}
-use Rattle.candidate_core.specs.VersionTexts.{IsReadBy}
-use Rattle.option_ranks.specs.VersionRanks.{rank_among, version_of, versions_in, with_rank, with_rank_among}
+use Rattle.candidate_core.specs.VersionTexts.{HasVersionTextFrom}
+use Rattle.option_ranks.specs.VersionRanks.{rank_among, version_of, versions_in, with_version_rank, with_rank_among}
 use Rattle.candidate_core.specs.declared.versions.RankedVersion.{RankedVersion}
 use Rattle.candidate_core.specs.declared.versions.VersionKind.{VersionKind}
 use Rattle.option_ranks.proofs.RankedVersions.{all_at, first_all, first_here, first_length, one_more_changed}
@@ -23,7 +23,7 @@ rank_of-rank-requires-clause-alike c =
     let y_now : slice_get now i ≡ Some y = get_at now i y here ∙ ap Some (sym c.index.ensures) in
     let at : slice_get rs i ≡ Some y = sym (first_here f i rs) ∙ (ap (λ (zs : List Ranking). slice_get zs i) (sym c.loop-i.invariant) ∙ y_now) in (
       text,
-      (subst (IsReadBy text) (sym c.version_of.ensures) (all_at (λ (r : Ranking). IsReadBy text (version_of kind r)) rs i y c.requires.alike.1.1 at), c.requires.alike.1.0),
+      (subst (HasVersionTextFrom text) (sym c.version_of.ensures) (all_at (λ (r : Ranking). HasVersionTextFrom text (version_of kind r)) rs i y c.requires.alike.1.1 at), c.requires.alike.1.0),
     )
 
 pub loop-i-preserved : goal.loop-i-preserved
@@ -45,7 +45,7 @@ loop-i-preserved c =
     let rank : c.rank_of-rank.result ≡ rank_among kind vs (version_of kind x).version =
     c.rank_of-rank.ensures ∙ (ap (λ (r : RankedVersion). rank_among kind vs r.version) c.version_of.ensures
     ∙ ap (λ (r : Ranking). rank_among kind vs (version_of kind r).version) is) in
-    one_more_changed f i rs _ x c.set_rank.new.self at (c.set_rank.ensures ∙ ap (λ (n : ℕ). with_rank kind n x) rank)
+    one_more_changed f i rs _ x c.set_rank.new.self at (c.set_rank.ensures ∙ ap (λ (n : ℕ). with_version_rank kind n x) rank)
     (ap (λ (zs : List Ranking). set zs i c.set_rank.new.self) c.loop-i.invariant)
 
 pub returns : goal.returns

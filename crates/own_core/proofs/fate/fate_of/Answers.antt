@@ -5,4 +5,4 @@ use Rattle.own_core.proofs.OneFile.{unguarded_fate}
 use Rattle.own_core.proofs.fate.fate_of.Goals as goal
 
 pub returns-clause-fate : goal.returns-clause-fate
-returns-clause-fate g c = unguarded_fate (file_change_of c.args.change.now) _ (claim_seen c.args.claim.now) (sym c.is_guarded.ensures ∙ c.if-is_guarded.false)
+returns-clause-fate g c = unguarded_fate (file_change_of c.args.change.now) _ (claim_seen c.args.claim.now) (sym c.is_protected_path.ensures ∙ c.if-is_protected_path.false)

@@ -3,10 +3,10 @@ use Rattle.path_claim_lists.specs.path_claims.Seen.{claim_seen}
 use Rattle.own_core.specs.Sides.{file_change_of}
 use Rattle.own_core.proofs.OneFile.{no_stay}
 use Rattle.own_core.proofs.parts.is_file_kept.Goals as goal
-use Rattle.own_core.proofs.parts.is_file_kept.Goals.{then-change-via-then-change, then-change-via-else-change+then-not-is_guarded}
+use Rattle.own_core.proofs.parts.is_file_kept.Goals.{then-change-via-then-change, then-change-via-else-change+then-not-is_protected_path}
 
 pub returns-then-change-clause-stays : goal.returns-then-change-clause-stays
 returns-then-change-clause-stays g c = no_stay (file_change_of c.args.change.now) _ (claim_seen c.args.claim.now) (elim c.then-change.branch [
   | then-change-via-then-change w ↦ inl w.if-change.true
-  | then-change-via-else-change+then-not-is_guarded w ↦ inr (sym w.is_guarded.ensures ∙ w.if-not-is_guarded.true)
+  | then-change-via-else-change+then-not-is_protected_path w ↦ inr (sym w.is_protected_path.ensures ∙ w.if-not-is_protected_path.true)
 ])

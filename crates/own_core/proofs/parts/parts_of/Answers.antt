@@ -8,10 +8,10 @@ use Rattle.change_files.specs.Fate.{goes_aside, goes_in}
 use Rattle.path_claim_lists.proofs.Firsts.{paths}
 use Rattle.path_claim_lists.specs.path_claims.Claims.{PathClaim}
 use Rattle.path_claim_lists.specs.path_claims.Seen.{claim_seen}
-use Rattle.own_core.specs.Fates.{claim_fate, fate_seen, is_fate, is_flag, marked_claims}
+use Rattle.own_core.specs.Fates.{claim_fate, fate_seen, are_equal_fates, are_equal_flags, marked_claims}
 use Rattle.own_core.specs.Found.{AreAnswersByFiles}
 use Rattle.own_core.specs.Going.{is_file_kept, is_path_left_over}
-use Rattle.own_core.specs.Parts.{left_over_claims_by}
+use Rattle.own_core.specs.Parts.{left_over_claims_of}
 use Rattle.own_core.specs.Sides.{claims_before, file_change_of}
 use Rattle.own_core.specs.declared.fate.AddedFileFate.{AddedFileFate}
 use Rattle.path_claim_lists.specs.path_claims.declared.claim.Claim.{Claim}
@@ -26,7 +26,7 @@ claims_with-requires-2 g c = ap length c.deref-2.ensures.value ∙ marks_len fat
 
 pub left_over_claims-requires-clause-sorted : goal.left_over_claims-requires-clause-sorted
 left_over_claims-requires-clause-sorted g c =
-    marked_sorted (is_fate goes_aside) (map claim_seen c.args.coming.now) (map claim_seen c.deref-3.result.now) (map fate_seen c.deref-2.result.now) (rises_from_pairs (paths (map claim_seen c.args.coming.now)) c.requires.rising)
+    marked_sorted (are_equal_fates goes_aside) (map claim_seen c.args.coming.now) (map claim_seen c.deref-3.result.now) (map fate_seen c.deref-2.result.now) (rises_from_pairs (paths (map claim_seen c.args.coming.now)) c.requires.rising)
     (ap (map claim_seen) c.deref-3.ensures.value ∙ c.in_ok-asides.ensures)
 
 pub stays_of-requires : goal.stays_of-requires
@@ -46,7 +46,7 @@ claims_where-requires-2 g c =
 
 pub returns-clause-parts : goal.returns-clause-parts
 returns-clause-parts g c =
-    let left : map claim_seen c.in_ok-left.left.items ≡ left_over_claims_by c.args.change.now (map claim_seen c.in_ok-asides.asides.items) =
+    let left : map claim_seen c.in_ok-left.left.items ≡ left_over_claims_of c.args.change.now (map claim_seen c.in_ok-asides.asides.items) =
     c.in_ok-left.ensures ∙ ap (λ (xs : List Claim). filter (λ d. is_path_left_over (file_change_of c.args.change.now) (map claim_seen xs) d.path) (claims_before c.args.change.now)) c.deref-3.ensures.value in
     record {
       fates = map fate_seen c.in_ok-fates.fates.items;
@@ -54,8 +54,8 @@ returns-clause-parts g c =
       fates_found = c.in_ok-fates.ensures.fates;
       stays_found = subst (λ (cs : List PathClaim). AreAnswersByFiles (is_file_kept (file_change_of c.args.change.now)) (g.T.Tree.history c.args.tree.now) cs c.in_ok-stays.stays.items) (ap (map claim_seen) c.deref-4.ensures.value ∙ left)
           (subst (λ (h : List TreeState). AreAnswersByFiles (is_file_kept (file_change_of c.args.change.now)) h (map claim_seen c.deref-4.result.now) c.in_ok-stays.stays.items) c.in_ok-fates.ensures.tree.same c.in_ok-stays.ensures.stays);
-      ins = c.in_ok-ins.ensures ∙ ap (λ (fs : List AddedFileFate). marked_claims (is_fate goes_in) (map claim_seen c.args.coming.now) (map fate_seen fs)) c.deref.ensures.value;
-      asides = c.in_ok-asides.ensures ∙ ap (λ (fs : List AddedFileFate). marked_claims (is_fate goes_aside) (map claim_seen c.args.coming.now) (map fate_seen fs)) c.deref-2.ensures.value;
-      removed = c.in_ok-removed.ensures ∙ (λ j. marked_claims (is_flag false) ((ap (map claim_seen) c.deref-5.ensures.value ∙ left) j) (c.deref-6.ensures.value j));
-      kept = c.in_ok-kept.ensures ∙ (λ j. marked_claims (is_flag true) ((ap (map claim_seen) c.deref-7.ensures.value ∙ left) j) (c.deref-8.ensures.value j));
+      ins = c.in_ok-ins.ensures ∙ ap (λ (fs : List AddedFileFate). marked_claims (are_equal_fates goes_in) (map claim_seen c.args.coming.now) (map fate_seen fs)) c.deref.ensures.value;
+      asides = c.in_ok-asides.ensures ∙ ap (λ (fs : List AddedFileFate). marked_claims (are_equal_fates goes_aside) (map claim_seen c.args.coming.now) (map fate_seen fs)) c.deref-2.ensures.value;
+      removed = c.in_ok-removed.ensures ∙ (λ j. marked_claims (are_equal_flags false) ((ap (map claim_seen) c.deref-5.ensures.value ∙ left) j) (c.deref-6.ensures.value j));
+      kept = c.in_ok-kept.ensures ∙ (λ j. marked_claims (are_equal_flags true) ((ap (map claim_seen) c.deref-7.ensures.value ∙ left) j) (c.deref-8.ensures.value j));
     }

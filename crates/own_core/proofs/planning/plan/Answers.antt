@@ -1,6 +1,6 @@
 use Rattle.std.proofs.Common.{◌∙◌, List, ap, sym, subst, map}
 use Rattle.std.specs.List.{filter}
-use Rattle.path_claim_lists.specs.Once.{HasFirsts}
+use Rattle.path_claim_lists.specs.Once.{HasFirstClaimOfEachPath}
 use Rattle.change_files.specs.db_core.Members.{members_of_kept}
 use Rattle.change_files.specs.db_core.Seen.{members_of, packages_of}
 use Rattle.change_files.specs.file_owners.Owners.{claims_in}
@@ -8,17 +8,17 @@ use Rattle.path_claim_lists.specs.path_claims.Seen.{claim_seen}
 use Rattle.path_claim_lists.specs.path_claims.declared.claim.Claim.{Claim}
 use Rattle.path_claim_lists.proofs.path_claims.Whole.{is_sorted}
 use Rattle.own_core.specs.ClaimEntries.{is_of_added_owner}
-use Rattle.own_core.specs.Sides.{HasClaims}
+use Rattle.own_core.specs.Sides.{HasClaimsOfPackages}
 use Rattle.own_core.specs.declared.claim_change.ClaimChange.{ClaimChange}
 use Rattle.own_core.proofs.Listings.{are_claims}
-use Rattle.own_core.specs.Planned.{change_by}
+use Rattle.own_core.specs.Planned.{file_change_between}
 use Rattle.own_core.proofs.OwnNames.{names_if_planned, sources_if_planned}
 use Rattle.own_core.proofs.PlanParts.{has_claims}
 use Rattle.own_core.proofs.WholePlan.{firsts_over}
 use Rattle.own_core.proofs.planning.plan.Goals as goal
 
-pub first_reserved-requires-clause-files : goal.first_reserved-requires-clause-files
-first_reserved-requires-clause-files g c =
+pub first_reserved_path-requires-clause-files : goal.first_reserved_path-requires-clause-files
+first_reserved_path-requires-clause-files g c =
     are_claims (members_of c.args.after.now) (map claim_seen c.deref.result.now) c.listed_paths_are_names-2.ensures (ap (map claim_seen) c.deref.ensures.value ∙ c.in_ok-found.ensures.claims)
 
 pub one_of_each_path-requires : goal.one_of_each_path-requires
@@ -42,23 +42,23 @@ plan_of_claims-requires-clause-claims g c =
       after = record { ref_ptr = c.deref-4.result.ref_ptr; now = c.deref-4.result.now };
       purge = c.args.purge;
     } in
-    let claims : HasClaims change = has_claims change c.listed_paths_are_names.ensures c.listed_paths_are_names-2.ensures (map claim_seen c.deref-2.result.now) (ap (map claim_seen) c.deref-2.ensures.value ∙ c.in_ok-listed.ensures)
-    (subst (λ (xs : List Claim). HasFirsts (map claim_seen c.deref-2.result.now) (map claim_seen xs)) (sym c.deref-3.ensures.value) c.in_ok-before.ensures)
+    let claims : HasClaimsOfPackages change = has_claims change c.listed_paths_are_names.ensures c.listed_paths_are_names-2.ensures (map claim_seen c.deref-2.result.now) (ap (map claim_seen) c.deref-2.ensures.value ∙ c.in_ok-listed.ensures)
+    (subst (λ (xs : List Claim). HasFirstClaimOfEachPath (map claim_seen c.deref-2.result.now) (map claim_seen xs)) (sym c.deref-3.ensures.value) c.in_ok-before.ensures)
     (ap (map claim_seen) c.deref-4.ensures.value ∙ c.in_ok-found.ensures.claims) in
     claims
 
 pub plan_of_claims-requires-clause-firsts : goal.plan_of_claims-requires-clause-firsts
 plan_of_claims-requires-clause-firsts g c =
-    let firsts : HasFirsts (filter (is_of_added_owner (members_of c.args.after.now)) (map claim_seen c.deref-4.result.now)) (map claim_seen c.deref-7.result.now) =
+    let firsts : HasFirstClaimOfEachPath (filter (is_of_added_owner (members_of c.args.after.now)) (map claim_seen c.deref-4.result.now)) (map claim_seen c.deref-7.result.now) =
     firsts_over (members_of c.args.after.now) c.deref-4.result.now c.deref-5.result.now c.in_ok-coming.coming.items c.deref-7.result.now (c.deref-5.ensures.value ∙ sym c.deref-4.ensures.value) c.deref-7.ensures.value c.in_ok-coming.ensures in
     firsts
 
 pub returns-clause-names : goal.returns-clause-names
 returns-clause-names g c =
-    names_if_planned (change_by c.args.old.now c.args.after.now c.args.purge) _ c.plan_of_claims.result c.listed_paths_are_names.ensures c.no_listed_path_is_reserved.ensures c.listed_paths_are_names-2.ensures
+    names_if_planned (file_change_between c.args.old.now c.args.after.now c.args.purge) _ c.plan_of_claims.result c.listed_paths_are_names.ensures c.no_listed_path_is_reserved.ensures c.listed_paths_are_names-2.ensures
     c.plan_of_claims.ensures.plan c.plan_of_claims.ensures.lists
 
 pub returns-clause-sources : goal.returns-clause-sources
 returns-clause-sources g c =
-    sources_if_planned (change_by c.args.old.now c.args.after.now c.args.purge) _ c.plan_of_claims.result c.listed_paths_are_names.ensures c.no_listed_path_is_reserved.ensures c.listed_paths_are_names-2.ensures
+    sources_if_planned (file_change_between c.args.old.now c.args.after.now c.args.purge) _ c.plan_of_claims.result c.listed_paths_are_names.ensures c.no_listed_path_is_reserved.ensures c.listed_paths_are_names-2.ensures
     c.plan_of_claims.ensures.plan c.plan_of_claims.ensures.lists

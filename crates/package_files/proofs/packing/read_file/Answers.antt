@@ -1,7 +1,7 @@
 use Rattle.std.proofs.Common.{ap, ◌∙◌, refl, Option, ℕ, Vec}
 use Rattle.std.specs.declared.alloc.Global.{Global}
 use Rattle.base_core.specs.Read.{bytes_in}
-use Rattle.package_files.specs.Sources.{found_at}
+use Rattle.package_files.specs.Sources.{found_bytes_or_missing}
 use Rattle.package_files.proofs.ReadLemmas.{read_explained, explained_as, explained, tree_fault}
 use Rattle.package_files.proofs.packing.read_file.Goals as goal
 
@@ -10,8 +10,8 @@ returns-in_err-bytes-clause-read g c = λ n. explained _ _ (λ read. tree_fault 
 
 pub returns-in-Some-clause-read : goal.returns-in-Some-clause-read
 returns-in-Some-clause-read g c = λ n. explained_as _ _ _ (read_explained _ _ c.args.name.now c.in_ok-bytes.ensures.answer n)
-    (λ read e. (c.in-Some.bytes.items, ap (found_at c.args.place) (e ∙ ap (λ (o : Option (Vec ℕ Global)). bytes_in o) c.in-Some.is), refl))
+    (λ read e. (c.in-Some.bytes.items, ap (found_bytes_or_missing c.args.place) (e ∙ ap (λ (o : Option (Vec ℕ Global)). bytes_in o) c.in-Some.is), refl))
 
 pub returns-in-None-clause-read : goal.returns-in-None-clause-read
 returns-in-None-clause-read g c = λ n. explained_as _ _ _ (read_explained _ _ c.args.name.now c.in_ok-bytes.ensures.answer n)
-    (λ read e. ap (found_at c.args.place) (e ∙ ap (λ (o : Option (Vec ℕ Global)). bytes_in o) c.in-None.is))
+    (λ read e. ap (found_bytes_or_missing c.args.place) (e ∙ ap (λ (o : Option (Vec ℕ Global)). bytes_in o) c.in-None.is))

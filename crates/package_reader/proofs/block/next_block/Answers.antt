@@ -1,7 +1,7 @@
 -- The contents of a file begin after the header and the positions.
 use Rattle.std.proofs.Common.{◌≡◌, None, Ok, length, subst}
 use Rattle.std.specs.Prelude.{IfSome}
-use Rattle.pkg_core.specs.Places.{HasAllLeft, IsStepped, WalksOn}
+use Rattle.pkg_core.specs.Places.{HasWholeFileLeft, IsStepResult, IsWalkAfterStep}
 use Rattle.pkg_core.specs.declared.place.Step.{Step}
 use Rattle.pkg_core.specs.declared.place.Step.TheVariants.{End as EndStep}
 use Rattle.package_reader.proofs.BlockStepped.{ends, opened_ends, opens, opens_within, passed_ends, passes, walks_on}
@@ -11,7 +11,7 @@ pub file_at-requires : goal.file_at-requires
 file_at-requires g c =
     let framing = c.in_ok-read.read.framing in
     let ended = subst (λ (s : Step). framing ≡ None → s ≡ EndStep) c.in-Ok-Opened.field-0-is c.in-Ok-Opened.ensures.ended in
-    let left = subst (λ (s : Step). IfSome framing (λ frame. HasAllLeft frame s)) c.in-Ok-Opened.field-0-is c.in-Ok-Opened.ensures.left in
+    let left = subst (λ (s : Step). IfSome framing (λ frame. HasWholeFileLeft frame s)) c.in-Ok-Opened.field-0-is c.in-Ok-Opened.ensures.left in
     opens_within framing c.args.place.now.at c.in-Ok-Opened.file ended c.in_ok-read.ensures.small left
 
 pub returns-in-Ok-End-clause-block : goal.returns-in-Ok-End-clause-block
@@ -24,7 +24,7 @@ returns-in-Ok-End-clause-block g c =
       tt,
       λ file long has.
           let read = b.3 file long has in
-          ends framing place c.step.new.self file (subst (λ (s : Step). IsStepped framing place file (Ok s) c.step.new.self) c.in-Ok-End.field-0-is (c.in-Ok-End.ensures.step file long read.0 read.1)),
+          ends framing place c.step.new.self file (subst (λ (s : Step). IsStepResult framing place file (Ok s) c.step.new.self) c.in-Ok-End.field-0-is (c.in-Ok-End.ensures.step file long read.0 read.1)),
     )
 
 pub returns-in-Ok-Passed-clause-block : goal.returns-in-Ok-Passed-clause-block
@@ -38,7 +38,7 @@ returns-in-Ok-Passed-clause-block g c =
       passed_ends framing place.at _ (length b.0) _ ended b.2 c.in-Ok-Passed.ensures.behind,
       λ file long has.
           let read = b.3 file long has in
-          passes framing place c.step.new.self file (subst (λ (s : Step). IsStepped framing place file (Ok s) c.step.new.self) c.in-Ok-Passed.field-0-is (c.in-Ok-Passed.ensures.step file long read.0 read.1)),
+          passes framing place c.step.new.self file (subst (λ (s : Step). IsStepResult framing place file (Ok s) c.step.new.self) c.in-Ok-Passed.field-0-is (c.in-Ok-Passed.ensures.step file long read.0 read.1)),
     )
 
 pub returns-in-Ok-Opened-clause-block : goal.returns-in-Ok-Opened-clause-block
@@ -46,17 +46,17 @@ returns-in-Ok-Opened-clause-block g c =
     let place = c.args.place.now in
     let framing = c.in_ok-read.read.framing in
     let ended = subst (λ (s : Step). framing ≡ None → s ≡ EndStep) c.in-Ok-Opened.field-0-is c.in-Ok-Opened.ensures.ended in
-    let left = subst (λ (s : Step). IfSome framing (λ frame. HasAllLeft frame s)) c.in-Ok-Opened.field-0-is c.in-Ok-Opened.ensures.left in
+    let left = subst (λ (s : Step). IfSome framing (λ frame. HasWholeFileLeft frame s)) c.in-Ok-Opened.field-0-is c.in-Ok-Opened.ensures.left in
     let b = c.in_ok-read.ensures.block in (
       b.0,
       b.1,
       opened_ends framing c.in-Ok-Opened.file place.at _ (length b.0) ended b.2 c.file_at.ensures.at,
       λ file long has.
           let read = b.3 file long has in
-          let step = subst (λ (s : Step). IsStepped framing place file (Ok s) c.step.new.self) c.in-Ok-Opened.field-0-is (c.in-Ok-Opened.ensures.step file long read.0 read.1) in
+          let step = subst (λ (s : Step). IsStepResult framing place file (Ok s) c.step.new.self) c.in-Ok-Opened.field-0-is (c.in-Ok-Opened.ensures.step file long read.0 read.1) in
           opens place c.step.new.self framing file c.file_at.result c.in-Ok-Opened.file c.file_at.ensures.file c.file_at.ensures.at left step,
     )
 
 pub returns-in-Ok-Opened-clause-walk : goal.returns-in-Ok-Opened-clause-walk
 returns-in-Ok-Opened-clause-walk g c =
-    walks_on c.args.place.now.walk c.step.new.self.walk c.in-Ok-Opened.file c.file_at.result c.file_at.ensures.file (subst (λ (s : Step). WalksOn c.args.place.now.walk s c.step.new.self.walk) c.in-Ok-Opened.field-0-is c.in-Ok-Opened.ensures.walk)
+    walks_on c.args.place.now.walk c.step.new.self.walk c.in-Ok-Opened.file c.file_at.result c.file_at.ensures.file (subst (λ (s : Step). IsWalkAfterStep c.args.place.now.walk s c.step.new.self.walk) c.in-Ok-Opened.field-0-is c.in-Ok-Opened.ensures.walk)

@@ -8,10 +8,10 @@ bounds-flags-claims c = number_below c.args.claims.now c.loop-i.i _ _ _ c.loop-i
 
 pub loop-i-preserved : goal.loop-i-preserved
 loop-i-preserved c = (
-  length-set c.loop-i.flags _ c.is_member.result ∙ c.loop-i.invariant.0,
-  one_marked c.args.claims.now c.args.owners.now c.loop-i.flags c.loop-i.i _ _ c.is_member.result c.loop-i-test.true c.requires.owners
+  length-set c.loop-i.flags _ c.is_owning_member.result ∙ c.loop-i.invariant.0,
+  one_marked c.args.claims.now c.args.owners.now c.loop-i.flags c.loop-i.i _ _ c.is_owning_member.result c.loop-i-test.true c.requires.owners
       (number_below c.args.claims.now c.loop-i.i _ _ _ c.loop-i-test.true c.requires.flags c.loop-i.invariant.0)
-      c.requires.same c.is_member.ensures c.loop-i.invariant.1,
+      c.requires.same c.is_owning_member.ensures c.loop-i.invariant.1,
 )
 
 pub returns-clause-marked : goal.returns-clause-marked

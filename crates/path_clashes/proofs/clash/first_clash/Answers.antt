@@ -1,7 +1,7 @@
 use Rattle.std.proofs.Common.{◌≡◌, ◌∙◌, ◌<◌, List, ℕ, length, get_or, map, refl, sym, arith, rules}
 use Rattle.adb_fields.specs.JoinedPath.{joined_path}
 use Rattle.base_core.specs.Tree.{files_of}
-use Rattle.path_clashes.specs.WrittenPaths.{change_by_paths}
+use Rattle.path_clashes.specs.WrittenPaths.{name_change_of_paths}
 use Rattle.path_clashes.proofs.MaySoFar.{all_may, more_may}
 use Rattle.path_clashes.proofs.Observed.{observed_by, observed_by_two}
 use Rattle.path_clashes.proofs.Paths.{long, path_counts, path_here}
@@ -22,10 +22,10 @@ loop-path-preserved g c =
       before = sym c.deref-in-loop-path.ensures.value ∙ name_next names c.loop-path.path-index c.deref-in-loop-path.result.now here;
       first =
           observed_by_two _ _ _ _ _ c.loop-path.invariant.tree.same
-          (λ v so_far near. more_told (change_by_paths c.args.written.now (g.G.IsReleased.does_release c.args.let_go.now)) (files_of v) names c.requires.names c.requires.sorted (λ name any. any)
+          (λ v so_far near. more_told (name_change_of_paths c.args.written.now (g.G.IsReleased.does_release c.args.let_go.now)) (files_of v) names c.requires.names c.requires.sorted (λ name any. any)
           c.loop-path.path-index c.deref.result.now c.deref-in-loop-path.result.now _ _ _ within here (c.deref.ensures.value ∙ c.loop-path.invariant.before) c.first_of-first.ensures so_far near)
           c.loop-path.invariant.first c.in_ok-found.ensures.near;
-      may = more_may (change_by_paths c.args.written.now (g.G.IsReleased.does_release c.args.let_go.now)) names c.requires.names c.requires.sorted (λ name. refl)
+      may = more_may (name_change_of_paths c.args.written.now (g.G.IsReleased.does_release c.args.let_go.now)) names c.requires.names c.requires.sorted (λ name. refl)
           c.loop-path.path-index c.deref.result.now c.deref-in-loop-path.result.now _ _ _ within here (c.deref.ensures.value ∙ c.loop-path.invariant.before) c.first_of-first.ensures c.loop-path.invariant.may c.in_ok-found.ensures.may;
       tree = search rules;
     }
@@ -34,11 +34,11 @@ pub returns-clause-first : goal.returns-clause-first
 returns-clause-first g c =
     let all : c.loop-path.path-index ≡ length c.args.written.now = omega arith in
     observed_by _ _ _
-    (λ v so_far. all_told (change_by_paths c.args.written.now (g.G.IsReleased.does_release c.args.let_go.now)) (files_of v) (map joined_path c.args.written.now) (λ name. refl) c.loop-path.path-index _ (all ∙ sym (long c.args.written.now)) so_far)
+    (λ v so_far. all_told (name_change_of_paths c.args.written.now (g.G.IsReleased.does_release c.args.let_go.now)) (files_of v) (map joined_path c.args.written.now) (λ name. refl) c.loop-path.path-index _ (all ∙ sym (long c.args.written.now)) so_far)
     c.loop-path.invariant.first
 
 pub returns-clause-may : goal.returns-clause-may
 returns-clause-may g c =
     let all : c.loop-path.path-index ≡ length c.args.written.now = omega arith in
-    all_may (change_by_paths c.args.written.now (g.G.IsReleased.does_release c.args.let_go.now)) (map joined_path c.args.written.now) c.requires.names c.requires.sorted (λ name. refl)
+    all_may (name_change_of_paths c.args.written.now (g.G.IsReleased.does_release c.args.let_go.now)) (map joined_path c.args.written.now) c.requires.names c.requires.sorted (λ name. refl)
     c.loop-path.path-index _ (all ∙ sym (long c.args.written.now)) c.loop-path.invariant.may

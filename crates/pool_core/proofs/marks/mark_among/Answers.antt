@@ -3,7 +3,7 @@ use Rattle.std.proofs.lemmas.List.{take_all, take_more}
 use Rattle.dep_core.specs.Dependency.{Dependency}
 use Rattle.dep_core.specs.Meets.{dependency}
 use Rattle.option_ranks.specs.candidate_core.Candidates.{Candidate, offers_name}
-use Rattle.pool_core.specs.Marks.{affects, mark_at}
+use Rattle.pool_core.specs.Marks.{affects, with_mark_set_at}
 use Rattle.option_ranks.specs.candidate_core.Options.{IsIn}
 use Rattle.option_ranks.specs.candidate_core.Packages.{candidates_of_packages}
 use Rattle.option_ranks.specs.candidate_core.VersionTexts.{source_text}
@@ -41,7 +41,7 @@ loop-id-preserved c =
     let more : take (i + 1) ids ≡ take i ids ++ id ∷ [] = take_more ids i id (omega arith) ∙ ap (λ (k : ℕ). take i ids ++ k ∷ []) (sym c.id-item.is) in
     record {
       marks = c.in_ok-mark_one.ensures.marks
-          ∙ (ap (λ (ms : List Bool). mark_at (affects c.args.effect d) id ms cs) c.loop-id.invariant.marks
+          ∙ (ap (λ (ms : List Bool). with_mark_set_at (affects c.args.effect d) id ms cs) c.loop-id.invariant.marks
           ∙ (sym (marks_among-snoc (affects c.args.effect d) (take i ids) id c.args.marks.now.items cs)
           ∙ ap (λ (ks : List ℕ). marks_among (affects c.args.effect d) ks c.args.marks.now.items cs) (sym more)));
       known = c.in_ok-mark_one.ensures.known;

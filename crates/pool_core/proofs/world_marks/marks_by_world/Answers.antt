@@ -2,7 +2,7 @@ use Rattle.std.proofs.Common.{◌≡◌, ◌∙◌, List, Bool, map, ap}
 use Rattle.dep_core.specs.Dependency.{Dependency}
 use Rattle.dep_core.specs.Meets.{dependency}
 use Rattle.option_ranks.specs.candidate_core.Candidates.{Candidate}
-use Rattle.option_ranks.specs.candidate_core.PositiveInstallIfs.{places_marked}
+use Rattle.option_ranks.specs.candidate_core.PositiveInstallIfs.{places_marked_with_install_if}
 use Rattle.option_ranks.specs.candidate_core.Packages.{candidates_of_packages}
 use Rattle.pool_core.proofs.Sealing.{eligible_marked, pinned_marked, install_ifs_marked}
 use Rattle.pool_core.proofs.world_marks.marks_by_world.Goals as goal
@@ -24,6 +24,6 @@ returns-clause-install_ifs c =
     let world : List Dependency = c.args.world.now in
     let cs : List Candidate = candidates_of_packages c.args.list.now.packages in
     let marks : List Bool = c.in_ok-eligible.eligible.items in
-    let found : c.in_ok-install_ifs.install_ifs.items ≡ places_marked 0 marks cs =
-    c.in_ok-install_ifs.ensures ∙ ap (λ (ms : List Bool). places_marked 0 ms cs) c.deref-4.ensures.value in
+    let found : c.in_ok-install_ifs.install_ifs.items ≡ places_marked_with_install_if 0 marks cs =
+    c.in_ok-install_ifs.ensures ∙ ap (λ (ms : List Bool). places_marked_with_install_if 0 ms cs) c.deref-4.ensures.value in
     install_ifs_marked world marks cs c.in_ok-install_ifs.install_ifs.items (returns-clause-eligible c) found

@@ -4,7 +4,7 @@ use Rattle.std.proofs.lemmas.List.{map-append, take_more}
 use Rattle.std.proofs.lemmas.List.Elements.{All-push}
 use Rattle.pool_core.specs.candidate_core.VersionTexts.{source_text}
 use Rattle.pool_core.specs.option_ranks.Ranking.{Ranking}
-use Rattle.pool_core.specs.option_ranks.VersionRanks.{IsReadFrom}
+use Rattle.pool_core.specs.option_ranks.VersionRanks.{HasVersionTextsOfSources}
 use Rattle.pool_core.proofs.option_ranks.RankedOptions.{place_of}
 use Rattle.query_core.specs.QueryRanking.{IsQueryRanking}
 use Rattle.query_core.proofs.order.rankings.Goals as goal
@@ -16,7 +16,7 @@ loop-place-preserved c =
     let ids : List ℕ = c.args.places.now in
     let more : take (i + 1) ids ≡ take i ids ++ c.place-item.result ∷ [] = take_more ids i c.place-item.result (omega arith) ∙ ap (λ (k : ℕ). take i ids ++ k ∷ []) (sym c.place-item.is) in
     let P = IsQueryRanking c.args.pool.now.candidates in
-    let Q = IsReadFrom c.args.packages.now.sources.items in
+    let Q = HasVersionTextsOfSources c.args.packages.now.sources.items in
     record {
       each = subst (λ (rs : List Ranking). All P rs) (sym c.in_ok-push.ensures.items) (All-push P rankings c.ranking.result c.loop-place.invariant.each c.ranking.ensures.ranking);
       places = ap (map place_of) c.in_ok-push.ensures.items

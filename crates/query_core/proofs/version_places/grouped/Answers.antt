@@ -7,10 +7,10 @@ use Rattle.pool_core.specs.candidate_core.Candidates.{Candidate}
 use Rattle.pool_core.proofs.candidate_core.Steps.{get_at}
 use Rattle.pool_core.specs.option_ranks.Ranking.{Ranking}
 use Rattle.pool_core.proofs.option_ranks.RankedOptions.{place_of}
-use Rattle.query_core.specs.Order.{selected_places}
-use Rattle.query_core.specs.Policy.{has_name_and_version, has_own_name, versions_once}
+use Rattle.query_core.specs.Order.{sorted_places_passing}
+use Rattle.query_core.specs.Policy.{has_name_and_version, has_own_name, versions_without_repeats}
 use Rattle.query_core.specs.QueryRanking.{AreInQueryOrder}
-use Rattle.query_core.specs.VersionPlaces.{IsVersionOf, VersionPlaces}
+use Rattle.query_core.specs.VersionPlaces.{ListsPlacesOfVersion, VersionPlaces}
 use Rattle.query_core.proofs.Gathered.{candidates_of}
 use Rattle.query_core.proofs.Grouping.{apart_after, first_of_run, next_version, run_is, run_within, says_same, version_of, versions_are}
 use Rattle.query_core.proofs.LineParts.{nothing_left}
@@ -23,7 +23,7 @@ placed_version-requires-clause-within c =
     let name : List ℕ = c.args.name.now in
     let rs : List Ranking = c.as_slice-rankings.result.now in
     let ordered : AreInQueryOrder cs c.args.ordered.now.key rs = subst (AreInQueryOrder cs c.args.ordered.now.key) (sym c.as_slice-rankings.ensures.value) c.requires.versions in
-    let places : map place_of rs ≡ selected_places (has_own_name name) cs = ap (map place_of) c.as_slice-rankings.ensures.value ∙ c.requires.places in
+    let places : map place_of rs ≡ sorted_places_passing (has_own_name name) cs = ap (map place_of) c.as_slice-rankings.ensures.value ∙ c.requires.places in
     let start : ℕ = c.loop-start.start in
     let end : ℕ = c.end_of_version-end.result in
     let s : Ranking = get_or rs start none_read in
@@ -37,7 +37,7 @@ loop-start-preserved c =
     let name : List ℕ = c.args.name.now in
     let rs : List Ranking = c.as_slice-rankings.result.now in
     let ordered : AreInQueryOrder cs c.args.ordered.now.key rs = subst (AreInQueryOrder cs c.args.ordered.now.key) (sym c.as_slice-rankings.ensures.value) c.requires.versions in
-    let places : map place_of rs ≡ selected_places (has_own_name name) cs = ap (map place_of) c.as_slice-rankings.ensures.value ∙ c.requires.places in
+    let places : map place_of rs ≡ sorted_places_passing (has_own_name name) cs = ap (map place_of) c.as_slice-rankings.ensures.value ∙ c.requires.places in
     let start : ℕ = c.loop-start.start in
     let end : ℕ = c.end_of_version-end.result in
     let s : Ranking = get_or rs start none_read in
@@ -47,11 +47,11 @@ loop-start-preserved c =
     let vs : List VersionPlaces = c.loop-start.versions.items in
     let of_first = first_of_run c.order_is_total.ensures cs name rs ordered.read places c.args.ordered.now.key ordered start end s found.after found.within first found.one found.other c.loop-start.invariant.apart in
     let version : v.version ≡ version_of s = c.in_ok-placed_version.ensures.version of_first.0 of_first.1.0 ∙ of_first.1.1 in
-    let says : IsVersionOf cs name v = says_same (filter (has_name_and_version name v.version) cs) (candidates_of cs (take (end - start) (drop start rs))) v
+    let says : ListsPlacesOfVersion cs name v = says_same (filter (has_name_and_version name v.version) cs) (candidates_of cs (take (end - start) (drop start rs))) v
     (λ q. ap (λ (w : Option (List ℕ)). list_any q (filter (has_name_and_version name w) cs)) version ∙ run_is c.order_is_total.ensures cs name rs ordered.read places c.args.ordered.now.key ordered start end s found.after found.within first found.one found.other c.loop-start.invariant.apart q)
     c.in_ok-placed_version.ensures.places in
     let text : VersionPlaces → Option (List ℕ) = λ (w : VersionPlaces). w.version in
-    let later : List (Option (List ℕ)) = versions_once (map version_of (drop end rs)) in
+    let later : List (Option (List ℕ)) = versions_without_repeats (map version_of (drop end rs)) in
     record {
       same = c.loop-start.invariant.same;
       within = found.within;
@@ -60,7 +60,7 @@ loop-start-preserved c =
           ∙ (append_assoc (map text vs) (v.version ∷ []) later
           ∙ (ap (λ (w : Option (List ℕ)). map text vs ++ (w ∷ later)) version
           ∙ (ap (λ (ts : List (Option (List ℕ))). map text vs ++ ts) (sym (next_version c.order_is_total.ensures cs name rs ordered.read places c.args.ordered.now.key ordered start end s found.after found.within first found.one found.other c.loop-start.invariant.apart)) ∙ c.loop-start.invariant.versions))));
-      places = subst (λ (ws : List VersionPlaces). All (IsVersionOf cs name) ws) (sym c.in_ok-push.ensures.items) (All-push (IsVersionOf cs name) vs v c.loop-start.invariant.places says);
+      places = subst (λ (ws : List VersionPlaces). All (ListsPlacesOfVersion cs name) ws) (sym c.in_ok-push.ensures.items) (All-push (ListsPlacesOfVersion cs name) vs v c.loop-start.invariant.places says);
       apart = apart_after c.order_is_total.ensures cs name rs ordered.read places c.args.ordered.now.key ordered start end s found.after found.within first found.one found.other c.loop-start.invariant.apart;
     }
 
@@ -70,10 +70,10 @@ returns-clause-versions c =
     let name : List ℕ = c.args.name.now in
     let rs : List Ranking = c.as_slice-rankings.result.now in
     let ordered : AreInQueryOrder cs c.args.ordered.now.key rs = subst (AreInQueryOrder cs c.args.ordered.now.key) (sym c.as_slice-rankings.ensures.value) c.requires.versions in
-    let places : map place_of rs ≡ selected_places (has_own_name name) cs = ap (map place_of) c.as_slice-rankings.ensures.value ∙ c.requires.places in
+    let places : map place_of rs ≡ sorted_places_passing (has_own_name name) cs = ap (map place_of) c.as_slice-rankings.ensures.value ∙ c.requires.places in
     let text : VersionPlaces → Option (List ℕ) = λ (w : VersionPlaces). w.version in
     let vs : List VersionPlaces = c.loop-start.versions.items in
     let none : drop c.loop-start.start rs ≡ [] = nothing_left rs c.loop-start.start (omega arith) in
     sym (append-nil (map text vs))
-    ∙ (ap (λ (qs : List Ranking). map text vs ++ versions_once (map version_of qs)) (sym none)
+    ∙ (ap (λ (qs : List Ranking). map text vs ++ versions_without_repeats (map version_of qs)) (sym none)
     ∙ (c.loop-start.invariant.versions ∙ sym (versions_are c.order_is_total.ensures cs name rs ordered.read places)))

@@ -2,7 +2,7 @@ use Rattle.std.proofs.Common.{◌≡◌, ◌<◌, List, ℕ, length, ap, sym, su
 use Rattle.std.specs.Prelude.{Some, slice_get}
 use Rattle.dep_core.specs.Meets.{dependency}
 use Rattle.pool_core.specs.candidate_core.Candidates.{Candidate, meets_dependency}
-use Rattle.pool_core.specs.candidate_core.PackageMatches.{AreMatchesAmong, IsDepOf}
+use Rattle.pool_core.specs.candidate_core.PackageMatches.{AreMatchesAmong, IsDepOfPackageAt}
 use Rattle.pool_core.specs.candidate_core.Packages.{candidates_of_packages}
 use Rattle.pool_core.proofs.candidate_core.NamedVersions.{matches_among, own_matches, told_at}
 use Rattle.pool_core.proofs.candidate_core.Steps.{on_ok}
@@ -15,7 +15,7 @@ meets-requires-clause-within c =
     omega (arith, ap length own)
 
 pub meets-requires-clause-held : goal.meets-requires-clause-held
-meets-requires-clause-held c = subst (λ (cs : List Candidate). IsDepOf cs c.args.held.now) (sym c.requires.matches.0) c.requires.held
+meets-requires-clause-held c = subst (λ (cs : List Candidate). IsDepOfPackageAt cs c.args.held.now) (sym c.requires.matches.0) c.requires.held
 
 pub returns-clause-meets : goal.returns-clause-meets
 returns-clause-meets c =

@@ -2,7 +2,7 @@ use Rattle.std.proofs.Common.{◌≡◌, ◌∙◌, ◌≤◌, ◌++◌, ◌∷�
 use Rattle.std.proofs.lemmas.List.{take_more, take_all}
 use Rattle.pool_core.specs.candidate_core.Options.{IsIn}
 use Rattle.pool_core.specs.candidate_core.Candidates.{occupies_name}
-use Rattle.pool_core.specs.candidate_core.Rank.{is_at}
+use Rattle.pool_core.specs.candidate_core.Rank.{candidate_at_passes}
 use Rattle.search_tables.proofs.Offered.{in_more}
 use Rattle.search_tables.proofs.needs.occupant_among.Goals as goal
 
@@ -10,7 +10,7 @@ pub loop-id-preserved : goal.loop-id-preserved
 loop-id-preserved c =
     let items : List ℕ = c.args.ids.now in
     let one = take_more items c.loop-id.id-index c.id-item.result (omega arith) ∙ ap (λ (k : ℕ). take c.loop-id.id-index items ++ k ∷ []) (sym c.id-item.is) in
-    λ k h. in_more (λ j. IsIn j c.args.choices.now → is_at c.args.pool.now (occupies_name c.args.name.now) j ≡ false) (take c.loop-id.id-index items) c.id-item.result (λ j g. c.loop-id.invariant j g) (rw c.if-is_choice_occupying.false at c.is_choice_occupying.ensures) k (subst (λ (z : List ℕ). IsIn k z) one h)
+    λ k h. in_more (λ j. IsIn j c.args.choices.now → candidate_at_passes c.args.pool.now (occupies_name c.args.name.now) j ≡ false) (take c.loop-id.id-index items) c.id-item.result (λ j g. c.loop-id.invariant j g) (rw c.if-is_choice_occupying.false at c.is_choice_occupying.ensures) k (subst (λ (z : List ℕ). IsIn k z) one h)
 
 pub returns : goal.returns
 returns c =

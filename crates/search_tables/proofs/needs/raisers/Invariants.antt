@@ -1,10 +1,10 @@
 use Rattle.std.proofs.Common.{◌≡◌, true, take}
-use Rattle.search_tables.specs.Selection.{AreMembers}
+use Rattle.search_tables.specs.Selection.{AreAllMembersOf}
 use Rattle.search_tables.specs.InstallIf.{all_met}
 use Rattle.search_tables.proofs.needs.raisers.Given as goal
 
 abbrev pub invariant-loop-i : goal.invariant-loop-i
 invariant-loop-i l = record {
-  within : AreMembers l.by.items l.choices;
+  within : AreAllMembersOf l.by.items l.choices;
   met : all_met l.pool l.choices (take l.i l.deps) ≡ true → all_met l.pool l.by.items (take l.i l.deps) ≡ true;
 }

@@ -1,6 +1,6 @@
 use Rattle.std.proofs.Common.{◌≤◌, ◌+◌, ◌∙◌, ◌++◌, ◌∷◌, [], ℕ, List, take, subst, sym, ap, length, arith}
 use Rattle.std.proofs.lemmas.List.{take_more, take_all}
-use Rattle.solve_core.specs.Clauses.{AreMembersOr}
+use Rattle.solve_core.specs.Clauses.{AreAllMembersOfOr}
 use Rattle.solve_core.proofs.Resolution.{more_others, one_more_member}
 use Rattle.solve_core.proofs.clauses.add_others.Goals as goal
 
@@ -26,4 +26,4 @@ pub returns-clause-new : goal.returns-clause-new
 returns-clause-new c =
     let ids : List ℕ = c.args.ids.now in
     let past : length ids ≤ c.loop-id.id-index = omega arith in
-    subst (λ (z : List ℕ). AreMembersOr z c.args.but c.loop-id.list.items) (take_all c.loop-id.id-index ids past) c.loop-id.invariant.new
+    subst (λ (z : List ℕ). AreAllMembersOfOr z c.args.but c.loop-id.list.items) (take_all c.loop-id.id-index ids past) c.loop-id.invariant.new

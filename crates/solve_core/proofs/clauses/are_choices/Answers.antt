@@ -1,7 +1,7 @@
 use Rattle.std.proofs.Common.{◌≤◌, ◌+◌, ◌∙◌, ◌++◌, ◌∷◌, [], ℕ, List, take, subst, sym, ap, length, arith}
 use Rattle.std.proofs.lemmas.List.{take_more, take_all}
 use Rattle.search_choices.specs.Choices.{choices_of}
-use Rattle.search_choices.specs.search_tables.Selection.{AreMembers}
+use Rattle.search_choices.specs.search_tables.Selection.{AreAllMembersOf}
 use Rattle.solve_core.proofs.Resolution.{one_more}
 use Rattle.solve_core.proofs.clauses.are_choices.Goals as goal
 
@@ -16,4 +16,4 @@ pub returns : goal.returns
 returns c = λ _.
     let members : List ℕ = c.args.members.now in
     let past : length members ≤ c.loop-member.member-index = omega arith in
-    subst (λ (z : List ℕ). AreMembers z (choices_of c.args.chosen.now)) (take_all c.loop-member.member-index members past) c.loop-member.invariant
+    subst (λ (z : List ℕ). AreAllMembersOf z (choices_of c.args.chosen.now)) (take_all c.loop-member.member-index members past) c.loop-member.invariant

@@ -1,6 +1,6 @@
 use Rattle.std.proofs.Common.{◌≤◌, ◌+◌, ◌∙◌, ◌++◌, ◌∷◌, [], ℕ, List, take, subst, sym, ap, length, arith, append-nil}
 use Rattle.std.proofs.lemmas.List.{take_more, take_all}
-use Rattle.search_choices.specs.search_tables.Reasons.{HasSameMembers, others_in}
+use Rattle.search_choices.specs.search_tables.Reasons.{HasSameMembers, other_members_of_reasons}
 use Rattle.search_choices.proofs.search_tables.Members.{same_more_all, others-append}
 use Rattle.solve_core.proofs.search.reason_of.Goals as goal
 
@@ -14,12 +14,12 @@ pub loop-ruled_out-preserved : goal.loop-ruled_out-preserved
 loop-ruled_out-preserved c =
     let items : List (ℕ × List ℕ) = c.ruled_out-ruled_out-items.result.now in
     let one = take_more items c.loop-ruled_out.ruled_out-index c.ruled_out-item.result (omega arith) ∙ ap (λ (k : ℕ × List ℕ). take c.loop-ruled_out.ruled_out-index items ++ k ∷ []) (sym c.ruled_out-item.is) in
-    same_more_all c.add_all-in-loop-ruled_out.new.self c.loop-ruled_out.members c.args.spent.now.2 (others_in (take c.loop-ruled_out.ruled_out-index items)) c.others.result.now (others_in (take (c.loop-ruled_out.ruled_out-index + 1) items))
+    same_more_all c.add_all-in-loop-ruled_out.new.self c.loop-ruled_out.members c.args.spent.now.2 (other_members_of_reasons (take c.loop-ruled_out.ruled_out-index items)) c.others.result.now (other_members_of_reasons (take (c.loop-ruled_out.ruled_out-index + 1) items))
     c.loop-ruled_out.invariant c.in_ok-add_all-2.ensures
-    (ap others_in one ∙ (others-append (take c.loop-ruled_out.ruled_out-index items) c.ruled_out-item.result ∙ ap (λ (z : List ℕ). others_in (take c.loop-ruled_out.ruled_out-index items) ++ z) (sym c.others.ensures)))
+    (ap other_members_of_reasons one ∙ (others-append (take c.loop-ruled_out.ruled_out-index items) c.ruled_out-item.result ∙ ap (λ (z : List ℕ). other_members_of_reasons (take c.loop-ruled_out.ruled_out-index items) ++ z) (sym c.others.ensures)))
 
 pub returns : goal.returns
 returns c =
     let items : List (ℕ × List ℕ) = c.ruled_out-ruled_out-items.result.now in
     let past : length items ≤ c.loop-ruled_out.ruled_out-index = omega arith in
-    subst (λ (z : List (ℕ × List ℕ)). HasSameMembers c.loop-ruled_out.members (c.args.spent.now.2 ++ others_in z)) (take_all c.loop-ruled_out.ruled_out-index items past ∙ c.ruled_out-ruled_out-items.ensures) c.loop-ruled_out.invariant
+    subst (λ (z : List (ℕ × List ℕ)). HasSameMembers c.loop-ruled_out.members (c.args.spent.now.2 ++ other_members_of_reasons z)) (take_all c.loop-ruled_out.ruled_out-index items past ∙ c.ruled_out-ruled_out-items.ensures) c.loop-ruled_out.invariant

@@ -2,10 +2,10 @@ use Rattle.std.proofs.Common.{◌≡◌, ◌<◌, ◌≤◌, ◌^◌, ◌∙◌,
 use Rattle.search_choices.specs.candidate_core.PackageMatches.{AreMatchesAmong}
 use Rattle.search_choices.specs.candidate_core.Rank.{SealedPool}
 use Rattle.search_choices.specs.candidate_core.declared.package_matches.PackageMatches.{PackageMatches}
-use Rattle.search_choices.specs.search_tables.Selection.{AreMembers, IsFirstSelection}
+use Rattle.search_choices.specs.search_tables.Selection.{AreAllMembersOf, IsFirstSelection}
 use Rattle.search_choices.specs.Choices.{IsSearch, choices_of, pool_of}
 use Rattle.search_choices.specs.declared.choices.Choices.{Choices}
-use Rattle.solve_core.specs.Measure.{weight_of}
+use Rattle.solve_core.specs.Measure.{search_measure}
 use Rattle.search_choices.specs.search_tables.Reasons.{FrameValue, IsReason, IsFrameOf, IsExhaustedFrame, IsFrameTaking}
 use Rattle.search_choices.proofs.search_tables.Places.{none_of}
 use Rattle.solve_core.proofs.FirstFound.{first_found, none_satisfies}
@@ -41,7 +41,7 @@ loop-top-smaller-in-Some-3 c =
     let all : c.next_frame-in-Some-3.new.self.turns.items ≡ turns ++ (c.next_option.new.top, c.in-Some-3.id) ∷ [] =
     c.next_frame-in-Some-3.ensures.turns ∙ (c.in_ok-choose-in-Some-3.ensures.turns ∙ ap (λ (z : List (FrameValue × ℕ)). z ++ (c.next_option.new.top, c.in-Some-3.id) ∷ []) (c.next_option.ensures.turns ∙ c.is_dead_ahead.ensures.turns)) in
     let few : length turns < 2 ^ 63 = omega (arith, c.loop-top.search.turns.small, c.loop-top.search.turns.ok) in
-    subst (λ (z : List (FrameValue × ℕ)). weight_of z c.in-Some-4.frame < weight_of turns c.loop-top.top) (sym all)
+    subst (λ (z : List (FrameValue × ℕ)). search_measure z c.in-Some-4.frame < search_measure turns c.loop-top.top) (sym all)
     (opened_lighter turns c.loop-top.top c.next_option.new.top c.in-Some-4.frame c.in-Some-3.id (few_turns (length turns) few) fewer (few_options c.in-Some-4.frame small))
 
 pub step_back-requires-clause-spent : goal.step_back-requires-clause-spent
@@ -60,9 +60,9 @@ loop-top-smaller c =
     let few : length turns < 2 ^ 63 = omega (arith, c.loop-top.search.turns.small, c.loop-top.search.turns.ok) in
     let fewer = rw c.in-None.is at c.in_ok-id.ensures.fewer in
     let back = rw c.in-Some-5.is at c.in_ok-frame-in-None.ensures.lighter in
-    let lighter : weight_of c.step_back.new.self.turns.items c.in-Some-5.frame < weight_of turns c.next_option.new.top =
-    subst (λ (z : List (FrameValue × ℕ)). weight_of c.step_back.new.self.turns.items c.in-Some-5.frame < weight_of z c.next_option.new.top) (c.next_option.ensures.turns ∙ c.is_dead_ahead.ensures.turns) back in
-    let top : weight_of turns c.next_option.new.top ≤ weight_of turns c.loop-top.top = not_heavier turns c.next_option.new.top c.loop-top.top (few_turns (length turns) few) fewer in
+    let lighter : search_measure c.step_back.new.self.turns.items c.in-Some-5.frame < search_measure turns c.next_option.new.top =
+    subst (λ (z : List (FrameValue × ℕ)). search_measure c.step_back.new.self.turns.items c.in-Some-5.frame < search_measure z c.next_option.new.top) (c.next_option.ensures.turns ∙ c.is_dead_ahead.ensures.turns) back in
+    let top : search_measure turns c.next_option.new.top ≤ search_measure turns c.loop-top.top = not_heavier turns c.next_option.new.top c.loop-top.top (few_turns (length turns) few) fewer in
     omega (arith, lighter, top)
 
 pub step_back-requires-clause-known : goal.step_back-requires-clause-known
@@ -101,7 +101,7 @@ step_back_for_reason-requires-clause-search c =
 
 pub step_back_for_reason-requires-clause-within : goal.step_back_for_reason-requires-clause-within
 step_back_for_reason-requires-clause-within c =
-    subst (λ (z : Choices). AreMembers c.is_dead_ahead.new.self.reason (choices_of z)) (sym c.is_dead_ahead.ensures.chosen) (c.in_ok-is_dead.ensures.dead c.if-is_dead.true).0
+    subst (λ (z : Choices). AreAllMembersOf c.is_dead_ahead.new.self.reason (choices_of z)) (sym c.is_dead_ahead.ensures.chosen) (c.in_ok-is_dead.ensures.dead c.if-is_dead.true).0
 
 pub step_back_for_reason-requires-clause-dead : goal.step_back_for_reason-requires-clause-dead
 step_back_for_reason-requires-clause-dead c =
@@ -115,7 +115,7 @@ returns-in_default-2 c =
 pub loop-top-smaller-then-is_dead : goal.loop-top-smaller-then-is_dead
 loop-top-smaller-then-is_dead c =
     let back = rw c.in-Some-2.is at (c.in_ok-frame-2.ensures.lighter c.loop-top.top) in
-    subst (λ (z : List (FrameValue × ℕ)). weight_of c.step_back_for_reason.new.self.turns.items c.in-Some-2.frame < weight_of z c.loop-top.top) c.is_dead_ahead.ensures.turns back
+    subst (λ (z : List (FrameValue × ℕ)). search_measure c.step_back_for_reason.new.self.turns.items c.in-Some-2.frame < search_measure z c.loop-top.top) c.is_dead_ahead.ensures.turns back
 
 pub loop-top-preserved-then-is_dead : goal.loop-top-preserved-then-is_dead
 loop-top-preserved-then-is_dead c =

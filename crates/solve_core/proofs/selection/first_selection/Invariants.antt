@@ -2,7 +2,7 @@ use Rattle.std.proofs.Common.{◌≡◌}
 use Rattle.search_choices.specs.candidate_core.PackageMatches.{AreMatchesAmong}
 use Rattle.search_choices.specs.Choices.{IsSearch, choices_of, pool_of}
 use Rattle.search_choices.specs.search_tables.Reasons.{IsFrameOf}
-use Rattle.solve_core.specs.Measure.{weight_of}
+use Rattle.solve_core.specs.Measure.{search_measure}
 use Rattle.solve_core.proofs.selection.first_selection.Given as goal
 
 abbrev pub invariant-loop-top : goal.invariant-loop-top
@@ -15,4 +15,4 @@ invariant-loop-top l = record {
 }
 
 abbrev pub decreases-loop-top : goal.decreases-loop-top
-decreases-loop-top l = weight_of l.search.turns.items l.top
+decreases-loop-top l = search_measure l.search.turns.items l.top

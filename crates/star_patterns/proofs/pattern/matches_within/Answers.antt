@@ -1,12 +1,12 @@
 use Rattle.std.proofs.Common.{◌≡◌, ◌∙◌, ◌∷◌, Bor, List, None, Option, Some, [], false, refl, sym, ℕ}
 use Rattle.std.specs.Prelude.{is_some}
 use Rattle.std.specs.Option.{option_map_or}
-use Rattle.star_patterns.specs.Ends.{is_end_matched}
+use Rattle.star_patterns.specs.Ends.{matches_some_suffix}
 use Rattle.star_patterns.proofs.Pieces.{empty_end}
 use Rattle.star_patterns.proofs.pattern.matches_within.Goals as goal
 
 -- the empty pattern matches an end of what is left, if anything is left
-left_matched : (o : Option (Bor (List ℕ))) → is_some o ≡ option_map_or (λ rest. is_end_matched [] rest.now) o false
+left_matched : (o : Option (Bor (List ℕ))) → is_some o ≡ option_map_or (λ rest. matches_some_suffix [] rest.now) o false
 left_matched None = refl
 left_matched (Some rest) = sym (empty_end rest.now)
 

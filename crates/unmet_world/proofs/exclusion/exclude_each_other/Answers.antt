@@ -13,4 +13,4 @@ returns-then-is_some-2 c = λ is.
 
 pub returns : goal.returns
 returns c = λ is.
-    by_name c.args.pool.now c.args.a c.args.b (sym c.eq.ensures ∙ c.if-eq.false) (some_copied c.name_of_both.result _ c.name_of_both.ensures (sym c.is_some-3.ensures ∙ is))
+    by_name c.args.pool.now c.args.a c.args.b (sym c.eq.ensures ∙ c.if-eq.false) (some_copied c.shared_name_at_places.result _ c.shared_name_at_places.ensures (sym c.is_some-3.ensures ∙ is))

@@ -1,12 +1,12 @@
 use Rattle.std.proofs.Common.{◌<◌, ℕ, List, length, sym, subst, arith, below_more}
 use Rattle.dep_core.specs.Dependency.{Dependency}
-use Rattle.unmet_world.specs.Refutation.{IsUnmet, world_want}
+use Rattle.unmet_world.specs.Refutation.{IsUnmet, want_of_world_entry}
 use Rattle.unmet_world.proofs.FirstUnmet.{past}
 use Rattle.unmet_world.proofs.unmet.first_unmet.Goals as goal
 
 pub loop-index-preserved : goal.loop-index-preserved
 loop-index-preserved c =
-    below_more (λ (k : ℕ). IsUnmet c.args.pool.now (world_want k) → ⊥) c.loop-index.index c.loop-index.invariant (rw c.if-branch.false at c.in_ok-is_unmet.ensures)
+    below_more (λ (k : ℕ). IsUnmet c.args.pool.now (want_of_world_entry k) → ⊥) c.loop-index.index c.loop-index.invariant (rw c.if-branch.false at c.in_ok-is_unmet.ensures)
 
 pub returns : goal.returns
 returns c = λ index unmet.

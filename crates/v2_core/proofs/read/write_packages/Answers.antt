@@ -7,7 +7,7 @@ use Rattle.std.proofs.lemmas.List.{length_push}
 use Rattle.std.proofs.lemmas.Result.{err_from_is_err_and}
 use Rattle.dep_core.specs.World.{is_line_end, lines_of}
 use Rattle.v2_core.specs.Reading.{records_of}
-use Rattle.v2_core.specs.Writing.{IsLineFault, draft_with_read}
+use Rattle.v2_core.specs.Writing.{IsLineFault, draft_with_records}
 use Rattle.v2_core.proofs.TextLines.{all_read_at_end, fault_at_end, fault_at_line, turn}
 use Rattle.v2_core.proofs.read.write_packages.Goals as goal
 
@@ -17,7 +17,7 @@ loop-line-preserved c =
     let t = YieldsList-turn (YieldsList-from_slice_split _ is_line_end c.args.bytes.now (ap split_rest again ∙ c.split-line-items.ensures.rest) (ap split_done again ∙ c.split-line-items.ensures.done) (ap split_callee again ∙ c.split-line-items.ensures.closure) (λ x b q k. search rules)) c.loop-line.yielded _ c.loop-line.yielded_by _ _ c.in-Some.line c.in-Some.is c.next.ensures.steps in
     let one_more = length_push c.loop-line.yielded c.in-Some.line in (
       omega (arith, one_more, c.loop-line.invariant.0),
-      turn (draft_with_read (records_of c.args.bytes.now) c.args.draft.now) c.loop-line.draft c.add_line.new.draft c.loop-line.number c.loop-line.record c.add_line.new.text_record (lines_of c.args.bytes.now) (length c.loop-line.yielded) _ c.in-Some.line.now one_more t c.loop-line.invariant.1 c.in_ok-add_line.ensures.ok,
+      turn (draft_with_records (records_of c.args.bytes.now) c.args.draft.now) c.loop-line.draft c.add_line.new.draft c.loop-line.number c.loop-line.record c.add_line.new.text_record (lines_of c.args.bytes.now) (length c.loop-line.yielded) _ c.in-Some.line.now one_more t c.loop-line.invariant.1 c.in_ok-add_line.ensures.ok,
     )
 
 pub returns-in_err-add_line-clause-bad : goal.returns-in_err-add_line-clause-bad

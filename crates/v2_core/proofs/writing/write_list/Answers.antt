@@ -1,13 +1,13 @@
 use Rattle.std.proofs.Common.{◌≡◌, true, false, ◌∙◌, rules, tests}
 use Rattle.v2_lines.specs.Views.{line_value_view}
-use Rattle.v2_core.specs.Records.{InfoLine, info_by, is_line_of}
+use Rattle.v2_core.specs.Records.{InfoLine, info_line_from_parts, is_line_of}
 use Rattle.v2_core.proofs.ListValues.{line_of_another, line_of_field}
 use Rattle.v2_core.proofs.writing.write_list.Goals as goal
 use Rattle.v2_core.proofs.writing.write_list.Goals.{then-eq+in_ok-write_values, else-eq}
 
 pub loop-line-preserved : goal.loop-line-preserved
 loop-line-preserved c =
-    let line : InfoLine = info_by c.line.inside.field (line_value_view c.line.inside.value) in
+    let line : InfoLine = info_line_from_parts c.line.inside.field (line_value_view c.line.inside.value) in
     let is = c.line.view_is ∙ c.line-item.is in
     elim c.if-eq.branch [
       | then-eq+in_ok-write_values w ↦

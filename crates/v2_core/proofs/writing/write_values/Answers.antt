@@ -3,7 +3,7 @@ use Rattle.dep_core.specs.Meets.{dependency}
 use Rattle.v2_lines.specs.make_info.Fields.{need}
 use Rattle.v2_lines.specs.make_info.Information.{plain_value}
 use Rattle.v2_lines.specs.Views.{line_value_view}
-use Rattle.v2_core.specs.Database.{value_of_first}
+use Rattle.v2_core.specs.Database.{value_of_first_or_null}
 use Rattle.v2_lines.proofs.make_info.Mapped.{with_list}
 use Rattle.v2_core.proofs.Lists.{map-map}
 use Rattle.v2_core.proofs.ListValues.{one_value}
@@ -17,5 +17,5 @@ returns-in-Needs c =
 
 pub returns-in_default : goal.returns-in_default
 returns-in_default c =
-    let one : map plain_value (line_value_view c.args.value.now) ≡ value_of_first (line_value_view c.args.value.now) ∷ [] = one_value c.args.value.now c.in_default.not-Needs c.in_default.not-Nothing in
+    let one : map plain_value (line_value_view c.args.value.now) ≡ value_of_first_or_null (line_value_view c.args.value.now) ∷ [] = one_value c.args.value.now c.in_default.not-Needs c.in_default.not-Nothing in
     subst (λ us. OnOk c.write_first.result (c.write_first.new.draft ≡ with_list us c.args.draft.now)) (sym one) c.write_first.ensures

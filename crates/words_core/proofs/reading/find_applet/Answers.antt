@@ -18,15 +18,15 @@ returns-then-not-is_option c =
       few = omega arith;
     }
 
-pub returns-then-not-is_early : goal.returns-then-not-is_early
-returns-then-not-is_early c =
+pub returns-then-not-is_early_option_word : goal.returns-then-not-is_early_option_word
+returns-then-not-is_early_option_word c =
     record {
       site = ap Err c.place_after_word.ensures
-          ∙ sym (c.loop-i.invariant ∙ site_unread c.args.words.now c.loop-i.i c.word-word.result.now c.word-word.ensures (sym c.is_double_dash.ensures ∙ c.if-is_double_dash.false) (sym c.is_option.ensures ∙ c.if-not-is_option.false) (sym c.is_early.ensures ∙ c.if-not-is_early.true));
+          ∙ sym (c.loop-i.invariant ∙ site_unread c.args.words.now c.loop-i.i c.word-word.result.now c.word-word.ensures (sym c.is_double_dash.ensures ∙ c.if-is_double_dash.false) (sym c.is_option.ensures ∙ c.if-not-is_option.false) (sym c.is_early_option_word.ensures ∙ c.if-not-is_early_option_word.true));
       few = omega arith;
     }
 
 pub loop-i-preserved : goal.loop-i-preserved
 loop-i-preserved c =
     c.loop-i.invariant
-    ∙ site_more c.args.words.now c.loop-i.i c.word-word.result.now c.word-word.ensures (sym c.is_double_dash.ensures ∙ c.if-is_double_dash.false) (sym c.is_option.ensures ∙ c.if-not-is_option.false) (sym c.is_early.ensures ∙ c.if-not-is_early.false)
+    ∙ site_more c.args.words.now c.loop-i.i c.word-word.result.now c.word-word.ensures (sym c.is_double_dash.ensures ∙ c.if-is_double_dash.false) (sym c.is_option.ensures ∙ c.if-not-is_option.false) (sym c.is_early_option_word.ensures ∙ c.if-not-is_early_option_word.false)

@@ -9,7 +9,7 @@ use Rattle.adb_values.specs.Drafts.{draft_with}
 use Rattle.adb_values.specs.Words.{HasBlob}
 use Rattle.adb_values.proofs.Lists.{on_ok}
 use Rattle.adb_values.proofs.Words.{has_more}
-use Rattle.adb_copy.specs.Known.{IsKnownFor}
+use Rattle.adb_copy.specs.Known.{IsRememberedTextWord}
 use Rattle.adb_copy.proofs.Known.{known_blob, known_inserted, known_more}
 use Rattle.adb_copy.proofs.known_texts.KnownTexts.write_unknown.Goals as goal
 
@@ -21,8 +21,8 @@ returns-in_ok-insert-in-Some-clause-known c =
     let later = c.blob_again.new.self in
     let x : ℕ = c.in-Some.known in
     let text : List ℕ = text_in (value_at p Kinds.Text c.args.word) in
-    let found : IsKnownFor p texts.words c.args.word x =
-    subst (λ (o : Option ℕ). IfSome o (IsKnownFor p texts.words c.args.word)) c.in-Some.is c.in_ok-known.ensures.known in
+    let found : IsRememberedTextWord p texts.words c.args.word x =
+    subst (λ (o : Option ℕ). IfSome o (IsRememberedTextWord p texts.words c.args.word)) c.in-Some.is c.in_ok-known.ensures.known in
     let has : HasBlob d text x = known_blob p texts d c.requires.known c.args.word x found in
     on_ok _ _
     (λ again.

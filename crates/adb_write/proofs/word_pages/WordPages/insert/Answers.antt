@@ -1,7 +1,7 @@
 use Rattle.std.proofs.Common.{◌<◌, ◌++◌, ◌∷◌, ℕ, List, length, sym, ap, subst, ◌∙◌, arith}
 use Rattle.std.specs.List.{concat}
 use Rattle.std.proofs.lemmas.List.{length-map}
-use Rattle.adb_write.specs.WordPages.{HaveNoEmptyPage, pages_of, words_before, words_from_slot}
+use Rattle.adb_write.specs.WordPages.{HaveNoEmptyPage, pages_of, locators_before_slot, locators_from_slot}
 use Rattle.adb_write.proofs.Pages.{slot_page, slot_long, insert_vectors, same_vectors, same_words, filled_vectors}
 use Rattle.adb_write.proofs.WriterSteps.{on_err}
 use Rattle.adb_write.proofs.word_pages.WordPages.insert.Goals as goal
@@ -44,5 +44,5 @@ returns-clause-ok c =
     let page = slot_page (pages_of c.make_room.new.self) c.in_ok-slot.slot.page c.in_ok-slot.slot.index c.make_room.ensures.some same.inside in
     let within : c.in_ok-slot.slot.page < length c.make_room.new.self.pages.items = omega (arith, page, length-map c.make_room.new.self.pages.items (λ page. page.items)) in
     insert_vectors (λ page. page.items) c.make_room.new.self.pages.items c.in_ok-slot.slot.page c.in_ok-slot.slot.index c.args.locator c.insert_in_page.new.page c.index_mut.result.now within c.index_mut.ensures.value c.in_ok-insert_in_page.ensures.ok
-    ∙ ap (λ (x : List ℕ). x ++ c.args.locator ∷ words_from_slot (pages_of c.make_room.new.self) c.in_ok-slot.slot.page c.in_ok-slot.slot.index) same.before
-    ∙ ap (λ (x : List ℕ). words_before (pages_of c.args.self.now) c.args.slot.page c.args.slot.index ++ c.args.locator ∷ x) same.behind
+    ∙ ap (λ (x : List ℕ). x ++ c.args.locator ∷ locators_from_slot (pages_of c.make_room.new.self) c.in_ok-slot.slot.page c.in_ok-slot.slot.index) same.before
+    ∙ ap (λ (x : List ℕ). locators_before_slot (pages_of c.args.self.now) c.args.slot.page c.args.slot.index ++ c.args.locator ∷ x) same.behind

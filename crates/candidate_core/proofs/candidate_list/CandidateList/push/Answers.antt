@@ -2,7 +2,7 @@ use Rattle.std.proofs.Common.{◌≡◌, ◌∙◌, ◌+◌, ◌++◌, ◌∷◌
 use Rattle.std.specs.Prelude.{Option}
 use Rattle.candidate_core.specs.Candidates.{Candidate, offers_name}
 use Rattle.candidate_core.specs.Packages.{candidate_in_source, candidates_of_packages}
-use Rattle.candidate_core.specs.Table.{LeadsToOffers, ids_of, with_last_where}
+use Rattle.candidate_core.specs.Table.{HasPlacesOfEachName, places_of_name, with_place_if_added}
 use Rattle.candidate_core.specs.declared.packages.Source.{Source}
 use Rattle.candidate_core.proofs.TableAdding.{leads_on}
 use Rattle.candidate_core.proofs.candidate_list.CandidateList.push.Goals as goal
@@ -19,8 +19,8 @@ returns-clause-list c =
     let place : c.len-place.result ≡ length old = c.len-place.ensures in
     let len : length new ≡ length old + 1 = ap length pushed ∙ length-append old (d ∷ []) in
     record {
-      leads = subst (λ (z : List Candidate). LeadsToOffers c.add_all.new.self z) (sym pushed)
+      leads = subst (λ (z : List Candidate). HasPlacesOfEachName c.add_all.new.self z) (sym pushed)
           (leads_on c.args.self.now.table c.add_all.new.self old d c.requires.list.leads
-          (λ name. c.in_ok-add_all.ensures name ∙ ap (λ (n : ℕ). with_last_where (offers_name name d) (ids_of c.args.self.now.table name) n) place));
+          (λ name. c.in_ok-add_all.ensures name ∙ ap (λ (n : ℕ). with_place_if_added (offers_name name d) (places_of_name c.args.self.now.table name) n) place));
       fits = omega (arith, len, place);
     }

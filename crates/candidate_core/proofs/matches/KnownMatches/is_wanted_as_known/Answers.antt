@@ -1,6 +1,6 @@
 use Rattle.std.proofs.Common.{◌∙◌, ap}
 use Rattle.dep_core.specs.Meets.{dependency}
-use Rattle.candidate_core.specs.Matches.{is_wanted_by}
+use Rattle.candidate_core.specs.Matches.{dependency_accepts}
 use Rattle.candidate_core.proofs.WantedVersions.{read_text, wanted_by_name}
 use Rattle.candidate_core.proofs.matches.KnownMatches.is_wanted_as_known.Goals as goal
 
@@ -11,7 +11,7 @@ returns-then-not-is_long c = λ text read known.
 pub returns-in-Some : goal.returns-in-Some
 returns-in-Some c = λ text read known.
     known c.args.found.now.source c.args.found.now.word c.in-Some.answer c.in-Some.ensures
-    ∙ ap (is_wanted_by (dependency c.args.dep.now)) (read_text text c.args.found.now (c.is_long.ensures c.if-not-is_long.false) read)
+    ∙ ap (dependency_accepts (dependency c.args.dep.now)) (read_text text c.args.found.now (c.is_long.ensures c.if-not-is_long.false) read)
 
 pub returns-in-None : goal.returns-in-None
 returns-in-None c = λ text read known.

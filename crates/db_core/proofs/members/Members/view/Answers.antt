@@ -1,5 +1,5 @@
 use Rattle.std.proofs.Common.{◌∙◌, ap}
-use Rattle.db_core.specs.EntrySeen.{member_by, payload_of_database}
+use Rattle.db_core.specs.EntrySeen.{member_of_entry, payload_of_database}
 use Rattle.db_core.specs.Members.{Member}
 use Rattle.db_core.proofs.Lent.{kept_lent, kept_member}
 use Rattle.db_core.proofs.ListedNames.{Kept}
@@ -8,7 +8,7 @@ use Rattle.db_core.proofs.members.Members.view.Goals as goal
 pub returns : goal.returns
 returns c = record {
   value = λ m here.
-      ap (λ (k : Kept). (member_by k).pkg) c.behind-self.view_is
+      ap (λ (k : Kept). (member_of_entry k).pkg) c.behind-self.view_is
       ∙ ap (λ (n : Member). n.pkg) (kept_member c.args.self.now.entries.items c.args.i c.index.result.now m c.index.ensures here);
   stays = λ m here stays.
       ap (λ (k : Kept). k.0) c.behind-self.view_is

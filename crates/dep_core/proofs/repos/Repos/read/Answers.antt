@@ -6,7 +6,7 @@ use Rattle.std.proofs.lemmas.Iterator.Splits.{YieldsList-from_slice_split}
 use Rattle.std.proofs.lemmas.Iterator.Consumers.{YieldsList-turn, YieldsList-end}
 use Rattle.std.proofs.lemmas.List.{length_push}
 use Rattle.dep_core.specs.World.{is_line_end, lines_of}
-use Rattle.dep_core.specs.Repositories.{repositories_from, repositories_of, repositories_on}
+use Rattle.dep_core.specs.Repositories.{repositories_from, repositories_of, repositories_on_line}
 use Rattle.dep_core.proofs.RepositoryLines.{nothing_before, bad_line, good_line, no_line}
 use Rattle.dep_core.proofs.repos.Repos.read.Goals as goal
 
@@ -19,7 +19,7 @@ pub returns-then-not-branch-clause-bad : goal.returns-then-not-branch-clause-bad
 returns-then-not-branch-clause-bad c =
     let again = c.into_iter-text-iterator.ensures.into_iter_gives in
     let t = YieldsList-turn (YieldsList-from_slice_split _ is_line_end c.args.bytes.now (ap split_rest again ∙ c.split-text-items.ensures.rest) (ap split_done again ∙ c.split-text-items.ensures.done) (ap split_callee again ∙ c.split-text-items.ensures.closure) (λ x b q k. search rules)) c.loop-text.yielded _ c.loop-text.yielded_by _ _ c.in-Some.text c.in-Some.is c.next.ensures.steps in
-    let bad : option_map (λ found. c.loop-text.repos.items ++ found) (repositories_on c.in-Some.text.now) ≡ None =
+    let bad : option_map (λ found. c.loop-text.repos.items ++ found) (repositories_on_line c.in-Some.text.now) ≡ None =
     c.in_ok-add_line.ensures ∙ ap (λ b. cond b (Some c.add_line.new.repos.items) None) c.if-not-branch.true in
     bad_line c.loop-text.line (c.loop-text.line + 1) c.loop-text.repos.items (lines_of c.args.bytes.now) (length c.loop-text.yielded) c.in-Some.text.now _ t bad c.loop-text.invariant.1
 
@@ -27,7 +27,7 @@ pub loop-text-preserved : goal.loop-text-preserved
 loop-text-preserved c =
     let again = c.into_iter-text-iterator.ensures.into_iter_gives in
     let t = YieldsList-turn (YieldsList-from_slice_split _ is_line_end c.args.bytes.now (ap split_rest again ∙ c.split-text-items.ensures.rest) (ap split_done again ∙ c.split-text-items.ensures.done) (ap split_callee again ∙ c.split-text-items.ensures.closure) (λ x b q k. search rules)) c.loop-text.yielded _ c.loop-text.yielded_by _ _ c.in-Some.text c.in-Some.is c.next.ensures.steps in
-    let good : option_map (λ found. c.loop-text.repos.items ++ found) (repositories_on c.in-Some.text.now) ≡ Some c.add_line.new.repos.items =
+    let good : option_map (λ found. c.loop-text.repos.items ++ found) (repositories_on_line c.in-Some.text.now) ≡ Some c.add_line.new.repos.items =
     c.in_ok-add_line.ensures ∙ ap (λ b. cond b (Some c.add_line.new.repos.items) None) c.if-not-branch.false in
     let one_more = length_push c.loop-text.yielded c.in-Some.text in
     (omega (arith, one_more), good_line c.loop-text.line (c.loop-text.line + 1) _ c.loop-text.repos.items c.add_line.new.repos.items (lines_of c.args.bytes.now) (length c.loop-text.yielded) c.in-Some.text.now _ t good one_more c.loop-text.invariant.1)

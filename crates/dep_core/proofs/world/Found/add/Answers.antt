@@ -4,7 +4,7 @@ use Rattle.std.specs.Prelude.{is_some}
 use Rattle.std.specs.Map.{values_of}
 use Rattle.dep_core.specs.Dependency.{Dependency}
 use Rattle.dep_core.specs.DependencyText.{is_dependency}
-use Rattle.dep_core.specs.Found.{IsByName}
+use Rattle.dep_core.specs.Found.{IsKeyedByName}
 use Rattle.dep_core.specs.World.{IsWorld, has_name, with_entry}
 use Rattle.dep_core.proofs.ByName.{values-insert, by_name-insert, some-found, not-moved}
 use Rattle.dep_core.proofs.Worlds.{IsWorld-with_entry}
@@ -27,6 +27,6 @@ invariant_of-self-2 c =
     ap is_dependency c.in_ok-entry.ensures.value ∙ c.in_ok-entry.ensures.grammar in
     let gained : values_of c.insert.new.self.entries ≡ with_entry c.in_ok-entry.entry (values_of c.self.inside.by_name.entries) =
     ap values_of c.in_ok-old.ensures.entries ∙ values-insert c.self.inside.by_name.entries c.args.dep.now.name c.in_ok-entry.entry same_name c.self.invariant.0 in (
-      subst IsByName (sym c.in_ok-old.ensures.entries) (by_name-insert c.self.inside.by_name.entries c.args.dep.now.name c.in_ok-entry.entry same_name c.self.invariant.0),
+      subst IsKeyedByName (sym c.in_ok-old.ensures.entries) (by_name-insert c.self.inside.by_name.entries c.args.dep.now.name c.in_ok-entry.entry same_name c.self.invariant.0),
       subst IsWorld (sym gained) (IsWorld-with_entry c.in_ok-entry.entry (values_of c.self.inside.by_name.entries) good c.self.invariant.1),
     )

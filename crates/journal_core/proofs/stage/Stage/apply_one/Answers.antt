@@ -1,6 +1,6 @@
 use Rattle.std.proofs.Common.{◌≡◌, refl, sym, ap}
 use Rattle.base_core.specs.Crash.{Since}
-use Rattle.journal_core.specs.Acting.{acting_stage}
+use Rattle.journal_core.specs.Acting.{stage_with_actions_done}
 use Rattle.journal_core.specs.Kept.{KeepsOldOrNewBytes, RecoversTo}
 use Rattle.journal_core.specs.Staged.{Staging, AreJournalPathsFree}
 use Rattle.journal_core.proofs.Again.{moments_as, after_as, told_as}
@@ -9,15 +9,15 @@ use Rattle.journal_core.proofs.stage.Stage.apply_one.Goals as goal
 
 pub returns-in_err-acted-clause-moments : goal.returns-in_err-acted-clause-moments
 returns-in_err-acted-clause-moments g c =
-    moments_as c.args.self.now (acting_stage c.self.inside.intent c.self.inside.acted) _ _ (ap (λ (s : Staging). s.intent) (sym c.self.view_is)) (ap (λ (s : Staging). s.acted) (sym c.self.view_is)) c.act.ensures.moments
+    moments_as c.args.self.now (stage_with_actions_done c.self.inside.intent c.self.inside.acted) _ _ (ap (λ (s : Staging). s.intent) (sym c.self.view_is)) (ap (λ (s : Staging). s.acted) (sym c.self.view_is)) c.act.ensures.moments
 
 pub returns-clause-moments : goal.returns-clause-moments
 returns-clause-moments g c =
-    moments_as c.args.self.now (acting_stage c.self.inside.intent c.self.inside.acted) _ _ (ap (λ (s : Staging). s.intent) (sym c.self.view_is)) (ap (λ (s : Staging). s.acted) (sym c.self.view_is)) c.act.ensures.moments
+    moments_as c.args.self.now (stage_with_actions_done c.self.inside.intent c.self.inside.acted) _ _ (ap (λ (s : Staging). s.intent) (sym c.self.view_is)) (ap (λ (s : Staging). s.acted) (sym c.self.view_is)) c.act.ensures.moments
 
 pub returns-clause-acting : goal.returns-clause-acting
 returns-clause-acting g c =
-    after_as c.args.self.now (acting_stage c.self.inside.intent c.self.inside.acted) (acting_stage c.self.inside.intent c.in_ok-acted.acted) _ _ _
+    after_as c.args.self.now (stage_with_actions_done c.self.inside.intent c.self.inside.acted) (stage_with_actions_done c.self.inside.intent c.in_ok-acted.acted) _ _ _
     (ap (λ (s : Staging). s.intent) (sym c.self.view_is)) (ap (λ (s : Staging). s.acted) (sym c.self.view_is)) refl refl c.in_ok-acted.ensures.acting
 
 pub returns-in_err-acted-clause-others : goal.returns-in_err-acted-clause-others
@@ -28,30 +28,30 @@ returns-clause-others g c = action_keeps_as _ _ _ _ _ _ (ap (λ (s : Staging). s
 
 pub returns-in_err-acted-clause-reads : goal.returns-in_err-acted-clause-reads
 returns-in_err-acted-clause-reads g c =
-    told_as c.args.self.now (acting_stage c.self.inside.intent c.self.inside.acted) _ (λ files v. Since (RecoversTo files) (g.T.Tree.history c.args.tree.now) (g.T.Tree.history c.act.new.tree))
+    told_as c.args.self.now (stage_with_actions_done c.self.inside.intent c.self.inside.acted) _ (λ files v. Since (RecoversTo files) (g.T.Tree.history c.args.tree.now) (g.T.Tree.history c.act.new.tree))
     (ap (λ (s : Staging). s.intent) (sym c.self.view_is)) (ap (λ (s : Staging). s.acted) (sym c.self.view_is)) c.act.ensures.reads
 
 pub returns-clause-reads : goal.returns-clause-reads
 returns-clause-reads g c =
-    told_as c.args.self.now (acting_stage c.self.inside.intent c.self.inside.acted) _ (λ files v. Since (RecoversTo files) (g.T.Tree.history c.args.tree.now) (g.T.Tree.history c.act.new.tree))
+    told_as c.args.self.now (stage_with_actions_done c.self.inside.intent c.self.inside.acted) _ (λ files v. Since (RecoversTo files) (g.T.Tree.history c.args.tree.now) (g.T.Tree.history c.act.new.tree))
     (ap (λ (s : Staging). s.intent) (sym c.self.view_is)) (ap (λ (s : Staging). s.acted) (sym c.self.view_is)) c.act.ensures.reads
 
 pub returns-in_err-acted-clause-bytes : goal.returns-in_err-acted-clause-bytes
 returns-in_err-acted-clause-bytes g c =
-    told_as c.args.self.now (acting_stage c.self.inside.intent c.self.inside.acted) _ (λ files v. KeepsOldOrNewBytes files v (g.T.Tree.history c.args.tree.now) (g.T.Tree.history c.act.new.tree))
+    told_as c.args.self.now (stage_with_actions_done c.self.inside.intent c.self.inside.acted) _ (λ files v. KeepsOldOrNewBytes files v (g.T.Tree.history c.args.tree.now) (g.T.Tree.history c.act.new.tree))
     (ap (λ (s : Staging). s.intent) (sym c.self.view_is)) (ap (λ (s : Staging). s.acted) (sym c.self.view_is)) c.act.ensures.bytes
 
 pub returns-clause-bytes : goal.returns-clause-bytes
 returns-clause-bytes g c =
-    told_as c.args.self.now (acting_stage c.self.inside.intent c.self.inside.acted) _ (λ files v. KeepsOldOrNewBytes files v (g.T.Tree.history c.args.tree.now) (g.T.Tree.history c.act.new.tree))
+    told_as c.args.self.now (stage_with_actions_done c.self.inside.intent c.self.inside.acted) _ (λ files v. KeepsOldOrNewBytes files v (g.T.Tree.history c.args.tree.now) (g.T.Tree.history c.act.new.tree))
     (ap (λ (s : Staging). s.intent) (sym c.self.view_is)) (ap (λ (s : Staging). s.acted) (sym c.self.view_is)) c.act.ensures.bytes
 
 pub returns-in_err-acted-clause-proper : goal.returns-in_err-acted-clause-proper
 returns-in_err-acted-clause-proper g c =
-    told_as c.args.self.now (acting_stage c.self.inside.intent c.self.inside.acted) _ (λ files v. AreJournalPathsFree files → (g.T.Tree.counts c.act.new.tree).misuses ≡ (g.T.Tree.counts c.args.tree.now).misuses)
+    told_as c.args.self.now (stage_with_actions_done c.self.inside.intent c.self.inside.acted) _ (λ files v. AreJournalPathsFree files → (g.T.Tree.counts c.act.new.tree).misuses ≡ (g.T.Tree.counts c.args.tree.now).misuses)
     (ap (λ (s : Staging). s.intent) (sym c.self.view_is)) (ap (λ (s : Staging). s.acted) (sym c.self.view_is)) c.act.ensures.proper
 
 pub returns-clause-proper : goal.returns-clause-proper
 returns-clause-proper g c =
-    told_as c.args.self.now (acting_stage c.self.inside.intent c.self.inside.acted) _ (λ files v. AreJournalPathsFree files → (g.T.Tree.counts c.act.new.tree).misuses ≡ (g.T.Tree.counts c.args.tree.now).misuses)
+    told_as c.args.self.now (stage_with_actions_done c.self.inside.intent c.self.inside.acted) _ (λ files v. AreJournalPathsFree files → (g.T.Tree.counts c.act.new.tree).misuses ≡ (g.T.Tree.counts c.args.tree.now).misuses)
     (ap (λ (s : Staging). s.intent) (sym c.self.view_is)) (ap (λ (s : Staging). s.acted) (sym c.self.view_is)) c.act.ensures.proper

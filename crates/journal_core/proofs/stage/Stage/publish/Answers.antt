@@ -3,16 +3,16 @@ use Rattle.base_core.specs.Calls.{HoldsNow}
 use Rattle.base_core.specs.Crash.{Since}
 use Rattle.base_core.specs.Restart.{SinceGivenEarlier}
 use Rattle.base_core.specs.Tree.{files_of}
-use Rattle.journal_core.specs.Acting.{acting_stage}
-use Rattle.journal_core.specs.Recovery.{EachCrashLeaves, after_actions, intent_name}
+use Rattle.journal_core.specs.Acting.{stage_with_actions_done}
+use Rattle.journal_core.specs.Recovery.{EachCrashLeaves, files_after_actions, intent_name}
 use Rattle.journal_core.specs.Kept.{RecoversTo}
-use Rattle.journal_core.specs.Staged.{Staging, AreStagingPathsFree, IsActing, IsOldUntilCommit, CommittedBy}
+use Rattle.journal_core.specs.Staged.{Staging, AreStagingPathsFree, IsCarryingOutActions, IsOldUntilCommit, CommittedBy}
 use Rattle.journal_core.proofs.Again.{acting_published, publish_as, publish_durable}
 use Rattle.journal_core.proofs.stage.Stage.publish.Goals as goal
 
 pub returns-in_err-publish_intent-clause-moments : goal.returns-in_err-publish_intent-clause-moments
 returns-in_err-publish_intent-clause-moments g c =
-    publish_durable (λ ignored i v. SinceGivenEarlier (IsOldUntilCommit ignored (after_actions i (files_of v)) v) (g.T.Tree.history c.args.tree.now) (g.T.Tree.history c.publish_intent.new.tree)) c.self.inside.intent c.args.self.now _ (ap (λ (s : Staging). s.intent) c.self.view_is) c.requires.all c.in_err-publish_intent.ensures.moments
+    publish_durable (λ ignored i v. SinceGivenEarlier (IsOldUntilCommit ignored (files_after_actions i (files_of v)) v) (g.T.Tree.history c.args.tree.now) (g.T.Tree.history c.publish_intent.new.tree)) c.self.inside.intent c.args.self.now _ (ap (λ (s : Staging). s.intent) c.self.view_is) c.requires.all c.in_err-publish_intent.ensures.moments
 
 pub returns-in_err-publish_intent-clause-proper : goal.returns-in_err-publish_intent-clause-proper
 returns-in_err-publish_intent-clause-proper g c =
@@ -20,7 +20,7 @@ returns-in_err-publish_intent-clause-proper g c =
 
 pub returns-clause-moments : goal.returns-clause-moments
 returns-clause-moments g c =
-    publish_durable (λ ignored i v. SinceGivenEarlier (IsOldUntilCommit ignored (after_actions i (files_of v)) v) (g.T.Tree.history c.args.tree.now) (g.T.Tree.history c.publish_intent.new.tree)) c.self.inside.intent c.args.self.now _ (ap (λ (s : Staging). s.intent) c.self.view_is) c.requires.all c.in_ok-publish_intent.ensures.moments
+    publish_durable (λ ignored i v. SinceGivenEarlier (IsOldUntilCommit ignored (files_after_actions i (files_of v)) v) (g.T.Tree.history c.args.tree.now) (g.T.Tree.history c.publish_intent.new.tree)) c.self.inside.intent c.args.self.now _ (ap (λ (s : Staging). s.intent) c.self.view_is) c.requires.all c.in_ok-publish_intent.ensures.moments
 
 pub returns-clause-proper : goal.returns-clause-proper
 returns-clause-proper g c =
@@ -28,20 +28,20 @@ returns-clause-proper g c =
 
 pub returns-clause-published : goal.returns-clause-published
 returns-clause-published g c =
-    publish_durable (λ ignored i v. CommittedBy ignored (after_actions i (files_of v)) v (g.T.Tree.history c.args.tree.now) (g.T.Tree.history c.publish_intent.new.tree)) c.self.inside.intent c.args.self.now _ (ap (λ (s : Staging). s.intent) c.self.view_is) c.requires.all c.in_ok-publish_intent.ensures.published
+    publish_durable (λ ignored i v. CommittedBy ignored (files_after_actions i (files_of v)) v (g.T.Tree.history c.args.tree.now) (g.T.Tree.history c.publish_intent.new.tree)) c.self.inside.intent c.args.self.now _ (ap (λ (s : Staging). s.intent) c.self.view_is) c.requires.all c.in_ok-publish_intent.ensures.published
 
 pub returns-clause-settled : goal.returns-clause-settled
 returns-clause-settled g c =
-    publish_durable (λ ignored i v. HoldsNow (g.T.Tree.history c.publish_intent.new.tree) (EachCrashLeaves ignored (after_actions i (files_of v)))) c.self.inside.intent c.args.self.now _ (ap (λ (s : Staging). s.intent) c.self.view_is) c.requires.all c.in_ok-publish_intent.ensures.settled
+    publish_durable (λ ignored i v. HoldsNow (g.T.Tree.history c.publish_intent.new.tree) (EachCrashLeaves ignored (files_after_actions i (files_of v)))) c.self.inside.intent c.args.self.now _ (ap (λ (s : Staging). s.intent) c.self.view_is) c.requires.all c.in_ok-publish_intent.ensures.settled
 
 pub returns-clause-acting : goal.returns-clause-acting
 returns-clause-acting g c =
-    acting_published c.args.self.now _ _ _ (ap (λ (s : Staging). s.intent) c.self.view_is) refl (publish_as (λ i base v. HoldsNow (g.T.Tree.history c.publish_intent.new.tree) (IsActing (acting_stage i 0) (after_actions i (files_of v)))) c.self.inside.intent c.args.self.now _ (ap (λ (s : Staging). s.intent) c.self.view_is) c.requires.all c.in_ok-publish_intent.ensures.acting)
+    acting_published c.args.self.now _ _ _ (ap (λ (s : Staging). s.intent) c.self.view_is) refl (publish_as (λ i base v. HoldsNow (g.T.Tree.history c.publish_intent.new.tree) (IsCarryingOutActions (stage_with_actions_done i 0) (files_after_actions i (files_of v)))) c.self.inside.intent c.args.self.now _ (ap (λ (s : Staging). s.intent) c.self.view_is) c.requires.all c.in_ok-publish_intent.ensures.acting)
 
 pub returns-in_err-publish_intent-clause-reads : goal.returns-in_err-publish_intent-clause-reads
 returns-in_err-publish_intent-clause-reads g c =
-    publish_as (λ i base v. Since (λ w. IsSome (w.names intent_name) → RecoversTo (after_actions i (files_of v)) w) (g.T.Tree.history c.args.tree.now) (g.T.Tree.history c.publish_intent.new.tree)) c.self.inside.intent c.args.self.now _ (ap (λ (s : Staging). s.intent) c.self.view_is) c.requires.all c.in_err-publish_intent.ensures.reads
+    publish_as (λ i base v. Since (λ w. IsSome (w.names intent_name) → RecoversTo (files_after_actions i (files_of v)) w) (g.T.Tree.history c.args.tree.now) (g.T.Tree.history c.publish_intent.new.tree)) c.self.inside.intent c.args.self.now _ (ap (λ (s : Staging). s.intent) c.self.view_is) c.requires.all c.in_err-publish_intent.ensures.reads
 
 pub returns-clause-reads : goal.returns-clause-reads
 returns-clause-reads g c =
-    publish_as (λ i base v. Since (λ w. IsSome (w.names intent_name) → RecoversTo (after_actions i (files_of v)) w) (g.T.Tree.history c.args.tree.now) (g.T.Tree.history c.publish_intent.new.tree)) c.self.inside.intent c.args.self.now _ (ap (λ (s : Staging). s.intent) c.self.view_is) c.requires.all c.in_ok-publish_intent.ensures.reads
+    publish_as (λ i base v. Since (λ w. IsSome (w.names intent_name) → RecoversTo (files_after_actions i (files_of v)) w) (g.T.Tree.history c.args.tree.now) (g.T.Tree.history c.publish_intent.new.tree)) c.self.inside.intent c.args.self.now _ (ap (λ (s : Staging). s.intent) c.self.view_is) c.requires.all c.in_ok-publish_intent.ensures.reads

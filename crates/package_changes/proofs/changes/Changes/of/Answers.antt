@@ -4,7 +4,7 @@ use Rattle.std.specs.List.{filter_map}
 use Rattle.std.specs.declared.alloc.AllocError.{AllocError}
 use Rattle.package_changes.specs.Changes.{changes_of}
 use Rattle.package_changes.specs.Placed.{PlacedChange, PlacedName, PlacedReplacement, change_in, placed_changes_of, placed_names_of, replacement_of}
-use Rattle.package_changes.specs.Seen.{changes_seen, replacement_by}
+use Rattle.package_changes.specs.Seen.{changes_seen, placed_replacement_from_parts}
 use Rattle.package_changes.specs.declared.changes.Changes.{Changes}
 use Rattle.package_changes.proofs.PlacedLaws.{changes_alone, changes_among}
 use Rattle.package_changes.proofs.changes.Changes.of.Goals as goal
@@ -20,6 +20,6 @@ alone p (Err e) is = tt
 
 pub returns : goal.returns
 returns c =
-    let p = replacement_by c.args.db.now c.args.pool.now c.args.trace.now c.args.again.now in
+    let p = placed_replacement_from_parts c.args.db.now c.args.pool.now c.args.trace.now c.args.again.now in
     let places = placed p _ c.of_names.result c.in_ok-names.ensures c.of_names.ensures in
     record { changes = alone p c.of_names.result places; places = places }

@@ -2,7 +2,7 @@
 use Rattle.std.proofs.Common.{◌≡◌, ◌≤◌, ◌+◌, ◌-◌, ℕ, List, ◌++◌, length, Ok, Err, ap, sym, subst, ◌∙◌, arith}
 use Rattle.std.specs.Prelude.{IfSome}
 use Rattle.pkg_core.specs.Pieces.{PiecesRead}
-use Rattle.pkg_core.specs.Taking.{HasTaken, IsTaken, file_bytes_left}
+use Rattle.pkg_core.specs.Taking.{HasTaken, IsTakeResult, file_bytes_left}
 use Rattle.package_reader.proofs.FileDue.{refused_whole}
 use Rattle.package_reader.proofs.PieceRead.{all_long, before_is, behind_piece, disk_piece, next_further, not_disk}
 use Rattle.package_reader.proofs.open.OpenFile.next_piece.Goals as goal
@@ -17,32 +17,32 @@ pub returns-in-Ok-default-Some-clause-piece : goal.returns-in-Ok-default-Some-cl
 returns-in-Ok-default-Some-clause-piece g c = λ file so_far further before has room is.
     let o = c.args.self in
     let bytes = c.read.new.self in
-    let few : length bytes ≤ file_bytes_left o.file = omega (arith, c.in_ok-read.ensures.len, c.next_len-len.ensures) in
-    let came = subst (λ (xs : List ℕ). (so_far left : List ℕ) (further : PiecesRead) → HasTaken o.file so_far → length (so_far ++ (xs ++ left)) ≡ o.file.wanted.size → IsTaken o.file so_far xs left further (Ok (c.in-Ok-default-Some.part, c.in-Ok-default-Some.field-0-1))) c.bytes.ensures.bytes c.in-Ok-default-Some.ensures.taken so_far (behind_piece o bytes file) further is.taken (all_long o so_far file bytes further before few has is) in
-    let taken = subst (λ f. IsTaken o.file so_far bytes (behind_piece o bytes file) further (Ok (c.in-Ok-default-Some.part, f))) c.in-Ok-default-Some.field-0-1-is came in
+    let few : length bytes ≤ file_bytes_left o.file = omega (arith, c.in_ok-read.ensures.len, c.next_piece_len-len.ensures) in
+    let came = subst (λ (xs : List ℕ). (so_far left : List ℕ) (further : PiecesRead) → HasTaken o.file so_far → length (so_far ++ (xs ++ left)) ≡ o.file.wanted.size → IsTakeResult o.file so_far xs left further (Ok (c.in-Ok-default-Some.part, c.in-Ok-default-Some.field-0-1))) c.bytes.ensures.bytes c.in-Ok-default-Some.ensures.taken so_far (behind_piece o bytes file) further is.taken (all_long o so_far file bytes further before few has is) in
+    let taken = subst (λ f. IsTakeResult o.file so_far bytes (behind_piece o bytes file) further (Ok (c.in-Ok-default-Some.part, f))) c.in-Ok-default-Some.field-0-1-is came in
     let few_left = subst (λ (xs : List ℕ). IfSome c.in-Ok-default-Some.field-0-1 (λ further. file_bytes_left further ≡ file_bytes_left o.file - length xs)) c.bytes.ensures.bytes c.in-Ok-default-Some.ensures.left in
     let left = subst (λ f. IfSome f (λ further. file_bytes_left further ≡ file_bytes_left o.file - length bytes)) c.in-Ok-default-Some.field-0-1-is few_left in
-    next_further o c.in-Ok-default-Some.file (o.at + c.next_len-len.result) so_far file bytes c.in-Ok-default-Some.part further before few has is taken (ap (λ (n : ℕ). o.at + n) (sym c.in_ok-read.ensures.len)) left
+    next_further o c.in-Ok-default-Some.file (o.at + c.next_piece_len-len.result) so_far file bytes c.in-Ok-default-Some.part further before few has is taken (ap (λ (n : ℕ). o.at + n) (sym c.in_ok-read.ensures.len)) left
 
 pub returns-in-Ok-default-None-clause-piece : goal.returns-in-Ok-default-None-clause-piece
 returns-in-Ok-default-None-clause-piece g c = λ file so_far further before has room is.
     let o = c.args.self in
     let bytes = c.read.new.self in
-    let few : length bytes ≤ file_bytes_left o.file = omega (arith, c.in_ok-read.ensures.len, c.next_len-len.ensures) in
-    let came = subst (λ (xs : List ℕ). (so_far left : List ℕ) (further : PiecesRead) → HasTaken o.file so_far → length (so_far ++ (xs ++ left)) ≡ o.file.wanted.size → IsTaken o.file so_far xs left further (Ok (c.in-Ok-default-None.part, c.in-Ok-default-None.field-0-1))) c.bytes.ensures.bytes c.in-Ok-default-None.ensures.taken so_far (behind_piece o bytes file) further is.taken (all_long o so_far file bytes further before few has is) in
-    let taken = subst (λ f. IsTaken o.file so_far bytes (behind_piece o bytes file) further (Ok (c.in-Ok-default-None.part, f))) c.in-Ok-default-None.field-0-1-is came in
+    let few : length bytes ≤ file_bytes_left o.file = omega (arith, c.in_ok-read.ensures.len, c.next_piece_len-len.ensures) in
+    let came = subst (λ (xs : List ℕ). (so_far left : List ℕ) (further : PiecesRead) → HasTaken o.file so_far → length (so_far ++ (xs ++ left)) ≡ o.file.wanted.size → IsTakeResult o.file so_far xs left further (Ok (c.in-Ok-default-None.part, c.in-Ok-default-None.field-0-1))) c.bytes.ensures.bytes c.in-Ok-default-None.ensures.taken so_far (behind_piece o bytes file) further is.taken (all_long o so_far file bytes further before few has is) in
+    let taken = subst (λ f. IsTakeResult o.file so_far bytes (behind_piece o bytes file) further (Ok (c.in-Ok-default-None.part, f))) c.in-Ok-default-None.field-0-1-is came in
     before_is o so_far file bytes further before few has is ∙ taken
 
 pub returns-in-Err-clause-piece : goal.returns-in-Err-clause-piece
 returns-in-Err-clause-piece g c = λ file so_far further before has room is.
     let o = c.args.self in
     let bytes = c.read.new.self in
-    let few : length bytes ≤ file_bytes_left o.file = omega (arith, c.in_ok-read.ensures.len, c.next_len-len.ensures) in
-    let taken = subst (λ (xs : List ℕ). (so_far left : List ℕ) (further : PiecesRead) → HasTaken o.file so_far → length (so_far ++ (xs ++ left)) ≡ o.file.wanted.size → IsTaken o.file so_far xs left further (Err c.in-Err.cause)) c.bytes.ensures.bytes c.in-Err.ensures.taken so_far (behind_piece o bytes file) further is.taken (all_long o so_far file bytes further before few has is) in
+    let few : length bytes ≤ file_bytes_left o.file = omega (arith, c.in_ok-read.ensures.len, c.next_piece_len-len.ensures) in
+    let taken = subst (λ (xs : List ℕ). (so_far left : List ℕ) (further : PiecesRead) → HasTaken o.file so_far → length (so_far ++ (xs ++ left)) ≡ o.file.wanted.size → IsTakeResult o.file so_far xs left further (Err c.in-Err.cause)) c.bytes.ensures.bytes c.in-Err.ensures.taken so_far (behind_piece o bytes file) further is.taken (all_long o so_far file bytes further before few has is) in
     before_is o so_far file bytes further before few has is ∙ taken
 
 pub returns-in-Err-clause-digest : goal.returns-in-Err-clause-digest
 returns-in-Err-clause-digest g c = λ so_far has some.
     let o = c.args.self in
-    let taken = subst (λ (xs : List ℕ). (so_far left : List ℕ) (further : PiecesRead) → HasTaken o.file so_far → length (so_far ++ (xs ++ left)) ≡ o.file.wanted.size → IsTaken o.file so_far xs left further (Err c.in-Err.cause)) c.bytes.ensures.bytes c.in-Err.ensures.taken in
-    refused_whole o.file so_far c.read.new.self c.in-Err.cause has some (c.in_ok-read.ensures.len ∙ c.next_len-len.ensures) taken
+    let taken = subst (λ (xs : List ℕ). (so_far left : List ℕ) (further : PiecesRead) → HasTaken o.file so_far → length (so_far ++ (xs ++ left)) ≡ o.file.wanted.size → IsTakeResult o.file so_far xs left further (Err c.in-Err.cause)) c.bytes.ensures.bytes c.in-Err.ensures.taken in
+    refused_whole o.file so_far c.read.new.self c.in-Err.cause has some (c.in_ok-read.ensures.len ∙ c.next_piece_len-len.ensures) taken

@@ -1,7 +1,7 @@
 -- What was seen of the file's block, and then of the piece.
 use Rattle.std.proofs.Common.{◌≡◌, ◌≤◌, ◌+◌, ℕ, subst, length, arith}
 use Rattle.pkg_core.specs.Taking.{file_bytes_left}
-use Rattle.pkg_core.specs.Seen.{HasAt}
+use Rattle.pkg_core.specs.Seen.{HasBytesAtOffset}
 use Rattle.package_reader.specs.Readers.{offset_of, package_len}
 use Rattle.package_reader.specs.declared.piece.PieceFault.TheVariants.{Disk as DiskFault}
 use Rattle.pkg_core.proofs.SeenBytes.{reads_err, reads_in_a_row, reads_ok}
@@ -69,7 +69,7 @@ returns-clause-piece g c =
       λ pkg long has before are.
           let opened = b.3 pkg long (seen.has_first pkg has) before are in (
             read_some old mid o rest pkg bytes before part opened (λ so_far further pieces file. c.in_ok-part.ensures.piece pkg so_far further pieces (seen.has_second pkg has) (omega (arith, room, len, mid.within, long)) file),
-            subst (λ (n : ℕ). HasAt pkg n bytes) start.located (seen.has_second pkg has),
+            subst (λ (n : ℕ). HasBytesAtOffset pkg n bytes) start.located (seen.has_second pkg has),
           ),
     )
 

@@ -5,7 +5,7 @@ use Rattle.adb_view.specs.Plain.{Plain}
 use Rattle.adb_view.specs.Shaped.{Each}
 use Rattle.adb_view.specs.declared.adb.Adb.{Adb}
 use Rattle.option_ranks.specs.adb_fields.Fields.{array_at}
-use Rattle.option_ranks.specs.adb_schema.SoundValues.{IsInformation}
+use Rattle.option_ranks.specs.adb_schema.SoundValues.{IsSoundInformation}
 use Rattle.option_ranks.specs.adb_schema.Views.{index_value}
 use Rattle.adb_view.specs.Values.{entries_in, entry_in, value_at}
 use Rattle.adb_view.specs.declared.tables.Kind.TheVariants as Kinds
@@ -21,8 +21,8 @@ push_all-added-requires-clause-texts c = λ known i h.
     ∙ (ap (λ (a : Adb). entry_in (value_at (payload_of a) (Kinds.Obj Tables.Index) c.word.result) 1) c.adb.ensures
     ∙ ap (λ (w : ℕ). entry_in (value_at (payload_of c.args.index.adb) (Kinds.Obj Tables.Index) w) 1) c.word.ensures.is)) in
     let each = c.entries_keep_the_rule_of_their_list.ensures in
-    let info : IsInformation Tables.Index (entry_in list i) =
-    each.information Tables.Index list i (subst (λ (l : Plain). Each (IsInformation Tables.Index) (entries_in l)) (sym is) c.values_keep_their_rules.ensures.packages) h in
+    let info : IsSoundInformation Tables.Index (entry_in list i) =
+    each.information Tables.Index list i (subst (λ (l : Plain). Each (IsSoundInformation Tables.Index) (entries_in l)) (sym is) c.values_keep_their_rules.ensures.packages) h in
     record {
       version = info.version;
       depends = λ j g. each.dependency (entry_in (entry_in list i) 14) j info.depends g;

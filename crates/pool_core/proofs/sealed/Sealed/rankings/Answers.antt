@@ -2,11 +2,11 @@ use Rattle.std.proofs.Common.{◌≡◌, ◌∙◌, ◌+◌, ◌++◌, ◌∷◌
 use Rattle.std.specs.Prelude.{All}
 use Rattle.std.proofs.lemmas.List.{map-append, take_more}
 use Rattle.std.proofs.lemmas.List.Elements.{All-push}
-use Rattle.option_ranks.specs.candidate_core.Options.{IsIn, may_meet}
+use Rattle.option_ranks.specs.candidate_core.Options.{IsIn, is_eligible_for_need}
 use Rattle.option_ranks.specs.Ranking.{IsRankingIn, Ranking}
-use Rattle.option_ranks.specs.candidate_core.Values.{need_by}
+use Rattle.option_ranks.specs.candidate_core.Values.{need_of_ref}
 use Rattle.option_ranks.specs.candidate_core.VersionTexts.{source_text}
-use Rattle.option_ranks.specs.VersionRanks.{IsReadFrom}
+use Rattle.option_ranks.specs.VersionRanks.{HasVersionTextsOfSources}
 use Rattle.option_ranks.proofs.candidate_core.OfferLists.{places_below}
 use Rattle.option_ranks.proofs.RankedOptions.{place_of}
 use Rattle.option_ranks.proofs.candidate_core.Steps.{member_at}
@@ -16,7 +16,7 @@ pub ranking-requires-clause-within : goal.ranking-requires-clause-within
 ranking-requires-clause-within c =
     let pool = c.args.self.now in
     let there = member_at c.args.ids.now c.loop-id.id-index c.id-item.result (omega arith) c.id-item.is in
-    let below = places_below 0 (may_meet pool (need_by c.args.need.now)) pool.candidates c.id-item.result (subst (λ (z : List ℕ). IsIn c.id-item.result z) c.requires.those there) in
+    let below = places_below 0 (is_eligible_for_need pool (need_of_ref c.args.need.now)) pool.candidates c.id-item.result (subst (λ (z : List ℕ). IsIn c.id-item.result z) c.requires.those there) in
     omega (arith, below)
 
 pub loop-id-preserved : goal.loop-id-preserved
@@ -25,8 +25,8 @@ loop-id-preserved c =
     let i : ℕ = c.loop-id.id-index in
     let ids : List ℕ = c.args.ids.now in
     let more : take (i + 1) ids ≡ take i ids ++ c.id-item.result ∷ [] = take_more ids i c.id-item.result (omega arith) ∙ ap (λ (k : ℕ). take i ids ++ k ∷ []) (sym c.id-item.is) in
-    let P = IsRankingIn c.args.self.now (need_by c.args.need.now) in
-    let Q = IsReadFrom c.args.packages.now.sources.items in
+    let P = IsRankingIn c.args.self.now (need_of_ref c.args.need.now) in
+    let Q = HasVersionTextsOfSources c.args.packages.now.sources.items in
     record {
       each = subst (λ (rs : List Ranking). All P rs) (sym c.in_ok-push.ensures.items) (All-push P rankings c.ranking.result c.loop-id.invariant.each c.ranking.ensures.ranking);
       places = ap (map place_of) c.in_ok-push.ensures.items

@@ -5,8 +5,8 @@ use Rattle.search_choices.proofs.choices.Choices.is_front_unasked.Goals as goal
 
 pub returns-in-Some : goal.returns-in-Some
 returns-in-Some c =
-    front_of (pool_of c.args.self.now) (choices_of c.args.self.now) (install_ifs_of c.args.self.now) c.args.self.now.install_ifs.waiting c.args.self.now.asking_cursor c.in-Some.id c.asks_for_name.result
-    c.requires.install_ifs c.requires.unasked (sym c.in-Some.ensures) c.asks_for_name.ensures
+    front_of (pool_of c.args.self.now) (choices_of c.args.self.now) (install_ifs_of c.args.self.now) c.args.self.now.install_ifs.waiting c.args.self.now.asking_cursor c.in-Some.id c.is_triggered_by_install_if.result
+    c.requires.install_ifs c.requires.unasked (sym c.in-Some.ensures) c.is_triggered_by_install_if.ensures
 
 pub returns-in-None : goal.returns-in-None
 returns-in-None c =

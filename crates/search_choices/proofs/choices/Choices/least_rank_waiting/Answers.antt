@@ -2,7 +2,7 @@ use Rattle.std.proofs.Common.{◌≡◌, ◌≤◌, ◌<◌, ◌+◌, ◌∙◌,
 use Rattle.std.proofs.lemmas.List.{take_more, take_all}
 use Rattle.search_tables.specs.candidate_core.Options.{IsIn}
 use Rattle.search_choices.specs.Choices.{choices_of, install_ifs_of, pool_of}
-use Rattle.search_tables.specs.InstallIf.{rank_asks}
+use Rattle.search_tables.specs.InstallIf.{is_install_if_triggered_at_rank}
 use Rattle.search_tables.proofs.Offered.{in_more}
 use Rattle.search_choices.proofs.choices.Choices.least_rank_waiting.Goals as goal
 
@@ -12,7 +12,7 @@ loop-rank-preserved c =
     let new : ℕ = c.lesser_rank-least.result in
     let rank : ℕ = get_or items c.loop-rank.rank-index 0 in
     let one : take (c.loop-rank.rank-index + 1) items ≡ take c.loop-rank.rank-index items ++ rank ∷ [] = take_more items c.loop-rank.rank-index 0 (omega arith) in
-    let P : ℕ → Type 0 = λ r. r < new → rank_asks (pool_of c.args.self.now) (choices_of c.args.self.now) (install_ifs_of c.args.self.now) r ≡ false in
+    let P : ℕ → Type 0 = λ r. r < new → is_install_if_triggered_at_rank (pool_of c.args.self.now) (choices_of c.args.self.now) (install_ifs_of c.args.self.now) r ≡ false in
     record {
       less = omega (arith, c.lesser_rank-least.ensures.less, c.loop-rank.invariant.less);
       unasked = λ r h. in_more P (take c.loop-rank.rank-index items) rank

@@ -7,7 +7,7 @@ use Rattle.search_choices.specs.search_tables.Reasons.{FrameValue, IsReason, IsF
 use Rattle.search_choices.proofs.search_tables.Places.{empty_list}
 use Rattle.solve_core.proofs.Steps.{searching_less, jumped, hit_reason, dead_empty, no_choices}
 use Rattle.search_choices.proofs.search_tables.Turns.{passed_over}
-use Rattle.solve_core.specs.Measure.{weight_of}
+use Rattle.solve_core.specs.Measure.{search_measure}
 use Rattle.solve_core.proofs.Weights.{back_lighter, few_turns}
 use Rattle.solve_core.proofs.search.Search.step_back_for_reason.Goals as goal
 
@@ -60,7 +60,7 @@ returns-then-has-clause-lighter c = λ spent.
     c.loop-turn.invariant.front.1 ∙ (ap (λ (z : List (FrameValue × ℕ)). z ++ rest) c.in-Some.ensures.items ∙ append_assoc c.pop.new.self.items (turn ∷ []) rest) in
     let same = ap (λ (z : FrameValue). z.1) c.in_ok-rule_out.ensures ∙ ap (λ (z : FrameValue × ℕ). z.0.1) c.turn.view_is in
     let few : length c.pop.new.self.items < 2 ^ 63 = omega (arith, c.pop.new.self.small, c.pop.new.self.ok) in
-    subst (λ (z : List (FrameValue × ℕ)). weight_of c.pop.new.self.items c.rule_out.new.self < weight_of z spent) (sym all)
+    subst (λ (z : List (FrameValue × ℕ)). search_measure c.pop.new.self.items c.rule_out.new.self < search_measure z spent) (sym all)
     (back_lighter c.pop.new.self.items rest turn.0 c.rule_out.new.self spent turn.1 (few_turns (length c.pop.new.self.items) few) same)
 
 pub returns-clause-found : goal.returns-clause-found

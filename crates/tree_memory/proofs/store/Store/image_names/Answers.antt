@@ -1,6 +1,6 @@
 use Rattle.std.proofs.Common.{◌∙◌, List, inl, refl, sym, ap, subst}
 use Rattle.base_core.specs.Files.{HasNoFileAsFolder}
-use Rattle.tree_memory.specs.Changes.{contents_of, empty_state, state_on}
+use Rattle.tree_memory.specs.Changes.{contents_of, empty_state, state_after_changes}
 use Rattle.tree_memory.specs.Stores.{store_state}
 use Rattle.tree_memory.specs.declared.store.Change.{Change}
 use Rattle.tree_memory.proofs.Imaging.{names_fit, names_as_read}
@@ -18,5 +18,5 @@ returns c =
     let contents = contents_of own.files.items in
     names_as_read c.args.pick v c.in_ok-names.field-0.names.entries.items
     (λ has. let t = c.has_no_folder.ensures.1 (subst HasNoFileAsFolder (λ i q. sym (c.in_ok-picked.ensures q) i) has) in cc (t, c.if-has_no_folder.false))
-    (λ q. sym (ap (λ (l : List Change). (state_on contents empty_state l).names q) c.deref.ensures.value) ∙ (c.in_ok-names.ensures.names contents).names q)
+    (λ q. sym (ap (λ (l : List Change). (state_after_changes contents empty_state l).names q) c.deref.ensures.value) ∙ (c.in_ok-names.ensures.names contents).names q)
     ((store_sound own.changes.items own.names.entries.items own.files.items own.in_step).folders v.names (inl refl))

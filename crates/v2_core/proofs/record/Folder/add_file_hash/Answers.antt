@@ -1,11 +1,11 @@
 use Rattle.std.proofs.Common.{◌∙◌, ap}
-use Rattle.v2_core.specs.Records.{file_with_hash, folder_by, folder_with_files, folder_with_last, with_last_changed}
-use Rattle.v2_core.specs.Views.{access_views}
+use Rattle.v2_core.specs.Records.{file_with_hash, listed_folder_from_parts, folder_with_files, folder_with_last, with_last_changed}
+use Rattle.v2_core.specs.Views.{access_view_if_any}
 use Rattle.v2_core.proofs.LastElement.{made_of}
 use Rattle.v2_core.proofs.record.Folder.add_file_hash.Goals as goal
 
 pub returns : goal.returns
 returns c =
-    let folder = folder_by c.self.inside.name.now (access_views c.self.inside.access) c.self.inside.files.items in
+    let folder = listed_folder_from_parts c.self.inside.name.now (access_view_if_any c.self.inside.access) c.self.inside.files.items in
     made_of (folder_with_files folder) c.add_hash_to_last.result c.add_hash_to_last.new.files.items (with_last_changed (file_with_hash c.args.hash.items) c.self.inside.files.items) c.add_hash_to_last.ensures
     ∙ ap (folder_with_last (file_with_hash c.args.hash.items)) c.self.view_is

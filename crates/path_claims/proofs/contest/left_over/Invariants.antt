@@ -1,9 +1,0 @@
--- The walk from here on ends as the whole walk.
-use Rattle.std.proofs.Common.{◌≡◌, drop, map}
-use Rattle.path_claims.specs.LeftOver.{left_over}
-use Rattle.path_claims.proofs.contest.left_over.Given as goal
-
-abbrev pub invariant-loop-claim : goal.invariant-loop-claim
-invariant-loop-claim g l =
-    left_over (g.C.Contest.beats l.contest) l.left (map (λ c. c.member) (drop l.claim-index l.claims))
-    ≡ left_over (g.C.Contest.beats l.contest) l.first (map (λ c. c.member) l.claims)
