@@ -84,16 +84,16 @@ module _ (inputs : Inputs) (r : Replacement) (wishes : ChangeWishes) (read : Rea
       let k : suc n + i ≡ n + suc i = omega arith in
       (behind.0, subst (λ m. name_after r read inputs.root.repositories wishes.no_scripts m name ≡ Ok behind.0) k behind.1)
 
-  found_bytes_or_missing : (place : ℕ) (name : List ℕ) → slice_get (names_before_and_selected r) place ≡ Some name → (o : Option MemberFound) × (name_after r read inputs.root.repositories wishes.no_scripts (first_read + place) name ≡ Ok o)
+  found_at : (place : ℕ) (name : List ℕ) → slice_get (names_before_and_selected r) place ≡ Some name → (o : Option MemberFound) × (name_after r read inputs.root.repositories wishes.no_scripts (first_read + place) name ≡ Ok o)
   unfolding members_after
-  found_bytes_or_missing place name at = name_found_at first_read (names_before_and_selected r) found place name are at
+  found_at place name at = name_found_at first_read (names_before_and_selected r) found place name are at
 
   -- ---- one that comes
 
   comes_so : (place : ℕ) (name : List ℕ) (change : Change) (c : Candidate) → slice_get (names_before_and_selected r) place ≡ Some name → change_of_name r name ≡ Some change → selected_of_name r name ≡ Some c
       → (o : Option MemberFound) × (member_of_added_name read inputs.root.repositories wishes.no_scripts (first_read + place) name change c ≡ Ok o)
   comes_so place name change c at becomes selected =
-      let o = found_bytes_or_missing place name at in (
+      let o = found_at place name at in (
         o.0,
         ap (λ s. name_by_selected read inputs.root.repositories wishes.no_scripts (first_read + place) name change (find (is_package_named name) r.before) s) (sym selected)
             ∙ (ap (λ ch. name_by_change read inputs.root.repositories wishes.no_scripts (first_read + place) name ch (find (is_package_named name) r.before) (find (is_selected_named name) r.selected)) (sym becomes) ∙ o.1),
@@ -135,7 +135,7 @@ module _ (inputs : Inputs) (r : Replacement) (wishes : ChangeWishes) (read : Rea
       let among = in_order (package_name pkg) (map package_name r.before ++ map (λ (c : Candidate). c.name) r.selected)
       (in_left (package_name pkg) (map package_name r.before) (map (λ (c : Candidate). c.name) r.selected) (in_mapped package_name r.before pkg here.0)) in
       let place = member_name_at_place (names_before_and_selected r) (package_name pkg) among in
-      let o = found_bytes_or_missing place.0 name (place.1 ∙ ap (λ (q : List ℕ). Some q) named) in
+      let o = found_at place.0 name (place.1 ∙ ap (λ (q : List ℕ). Some q) named) in
       no_script wishes.no_scripts name pkg (scripts_of_change change) None o.0 script asked first
       (ap (λ b. member_of_removed_name wishes.no_scripts name change b) (sym going.before)
       ∙ (ap (λ s. name_by_selected read inputs.root.repositories wishes.no_scripts (first_read + place.0) name change (find (is_package_named name) r.before) s) (sym going.unselected)

@@ -231,8 +231,8 @@ module _ (command : CommandLine) (read : Reads) where
 
   module _ (root : Root) (is_root : root_for command read ≡ Ok root) where
     -- what is read of an index is found there
-    found_bytes_or_missing : (number place : ℕ) (file : Option (List ℕ)) (is : IsIndexRead read number file) → is.place ≡ place → IsFoundAt first_index_read root.repositories place file
-    found_bytes_or_missing number place file is at =
+    found_at : (number place : ℕ) (file : Option (List ℕ)) (is : IsIndexRead read number file) → is.place ≡ place → IsFoundAt first_index_read root.repositories place file
+    found_at number place file is at =
         let both : Ok is.repositories ≡ Ok root.repositories = sym is.listed ∙ root_listed command read root is_root in
         let same : is.repositories ≡ root.repositories = cc in (
           is.repository,
@@ -250,16 +250,16 @@ module _ (command : CommandLine) (read : Reads) where
     missing_told : (refusal : Refusal) → IsFirstMissing first_index_read 1 root.repositories refusal → IsSo refusal
     missing_told refusal f =
         let before : HasIndexesBefore read (1 + f.place) = λ earlier h is.
-        (let less : is.place < f.place = (let number = is.is_number in omega (arith, h, number)) in f.before is.place less (found_bytes_or_missing earlier is.place None is refl)) in
+        (let less : is.place < f.place = (let number = is.is_number in omega (arith, h, number)) in f.before is.place less (found_at earlier is.place None is refl)) in
         subst IsSo (sym f.told) (has_leave f.place f.first f.located, before)
 
     bad_told : (files : List (List ℕ)) (refusal : Refusal) → index_files_from 1 (index_reads_from read first_index_read root.repositories) ≡ Ok files
         → IsFirstBad first_index_read 1 root.repositories refusal → IsSo refusal
     bad_told files refusal found f =
-        let there : HasIndexes read = λ number is. all_found first_index_read 1 root.repositories files found is.place (found_bytes_or_missing number is.place None is refl) in
+        let there : HasIndexes read = λ number is. all_found first_index_read 1 root.repositories files found is.place (found_at number is.place None is refl) in
         let before : AreEarlierIndexesSound read (1 + f.place) = λ earlier cause h is.
         (let less : is.is_read.place < f.place = (let number = is.is_read.is_number in omega (arith, h, number)) in
-        let none = f.before is.is_read.place is.file less (found_bytes_or_missing earlier is.is_read.place (Some is.file) is.is_read refl) in
+        let none = f.before is.is_read.place is.file less (found_at earlier is.is_read.place (Some is.file) is.is_read refl) in
         let both : Some cause ≡ None = sym is.fault ∙ none in cc) in
         subst IsSo (sym f.told) (has_leave f.place f.first f.located, there, before)
 

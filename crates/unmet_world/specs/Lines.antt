@@ -53,8 +53,8 @@ abbrev pub is_same_text : Dependency → Dependency → Bool
 is_same_text d e = bytes_eq (dep_text d) (dep_text e)
 
 -- whether an entry of world is one of these: of world as its file lists it
-abbrev pub is_next_call_listed : List Dependency → Dependency → Bool
-is_next_call_listed listed d = option_map_or (is_same_text d) (find (is_named d.name) listed) false
+abbrev pub is_entry_of_file : List Dependency → Dependency → Bool
+is_entry_of_file listed d = option_map_or (is_same_text d) (find (is_named d.name) listed) false
 
 -- where an entry of world is from: the file of world has it, or else the command asks for it
 abbrev pub entry_origin : Bool → List ℕ
@@ -63,7 +63,7 @@ entry_origin false = codes "this command"
 
 -- where an entry of world is from, given the entries that the file of world lists
 abbrev pub entry_origin_text : List Dependency → Dependency → List ℕ
-entry_origin_text listed d = entry_origin (is_next_call_listed listed d)
+entry_origin_text listed d = entry_origin (is_entry_of_file listed d)
 
 -- who has a dependency
 abbrev pub dependency_owner_text :

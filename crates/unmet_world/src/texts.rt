@@ -7,7 +7,7 @@ ghost use Rattle.dep_core.specs.DependencyText.{dep_text};
 ghost use Rattle.dep_core.specs.Meets.{dependency};
 ghost use Rattle.search_tables.specs.candidate_core.Candidates.{uses_tag, is_allowed};
 ghost use Rattle.unmet_world.specs.Exclusion.{is_conflict_met_by};
-ghost use Rattle.unmet_world.specs.Lines.{origin_text, name_and_version_text, candidate_text, candidate_text_at, is_named, is_same_text, is_next_call_listed, entry_origin, entry_origin_text, dependency_owner_text, world_conflict_text, world_conflict_reason_text, offer_text, offer_text_at, with_text_once, with_texts, joined_texts, most_offers, dots_if, no_package_text, offered_text, offers_line};
+ghost use Rattle.unmet_world.specs.Lines.{origin_text, name_and_version_text, candidate_text, candidate_text_at, is_named, is_same_text, is_entry_of_file, entry_origin, entry_origin_text, dependency_owner_text, world_conflict_text, world_conflict_reason_text, offer_text, offer_text_at, with_text_once, with_texts, joined_texts, most_offers, dots_if, no_package_text, offered_text, offers_line};
 
 use crate::exclusion::is_conflict_met_by;
 use crate::refutation::{Owner, candidate};
@@ -153,8 +153,8 @@ fn is_same_text(alloc: Global, dep: &Dep<'_>, other: &Dep<'_>) -> Result<bool, A
 }
 
 // Whether an entry of world is one that the file of world lists.
-fn is_next_call_listed(alloc: Global, listed: &World, dep: &Dep<'_>) -> Result<bool, AllocError>
-    ensures { IfOk result (λ is. is ≡ is_next_call_listed listed.now (dependency dep.now)) }
+fn is_entry_of_file(alloc: Global, listed: &World, dep: &Dep<'_>) -> Result<bool, AllocError>
+    ensures { IfOk result (λ is. is ≡ is_entry_of_file listed.now (dependency dep.now)) }
 {
     match entry_named(listed, dep.name) {
         None => Ok(false),
@@ -179,7 +179,7 @@ fn add_entry_origin(text: &mut Vec<u8>, listed: &World, dep: &Dep<'_>) -> Result
         ++ entry_origin_text listed.now (dependency dep.now)) }
 {
     let alloc = *text.allocator();
-    let in_file = is_next_call_listed(alloc, listed, dep)?;
+    let in_file = is_entry_of_file(alloc, listed, dep)?;
     text.extend_from_slice(entry_origin(in_file))
 }
 
