@@ -1,6 +1,6 @@
--- What the parts of a recovery ensure: `recover`, `replay` and `replay_file`, which do the actions of an intent,
--- and `clear_all` and `remove_all`, which remove staged files. Serves the contracts of these functions.
--- The rules are in `docs/crash-safety.md`, "Recovery" and "Misuses, faults and counts".
+-- What the parts of a recovery ensure: `recover`, `replay` and `replay_file`, which do the actions of an
+-- intent, and `clear_all` and `remove_all`, which remove staged files. Serves the contracts of these
+-- functions. The rules are in `docs/crash-safety.md`, "Recovery" and "Misuses, faults and counts".
 use Rattle.std.specs.Prelude.{◌≡◌, ℕ, true, List, [], Some, None, IsSome, Result, OnOk, IsErrOf}
 use Rattle.adb_view.specs.declared.tables.Which.TheVariants.{Intent as IntentTable}
 use Rattle.base_core.specs.Calls.{HoldsNow, IfObservable}

@@ -213,7 +213,8 @@ fn clear_all<T: Tree>(tree: &mut T, names: &Names) -> Result<(), Disk>
     ensures moments { IfObservable (T.history tree.old) (λ v. (ignored : List ℕ → Bool)
         → IsDurable (StateDependsOn ignored) v → v.names intent_name ≡ None → AreStagedNames names.now
         → Since (StateIsUnchanged ignored v) (T.history tree.old) (T.history tree.new)) }
-    ensures removal { RemovesStagedNames names.now (T.history tree.old) (T.history tree.new) result }
+    ensures removal { RemovesStagedNames names.now
+        (T.history tree.old) (T.history tree.new) result }
     ensures counts { IsResultExplainedByCounts (T.counts tree.old) (T.counts tree.new) result }
 
     // No call is a misuse.
@@ -233,7 +234,8 @@ fn remove_all<T: Tree>(tree: &mut T, names: &Names) -> Result<(), Disk>
     ensures moments { IfObservable (T.history tree.old) (λ v. (ignored : List ℕ → Bool)
         → IsDurable (StateDependsOn ignored) v → IsRestoredByNoCrash intent_name v → AreStagedNames names.now
         → Since (StateIsUnchanged ignored v) (T.history tree.old) (T.history tree.new)) }
-    ensures removal { RemovesStagedNames names.now (T.history tree.old) (T.history tree.new) result }
+    ensures removal { RemovesStagedNames names.now
+        (T.history tree.old) (T.history tree.new) result }
     ensures counts { IsResultExplainedByCounts (T.counts tree.old) (T.counts tree.new) result }
 
     // No call is a misuse.

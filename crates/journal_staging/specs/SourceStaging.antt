@@ -1,6 +1,7 @@
--- What the calls that stage the file of one write ensure: `stage_file`, `stage_packaged` and `stage_write`; and how
--- the tree's counts explain their results, and those of `stage_each` and `carry_out`. Serves the contracts of these
--- calls. The rules are in `docs/crash-safety.md`, "A change of several files", and "Misuses, faults and counts".
+-- What the calls that stage the file of one write ensure: `stage_file`, `stage_packaged` and
+-- `stage_write`; and how the tree's counts explain their results, and that of `stage_each`. Serves the
+-- contracts of these calls. The rules are in `docs/crash-safety.md`, "A change of several files" and
+-- "Misuses, faults and counts".
 use Rattle.std.specs.Prelude.{◌≡◌, ◌+◌, ◌++◌, ◌∷◌, [], ℕ, List, None, Result, IfErr, IsErrOf, OnOk}
 use Rattle.base_core.specs.Faults.{Counts, CountsOnlyRise, HasCause, IsNoFault}
 use Rattle.base_core.specs.Files.{Files}
@@ -19,9 +20,9 @@ pub record IsFaultExplainedByCounts {T F : Type 0} (failed : F) (before now : Co
   pub kept : OnOk result (IsNoFault before now)
   pub others : IfErr result (λ fault. (fault ≡ failed → ⊥) → IsNoFault before now)
 
--- A call that stages the file of one write, and changes the stage to `next`. `Denotes` says of which bytes its
--- source is, over some files. `first` is the tree's history when the staging began, `v` its newest state then, and
--- `contents` the files staged before.
+-- A call that stages the file of one write, and changes the stage to `next`. `Denotes` says which bytes
+-- its source denotes over some files. `first` is the tree's history when the staging began, `v` its newest
+-- state then, and `contents` the files staged before.
 pub record StagesSource {T F : Type 0} (stage next : Staging) (Denotes : Files → List ℕ → Type 0)
     (failed : F) (old now : List TreeState) (before after : Counts) (result : Result T F) : Type 0 where
   -- whatever the tree returns for the source, and whatever is returned, only staged files have changed at

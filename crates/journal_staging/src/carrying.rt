@@ -52,7 +52,8 @@ fn stage_each<T: Tree>(
     ensures bad { (member : ℕ) (cause : Cause) → IsErrOf result (Bad member cause)
         → HasSpoiledFile member cause writes.now }
     ensures view { OnOk result (stage.new ≡ record stage.old { staged = length writes.now }) }
-    ensures counts { IsFaultExplainedByCounts DiskFault (T.counts tree.old) (T.counts tree.new) result }
+    ensures counts { IsFaultExplainedByCounts DiskFault
+        (T.counts tree.old) (T.counts tree.new) result }
     ensures proper { (contents : List (List ℕ)) (v : TreeState) (first : List TreeState)
         → IsStaging stage.old [] None v first (T.history tree.old)
         → EachDenotes (files_of v) writes.now contents → AreJournalPathsFree (files_of v)

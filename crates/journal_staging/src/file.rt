@@ -28,9 +28,10 @@ pub(crate) fn stage_file<T: Tree>(
     requires more { stage.old.staged < length stage.old.intent.writes }
 
     // Whatever the tree returns for the package, and whatever this call returns, only staged files
-    // have changed at each moment. If the tree has the package, the file's bytes are staged then, and
-    // only the tree may fail.
-    ensures source { StagesSource stage.old stage.new (λ files bytes. IsReadingIn files file.entry bytes) DiskFault
+    // have changed at each moment. If the tree has the package, the file's bytes are staged then,
+    // and only the tree may fail.
+    ensures source { StagesSource stage.old stage.new
+        (λ files bytes. IsReadingIn files file.entry bytes) DiskFault
         (T.history tree.old) (T.history tree.new) (T.counts tree.old) (T.counts tree.new) result }
     // Whatever the tree returns for the package: bytes with the expected size and digest are
     // staged.

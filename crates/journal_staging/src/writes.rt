@@ -31,7 +31,8 @@ fn stage_packaged<T: Tree>(
 ) -> Result<(), StageFault>
     requires closed { stage.old.is_open ≡ false }
     requires more { stage.old.staged < length stage.old.intent.writes }
-    ensures source { StagesSource stage.old stage.new (λ files bytes. IsFileSource files f.now bytes) DiskFault
+    ensures source { StagesSource stage.old stage.new
+        (λ files bytes. IsFileSource files f.now bytes) DiskFault
         (T.history tree.old) (T.history tree.new) (T.counts tree.old) (T.counts tree.new) result }
     ensures listed { (contents : List (List ℕ)) (v : TreeState) (first : List TreeState)
         → IsStaging stage.old contents None v first (T.history tree.old)
@@ -67,7 +68,8 @@ pub(crate) fn stage_write<T: Tree>(
     requires more { stage.old.staged < length stage.old.intent.writes }
     // Whatever is returned, only staged files have changed at each moment. If the source denotes
     // bytes, these are staged then, after those that were staged before, and only the tree may fail.
-    ensures source { StagesSource stage.old stage.new (λ files bytes. DenotesBytes files source.now bytes) DiskFault
+    ensures source { StagesSource stage.old stage.new
+        (λ files bytes. DenotesBytes files source.now bytes) DiskFault
         (T.history tree.old) (T.history tree.new) (T.counts tree.old) (T.counts tree.new) result }
     // Whatever the tree returns: bytes that the source may denote are staged.
     ensures listed { (contents : List (List ℕ)) (v : TreeState) (first : List TreeState)
