@@ -1,8 +1,9 @@
--- The places that fit a need, and the remembered results for it. No rule of a document: serves the
--- contracts of `src/sealed.rt`.
-use Rattle.std.specs.Prelude.{◌≡◌, ℕ, List}
-use Rattle.option_ranks.specs.candidate_core.Candidates.{Need}
-use Rattle.option_ranks.specs.candidate_core.Matches.{AreMatchesFor}
+-- The places that fit a need, and the remembered results for a need or an entry of world. No rule of a
+-- document: serves the contracts of `src/sealed.rt` and `src/marks.rt`.
+use Rattle.std.specs.Prelude.{◌≡◌, ◌<◌, ℕ, List, Some, length, slice_get}
+use Rattle.dep_core.specs.Dependency.{Dependency}
+use Rattle.option_ranks.specs.candidate_core.Candidates.{Candidate, Need}
+use Rattle.option_ranks.specs.candidate_core.Matches.{AreMatchesFor, AreRememberedMatchesOf}
 use Rattle.option_ranks.specs.candidate_core.Options.{is_eligible_for_need, places_passing_from}
 use Rattle.option_ranks.specs.candidate_core.Packages.{candidates_of_packages}
 use Rattle.option_ranks.specs.candidate_core.Rank.{SealedPool}
@@ -23,3 +24,11 @@ pub record AreMatchesInPool (pool : SealedPool) (need : Need) (packages : Packag
     (matches : KnownMatches) : Type 0 where
   pub own : candidates_of_packages packages ≡ pool.candidates
   pub known : AreMatchesOfPackages packages need matches
+
+-- the packages have this candidate at the place, and the remembered results for a dependency are right for
+-- their versions
+pub record IsCandidateWithMatches (packages : Packages) (place : ℕ) (details : Candidate) (d : Dependency)
+    (matches : KnownMatches) : Type 0 where
+  pub within : place < length (candidates_of_packages packages)
+  pub here : slice_get (candidates_of_packages packages) place ≡ Some details
+  pub known : AreRememberedMatchesOf (source_text packages.sources.items) d matches
