@@ -1,7 +1,8 @@
 -- What the calls that stage files ensure: `begin_file`, `append_piece` and `end_file`, and `stage_bytes` and
 -- `stage_pieces`, which stage a whole file. Serves the contracts of these calls. In each clause `first` is the
 -- tree's history when the staging began, `v` its newest state then, and `contents` the files staged before.
--- The rules are in `docs/crash-safety.md`, "A change of several files": step 1 of its table.
+-- The rules are in `docs/crash-safety.md`, "A change of several files": the lines of `file_begin`,
+-- `file_append` and `file_end` in the example.
 use Rattle.std.specs.Prelude.{◌≡◌, ◌+◌, ◌++◌, ◌∷◌, [], ℕ, List, Some, None, Result, OnOk}
 use Rattle.base_core.specs.Faults.{Counts}
 use Rattle.base_core.specs.Tree.{TreeState, files_of}

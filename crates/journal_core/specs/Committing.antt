@@ -1,6 +1,6 @@
 -- How an intent is moved to its name, which commits it.
--- The rules are in `docs/crash-safety.md`, "A change of several files", step 2 of the table. It serves
--- the contracts of `publishing`, and that of `Stage::publish`.
+-- The rules are in `docs/crash-safety.md`, "A change of several files": the lines of `publish` in the
+-- example. Serves the contracts of `publishing`, and that of `Stage::publish`.
 use Rattle.std.specs.Prelude.{◌≡◌, ◌≢◌, ◌⊎◌, ◌≤◌, ◌<◌, ℕ, ◌+◌, ◌^◌, Bool, true, List, ◌∷◌, [], Some, None, IsSome, Result, OnOk, length}
 use Rattle.base_core.specs.Calls.{HoldsNow, IfObservable}
 use Rattle.base_core.specs.Crash.{Since}
