@@ -10,7 +10,6 @@ ghost use Rattle.pkg_core.specs.Front.{front_payload};
 ghost use Rattle.pkg_core.specs.declared.front.FrontFault.TheVariants.{Disk as FrontFailed};
 ghost use Rattle.pkg_core.specs.adb_schema.Views.{package_value};
 
-use crate::find::word_at;
 use crate::hint::cause_of;
 use crate::package_paths::path_at;
 use crate::printed::{printed, push_texts};
@@ -26,6 +25,7 @@ use pkg_core::{
 };
 use report_core::Refusal;
 use std::alloc::{AllocError, Global};
+use words_core::word_at;
 
 /// The positions of two files of a package, each of a folder and of a file in it. They count from
 /// 1, and (0, 0) is no file.
