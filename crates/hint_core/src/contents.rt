@@ -14,7 +14,7 @@ use crate::hint::cause_of;
 use crate::package_paths::path_at;
 use crate::printed::{printed, push_texts};
 use crate::telling::{HintFault, is_explained};
-use crate::warning::say;
+use crate::warning::write_lines;
 use base_core::{Cause, Name, Sink, Tree, TreeFault, Words};
 use command_core::without_dot_slash;
 use itoa::Buffer;
@@ -61,7 +61,7 @@ pub fn explain_contents<T: Tree, S: Sink>(
         (T.counts tree.old) (T.counts tree.new) result }
 {
     let lines = contents_lines(alloc, words, refusal, tree)?;
-    say(&lines, sink)
+    write_lines(&lines, sink)
 }
 
 // The lines of the positions that a refusal names, of the file that it refuses.
