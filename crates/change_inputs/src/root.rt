@@ -11,14 +11,12 @@ ghost use Rattle.root_names.specs.RootNames.{database_name, text_database_name};
 ghost use Rattle.std.specs.Prelude.{◌≡◌, IfErr, IfOk, None, OnOk, ◌<◌, ◌+◌, ℕ, List, Ok, length};
 ghost use Rattle.db_core.specs.adb_schema.ReadFaults.{IsReadFault};
 ghost use Rattle.db_core.specs.adb_schema.Soundness.{first_fault, payload_fault, payload_in};
-ghost use Rattle.adb_view.specs.declared.tables.Which.{Which};
 ghost use Rattle.command_core.specs.Command.{CommandLine};
 ghost use Rattle.package_files.specs.make_info.Reads.{Reads};
 
 use crate::database::DatabaseFile;
 use crate::index::repositories_of;
 use crate::world::{Worlds, worlds_of};
-use adb_block::Blocks;
 use base_core::{Name, Tree, TreeFault, consecutive_reads_compose, read_all};
 use command_core::Command;
 use db_core::{ReadFault, Which, read_adb};
@@ -163,21 +161,6 @@ pub(crate) fn test_file(alloc: Global, file: &[u8], which: Which) -> Result<(), 
 {
     read_adb(alloc, file, which)?;
     Ok(())
-}
-
-/// The payload of a file that passed its tests.
-#[tactic(auto, unfolding(adb_schema::specs::Soundness::first_fault, adb_schema::specs::Soundness::payload_in))]
-pub(crate) fn payload_in(file: &[u8]) -> &[u8]
-    requires { (which : Which) × (first_fault which file.now ≡ None) }
-    ensures { result.now ≡ payload_in file.now }
-{
-    let Ok(mut blocks) = Blocks::new(file) else {
-        unreachable!()
-    };
-    match blocks.next() {
-        Ok(Some(block)) => block.payload,
-        _ => unreachable!(),
-    }
 }
 
 /// Why a command is not completed.

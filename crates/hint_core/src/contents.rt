@@ -10,12 +10,11 @@ ghost use Rattle.pkg_core.specs.Front.{front_payload};
 ghost use Rattle.pkg_core.specs.declared.front.FrontFault.TheVariants.{Disk as FrontFailed};
 ghost use Rattle.pkg_core.specs.adb_schema.Views.{package_value};
 
-use crate::find::word_at;
 use crate::hint::cause_of;
 use crate::package_paths::path_at;
 use crate::printed::{printed, push_texts};
 use crate::telling::{HintFault, is_explained};
-use crate::warning::say;
+use crate::warning::write_lines;
 use base_core::{Cause, Name, Sink, Tree, TreeFault, Words};
 use command_core::without_dot_slash;
 use itoa::Buffer;
@@ -26,6 +25,7 @@ use pkg_core::{
 };
 use report_core::Refusal;
 use std::alloc::{AllocError, Global};
+use words_core::word_at;
 
 /// The positions of two files of a package, each of a folder and of a file in it. They count from
 /// 1, and (0, 0) is no file.
@@ -61,7 +61,7 @@ pub fn explain_contents<T: Tree, S: Sink>(
         (T.counts tree.old) (T.counts tree.new) result }
 {
     let lines = contents_lines(alloc, words, refusal, tree)?;
-    say(&lines, sink)
+    write_lines(&lines, sink)
 }
 
 // The lines of the positions that a refusal names, of the file that it refuses.

@@ -14,7 +14,7 @@ ghost use Rattle.hint_core.specs.Told.{Tells};
 use crate::contents::lines_of_contents;
 use crate::printed::{printed, push_printed, push_texts};
 use crate::telling::{HintFault, is_explained};
-use crate::warning::{say, text_of_found};
+use crate::warning::{text_of_found, write_lines};
 use base_core::{Name, Sink, Tree, TreeFault, Words, consecutive_reads_compose, read_all};
 use dep_core::{Repos, ReposFault};
 use report_core::Refusal;
@@ -47,7 +47,7 @@ pub fn explain_package<T: Tree, S: Sink>(
         (T.counts tree.old) (T.counts tree.new) result }
 {
     let lines = lines_of_words(alloc, words, refusal, tree)?;
-    say(&lines, sink)
+    write_lines(&lines, sink)
 }
 
 // The lines on the file of the package that a refusal of a command line names.

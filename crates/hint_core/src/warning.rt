@@ -43,11 +43,15 @@ pub fn warn<T: Tree, S: Sink>(
         (T.counts tree.old) (T.counts tree.new) result }
 {
     let lines = warnings(alloc, words, tree)?;
-    say(&lines, sink)
+    write_lines(&lines, sink)
 }
 
 /// Writes lines.
-pub(crate) fn say<S: Sink>(lines: &[u8], sink: &mut S) -> Result<(), HintFault>
+///
+/// # Errors
+///
+/// `Sink`, and a prefix of the lines was written.
+pub fn write_lines<S: Sink>(lines: &[u8], sink: &mut S) -> Result<(), HintFault>
     ensures told { Tells lines.now (sink_change S.bytes S.counts sink.old sink.new) result }
     // No tree failed.
     ensures failed { IfErr result IsNotDiskFault }

@@ -20,11 +20,9 @@ use command_core::{
     a_command_has_what_its_applet_may_have, values_are_of_their_kind,
 };
 use dep_core::is_package_name;
+use root_names::package_path;
 use std::alloc::{AllocError, Global};
 use version_core::{Version, versions_have_version_bytes};
-
-/// The byte between NAME and VERSION.
-const HYPHEN: u8 = b'-';
 
 /// NAME-VERSION.apk, if a valid name and a valid version are given.
 pub(crate) fn default_output(alloc: Global, values: &Values) -> Result<Option<Vec<u8>>, AllocError>
@@ -37,10 +35,7 @@ pub(crate) fn default_output(alloc: Global, values: &Values) -> Result<Option<Ve
     let Some(version) = package_version_in(values) else {
         return Ok(None);
     };
-    let mut file = Vec::from_slice(alloc, name)?;
-    file.push(HYPHEN)?;
-    file.extend_from_slice(version)?;
-    file.extend_from_slice(b".apk")?;
+    let file = package_path(alloc, b"", name, version)?;
     Ok(Some(file))
 }
 

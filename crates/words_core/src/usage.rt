@@ -21,8 +21,8 @@ use base_core::{Sink, SinkFault, Words, write_all};
 use command_core::{Applet, Flags, OperandKind, OperandRule, ValueKind, ValueRule};
 use itoa::Buffer;
 
-// How many bytes of a word are shown.
-const LONGEST_SHOWN: usize = 64;
+/// How many bytes of a word are shown.
+pub const LONGEST_SHOWN: usize = 64;
 
 /// Why words are a usage error at a place.
 #[derive(Clone, Copy)]
@@ -85,8 +85,8 @@ fn next_before(words: &Words, place: u32) -> NextWord
     }
 }
 
-// The word at a place, if there is one.
-fn word_at(words: &Words, place: u32) -> Option<&[u8]>
+/// The word at a place, if there is one.
+pub fn word_at(words: &Words, place: u32) -> Option<&[u8]>
     ensures { option_map (λ word. word.now) result ≡ slice_get words.now (place - 1) }
 {
     let before = (place as usize).saturating_sub(1);
@@ -345,9 +345,9 @@ fn write_front<S: Sink>(place: u32, sink: &mut S) -> Result<(), SinkFault>
     write_texts(&[b"word ", digits.format(place).as_bytes(), b", \""], sink)
 }
 
-// The bytes of a word that are shown.
+/// The bytes of a word that are shown.
 #[tactic(auto, using(crate::proofs::Hints::take_within))]
-fn shown_part(word: &[u8]) -> &[u8]
+pub fn shown_part(word: &[u8]) -> &[u8]
     ensures { result.now ≡ take most_shown_bytes word.now }
 {
     if word.len() > LONGEST_SHOWN {
