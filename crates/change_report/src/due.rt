@@ -12,7 +12,7 @@ ghost use Rattle.own_core.specs.WritesSeen.{writes_in};
 
 use crate::watched::{has_trigger_script, name_of, watches_folder};
 use base_core::Names;
-use change_outcome::{Members, PackageView, names_in_order};
+use change_outcome::{Members, PackageView, sorted_distinct_names};
 use make_package::folder_of;
 use own_core::{FilePlan, Writes};
 use report_core::Report;
@@ -137,7 +137,7 @@ pub fn touched_folders<'p>(alloc: Global, plan: &'p FilePlan) -> Result<Vec<&'p 
     let mut folders = Vec::new(alloc);
     push_written_folders(&mut folders, plan.writes())?;
     push_removed_folders(&mut folders, plan.removals())?;
-    names_in_order(folders)
+    sorted_distinct_names(folders)
 }
 
 /// Adds the folder of each file that is written.

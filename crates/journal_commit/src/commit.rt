@@ -1,5 +1,5 @@
 //! The second part of a change, from the commit (publishing) of its intent on. The rules are in
-//! `docs/crash-safety.md`, "A change of several files", in the table of steps from 2 on.
+//! `docs/crash-safety.md`, "A change of several files": the example from the line of `publish` on.
 ghost use Rattle.std.specs.Prelude.{◌≡◌, ◌≤◌, ℕ, Bool, true, false, List, None, length, IsSome, OnOk, OnErr};
 ghost use Rattle.base_core.specs.Calls.{HoldsNow, IfObservable};
 ghost use Rattle.base_core.specs.Crash.{Since};

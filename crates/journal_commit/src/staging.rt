@@ -1,6 +1,6 @@
 //! Files are staged, one after another. Laws say where the run of a change begins, and what it
-//! leaves. The rules are in `docs/crash-safety.md`, "A change of several files": step 1 of its
-//! table.
+//! leaves. The rules are in `docs/crash-safety.md`, "A change of several files": the lines of
+//! `file_begin`, `file_append` and `file_end` in the example.
 
 ghost use Rattle.std.specs.Prelude.{◌≡◌, ◌<◌, ◌+◌, ◌++◌, ◌∷◌, [], ℕ, true, false, List, Some, None, length, OnOk, OnErr};
 ghost use Rattle.base_core.specs.Faults.{CountsOnlyRise, HasCause, IsNoFault};

@@ -1,6 +1,6 @@
 //! The actions of an intent, one after another: first its removals, then its moves.
-//! The rules are in `docs/crash-safety.md`, "A change of several files", step 3 of the table and
-//! the text on actions below it.
+//! The rules are in `docs/crash-safety.md`, "A change of several files": the lines of `apply_one`
+//! in the example, and the text on actions.
 ghost use Rattle.std.specs.Prelude.{◌≡◌, ◌≤◌, ◌<◌, ◌+◌, ℕ, Bool, List, length, IfOk, OnOk, OnErr, IsSome};
 ghost use Rattle.base_core.specs.Calls.{HoldsNow, IfObservable};
 ghost use Rattle.base_core.specs.Crash.{Since};

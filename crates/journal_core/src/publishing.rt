@@ -1,6 +1,6 @@
 //! The commit of a stage's intent: it is moved to its name.
-//! The rules are in `docs/crash-safety.md`, "A change of several files", step 2 of the table, and
-//! the syncs before and after the rename of the intent.
+//! The rules are in `docs/crash-safety.md`, "A change of several files": the lines of `publish` in
+//! the example, and in the table of syncs those before and after the rename of the intent.
 ghost use Rattle.std.specs.Prelude.{◌≡◌, ◌⊎◌, ◌∷◌, [], ℕ, Bool, List, None, IsSome, OnOk, OnErr};
 ghost use Rattle.base_core.specs.Calls.{HoldsNow, IfObservable};
 ghost use Rattle.base_core.specs.Crash.{Since};
