@@ -1,13 +1,14 @@
 //! A new file that is made piece by piece, and then replaces another.
 //! The rules are in `docs/crash-safety.md`, "A whole file replaced", the five steps of
 //! `replace`.
-ghost use Rattle.std.specs.Prelude.{◌≡◌, ◌⊎◌, ◌≢◌, ◌≤◌, ◌++◌, [], ◌∷◌, ℕ, List, Some, length, IfOk, OnOk, OnErr, IsErrOf};
+ghost use Rattle.std.specs.Prelude.{◌≡◌, ◌⊎◌, ◌≢◌, ◌≤◌, ◌++◌, [], ◌∷◌, ℕ, List, Some, length, IfOk, OnOk, IsErrOf};
 ghost use Rattle.base_core.specs.Calls.{HoldsNow, IfObservable};
 ghost use Rattle.base_core.specs.Crash.{Since};
 ghost use Rattle.base_core.specs.Faults.{CountsOnlyRise, HasCause, IsNoFault};
 ghost use Rattle.base_core.specs.Tree.{TreeState, CanRename};
 ghost use Rattle.file_replacement.specs.Lengths.{longest_replaceable_name};
 ghost use Rattle.file_replacement.specs.Pieces.{OnlyScratchHasChanged, IsNewFile};
+ghost use Rattle.journal_core.specs.CallCounts.{IsResultExplainedByCounts};
 ghost use Rattle.journal_core.specs.Filling.{HasNewFileAt, IsReadyToMove, IsDurablyMoved, CanAddName, CanAddBothNames, synced_file};
 ghost use Rattle.journal_core.specs.Kept.{KeepsCrashMapsExcept};
 ghost use Rattle.journal_core.specs.Recovery.{intent_name};
@@ -99,12 +100,7 @@ impl<'a> NewFile<'a> {
         ensures only { (bytes : List ℕ) (first : List TreeState)
             → IsNewFile (scratch_of self.now) bytes first (T.history tree.old)
             → OnlyScratchHasChanged (scratch_of self.now) first (T.history tree.new) }
-
-        // No count of faults falls; a fault of the tree is returned only if that count rose, and Ok
-        // only if it did not.
-        ensures goes_on { CountsOnlyRise (T.counts tree.old) (T.counts tree.new) }
-        ensures cause { OnErr result (HasCause (T.counts tree.old) (T.counts tree.new)) }
-        ensures kept { OnOk result (IsNoFault (T.counts tree.old) (T.counts tree.new)) }
+        ensures counts { IsResultExplainedByCounts (T.counts tree.old) (T.counts tree.new) result }
 
         // The call is no misuse.
         ensures proper { (bytes : List ℕ) (first : List TreeState)
@@ -132,12 +128,7 @@ impl<'a> NewFile<'a> {
             → IfObservable first (λ v. Since
             (KeepsCrashMapsExcept (self.now ∷ scratch_of self.now ∷ []) v) first
             (T.history tree.new)) }
-
-        // No count of faults falls; a fault of the tree is returned only if that count rose, and Ok
-        // only if it did not.
-        ensures goes_on { CountsOnlyRise (T.counts tree.old) (T.counts tree.new) }
-        ensures cause { OnErr result (HasCause (T.counts tree.old) (T.counts tree.new)) }
-        ensures kept { OnOk result (IsNoFault (T.counts tree.old) (T.counts tree.new)) }
+        ensures counts { IsResultExplainedByCounts (T.counts tree.old) (T.counts tree.new) result }
 
         // If each of the names may have a file, no call is a misuse.
         ensures proper { (bytes : List ℕ) (first : List TreeState)
@@ -172,9 +163,7 @@ fn begin_scratch<T: Tree>(tree: &mut T, scratch: &Name, name: &Name) -> Result<(
     ensures asked { (T.history tree.new ≡ T.history tree.old)
         ⊎ T.accepts (Some scratch.now) name.now }
     ensures accepted { OnOk result (T.accepts (Some scratch.now) name.now) }
-    ensures goes_on { CountsOnlyRise (T.counts tree.old) (T.counts tree.new) }
-    ensures cause { OnErr result (HasCause (T.counts tree.old) (T.counts tree.new)) }
-    ensures kept { OnOk result (IsNoFault (T.counts tree.old) (T.counts tree.new)) }
+    ensures counts { IsResultExplainedByCounts (T.counts tree.old) (T.counts tree.new) result }
     ensures proper { IfObservable (T.history tree.old) (λ v. CanAddName scratch.now v
         → (T.counts tree.new).misuses ≡ (T.counts tree.old).misuses) }
 {
@@ -189,9 +178,7 @@ fn create_anew<T: Tree>(tree: &mut T, name: &Name) -> Result<(), Disk>
     ensures begun { OnOk result (IsNewFile name.now [] (T.history tree.old)
         (T.history tree.new)) }
     ensures only { OnlyScratchHasChanged name.now (T.history tree.old) (T.history tree.new) }
-    ensures goes_on { CountsOnlyRise (T.counts tree.old) (T.counts tree.new) }
-    ensures cause { OnErr result (HasCause (T.counts tree.old) (T.counts tree.new)) }
-    ensures kept { OnOk result (IsNoFault (T.counts tree.old) (T.counts tree.new)) }
+    ensures counts { IsResultExplainedByCounts (T.counts tree.old) (T.counts tree.new) result }
     ensures proper { IfObservable (T.history tree.old) (λ v. CanAddName name.now v
         → (T.counts tree.new).misuses ≡ (T.counts tree.old).misuses) }
 {
@@ -217,12 +204,7 @@ fn settle<T: Tree>(tree: &mut T, from: &Name, to: &Name) -> Result<(), Disk>
     ensures others { IfObservable (T.history tree.old) (λ v.
         Since (KeepsCrashMapsExcept (to.now ∷ from.now ∷ []) v) (T.history tree.old)
         (T.history tree.new)) }
-
-    // No count of faults falls; a fault of the tree is returned only if that count rose, and Ok
-    // only if it did not.
-    ensures goes_on { CountsOnlyRise (T.counts tree.old) (T.counts tree.new) }
-    ensures cause { OnErr result (HasCause (T.counts tree.old) (T.counts tree.new)) }
-    ensures kept { OnOk result (IsNoFault (T.counts tree.old) (T.counts tree.new)) }
+    ensures counts { IsResultExplainedByCounts (T.counts tree.old) (T.counts tree.new) result }
 
     // If the file may be moved, no call is a misuse.
     ensures proper { IfObservable (T.history tree.old) (λ v. CanRename from.now to.now v
