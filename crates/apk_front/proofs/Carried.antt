@@ -1,7 +1,7 @@
 -- A command is run, and its outcome carried out.
 use Rattle.std.proofs.Common.{◌≡◌, inl, inr, ℕ, Bool, true, false, List, [], ◌∷◌, Option, Some, None, IsSome, Result, Ok, Err, refl, sym, ap, subst, ◌∙◌}
 use Rattle.std.proofs.lemmas.Bool.{false≢true}
-use Rattle.std.specs.Prelude.{if◌then◌else◌, is_some, IfOk, IsErrOf, IsTrue, MatchResult, OnOk}
+use Rattle.std.specs.Prelude.{if◌then◌else◌, is_some, IfOk, IsErrOf, IsTrue, OnOk}
 use Rattle.base_core.specs.Calls.{HoldsNow, IfObservable}
 use Rattle.base_core.specs.Crash.{Since}
 use Rattle.base_core.specs.Undone.{IsDurable}
@@ -42,6 +42,7 @@ use Rattle.outcome.proofs.Looking.{look_leaves}
 use Rattle.apk_front.specs.Answers.{answer_for_refusal}
 use Rattle.apk_front.specs.Effects.{root_access_if_read_only}
 use Rattle.apk_front.specs.Moments.{AnswersOutcome, AreReadDuringRun, AreOldOrLeadToOutcome, CommitsNothing, HasNothingToRecover, ArePathsToWriteFree, IgnoresScratchOf, IsDurableState, IsRefusedOrOutOfMemory, LeavesDurableState, LeavesDurableOnceAnswered, AreRunPathsFree, AreOutcomePathsFree, LeavesDurable, MustOutcomeBeDurable, NamesAreDurableWithoutIntentExcept, ignored_except_output}
+use Rattle.apk_front.specs.RunContracts.{IsRunByArguments}
 use Rattle.apk_front.specs.Runs.{IfNothingStaged, IsRun, IsWholeRun, IsVerdictWithoutCommit}
 use Rattle.apk_front.specs.Containers.{IsIndexOutcome, IsPackageOutcome}
 use Rattle.apk_front.specs.Verdicts.{IsPrinted, IsVerdictPrinted, Reports, ReportsOneOfOutcomes, as_outcome, read_only_outcome}
@@ -218,11 +219,11 @@ proper_by_command words command old P is proper = subst (λ (r : Result CommandL
 pub found_by_command : (words : List (List ℕ)) (command : CommandLine) (judged : Judged) → command_of words ≡ Ok command → IfOk judged (ReportsOneOfOutcomes (IsPossibleOutcome (Ok command))) → IfOk judged (ReportsOneOfOutcomes (IsPossibleOutcome (command_of words)))
 found_by_command words command judged is found = subst (λ (r : Result CommandLine ℕ). IfOk judged (ReportsOneOfOutcomes (IsPossibleOutcome r))) (sym is) found
 
-pub words_by_command : (words : List (List ℕ)) (command : CommandLine) (judged : Judged) → command_of words ≡ Ok command
-    → (IsTrue (ignores_files (effect_of command.applet)) → MatchResult judged (λ verdict. (files : Files) → IsOutcome (Ok command) files (as_outcome files verdict)) (λ fault. fault ≡ NoMemory))
-    → IsTrue (depends_only_on_arguments (command_of words)) → MatchResult judged (λ verdict. (files : Files) → IsOutcome (command_of words) files (as_outcome files verdict)) (λ fault. fault ≡ NoMemory)
-words_by_command words command judged is found =
-    subst (λ (r : Result CommandLine ℕ). IsTrue (depends_only_on_arguments r) → MatchResult judged (λ verdict. (files : Files) → IsOutcome r files (as_outcome files verdict)) (λ fault. fault ≡ NoMemory)) (sym is) found
+pub arguments_by_command : {Tree : Type 0} (words : List (List ℕ)) (command : CommandLine) (old now : Tree) (judged : Judged) → command_of words ≡ Ok command
+    → (IsTrue (ignores_files (effect_of command.applet)) → IsRunByArguments (IsOutcome (Ok command)) old now judged)
+    → IsTrue (depends_only_on_arguments (command_of words)) → IsRunByArguments (IsOutcome (command_of words)) old now judged
+arguments_by_command words command old now judged is ran =
+    subst (λ (r : Result CommandLine ℕ). IsTrue (depends_only_on_arguments r) → IsRunByArguments (IsOutcome r) old now judged) (sym is) ran
 
 pub same_by_command : (words : List (List ℕ)) (command : CommandLine) (P : Type 0) → command_of words ≡ Ok command → (IsTrue (does_only_read (effect_of command.applet)) → P) → IsTrue (reads_only (command_of words)) → P
 same_by_command words command P is same = subst (λ (r : Result CommandLine ℕ). IsTrue (reads_only r) → P) (sym is) same
