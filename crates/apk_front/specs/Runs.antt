@@ -76,7 +76,7 @@ pub record IsRun (IsOne : Outcome → Type 0) (effect : Effect) (output : Option
   -- a run that commits nothing writes nothing
   pub idle : (outcome : Outcome) → IsOne outcome → outcome.commits ≡ false → now ≡ old
 
--- memory ran out, or an outcome commits nothing
+-- the run reports that memory ran out, or one of these outcomes commits nothing, whatever was judged
 abbrev pub IsVerdictWithoutCommit : (Outcome → Type 0) → Result Verdict TreeFault → Type 0
 IsVerdictWithoutCommit IsOne judged = IsErrOf judged Memory ⊎ HasOutcomeWithoutCommit IsOne
 

@@ -98,7 +98,7 @@ after_remove name v = with_name_removed name v (v.names name)
 abbrev pub after_sync_names : TreeState → TreeState
 after_sync_names v = record v { older = [] }
 
--- the state after a call that failed and changed nothing: the state before it
+-- the state after a call that failed and changed nothing: it is the state before the call
 abbrev pub after_failed_call : TreeState → TreeState
 after_failed_call v = v
 

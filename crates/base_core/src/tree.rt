@@ -94,8 +94,9 @@ pub trait Tree {
         ensures counts { IsCounted (CanCreate name.now) (history self.old)
             (counts self.old) (counts self.new) result };
 
-    /// Adds a piece at the file's end. The file is unsynced then, and may be unsynced if the call
-    /// fails. An absent name is a misuse, and a fault.
+    /// Adds a piece at the file's end. After the call the file is unsynced; after a failed call it
+    /// may be unsynced. `Disk` reports an I/O error of the tree. An absent name is a misuse, and a
+    /// fault.
     fn append(&mut self, name: &Name, piece: &[u8]) -> Result<(), Disk>
         ensures moves { ChangesHistory (HasName name.now) (after_append name.now piece.now)
             (after_failed_append name.now)

@@ -41,7 +41,7 @@ mixed_up_positions refusal = option_and_then mixed_up_positions_of_cause (cause_
 
 -- ---- files of a package
 
--- the entry of an array at a position, which counts from 1
+-- the entry of an array at a position, counted from 1; None if the array has no such position
 abbrev pub item_at : Plain → ℕ → Option Plain
 item_at array position =
     if nat_le 1 position && nat_le position (count_of (entries_in array))

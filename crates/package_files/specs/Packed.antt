@@ -82,6 +82,7 @@ pub record ArePackedFolders (written : List ℕ) (folders : Vec Folder Global)
   pub are : AreFoldersFrom folders.items sources
   pub blocks : written ≡ contents_blocks (contents_of_folders 1 sources)
 
--- what was packed of a package is that of the folders that were read: folders and blocks together
+-- A packing is made of the folders that were read. Its folders have their names and files, and its
+-- blocks are the blocks of contents of these files, in their order.
 abbrev pub IsPacking : Packing → List SourceFolder → Type 0
 IsPacking packing sources = ArePackedFolders packing.blocks.items packing.folders sources

@@ -38,7 +38,8 @@ pieces_of_one_file (suc n) e digest bytes further =
     piece (part_of e false) (take PIECE_LEN bytes)
     (pieces_of_one_file n e digest (drop PIECE_LEN bytes) further)
 
--- how many whole pieces of a file of this length precede its last one, which is not empty
+-- how many pieces of a file of this length precede its last piece, which is not empty, and may be
+-- a whole piece too
 abbrev pub whole_piece_count : ℕ → ℕ
 whole_piece_count len = (len - 1) / PIECE_LEN
 

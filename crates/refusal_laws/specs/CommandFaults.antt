@@ -1,5 +1,5 @@
--- Why a command is refused that changes the installed packages. The refusals are in `docs/commands.md`,
--- "`add` and `del`" and "`upgrade` and `fix`", in their order.
+-- The reasons for which a command that changes the installed packages is refused. They are in
+-- `docs/commands.md`, "`add` and `del`" and "`upgrade` and `fix`", in the order of the tests.
 use Rattle.std.specs.Prelude.{◌≡◌, ◌⊎◌, ℕ, false, List, Option, Ok}
 use Rattle.outcome.specs.adb_fields.FirstPair.{IsIn}
 use Rattle.base_core.specs.Files.{Files}

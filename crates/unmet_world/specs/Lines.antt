@@ -133,7 +133,8 @@ abbrev pub no_package_text : Option (List ℕ) → List ℕ
 no_package_text None = codes "no package"
 no_package_text (Some similar) = codes "no package" ++ codes "; a similar name is " ++ similar
 
--- the candidates at some places, which offer a name
+-- the text on the candidates at these places, which offer a name; without places, it says that no
+-- package has the name
 abbrev pub offered_text : SealedPool → List Dependency → List ℕ → List ℕ → List ℕ
 offered_text pool listed name [] = no_package_text (similar_name name pool.candidates)
 offered_text pool listed name (c ∷ cs) =

@@ -64,7 +64,8 @@ fn explanation_for<T: Tree>(
     }
 }
 
-// The explanation of a command.
+// The explanation why no selection satisfies the new world of a command that changes packages. The
+// text is empty for a command with another applet.
 fn explanation_of_command<T: Tree>(
     alloc: Global,
     command: &Command,
