@@ -5,7 +5,7 @@
 ghost use Rattle.base_core.specs.Read.{OnlyReads, bytes_in};
 ghost use Rattle.change_inputs.specs.Answers.{Agrees, IsDiskOrMemoryFailure, IsFileFoundInTree};
 ghost use Rattle.change_inputs.specs.Inputs.{root_found, Inputs, first_index_read, inputs_of};
-ghost use Rattle.change_inputs.specs.RootFiles.{AreInTreeAsRoot};
+ghost use Rattle.change_inputs.specs.RootFiles.{AreRootFilesInTree};
 ghost use Rattle.change_inputs.specs.Seen.{root_seen};
 ghost use Rattle.root_names.specs.RootNames.{database_name, text_database_name};
 ghost use Rattle.std.specs.Prelude.{◌≡◌, IfErr, IfOk, None, OnOk, ◌<◌, ◌+◌, ℕ, List, Ok, length};
@@ -53,7 +53,7 @@ pub(crate) struct TestedRoot {
 /// Reads the files of a root: first the databases, then world and the repositories.
 pub(crate) fn read_root<T: Tree>(alloc: Global, tree: &mut T) -> Result<RootFiles, Refused>
     // If the tree's files are observable, each is the one under its name.
-    ensures found { IfOk result (λ files. AreInTreeAsRoot (T.history tree.old) files) }
+    ensures found { IfOk result (λ files. AreRootFilesInTree (T.history tree.old) files) }
     // Nothing is refused here.
     ensures failed { IfErr result IsDiskOrMemoryFailure }
     // The tree is only read; a fault of it has its cause.

@@ -6,10 +6,10 @@ ghost use Rattle.base_core.specs.Calls.{HoldsNow, IfObservable};
 ghost use Rattle.base_core.specs.Crash.{Since};
 ghost use Rattle.base_core.specs.Faults.{CountsOnlyRise, HasCause, IsNoFault};
 ghost use Rattle.base_core.specs.Tree.{TreeState, CanRename};
-ghost use Rattle.file_replacement.specs.Lengths.{longest_replaceable_name};
+ghost use Rattle.file_replacement.specs.Lengths.{most_replaceable_name_bytes};
 ghost use Rattle.file_replacement.specs.Pieces.{OnlyScratchHasChanged, IsNewFile};
 ghost use Rattle.journal_core.specs.CallCounts.{IsResultExplainedByCounts};
-ghost use Rattle.journal_core.specs.Filling.{HasNewFileAt, IsReadyToMove, IsDurablyMoved, CanAddName, CanAddBothNames, synced_file};
+ghost use Rattle.journal_core.specs.Filling.{HasChangedOnlyByNewFile, IsReadyToMove, IsDurablyMoved, CanAddName, CanAddBothNames, synced_file};
 ghost use Rattle.journal_core.specs.Kept.{KeepsCrashMapsExcept};
 ghost use Rattle.journal_core.specs.Recovery.{intent_name};
 ghost use Rattle.journal_core.specs.Replacing.{scratch_of};
@@ -56,7 +56,7 @@ impl<'a> NewFile<'a> {
         name: &'a Name,
     ) -> Result<NewFile<'a>, TreeFault>
         // The scratch name, which is longer, has to be a name too.
-        requires { length name.now ≤ longest_replaceable_name }
+        requires { length name.now ≤ most_replaceable_name_bytes }
         ensures name { IfOk result (λ file. file ≡ name.now) }
         // The file is made, and has no bytes.
         ensures begun { OnOk result (IsNewFile (scratch_of name.now) [] (T.history tree.old)
@@ -146,7 +146,7 @@ impl<'a> NewFile<'a> {
 /// The scratch name of an output, under which the new file is made: the output's own name and
 /// `.apk-tmp`.
 fn scratch_name(alloc: Global, name: &Name) -> Result<Name, AllocError>
-    requires { length name.now ≤ longest_replaceable_name }
+    requires { length name.now ≤ most_replaceable_name_bytes }
     ensures { IfOk result (λ scratch. scratch ≡ scratch_of name.now) }
 {
     let mut bytes = Vec::from_slice(alloc, name.as_bytes())?;
@@ -194,11 +194,11 @@ fn create_anew<T: Tree>(tree: &mut T, name: &Name) -> Result<(), Disk>
 fn settle<T: Tree>(tree: &mut T, from: &Name, to: &Name) -> Result<(), Disk>
     requires { to.now ≢ intent_name }
     ensures moments { IfObservable (T.history tree.old) (λ v. (bytes : List ℕ) (start : TreeState)
-        → HasNewFileAt from.now (synced_file bytes) start v
+        → HasChangedOnlyByNewFile from.now (synced_file bytes) start v
         → Since (IsReadyToMove from.now to.now bytes start) (T.history tree.old) (T.history
         tree.new)) }
     ensures settled { IfObservable (T.history tree.old) (λ v. (bytes : List ℕ) (start : TreeState)
-        → HasNewFileAt from.now (synced_file bytes) start v
+        → HasChangedOnlyByNewFile from.now (synced_file bytes) start v
         → OnOk result (IfObservable (T.history tree.new) (IsDurablyMoved from.now to.now bytes
         start))) }
     ensures others { IfObservable (T.history tree.old) (λ v.

@@ -2,7 +2,7 @@
 //! are in `docs/commands.md`, "Hints".
 ghost use Rattle.std.specs.Prelude.{◌≡◌, ◌⊎◌, ◌++◌, [], ℕ, List, Err, IfErr, IfOk, None, OnOk, Some};
 ghost use Rattle.base_core.specs.Read.{OnlyReads, bytes_in};
-ghost use Rattle.base_core.specs.Sink.{sink_change};
+ghost use Rattle.base_core.specs.Sink.{sink_before_and_after};
 ghost use Rattle.base_core.specs.declared.tree.TreeFault.TheVariants.{Disk as DiskFault};
 ghost use Rattle.hint_core.specs.Contents.{AreLinesOfRead, ExplainsContents, ExplainsFile, ExplainsMixedUp, place_of_bad_file, file_line, mixed_up_positions, mixed_up_positions_of_cause, package_lines, payload_lines, position_line, refused_file, file_name_of_word};
 ghost use Rattle.hint_core.specs.Told.{Tells};
@@ -55,7 +55,7 @@ pub fn explain_contents<T: Tree, S: Sink>(
     ensures told { (lines : List ℕ)
         × ((lines ≡ []) ⊎ ExplainsContents words.now refusal.now (T.history tree.old) lines)
         × OnOk result (ExplainsContents words.now refusal.now (T.history tree.old) lines)
-        × Tells lines (sink_change S.bytes S.counts sink.old sink.new) result }
+        × Tells lines (sink_before_and_after S.bytes S.counts sink.old sink.new) result }
     // The tree is only read.
     ensures tree { OnlyReads HintFault.Disk (T.history tree.old) (T.history tree.new)
         (T.counts tree.old) (T.counts tree.new) result }

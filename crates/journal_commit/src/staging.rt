@@ -11,7 +11,7 @@ ghost use Rattle.journal_commit.specs.StageRun.{IsStaging, IsStagingRun, IsStage
 ghost use Rattle.base_core.specs.Calls.{IfObservable};
 ghost use Rattle.base_core.specs.Files.{Files};
 ghost use Rattle.journal_core.specs.Recovery.{Intent, files_after_actions, intent_name};
-ghost use Rattle.journal_core.specs.journal_intent.FreeNames.{HasFreeNames};
+ghost use Rattle.journal_core.specs.journal_intent.FreeNames.{HasFreeDistinctNames};
 
 use base_core::{Disk, Tree};
 use journal_core::Stage;
@@ -127,6 +127,6 @@ pub fn a_staging_run_is_a_stage_run()
 /// Once all actions are done nothing is staged, if only the files of the writes were.
 pub fn a_change_leaves_nothing_staged()
     ensures { (intent : Intent) (contents : List (List ℕ)) (files : Files)
-        → HasFreeNames intent → length contents ≡ length intent.writes → IsEmptyStage files
+        → HasFreeDistinctNames intent → length contents ≡ length intent.writes → IsEmptyStage files
         → IsEmptyStage (files_after_actions intent (files_with_staged 1 contents files)) }
 {}

@@ -11,7 +11,7 @@ use Rattle.base_core.specs.Undone.{IsDurable}
 use Rattle.journal_core.specs.Filling.{synced_file}
 use Rattle.journal_core.specs.Kept.{KeepsCrashMapsExcept, KeepsFilesExcept, NamesAreDurableExcept, RecoversTo}
 use Rattle.journal_core.specs.Recovery.{Intent, EachCrashLeavesOldOrNew, EachCrashLeaves, StateDependsOn, files_after_actions, intent_name, read_intent, stage_name}
-use Rattle.journal_intent.specs.FreeNames.{HasFreeNames}
+use Rattle.journal_intent.specs.FreeNames.{HasFreeDistinctNames}
 use Rattle.journal_core.specs.Quiet.{EachCrashLeavesOld}
 use Rattle.journal_core.specs.Staged.{Staging, CommittedBy, IsCommittedFor, IsOldUntilCommit, IsStaged}
 
@@ -50,7 +50,7 @@ pub record IsReadyToPublish (intent : Intent) (base : Files) (made : ℕ) (v : T
   -- its writes can be numbered in 64 bits, and its actions do not change the intent and the staging
   -- area
   pub few : length intent.writes < 2 ^ 63
-  pub free : HasFreeNames intent
+  pub free : HasFreeDistinctNames intent
 
 -- a moment of the publishing, at which the intent may be moved to its name: a crash leaves a state from
 -- before, or that of these files if an intent made since is read

@@ -17,7 +17,7 @@ ghost use Rattle.journal_core.specs.Kept.{IsRestoredByNoCrash, JournalOnlyShrink
 ghost use Rattle.journal_core.specs.Quiet.{StateIsUnchanged};
 ghost use Rattle.journal_core.specs.Recovery.{EachCrashLeaves, StateDependsOn, files_after_actions, intent_name, read_intent, stage_name};
 ghost use Rattle.journal_core.specs.Staged.{Staging, AreJournalPathsFree, AreStagingPathsFree, IsCarryingOutActions, IsOnlyNameOfFile, IsStaged, action_count, new_stage};
-ghost use Rattle.journal_intent.specs.FreeNames.{HasFreeNames};
+ghost use Rattle.journal_intent.specs.FreeNames.{HasFreeDistinctNames};
 ghost use Rattle.journal_intent.specs.Intent.{AreChangeNames};
 ghost use Rattle.journal_intent.specs.IntentValue.{intent_of_lists, value_of_intent};
 
@@ -148,7 +148,7 @@ impl Stage {
     /// The names of the stage's actions are free, and no write is repeated. There are fewer than
     /// 2^63 actions, so that their number and the next one have 64 bits.
     pub fn names_are_free(&self)
-        ensures free { HasFreeNames self.now.intent }
+        ensures free { HasFreeDistinctNames self.now.intent }
         ensures few { action_count self.now.intent < 2 ^ 63 }
     {
         // A law that the proof needs; it computes nothing.

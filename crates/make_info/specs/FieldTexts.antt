@@ -12,7 +12,7 @@ use Rattle.dep_core.specs.Dependency.{is_package_name}
 use Rattle.root_names.specs.PackagePath.{package_file_name}
 use Rattle.command_core.specs.Values.{first_value}
 use Rattle.make_info.specs.declared.information.TheConstants.{COLON}
-use Rattle.command_core.specs.Files.{longest_output, without_dot_slash}
+use Rattle.command_core.specs.Files.{most_output_path_bytes, without_dot_slash}
 use Rattle.command_core.specs.declared.values.OptionValue.{OptionValue}
 use Rattle.make_info.specs.declared.field.Field.{Field}
 use Rattle.make_info.specs.declared.field.Field.TheVariants as Fields
@@ -104,7 +104,7 @@ named_output values = option_map file_name_in (first_value OUTPUT values)
 -- output is known, nothing is too long
 abbrev pub is_output_name_too_long : Option (List ℕ) → Bool
 is_output_name_too_long None = false
-is_output_name_too_long (Some file) = nat_lt longest_output (length file)
+is_output_name_too_long (Some file) = nat_lt most_output_path_bytes (length file)
 
 -- whether the output is NAME-VERSION.apk, and that is too long
 abbrev pub is_default_output_too_long : List OptionValue → Bool

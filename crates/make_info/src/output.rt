@@ -7,7 +7,7 @@ ghost use Rattle.make_info.specs.Output.{is_mkpkg, output_name, package_output};
 ghost use Rattle.std.specs.Option.{option_map};
 ghost use Rattle.std.specs.Prelude.{is_some, ◌≡◌, ◌||◌, IfOk, is_ok, ◌≤◌, List, ℕ, Some, IsSome, IsTrue, length};
 ghost use Rattle.command_core.specs.Command.{CommandLine};
-ghost use Rattle.command_core.specs.Files.{longest_output};
+ghost use Rattle.command_core.specs.Files.{most_output_path_bytes};
 ghost use Rattle.command_core.specs.Sound.{IsValidCommand};
 ghost use Rattle.command_core.specs.declared.command.Applet.TheVariants.{Mkndx, Mkpkg};
 
@@ -177,7 +177,7 @@ fn is_allowed(alloc: Global, command: &Command) -> Result<bool, AllocError>
 /// An output's name is short enough for its scratch name, which has eight more bytes.
 pub fn an_output_is_short()
     ensures { (command : CommandLine) (name : List ℕ) → IsValidCommand command
-        → output_name command ≡ Some name → length name ≤ longest_output }
+        → output_name command ≡ Some name → length name ≤ most_output_path_bytes }
 {
     // A law that the proof needs; it computes nothing.
     values_are_of_their_kind();

@@ -23,8 +23,8 @@ abbrev pub files_size : List File → ℕ
 files_size files = sum_by (λ (file : File). size_of_kind file.kind) files
 
 -- the sum of the sizes of all files of folders that were packed
-abbrev pub packed_size : List Folder → ℕ
-packed_size folders = sum_by (λ (folder : Folder). files_size folder.files.items) folders
+abbrev pub installed_size_of_folders : List Folder → ℕ
+installed_size_of_folders folders = sum_by (λ (folder : Folder). files_size folder.files.items) folders
 
 -- a packed file is that of a file that was read: it has the name, and is what the bytes say
 pub record IsFileFrom (file : File) (source : Source) : Type 0 where

@@ -3,7 +3,7 @@
 //! selected".
 ghost use Rattle.std.specs.Prelude.{◌≡◌, ◌⊎◌, ℕ, List, [], Err, IfOk, OnOk};
 ghost use Rattle.base_core.specs.Read.{OnlyReads};
-ghost use Rattle.base_core.specs.Sink.{sink_change};
+ghost use Rattle.base_core.specs.Sink.{sink_before_and_after};
 ghost use Rattle.base_core.specs.declared.tree.TreeFault.TheVariants.{Disk as DiskFault};
 ghost use Rattle.change_inputs.specs.Seen.{inputs_seen};
 ghost use Rattle.change_inputs.specs.declared.root.Refused.TheVariants.{Disk as ReadFailed};
@@ -37,7 +37,7 @@ pub fn explain_selection<T: Tree, S: Sink>(
     ensures told { (text : List ℕ)
         × ((text ≡ []) ⊎ ExplainsCommandLine (command_of words.now) (T.history tree.old) text)
         × OnOk result (ExplainsCommandLine (command_of words.now) (T.history tree.old) text)
-        × Tells text (sink_change S.bytes S.counts sink.old sink.new) result }
+        × Tells text (sink_before_and_after S.bytes S.counts sink.old sink.new) result }
     // The tree is only read.
     ensures tree { OnlyReads HintFault.Disk (T.history tree.old) (T.history tree.new)
         (T.counts tree.old) (T.counts tree.new) result }

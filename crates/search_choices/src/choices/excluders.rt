@@ -12,7 +12,7 @@ ghost use Rattle.search_tables.specs.candidate_core.PackageMatches.{AreMatchesAm
 ghost use Rattle.search_tables.specs.candidate_core.Rank.{candidate_at_passes};
 ghost use Rattle.search_choices.specs.Choices.{IsConsistent, choices_of, pool_of};
 ghost use Rattle.search_choices.specs.ExcluderSearch.{FindsExcluder, HasConflictsOfChoices, IsUnchosenCandidate};
-ghost use Rattle.search_tables.specs.Excluders.{IsExcluder, IsNotExcludedAt};
+ghost use Rattle.search_tables.specs.Excluders.{IsExcludingChoice, IsNotExcludedAt};
 ghost use Rattle.search_tables.specs.Selection.{exclude_each_other, is_met, occupied_names};
 
 use super::Choices;
@@ -39,7 +39,7 @@ impl<'p> Choices<'p> {
         ensures found { IfOk result (λ found. MatchOption found
             ((k : ℕ) → IsIn k (choices_of self.now) →
             exclude_each_other (pool_of self.now) k id ≡ false)
-            (λ k. IsExcluder (pool_of self.now) (choices_of self.now) id k)) }
+            (λ k. IsExcludingChoice (pool_of self.now) (choices_of self.now) id k)) }
         ensures matches { OnOk result (AreMatchesAmong (pool_of self.now).candidates matches.new) }
     {
         let details = self.pool.details(id);
