@@ -2,6 +2,7 @@
 mod Deciding
 mod DroppedLines
 mod DueLines
+mod EntryFields
 mod FirstNumbers
 mod InfoSteps
 mod LetterLines
@@ -16,6 +17,8 @@ mod RecordFields
 mod Replacing
 mod ReportParts
 mod Reported
+mod SameIds
+mod ScriptTexts
 mod Sections
 mod Tests
 mod TouchedPaths

@@ -2,6 +2,9 @@
 pub mod WhichChange
 pub mod KeptNames
 pub mod FirstScripts
+pub mod ScriptTexts
+pub mod SameIds
+pub mod EntryFields
 pub mod DueTriggers
 pub mod InfoAnswers
 pub mod ReplacesEntries

@@ -2,11 +2,14 @@
 //!
 //! Each is a function that does nothing; its contract is what it says. The rules are in
 //! `docs/commands.md`, "`add` and `del`", "`upgrade` and `fix`", "Files that several packages list",
-//! "`info`", "Queries" and "`manifest`", and in `docs/formats.md`, "Text database of version 2".
+//! "What a change does with files", "`info`", "Queries" and "`manifest`", in `docs/formats.md`,
+//! "Text database of version 2", and in `docs/selection.md`, "What there is to choose from".
 #![tactic(auto)]
 
 pub mod changes;
+pub mod entries;
 pub mod found;
+pub mod ids;
 pub mod info;
 pub mod kept;
 pub mod letters;

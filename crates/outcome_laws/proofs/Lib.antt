@@ -4,3 +4,4 @@ mod Dumped
 mod DumpFaults
 mod Verified
 mod Versions
+mod MadeFiles

@@ -3,3 +3,4 @@ pub mod TestedFiles
 pub mod DumpedFiles
 pub mod CheckedVersions
 pub mod DemoLines
+pub mod MadeFiles

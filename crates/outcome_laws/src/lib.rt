@@ -1,4 +1,4 @@
-//! Laws above the outcomes of `verify`, `adbdump`, `version` and `demo`.
+//! Laws above the outcomes of `verify`, `adbdump`, `version`, `demo`, `mkpkg` and `mkndx`.
 //!
 //! Each is a function that does nothing; its contract is what it says. The rules are in
 //! `docs/commands.md`, in the section of each command.
@@ -7,5 +7,6 @@
 pub mod demo;
 pub mod dump;
 pub mod failures;
+pub mod make;
 pub mod verify;
 pub mod version;

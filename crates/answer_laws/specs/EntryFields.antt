@@ -1,0 +1,41 @@
+-- What the entry of a file says of the bytes of the file. The rules are in `docs/commands.md`, "What a
+-- change does with files", on configuration files; the fields are in `docs/formats.md`, "Schemas",
+-- table 4. Serves the laws of `src/entries.rt`.
+use Rattle.std.specs.Prelude.{◌≡◌, ℕ, List, ◌++◌, codes, drop, length}
+use Rattle.sha1.specs.Sha1.{sha1}
+use Rattle.sha2.specs.Sha256.{sha256}
+use Rattle.sha2.specs.Sha512.{sha512}
+use Rattle.adb_view.specs.Plain.{Plain}
+use Rattle.adb_view.specs.Values.{int_in, text_in}
+use Rattle.adb_view.specs.declared.tables.Which.TheVariants.{File}
+use Rattle.make_laws.specs.NamedFields.{field_named}
+
+-- the size that an entry gives; 0 if it gives none
+abbrev pub size_given : Plain → ℕ
+size_given entry = int_in (field_named File (codes "size") entry)
+
+-- the digest that an entry gives; no bytes if it gives none
+abbrev pub digest_given : Plain → List ℕ
+digest_given entry = text_in (field_named File (codes "hashes") entry)
+
+-- the target that an entry gives; no bytes if the file is no link
+abbrev pub target_given : Plain → List ℕ
+target_given entry = text_in (field_named File (codes "target") entry)
+
+-- two entries give the same size, the same digest and the same target
+pub record GiveSameFields (a b : Plain) : Type 0 where
+  pub size : size_given a ≡ size_given b
+  pub digest : digest_given a ≡ digest_given b
+  pub target : target_given a ≡ target_given b
+
+-- the bytes of a file that represents a link: a mark, and the target without its first two bytes, which
+-- say that it is a link
+abbrev pub RepresentsLink : List ℕ → List ℕ → Type 0
+RepresentsLink target bytes = bytes ≡ codes "!<symlink>" ++ drop 2 target
+
+-- The bytes have this digest. The length of the digest selects the function (FIPS 180-4). A digest of
+-- another length is not compared.
+pub record HasDigest (digest bytes : List ℕ) : Type 0 where
+  pub of_20_bytes : length digest ≡ 20 → digest ≡ sha1 bytes
+  pub of_32_bytes : length digest ≡ 32 → digest ≡ sha256 bytes
+  pub of_64_bytes : length digest ≡ 64 → digest ≡ sha512 bytes

@@ -1,0 +1,26 @@
+-- Which scripts of a package have text. The rules are in `docs/commands.md`, "`add` and `del`", on
+-- scripts, and the fields in `docs/formats.md`, "Schemas", tables 6 and 7. Serves the laws of
+-- `src/scripts.rt`.
+use Rattle.std.specs.Prelude.{◌≡◌, ◌≢◌, ◌-◌, ℕ, List, [], ◌∷◌, ◌++◌, codes}
+use Rattle.adb_view.specs.Plain.{Plain}
+use Rattle.adb_view.specs.Values.{entry_in, text_in}
+use Rattle.adb_view.specs.declared.tables.Which.TheVariants.{Package}
+use Rattle.base_core.specs.Lists.{IsIn}
+use Rattle.make_laws.specs.NamedFields.{field_named}
+use Rattle.make_laws.specs.ScriptFiles.{script_named}
+
+-- the text of the script with this number, which is its place in the field `scripts`, counted from 1
+abbrev pub text_of_number : Plain → ℕ → List ℕ
+text_of_number pkg number = text_in (entry_in (field_named Package (codes "scripts") pkg) (number - 1))
+
+-- the text of the script with this name
+abbrev pub text_of_name : Plain → List ℕ → List ℕ
+text_of_name pkg name = text_in (script_named name pkg)
+
+-- the first number of a list whose script has text
+pub record IsFirstWithText (pkg : Plain) (numbers : List ℕ) (number : ℕ) : Type 0 where
+  pub front : List ℕ
+  pub rest : List ℕ
+  pub numbers_are : numbers ≡ front ++ number ∷ rest
+  pub text : text_of_number pkg number ≢ []
+  pub earlier : (m : ℕ) → IsIn m front → text_of_number pkg m ≡ []

@@ -1,0 +1,41 @@
+//! What the entry of a file says of the bytes of the file, and which files are protected.
+//! The rules are in `docs/commands.md`, "What a change does with files", on configuration files.
+
+ghost use Rattle.std.specs.Prelude.{◌≡◌, ◌≢◌, ◌↔◌, ℕ, List, [], ◌++◌, codes, Option, Some, true, false};
+ghost use Rattle.adb_view.specs.Plain.{Plain};
+ghost use Rattle.answer_laws.specs.EntryFields.{GiveSameFields, HasDigest, RepresentsLink, digest_given, size_given, target_given};
+ghost use Rattle.audit_core.specs.file_guard.AsListed.{do_entries_agree, is_as_listed};
+ghost use Rattle.change_outcome.specs.change_files.Fate.{is_protected_path};
+ghost use Rattle.change_outcome.specs.change_files.FilesAfter.{is_modified_from_entry};
+
+/// Two entries agree exactly if they give the same size, the same digest and the same target.
+pub fn two_entries_agree_exactly_if_size_digest_and_target_are_equal()
+    ensures { (a b : Plain) → (do_entries_agree a b ≡ true) ↔ GiveSameFields a b }
+{}
+
+/// The bytes of a file are as its entry lists them exactly if one of three cases holds. The entry
+/// gives a target, and the bytes represent the link. It gives only a digest, and the bytes have it.
+/// It gives neither, its size is 0, and there are no bytes.
+pub fn a_file_is_as_listed_exactly_if_it_has_the_link_or_the_digest_of_its_entry()
+    ensures link { (entry : Plain) (bytes : List ℕ) → target_given entry ≢ []
+        → (is_as_listed entry bytes ≡ true) ↔ RepresentsLink (target_given entry) bytes }
+    ensures digest { (entry : Plain) (bytes : List ℕ) → target_given entry ≡ []
+        → digest_given entry ≢ []
+        → (is_as_listed entry bytes ≡ true) ↔ HasDigest (digest_given entry) bytes }
+    ensures neither { (entry : Plain) (bytes : List ℕ) → target_given entry ≡ []
+        → digest_given entry ≡ []
+        → (is_as_listed entry bytes ≡ true) ↔ ((size_given entry ≡ 0) × (bytes ≡ [])) }
+{}
+
+/// A file is modified exactly if it is present and its bytes are not as its entry lists them.
+pub fn a_file_is_modified_exactly_if_it_is_present_and_not_as_listed()
+    ensures { (entry : Plain) (found : Option (List ℕ))
+        → (is_modified_from_entry entry found ≡ true)
+        ↔ ((bytes : List ℕ) × (found ≡ Some bytes) × (is_as_listed entry bytes ≡ false)) }
+{}
+
+/// A path is protected exactly if it begins with `etc/`.
+pub fn a_path_is_protected_exactly_if_it_is_below_etc()
+    ensures { (path : List ℕ)
+        → (is_protected_path path ≡ true) ↔ ((rest : List ℕ) × (path ≡ codes "etc/" ++ rest)) }
+{}

@@ -1,0 +1,77 @@
+-- What `mkpkg` and `mkndx` write, and which refusal they report. The rules are in `docs/commands.md`,
+-- "`mkpkg`" and "`mkndx PACKAGE..`". Serves the laws of `src/make.rt`.
+use Rattle.std.specs.Prelude.{◌≡◌, ◌≢◌, ◌⊎◌, ℕ, true, false, List, [], ◌∷◌, ◌++◌, codes, Option, Some, None, Result, Ok, Err}
+use Rattle.base_core.specs.Files.{Files}
+use Rattle.base_core.specs.Lists.{IsIn}
+use Rattle.outcome.specs.make_info.declared.fault.MakeFault.{MakeFault}
+use Rattle.outcome.specs.make_info.declared.fault.MakeFault.TheVariants.{FileMissing as NoFile, FileBad as BadFile, InfoBad as BadInfo, TooLarge, Disk, Memory}
+use Rattle.report_core.specs.Texts.{refusal_line}
+use Rattle.report_core.specs.declared.refusal.Refusal.{Refusal}
+use Rattle.report_core.specs.declared.refusal.Refusal.TheVariants.{FileMissing, FileBad, InfoBad}
+use Rattle.outcome.specs.Outcome.{Outcome}
+
+-- ---- reserved names
+
+-- four names; they and all names below them are reserved
+abbrev pub four_names : List (List ℕ)
+four_names = codes "etc/apk/world" ∷ codes "lib/apk/intent" ∷ codes "lib/apk/stage" ∷
+    codes "lib/apk/db" ∷ []
+
+-- a name is one of the four, or one of them followed by a slash and by more
+pub record IsReservedName (name : List ℕ) : Type 0 where
+  pub top : List ℕ
+  pub listed : IsIn top four_names
+  pub below : (name ≡ top) ⊎ ((rest : List ℕ) × (name ≡ top ++ codes "/" ++ rest))
+
+-- the output, if there is one, has no reserved name
+abbrev pub IsUnreserved : Option (List ℕ) → Type 0
+IsUnreserved output = (name : List ℕ) → output ≡ Some name → IsReservedName name → ⊥
+
+-- ---- outcomes
+
+-- the command is refused: it prints the line of the refusal on standard error, and nothing else, and
+-- writes nothing
+pub record IsRefusedWith (refusal : Refusal) (files : Files) (outcome : Outcome) : Type 0 where
+  pub refused : outcome.refusal ≡ Some refusal
+  pub prints : outcome.out ≡ []
+  pub explains : outcome.err ≡ refusal_line refusal
+  pub keeps : outcome.files ≡ files
+  pub commits : outcome.commits ≡ false
+
+-- the files after an output was written: it has these bytes, nothing is under its scratch name, and
+-- each other name is as before
+pub record HasOutputNamed (name bytes : List ℕ) (before after : Files) : Type 0 where
+  pub written : after name ≡ Some bytes
+  pub scratch : after (name ++ codes ".apk-tmp") ≡ None
+  pub others : (q : List ℕ) → q ≢ name → q ≢ name ++ codes ".apk-tmp" → after q ≡ before q
+
+-- the same for an output that a command may lack: then the files are as before
+abbrev pub HasOutput : Option (List ℕ) → List ℕ → Files → Files → Type 0
+HasOutput None bytes before after = after ≡ before
+HasOutput (Some name) bytes before after = HasOutputNamed name bytes before after
+
+-- the command has written its output and printed its report
+pub record IsWritten (output : Option (List ℕ)) (bytes report : List ℕ) (files : Files)
+    (outcome : Outcome) : Type 0 where
+  pub accepted : outcome.refusal ≡ None
+  pub prints : outcome.out ≡ report
+  pub explains : outcome.err ≡ []
+  pub writes : HasOutput output bytes files outcome.files
+  pub commits : outcome.commits ≡ true
+
+-- ---- what was made
+
+-- the refusal of a fault of the input, which is a file that is absent or bad, or a bad value of `-I`
+abbrev pub input_refusal : MakeFault → Option Refusal
+input_refusal (NoFile place) = Some (FileMissing place)
+input_refusal (BadFile place cause) = Some (FileBad place cause)
+input_refusal (BadInfo place) = Some (InfoBad place)
+input_refusal (TooLarge bytes values) = None
+input_refusal Disk = None
+input_refusal Memory = None
+
+-- the input has no fault: a container was made, or it is too large
+abbrev pub IsMadeOrTooLarge : Result (List ℕ) MakeFault → Type 0
+IsMadeOrTooLarge made =
+    ((bytes : List ℕ) × (made ≡ Ok bytes))
+    ⊎ ((bytes : ℕ) × (values : ℕ) × (made ≡ Err (TooLarge bytes values)))
