@@ -1,5 +1,5 @@
 -- When two ids are those of one package.
-use Rattle.std.proofs.Common.{◌≡◌, ◌≢◌, ◌⊎◌, inl, inr, ◌↔◌, ◌∙◌, ℕ, ◌<◌, Bool, true, false, List, [], ◌∷◌, ◌++◌, length, drop, refl, ap, sym, arith}
+use Rattle.std.proofs.Common.{◌≡◌, ◌≢◌, inl, inr, ◌↔◌, ℕ, true, List, [], ◌∷◌, ◌++◌, length, drop, refl, arith}
 use Rattle.std.specs.Prelude.{◌&&◌, ◌||◌, nat_eq, nat_lt}
 use Rattle.std.specs.List.{starts_with}
 use Rattle.std.proofs.lemmas.Bool.{and_from, and_parts, or_cases, or_left, or_right}
@@ -10,10 +10,10 @@ use Rattle.answer_laws.specs.SameIds.{OneBeginsTheOther}
 
 -- ---- a list that begins with another
 
-pub begins : (s p : List ℕ) → starts_with nat_eq s p ≡ true → s ≡ p ++ drop (length p) s
+begins : (s p : List ℕ) → starts_with nat_eq s p ≡ true → s ≡ p ++ drop (length p) s
 begins s p = (starts_is Decides-eqb s p (starts_with nat_eq s p) refl).0
 
-pub begun : (s p rest : List ℕ) → s ≡ p ++ rest → starts_with nat_eq s p ≡ true
+begun : (s p rest : List ℕ) → s ≡ p ++ rest → starts_with nat_eq s p ≡ true
 begun s p = (starts_is Decides-eqb s p (starts_with nat_eq s p) refl).1
 
 -- ---- a list that has a byte
