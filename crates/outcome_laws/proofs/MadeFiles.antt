@@ -1,6 +1,6 @@
 -- What `mkpkg` and `mkndx` answer, and which of two refusals.
-use Rattle.std.proofs.Common.{◌≡◌, ◌≢◌, ◌⊎◌, inl, inr, ◌↔◌, ◌∙◌, ℕ, Bool, true, false, List, [], ◌∷◌, ◌++◌, length, drop, Option, Some, None, Result, Ok, Err, refl, ap, sym, subst}
-use Rattle.std.specs.Prelude.{◌||◌, if◌then◌else◌, codes, nat_eq}
+use Rattle.std.proofs.Common.{◌≡◌, ◌≢◌, ◌⊎◌, inl, inr, ◌↔◌, ℕ, true, false, List, [], ◌∷◌, ◌++◌, length, drop, Option, Some, None, Result, Ok, Err, refl, sym, subst}
+use Rattle.std.specs.Prelude.{codes, nat_eq}
 use Rattle.std.specs.List.{list_any, starts_with}
 use Rattle.std.specs.Str.{bytes_eq}
 use Rattle.std.proofs.lemmas.Bool.{false_from_ne_true, or_cases, or_left, or_right}
@@ -15,7 +15,7 @@ use Rattle.report_core.specs.declared.refusal.Refusal.{Refusal}
 use Rattle.report_core.specs.declared.refusal.Refusal.TheVariants.{FileBad, FileMissing, InfoBad, Reserved, ResultTooLarge}
 use Rattle.outcome.specs.Make.{files_with_output, make_outcome, unless_reserved}
 use Rattle.outcome.specs.Outcome.{Outcome, commit_report, just_refusal}
-use Rattle.outcome_laws.specs.MadeFiles.{HasOutput, HasOutputNamed, IsMadeOrTooLarge, IsRefusedWith, IsReservedName, IsUnreserved, IsWritten, input_refusal}
+use Rattle.outcome_laws.specs.MadeFiles.{HasOutput, IsMadeOrTooLarge, IsRefusedWith, IsReservedName, IsUnreserved, IsWritten, input_refusal}
 
 -- ---- reserved names
 
