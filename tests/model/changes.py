@@ -2,9 +2,9 @@
 """A second program that changes packages and reports on them, written from docs/commands.md,
 docs/selection.md and docs/formats.md, and random cases with what they come to by it.
 
-    python3 tests/model/changes.py SEED COUNT [sweep] | crates/rows/out/rows
+    python3 tests/model/changes.py SEED COUNT [sweep] | crates/command_tests/out/command_tests
 
-prints COUNT pairs of rows for crates/rows (tests/rows.md): repositories of a few packages, an
+prints COUNT pairs of rows for crates/command_tests (tests/rows.md): repositories of a few packages, an
 installation, further changes and questions; then files that the user changed, other packages in a
 repository, and more of both. With `sweep` about half of the command lines are stopped after each
 call, and meet a fault at each.

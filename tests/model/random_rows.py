@@ -1,5 +1,5 @@
 #!/usr/bin/env python3
-"""Rows of random containers for crates/byte_sweeps, with the answers of verify.py.
+"""Rows of random containers for crates/damage_tests, with the answers of verify.py.
 
     python3 tests/model/random_rows.py SEED COUNT [ODDS]
 

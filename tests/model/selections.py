@@ -1,7 +1,7 @@
 #!/usr/bin/env python3
-"""Rows of random repositories for crates/search_rows, with the selections of changes.py.
+"""Rows of random repositories for crates/solver_tests, with the selections of changes.py.
 
-    python3 tests/model/selections.py SEED COUNT | crates/search_rows/out/search_rows
+    python3 tests/model/selections.py SEED COUNT | crates/solver_tests/out/solver_tests
 
 prints COUNT rows, each with a question `select`. In some repositories the packages need ranges of
 each other's versions, so that a search has many dead ends: chains of packages, layers of providers,

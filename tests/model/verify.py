@@ -1,8 +1,8 @@
 #!/usr/bin/env python3
 """A second reader of containers, written from docs/formats.md alone, and the rows of
-crates/byte_sweeps that it works out.
+crates/damage_tests that it works out.
 
-    python3 tests/model/verify.py > crates/byte_sweeps/stdin     writes the rows
+    python3 tests/model/verify.py > crates/damage_tests/stdin     writes the rows
     python3 tests/model/verify.py verify FILE                    the first failed test, or `sound`
     python3 tests/model/verify.py dump FILE                      the text, or the first failed test
     python3 tests/model/verify.py answers NAME SWEEP [dump]      every answer of a sweep

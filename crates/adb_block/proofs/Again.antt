@@ -3,7 +3,7 @@ use Rattle.std.proofs.Common.{◌≡◌, ℕ, ◌+◌, ◌-◌, ◌*◌, ◌/◌
 use Rattle.std.specs.Int.{w32, w64, from_le_bytes}
 use Rattle.std.proofs.lemmas.Bool.{le-ltb, ne_eqb}
 use Rattle.std.proofs.lemmas.List.{take_at, drop_at, length-append, length-drop, drop-drop, drop_all, take-append-le, drop-append-le}
-use Rattle.adb_block.specs.Container.{IsHead, IsShortHead, IsLongHead, IsPadding, IsBlock, MayFollow, IsNotFirst}
+use Rattle.adb_block.specs.Container.{IsHead, IsShortHead, IsLongHead, IsPadding, IsBlock, MayFollow, HasBlockBefore}
 use Rattle.adb_block.specs.Piece.{Piece, kind_number, may_be_next_kind, least_payload, padding_of}
 use Rattle.adb_block.specs.Header.{word_at, long_at}
 use Rattle.adb_block.specs.Framing.{HeadFields, head_of, kind_of_number, ended, block, step_by_order, next_step}
@@ -125,7 +125,7 @@ step_again last at bytes b rest m is =
     positive k len head more (inl h) = omega (arith, h.size, length-append head more)
     positive k len head more (inr h) = omega (arith, h.size, length-append head more)
 
-pub step_at_end : (last : Option BlockKind) (at : ℕ) → IsNotFirst last → next_step last at [] ≡ ended
+pub step_at_end : (last : Option BlockKind) (at : ℕ) → HasBlockBefore last → next_step last at [] ≡ ended
 unfolding next_step
 step_at_end None at later = absurd later
 step_at_end (Some k) at later = refl

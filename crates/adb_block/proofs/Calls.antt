@@ -2,13 +2,13 @@
 use Rattle.std.proofs.Common.{◌≡◌, ◌↔◌, ℕ, ◌+◌, ◌-◌, List, [], ◌∷◌, length, drop, Option, Some, None, Ok, Err, refl, sym, ap, subst, ◌∙◌, arith}
 use Rattle.std.specs.Prelude.{IsSome}
 use Rattle.base_core.specs.declared.Cause.{Cause}
-use Rattle.adb_block.specs.Container.{IsNotFirst, SpellsBlocks}
+use Rattle.adb_block.specs.Container.{HasBlockBefore, SpellsBlocks}
 use Rattle.adb_block.specs.Piece.{Piece}
 use Rattle.adb_block.specs.Framing.{ended, failed, block, next_step}
 use Rattle.adb_block.specs.ReaderPosition.{ReaderPosition}
 use Rattle.adb_block.specs.Reading.{block_stream_from}
 use Rattle.adb_block.specs.AllBlocks.{blocks_from_position}
-use Rattle.adb_block.specs.Reader.{piece_of, BeginsWith, ReturnsNextSpelledBlock, IsNextStepResult, Advances, Ends, ContinuesReading, AreBlocksFromCall, reader_after_block}
+use Rattle.adb_block.specs.Reader.{piece_of, BeginsWith, ReturnsNextSpelledBlock, IsNextStepResult, Advances, FindsEndOfBlocks, ContinuesReading, AreBlocksFromCall, reader_after_block}
 use Rattle.adb_block.specs.declared.block.Block.{Block}
 use Rattle.adb_block.specs.declared.block.BlockKind.{BlockKind}
 use Rattle.adb_block.proofs.Sound.{step_sound, step_ended}
@@ -44,14 +44,14 @@ spells_back last at bytes b size e (c ∷ bs) (same, further) =
 
 -- ---- the clauses of a call, by its step
 
-some_later : (last : Option BlockKind) → IsNotFirst last → IsSome last
+some_later : (last : Option BlockKind) → HasBlockBefore last → IsSome last
 some_later None later = absurd later
 some_later (Some kind) later = refl
 
 -- at the end
 pub record IsEnd (s : ReaderPosition) : Type 0 where
   pub blocks : ReturnsNextSpelledBlock s (Ok None) s
-  pub none : Ends s s
+  pub none : FindsEndOfBlocks s s
   pub reading : ContinuesReading (block_stream_from s) (Ok None) (block_stream_from s)
   pub rest : AreBlocksFromCall (blocks_from_position s) (Ok None) (blocks_from_position s)
 

@@ -3,7 +3,7 @@ use Rattle.std.proofs.Common.{◌≡◌, ℕ, zero, suc, ◌+◌, ◌-◌, ◌*�
 use Rattle.std.specs.Int.{w32, w64, from_le_bytes}
 use Rattle.std.proofs.lemmas.Bool.{cases_lt, ltb-false, eqb-true, or_parts}
 use Rattle.std.proofs.lemmas.List.{take-append-drop, length-take, length-drop, take-take, drop-drop, drop-take, drop_all, nil_from_length}
-use Rattle.adb_block.specs.Container.{IsHead, IsPadding, IsBlock, MayFollow, IsNotFirst}
+use Rattle.adb_block.specs.Container.{IsHead, IsPadding, IsBlock, MayFollow, HasBlockBefore}
 use Rattle.adb_block.specs.Piece.{Piece, kind_number, may_be_next_kind, least_payload, padding_of}
 use Rattle.adb_block.specs.Header.{word_at, long_at}
 use Rattle.adb_block.specs.Framing.{HeadFields, short_head, long_head, head_of, kind_of_number, ended, block, step_by_size, step_by_order, step_by_head, step_at_end, next_step}
@@ -205,11 +205,11 @@ headed_not_ended : (last : Option BlockKind) (at : ℕ) (bytes : List ℕ) (o : 
 headed_not_ended last at bytes None e = cc
 headed_not_ended last at bytes (Some h) e = ordered_not_ended last at bytes h (kind_of_number h.kind) e
 
-at_end_ended : (last : Option BlockKind) (at : ℕ) → step_at_end last at ≡ ended → IsNotFirst last
+at_end_ended : (last : Option BlockKind) (at : ℕ) → step_at_end last at ≡ ended → HasBlockBefore last
 at_end_ended None at e = absurd cc
 at_end_ended (Some k) at e = tt
 
-pub step_ended : (last : Option BlockKind) (at : ℕ) (bytes : List ℕ) → next_step last at bytes ≡ ended → (bytes ≡ []) × IsNotFirst last
+pub step_ended : (last : Option BlockKind) (at : ℕ) (bytes : List ℕ) → next_step last at bytes ≡ ended → (bytes ≡ []) × HasBlockBefore last
 unfolding next_step
 step_ended last at bytes e =
     elim (chosen (eqb (length bytes) 0) _ _ _ e) [

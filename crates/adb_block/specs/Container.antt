@@ -54,13 +54,13 @@ pub record MayFollow (last : Option BlockKind) (b : Piece) : Type 0 where
   pub long : least_payload b.kind ≤ length b.payload
 
 -- the file may end here, since at least one block precedes
-abbrev pub IsNotFirst : Option BlockKind → Type 0
-IsNotFirst None = ⊥
-IsNotFirst (Some kind) = Unit {0}
+abbrev pub HasBlockBefore : Option BlockKind → Type 0
+HasBlockBefore None = ⊥
+HasBlockBefore (Some kind) = Unit {0}
 
 -- the bytes from here to the end of a file, after a block of the kind `last`, are these blocks
 abbrev pub SpellsBlocks : Option BlockKind → List ℕ → List Piece → Type 0
-SpellsBlocks last bytes [] = (bytes ≡ []) × IsNotFirst last
+SpellsBlocks last bytes [] = (bytes ≡ []) × HasBlockBefore last
 SpellsBlocks last bytes (b ∷ bs) =
     (rest : List ℕ) × MayFollow last b × IsBlock b bytes rest × SpellsBlocks (Some b.kind) rest bs
 
@@ -79,6 +79,6 @@ pub record Spells (file : List ℕ) (schema : ℕ) (pieces : List Piece) : Type 
 -- these blocks may be written in this order after a block of the kind `last`, and each payload's size,
 -- with the 16 bytes of the longest header, fits in 64 bits
 abbrev pub CanBeWrittenAfter : Option BlockKind → List Piece → Type 0
-CanBeWrittenAfter last [] = IsNotFirst last
+CanBeWrittenAfter last [] = HasBlockBefore last
 CanBeWrittenAfter last (b ∷ bs) =
     MayFollow last b × (length b.payload + 16 < 2 ^ 64) × CanBeWrittenAfter (Some b.kind) bs

@@ -65,7 +65,7 @@ pub record Advances (s : ReaderPosition) (b : Block) (t : ReaderPosition) : Type
 
 -- a call of the reader has found the end: nothing is left, at least one block was read, and the reader
 -- has not moved
-pub record Ends (s t : ReaderPosition) : Type 0 where
+pub record FindsEndOfBlocks (s t : ReaderPosition) : Type 0 where
   -- nothing is left
   pub empty : s.left ≡ []
   -- at least one block was read
@@ -87,6 +87,6 @@ AreBlocksFromCall r (Ok (Some b)) q = r ≡ with_block (piece_of b) q
 AreBlocksFromCall r (Err c) q = r ≡ Err c
 
 -- all blocks of a file, by the result for its header: those from the first position, or the fault
-abbrev pub AreBlocksAfterHeader : Result (List Piece) Cause → Result ReaderPosition Cause → Type 0
-AreBlocksAfterHeader r (Ok s) = r ≡ blocks_from_position s
-AreBlocksAfterHeader r (Err c) = r ≡ Err c
+abbrev pub AreBlocksOrHeaderFault : Result (List Piece) Cause → Result ReaderPosition Cause → Type 0
+AreBlocksOrHeaderFault r (Ok s) = r ≡ blocks_from_position s
+AreBlocksOrHeaderFault r (Err c) = r ≡ Err c

@@ -45,7 +45,7 @@ impl<'a> Model for Blocks<'a> {
 }
 
 impl<'a> Blocks<'a> {
-    ghost use Rattle.adb_block.specs.Reader.{ReturnsNextSpelledBlock, IsNextStepResult, Advances, Ends, ContinuesReading, AreBlocksFromCall, AreBlocksAfterHeader};
+    ghost use Rattle.adb_block.specs.Reader.{ReturnsNextSpelledBlock, IsNextStepResult, Advances, FindsEndOfBlocks, ContinuesReading, AreBlocksFromCall, AreBlocksOrHeaderFault};
 
     /// Reads the header of a file (apk-v3(5)): the four bytes `ADB.` and the schema. The error is
     /// that of the first failed test. Fewer than 4 bytes are truncated at 0. `ADBd` and `ADBc`
@@ -57,7 +57,7 @@ impl<'a> Blocks<'a> {
         ensures start { IfOk result (λ blocks. blocks ≡ first_block_position blocks.schema bytes.entry.now) }
         ensures cause { IfErr result (λ cause. header_of bytes.entry.now ≡ Err cause) }
         // For a caller's loop over all blocks: its start.
-        ensures rest { AreBlocksAfterHeader (blocks_of bytes.entry.now) result }
+        ensures rest { AreBlocksOrHeaderFault (blocks_of bytes.entry.now) result }
     {
         let schema = read_header(bytes)?;
         Ok(Blocks {
@@ -95,7 +95,7 @@ impl<'a> Blocks<'a> {
             (λ found. IfSome found (λ block. Advances self.old block self.new)) }
         ensures end { IfOk result (λ found. IsNone found ↔ (self.old.left ≡ [])) }
 
-        ensures none { IfOk result (λ found. IfNone found (Ends self.old self.new)) }
+        ensures none { IfOk result (λ found. IfNone found (FindsEndOfBlocks self.old self.new)) }
         ensures err { OnErr result (self.new ≡ self.old) }
 
         // For a caller's loop over all blocks: its step.

@@ -1,14 +1,14 @@
 -- Values without zeros, field by field.
 use Rattle.std.proofs.Common.{◌≡◌, ℕ, suc, zero, List, [], ◌∷◌, refl, ap, sym, ◌∙◌}
 use Rattle.adb_view.specs.Plain.{Plain, null, int, blob, arr, obj, Plains, none, more, blob_or_null, arr_value, obj_of, obj_value, put_first_without_last_null, without_last_nulls}
-use Rattle.adb_view.specs.Shaped.{IsNumber, IsBlob, IsArrayOf, IsObjectOf}
+use Rattle.adb_view.specs.Shaped.{IsNumberOrNull, IsBlobOrNull, IsArrayOrNullOf, IsObjectOrNullOf}
 use Rattle.adb_view.specs.Values.{nth, entries_in, int_in, text_in}
 use Rattle.adb_view.proofs.ValueEntries.{nth_trimmed}
 use Rattle.adb_copy.specs.Zeros.{int_or_null, without_zeros, all_without_zeros, with_value_at_index}
 
 -- ---- by shape
 
-pub zeros_text : (v : Plain) → IsBlob v → without_zeros v ≡ blob_or_null (text_in v)
+pub zeros_text : (v : Plain) → IsBlobOrNull v → without_zeros v ≡ blob_or_null (text_in v)
 unfolding without_zeros
 zeros_text null h = refl
 zeros_text (int n) h = absurd h
@@ -16,7 +16,7 @@ zeros_text (blob b) h = refl
 zeros_text (arr vs) h = absurd h
 zeros_text (obj vs) h = absurd h
 
-pub zeros_number : (v : Plain) → IsNumber v → without_zeros v ≡ int_or_null (int_in v)
+pub zeros_number : (v : Plain) → IsNumberOrNull v → without_zeros v ≡ int_or_null (int_in v)
 unfolding without_zeros
 zeros_number null h = refl
 zeros_number (int n) h = refl
@@ -24,7 +24,7 @@ zeros_number (blob b) h = absurd h
 zeros_number (arr vs) h = absurd h
 zeros_number (obj vs) h = absurd h
 
-pub zeros_array : (P : Plain → Type 0) (v : Plain) → IsArrayOf P v → without_zeros v ≡ arr_value (all_without_zeros (entries_in v))
+pub zeros_array : (P : Plain → Type 0) (v : Plain) → IsArrayOrNullOf P v → without_zeros v ≡ arr_value (all_without_zeros (entries_in v))
 unfolding without_zeros
 zeros_array P null h = refl
 zeros_array P (int n) h = absurd h
@@ -32,7 +32,7 @@ zeros_array P (blob b) h = absurd h
 zeros_array P (arr vs) h = refl
 zeros_array P (obj vs) h = absurd h
 
-pub zeros_object : (P : Plains → Type 0) (v : Plain) → IsObjectOf P v → without_zeros v ≡ obj_value (all_without_zeros (entries_in v))
+pub zeros_object : (P : Plains → Type 0) (v : Plain) → IsObjectOrNullOf P v → without_zeros v ≡ obj_value (all_without_zeros (entries_in v))
 unfolding without_zeros
 zeros_object P null h = refl
 zeros_object P (int n) h = absurd h

@@ -6,7 +6,7 @@ use Rattle.std.specs.List.{AllByRecursion}
 use Rattle.std.proofs.lemmas.List.Elements.{All-head, All-tail, All-take, All-drop}
 use Rattle.adb_view.specs.Bytes.{number_at, range_at}
 use Rattle.adb_view.specs.Plain.{Plain, null, int, blob, arr, obj, Plains, none, more, Shape, number, text, hash, array, object, Fields, no_fields, field, blob_or_null, arr_value, obj_of, put_first_without_last_null, without_last_nulls, obj_value, from_answer, then_more, each_plain, plain_of, plains_of}
-use Rattle.adb_view.specs.Readers.{counted_at, or_outside_cause, int_of, blob_of, run_of, kind_of, low_of, ARRAY, OBJECT}
+use Rattle.adb_view.specs.Readers.{counted_at, or_outside_cause, int_of, blob_of, run_of, kind_of, low_28_bits, ARRAY, OBJECT}
 use Rattle.adb_view.proofs.FoundShapes.{unless_null-all, mapped, run_found}
 use Rattle.base_core.specs.declared.cause.Cause.{Cause}
 use Rattle.adb_dump.specs.Values.{IsOfBytes, AreOfBytes}
@@ -51,9 +51,9 @@ blob_bytes : (p : List ℕ) (w : ℕ) → All (λ c. c < 256) p → OkBytes (blo
 unfolding blob_of
 blob_bytes p w h =
     chosen_bytes (eqb w 0) _ _ tt
-    (chosen_bytes (eqb (kind_of w) 8) _ _ (inside_bytes w _ (counted_bytes w8 p (low_of w) h))
-    (chosen_bytes (eqb (kind_of w) 9) _ _ (inside_bytes w _ (counted_bytes w16 p (low_of w) h))
-    (chosen_bytes (eqb (kind_of w) 10) _ _ (inside_bytes w _ (counted_bytes w32 p (low_of w) h)) tt)))
+    (chosen_bytes (eqb (kind_of w) 8) _ _ (inside_bytes w _ (counted_bytes w8 p (low_28_bits w) h))
+    (chosen_bytes (eqb (kind_of w) 9) _ _ (inside_bytes w _ (counted_bytes w16 p (low_28_bits w) h))
+    (chosen_bytes (eqb (kind_of w) 10) _ _ (inside_bytes w _ (counted_bytes w32 p (low_28_bits w) h)) tt)))
 
 int_is_bytes : (r : Result ℕ Cause) → IfSome (from_answer (λ n. Some (int n)) r) IsOfBytes
 unfolding IsOfBytes

@@ -174,7 +174,9 @@ unfoldable mutual
   block_read (array s) ls = and_then (entries_read (block_read s) (length ls) ls) arr_read
   block_read (object schema fs) ls = and_then (fields_read fs ls) obj_read
 
-  -- the value of a field, from after `name:` on (`l`), and then the other fields (`g`)
+  -- The value of a field, followed by the other fields. `l` is the rest of the line after `name:`, `ls`
+  -- has the lines below it, and `g` reads the other fields. The entries of an array or an object are in
+  -- the indented block below the line.
   pub named_read :
       Shape → (List Line → ResultOrBadLine Plains) → List Line → Line → ResultOrBadLine Plains
   named_read number g ls l = field_on_line (λ l. if_line_prints_value int_line l (int_read l)) g ls

@@ -2,7 +2,7 @@
 use Rattle.std.proofs.Common.{◌≡◌, ℕ, suc, zero, ◌+◌, ◌<◌, List, [], ◌∷◌, length, drop, Option, Some, None, refl, ap, sym, ◌∙◌, subst, arith}
 use Rattle.std.specs.Prelude.{slice_get, Bool, true, false, nat_lt, ◌==◌, bytes_eq, codes, ◌++◌}
 use Rattle.std.proofs.Common.{cond, take, ◌≤◌}
-use Rattle.std.proofs.lemmas.List.{take-append-le, take_all}
+use Rattle.std.proofs.lemmas.List.{take-append-le}
 use Rattle.adb_fields.specs.Paths.{path_of}
 use borrow.Author.Tests.{eqb-true}
 use Rattle.std.specs.Cmp.{Equal-is}
@@ -120,9 +120,5 @@ same_in_front f g a b n o r h k e t more =
     let fronts : slice_cmp nat_cmp (take n (path_of f a)) (take n (path_of g b)) ≡ Equal = (λ i. slice_cmp nat_cmp (front_of f a n h i) (front_of g b n k i)) ∙ (sym e ∙ same) in
     sym (front_first (path_of f a) (path_of g b) n ∙ (ap (λ p. ordering_then p (from_place (path_of f a) (path_of g b) n)) fronts ∙ sym more))
 
-pub same_folder : (f g a b : List ℕ) (n : ℕ) (o : Ordering) → n ≡ length f → n ≡ length g → o ≡ slice_cmp nat_cmp (take n f) (take n g) → is_eq o ≡ true → slice_cmp nat_cmp a b ≡ slice_cmp nat_cmp (path_of f a) (path_of g b)
-same_folder f g a b n o h k e t =
-    let same : o ≡ Equal = (Equal-is o).0 t in
-    let whole : slice_cmp nat_cmp f g ≡ Equal = (λ i. slice_cmp nat_cmp (sym (take_all n f (omega arith)) i) (sym (take_all n g (omega arith)) i)) ∙ (sym e ∙ same) in
-    let one : f ≡ g = (bytes_decides f g).0 (texts_ties f g ∙ ap is_eq whole) in
-    sym ((λ i. slice_cmp nat_cmp (path_of (one i) a) (path_of g b)) ∙ in-folder g a b)
+pub equal_folders : (f g a b : List ℕ) → bytes_eq f g ≡ true → slice_cmp nat_cmp a b ≡ slice_cmp nat_cmp (path_of f a) (path_of g b)
+equal_folders f g a b e = let one : f ≡ g = (bytes_decides f g).0 e in sym ((λ i. slice_cmp nat_cmp (path_of (one i) a) (path_of g b)) ∙ in-folder g a b)

@@ -21,17 +21,19 @@ pub struct FilePath<'a> {
 
 impl FilePath<'_> {
     /// The order of two paths, byte by byte.
-    #[tactic(auto, using(crate::proofs::Compared::apart_in_front, crate::proofs::Compared::same_in_front, crate::proofs::Compared::same_folder))]
+    #[tactic(auto, using(crate::proofs::Compared::apart_in_front, crate::proofs::Compared::same_in_front, crate::proofs::Compared::equal_folders))]
     pub fn compare(&self, other: &FilePath<'_>) -> Ordering
         ensures { result ≡ slice_cmp nat_cmp (joined_path self.now) (joined_path other.now) }
     {
+        // Whether two texts are equal is tested in longer steps than their order. Paths that are
+        // compared mostly have the same folder.
+        if self.folder == other.folder {
+            return self.name.cmp(&other.name);
+        }
         let len = self.folder.len().min(other.folder.len());
         let front = compared_fronts(self.folder, other.folder, len);
         if !front.is_eq() {
             return front;
-        }
-        if self.folder.len() == other.folder.len() {
-            return self.name.cmp(&other.name);
         }
         compared_from(self, other, len)
     }

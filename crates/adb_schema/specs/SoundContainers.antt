@@ -22,5 +22,5 @@ pub record IsSoundValue (which : Which) (v : Plain) : Type 0 where
   pub once : HasNoRepeatedName which v
 
 -- a file passes every test as a container with this table at its root
-abbrev pub IsSound : Which → List ℕ → Type 0
-IsSound which file = first_fault which file ≡ None
+abbrev pub IsSoundContainer : Which → List ℕ → Type 0
+IsSoundContainer which file = first_fault which file ≡ None

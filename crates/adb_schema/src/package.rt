@@ -144,8 +144,8 @@ impl<'a> FileInfo<'a> {
         hash_field(self.adb, Which::File, self.word, FILE_HASHES)
     }
 
-    /// A link's target, after the two bytes `00 a0`; empty for a regular file (`docs/formats.md`,
-    /// "The texts", 406).
+    /// The field *target*. For a link it has the two bytes `00 a0`, and then the text of the
+    /// target. For a regular file it is empty. The rule is 406 in `docs/formats.md`, "The texts".
     pub fn target(&self) -> &'a [u8]
         ensures { result.now ≡ text_in (entry_in (file_value self.now) FILE_TARGET) }
     {

@@ -18,7 +18,7 @@ ghost use Rattle.adb_schema.specs.Soundness.{further_block_fault, contents_posit
 ghost use Rattle.adb_schema.specs.ReadFaults.{first_block_fault};
 ghost use Rattle.adb_schema.specs.ReadFaults.{IsAfterFirstBlock};
 ghost use Rattle.adb_schema.specs.ReadFaults.{IsReadFault};
-ghost use Rattle.adb_schema.specs.SoundContainers.{IsSound};
+ghost use Rattle.adb_schema.specs.SoundContainers.{IsSoundContainer};
 
 use crate::checked::Checked;
 use crate::text_walk::no_text_is_bad_where_each_keeps_its_rule;
@@ -267,9 +267,9 @@ pub fn schema_words_are_as_listed()
 /// normal. The body calls the laws that the proof needs.
 pub fn sound_containers_hold_sound_values()
     ensures value { (which : Which) (file : List ℕ)
-        → IsSound which file → IsSoundValue which (root_value which (payload_in file)) }
+        → IsSoundContainer which file → IsSoundValue which (root_value which (payload_in file)) }
     ensures normal { (which : Which) (file : List ℕ)
-        → IsSound which file → All (λ b. b < 256) (payload_in file)
+        → IsSoundContainer which file → All (λ b. b < 256) (payload_in file)
         → IsNormal (root_value which (payload_in file)) }
 {
     values_of_few_visits_have_no_fault();

@@ -10,7 +10,7 @@ use Rattle.adb_view.specs.Plain.{Plain}
 use Rattle.adb_write.specs.Canonical.{canonical}
 use Rattle.adb_write.specs.File.{adb_piece}
 use Rattle.pkg_core.specs.Contents.{Contents}
-use Rattle.pkg_core.specs.Whole.{Packed}
+use Rattle.pkg_core.specs.Whole.{PackageWithContents}
 
 -- the payload of a block of contents: the positions of the folder and of its file, four bytes each, and
 -- the file's bytes
@@ -27,5 +27,5 @@ container_of schema v contents =
     container schema (adb_piece (canonical v) ∷ map contents_piece contents)
 
 -- a package in its container: its value, and the contents of its files
-abbrev pub packed_from_parts : Plain → List Contents → Packed
+abbrev pub packed_from_parts : Plain → List Contents → PackageWithContents
 packed_from_parts v contents = record { value = v; contents = contents }

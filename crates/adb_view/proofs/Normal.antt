@@ -5,7 +5,7 @@ use Rattle.std.proofs.lemmas.List.Elements.{All-head, All-tail, All-take, All-dr
 use Rattle.std.specs.Int.{Width, w32, w64, byte_len, from_le_bytes}
 use Rattle.adb_view.specs.Bytes.{number_at}
 use Rattle.adb_view.specs.Plain.{Plain, null, int, blob, arr, obj, Plains, none, more, Shape, number, text, hash, array, object, Fields, no_fields, field, blob_or_null, arr_value, obj_of, put_first_without_last_null, without_last_nulls, obj_value, from_answer, then_more, each_plain, plain_of, plains_of, IsNormal, AreNormal}
-use Rattle.adb_view.specs.Readers.{kind_of, low_of, or_outside_cause, int_of, blob_of, run_of, ARRAY, OBJECT}
+use Rattle.adb_view.specs.Readers.{kind_of, low_28_bits, or_outside_cause, int_of, blob_of, run_of, ARRAY, OBJECT}
 use Rattle.adb_view.proofs.FoundShapes.{unless_null-all, mapped, run_found}
 use Rattle.base_core.specs.declared.cause.Cause.{Cause}
 
@@ -47,7 +47,7 @@ either : {A : Type 0} (b : Bool) (x y z : A) → cond b x y ≡ z → (x ≡ z) 
 either true x y z e = inl e
 either false x y z e = inr e
 
-low_fits : (word n : ℕ) → low_of word ≡ n → n < 2 ^ 64
+low_fits : (word n : ℕ) → low_28_bits word ≡ n → n < 2 ^ 64
 low_fits word n e = subst (λ k. k < 2 ^ 64) e (omega arith)
 
 int_of-fits : (p : List ℕ) (w n : ℕ) → AreBytes p → int_of p w ≡ Ok n → n < 2 ^ 64
@@ -56,11 +56,11 @@ int_of-fits p w n h e =
     elim (either (eqb w 0) _ _ _ e) [
       | inl zero_is ↦ let same : 0 ≡ n = cc in omega arith
       | inr e1 ↦ elim (either (eqb (kind_of w) 1) _ _ _ e1) [
-        | inl low_is ↦ let same : low_of w ≡ n = cc in low_fits w n same
+        | inl low_is ↦ let same : low_28_bits w ≡ n = cc in low_fits w n same
         | inr e2 ↦ elim (either (eqb (kind_of w) 2) _ _ _ e2) [
-          | inl four_is ↦ inside_fits w n _ (λ k. number_fits w32 p (low_of w) k four_fit h) four_is
+          | inl four_is ↦ inside_fits w n _ (λ k. number_fits w32 p (low_28_bits w) k four_fit h) four_is
           | inr e3 ↦ elim (either (eqb (kind_of w) 3) _ _ _ e3) [
-            | inl eight_is ↦ inside_fits w n _ (λ k. number_fits w64 p (low_of w) k eight_fit h) eight_is
+            | inl eight_is ↦ inside_fits w n _ (λ k. number_fits w64 p (low_28_bits w) k eight_fit h) eight_is
             | inr e4 ↦ absurd cc
           ]
         ]

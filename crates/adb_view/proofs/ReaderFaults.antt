@@ -4,7 +4,7 @@ use Rattle.std.specs.Prelude.{if◌then◌else◌, ◌==◌}
 use Rattle.std.specs.Result.{result_ok}
 use Rattle.std.specs.Int.{w8, w16, w32, w64}
 use Rattle.adb_view.specs.Bytes.{number_at}
-use Rattle.adb_view.specs.Readers.{int_of, blob_of, run_of, run_at, counted_at, kind_of, low_of, or_outside_cause}
+use Rattle.adb_view.specs.Readers.{int_of, blob_of, run_of, run_at, counted_at, kind_of, low_28_bits, or_outside_cause}
 use Rattle.adb_view.specs.VisitFault.{is_reader_fault}
 use Rattle.base_core.specs.declared.cause.Cause.{Cause}
 
@@ -28,22 +28,22 @@ unfolding int_of
 int_answer p w =
     either (w == 0) _ _ tt
     (either (kind_of w == 1) _ _ tt
-    (either (kind_of w == 2) _ _ (inside_answer w (number_at w32 p (low_of w)))
-    (either (kind_of w == 3) _ _ (inside_answer w (number_at w64 p (low_of w))) refl)))
+    (either (kind_of w == 2) _ _ (inside_answer w (number_at w32 p (low_28_bits w)))
+    (either (kind_of w == 3) _ _ (inside_answer w (number_at w64 p (low_28_bits w))) refl)))
 
 blob_answer : (p : List ℕ) (w : ℕ) → IsReaderAnswer (blob_of p w)
 unfolding blob_of
 blob_answer p w =
     either (w == 0) _ _ tt
-    (either (kind_of w == 8) _ _ (inside_answer w (counted_at w8 p (low_of w)))
-    (either (kind_of w == 9) _ _ (inside_answer w (counted_at w16 p (low_of w)))
-    (either (kind_of w == 10) _ _ (inside_answer w (counted_at w32 p (low_of w))) refl)))
+    (either (kind_of w == 8) _ _ (inside_answer w (counted_at w8 p (low_28_bits w)))
+    (either (kind_of w == 9) _ _ (inside_answer w (counted_at w16 p (low_28_bits w)))
+    (either (kind_of w == 10) _ _ (inside_answer w (counted_at w32 p (low_28_bits w))) refl)))
 
 run_answer : (kind : ℕ) (p : List ℕ) (w : ℕ) → IsReaderAnswer (run_of kind p w)
 unfolding run_of
 run_answer kind p w =
     either (w == 0) _ _ tt
-    (either (kind_of w == kind) _ _ (inside_answer w (run_at p (low_of w))) refl)
+    (either (kind_of w == kind) _ _ (inside_answer w (run_at p (low_28_bits w))) refl)
 
 pub int_fault : (p : List ℕ) (w : ℕ) (c : Cause) → int_of p w ≡ Err c → is_reader_fault c ≡ true
 int_fault p w c e = of_answer (int_of p w) c (int_answer p w) e

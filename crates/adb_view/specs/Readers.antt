@@ -11,8 +11,8 @@ abbrev pub kind_of : ℕ → ℕ
 kind_of word = word / 2 ^ 28
 
 -- the low 28 bits of a word: a number, or an offset from the payload's start
-abbrev pub low_of : ℕ → ℕ
-low_of word = word % 2 ^ 28
+abbrev pub low_28_bits : ℕ → ℕ
+low_28_bits word = word % 2 ^ 28
 
 -- the contents of a word's range, or the cause that it points outside
 abbrev pub or_outside_cause : {A : Type 0} → ℕ → Option A → Result A Cause
@@ -24,9 +24,9 @@ or_outside_cause word None = Err (Outside word)
 unfoldable pub int_of : List ℕ → ℕ → Result ℕ Cause
 int_of payload word =
     if word == 0 then Ok 0
-    else if kind_of word == 1 then Ok (low_of word)
-    else if kind_of word == 2 then or_outside_cause word (number_at w32 payload (low_of word))
-    else if kind_of word == 3 then or_outside_cause word (number_at w64 payload (low_of word))
+    else if kind_of word == 1 then Ok (low_28_bits word)
+    else if kind_of word == 2 then or_outside_cause word (number_at w32 payload (low_28_bits word))
+    else if kind_of word == 3 then or_outside_cause word (number_at w64 payload (low_28_bits word))
     else Err (WrongKind word)
 
 -- the bytes of a blob at an offset: a length of this width, and then as many bytes
@@ -39,9 +39,9 @@ counted_at w payload at = option_and_then (λ len. range_at payload (at + byte_l
 unfoldable pub blob_of : List ℕ → ℕ → Result (List ℕ) Cause
 blob_of payload word =
     if word == 0 then Ok []
-    else if kind_of word == 8 then or_outside_cause word (counted_at w8 payload (low_of word))
-    else if kind_of word == 9 then or_outside_cause word (counted_at w16 payload (low_of word))
-    else if kind_of word == 10 then or_outside_cause word (counted_at w32 payload (low_of word))
+    else if kind_of word == 8 then or_outside_cause word (counted_at w8 payload (low_28_bits word))
+    else if kind_of word == 9 then or_outside_cause word (counted_at w16 payload (low_28_bits word))
+    else if kind_of word == 10 then or_outside_cause word (counted_at w32 payload (low_28_bits word))
     else Err (WrongKind word)
 
 -- the entries of a run at an offset whose first word is this number. The number counts that word too,
@@ -58,7 +58,7 @@ run_at payload at = option_and_then (counted_words payload at) (number_at w32 pa
 unfoldable pub run_of : ℕ → List ℕ → ℕ → Result (List ℕ) Cause
 run_of kind payload word =
     if word == 0 then Ok []
-    else if kind_of word == kind then or_outside_cause word (run_at payload (low_of word))
+    else if kind_of word == kind then or_outside_cause word (run_at payload (low_28_bits word))
     else Err (WrongKind word)
 
 -- the kind of a word that points to an array

@@ -8,46 +8,46 @@ Each P none = Unit {0}
 Each P (more v vs) = P v × Each P vs
 
 -- the value is an integer, or Null
-abbrev pub IsNumber : Plain → Type 0
-IsNumber null = Unit {0}
-IsNumber (int n) = Unit {0}
-IsNumber (blob b) = ⊥
-IsNumber (arr vs) = ⊥
-IsNumber (obj vs) = ⊥
+abbrev pub IsNumberOrNull : Plain → Type 0
+IsNumberOrNull null = Unit {0}
+IsNumberOrNull (int n) = Unit {0}
+IsNumberOrNull (blob b) = ⊥
+IsNumberOrNull (arr vs) = ⊥
+IsNumberOrNull (obj vs) = ⊥
 
 -- the value is a blob, or Null
-abbrev pub IsBlob : Plain → Type 0
-IsBlob null = Unit {0}
-IsBlob (int n) = ⊥
-IsBlob (blob b) = Unit {0}
-IsBlob (arr vs) = ⊥
-IsBlob (obj vs) = ⊥
+abbrev pub IsBlobOrNull : Plain → Type 0
+IsBlobOrNull null = Unit {0}
+IsBlobOrNull (int n) = ⊥
+IsBlobOrNull (blob b) = Unit {0}
+IsBlobOrNull (arr vs) = ⊥
+IsBlobOrNull (obj vs) = ⊥
 
 -- the value is an array and P holds for each entry, or it is Null
-abbrev pub IsArrayOf : (Plain → Type 0) → Plain → Type 0
-IsArrayOf P null = Unit {0}
-IsArrayOf P (int n) = ⊥
-IsArrayOf P (blob b) = ⊥
-IsArrayOf P (arr vs) = Each P vs
-IsArrayOf P (obj vs) = ⊥
+abbrev pub IsArrayOrNullOf : (Plain → Type 0) → Plain → Type 0
+IsArrayOrNullOf P null = Unit {0}
+IsArrayOrNullOf P (int n) = ⊥
+IsArrayOrNullOf P (blob b) = ⊥
+IsArrayOrNullOf P (arr vs) = Each P vs
+IsArrayOrNullOf P (obj vs) = ⊥
 
 -- the value is an object and P holds for its values, or it is Null
-abbrev pub IsObjectOf : (Plains → Type 0) → Plain → Type 0
-IsObjectOf P null = Unit {0}
-IsObjectOf P (int n) = ⊥
-IsObjectOf P (blob b) = ⊥
-IsObjectOf P (arr vs) = ⊥
-IsObjectOf P (obj vs) = P vs
+abbrev pub IsObjectOrNullOf : (Plains → Type 0) → Plain → Type 0
+IsObjectOrNullOf P null = Unit {0}
+IsObjectOrNullOf P (int n) = ⊥
+IsObjectOrNullOf P (blob b) = ⊥
+IsObjectOrNullOf P (arr vs) = ⊥
+IsObjectOrNullOf P (obj vs) = P vs
 
 -- a value is one that a field of this shape may have; an object has no more values than its shape has
 -- fields
 unfoldable mutual
   pub HasShape : Shape → Plain → Type 0
-  HasShape number v = IsNumber v
-  HasShape text v = IsBlob v
-  HasShape hash v = IsBlob v
-  HasShape (array s) v = IsArrayOf (HasShape s) v
-  HasShape (object schema fs) v = IsObjectOf (HaveShapes fs) v
+  HasShape number v = IsNumberOrNull v
+  HasShape text v = IsBlobOrNull v
+  HasShape hash v = IsBlobOrNull v
+  HasShape (array s) v = IsArrayOrNullOf (HasShape s) v
+  HasShape (object schema fs) v = IsObjectOrNullOf (HaveShapes fs) v
 
   -- the values of an object have the shapes of its fields, in order
   pub HaveShapes : Fields → Plains → Type 0

@@ -2,7 +2,7 @@
 //! the table of `docs/formats.md`, "Values".
 
 ghost use Rattle.std.specs.Prelude.{◌≡◌, ◌↔◌, IsTrue, ◌<◌, ◌≤◌, ◌-◌, ◌*◌, ◌/◌, ◌^◌, length, IfSome, slice_index, slice_range};
-ghost use Rattle.adb_view.specs.Readers.{kind_of, low_of, counted_at, run_at};
+ghost use Rattle.adb_view.specs.Readers.{kind_of, low_28_bits, counted_at, run_at};
 ghost use Rattle.std.specs.Int.{byte_len};
 ghost use Rattle.adb_view.specs.Bytes.{range_at, number_at, words};
 ghost use Rattle.adb_view.specs.Gives.{Finds};
@@ -86,7 +86,7 @@ impl Val {
 
     /// The low 28 bits of its word: a number, or an offset from the payload's start.
     pub(crate) fn low(self) -> u32
-        ensures { result ≡ low_of self }
+        ensures { result ≡ low_28_bits self }
     {
         self.word % 0x1000_0000
     }

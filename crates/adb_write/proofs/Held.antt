@@ -8,7 +8,7 @@ use Rattle.std.proofs.lemmas.Cmp.{nat_list_cmp_total}
 use Rattle.std.proofs.lemmas.List.{length-take}
 use Rattle.base_core.specs.declared.cause.Cause.{Cause}
 use Rattle.adb_view.specs.Head.{head_fault}
-use Rattle.adb_view.specs.Readers.{low_of}
+use Rattle.adb_view.specs.Readers.{low_28_bits}
 use Rattle.adb_write.specs.Canonical.{WrittenItem, is_equal_item, word_of_item, MOST_BYTES}
 use Rattle.adb_write.specs.Items.{item_of, HasNumbersInRange}
 use Rattle.adb_write.specs.declared.item.Parts.{Parts}
@@ -155,7 +155,7 @@ rising_new p q key w before behind s r is low high =
     (λ v t g. ap (λ (k : List ℕ). cmp k (key_of_locator (p ++ q) v)) is ∙ ap (cmp key) (key_more p q v t) ∙ g) behind (all_last (IsStored p) before behind s) high)
 
 -- what was written ends before what is written next
-pub all_lower : (p : List ℕ) (w : ℕ) (ws : List ℕ) → length p ≤ low_of (word_of_locator w) → AreStored p ws → AllByRecursion (λ v. (written_item v).offset < (written_item w).offset) ws
+pub all_lower : (p : List ℕ) (w : ℕ) (ws : List ℕ) → length p ≤ low_28_bits (word_of_locator w) → AreStored p ws → AllByRecursion (λ v. (written_item v).offset < (written_item w).offset) ws
 all_lower p w ws behind s =
     all_into (IsStored p) (λ v. (written_item v).offset < (written_item w).offset) (λ v t. omega (arith, stored_ends p v t, t.stored.behind_head, item_some t.what)) ws s
 

@@ -7,7 +7,7 @@ use Rattle.std.proofs.lemmas.List.{take_at, drop_at, length-append, length-drop,
 use Rattle.std.proofs.lemmas.List.Concat.{flat_map-cons}
 use Rattle.std.proofs.lemmas.Nat.{from_le_bytes-to_le_bytes_2, from_le_bytes-to_le_bytes_4, from_le_bytes-to_le_bytes_8}
 use Rattle.adb_view.specs.Bytes.{range_at, number_at, words}
-use Rattle.adb_view.specs.Readers.{kind_of, low_of, counted_at, counted_words, run_at}
+use Rattle.adb_view.specs.Readers.{kind_of, low_28_bits, counted_at, counted_words, run_at}
 use Rattle.adb_write.specs.Canonical.{gap, Item, Layout, end_offset, put_new, payload_with_root, run_bytes}
 
 -- the payload ends with these bytes, which begin at the offset
@@ -111,5 +111,5 @@ placed_stands i out root =
 pub word_kind : (kind at : ℕ) → at < 2 ^ 28 → kind_of (kind * 2 ^ 28 + at) ≡ kind
 word_kind kind at lt = omega arith
 
-pub word_low : (kind at : ℕ) → at < 2 ^ 28 → low_of (kind * 2 ^ 28 + at) ≡ at
+pub word_low : (kind at : ℕ) → at < 2 ^ 28 → low_28_bits (kind * 2 ^ 28 + at) ≡ at
 word_low kind at lt = omega arith

@@ -8,7 +8,7 @@ use Rattle.std.proofs.lemmas.List.{append-nil, take_at, drop_at, length-append, 
 use Rattle.adb_view.specs.Bytes.{range_at, number_at, words}
 use Rattle.adb_view.specs.Plain.{IsNormal, AreNormal, Plain, null, int, blob, arr, obj, Plains, none, more, without_last_nulls, blob_or_null, arr_value, obj_of, obj_value, Shape, number, text, hash, array, object, Fields, no_fields, field, unless_null, from_answer, each_plain, plain_of, plains_of, value_of}
 use Rattle.adb_view.specs.Head.{root_of}
-use Rattle.adb_view.specs.Readers.{kind_of, low_of, or_outside_cause, counted_at, counted_words, run_at, int_of, blob_of, run_of, ARRAY, OBJECT}
+use Rattle.adb_view.specs.Readers.{kind_of, low_28_bits, or_outside_cause, counted_at, counted_words, run_at, int_of, blob_of, run_of, ARRAY, OBJECT}
 use Rattle.adb_write.specs.Canonical.{gap, Item, WrittenItem, Cell, in_place, apart, int_cell, blob_cell, run_cell, run_bytes, prepend_unless_last_null, trimmed_words, Layout, empty_layout, end_offset, is_equal_item, word_of_item, put_new, put_unless_written, put_item, put_cell, put_run, write, write_all, payload_with_root, canonical, MOST_BYTES}
 use Rattle.adb_view.specs.Shaped.{Each, HasShape, HaveShapes}
 use Rattle.adb_view.proofs.Normal.{trimmed-more}
@@ -78,22 +78,22 @@ unfolding int_of
 int_of-append p q w n e =
     test_same (eqb w 0) _ _ _ _ (Ok n) (λ e. e) (
     test_same (eqb (kind_of w) 1) _ _ _ _ (Ok n) (λ e. e) (
-    test_same (eqb (kind_of w) 2) _ _ _ _ (Ok n) (inside-append w _ _ n (λ y. number_at-append w32 p q (low_of w) y)) (
-    test_same (eqb (kind_of w) 3) _ _ _ _ (Ok n) (inside-append w _ _ n (λ y. number_at-append w64 p q (low_of w) y)) (λ e. e)))) e
+    test_same (eqb (kind_of w) 2) _ _ _ _ (Ok n) (inside-append w _ _ n (λ y. number_at-append w32 p q (low_28_bits w) y)) (
+    test_same (eqb (kind_of w) 3) _ _ _ _ (Ok n) (inside-append w _ _ n (λ y. number_at-append w64 p q (low_28_bits w) y)) (λ e. e)))) e
 
 blob_of-append : (p q : List ℕ) (w : ℕ) (b : List ℕ) → blob_of p w ≡ Ok b → blob_of (p ++ q) w ≡ Ok b
 unfolding blob_of
 blob_of-append p q w b e =
     test_same (eqb w 0) _ _ _ _ (Ok b) (λ e. e) (
-    test_same (eqb (kind_of w) 8) _ _ _ _ (Ok b) (inside-append w _ _ b (λ y. counted_at-append w8 p q (low_of w) y)) (
-    test_same (eqb (kind_of w) 9) _ _ _ _ (Ok b) (inside-append w _ _ b (λ y. counted_at-append w16 p q (low_of w) y)) (
-    test_same (eqb (kind_of w) 10) _ _ _ _ (Ok b) (inside-append w _ _ b (λ y. counted_at-append w32 p q (low_of w) y)) (λ e. e)))) e
+    test_same (eqb (kind_of w) 8) _ _ _ _ (Ok b) (inside-append w _ _ b (λ y. counted_at-append w8 p q (low_28_bits w) y)) (
+    test_same (eqb (kind_of w) 9) _ _ _ _ (Ok b) (inside-append w _ _ b (λ y. counted_at-append w16 p q (low_28_bits w) y)) (
+    test_same (eqb (kind_of w) 10) _ _ _ _ (Ok b) (inside-append w _ _ b (λ y. counted_at-append w32 p q (low_28_bits w) y)) (λ e. e)))) e
 
 run_of-append : (kind : ℕ) (p q : List ℕ) (w : ℕ) (ws : List ℕ) → run_of kind p w ≡ Ok ws → run_of kind (p ++ q) w ≡ Ok ws
 unfolding run_of
 run_of-append kind p q w ws e =
     test_same (eqb w 0) _ _ _ _ (Ok ws) (λ e. e) (
-    test_same (eqb (kind_of w) kind) _ _ _ _ (Ok ws) (inside-append w _ _ ws (λ y. run_at-append p q (low_of w) y)) (λ e. e)) e
+    test_same (eqb (kind_of w) kind) _ _ _ _ (Ok ws) (inside-append w _ _ ws (λ y. run_at-append p q (low_28_bits w) y)) (λ e. e)) e
 
 mutual
   unfolding Holds
@@ -234,7 +234,7 @@ pub record Leads (p : List ℕ) (i : Item) (w : ℕ) : Type 0 where
   pub nonzero : w ≢ 0
   pub small : w < 2 ^ 32
   pub kind_is : kind_of w ≡ i.kind
-  pub located : (back : List ℕ) × Stands p (low_of w) (i.bytes ++ back)
+  pub located : (back : List ℕ) × Stands p (low_28_bits w) (i.bytes ++ back)
 
 new_leads : (i : Item) (out : Layout) (root : ℕ) → 0 < i.kind → i.kind < 15 → end_offset (put_new i out).1 ≤ MOST_BYTES → Leads (payload_with_root root (put_new i out).1) i (put_new i out).0
 new_leads i out root pos few fits =
@@ -276,46 +276,46 @@ placed_leads i out root pos few some fits = go (find (is_equal_item out.body i) 
 pub Leads-append : (p q : List ℕ) (i : Item) (w : ℕ) → Leads p i w → Leads (p ++ q) i w
 Leads-append p q i w l =
     let (back, s) = l.located in
-    record { nonzero = l.nonzero; small = l.small; kind_is = l.kind_is; located = (back ++ q, subst (Stands (p ++ q) (low_of w)) (append_assoc i.bytes back q) (Stands-append p q (low_of w) (i.bytes ++ back) s)) }
+    record { nonzero = l.nonzero; small = l.small; kind_is = l.kind_is; located = (back ++ q, subst (Stands (p ++ q) (low_28_bits w)) (append_assoc i.bytes back q) (Stands-append p q (low_28_bits w) (i.bytes ++ back) s)) }
 
 pub int_of-32 : (p : List ℕ) (w n : ℕ) → n < 2 ^ 32 → Leads p (record { kind = 2; align = 4; bytes = to_le_bytes w32 n; entries = 0 }) w → int_of p w ≡ Ok n
 unfolding int_of
 int_of-32 p w n lt l =
     let t0 : eqb w 0 ≡ false = ne_eqb w 0 l.nonzero in
-    rw (t0, l.kind_is, number_stands w32 (2 ^ 32) wide32 p (low_of w) n l.located.0 lt l.located.1) refl
+    rw (t0, l.kind_is, number_stands w32 (2 ^ 32) wide32 p (low_28_bits w) n l.located.0 lt l.located.1) refl
 
 pub int_of-64 : (p : List ℕ) (w n : ℕ) → n < 2 ^ 64 → Leads p (record { kind = 3; align = 8; bytes = to_le_bytes w64 n; entries = 0 }) w → int_of p w ≡ Ok n
 unfolding int_of
 int_of-64 p w n lt l =
     let t0 : eqb w 0 ≡ false = ne_eqb w 0 l.nonzero in
-    rw (t0, l.kind_is, number_stands w64 (2 ^ 64) wide64 p (low_of w) n l.located.0 lt l.located.1) refl
+    rw (t0, l.kind_is, number_stands w64 (2 ^ 64) wide64 p (low_28_bits w) n l.located.0 lt l.located.1) refl
 
 int_of-short : (p : List ℕ) (n : ℕ) → n < 2 ^ 28 → int_of p (2 ^ 28 + n) ≡ Ok n
 unfolding int_of
 int_of-short p n lt =
     let t0 : eqb (2 ^ 28 + n) 0 ≡ false = ne_eqb (2 ^ 28 + n) 0 (λ e. absurd (omega arith)) in
     let t1 : kind_of (2 ^ 28 + n) ≡ 1 = omega arith in
-    let t2 : low_of (2 ^ 28 + n) ≡ n = omega arith in
+    let t2 : low_28_bits (2 ^ 28 + n) ≡ n = omega arith in
     rw (t0, t1, t2) refl
 
 pub blob_of-8 : (p : List ℕ) (w : ℕ) (b : List ℕ) → length b < 2 ^ 8 → Leads p (record { kind = 8; align = 1; bytes = to_le_bytes w8 (length b) ++ b; entries = 0 }) w → blob_of p w ≡ Ok b
 unfolding blob_of
-blob_of-8 p w b lt l = let t0 : eqb w 0 ≡ false = ne_eqb w 0 l.nonzero in rw (t0, l.kind_is, counted_stands w8 (2 ^ 8) wide8 p (low_of w) b l.located.0 lt l.located.1) refl
+blob_of-8 p w b lt l = let t0 : eqb w 0 ≡ false = ne_eqb w 0 l.nonzero in rw (t0, l.kind_is, counted_stands w8 (2 ^ 8) wide8 p (low_28_bits w) b l.located.0 lt l.located.1) refl
 
 pub blob_of-16 : (p : List ℕ) (w : ℕ) (b : List ℕ) → length b < 2 ^ 16 → Leads p (record { kind = 9; align = 2; bytes = to_le_bytes w16 (length b) ++ b; entries = 0 }) w → blob_of p w ≡ Ok b
 unfolding blob_of
-blob_of-16 p w b lt l = let t0 : eqb w 0 ≡ false = ne_eqb w 0 l.nonzero in rw (t0, l.kind_is, counted_stands w16 (2 ^ 16) wide16 p (low_of w) b l.located.0 lt l.located.1) refl
+blob_of-16 p w b lt l = let t0 : eqb w 0 ≡ false = ne_eqb w 0 l.nonzero in rw (t0, l.kind_is, counted_stands w16 (2 ^ 16) wide16 p (low_28_bits w) b l.located.0 lt l.located.1) refl
 
 pub blob_of-32 : (p : List ℕ) (w : ℕ) (b : List ℕ) → length b < 2 ^ 32 → Leads p (record { kind = 10; align = 4; bytes = to_le_bytes w32 (length b) ++ b; entries = 0 }) w → blob_of p w ≡ Ok b
 unfolding blob_of
-blob_of-32 p w b lt l = let t0 : eqb w 0 ≡ false = ne_eqb w 0 l.nonzero in rw (t0, l.kind_is, counted_stands w32 (2 ^ 32) wide32 p (low_of w) b l.located.0 lt l.located.1) refl
+blob_of-32 p w b lt l = let t0 : eqb w 0 ≡ false = ne_eqb w 0 l.nonzero in rw (t0, l.kind_is, counted_stands w32 (2 ^ 32) wide32 p (low_28_bits w) b l.located.0 lt l.located.1) refl
 
 pub run_of-placed : (kind : ℕ) (p : List ℕ) (w : ℕ) (ws : List ℕ) → AllByRecursion (λ w. w < 2 ^ 32) ws → suc (length ws) < 2 ^ 32 → Leads p (record { kind = kind; align = 4; bytes = run_bytes ws; entries = length ws }) w → run_of kind p w ≡ Ok ws
 unfolding run_of
 run_of-placed kind p w ws small few l =
     let t0 : eqb w 0 ≡ false = ne_eqb w 0 l.nonzero in
     let t1 : eqb (kind_of w) kind ≡ true = eq-eqb _ _ l.kind_is in
-    rw (t0, t1, run_stands p (low_of w) ws l.located.0 small few l.located.1) refl
+    rw (t0, t1, run_stands p (low_28_bits w) ws l.located.0 small few l.located.1) refl
 
 -- ---- each kind of cell
 

@@ -10,7 +10,7 @@ use Rattle.std.proofs.lemmas.List.{length-append, length-drop, take-append-le, d
 use Rattle.std.proofs.lemmas.List.Concat.{flat_map-cons}
 use Rattle.std.proofs.lemmas.Slice.Eq.{bytes_eq-Decides}
 use Rattle.std.proofs.lemmas.Map.Lookups.{exact_bytes}
-use Rattle.adb_view.specs.Readers.{kind_of, low_of, int_of, blob_of, ARRAY, OBJECT}
+use Rattle.adb_view.specs.Readers.{kind_of, low_28_bits, int_of, blob_of, ARRAY, OBJECT}
 use Rattle.adb_view.specs.Visits.{or_empty}
 use Rattle.adb_write.specs.Canonical.{Item, int_item, blob_item, run_bytes, is_equal_item, MOST_BYTES}
 use Rattle.adb_write.specs.Items.{list_kind, item_of, HasNumbersInRange}
@@ -123,10 +123,10 @@ item_some (stored_int n) = int_some n
 item_some (stored_blob b) = omega (arith, blob_long b)
 item_some (stored_list kind ws) = omega (arith, run_long ws)
 
-placed_ends : (p : List ℕ) (what : Stored) (w : ℕ) → IsStoredAt p what w → low_of w + length (item_of_stored what).bytes ≤ length p
-placed_ends p what w s = equal_within p (low_of w) (item_of_stored what).bytes (item_some what) s.there
+placed_ends : (p : List ℕ) (what : Stored) (w : ℕ) → IsStoredAt p what w → low_28_bits w + length (item_of_stored what).bytes ≤ length p
+placed_ends p what w s = equal_within p (low_28_bits w) (item_of_stored what).bytes (item_some what) s.there
 
-pub stored_ends : (p : List ℕ) (l : ℕ) → (s : IsStored p l) → low_of (word_of_locator l) + length (item_of_stored s.what).bytes ≤ length p
+pub stored_ends : (p : List ℕ) (l : ℕ) → (s : IsStored p l) → low_28_bits (word_of_locator l) + length (item_of_stored s.what).bytes ≤ length p
 stored_ends p l s = placed_ends p s.what (word_of_locator l) s.stored
 
 placed_leads : (p : List ℕ) (what : Stored) (w : ℕ) → IsStoredAt p what w → Leads p (item_of_stored what) w
@@ -139,10 +139,10 @@ placed_leads p what w s =
       small = omega (arith, s.kind);
       kind_is = s.kind;
       located = (
-        drop (length bytes) (drop (low_of w) p),
+        drop (length bytes) (drop (low_28_bits w) p),
         record {
           inside = omega arith;
-          is = sym (take-append-drop (length bytes) (drop (low_of w) p)) ∙ ap (λ (x : List ℕ). x ++ drop (length bytes) (drop (low_of w) p)) s.there;
+          is = sym (take-append-drop (length bytes) (drop (low_28_bits w) p)) ∙ ap (λ (x : List ℕ). x ++ drop (length bytes) (drop (low_28_bits w) p)) s.there;
         },
       );
     }
@@ -164,7 +164,7 @@ placed_more p q what w s =
       small = s.small;
       kind = s.kind;
       behind_head = s.behind_head;
-      there = ap (take (length bytes)) (drop-append-le (low_of w) p q (omega arith)) ∙ take-append-le (length bytes) (drop (low_of w) p) q (omega (arith, length-drop (low_of w) p)) ∙ s.there;
+      there = ap (take (length bytes)) (drop-append-le (low_28_bits w) p q (omega arith)) ∙ take-append-le (length bytes) (drop (low_28_bits w) p) q (omega (arith, length-drop (low_28_bits w) p)) ∙ s.there;
     }
 
 pub stored_more : (p q : List ℕ) (l : ℕ) → IsStored p l → IsStored (p ++ q) l
@@ -232,26 +232,26 @@ parts_fingerprint (Blob b) = refl
 parts_fingerprint (Listed kind ws) = refl
 
 -- a word of this kind, at whose offset the bytes stand
-parts_placed : (p : List ℕ) (w : ℕ) (parts : Parts) → HasNumbersThatFit (stored_of parts) → kind_of w ≡ (item_of parts).kind → 8 ≤ low_of w → take (length (item_of parts).bytes) (drop (low_of w) p) ≡ (item_of parts).bytes → IsStoredAt p (stored_of parts) w
+parts_placed : (p : List ℕ) (w : ℕ) (parts : Parts) → HasNumbersThatFit (stored_of parts) → kind_of w ≡ (item_of parts).kind → 8 ≤ low_28_bits w → take (length (item_of parts).bytes) (drop (low_28_bits w) p) ≡ (item_of parts).bytes → IsStoredAt p (stored_of parts) w
 parts_placed p w parts small kind head there = record {
   small = small;
   kind = kind ∙ sym (parts_kind parts);
   behind_head = head;
-  there = subst (λ (b : List ℕ). take (length b) (drop (low_of w) p) ≡ b) (sym (parts_bytes parts)) there;
+  there = subst (λ (b : List ℕ). take (length b) (drop (low_28_bits w) p) ≡ b) (sym (parts_bytes parts)) there;
 }
 
-pub parts_stored : (p : List ℕ) (l : ℕ) (parts : Parts) → HasNumbersThatFit (stored_of parts) → fingerprint_of_locator l ≡ fingerprint_of parts → kind_of (word_of_locator l) ≡ (item_of parts).kind → 8 ≤ low_of (word_of_locator l)
-    → take (length (item_of parts).bytes) (drop (low_of (word_of_locator l)) p) ≡ (item_of parts).bytes → IsStored p l
+pub parts_stored : (p : List ℕ) (l : ℕ) (parts : Parts) → HasNumbersThatFit (stored_of parts) → fingerprint_of_locator l ≡ fingerprint_of parts → kind_of (word_of_locator l) ≡ (item_of parts).kind → 8 ≤ low_28_bits (word_of_locator l)
+    → take (length (item_of parts).bytes) (drop (low_28_bits (word_of_locator l)) p) ≡ (item_of parts).bytes → IsStored p l
 parts_stored p l parts small print kind head there =
     record { what = stored_of parts; fingerprint = print ∙ sym (parts_fingerprint parts); stored = parts_placed p (word_of_locator l) parts small kind head there }
 
-parts_content_key : (p : List ℕ) (w : ℕ) (parts : Parts) → HasNumbersThatFit (stored_of parts) → kind_of w ≡ (item_of parts).kind → 8 ≤ low_of w → take (length (item_of parts).bytes) (drop (low_of w) p) ≡ (item_of parts).bytes → kind_and_comparison_numbers_at p w ≡ kind_and_comparison_numbers parts
+parts_content_key : (p : List ℕ) (w : ℕ) (parts : Parts) → HasNumbersThatFit (stored_of parts) → kind_of w ≡ (item_of parts).kind → 8 ≤ low_28_bits w → take (length (item_of parts).bytes) (drop (low_28_bits w) p) ≡ (item_of parts).bytes → kind_and_comparison_numbers_at p w ≡ kind_and_comparison_numbers parts
 parts_content_key p w parts small kind head there =
     placed_key p (stored_of parts) w (parts_placed p w parts small kind head there)
     ∙ ap (λ (k : ℕ). k ∷ content_of_stored (stored_of parts)) (parts_kind parts) ∙ ap (λ (c : List ℕ). (item_of parts).kind ∷ c) (parts_content parts)
 
-pub parts_key : (p : List ℕ) (l : ℕ) (parts : Parts) → HasNumbersThatFit (stored_of parts) → fingerprint_of_locator l ≡ fingerprint_of parts → kind_of (word_of_locator l) ≡ (item_of parts).kind → 8 ≤ low_of (word_of_locator l)
-    → take (length (item_of parts).bytes) (drop (low_of (word_of_locator l)) p) ≡ (item_of parts).bytes → key_of_locator p l ≡ key_of parts
+pub parts_key : (p : List ℕ) (l : ℕ) (parts : Parts) → HasNumbersThatFit (stored_of parts) → fingerprint_of_locator l ≡ fingerprint_of parts → kind_of (word_of_locator l) ≡ (item_of parts).kind → 8 ≤ low_28_bits (word_of_locator l)
+    → take (length (item_of parts).bytes) (drop (low_28_bits (word_of_locator l)) p) ≡ (item_of parts).bytes → key_of_locator p l ≡ key_of parts
 parts_key p l parts small print kind head there =
     ap (λ (f : ℕ). f ∷ kind_and_comparison_numbers_at p (word_of_locator l)) print ∙ ap (λ (c : List ℕ). fingerprint_of parts ∷ c) (parts_content_key p (word_of_locator l) parts small kind head there)
 
@@ -270,16 +270,16 @@ same_fingerprint (Listed kind ws) (stored_list other vs) k c =
     let same : low_words ws.now ≡ vs = sym (reverse-reverse (low_words ws.now)) ∙ (ap reverse c ∙ reverse-reverse vs) in
     ap list_fingerprint same
 
-there_is : (p : List ℕ) (w : ℕ) → 8 ≤ low_of w → drop (low_of w - 8) (drop 8 p) ≡ drop (low_of w) p
-there_is p w head = drop-drop (low_of w - 8) 8 p ∙ ap (λ (k : ℕ). drop k p) (omega arith)
+there_is : (p : List ℕ) (w : ℕ) → 8 ≤ low_28_bits w → drop (low_28_bits w - 8) (drop 8 p) ≡ drop (low_28_bits w) p
+there_is p w head = drop-drop (low_28_bits w - 8) 8 p ∙ ap (λ (k : ℕ). drop k p) (omega arith)
 
 pub equal_key : (p : List ℕ) (l : ℕ) (parts : Parts) → IsStored p l → HasNumbersInRange parts → length p ≤ MOST_BYTES → is_equal_item (drop 8 p) (item_of parts) (written_item l) ≡ true → cmp (key_of parts) (key_of_locator p l) ≡ Equal
 equal_key p l parts s room few e =
     let w : ℕ = word_of_locator l in
     let head = s.stored.behind_head in
     let bytes = equal_bytes (drop 8 p) (item_of parts) (written_item l) e in
-    let there : take (length (item_of parts).bytes) (drop (low_of w) p) ≡ (item_of parts).bytes = ap (take (length (item_of parts).bytes)) (sym (there_is p w head)) ∙ bytes in
-    let ends = equal_within p (low_of w) (item_of parts).bytes (parts_some parts) there in
+    let there : take (length (item_of parts).bytes) (drop (low_28_bits w) p) ≡ (item_of parts).bytes = ap (take (length (item_of parts).bytes)) (sym (there_is p w head)) ∙ bytes in
+    let ends = equal_within p (low_28_bits w) (item_of parts).bytes (parts_some parts) there in
     let small = parts_small parts room (omega arith) in
     let kind : kind_of w ≡ (item_of parts).kind = equal_kind (drop 8 p) (item_of parts) (written_item l) e in
     let same : kind_and_comparison_numbers parts ≡ (item_of_stored s.what).kind ∷ content_of_stored s.what = sym (parts_content_key p w parts small kind head there) ∙ placed_key p s.what w s.stored in
@@ -308,8 +308,8 @@ key_equal p l parts s e =
     let kinds : (item_of parts).kind ≡ (item_of_stored s.what).kind = cc in
     let contents : comparison_numbers parts ≡ content_of_stored s.what = cc in
     let bytes : (item_of parts).bytes ≡ (item_of_stored s.what).bytes = same_bytes parts s.what kinds contents in
-    let there : take (length (item_of parts).bytes) (drop (low_of w - 8) (drop 8 p)) ≡ (item_of parts).bytes =
-    ap (take (length (item_of parts).bytes)) (there_is p w s.stored.behind_head) ∙ ap (λ (b : List ℕ). take (length b) (drop (low_of w) p)) bytes ∙ s.stored.there ∙ sym bytes in
+    let there : take (length (item_of parts).bytes) (drop (low_28_bits w - 8) (drop 8 p)) ≡ (item_of parts).bytes =
+    ap (take (length (item_of parts).bytes)) (there_is p w s.stored.behind_head) ∙ ap (λ (b : List ℕ). take (length b) (drop (low_28_bits w) p)) bytes ∙ s.stored.there ∙ sym bytes in
     let a : eqb (kind_of w) (item_of parts).kind ≡ true = eq-eqb _ _ (s.stored.kind ∙ sym kinds) in
-    let b : bytes_eq (take (length (item_of parts).bytes) (drop (low_of w - 8) (drop 8 p))) (item_of parts).bytes ≡ true = (bytes_eq-Decides _ _).1 there in
+    let b : bytes_eq (take (length (item_of parts).bytes) (drop (low_28_bits w - 8) (drop 8 p))) (item_of parts).bytes ≡ true = (bytes_eq-Decides _ _).1 there in
     rw (a, b) refl

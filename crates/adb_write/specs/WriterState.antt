@@ -3,7 +3,7 @@
 -- locators are stored is described in the README of this crate.
 use Rattle.std.specs.Prelude.{◌≡◌, ℕ, ◌+◌, ◌-◌, ◌^◌, ◌<◌, ◌≤◌, ◌⊎◌, ◌%◌, suc, false, List, [], ◌∷◌, length, take, drop, replicate, nat_lt, find, option_map, Some, Result, Ok, Err, if◌then◌else◌}
 use Rattle.std.specs.List.{AllByRecursion, concat}
-use Rattle.adb_view.specs.Readers.{kind_of, low_of}
+use Rattle.adb_view.specs.Readers.{kind_of, low_28_bits}
 use Rattle.adb_write.specs.Canonical.{Item, WrittenItem, is_equal_item, word_of_item, int_item, blob_item, run_item, PayloadCounts, exceeds_a_limit}
 use Rattle.adb_write.specs.Writing.{Writing, is_past_limit}
 use Rattle.adb_write.specs.Items.{list_kind}
@@ -49,9 +49,9 @@ pub record IsStoredAt (payload : List ℕ) (what : Stored) (word : ℕ) : Type 0
   pub small : HasNumbersThatFit what
   pub kind : kind_of word ≡ (item_of_stored what).kind
   -- it follows the head
-  pub behind_head : 8 ≤ low_of word
+  pub behind_head : 8 ≤ low_28_bits word
   -- its bytes are at the word's offset
-  pub there : take (length (item_of_stored what).bytes) (drop (low_of word) payload)
+  pub there : take (length (item_of_stored what).bytes) (drop (low_28_bits word) payload)
       ≡ (item_of_stored what).bytes
 
 -- the locator names an item in the payload
@@ -70,7 +70,7 @@ AreStored payload locators = AllByRecursion (IsStored payload) locators
 abbrev pub written_item : ℕ → WrittenItem
 written_item locator = record {
   kind = kind_of (word_of_locator locator);
-  offset = low_of (word_of_locator locator) - 8;
+  offset = low_28_bits (word_of_locator locator) - 8;
 }
 
 -- items with one more among them, the latest first, after the others

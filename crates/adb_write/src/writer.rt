@@ -105,6 +105,9 @@ impl Model for Writer {
 
     ghost Value = { Writing };
 
+    // The value of a writer has the payload's bytes after its head of 8 bytes, the items in them,
+    // and the two counts. A locator is an entry of the writer's list of items. The list is stored
+    // in pages of locators.
     ghost view = { λ w. writing_from_parts (drop 8 w.store.payload.items)
         (items_of_locators (concat (pages_of w.store.words))) w.counts.bytes w.counts.values };
 

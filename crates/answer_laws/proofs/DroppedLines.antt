@@ -9,7 +9,7 @@ use Rattle.adb_view.proofs.ValueEntries.{entries_arr, nth_obj}
 use Rattle.change_outcome.specs.make_info.Values.{plains_of_list}
 use Rattle.change_outcome.specs.v2_lines.InfoFields.{field_of_letter, grammar_of, info_field_among, info_fields, letter_of}
 use Rattle.change_outcome.specs.v2_lines.InfoValues.{sha1_of, values_under_grammar}
-use Rattle.change_outcome.specs.v2_lines.Lines.{RecordLine, info_line, folder_line, folder_access_line, file_line, file_access_line, file_hash_line, other_line, folder_line_of, file_line_of, info_record_line, record_line_of_letter, record_line_of}
+use Rattle.change_outcome.specs.v2_lines.Lines.{RecordLine, info_line, folder_line, folder_access_line, file_line, file_access_line, file_hash_line, other_line, folder_line_if_path, file_line_if_one_part, info_record_line, record_line_of_letter, record_line_of}
 use Rattle.change_outcome.specs.v2_lines.Accesses.{access_in}
 use Rattle.change_outcome.specs.v2_lines.declared.field.InfoField.{InfoField}
 use Rattle.change_outcome.specs.v2_lines.declared.field.InfoField.TheVariants as Letters
@@ -137,9 +137,9 @@ apart letter n unlisted listed = ne_eqb letter n (λ same. unlisted (subst (λ (
 dropped : (letter : ℕ) (value : List ℕ) → (IsIn letter known_line_letters → ⊥) → record_line_of_letter letter value ≡ Some other_line
 unfolding record_line_of_letter field_of_letter
 dropped letter value unlisted =
-    skip (letter == 70) (folder_line_of value) _ (apart letter 70 unlisted (inr (inr (inr (inr (inr (inr (inr (inr (inr (inr (inr (inr (inr (inr (inr (inr (inr (inr (inl refl))))))))))))))))))))
+    skip (letter == 70) (folder_line_if_path value) _ (apart letter 70 unlisted (inr (inr (inr (inr (inr (inr (inr (inr (inr (inr (inr (inr (inr (inr (inr (inr (inr (inr (inl refl))))))))))))))))))))
     ∙ skip (letter == 77) (option_map folder_access_line (access_in value)) _ (apart letter 77 unlisted (inr (inr (inr (inr (inr (inr (inr (inr (inr (inr (inr (inr (inr (inr (inr (inr (inr (inr (inr (inl refl)))))))))))))))))))))
-    ∙ skip (letter == 82) (file_line_of value) _ (apart letter 82 unlisted (inr (inr (inr (inr (inr (inr (inr (inr (inr (inr (inr (inr (inr (inr (inr (inr (inr (inr (inr (inr (inl refl))))))))))))))))))))))
+    ∙ skip (letter == 82) (file_line_if_one_part value) _ (apart letter 82 unlisted (inr (inr (inr (inr (inr (inr (inr (inr (inr (inr (inr (inr (inr (inr (inr (inr (inr (inr (inr (inr (inl refl))))))))))))))))))))))
     ∙ skip (letter == 97) (option_map file_access_line (access_in value)) _ (apart letter 97 unlisted (inr (inr (inr (inr (inr (inr (inr (inr (inr (inr (inr (inr (inr (inr (inr (inr (inr (inr (inr (inr (inr (inl refl)))))))))))))))))))))))
     ∙ skip (letter == 90) (option_map file_hash_line (sha1_of value)) _ (apart letter 90 unlisted (inr (inr (inr (inr (inr (inr (inr (inr (inr (inr (inr (inr (inr (inr (inr (inr (inr (inr (inr (inr (inr (inr (inl refl))))))))))))))))))))))))
     ∙ ap (λ (o : Option InfoField). info_record_line o value) (no_field info_fields letter unlisted)

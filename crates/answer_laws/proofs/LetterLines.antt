@@ -9,7 +9,7 @@ use Rattle.dep_core.specs.Spelling.{SpellsDependency}
 use Rattle.change_outcome.specs.make_info.Fields.{FieldValue}
 use Rattle.change_outcome.specs.v2_lines.InfoFields.{field_of_letter, grammar_of, info_field_among, info_fields, letter_of}
 use Rattle.change_outcome.specs.v2_lines.InfoValues.{sha1_of, values_under_grammar}
-use Rattle.change_outcome.specs.v2_lines.Lines.{RecordLine, info_line, folder_line, folder_access_line, file_line, file_access_line, file_hash_line, other_line, folder_line_of, file_line_of, info_record_line, record_line_of_letter, record_line_of}
+use Rattle.change_outcome.specs.v2_lines.Lines.{RecordLine, info_line, folder_line, folder_access_line, file_line, file_access_line, file_hash_line, other_line, folder_line_if_path, file_line_if_one_part, info_record_line, record_line_of_letter, record_line_of}
 use Rattle.change_outcome.specs.v2_lines.Accesses.{access_in}
 use Rattle.change_outcome.specs.v2_lines.declared.field.InfoField.{InfoField}
 use Rattle.change_outcome.specs.v2_core.Database.{values_for}
@@ -70,9 +70,9 @@ info_found letter value g v e =
     info_by_line letter (field_of_letter letter) value g v refl
     (after_else (letter == 90) (option_map file_hash_line (sha1_of value)) (info_record_line (field_of_letter letter) value) g v (else_of file_hash_line (λ a g v e. absurd cc) (sha1_of value))
     (after_else (letter == 97) (option_map file_access_line (access_in value)) _ g v (else_of file_access_line (λ a g v e. absurd cc) (access_in value))
-    (after_else (letter == 82) (file_line_of value) _ g v (else_by (is_one_part value) (file_line value) (λ g v e. absurd cc))
+    (after_else (letter == 82) (file_line_if_one_part value) _ g v (else_by (is_one_part value) (file_line value) (λ g v e. absurd cc))
     (after_else (letter == 77) (option_map folder_access_line (access_in value)) _ g v (else_of folder_access_line (λ a g v e. absurd cc) (access_in value))
-    (after_else (letter == 70) (folder_line_of value) _ g v (else_by (is_folder_name value) (folder_line value) (λ g v e. absurd cc)) e)))))
+    (after_else (letter == 70) (folder_line_if_path value) _ g v (else_by (is_folder_name value) (folder_line value) (λ g v e. absurd cc)) e)))))
 
 -- ---- the values of a line
 

@@ -13,14 +13,14 @@ use Rattle.change_outcome.specs.v2_core.Database.{array_of, listed_access_value,
 use Rattle.change_outcome.specs.v2_core.Records.{ListedFile, ListedFolder, Record}
 use Rattle.change_outcome.specs.v2_lines.Accesses.{Access, access_in}
 use Rattle.change_outcome.specs.v2_lines.InfoValues.{sha1_of}
-use Rattle.change_outcome.specs.v2_lines.Lines.{file_access_line, file_hash_line, file_line_of, folder_access_line, folder_line_of, record_line_of_letter, record_line_of}
+use Rattle.change_outcome.specs.v2_lines.Lines.{file_access_line, file_hash_line, file_line_if_one_part, folder_access_line, folder_line_if_path, record_line_of_letter, record_line_of}
 use Rattle.answer_laws.specs.TextLetters.{letter_line}
 use Rattle.answer_laws.proofs.DroppedLines.{file_parts}
 use Rattle.answer_laws.proofs.RecordFields.{package_parts}
 
 -- ---- letters
 
-pub folder_letter : (name : List ℕ) → record_line_of (letter_line (codes "F") name) ≡ folder_line_of name
+pub folder_letter : (name : List ℕ) → record_line_of (letter_line (codes "F") name) ≡ folder_line_if_path name
 unfolding record_line_of_letter
 folder_letter name = refl
 
@@ -28,7 +28,7 @@ pub folder_access_letter : (value : List ℕ) → record_line_of (letter_line (c
 unfolding record_line_of_letter
 folder_access_letter value = refl
 
-pub file_letter : (name : List ℕ) → record_line_of (letter_line (codes "R") name) ≡ file_line_of name
+pub file_letter : (name : List ℕ) → record_line_of (letter_line (codes "R") name) ≡ file_line_if_one_part name
 unfolding record_line_of_letter
 file_letter name = refl
 

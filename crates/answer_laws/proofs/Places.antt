@@ -11,7 +11,7 @@ use Rattle.installed_info.specs.candidate_core.Candidates.{Candidate}
 use Rattle.change_outcome.specs.change_inputs.Chains.{unless_cause}
 use Rattle.change_outcome.specs.change_inputs.Database.{Database, database_from_parts, payload_database, root_database}
 use Rattle.change_outcome.specs.PackageFiles.{package_file_of, path_beside_index}
-use Rattle.change_outcome.specs.root_names.PackagePath.{folder_prefix_of, has_slash, if_name, package_path}
+use Rattle.change_outcome.specs.root_names.PackagePath.{folder_prefix_of, has_slash, path_if_name, package_path}
 use Rattle.dep_core.specs.Repositories.{Repository}
 use Rattle.change_outcome.specs.package_changes.Changes.{selected_version}
 use Rattle.installed_info.specs.adb_schema.Soundness.{first_fault}
@@ -43,18 +43,18 @@ prefix_is (b ∷ folder) index none =
 
 -- ---- the file of a candidate
 
-named_path : (path : List ℕ) → is_name path ≡ true → if_name path ≡ Some path
+named_path : (path : List ℕ) → is_name path ≡ true → path_if_name path ≡ Some path
 named_path path e = ap (λ (t : Bool). let o : Option (List ℕ) = if t then Some path else None in o) e
 
 -- the name of the file beside an index, given the candidate's repository
 beside : (repositories : List Repository) (c : Candidate) (path : List ℕ) → IsCandidateOfIndex repositories c path
-    → package_file_of repositories c ≡ if_name (package_path path c.name (selected_version c))
+    → package_file_of repositories c ≡ path_if_name (package_path path c.name (selected_version c))
 beside repositories c path of =
     let at : (of.place + 1) - 1 ≡ of.place = omega arith in
     by_number of.numbered
     ∙ ap (λ (n : ℕ). path_beside_index c.name (selected_version c) (slice_get repositories n)) at
     ∙ ap (path_beside_index c.name (selected_version c)) of.listed
-    ∙ ap (λ (p : List ℕ). if_name (package_path p c.name (selected_version c))) of.path_is
+    ∙ ap (λ (p : List ℕ). path_if_name (package_path p c.name (selected_version c))) of.path_is
   where
     by_number : c.repository ≡ Some (of.place + 1) → package_file_of repositories c ≡ path_beside_index c.name (selected_version c) (slice_get repositories ((of.place + 1) - 1))
     by_number e = ap (λ (o : Option ℕ). package_file_of repositories (record c { repository = o })) e
@@ -63,14 +63,14 @@ pub below : (repositories : List Repository) (c : Candidate) (folder index : Lis
     → is_name (folder ++ codes "/" ++ candidate_file_name c) ≡ true → package_file_of repositories c ≡ Some (folder ++ codes "/" ++ candidate_file_name c)
 below repositories c folder index none of named =
     beside repositories c (folder ++ codes "/" ++ index) of
-    ∙ ap (λ (t : List ℕ). if_name (t ++ candidate_file_name c)) (prefix_is folder index none)
+    ∙ ap (λ (t : List ℕ). path_if_name (t ++ candidate_file_name c)) (prefix_is folder index none)
     ∙ named_path (folder ++ codes "/" ++ candidate_file_name c) named
 
 pub top : (repositories : List Repository) (c : Candidate) (index : List ℕ) → HasNoSlash index → IsCandidateOfIndex repositories c index
     → is_name (candidate_file_name c) ≡ true → package_file_of repositories c ≡ Some (candidate_file_name c)
 top repositories c index none of named =
     beside repositories c index of
-    ∙ ap (λ (t : List ℕ). if_name (t ++ candidate_file_name c)) (no_prefix index none)
+    ∙ ap (λ (t : List ℕ). path_if_name (t ++ candidate_file_name c)) (no_prefix index none)
     ∙ named_path (candidate_file_name c) named
 
 -- ---- the two databases

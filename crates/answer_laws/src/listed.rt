@@ -11,17 +11,17 @@ ghost use Rattle.change_outcome.specs.v2_core.Database.{listed_access_value, lis
 ghost use Rattle.change_outcome.specs.v2_core.Records.{ListedFile, ListedFolder, Record, empty_record};
 ghost use Rattle.change_outcome.specs.v2_lines.Accesses.{Access, access_in};
 ghost use Rattle.change_outcome.specs.v2_lines.InfoValues.{sha1_of};
-ghost use Rattle.change_outcome.specs.v2_lines.Lines.{RecordLine, file_access_line, file_hash_line, file_line_of, folder_access_line, folder_line_of, record_line_of};
+ghost use Rattle.change_outcome.specs.v2_lines.Lines.{RecordLine, file_access_line, file_hash_line, file_line_if_one_part, folder_access_line, folder_line_if_path, record_line_of};
 
 /// F begins a folder and R a file; M gives the access of a folder, a that of a file, and Z its
 /// hash.
 pub fn each_path_letter_has_its_meaning()
     ensures folder { (name : List ℕ)
-        → record_line_of (letter_line (codes "F") name) ≡ folder_line_of name }
+        → record_line_of (letter_line (codes "F") name) ≡ folder_line_if_path name }
     ensures folder_access { (value : List ℕ) → record_line_of (letter_line (codes "M") value)
         ≡ option_map folder_access_line (access_in value) }
     ensures file { (name : List ℕ)
-        → record_line_of (letter_line (codes "R") name) ≡ file_line_of name }
+        → record_line_of (letter_line (codes "R") name) ≡ file_line_if_one_part name }
     ensures file_access { (value : List ℕ) → record_line_of (letter_line (codes "a") value)
         ≡ option_map file_access_line (access_in value) }
     ensures hash { (value : List ℕ) → record_line_of (letter_line (codes "Z") value)

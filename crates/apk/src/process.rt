@@ -3,7 +3,7 @@
 
 ghost use Rattle.std.specs.Prelude.{◌≤◌, IfOk, IfSome, ◌≡◌, ◌<◌, None, length};
 ghost use Rattle.std.specs.Vec.{vec_len};
-ghost use Rattle.base_core.specs.Faults.{next_count};
+ghost use Rattle.base_core.specs.Faults.{saturating_increment};
 ghost use Rattle.host_tree.specs.Host.{host_counts};
 
 use base_core::{Sink, SinkFault, Words};
@@ -118,7 +118,7 @@ impl<W: Write + Drop> HostSink<W> {
 
     /// Counts a fault; the count saturates at its largest value.
     fn fault(&mut self) -> SinkFault
-        ensures faults { self.new.faults ≡ next_count self.old.faults }
+        ensures faults { self.new.faults ≡ saturating_increment self.old.faults }
         ensures later { self.old.faults ≤ self.new.faults }
     {
         self.faults = self.faults.saturating_add(1);

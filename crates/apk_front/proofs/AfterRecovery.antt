@@ -23,7 +23,7 @@ use Rattle.outcome.specs.Effect.{Effect, does_recover}
 use Rattle.outcome.specs.Outcome.{Outcome}
 use Rattle.outcome.specs.Work.{recovery_fault, work_files}
 use Rattle.apk_front.specs.Moments.{MomentsLeadTo, AreReadDuringRun, AreOldOrLeadToOutcome, CanRecover, HasNothingToRecover, IsDurableState, IsRecoveringOrNext, IsStateDuringRun, IsRecovering, MustOutcomeBeDurable, MustOutcomeBeDurableWithoutRecovery, NamesAreDurableWithoutIntentExcept, ignored_except_output}
-use Rattle.apk_front.specs.Runs.{AreReadDuringWork, IsRun, IsWholeRun, IsVerdictWithoutCommit}
+use Rattle.apk_front.specs.Runs.{AreReadDuringWork, IsRun, IsWholeRun, IsOutOfMemoryOrWithoutCommit}
 use Rattle.apk_front.proofs.Runs.{History, Judged, Leaves, err_ok, on_ok, settled_before, since_weaker}
 
 -- ---- laws
@@ -117,7 +117,7 @@ settles_after laws effect ignored v u o is_unchanged found (inr (recovers, some)
 abbrev pub StaysWithout : History → History → Judged → Type 0
 StaysWithout old now judged = IsErrOf judged NoMemory → now ≡ old
 
-unwritten : (A B : Outcome → Type 0) (effect : Effect) (output : Option (List ℕ)) (judged : Judged) (u : TreeState) (mid now : History) → ((o : Outcome) → B o → A o) → IsRun A effect output judged u mid now → StaysWithout mid now judged → IsVerdictWithoutCommit B judged → now ≡ mid
+unwritten : (A B : Outcome → Type 0) (effect : Effect) (output : Option (List ℕ)) (judged : Judged) (u : TreeState) (mid now : History) → ((o : Outcome) → B o → A o) → IsRun A effect output judged u mid now → StaysWithout mid now judged → IsOutOfMemoryOrWithoutCommit B judged → now ≡ mid
 unwritten A B effect output judged u mid now from run memory (inl none) = memory none
 unwritten A B effect output judged u mid now from run memory (inr (o, one, commits)) = run.idle o (from o one) commits
 

@@ -1,14 +1,14 @@
 -- A command is run, and its outcome carried out.
 use Rattle.std.proofs.Common.{◌≡◌, inl, inr, ℕ, Bool, true, false, List, [], ◌∷◌, Option, Some, None, IsSome, Result, Ok, Err, refl, sym, ap, subst, ◌∙◌}
 use Rattle.std.proofs.lemmas.Bool.{false≢true}
-use Rattle.std.specs.Prelude.{if◌then◌else◌, is_some, IfOk, IsErrOf, IsTrue, MatchResult, OnOk}
+use Rattle.std.specs.Prelude.{if◌then◌else◌, is_some, IfOk, IsErrOf, IsTrue, OnOk}
 use Rattle.base_core.specs.Calls.{HoldsNow, IfObservable}
 use Rattle.base_core.specs.Crash.{Since}
 use Rattle.base_core.specs.Undone.{IsDurable}
 use Rattle.base_core.specs.Faults.{Counts, IsNoFault}
 use Rattle.base_core.specs.Files.{Files, no_names}
 use Rattle.base_core.specs.Read.{OnlyReads}
-use Rattle.base_core.specs.Sink.{SinkChange}
+use Rattle.base_core.specs.Sink.{SinkBeforeAndAfter}
 use Rattle.base_core.specs.Tree.{TreeState, files_of}
 use Rattle.base_core.specs.declared.cause.Cause.{Cause}
 use Rattle.base_core.specs.declared.tree.TreeFault.{TreeFault}
@@ -22,7 +22,7 @@ use Rattle.make_core.specs.make_index.Files.{FindOnlyFiles}
 use Rattle.make_core.specs.make_info.Reads.{Reads}
 use Rattle.outcome.specs.Make.{mkndx, mkpkg}
 use Rattle.outcome.specs.Commands.{IsPossibleOutcomeWithoutDemo, IsPossibleOutcomeAfterRecovery, IsOutcomeWithoutDemo, IsOutcomeAfterRecovery, reads_in, computing_outcome, effect_outcome, reading_outcome}
-use Rattle.outcome.specs.Given.{Given, IsChosenFor, IsClashBy, IsGiven, IsListingFor, MayBeGiven, MayBeListedFor, MayClash, nothing_given}
+use Rattle.outcome.specs.Given.{Given, IsChosenFor, IsClashBy, IsGiven, IsListingFor, MayBeGiven, MayBeListedFor, IsClashForEffect, nothing_given}
 use Rattle.outcome.specs.Effect.{Effect, Computes, OnlyReadsFiles, AsksRoot, Makes, Changes, does_only_read, does_recover, ignores_files, effect_of_arguments, effect_of, output, output_of_arguments, output_for_effect, reads_only, depends_only_on_arguments}
 use Rattle.outcome.specs.Words.{IsPossibleOutcome, IsOutcome}
 use Rattle.outcome.specs.Work.{recovery_fault}
@@ -42,7 +42,8 @@ use Rattle.outcome.proofs.Looking.{look_leaves}
 use Rattle.apk_front.specs.Answers.{answer_for_refusal}
 use Rattle.apk_front.specs.Effects.{root_access_if_read_only}
 use Rattle.apk_front.specs.Moments.{AnswersOutcome, AreReadDuringRun, AreOldOrLeadToOutcome, CommitsNothing, HasNothingToRecover, ArePathsToWriteFree, IgnoresScratchOf, IsDurableState, IsRefusedOrOutOfMemory, LeavesDurableState, LeavesDurableOnceAnswered, AreRunPathsFree, AreOutcomePathsFree, LeavesDurable, MustOutcomeBeDurable, NamesAreDurableWithoutIntentExcept, ignored_except_output}
-use Rattle.apk_front.specs.Runs.{IfNothingStaged, IsRun, IsWholeRun, IsVerdictWithoutCommit}
+use Rattle.apk_front.specs.RunContracts.{IsRunByArguments}
+use Rattle.apk_front.specs.Runs.{IfNothingStaged, IsRun, IsWholeRun, IsOutOfMemoryOrWithoutCommit}
 use Rattle.apk_front.specs.Containers.{IsIndexOutcome, IsPackageOutcome}
 use Rattle.apk_front.specs.Verdicts.{IsPrinted, IsVerdictPrinted, Reports, ReportsOneOfOutcomes, as_outcome, read_only_outcome}
 use Rattle.apk_front.specs.declared.answer.Answer.{Answer}
@@ -100,7 +101,7 @@ given_of_names : (command : CommandLine) (files : Files) (names : List (List ℕ
 given_of_names command files names makes are = let (list, choice, clash) = made_given command.applet command files names makes are in record { names = list; chosen = choice; clash = clash }
 
 made_by_some : (applet : Applet) (command : CommandLine) (read : Reads) (files : Files) (names : List (List ℕ)) → effect_of applet ≡ Makes → MayBeListedFor applet command names
-    → MayBeListedFor applet command names × IsChosenFor (effect_of applet) command read None × MayClash (effect_of applet) command read files None None
+    → MayBeListedFor applet command names × IsChosenFor (effect_of applet) command read None × IsClashForEffect (effect_of applet) command read files None None
 made_by_some Mkpkg command read files names makes are = (are, refl, refl)
 made_by_some Mkndx command read files names makes are = (are, refl, refl)
 made_by_some other command read files names makes are = absurd (cc)
@@ -218,11 +219,11 @@ proper_by_command words command old P is proper = subst (λ (r : Result CommandL
 pub found_by_command : (words : List (List ℕ)) (command : CommandLine) (judged : Judged) → command_of words ≡ Ok command → IfOk judged (ReportsOneOfOutcomes (IsPossibleOutcome (Ok command))) → IfOk judged (ReportsOneOfOutcomes (IsPossibleOutcome (command_of words)))
 found_by_command words command judged is found = subst (λ (r : Result CommandLine ℕ). IfOk judged (ReportsOneOfOutcomes (IsPossibleOutcome r))) (sym is) found
 
-pub words_by_command : (words : List (List ℕ)) (command : CommandLine) (judged : Judged) → command_of words ≡ Ok command
-    → (IsTrue (ignores_files (effect_of command.applet)) → MatchResult judged (λ verdict. (files : Files) → IsOutcome (Ok command) files (as_outcome files verdict)) (λ fault. fault ≡ NoMemory))
-    → IsTrue (depends_only_on_arguments (command_of words)) → MatchResult judged (λ verdict. (files : Files) → IsOutcome (command_of words) files (as_outcome files verdict)) (λ fault. fault ≡ NoMemory)
-words_by_command words command judged is found =
-    subst (λ (r : Result CommandLine ℕ). IsTrue (depends_only_on_arguments r) → MatchResult judged (λ verdict. (files : Files) → IsOutcome r files (as_outcome files verdict)) (λ fault. fault ≡ NoMemory)) (sym is) found
+pub arguments_by_command : {Tree : Type 0} (words : List (List ℕ)) (command : CommandLine) (old now : Tree) (judged : Judged) → command_of words ≡ Ok command
+    → (IsTrue (ignores_files (effect_of command.applet)) → IsRunByArguments (IsOutcome (Ok command)) old now judged)
+    → IsTrue (depends_only_on_arguments (command_of words)) → IsRunByArguments (IsOutcome (command_of words)) old now judged
+arguments_by_command words command old now judged is ran =
+    subst (λ (r : Result CommandLine ℕ). IsTrue (depends_only_on_arguments r) → IsRunByArguments (IsOutcome r) old now judged) (sym is) ran
 
 pub same_by_command : (words : List (List ℕ)) (command : CommandLine) (P : Type 0) → command_of words ≡ Ok command → (IsTrue (does_only_read (effect_of command.applet)) → P) → IsTrue (reads_only (command_of words)) → P
 same_by_command words command P is same = subst (λ (r : Result CommandLine ℕ). IsTrue (reads_only r) → P) (sym is) same
@@ -275,7 +276,7 @@ the_refusal : (refusal : Option Refusal) (r : Refusal) → Refused r ≡ answer_
 the_refusal None r same = cc
 the_refusal (Some x) r same = cc
 
-lasting_shown : (IsOne : Outcome → Type 0) (effect : Effect) (ignored : List ℕ → Bool) (v : TreeState) (now : History) (verdict : Verdict) (o : Outcome) (answer : Answer) (out err : SinkChange) → IsOne o → Reports verdict o
+lasting_shown : (IsOne : Outcome → Type 0) (effect : Effect) (ignored : List ℕ → Bool) (v : TreeState) (now : History) (verdict : Verdict) (o : Outcome) (answer : Answer) (out err : SinkBeforeAndAfter) → IsOne o → Reports verdict o
     → LeavesDurable effect ignored v now o → IsPrinted (as_outcome o.files verdict) answer out err → LeavesDurableOnceAnswered IsOne effect ignored v now answer
 lasting_shown IsOne effect ignored v now verdict o Done out err one reports lasts printed =
     (o, one, sym (ap (λ (x : Outcome). x.refusal) reports) ∙ no_refusal verdict.refusal printed.same, lasts)
@@ -285,13 +286,13 @@ lasting_shown IsOne effect ignored v now verdict o OutFault out err one reports 
 lasting_shown IsOne effect ignored v now verdict o TreeFailed out err one reports lasts printed = tt
 lasting_shown IsOne effect ignored v now verdict o Memory out err one reports lasts printed = tt
 
-lasting_judged : (IsOne : Outcome → Type 0) (effect : Effect) (ignored : List ℕ → Bool) (v : TreeState) (now : History) (judged : Judged) (answer : Answer) (out err : SinkChange) → IfOk judged (ReportsOneOfOutcomes IsOne) → IsVerdictPrinted judged answer out err
+lasting_judged : (IsOne : Outcome → Type 0) (effect : Effect) (ignored : List ℕ → Bool) (v : TreeState) (now : History) (judged : Judged) (answer : Answer) (out err : SinkBeforeAndAfter) → IfOk judged (ReportsOneOfOutcomes IsOne) → IsVerdictPrinted judged answer out err
     → ((o : Outcome) → IsOne o → MustOutcomeBeDurable effect ignored v o → OnOk judged (HoldsNow now (EachCrashLeaves ignored o.files))) → LeavesDurableOnceAnswered IsOne effect ignored v now answer
 lasting_judged IsOne effect ignored v now (Ok verdict) answer out err (o, one, reports) is_shown settled = lasting_shown IsOne effect ignored v now verdict o answer out err one reports (settled o one) (is_shown o.files)
 lasting_judged IsOne effect ignored v now (Err Disk) answer out err found is_shown settled = subst (LeavesDurableOnceAnswered IsOne effect ignored v now) (sym is_shown.0) tt
 lasting_judged IsOne effect ignored v now (Err NoMemory) answer out err found is_shown settled = subst (LeavesDurableOnceAnswered IsOne effect ignored v now) (sym is_shown.0) tt
 
-pub settled_by : (words : List (List ℕ)) (judged : Judged) (answer : Answer) (out err : SinkChange) (old now : History) → IsVerdictPrinted judged answer out err → IfOk judged (λ verdict. IfObservable old (λ v. ReportsOneOfOutcomes (IsOutcome (command_of words) (files_of v)) verdict)) → Runs words judged old now
+pub settled_by : (words : List (List ℕ)) (judged : Judged) (answer : Answer) (out err : SinkBeforeAndAfter) (old now : History) → IsVerdictPrinted judged answer out err → IfOk judged (λ verdict. IfObservable old (λ v. ReportsOneOfOutcomes (IsOutcome (command_of words) (files_of v)) verdict)) → Runs words judged old now
     → IfObservable old (λ v. (ignored : List ℕ → Bool) → IsDurable (StateDependsOn ignored) v → IgnoresScratchOf (output words) ignored → LeavesDurableOnceAnswered (IsOutcome (command_of words) (files_of v)) (effect_of_arguments (command_of words)) ignored v now answer)
 settled_by words judged answer out err [] now is_shown found run = tt
 settled_by words judged answer out err (v ∷ rest) now is_shown found run = λ ignored is_durable hides.
@@ -308,7 +309,7 @@ refused_answer (Some x) r same = refl
 abbrev pub RefusesAll : Type 0
 RefusesAll = (words : List (List ℕ)) (files : Files) (o : Outcome) → IsOutcome (command_of words) files o → IsSome o.refusal → o.commits ≡ false
 
-undone_without : RefusesAll → (words : List (List ℕ)) (v : TreeState) (judged : Judged) (answer : Answer) (out err : SinkChange) → IsVerdictPrinted judged answer out err → IfOk judged (ReportsOneOfOutcomes (IsOutcome (command_of words) (files_of v))) → IsRefusedOrOutOfMemory answer → IsVerdictWithoutCommit (IsOutcome (command_of words) (files_of v)) judged
+undone_without : RefusesAll → (words : List (List ℕ)) (v : TreeState) (judged : Judged) (answer : Answer) (out err : SinkBeforeAndAfter) → IsVerdictPrinted judged answer out err → IfOk judged (ReportsOneOfOutcomes (IsOutcome (command_of words) (files_of v))) → IsRefusedOrOutOfMemory answer → IsOutOfMemoryOrWithoutCommit (IsOutcome (command_of words) (files_of v)) judged
 undone_without law words v (Ok verdict) Done out err is_shown found undone = absurd undone
 undone_without law words v (Ok verdict) (Refused r) out err is_shown (o, one, reports) undone =
     inr (o, one, law words (files_of v) o one (subst (λ (x : Option Refusal). IsSome x) (ap (λ (x : Outcome). x.refusal) reports) (refused_answer verdict.refusal r (is_shown no_names).same)))
@@ -318,7 +319,7 @@ undone_without law words v (Ok verdict) Memory out err is_shown found undone = a
 undone_without law words v (Err Disk) answer out err is_shown found undone = absurd (subst IsRefusedOrOutOfMemory is_shown.0 undone)
 undone_without law words v (Err NoMemory) answer out err is_shown found undone = inl refl
 
-without : RefusesAll → (words : List (List ℕ)) (v : TreeState) (judged : Judged) (answer : Answer) (out err : SinkChange) → IsVerdictPrinted judged answer out err → IfOk judged (ReportsOneOfOutcomes (IsOutcome (command_of words) (files_of v))) → CommitsNothing (IsOutcome (command_of words) (files_of v)) answer → IsVerdictWithoutCommit (IsOutcome (command_of words) (files_of v)) judged
+without : RefusesAll → (words : List (List ℕ)) (v : TreeState) (judged : Judged) (answer : Answer) (out err : SinkBeforeAndAfter) → IsVerdictPrinted judged answer out err → IfOk judged (ReportsOneOfOutcomes (IsOutcome (command_of words) (files_of v))) → CommitsNothing (IsOutcome (command_of words) (files_of v)) answer → IsOutOfMemoryOrWithoutCommit (IsOutcome (command_of words) (files_of v)) judged
 without law words v judged answer out err is_shown found (inl undone) = undone_without law words v judged answer out err is_shown found undone
 without law words v judged answer out err is_shown found (inr one) = inr one
 
@@ -328,12 +329,12 @@ FindsOne words judged old = IfOk judged (λ verdict. IfObservable old (λ v. Rep
 found_first : (words : List (List ℕ)) (judged : Judged) (v : TreeState) (rest : History) → FindsOne words judged (v ∷ rest) → IfOk judged (ReportsOneOfOutcomes (IsOutcome (command_of words) (files_of v)))
 found_first words judged v rest found = found_at v rest judged (λ verdict w. ReportsOneOfOutcomes (IsOutcome (command_of words) (files_of w)) verdict) found
 
-pub idle_by : RefusesAll → (words : List (List ℕ)) (judged : Judged) (answer : Answer) (out err : SinkChange) (old now : History) → IsVerdictPrinted judged answer out err → FindsOne words judged old → Runs words judged old now
+pub idle_by : RefusesAll → (words : List (List ℕ)) (judged : Judged) (answer : Answer) (out err : SinkBeforeAndAfter) (old now : History) → IsVerdictPrinted judged answer out err → FindsOne words judged old → Runs words judged old now
     → IfObservable old (λ v. CommitsNothing (IsOutcome (command_of words) (files_of v)) answer → HasNothingToRecover (effect_of_arguments (command_of words)) v → now ≡ old)
 idle_by law words judged answer out err [] now is_shown found run = tt
 idle_by law words judged answer out err (v ∷ rest) now is_shown found run = λ nothing. run.idle (without law words v judged answer out err is_shown (found_first words judged v rest found) nothing)
 
-pub left_by : RefusesAll → (words : List (List ℕ)) (judged : Judged) (answer : Answer) (out err : SinkChange) (old now : History) → IsVerdictPrinted judged answer out err → FindsOne words judged old → Runs words judged old now
+pub left_by : RefusesAll → (words : List (List ℕ)) (judged : Judged) (answer : Answer) (out err : SinkBeforeAndAfter) (old now : History) → IsVerdictPrinted judged answer out err → FindsOne words judged old → Runs words judged old now
     → IfObservable old (λ v. CommitsNothing (IsOutcome (command_of words) (files_of v)) answer → (ignored : List ℕ → Bool) → IsDurable (StateDependsOn ignored) v → Since (StateIsUnchanged ignored v) old now)
 left_by law words judged answer out err [] now is_shown found run = tt
 left_by law words judged answer out err (v ∷ rest) now is_shown found run = λ nothing. run.left (without law words v judged answer out err is_shown (found_first words judged v rest found) nothing)
@@ -345,13 +346,13 @@ bad_by words judged (v ∷ rest) now run = run.bad
 
 -- ---- the output counts again
 
-rest_of : (IsOne : Outcome → Type 0) (output : Option (List ℕ)) (ignored : List ℕ → Bool) (now : History) (judged : Judged) (answer : Answer) (out err : SinkChange) → IfOk judged (ReportsOneOfOutcomes IsOne) → IsVerdictPrinted judged answer out err → AnswersOutcome answer
+rest_of : (IsOne : Outcome → Type 0) (output : Option (List ℕ)) (ignored : List ℕ → Bool) (now : History) (judged : Judged) (answer : Answer) (out err : SinkBeforeAndAfter) → IfOk judged (ReportsOneOfOutcomes IsOne) → IsVerdictPrinted judged answer out err → AnswersOutcome answer
     → ((o : Outcome) → IsOne o → o.commits ≡ true → OnOk judged (HoldsNow now (IsDurableState (ignored_except_output output ignored) o.files))) → LeavesDurableState IsOne output ignored now
 rest_of IsOne output ignored now (Ok verdict) answer out err (o, one, reports) is_shown answers rests = (o, one, λ commits. rests o one commits)
 rest_of IsOne output ignored now (Err Disk) answer out err found is_shown answers rests = absurd (subst AnswersOutcome is_shown.0 answers)
 rest_of IsOne output ignored now (Err NoMemory) answer out err found is_shown answers rests = absurd (subst AnswersOutcome is_shown.0 answers)
 
-pub rest_by : (words : List (List ℕ)) (judged : Judged) (answer : Answer) (out err : SinkChange) (old now : History) → IsVerdictPrinted judged answer out err → FindsOne words judged old → Runs words judged old now
+pub rest_by : (words : List (List ℕ)) (judged : Judged) (answer : Answer) (out err : SinkBeforeAndAfter) (old now : History) → IsVerdictPrinted judged answer out err → FindsOne words judged old → Runs words judged old now
     → IfObservable old (λ v. (ignored : List ℕ → Bool) → IsDurable (StateDependsOn ignored) v → IgnoresScratchOf (output words) ignored → AnswersOutcome answer → LeavesDurableState (IsOutcome (command_of words) (files_of v)) (output words) ignored now)
 rest_by words judged answer out err [] now is_shown found run = tt
 rest_by words judged answer out err (v ∷ rest) now is_shown found run = λ ignored is_durable hides answers.

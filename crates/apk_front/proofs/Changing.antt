@@ -33,7 +33,7 @@ use Rattle.outcome.proofs.Applets.{change_is}
 use Rattle.outcome.specs.Changing.{change_outcome}
 use Rattle.outcome.specs.Commands.{IsPossibleOutcomeAfterRecovery, IsOutcomeAfterRecovery, effect_outcome, reads_in}
 use Rattle.outcome.specs.Effect.{Effect, Changes, effect_of, output_for_effect}
-use Rattle.outcome.specs.Given.{Given, IsChosenFor, IsClashBy, IsGiven, IsListingFor, MayBeGiven, MayBeListedFor, MayClash}
+use Rattle.outcome.specs.Given.{Given, IsChosenFor, IsClashBy, IsGiven, IsListingFor, MayBeGiven, MayBeListedFor, IsClashForEffect}
 use Rattle.outcome.specs.Outcome.{Outcome, just_refusal, just_report}
 use Rattle.apk_front.specs.Moments.{IsDurableState, IsStateDuringRun, NamesAreDurableWithoutIntentExcept}
 use Rattle.apk_front.specs.Runs.{HasNothingStaged, IfNothingStaged, IsRun}
@@ -73,7 +73,7 @@ are_given command read files chosen clash changes choice first =
     record { names = list; chosen = chosen_so; clash = clash_so }
 
 parts_by_some : (applet : Applet) (command : CommandLine) (read : Reads) (files present_files : Files) (chosen : Option (List ℕ)) (clash : Option NamePair) → effect_of applet ≡ Changes → IsChoiceFrom (pool_of_command command read) chosen
-    → IsClashForAmong command read files present_files chosen clash → MayBeListedFor applet command [] × IsChosenFor (effect_of applet) command read chosen × MayClash (effect_of applet) command read files chosen clash
+    → IsClashForAmong command read files present_files chosen clash → MayBeListedFor applet command [] × IsChosenFor (effect_of applet) command read chosen × IsClashForEffect (effect_of applet) command read files chosen clash
 parts_by_some Add command read files present_files chosen clash changes choice first = (refl, choice, (present_files, first))
 parts_by_some Del command read files present_files chosen clash changes choice first = (refl, choice, (present_files, first))
 parts_by_some Upgrade command read files present_files chosen clash changes choice first = (refl, choice, (present_files, first))

@@ -11,7 +11,7 @@ use Rattle.make_core.specs.make_info.Information.{information}
 use Rattle.make_core.specs.make_index.Index.{made_index}
 use Rattle.make_core.specs.make_index.Kept.{AgreesUnlessStopped}
 use Rattle.make_core.specs.make_info.Reads.{Reads}
-use Rattle.make_core.specs.make_package.Answers.{IsMadeBySome, IsMadeIn, UnlessDiskOrMemory}
+use Rattle.make_core.specs.make_package.Answers.{IsMadeBySome, IsMadeFromTree, UnlessDiskOrMemory}
 use Rattle.make_core.specs.make_package.Making.{made_package}
 use Rattle.make_core.specs.make_info.Output.{output_name}
 use Rattle.make_core.specs.make_index.Files.{FindOnlyFiles, reads_of}
@@ -74,12 +74,12 @@ map_observable : (old : History) (P Q : TreeState → Type 0) → ((v : TreeStat
 map_observable [] P Q f p = tt
 map_observable (v ∷ rest) P Q f p = f v p
 
-pub package_made : HaveListing → (command : CommandLine) (container : Container) (old : History) → IfOk container (λ file. IfObservable old (λ v. IsMadeIn command v (Ok file.items)))
-    → IfErr container (λ why. UnlessDiskOrMemory why (λ made. IfObservable old (λ v. IsMadeIn command v made))) → IfObservable old (λ v. OnMade container (IsPackageMade command (files_of v)))
+pub package_made : HaveListing → (command : CommandLine) (container : Container) (old : History) → IfOk container (λ file. IfObservable old (λ v. IsMadeFromTree command v (Ok file.items)))
+    → IfErr container (λ why. UnlessDiskOrMemory why (λ made. IfObservable old (λ v. IsMadeFromTree command v made))) → IfObservable old (λ v. OnMade container (IsPackageMade command (files_of v)))
 package_made law command container old ok err =
-    map_observable old (λ v. OnMade container (IsMadeIn command v)) (λ v. OnMade container (IsPackageMade command (files_of v)))
-    (λ v m. weaker container (IsMadeIn command v) (IsPackageMade command (files_of v)) (λ made. package_here law command v made) m)
-    (means_at container old (IsMadeIn command) ok err)
+    map_observable old (λ v. OnMade container (IsMadeFromTree command v)) (λ v. OnMade container (IsPackageMade command (files_of v)))
+    (λ v m. weaker container (IsMadeFromTree command v) (IsPackageMade command (files_of v)) (λ made. package_here law command v made) m)
+    (means_at container old (IsMadeFromTree command) ok err)
 
 pub package_found : (command : CommandLine) (container : Container) → IfOk container (λ file. IsMadeBySome command (Ok file.items)) → IfErr container (λ why. UnlessDiskOrMemory why (IsMadeBySome command)) → OnMade container (IsMadeBySome command)
 package_found command container ok err =

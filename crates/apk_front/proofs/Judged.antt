@@ -3,7 +3,7 @@ use Rattle.std.proofs.Common.{◌≡◌, ◌⊎◌, inl, inr, ℕ, List, [], ◌
 use Rattle.base_core.specs.Calls.{IfObservable}
 use Rattle.base_core.specs.Faults.{Counts, HasCause, IsNoFault}
 use Rattle.base_core.specs.Files.{Files, no_names}
-use Rattle.base_core.specs.Sink.{SinkChange, SinkFailed, Gets, GetsPrefix}
+use Rattle.base_core.specs.Sink.{SinkBeforeAndAfter, SinkFailed, Gets, GetsPrefix}
 use Rattle.base_core.specs.Tree.{TreeState, files_of}
 use Rattle.base_core.specs.declared.tree.TreeFault.{TreeFault}
 use Rattle.base_core.specs.declared.tree.TreeFault.TheVariants.{Disk, Memory as NoMemory}
@@ -22,7 +22,7 @@ use Rattle.outcome.specs.Outcome.{Outcome, just_refusal}
 use Rattle.outcome.specs.Words.{IsPossibleOutcome, IsOutcome}
 use Rattle.outcome.specs.Version.{version}
 use Rattle.outcome.specs.Commands.{IsOutcomeWithoutDemo, IsOutcomeAfterRecovery, IsOutcomeUnlessBadIntent, effect_outcome, reads_in}
-use Rattle.outcome.specs.Given.{IsChosenFor, IsClashBy, IsGiven, IsListingFor, MayBeGiven, MayBeListedFor, MayClash, nothing_given}
+use Rattle.outcome.specs.Given.{IsChosenFor, IsClashBy, IsGiven, IsListingFor, MayBeGiven, MayBeListedFor, IsClashForEffect, nothing_given}
 use Rattle.outcome.specs.Effect.{Effect, Computes, OnlyReadsFiles, AsksRoot, Makes, Changes, does_only_read, does_recover, ignores_files, effect_of_arguments, effect_of, output, depends_only_on_arguments}
 use Rattle.outcome.specs.Work.{recovery_fault, work_files}
 use Rattle.base_core.specs.declared.cause.Cause.{Cause}
@@ -56,7 +56,7 @@ no_clash : (effect : Effect) (command : CommandLine) (read : Reads) (files : Fil
 no_clash Changes command read files reads = cc
 no_clash other command read files reads = refl
 
-no_clash_by_some : (effect : Effect) (command : CommandLine) (read : Reads) (files : Files) → does_only_read effect ≡ true → MayClash effect command read files None None
+no_clash_by_some : (effect : Effect) (command : CommandLine) (read : Reads) (files : Files) → does_only_read effect ≡ true → IsClashForEffect effect command read files None None
 no_clash_by_some Changes command read files reads = absurd (cc)
 no_clash_by_some other command read files reads = refl
 
@@ -132,19 +132,19 @@ all_observable (v ∷ h) P all = all v
 abbrev pub Judged : Type 0
 Judged = Result Verdict TreeFault
 
-printed_one : (IsOne Leaves : Outcome → Type 0) (tree_failed : Type 0) (o : Outcome) (answer : Answer) (out err : SinkChange) → IsOne o → Leaves o → IsPrinted o answer out err → IsAnswerOf IsOne Leaves tree_failed answer out err
+printed_one : (IsOne Leaves : Outcome → Type 0) (tree_failed : Type 0) (o : Outcome) (answer : Answer) (out err : SinkBeforeAndAfter) → IsOne o → Leaves o → IsPrinted o answer out err → IsAnswerOf IsOne Leaves tree_failed answer out err
 printed_one IsOne Leaves tree_failed o Good out err is leaves printed = (o, is, printed, leaves)
 printed_one IsOne Leaves tree_failed o (Refused refusal) out err is leaves printed = (o, is, printed, leaves)
 printed_one IsOne Leaves tree_failed o OutFault out err is leaves printed = (o, is, printed, leaves)
 printed_one IsOne Leaves tree_failed o TreeFailed out err is leaves printed = absurd printed
 printed_one IsOne Leaves tree_failed o Memory out err is leaves printed = absurd printed
 
-printed_answer : (words : List (List ℕ)) (files : Files) (Leaves : Outcome → Type 0) (tree_failed : Type 0) (o : Outcome) (answer : Answer) (out err : SinkChange) → IsOutcome (command_of words) files o → Leaves o → IsPrinted o answer out err → IsAnswerOf (IsOutcome (command_of words) files) Leaves tree_failed answer out err
+printed_answer : (words : List (List ℕ)) (files : Files) (Leaves : Outcome → Type 0) (tree_failed : Type 0) (o : Outcome) (answer : Answer) (out err : SinkBeforeAndAfter) → IsOutcome (command_of words) files o → Leaves o → IsPrinted o answer out err → IsAnswerOf (IsOutcome (command_of words) files) Leaves tree_failed answer out err
 printed_answer words files Leaves tree_failed o answer out err is leaves printed = printed_one (IsOutcome (command_of words) files) Leaves tree_failed o answer out err is leaves printed
 
 -- printing looks at the refusal and the texts alone
 
-stated_alike : (a b : Outcome) (answer : Answer) (out err : SinkChange) → a.refusal ≡ b.refusal → a.out ≡ b.out → a.err ≡ b.err → IsAnsweredInFull a answer out err → IsAnsweredInFull b answer out err
+stated_alike : (a b : Outcome) (answer : Answer) (out err : SinkBeforeAndAfter) → a.refusal ≡ b.refusal → a.out ≡ b.out → a.err ≡ b.err → IsAnsweredInFull a answer out err → IsAnsweredInFull b answer out err
 stated_alike a b answer out err refusal report line p = record {
   same = p.same ∙ ap answer_for_refusal refusal;
   out_gets = subst (λ (t : List ℕ). Gets out t) report p.out_gets;
@@ -153,12 +153,12 @@ stated_alike a b answer out err refusal report line p = record {
   err_kept = p.err_kept;
 }
 
-which_alike : (a b : Outcome) (out err : SinkChange) → a.out ≡ b.out → a.err ≡ b.err → (FailedWithBytes out a.out × Gets err [] × DidNotFail err) ⊎ (FailedWithBytes err a.err × Gets out a.out × DidNotFail out)
+which_alike : (a b : Outcome) (out err : SinkBeforeAndAfter) → a.out ≡ b.out → a.err ≡ b.err → (FailedWithBytes out a.out × Gets err [] × DidNotFail err) ⊎ (FailedWithBytes err a.err × Gets out a.out × DidNotFail out)
     → (FailedWithBytes out b.out × Gets err [] × DidNotFail err) ⊎ (FailedWithBytes err b.err × Gets out b.out × DidNotFail out)
 which_alike a b out err report line (inl (failed, gets, kept)) = inl (subst (λ (t : List ℕ). FailedWithBytes out t) report failed, gets, kept)
 which_alike a b out err report line (inr (failed, gets, kept)) = inr (subst (λ (t : List ℕ). FailedWithBytes err t) line failed, subst (λ (t : List ℕ). Gets out t) report gets, kept)
 
-printed_alike : (a b : Outcome) (answer : Answer) (out err : SinkChange) → a.refusal ≡ b.refusal → a.out ≡ b.out → a.err ≡ b.err → IsPrinted a answer out err → IsPrinted b answer out err
+printed_alike : (a b : Outcome) (answer : Answer) (out err : SinkBeforeAndAfter) → a.refusal ≡ b.refusal → a.out ≡ b.out → a.err ≡ b.err → IsPrinted a answer out err → IsPrinted b answer out err
 printed_alike a b Good out err refusal report line p = stated_alike a b Good out err refusal report line p
 printed_alike a b (Refused r) out err refusal report line p = stated_alike a b (Refused r) out err refusal report line p
 printed_alike a b OutFault out err refusal report line p = record {
@@ -169,17 +169,17 @@ printed_alike a b OutFault out err refusal report line p = record {
 printed_alike a b TreeFailed out err refusal report line p = absurd p
 printed_alike a b Memory out err refusal report line p = absurd p
 
-reported_printed : (verdict : Verdict) (o : Outcome) (answer : Answer) (out err : SinkChange) → Reports verdict o → IsPrinted (as_outcome o.files verdict) answer out err → IsPrinted o answer out err
+reported_printed : (verdict : Verdict) (o : Outcome) (answer : Answer) (out err : SinkBeforeAndAfter) → Reports verdict o → IsPrinted (as_outcome o.files verdict) answer out err → IsPrinted o answer out err
 reported_printed verdict o answer out err reports printed =
     printed_alike (as_outcome o.files verdict) o answer out err (ap (λ (x : Outcome). x.refusal) reports) (ap (λ (x : Outcome). x.out) reports) (ap (λ (x : Outcome). x.err) reports) printed
 
 -- what stands for one outcome
-reported_answer : (IsOne Leaves : Outcome → Type 0) (tree_failed : Type 0) (verdict : Verdict) (answer : Answer) (out err : SinkChange) → ReportsOneOfOutcomes IsOne verdict → ((o : Outcome) → IsOne o → Leaves o)
+reported_answer : (IsOne Leaves : Outcome → Type 0) (tree_failed : Type 0) (verdict : Verdict) (answer : Answer) (out err : SinkBeforeAndAfter) → ReportsOneOfOutcomes IsOne verdict → ((o : Outcome) → IsOne o → Leaves o)
     → ((files : Files) → IsPrinted (as_outcome files verdict) answer out err) → IsAnswerOf IsOne Leaves tree_failed answer out err
 reported_answer IsOne Leaves tree_failed verdict answer out err (o, is, reports) leaves is_shown =
     printed_one IsOne Leaves tree_failed o answer out err is (leaves o is) (reported_printed verdict o answer out err reports (is_shown o.files))
 
-judged_answer : (IsOne Leaves : Outcome → Type 0) (tree_failed : Type 0) (judged : Judged) (answer : Answer) (out err : SinkChange)
+judged_answer : (IsOne Leaves : Outcome → Type 0) (tree_failed : Type 0) (judged : Judged) (answer : Answer) (out err : SinkBeforeAndAfter)
     → IfOk judged (ReportsOneOfOutcomes IsOne) → ((o : Outcome) → IsOne o → OnOk judged (Leaves o)) → (IsErrOf judged Disk → tree_failed) → IsVerdictPrinted judged answer out err
     → IsAnswerOf IsOne Leaves tree_failed answer out err
 judged_answer IsOne Leaves tree_failed (Ok verdict) answer out err found leaves disk is_shown = reported_answer IsOne Leaves tree_failed verdict answer out err found leaves is_shown
@@ -196,7 +196,7 @@ found_at v rest (Err e) P found = found
 abbrev pub Runs : List (List ℕ) → Judged → List TreeState → List TreeState → Type 0
 Runs words judged old now = IfObservable old (λ v. IsWholeRun (IsOutcome (command_of words) (files_of v)) (effect_of_arguments (command_of words)) (output words) judged v old now)
 
-pub answered : (words : List (List ℕ)) (old now : List TreeState) (tree_failed : Type 0) (judged : Judged) (answer : Answer) (out err : SinkChange)
+pub answered : (words : List (List ℕ)) (old now : List TreeState) (tree_failed : Type 0) (judged : Judged) (answer : Answer) (out err : SinkBeforeAndAfter)
     → IfOk judged (λ verdict. IfObservable old (λ v. ReportsOneOfOutcomes (IsOutcome (command_of words) (files_of v)) verdict)) → Runs words judged old now → (IsErrOf judged Disk → tree_failed) → IsVerdictPrinted judged answer out err
     → IfObservable old (λ v. IsAnswerOf (IsOutcome (command_of words) (files_of v)) (LeavesFiles now) tree_failed answer out err)
 answered words [] now tree_failed judged answer out err found run disk is_shown = tt
@@ -206,11 +206,11 @@ answered words (v ∷ rest) now tree_failed judged answer out err found run disk
 
 -- ---- no count rose
 
-not_failed : (outcome : Outcome) (before after : Counts) (out err : SinkChange) → IsFaultless before after out err → FailedWithBytes out outcome.out ⊎ FailedWithBytes err outcome.err → ⊥
+not_failed : (outcome : Outcome) (before after : Counts) (out err : SinkBeforeAndAfter) → IsFaultless before after out err → FailedWithBytes out outcome.out ⊎ FailedWithBytes err outcome.err → ⊥
 not_failed outcome before after out err faultless (inl failed) = faultless.out_sink failed.failed.fault
 not_failed outcome before after out err faultless (inr failed) = faultless.err_sink failed.failed.fault
 
-complete_by : (words : List (List ℕ)) (files : Files) (Leaves : Outcome → Type 0) (before after : Counts) (answer : Answer) (out err : SinkChange)
+complete_by : (words : List (List ℕ)) (files : Files) (Leaves : Outcome → Type 0) (before after : Counts) (answer : Answer) (out err : SinkBeforeAndAfter)
     → IsAnswerOf (IsOutcome (command_of words) files) Leaves (HasCause before after) answer out err → IsFaultless before after out err → AnswersOutcomeUnlessMemory words files answer
 complete_by words files Leaves before after Good out err (o, is, stated, leaves) faultless = inr (o, is, stated.same)
 complete_by words files Leaves before after (Refused refusal) out err (o, is, stated, leaves) faultless = inr (o, is, stated.same)
@@ -218,7 +218,7 @@ complete_by words files Leaves before after OutFault out err (o, is, fault, leav
 complete_by words files Leaves before after TreeFailed out err (cause, fault) faultless = absurd (faultless.tree cause.fault)
 complete_by words files Leaves before after Memory out err fault faultless = inl refl
 
-pub completed : (words : List (List ℕ)) (old now : List TreeState) (before after : Counts) (answer : Answer) (out err : SinkChange)
+pub completed : (words : List (List ℕ)) (old now : List TreeState) (before after : Counts) (answer : Answer) (out err : SinkBeforeAndAfter)
     → IfObservable old (λ v. IsAnswerOf (IsOutcome (command_of words) (files_of v)) (LeavesFiles now) (HasCause before after) answer out err)
     → IfObservable old (λ v. IsFaultless before after out err → AnswersOutcomeUnlessMemory words (files_of v) answer)
 completed words [] now before after answer out err answered = tt
@@ -226,7 +226,7 @@ completed words (v ∷ rest) now before after answer out err answered = λ fault
 
 -- ---- for every tree
 
-pub answered_by_words : (words : List (List ℕ)) (judged : Judged) (answer : Answer) (out err : SinkChange)
+pub answered_by_words : (words : List (List ℕ)) (judged : Judged) (answer : Answer) (out err : SinkBeforeAndAfter)
     → (IsTrue (depends_only_on_arguments (command_of words)) → MatchResult judged (λ verdict. (files : Files) → IsOutcome (command_of words) files (as_outcome files verdict)) (λ fault. fault ≡ NoMemory)) → IsVerdictPrinted judged answer out err
     → IsTrue (depends_only_on_arguments (command_of words)) → IsAnswerOf (IsOutcome (command_of words) no_names) LeavesAnyFiles ⊥ answer out err
 answered_by_words words (Ok verdict) answer out err by_words is_shown rests =
@@ -252,7 +252,7 @@ ran_version command applet flags operands verdict same is flags_same operands_sa
           ∙ sym (ap (λ (a : Applet). effect_outcome (effect_of a) a command nothing_given nothing no_names) (sym same ∙ is)),
     )
 
-pub answered_by_reads : (words : List (List ℕ)) (tree_failed : Type 0) (judged : Judged) (answer : Answer) (out err : SinkChange)
+pub answered_by_reads : (words : List (List ℕ)) (tree_failed : Type 0) (judged : Judged) (answer : Answer) (out err : SinkBeforeAndAfter)
     → IfOk judged (ReportsOneOfOutcomes (IsPossibleOutcome (command_of words))) → (IsErrOf judged Disk → tree_failed) → IsVerdictPrinted judged answer out err
     → IsAnswerOf (IsPossibleOutcome (command_of words)) LeavesAnyFiles tree_failed answer out err
 answered_by_reads words tree_failed judged answer out err found disk is_shown =
@@ -264,19 +264,19 @@ answered_by_reads words tree_failed judged answer out err found disk is_shown =
 
 -- ---- causes
 
-which_failed : (o : Outcome) (out err : SinkChange) → (FailedWithBytes out o.out × Gets err [] × DidNotFail err) ⊎ (FailedWithBytes err o.err × Gets out o.out × DidNotFail out)
+which_failed : (o : Outcome) (out err : SinkBeforeAndAfter) → (FailedWithBytes out o.out × Gets err [] × DidNotFail err) ⊎ (FailedWithBytes err o.err × Gets out o.out × DidNotFail out)
     → (SinkFailed out × DidNotFail err) ⊎ (SinkFailed err × DidNotFail out)
 which_failed o out err (inl (failed, gets, kept)) = inl (failed.failed, kept)
 which_failed o out err (inr (failed, gets, kept)) = inr (failed.failed, kept)
 
-printed_causes : (before after : Counts) (o : Outcome) (answer : Answer) (out err : SinkChange) → IsNoFault before after → IsPrinted o answer out err → HasCauses answer before after out err
+printed_causes : (before after : Counts) (o : Outcome) (answer : Answer) (out err : SinkBeforeAndAfter) → IsNoFault before after → IsPrinted o answer out err → HasCauses answer before after out err
 printed_causes before after o Good out err kept printed = (kept, printed.out_kept, printed.err_kept)
 printed_causes before after o (Refused refusal) out err kept printed = (kept, printed.out_kept, printed.err_kept)
 printed_causes before after o OutFault out err kept printed = (kept, which_failed o out err printed.which)
 printed_causes before after o TreeFailed out err kept printed = absurd printed
 printed_causes before after o Memory out err kept printed = absurd printed
 
-pub caused : (before after : Counts) (judged : Judged) (answer : Answer) (out err : SinkChange) → OnOk judged (IsNoFault before after) → (IsErrOf judged Disk → HasCause before after)
+pub caused : (before after : Counts) (judged : Judged) (answer : Answer) (out err : SinkBeforeAndAfter) → OnOk judged (IsNoFault before after) → (IsErrOf judged Disk → HasCause before after)
     → (IsErrOf judged NoMemory → IsNoFault before after) → IsVerdictPrinted judged answer out err → HasCauses answer before after out err
 caused before after (Ok verdict) answer out err kept disk memory is_shown = printed_causes before after (as_outcome no_names verdict) answer out err kept (is_shown no_names)
 caused before after (Err Disk) answer out err kept disk memory is_shown = subst (λ (a : Answer). HasCauses a before after out err) (sym is_shown.0) (disk refl, is_shown.1)

@@ -15,6 +15,7 @@ pub mod Packages
 pub mod Containers
 pub mod NothingFailed
 pub mod Carried
+pub mod ReadingRuns
 pub mod Named
 pub mod Effects
 pub mod AfterRecovery

@@ -2,7 +2,7 @@
 use Rattle.std.proofs.Common.{◌≡◌, ℕ, List, Result, Ok, Err, IsErrOf, IsTrue, refl, ap, subst}
 use Rattle.std.proofs.lemmas.Bool.{or_right, or_left}
 use Rattle.base_core.specs.Files.{no_names}
-use Rattle.base_core.specs.Sink.{SinkChange}
+use Rattle.base_core.specs.Sink.{SinkBeforeAndAfter}
 use Rattle.base_core.specs.declared.tree.TreeFault.{TreeFault}
 use Rattle.base_core.specs.declared.tree.TreeFault.TheVariants.{Disk, Memory as NoMemory}
 use Rattle.command_core.specs.Command.{CommandLine}
@@ -29,7 +29,7 @@ pub memory_named_so : (words : List (List ℕ)) (fault : WordsFault) → fault �
 memory_named_so words fault is behind = start_named words (subst (λ (f : WordsFault). HasStartIfOutOfMemory f (start_of_command_line words)) is behind)
 
 -- want of memory is answered where the judge found none
-pub memory_named : (judged : Result Verdict TreeFault) (answer : Answer) (out err : SinkChange) (P : Type 0) → IsVerdictPrinted judged answer out err → (IsErrOf judged NoMemory → P) → answer ≡ Memory → P
+pub memory_named : (judged : Result Verdict TreeFault) (answer : Answer) (out err : SinkBeforeAndAfter) (P : Type 0) → IsVerdictPrinted judged answer out err → (IsErrOf judged NoMemory → P) → answer ≡ Memory → P
 memory_named (Ok verdict) Memory out err P is_shown memory h = absurd (is_shown no_names)
 memory_named (Ok verdict) Done out err P is_shown memory h = cc
 memory_named (Ok verdict) (Refused r) out err P is_shown memory h = cc

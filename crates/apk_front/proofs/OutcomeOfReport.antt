@@ -22,7 +22,7 @@ use Rattle.report_core.specs.declared.refusal.Refusal.{Refusal}
 use Rattle.outcome.proofs.Applets.{report_is, told_commits, told_files}
 use Rattle.outcome.specs.Commands.{IsPossibleOutcomeAfterRecovery, reads_in}
 use Rattle.outcome.specs.Effect.{AsksRoot, Effect, effect_of, output_for_effect}
-use Rattle.outcome.specs.Given.{IsChosenFor, IsClashBy, IsGiven, IsListingFor, MayBeGiven, MayBeListedFor, MayClash, nothing_given}
+use Rattle.outcome.specs.Given.{IsChosenFor, IsClashBy, IsGiven, IsListingFor, MayBeGiven, MayBeListedFor, IsClashForEffect, nothing_given}
 use Rattle.outcome.specs.Outcome.{Outcome}
 use Rattle.outcome.specs.OutcomeOfReport.{outcome_of_report}
 use Rattle.apk_front.specs.Runs.{IfNothingStaged, IsRun}
@@ -62,7 +62,7 @@ may_be_given : (command : CommandLine) (read : Reads) (files : Files) → effect
 may_be_given command read files tells = record {
   names = tells_some command.applet command tells;
   chosen = subst (λ (e : Effect). IsChosenFor e command read None) (sym tells) refl;
-  clash = subst (λ (e : Effect). MayClash e command read files None None) (sym tells) refl;
+  clash = subst (λ (e : Effect). IsClashForEffect e command read files None None) (sym tells) refl;
 }
 
 -- ---- what was answered as wanted is reported so

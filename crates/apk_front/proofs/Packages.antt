@@ -10,7 +10,7 @@ use Rattle.command_core.specs.declared.values.TheConstants.{FILES, SCRIPT}
 use Rattle.make_core.specs.make_info.Information.{FieldWithValue, information}
 use Rattle.make_core.specs.make_info.Reads.{Reads}
 use Rattle.make_core.specs.make_info.declared.fault.MakeFault.{MakeFault}
-use Rattle.make_core.specs.make_package.Answers.{AreNamesBelowFirstOption, IsMadeIn}
+use Rattle.make_core.specs.make_package.Answers.{AreNamesBelowFirstOption, IsMadeFromTree}
 use Rattle.make_core.specs.make_package.Making.{made_package, or_info_bad, package_of_parts}
 use Rattle.make_core.specs.package_files.Sources.{and_then, folders_below, values_of_letter, scripts_from}
 use Rattle.outcome.specs.Commands.{reads_in}
@@ -30,7 +30,7 @@ no_folder command read names others none =
     and_then (scripts_from read 0 (values_of_letter SCRIPT command.values)) (λ scripts. and_then (or_info_bad (information command)) (λ about. and_then (folders_below read (length scripts) values ns) (package_of_parts command scripts about))) in
     ap (λ values. by values names) none ∙ sym (ap (λ values. by values others) none)
 
-pub package_here : HaveListing → (command : CommandLine) (v : TreeState) (made : Result (List ℕ) MakeFault) → IsMadeIn command v made → IsPackageMade command (files_of v) made
+pub package_here : HaveListing → (command : CommandLine) (v : TreeState) (made : Result (List ℕ) MakeFault) → IsMadeFromTree command v made → IsPackageMade command (files_of v) made
 package_here law command v made m = by_values (values_of_letter FILES command.values) refl m.below
   where
     by_values : (values : List OptionValue) → values_of_letter FILES command.values ≡ values → AreNamesBelowFirstOption values v m.names → IsPackageMade command (files_of v) made

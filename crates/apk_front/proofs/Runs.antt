@@ -1,6 +1,6 @@
 -- What a run leaves of a tree, by what was done.
 use Rattle.std.proofs.Common.{◌≡◌, ◌≢◌, ◌||◌, inl, inr, ℕ, Bool, true, false, List, [], ◌∷◌, Option, Some, None, IsSome, Result, Ok, Err, refl, sym, ap, subst, ◌∙◌}
-use Rattle.std.specs.Prelude.{if◌then◌else◌, is_some, OnOk}
+use Rattle.std.specs.Prelude.{IfOk, if◌then◌else◌, is_some, OnOk}
 use Rattle.std.specs.Str.{bytes_eq}
 use Rattle.std.proofs.lemmas.List.Elements.{All-nil, All-weaker}
 use Rattle.std.proofs.lemmas.Bool.{false≢true}
@@ -23,6 +23,7 @@ use Rattle.outcome.specs.Make.{make_outcome}
 use Rattle.outcome.specs.Outcome.{Outcome, commit_report, just_refusal, just_report}
 use Rattle.report_core.specs.declared.refusal.Refusal.TheVariants.{Reserved}
 use Rattle.apk_front.specs.Moments.{AreOldOrLeadToOutcome, CanAddOutputNamesIfAny, IgnoresScratchOf, IsDurableState, IsStateDuringRun, MustOutcomeBeDurableWithoutRecovery, NamesAreDurableWithoutIntentExcept, ignored_except_output, is_draft_name, output_names}
+use Rattle.apk_front.specs.RunContracts.{IsMakingRun}
 use Rattle.apk_front.specs.Runs.{AreReadDuringWork, IsRun}
 use Rattle.apk_front.specs.Verdicts.{Reports, as_outcome}
 use Rattle.apk_front.specs.declared.answer.Verdict.{Verdict}
@@ -86,6 +87,23 @@ failed_at IsOne effect output judged e old now is same = idle_at IsOne effect ou
 -- each outcome leaves the files
 pub left_at : (IsOne : TreeState → Outcome → Type 0) (effect : Effect) (output : Option (List ℕ)) (judged : Judged) (old now : History) → now ≡ old → ((v : TreeState) (o : Outcome) → IsOne v o → Leaves (files_of v) o) → IfObservable old (λ v. IsRun (IsOne v) effect output judged v old now)
 left_at IsOne effect output judged old now same all = idle_at IsOne effect output judged old now same (λ v o one. ok_always (Leaves (files_of v) o) judged (all v o one))
+
+-- a refusal writes nothing
+pub idle_refused : (judged : Judged) (old : History) → IfOk judged (λ verdict. IsSome verdict.refusal → old ≡ old)
+idle_refused (Ok verdict) old = λ some. refl
+idle_refused (Err fault) old = tt
+
+-- nor after calls that left the tree as it was
+pub refused_behind : (judged : Judged) (old mid now : History) → mid ≡ old → IfOk judged (λ verdict. IsSome verdict.refusal → now ≡ mid) → IfOk judged (λ verdict. IsSome verdict.refusal → now ≡ old)
+refused_behind judged old mid now same refused = subst (λ (h : History). IfOk judged (λ verdict. IsSome verdict.refusal → now ≡ h)) same refused
+
+-- a run that failed before it wrote
+pub failed_making : (IsOne : Files → Outcome → Type 0) (output : Option (List ℕ)) (judged : Judged) (e : TreeFault) (old now : History) → judged ≡ Err e → now ≡ old → IsMakingRun IsOne output old now judged
+failed_making IsOne output judged e old now is same = record {
+  tree = failed_at (λ v. IsOne (files_of v)) Makes output judged e old now is same;
+  refused = subst (λ (r : Judged). IfOk r (λ verdict. IsSome verdict.refusal → now ≡ old)) (sym is) tt;
+  undone = λ none. same;
+}
 
 -- ---- a file was written
 

@@ -3,9 +3,9 @@
 -- faults and counts".
 use Rattle.std.specs.Prelude.{◌≡◌, ◌≢◌, ◌⊎◌, ◌<◌, ℕ, ◌-◌, ◌^◌, false, Bool, ◌||◌, List, [], Option, Some, None, is_ok}
 use Rattle.base_core.specs.Calls.{HoldsNow}
-use Rattle.base_core.specs.Faults.{Counts, HasCause, IsNoFault, Rose}
+use Rattle.base_core.specs.Faults.{Counts, HasCause, IsNoFault, RoseOrIsSaturated}
 use Rattle.base_core.specs.Files.{Files}
-use Rattle.base_core.specs.Sink.{SinkChange, Gets, GetsPrefix, SinkFailed}
+use Rattle.base_core.specs.Sink.{SinkBeforeAndAfter, Gets, GetsPrefix, SinkFailed}
 use Rattle.base_core.specs.Tree.{TreeState, files_of}
 use Rattle.outcome.specs.Outcome.{Outcome}
 use Rattle.outcome.specs.Words.{IsOutcome}
@@ -29,20 +29,20 @@ answer_of outcome = answer_for_refusal outcome.refusal
 -- ---- what is printed
 
 -- a sink did not fail: its counts of faults and of calls without memory are unchanged
-abbrev pub DidNotFail : SinkChange → Type 0
+abbrev pub DidNotFail : SinkBeforeAndAfter → Type 0
 DidNotFail sink = IsNoFault sink.before sink.after
 
 -- a sink gets a whole line, or a prefix of the line if the sink failed
-abbrev pub GetsLineOrPrefix : SinkChange → List ℕ → Type 0
+abbrev pub GetsLineOrPrefix : SinkBeforeAndAfter → List ℕ → Type 0
 GetsLineOrPrefix sink line = (Gets sink line × DidNotFail sink) ⊎ (GetsPrefix sink line × SinkFailed sink)
 
 -- a sink failed that had at least one byte to get
-pub record FailedWithBytes (sink : SinkChange) (bytes : List ℕ) : Type 0 where
+pub record FailedWithBytes (sink : SinkBeforeAndAfter) (bytes : List ℕ) : Type 0 where
   pub some : bytes ≢ []
   pub failed : SinkFailed sink
 
 -- the answer and all bytes are those of an outcome, and no sink failed
-pub record IsAnsweredInFull (outcome : Outcome) (answer : Answer) (out err : SinkChange) : Type 0 where
+pub record IsAnsweredInFull (outcome : Outcome) (answer : Answer) (out err : SinkBeforeAndAfter) : Type 0 where
   pub same : answer ≡ answer_of outcome
   pub out_gets : Gets out outcome.out
   pub err_gets : Gets err outcome.err
@@ -50,7 +50,7 @@ pub record IsAnsweredInFull (outcome : Outcome) (answer : Answer) (out err : Sin
   pub err_kept : DidNotFail err
 
 -- just one sink failed while an outcome was printed
-pub record IsSingleSinkFault (outcome : Outcome) (out err : SinkChange) : Type 0 where
+pub record IsSingleSinkFault (outcome : Outcome) (out err : SinkBeforeAndAfter) : Type 0 where
   -- out failed, and then nothing is printed on err; or err failed, after the whole report on out
   pub which :
       (FailedWithBytes out outcome.out × Gets err [] × DidNotFail err)
@@ -59,7 +59,7 @@ pub record IsSingleSinkFault (outcome : Outcome) (out err : SinkChange) : Type 0
   pub err_gets : GetsPrefix err outcome.err
 
 -- no outcome was printed: only this line on err; out got nothing, and did not fail
-pub record PrintsOnlyErrorLine (line : List ℕ) (out err : SinkChange) : Type 0 where
+pub record PrintsOnlyErrorLine (line : List ℕ) (out err : SinkBeforeAndAfter) : Type 0 where
   pub out_gets : Gets out []
   pub out_kept : DidNotFail out
   pub err_gets : GetsLineOrPrefix err line
@@ -69,7 +69,7 @@ pub record PrintsOnlyErrorLine (line : List ℕ) (out err : SinkChange) : Type 0
 -- The answer of one of these outcomes, with its bytes and files; or an I/O error of the tree that has
 -- its cause there; or out of memory.
 abbrev pub IsAnswerOf :
-    (Outcome → Type 0) → (Outcome → Type 0) → Type 0 → Answer → SinkChange → SinkChange → Type 0
+    (Outcome → Type 0) → (Outcome → Type 0) → Type 0 → Answer → SinkBeforeAndAfter → SinkBeforeAndAfter → Type 0
 IsAnswerOf IsOne Leaves tree_failed Ok out err =
     (outcome : Outcome) × IsOne outcome × IsAnsweredInFull outcome Ok out err × Leaves outcome
 IsAnswerOf IsOne Leaves tree_failed (Refused refusal) out err =
@@ -97,7 +97,7 @@ LeavesAnyFiles outcome = Unit {0}
 -- and a refusal nothing failed. An I/O error of the tree has its cause there. After a fault of a sink
 -- exactly one sink failed, and the tree did not. Out of memory is answered only if the tree did not
 -- fail. After an I/O error of the tree, and out of memory, exactly its line is printed.
-abbrev pub HasCauses : Answer → Counts → Counts → SinkChange → SinkChange → Type 0
+abbrev pub HasCauses : Answer → Counts → Counts → SinkBeforeAndAfter → SinkBeforeAndAfter → Type 0
 HasCauses Ok before after out err = IsNoFault before after × DidNotFail out × DidNotFail err
 HasCauses (Refused refusal) before after out err =
     IsNoFault before after × DidNotFail out × DidNotFail err
@@ -108,10 +108,10 @@ HasCauses OutFault before after out err =
 HasCauses Memory before after out err = IsNoFault before after × PrintsOnlyErrorLine out_of_memory_line out err
 
 -- a run in which no count of faults rose: neither the tree's, nor a sink's
-pub record IsFaultless (before after : Counts) (out err : SinkChange) : Type 0 where
-  pub tree : ¬ Rose before.faults after.faults
-  pub out_sink : ¬ Rose out.before.faults out.after.faults
-  pub err_sink : ¬ Rose err.before.faults err.after.faults
+pub record IsFaultless (before after : Counts) (out err : SinkBeforeAndAfter) : Type 0 where
+  pub tree : ¬ RoseOrIsSaturated before.faults after.faults
+  pub out_sink : ¬ RoseOrIsSaturated out.before.faults out.after.faults
+  pub err_sink : ¬ RoseOrIsSaturated err.before.faults err.after.faults
 
 -- the answer is the outcome's, unless memory ran out
 abbrev pub AnswersOutcomeUnlessMemory : List (List ℕ) → Files → Answer → Type 0
@@ -131,7 +131,7 @@ pub record HasNoPlannedFailure (counts : Counts) : Type 0 where
 -- memory of the tree or of a sink.
 abbrev pub IsOutcomeUnlessMemory :
     List (List ℕ) → Files → (Outcome → Type 0) → Answer → Counts → Counts
-    → SinkChange → SinkChange → Type 0
+    → SinkBeforeAndAfter → SinkBeforeAndAfter → Type 0
 IsOutcomeUnlessMemory words files Leaves Ok before after out err =
     (outcome : Outcome)
     × IsOutcome (command_of words) files outcome
@@ -143,10 +143,10 @@ IsOutcomeUnlessMemory words files Leaves (Refused refusal) before after out err 
     × IsAnsweredInFull outcome (Refused refusal) out err
     × Leaves outcome
 IsOutcomeUnlessMemory words files Leaves TreeFault before after out err =
-    Rose before.memory_faults after.memory_faults
+    RoseOrIsSaturated before.memory_faults after.memory_faults
 IsOutcomeUnlessMemory words files Leaves OutFault before after out err =
-    Rose out.before.memory_faults out.after.memory_faults
-    ⊎ Rose err.before.memory_faults err.after.memory_faults
+    RoseOrIsSaturated out.before.memory_faults out.after.memory_faults
+    ⊎ RoseOrIsSaturated err.before.memory_faults err.after.memory_faults
 IsOutcomeUnlessMemory words files Leaves Memory before after out err = Unit {0}
 
 -- whether the arguments name an applet after the options that precede it, or are a command without one,

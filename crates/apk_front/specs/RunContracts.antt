@@ -1,20 +1,22 @@
 -- What the calls of a run ensure: `judge`, `run_command`, `run` and `recover_and_run`, and of the calls
 -- after recovery `run_recovered` and those of the commands. Serves the contracts of these calls. The
 -- rules are in `docs/crash-safety.md`, "Misuses, faults and counts" and "Recovery".
-use Rattle.std.specs.Prelude.{◌≡◌, ℕ, true, List, Option, Result, IfOk, IsErrOf, OnOk}
+use Rattle.std.specs.Prelude.{◌≡◌, ℕ, true, List, Option, Result, IfOk, IsErrOf, IsSome, MatchResult, OnOk}
 use Rattle.base_core.specs.Calls.{IfObservable}
 use Rattle.base_core.specs.Faults.{Counts, CountsOnlyRise, HasCause, IsNoFault}
-use Rattle.base_core.specs.Files.{Files}
+use Rattle.base_core.specs.Files.{Files, no_names}
+use Rattle.base_core.specs.Read.{OnlyReads}
 use Rattle.base_core.specs.Tree.{TreeState, files_of}
 use Rattle.base_core.specs.declared.tree.TreeFault.{TreeFault}
 use Rattle.base_core.specs.declared.tree.TreeFault.TheVariants.{Disk, Memory}
 use Rattle.command_core.specs.Command.{CommandLine}
-use Rattle.outcome.specs.Commands.{IsOutcomeAfterRecovery, IsPossibleOutcomeAfterRecovery}
-use Rattle.outcome.specs.Effect.{Effect, Changes, effect_of, output_for_effect}
+use Rattle.make_core.specs.make_info.Reads.{Reads}
+use Rattle.outcome.specs.Commands.{IsOutcomeAfterRecovery, IsPossibleOutcomeAfterRecovery, reads_in}
+use Rattle.outcome.specs.Effect.{Effect, Changes, Makes, effect_of, output_for_effect}
 use Rattle.outcome.specs.Outcome.{Outcome}
 use Rattle.apk_front.specs.Moments.{AreOutcomePathsFree, ArePathsToWriteFree, TargetsAreAcceptedThroughout}
 use Rattle.apk_front.specs.Runs.{IfNothingStaged, IsRun, IsWholeRun}
-use Rattle.apk_front.specs.Verdicts.{ReportsOneOfOutcomes}
+use Rattle.apk_front.specs.Verdicts.{ReportsOneOfOutcomes, as_outcome}
 use Rattle.apk_front.specs.declared.answer.Verdict.{Verdict}
 
 -- how the tree's counts explain a verdict, or why there is none
@@ -26,6 +28,37 @@ pub record IsVerdictExplainedByCounts (before now : Counts) (judged : Result Ver
   -- neither a verdict nor out of memory hides a fault
   pub kept : OnOk judged (IsNoFault before now)
   pub memory : IsErrOf judged Memory → IsNoFault before now
+
+-- a run of `mkpkg` or `mkndx`, or a call that writes what such a run has made: its effect on the tree, if
+-- its outcome over some files is one of these
+pub record IsMakingRun (IsOne : Files → Outcome → Type 0) (output : Option (List ℕ))
+    (old now : List TreeState) (judged : Result Verdict TreeFault) : Type 0 where
+  -- the effect of the run on the tree: crashes, files and calls
+  pub tree : IfObservable old (λ v. IsRun (IsOne (files_of v)) Makes output judged v old now)
+  -- a refusal writes nothing
+  pub refused : IfOk judged (λ verdict. IsSome verdict.refusal → now ≡ old)
+  -- if memory ran out nothing was written
+  pub undone : IsErrOf judged Memory → now ≡ old
+
+-- a run of a command that only reads; its outcome depends on the contents at each read, and on the files
+pub record IsReadingRun (outcome : Reads → Files → Outcome) (old now : List TreeState)
+    (counts_before counts_now : Counts) (judged : Result Verdict TreeFault) : Type 0 where
+  -- on a tree that shows its files the verdict is that of the outcome over these files
+  pub found : IfOk judged (λ verdict. IfObservable old (λ v.
+      as_outcome (files_of v) verdict ≡ outcome (reads_in (files_of v)) (files_of v)))
+  -- on every tree it is that of the outcome for some contents at each read
+  pub by_reads : IfOk judged (λ verdict. (read : Reads) × (as_outcome no_names verdict ≡ outcome read no_names))
+  -- the tree is only read; an I/O error has its cause there
+  pub tree : OnlyReads Disk old now counts_before counts_now judged
+
+-- a run of a command whose outcome depends on its arguments alone: one of these over any files
+pub record IsRunByArguments {Tree : Type 0} (IsOne : Files → Outcome → Type 0) (old now : Tree)
+    (judged : Result Verdict TreeFault) : Type 0 where
+  -- the verdict is that of the outcome over any files, unless memory ran out
+  pub by_words : MatchResult judged
+      (λ verdict. (files : Files) → IsOne files (as_outcome files verdict)) (λ fault. fault ≡ Memory)
+  -- no call of the tree is made
+  pub untouched : now ≡ old
 
 -- a run of a command, after recovery
 pub record IsRecoveredRun (command : CommandLine) (old now : List TreeState)

@@ -76,9 +76,9 @@ pub record IsRun (IsOne : Outcome → Type 0) (effect : Effect) (output : Option
   -- a run that commits nothing writes nothing
   pub idle : (outcome : Outcome) → IsOne outcome → outcome.commits ≡ false → now ≡ old
 
--- memory ran out, or an outcome commits nothing
-abbrev pub IsVerdictWithoutCommit : (Outcome → Type 0) → Result Verdict TreeFault → Type 0
-IsVerdictWithoutCommit IsOne judged = IsErrOf judged Memory ⊎ HasOutcomeWithoutCommit IsOne
+-- the run reports that memory ran out, or one of these outcomes commits nothing, whatever was judged
+abbrev pub IsOutOfMemoryOrWithoutCommit : (Outcome → Type 0) → Result Verdict TreeFault → Type 0
+IsOutOfMemoryOrWithoutCommit IsOne judged = IsErrOf judged Memory ⊎ HasOutcomeWithoutCommit IsOne
 
 -- The effect of a run that first recovers, if its command does. Fields without a comment say what those
 -- of *IsRun* say, with the recovery before it.
@@ -99,9 +99,9 @@ pub record IsWholeRun (IsOne : Outcome → Type 0) (effect : Effect) (output : O
       → IsOne outcome → outcome.commits ≡ true
       → OnOk judged (HoldsNow now (IsDurableState (ignored_except_output output ignored) outcome.files))
   -- a run that commits nothing leaves the state, and writes nothing if there is nothing to recover
-  pub left : IsVerdictWithoutCommit IsOne judged → (ignored : List ℕ → Bool)
+  pub left : IsOutOfMemoryOrWithoutCommit IsOne judged → (ignored : List ℕ → Bool)
       → IsDurable (StateDependsOn ignored) v → Since (StateIsUnchanged ignored v) old now
-  pub idle : IsVerdictWithoutCommit IsOne judged → HasNothingToRecover effect v → now ≡ old
+  pub idle : IsOutOfMemoryOrWithoutCommit IsOne judged → HasNothingToRecover effect v → now ≡ old
   -- nothing is written either if the intent is bad
   pub bad : IsSome (recovery_fault effect (files_of v)) → now ≡ old
   pub reads : AreReadDuringRun IsOne effect output v old now

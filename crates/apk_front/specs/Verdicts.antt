@@ -2,7 +2,7 @@
 -- `apk` is made; the rule is in `docs/commands.md`, "Answers and statuses".
 use Rattle.std.specs.Prelude.{◌≡◌, ◌⊎◌, [], Option, Some, None, Result, Ok, Err}
 use Rattle.base_core.specs.Files.{Files}
-use Rattle.base_core.specs.Sink.{SinkChange, Gets, GetsPrefix, SinkFailed}
+use Rattle.base_core.specs.Sink.{SinkBeforeAndAfter, Gets, GetsPrefix, SinkFailed}
 use Rattle.base_core.specs.declared.tree.TreeFault.{TreeFault}
 use Rattle.base_core.specs.declared.tree.TreeFault.TheVariants.{Disk, Memory as NoMemory}
 use Rattle.command_core.specs.Command.{CommandLine}
@@ -37,7 +37,7 @@ abbrev pub ReportsOneOfOutcomes : (Outcome → Type 0) → Verdict → Type 0
 ReportsOneOfOutcomes IsOne verdict = (outcome : Outcome) × IsOne outcome × Reports verdict outcome
 
 -- the answer and the bytes of an outcome: its own, or a sink's fault instead
-abbrev pub IsPrinted : Outcome → Answer → SinkChange → SinkChange → Type 0
+abbrev pub IsPrinted : Outcome → Answer → SinkBeforeAndAfter → SinkBeforeAndAfter → Type 0
 IsPrinted outcome Good out err = IsAnsweredInFull outcome Good out err
 IsPrinted outcome (Refused refusal) out err = IsAnsweredInFull outcome (Refused refusal) out err
 IsPrinted outcome OutFault out err = IsSingleSinkFault outcome out err
@@ -46,14 +46,14 @@ IsPrinted outcome Memory out err = ⊥
 
 -- the answer and the bytes of standard error after a report: a refusal, if there is one, or a fault of
 -- that sink instead
-abbrev pub IsRefusalPrinted : Option Refusal → Answer → SinkChange → Type 0
+abbrev pub IsRefusalPrinted : Option Refusal → Answer → SinkBeforeAndAfter → Type 0
 IsRefusalPrinted None answer err = (answer ≡ Good) × Gets err [] × DidNotFail err
 IsRefusalPrinted (Some refusal) answer err =
     ((answer ≡ Refused refusal) × Gets err (refusal_line refusal) × DidNotFail err)
     ⊎ ((answer ≡ OutFault) × GetsPrefix err (refusal_line refusal) × SinkFailed err)
 
 -- the answer to a verdict, and the bytes of the two sinks
-abbrev pub IsVerdictPrinted : Result Verdict TreeFault → Answer → SinkChange → SinkChange → Type 0
+abbrev pub IsVerdictPrinted : Result Verdict TreeFault → Answer → SinkBeforeAndAfter → SinkBeforeAndAfter → Type 0
 IsVerdictPrinted (Ok verdict) answer out err =
     (files : Files) → IsPrinted (as_outcome files verdict) answer out err
 IsVerdictPrinted (Err Disk) answer out err = (answer ≡ TreeFailed) × PrintsOnlyErrorLine tree_failure_line out err

@@ -7,14 +7,11 @@ ghost use Rattle.adb_view.specs.ShapedPayload.{adb_of, table_of};
 ghost use Rattle.adb_dump.specs.adb_schema.Soundness.{schema_word};
 ghost use Rattle.adb_view.specs.Adb.{payload_of};
 ghost use Rattle.apk_front.specs.Containers.{IsDumpFault, IsAfterShapedFirstBlock, first_block_head_or_shape_fault};
+ghost use Rattle.apk_front.specs.RunContracts.{IsReadingRun};
 ghost use Rattle.apk_front.specs.Verdicts.{as_outcome};
-ghost use Rattle.base_core.specs.Calls.{IfObservable};
-ghost use Rattle.base_core.specs.Files.{Files, no_names};
-ghost use Rattle.base_core.specs.Read.{OnlyReads, bytes_in};
-ghost use Rattle.base_core.specs.Tree.{files_of};
+ghost use Rattle.base_core.specs.Files.{Files};
+ghost use Rattle.base_core.specs.Read.{bytes_in};
 ghost use Rattle.command_core.specs.Named.{are_files};
-ghost use Rattle.make_core.specs.make_info.Reads.{Reads};
-ghost use Rattle.outcome.specs.Commands.{reads_in};
 ghost use Rattle.outcome.specs.Dump.{adbdump, dump_of, dump_of_blocks, dump_outcome, head_or_shape_fault, framing_fault};
 
 use crate::answer::Verdict;
@@ -28,7 +25,7 @@ use report_core::Refusal;
 use std::alloc::{AllocError, Global};
 
 /// Prints the text of the file that the one operand names: on an observable tree the text of that
-/// file (`found`), on every tree that of some bytes (`by_reads`).
+/// file, on every tree that of some bytes.
 pub(crate) fn adbdump<T: Tree>(
     alloc: Global,
     operands: &Operands,
@@ -36,14 +33,8 @@ pub(crate) fn adbdump<T: Tree>(
 ) -> Result<Verdict, TreeFault>
     requires one { length operands.now ≡ 1 }
     requires files { IsTrue (are_files operands.now) }
-    ensures found { IfOk result (λ verdict. IfObservable (T.history tree.old) (λ v.
-        as_outcome (files_of v) verdict
-        ≡ adbdump (reads_in (files_of v)) (files_of v) operands.now)) }
-    ensures by_reads { IfOk result (λ verdict. (read : Reads)
-        × (as_outcome no_names verdict ≡ adbdump read no_names operands.now)) }
-    // The tree is only read; an I/O error has its cause there.
-    ensures tree { OnlyReads TreeFault.Disk (T.history tree.old) (T.history tree.new)
-        (T.counts tree.old) (T.counts tree.new) result }
+    ensures { IsReadingRun (λ read files. adbdump read files operands.now)
+        (T.history tree.old) (T.history tree.new) (T.counts tree.old) (T.counts tree.new) result }
 {
     let place = operands.get(0).place;
     let found = read_all(alloc, tree, operands.file(0))?;

@@ -9,7 +9,7 @@ ghost use Rattle.base_core.specs.Crash.{Since};
 ghost use Rattle.base_core.specs.Undone.{IsDurable};
 ghost use Rattle.base_core.specs.Faults.{CountsOnlyRise, HasCause};
 ghost use Rattle.base_core.specs.Files.{no_names};
-ghost use Rattle.base_core.specs.Sink.{sink_change, IsProperUse};
+ghost use Rattle.base_core.specs.Sink.{sink_before_and_after, IsProperUse};
 ghost use Rattle.base_core.specs.Tree.{files_of};
 ghost use Rattle.journal_core.specs.Quiet.{StateIsUnchanged};
 ghost use Rattle.journal_core.specs.Recovery.{StateDependsOn, intent_name};
@@ -48,22 +48,22 @@ pub fn apk<T: Tree, O: Sink, E: Sink>(
     ensures stated { IfObservable (T.history tree.old) (λ v.
         IsAnswerOf (IsOutcome (command_of words.now) (files_of v))
         (LeavesFiles (T.history tree.new)) (HasCause (T.counts tree.old) (T.counts tree.new)) result
-        (sink_change O.bytes O.counts out.old out.new)
-        (sink_change E.bytes E.counts err.old err.new)) }
+        (sink_before_and_after O.bytes O.counts out.old out.new)
+        (sink_before_and_after E.bytes E.counts err.old err.new)) }
 
     // If no count of faults rose, the answer is the outcome's, or memory ran out.
     ensures complete { IfObservable (T.history tree.old) (λ v.
         IsFaultless (T.counts tree.old) (T.counts tree.new)
-        (sink_change O.bytes O.counts out.old out.new)
-        (sink_change E.bytes E.counts err.old err.new)
+        (sink_before_and_after O.bytes O.counts out.old out.new)
+        (sink_before_and_after E.bytes E.counts err.old err.new)
         → AnswersOutcomeUnlessMemory words.now (files_of v) result) }
 
     // On every tree: an outcome that depends on the arguments alone is the answer, and the tree
     // never fails.
     ensures every_tree { IsTrue (depends_only_on_arguments (command_of words.now))
         → IsAnswerOf (IsOutcome (command_of words.now) no_names) LeavesAnyFiles ⊥ result
-        (sink_change O.bytes O.counts out.old out.new)
-        (sink_change E.bytes E.counts err.old err.new) }
+        (sink_before_and_after O.bytes O.counts out.old out.new)
+        (sink_before_and_after E.bytes E.counts err.old err.new) }
 
     // On every tree: the answer and the bytes are those of the specification for some listing, some
     // contents at each read, and the first clash of names among some files. Or an added package is
@@ -71,8 +71,8 @@ pub fn apk<T: Tree, O: Sink, E: Sink>(
     // identity and other contents. That these are the real ones of a file system is trusted.
     ensures found { IsAnswerOf (IsPossibleOutcome (command_of words.now)) LeavesAnyFiles
         (HasCause (T.counts tree.old) (T.counts tree.new)) result
-        (sink_change O.bytes O.counts out.old out.new)
-        (sink_change E.bytes E.counts err.old err.new) }
+        (sink_before_and_after O.bytes O.counts out.old out.new)
+        (sink_before_and_after E.bytes E.counts err.old err.new) }
 
     // ---- causes of failures, on every tree and sink
 
@@ -81,13 +81,13 @@ pub fn apk<T: Tree, O: Sink, E: Sink>(
     // I/O error of the tree. After an I/O error of the tree, or out of memory, exactly its line is
     // printed.
     ensures causes { HasCauses result (T.counts tree.old) (T.counts tree.new)
-        (sink_change O.bytes O.counts out.old out.new)
-        (sink_change E.bytes E.counts err.old err.new) }
+        (sink_before_and_after O.bytes O.counts out.old out.new)
+        (sink_before_and_after E.bytes E.counts err.old err.new) }
 
     // No count falls, and no sink is misused.
     ensures tree_counts { CountsOnlyRise (T.counts tree.old) (T.counts tree.new) }
-    ensures out_counts { IsProperUse (sink_change O.bytes O.counts out.old out.new) }
-    ensures err_counts { IsProperUse (sink_change E.bytes E.counts err.old err.new) }
+    ensures out_counts { IsProperUse (sink_before_and_after O.bytes O.counts out.old out.new) }
+    ensures err_counts { IsProperUse (sink_before_and_after E.bytes E.counts err.old err.new) }
 
     // Out of memory is answered only if the arguments name an applet, or ask for help or the
     // version.
@@ -106,8 +106,8 @@ pub fn apk<T: Tree, O: Sink, E: Sink>(
         → HasNoPlannedFailure (O.counts out.old) → HasNoPlannedFailure (E.counts err.old)
         → IsOutcomeUnlessMemory words.now (files_of v) (LeavesFiles (T.history tree.new)) result
         (T.counts tree.old) (T.counts tree.new)
-        (sink_change O.bytes O.counts out.old out.new)
-        (sink_change E.bytes E.counts err.old err.new)) }
+        (sink_before_and_after O.bytes O.counts out.old out.new)
+        (sink_before_and_after E.bytes E.counts err.old err.new)) }
 
     // ---- effect on the tree
 

@@ -1,14 +1,11 @@
 //! `adbgen` turns a dump text into a container. The rules are in `docs/commands.md`, "`adbgen
 //! FILE`", and in `docs/formats.md`, "Dump text"; the container is made by `gen_core`.
 ghost use Rattle.std.specs.Prelude.{◌≡◌, IsTrue, IfOk, length};
+ghost use Rattle.apk_front.specs.RunContracts.{IsReadingRun};
 ghost use Rattle.apk_front.specs.Verdicts.{as_outcome};
-ghost use Rattle.base_core.specs.Calls.{IfObservable};
-ghost use Rattle.base_core.specs.Files.{Files, no_names};
-ghost use Rattle.base_core.specs.Read.{OnlyReads, bytes_in};
-ghost use Rattle.base_core.specs.Tree.{files_of};
+ghost use Rattle.base_core.specs.Files.{Files};
+ghost use Rattle.base_core.specs.Read.{bytes_in};
 ghost use Rattle.command_core.specs.Named.{are_files};
-ghost use Rattle.make_core.specs.make_info.Reads.{Reads};
-ghost use Rattle.outcome.specs.Commands.{reads_in};
 ghost use Rattle.outcome.specs.Generate.{adbgen, generate_outcome};
 
 use crate::answer::Verdict;
@@ -19,7 +16,7 @@ use report_core::Refusal;
 use std::alloc::{AllocError, Global};
 
 /// Prints the container of the text in the file that the one operand names: on an observable tree
-/// of that file's text (`found`), on every tree of some bytes (`by_reads`).
+/// of that file's text, on every tree of some bytes.
 pub(crate) fn adbgen<T: Tree>(
     alloc: Global,
     operands: &Operands,
@@ -27,14 +24,8 @@ pub(crate) fn adbgen<T: Tree>(
 ) -> Result<Verdict, TreeFault>
     requires one { length operands.now ≡ 1 }
     requires files { IsTrue (are_files operands.now) }
-    ensures found { IfOk result (λ verdict. IfObservable (T.history tree.old) (λ v.
-        as_outcome (files_of v) verdict
-        ≡ adbgen (reads_in (files_of v)) (files_of v) operands.now)) }
-    ensures by_reads { IfOk result (λ verdict. (read : Reads)
-        × (as_outcome no_names verdict ≡ adbgen read no_names operands.now)) }
-    // The tree is only read; an I/O error has its cause there.
-    ensures tree { OnlyReads TreeFault.Disk (T.history tree.old) (T.history tree.new)
-        (T.counts tree.old) (T.counts tree.new) result }
+    ensures { IsReadingRun (λ read files. adbgen read files operands.now)
+        (T.history tree.old) (T.history tree.new) (T.counts tree.old) (T.counts tree.new) result }
 {
     let place = operands.get(0).place;
     let found = read_all(alloc, tree, operands.file(0))?;

@@ -3,15 +3,10 @@
 //! recover first"; for the access below the root in `docs/crash-safety.md`, "What the host's tree
 //! does"; and for how counts explain an answer in "Misuses, faults and counts".
 
-ghost use Rattle.std.specs.Prelude.{◌≡◌, [], None, Ok, IfOk, IsErrOf, IsTrue, MatchResult};
+ghost use Rattle.std.specs.Prelude.{◌≡◌, Ok, IfOk, IsErrOf, IsTrue};
 ghost use Rattle.apk_front.specs.Answers.{name_a_command};
-ghost use Rattle.apk_front.specs.RunContracts.{IsJudgedRun};
-ghost use Rattle.apk_front.specs.Verdicts.{as_outcome, read_only_outcome};
-ghost use Rattle.base_core.specs.Calls.{IfObservable};
-ghost use Rattle.base_core.specs.Files.{Files, no_names};
-ghost use Rattle.base_core.specs.Read.{OnlyReads};
-ghost use Rattle.base_core.specs.Tree.{files_of};
-ghost use Rattle.make_core.specs.make_info.Reads.{Reads};
+ghost use Rattle.apk_front.specs.RunContracts.{IsJudgedRun, IsReadingRun, IsRunByArguments};
+ghost use Rattle.apk_front.specs.Verdicts.{read_only_outcome};
 ghost use Rattle.outcome.specs.Commands.{IsPossibleOutcomeWithoutDemo, IsOutcomeWithoutDemo, reads_in};
 ghost use Rattle.outcome.specs.Effect.{does_only_read, ignores_files, effect_of_arguments, effect_of, output, output_for_effect, reads_only, depends_only_on_arguments};
 ghost use Rattle.outcome.specs.Words.{IsPossibleOutcome, IsOutcome};
@@ -44,13 +39,8 @@ pub(crate) fn judge<T: Tree>(
         (output words.now)
         (T.history tree.old) (T.history tree.new) (T.counts tree.old) (T.counts tree.new) result }
     // An outcome that rests on the words alone is judged on every tree, unless memory ran out.
-    ensures by_words { IsTrue (depends_only_on_arguments (command_of words.now))
-        → MatchResult result
-        (λ verdict. (files : Files)
-        → IsOutcome (command_of words.now) files (as_outcome files verdict))
-        (λ fault. fault ≡ TreeFault.Memory) }
-    ensures untouched { IsTrue (depends_only_on_arguments (command_of words.now)) → tree.new
-        ≡ tree.old }
+    ensures by_arguments { IsTrue (depends_only_on_arguments (command_of words.now))
+        → IsRunByArguments (IsOutcome (command_of words.now)) tree.old tree.new result }
     ensures same { IsTrue (reads_only (command_of words.now))
         → T.history tree.new ≡ T.history tree.old }
     ensures named { IsErrOf result TreeFault.Memory → IsTrue (name_a_command words.now) }
@@ -76,13 +66,8 @@ fn run_command<T: Tree>(
         (IsPossibleOutcome (Ok command.now)) (effect_of command.now.applet)
         (output_for_effect (effect_of command.now.applet) command.now)
         (T.history tree.old) (T.history tree.new) (T.counts tree.old) (T.counts tree.new) result }
-    ensures by_words { IsTrue (ignores_files (effect_of command.now.applet))
-        → MatchResult result
-        (λ verdict. (files : Files)
-        → IsOutcome (Ok command.now) files (as_outcome files verdict))
-        (λ fault. fault ≡ TreeFault.Memory) }
-    ensures untouched { IsTrue (ignores_files (effect_of command.now.applet))
-        → tree.new ≡ tree.old }
+    ensures by_arguments { IsTrue (ignores_files (effect_of command.now.applet))
+        → IsRunByArguments (IsOutcome (Ok command.now)) tree.old tree.new result }
     ensures same { IsTrue (does_only_read (effect_of command.now.applet))
         → T.history tree.new ≡ T.history tree.old }
 {
@@ -102,14 +87,10 @@ pub(crate) fn run<T: Tree>(
         (IsPossibleOutcomeWithoutDemo command.now) (effect_of command.now.applet)
         (output_for_effect (effect_of command.now.applet) command.now)
         (T.history tree.old) (T.history tree.new) (T.counts tree.old) (T.counts tree.new) result }
-    ensures by_words { IsTrue (ignores_files (effect_of command.now.applet))
-        → MatchResult result
-        (λ verdict. (files : Files)
-        → as_outcome files verdict
-        ≡ read_only_outcome command.now (reads_in files) files)
-        (λ fault. fault ≡ TreeFault.Memory) }
-    ensures untouched { IsTrue (ignores_files (effect_of command.now.applet))
-        → tree.new ≡ tree.old }
+    ensures by_arguments { IsTrue (ignores_files (effect_of command.now.applet))
+        → IsRunByArguments
+        (λ files outcome. outcome ≡ read_only_outcome command.now (reads_in files) files)
+        tree.old tree.new result }
     ensures same { IsTrue (does_only_read (effect_of command.now.applet))
         → T.history tree.new ≡ T.history tree.old }
 {
@@ -119,26 +100,16 @@ pub(crate) fn run<T: Tree>(
     }
 }
 
-// Runs an applet that only reads. The clauses are those of `run`; `tree` says that nothing is
-// written.
+// Runs an applet that only reads: nothing is written.
 #[tactic(auto, using(crate::proofs::Operands::dump_operands, crate::proofs::Operands::gen_operands, crate::proofs::Operands::verify_operands, crate::proofs::Operands::version_operand_rule))]
 fn look<T: Tree>(alloc: Global, command: &Command, tree: &mut T) -> Result<Verdict, TreeFault>
     requires { IsTrue (does_only_read (effect_of command.now.applet)) }
-    ensures found { IfOk result (λ verdict. IfObservable (T.history tree.old) (λ v.
-        as_outcome (files_of v) verdict
-        ≡ read_only_outcome command.now (reads_in (files_of v)) (files_of v))) }
-    ensures by_reads { IfOk result (λ verdict. (read : Reads)
-        × (as_outcome no_names verdict ≡ read_only_outcome command.now read no_names)) }
-    ensures by_words { IsTrue (ignores_files (effect_of command.now.applet))
-        → MatchResult result
-        (λ verdict. (files : Files)
-        → as_outcome files verdict
-        ≡ read_only_outcome command.now (reads_in files) files)
-        (λ fault. fault ≡ TreeFault.Memory) }
-    ensures untouched { IsTrue (ignores_files (effect_of command.now.applet))
-        → tree.new ≡ tree.old }
-    ensures tree { OnlyReads TreeFault.Disk (T.history tree.old) (T.history tree.new)
-        (T.counts tree.old) (T.counts tree.new) result }
+    ensures run { IsReadingRun (read_only_outcome command.now)
+        (T.history tree.old) (T.history tree.new) (T.counts tree.old) (T.counts tree.new) result }
+    ensures by_arguments { IsTrue (ignores_files (effect_of command.now.applet))
+        → IsRunByArguments
+        (λ files outcome. outcome ≡ read_only_outcome command.now (reads_in files) files)
+        tree.old tree.new result }
 {
     match command.applet() {
         Applet::Verify => verify(alloc, command.operands(), tree),

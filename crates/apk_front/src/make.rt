@@ -5,8 +5,7 @@ ghost use Rattle.std.specs.Prelude.{◌≡◌, ◌≢◌, ◌⊎◌, ℕ, false,
 ghost use Rattle.make_core.specs.make_package.Answers.{IsMadeBySome};
 ghost use Rattle.apk_front.specs.Containers.{IsIndexMade, IsIndexFound, IsIndexOutcome, IsPackageMade, IsPackageOutcome, OnMade, is_disk_or_memory, ended_by_disk_or_memory, made_file_bytes};
 ghost use Rattle.apk_front.specs.Moments.{CanAddOutputNamesIfAny};
-ghost use Rattle.apk_front.specs.RunContracts.{IsVerdictExplainedByCounts};
-ghost use Rattle.apk_front.specs.Runs.{IsRun};
+ghost use Rattle.apk_front.specs.RunContracts.{IsMakingRun, IsVerdictExplainedByCounts};
 ghost use Rattle.apk_front.specs.Verdicts.{Reports, ReportsOneOfOutcomes};
 ghost use Rattle.base_core.specs.Calls.{IfObservable};
 ghost use Rattle.base_core.specs.Faults.{CountsOnlyRise, HasCause, IsNoFault};
@@ -20,7 +19,6 @@ ghost use Rattle.make_core.specs.make_index.Files.{FindOnlyFiles};
 ghost use Rattle.make_core.specs.make_info.Output.{output_name};
 ghost use Rattle.make_core.specs.make_info.Reads.{Reads};
 ghost use Rattle.make_core.specs.package_files.Sources.{AreNamesBelowFirst, values_of_letter};
-ghost use Rattle.outcome.specs.Effect.{Makes};
 ghost use Rattle.outcome.specs.Make.{index_line, make_outcome, mkndx, mkpkg, unless_reserved};
 ghost use Rattle.outcome.specs.Outcome.{Outcome, just_refusal};
 ghost use Rattle.report_core.specs.declared.refusal.Refusal.TheVariants.{ResultTooLarge};
@@ -42,7 +40,7 @@ use report_core::Refusal;
 use std::alloc::{AllocError, Global};
 
 /// Makes a package, and writes it under the output's name. It reports nothing. Besides the clauses
-/// of `run_recovered`, which calls this, `refused` says that a refusal writes nothing.
+/// of `run_recovered`, which calls this, `run` says that a refusal writes nothing.
 pub(crate) fn mkpkg<T: Tree>(
     alloc: Global,
     command: &Command,
@@ -55,12 +53,8 @@ pub(crate) fn mkpkg<T: Tree>(
     ensures by_reads { IfOk result (λ verdict. (names : List (List ℕ))
         × AreNamesBelowFirst (values_of_letter FILES command.now.values) names
         × (read : Reads) × Reports verdict (mkpkg read no_names command.now names)) }
-    ensures run { IfObservable (T.history tree.old) (λ v. IsRun
-        (IsPackageOutcome command.now (files_of v)) Makes (output_name command.now)
-        result v (T.history tree.old) (T.history tree.new)) }
-    ensures refused { IfOk result (λ verdict. IsSome verdict.refusal
-        → T.history tree.new ≡ T.history tree.old) }
-    ensures undone { IsErrOf result TreeFault.Memory → T.history tree.new ≡ T.history tree.old }
+    ensures run { IsMakingRun (IsPackageOutcome command.now) (output_name command.now)
+        (T.history tree.old) (T.history tree.new) result }
     ensures counts { IsVerdictExplainedByCounts (T.counts tree.old) (T.counts tree.new) result }
     ensures proper { IfObservable (T.history tree.old) (λ v.
         ((outcome : Outcome) → IsPackageOutcome command.now (files_of v) outcome
@@ -91,12 +85,8 @@ pub(crate) fn mkndx<T: Tree>(
     ensures by_reads { IfOk result (λ verdict. (read : Reads)
         × FindOnlyFiles read 0 command.now.operands
         × Reports verdict (mkndx read no_names command.now)) }
-    ensures run { IfObservable (T.history tree.old) (λ v. IsRun
-        (IsIndexOutcome command.now (files_of v)) Makes (output_name command.now)
-        result v (T.history tree.old) (T.history tree.new)) }
-    ensures refused { IfOk result (λ verdict. IsSome verdict.refusal
-        → T.history tree.new ≡ T.history tree.old) }
-    ensures undone { IsErrOf result TreeFault.Memory → T.history tree.new ≡ T.history tree.old }
+    ensures run { IsMakingRun (IsIndexOutcome command.now) (output_name command.now)
+        (T.history tree.old) (T.history tree.new) result }
     ensures counts { IsVerdictExplainedByCounts (T.counts tree.old) (T.counts tree.new) result }
     ensures proper { IfObservable (T.history tree.old) (λ v.
         ((outcome : Outcome) → IsIndexOutcome command.now (files_of v) outcome
@@ -166,16 +156,12 @@ fn finish<T: Tree>(
     requires output { IfOk container (λ file. IsSome (output_name command.now)) }
     ensures reported { IfOk result (λ verdict. (files : Files) → Reports verdict
         (make_outcome files (output_name command.now) report (made_file_bytes container))) }
-    ensures run { IfObservable (T.history tree.old) (λ v. IsRun
-        (λ outcome. outcome
-        ≡ make_outcome (files_of v) (output_name command.now) report (made_file_bytes container))
-        Makes (output_name command.now) result v (T.history tree.old) (T.history tree.new)) }
+    ensures run { IsMakingRun (λ files outcome. outcome
+        ≡ make_outcome files (output_name command.now) report (made_file_bytes container))
+        (output_name command.now) (T.history tree.old) (T.history tree.new) result }
     ensures done { IfOk result (λ verdict. ended_by_disk_or_memory container ≡ false) }
     ensures cut { ended_by_disk_or_memory container ≡ true → T.history tree.new
         ≡ T.history tree.old }
-    ensures refused { IfOk result (λ verdict. IsSome verdict.refusal
-        → T.history tree.new ≡ T.history tree.old) }
-    ensures undone { IsErrOf result TreeFault.Memory → T.history tree.new ≡ T.history tree.old }
     ensures goes_on { CountsOnlyRise (T.counts tree.old) (T.counts tree.new) }
     ensures disk { IsErrOf result TreeFault.Disk
         → IsErrOf container MakeFault.Disk ⊎ HasCause (T.counts tree.old) (T.counts tree.new) }
@@ -208,13 +194,9 @@ fn write<T: Tree>(
     requires output { IsSome (output_name command.now) }
     ensures reported { IfOk result (λ verdict. (files : Files) → Reports verdict
         (make_outcome files (output_name command.now) report (Ok file.now))) }
-    ensures run { IfObservable (T.history tree.old) (λ v. IsRun
-        (λ outcome. outcome
-        ≡ make_outcome (files_of v) (output_name command.now) report (Ok file.now))
-        Makes (output_name command.now) result v (T.history tree.old) (T.history tree.new)) }
-    ensures refused { IfOk result (λ verdict. IsSome verdict.refusal
-        → T.history tree.new ≡ T.history tree.old) }
-    ensures undone { IsErrOf result TreeFault.Memory → T.history tree.new ≡ T.history tree.old }
+    ensures run { IsMakingRun (λ files outcome. outcome
+        ≡ make_outcome files (output_name command.now) report (Ok file.now))
+        (output_name command.now) (T.history tree.old) (T.history tree.new) result }
     ensures counts { IsVerdictExplainedByCounts (T.counts tree.old) (T.counts tree.new) result }
     ensures proper { IfObservable (T.history tree.old) (λ v.
         ((make_outcome (files_of v) (output_name command.now) report (Ok file.now)).commits ≡ true

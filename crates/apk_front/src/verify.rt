@@ -1,9 +1,10 @@
 //! `verify` tests containers. The rules are in `docs/commands.md`, "`verify FILE..`", and the tests
 //! in `docs/formats.md`, "Tests of a container".
 ghost use Rattle.std.specs.Prelude.{◌≡◌, List, Option, ℕ, IsTrue, IfOk};
+ghost use Rattle.apk_front.specs.RunContracts.{IsReadingRun};
 ghost use Rattle.apk_front.specs.Verdicts.{as_outcome};
 ghost use Rattle.base_core.specs.Calls.{IfObservable};
-ghost use Rattle.base_core.specs.Files.{Files, no_names};
+ghost use Rattle.base_core.specs.Files.{Files};
 ghost use Rattle.base_core.specs.Read.{OnlyReads, bytes_in};
 ghost use Rattle.base_core.specs.Tree.{files_of};
 ghost use Rattle.command_core.specs.Named.{are_files};
@@ -21,22 +22,15 @@ use report_core::Refusal;
 use std::alloc::{AllocError, Global};
 
 /// Tests the files that the operands name, one after another, up to the first that is no sound
-/// container. On an observable tree its files are tested (`found`), on every tree some bytes
-/// (`by_reads`).
+/// container. On an observable tree its files are tested, on every tree some bytes.
 pub(crate) fn verify<T: Tree>(
     alloc: Global,
     operands: &Operands,
     tree: &mut T,
 ) -> Result<Verdict, TreeFault>
     requires { IsTrue (are_files operands.now) }
-    ensures found { IfOk result (λ verdict. IfObservable (T.history tree.old) (λ v.
-        as_outcome (files_of v) verdict
-        ≡ verify (reads_in (files_of v)) (files_of v) operands.now)) }
-    ensures by_reads { IfOk result (λ verdict. (read : Reads)
-        × (as_outcome no_names verdict ≡ verify read no_names operands.now)) }
-    // The tree is only read; an I/O error has its cause there.
-    ensures tree { OnlyReads TreeFault.Disk (T.history tree.old) (T.history tree.new)
-        (T.counts tree.old) (T.counts tree.new) result }
+    ensures { IsReadingRun (λ read files. verify read files operands.now)
+        (T.history tree.old) (T.history tree.new) (T.counts tree.old) (T.counts tree.new) result }
 {
     let refusal = first_refusal(alloc, operands, tree)?;
     let verdict = verdict_by(alloc, operands, refusal)?;

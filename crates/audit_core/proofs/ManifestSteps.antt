@@ -1,5 +1,5 @@
 -- A manifest, line by line and operand by operand.
-use Rattle.std.proofs.Common.{◌≡◌, ℕ, zero, suc, ◌+◌, ◌<◌, ◌≤◌, Bool, true, false, cond, List, [], ◌∷◌, ◌++◌, length, drop, Option, Some, None, Result, Ok, Err, refl, ap, sym, ◌∙◌, append_assoc, append-nil, arith}
+use Rattle.std.proofs.Common.{◌≡◌, ℕ, suc, ◌+◌, ◌<◌, ◌≤◌, Bool, true, false, cond, List, [], ◌∷◌, ◌++◌, length, drop, Option, Some, None, Result, Ok, Err, refl, ap, sym, ◌∙◌, append_assoc, append-nil, arith}
 use Rattle.std.specs.Prelude.{OnOk, codes, slice_get}
 use Rattle.std.specs.List.{find, position_from}
 use Rattle.std.specs.Option.{option_and_then, option_map_or}
@@ -13,6 +13,7 @@ use Rattle.report_core.specs.Reports.{report_line}
 use Rattle.report_core.specs.declared.refusal.Refusal.{Refusal}
 use Rattle.report_core.specs.declared.refusal.Refusal.TheVariants.{NotInstalled}
 use Rattle.audit_core.specs.Manifest.{manifest_of, manifest_with, operand_package, package_manifest, manifest_with_lines_before}
+use Rattle.audit_core.proofs.RecordSteps.{at_place}
 
 -- ---- a line
 
@@ -65,13 +66,8 @@ package_at packages text place is = ap (option_and_then (slice_get packages)) is
 pub reported_package : (packages : List Plain) (operands : List Operand) (i : ℕ) (o : Operand) (report more : List ℕ) (place : ℕ) → slice_get operands i ≡ Some o → place < length packages
     → slice_get packages place ≡ operand_package packages o → more ≡ report ++ option_map_or package_manifest (slice_get packages place) []
     → IsManifestTo packages operands i report → IsManifestTo packages operands (i + 1) more
-reported_package packages operands i o report more place at within is added so_far = go (slice_get packages place) refl (there packages place within)
+reported_package packages operands i o report more place at within is added so_far = go (slice_get packages place) refl (at_place packages place within)
   where
-    there : {X : Type 0} (xs : List X) (k : ℕ) → k < length xs → (x : X) × (slice_get xs k ≡ Some x)
-    there [] k h = absurd (omega arith)
-    there (x ∷ xs) zero h = (x, refl)
-    there (x ∷ xs) (suc k) h = there xs k (omega arith)
-
     go : (found : Option Plain) → slice_get packages place ≡ found → (x : Plain) × (slice_get packages place ≡ Some x) → IsManifestTo packages operands (i + 1) more
     go found e (pkg, here) =
         so_far

@@ -5,7 +5,7 @@ use Rattle.root_laws.specs.adb_copy.Zeros.{without_zeros}
 use Rattle.audit_core.specs.adb_fields.FirstPair.{IsIn}
 use Rattle.audit_core.specs.adb_fields.Repeated.{entries_at}
 use Rattle.root_laws.specs.adb_schema.Reserved.{is_reserved}
-use Rattle.root_laws.specs.adb_schema.SoundContainers.{IsSound, IsSoundValue}
+use Rattle.root_laws.specs.adb_schema.SoundContainers.{IsSoundContainer, IsSoundValue}
 use Rattle.root_laws.specs.adb_schema.Soundness.{first_fault, payload_in, root_value}
 use Rattle.root_laws.specs.adb_schema.Texts.{is_with_contents}
 use Rattle.adb_view.specs.FieldIndexes.{IDB_PACKAGES}
@@ -17,7 +17,7 @@ use Rattle.audit_core.specs.Differences.{IsDifferenceIn, DiffersFromEntry, file_
 use Rattle.base_core.specs.Files.{Files}
 use Rattle.base_core.specs.declared.cause.Cause.{Cause}
 use Rattle.root_laws.specs.change_files.FileChange.{FileChange, added_owner_listing, if_member_added, owner_listing}
-use Rattle.root_laws.specs.change_files.FilesAfter.{RootFilesAfter, changed_files, listing_bytes}
+use Rattle.root_laws.specs.change_files.FilesAfter.{DatabaseAndWorldAfter, changed_files, listing_bytes}
 use Rattle.root_laws.specs.change_files.Touched.{is_record_name}
 use Rattle.root_laws.proofs.change_files.Lists.{IsOneOf, contains_from_one}
 use Rattle.root_laws.proofs.change_files.OwnedFiles.{coming_is}
@@ -31,14 +31,14 @@ use Rattle.command_core.specs.Command.{CommandLine}
 use Rattle.audit_core.specs.db_core.ListedAt.{IsListedAt}
 use Rattle.audit_core.specs.db_core.Members.{Listing, Member, is_added, member_listings}
 use Rattle.root_laws.specs.change_inputs.Inputs.{Inputs}
-use Rattle.root_laws.specs.engine_core.Changed.{Selected, change_of_command, change_of_selected, simulated_change}
+use Rattle.root_laws.specs.engine_core.Changed.{InputsAndReplacement, change_of_command, change_of_selected, simulated_change}
 use Rattle.root_laws.specs.engine_core.Wishes.{wishes_of}
 use Rattle.audit_core.specs.file_guard.AsListed.{has_target, is_as_listed}
 use Rattle.root_laws.specs.make_info.Reads.{Reads}
 use Rattle.root_laws.specs.package_changes.Changes.{Replacement}
 use Rattle.audit_core.specs.path_clashes.Clash.{NamePair}
 use Rattle.root_laws.specs.pkg_core.Contents.{Contents, expected_contents}
-use Rattle.root_laws.specs.pkg_core.GoodContents.{AreContentsOf, HaveDigests}
+use Rattle.root_laws.specs.pkg_core.GoodContents.{AreContentsOf, HaveValidDigestLengths}
 use Rattle.root_laws.proofs.pkg_core.Digests.{HasFirstValue}
 use Rattle.report_core.specs.declared.refusal.Refusal.{Refusal}
 use Rattle.report_core.specs.declared.refusal.Refusal.TheVariants.{DatabaseBad}
@@ -51,8 +51,8 @@ use Rattle.audit_laws.proofs.FoundContents.{contents_listed}
 
 -- what the laws of the crates below say
 pub record Laws : Type 0 where
-  pub values : (which : Which) (file : List ℕ) → IsSound which file → IsSoundValue which (root_value which (payload_in file))
-  pub reserved : (records : RootFilesAfter) (name : List ℕ) → is_record_name records name ≡ true → is_reserved name ≡ true
+  pub values : (which : Which) (file : List ℕ) → IsSoundContainer which file → IsSoundValue which (root_value which (payload_in file))
+  pub reserved : (records : DatabaseAndWorldAfter) (name : List ℕ) → is_record_name records name ≡ true → is_reserved name ≡ true
   pub made : (inputs : Inputs) (r : Replacement) (wishes : ChangeWishes) (read : Reads) (clash : Option NamePair) (files : Files) (done : ChangeDone)
       → change_or_refusal inputs r wishes read clash files ≡ Ok done → IsChangeMade inputs r wishes read clash files done
   pub differences : (files : Files) (packages : List Plain) (d : FileDifference) → IsIn d (file_differences files packages) ↔ IsDifferenceIn packages files d
@@ -75,7 +75,7 @@ container_ok file packages bytes e = by_fault (first_fault Idb file) refl e
     by_fault None t e = (let same : there ≡ database_from_parts packages (Some bytes) false = (let both : kept there ≡ kept (database_from_parts packages (Some bytes) false) = e in cc) in (t, ap (λ (d : Database). d.packages) same))
     by_fault (Some cause) t e = absurd (cc (e))
 
-not_record : (records : RootFilesAfter) (name : List ℕ) → ((records : RootFilesAfter) (name : List ℕ) → is_record_name records name ≡ true → is_reserved name ≡ true) → is_reserved name ≡ false → is_record_name records name ≡ false
+not_record : (records : DatabaseAndWorldAfter) (name : List ℕ) → ((records : DatabaseAndWorldAfter) (name : List ℕ) → is_record_name records name ≡ true → is_reserved name ≡ true) → is_reserved name ≡ false → is_record_name records name ≡ false
 not_record records name reserved free = by_test (is_record_name records name) refl
   where
     by_test : (b : Bool) → is_record_name records name ≡ b → is_record_name records name ≡ false
@@ -87,7 +87,7 @@ comes_if change path l owner comes = ap if_member_added owner ∙ ap (λ (b : Bo
 
 module _ (laws : Laws) (command : CommandLine) (read : Reads) (files : Files) (chosen : Option (List ℕ)) (clash : Option NamePair) (done : ChangeDone) (left : IsRootLeft command read chosen done)
     (e : change_of_command command read files chosen clash ≡ Ok done) (off : command.flags.simulate ≡ false) where
-  abbrev s : Selected
+  abbrev s : InputsAndReplacement
   s = left.selected
 
   not_simulated : (b : Bool) → b ≡ false → (if b then Ok (simulated_change s.replacement (wishes_of command) files) else change_or_refusal s.inputs s.replacement (wishes_of command) read clash files) ≡ Ok done
@@ -99,12 +99,12 @@ module _ (laws : Laws) (command : CommandLine) (read : Reads) (files : Files) (c
   unfolding change_of_command
   made_so =
       laws.made s.inputs s.replacement (wishes_of command) read clash files done
-      (not_simulated command.flags.simulate off (ap (λ (r : Result Selected Refusal). and_then r (change_of_selected command read files clash)) (sym left.is_selected) ∙ e))
+      (not_simulated command.flags.simulate off (ap (λ (r : Result InputsAndReplacement Refusal). and_then r (change_of_selected command read files clash)) (sym left.is_selected) ∙ e))
 
   same_found : made_so.found ≡ left.found
   same_found = let both : Ok made_so.found ≡ Ok left.found = sym made_so.members ∙ left.members in (cc)
 
-  abbrev records : RootFilesAfter
+  abbrev records : DatabaseAndWorldAfter
   records = new_records s.inputs made_so.database
 
   abbrev change : FileChange
@@ -202,7 +202,7 @@ empty_by entry bytes brought unlike = by_tests (is_with_contents entry) refl (ha
 
 pub empty_alone :
     HasFirstValue → ((members : List Member) (i : ℕ) (l : Listing) → slice_get (member_listings members) i ≡ Some l → IsListedAt members l)
-    → ((contents : ℕ → List Contents) (members : List Member) (l : Listing) → Contains (member_listings members) l → HaveDigests (expected_contents l.member.pkg)
+    → ((contents : ℕ → List Contents) (members : List Member) (l : Listing) → Contains (member_listings members) l → HaveValidDigestLengths (expected_contents l.member.pkg)
     → AreContentsOf (expected_contents l.member.pkg) (contents l.place) → (is_with_contents l.entry ≡ false → has_target l.entry ≡ false → is_as_listed l.entry [] ≡ true)
     → is_as_listed l.entry (listing_bytes contents l) ≡ true)
     → (command : CommandLine) (read : Reads) (chosen : Option (List ℕ)) (done : ChangeDone) (left : IsRootLeft command read chosen done) (path : List ℕ) (l : Listing)

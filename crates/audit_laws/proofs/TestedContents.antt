@@ -9,18 +9,18 @@ use Rattle.root_laws.specs.adb_schema.Soundness.{blocks_fault, file_fault_after_
 use Rattle.adb_view.specs.Plain.{Plain}
 use Rattle.adb_view.specs.declared.tables.Which.TheVariants.{Package}
 use Rattle.root_laws.specs.pkg_core.Contents.{Contents, Expected, contents_in, expected_contents}
-use Rattle.root_laws.specs.pkg_core.GoodContents.{AreContentsOf, HaveDigests}
+use Rattle.root_laws.specs.pkg_core.GoodContents.{AreContentsOf, HaveValidDigestLengths}
 use Rattle.root_laws.specs.pkg_core.Whole.{fault_of_further_blocks, files_after_first_block, files_after_header, files_in_file, package_fault, container_fault_of_table}
 use Rattle.root_laws.proofs.pkg_core.Digests.{HasFirstValue, texts_give_digests}
 use Rattle.root_laws.proofs.pkg_core.Given.{files_right, nothing_expected, texts_good}
 
 -- the contents are those that the entries of a package list
 abbrev pub AreListedContents : Plain → List Contents → Type 0
-AreListedContents pkg contents = HaveDigests (expected_contents pkg) × AreContentsOf (expected_contents pkg) contents
+AreListedContents pkg contents = HaveValidDigestLengths (expected_contents pkg) × AreContentsOf (expected_contents pkg) contents
 
 blocks_listed : HasFirstValue → (r : Reading) → blocks_fault (fault_of_further_blocks Package) Package r ≡ None → AreListedContents (root_value Package (first_block_payload r)) (contents_in (files_after_first_block r))
 blocks_listed told done h =
-    let A : List Expected → Type 0 = λ es. HaveDigests es × AreContentsOf es [] in subst A (sym nothing_expected) (tt, tt)
+    let A : List Expected → Type 0 = λ es. HaveValidDigestLengths es × AreContentsOf es [] in subst A (sym nothing_expected) (tt, tt)
 blocks_listed told (fault c) h = absurd (cc)
 blocks_listed told (more b at r) h =
     let v : Plain = root_value Package b.payload in (

@@ -2,7 +2,7 @@
 use Rattle.std.proofs.Common.{◌≡◌, ◌∙◌, ◌≤◌, ℕ, inl, inr, List, [], ◌∷◌, ◌++◌, Result, Ok, Err, refl, subst, arith}
 use Rattle.base_core.specs.Calls.{IfObservable}
 use Rattle.base_core.specs.Read.{OnlyReads}
-use Rattle.base_core.specs.Faults.{Counts, CountsOnlyRise, HasCause, IsNoFault, Rose}
+use Rattle.base_core.specs.Faults.{Counts, CountsOnlyRise, HasCause, IsNoFault, RoseOrIsSaturated}
 use Rattle.base_core.specs.Restart.{HasNamedNewFile}
 use Rattle.base_core.specs.Tree.{TreeState}
 
@@ -25,7 +25,7 @@ no_fault_same a = record { faults = refl; memory_faults = refl }
 
 -- ---- a call that failed, before calls and behind them
 
-rose_sooner : (a b c : ℕ) → Rose a b → b ≤ c → Rose a c
+rose_sooner : (a b c : ℕ) → RoseOrIsSaturated a b → b ≤ c → RoseOrIsSaturated a c
 rose_sooner a b c h k = omega arith
 
 pub cause_sooner : (a b c : Counts) → HasCause a b → CountsOnlyRise b c → HasCause a c
@@ -38,7 +38,7 @@ cause_sooner a b c h k = record {
   ];
 }
 
-pub rose_later : (a b c : ℕ) → a ≤ b → Rose b c → Rose a c
+pub rose_later : (a b c : ℕ) → a ≤ b → RoseOrIsSaturated b c → RoseOrIsSaturated a c
 rose_later a b c h k = omega arith
 
 pub cause_later : (a b c : Counts) → CountsOnlyRise a b → HasCause b c → HasCause a c

@@ -2,7 +2,7 @@
 -- "Moments" (the history) and "Misuses, faults and counts".
 use Rattle.std.specs.Prelude.{◌≡◌, ◌⊎◌, List, [], ◌∷◌, Result, OnOk, OnErr}
 use Rattle.base_core.specs.Tree.{TreeState}
-use Rattle.base_core.specs.Faults.{Counts, CountsOnlyRise, HasCause, IsNoFault, next_count}
+use Rattle.base_core.specs.Faults.{Counts, CountsOnlyRise, HasCause, IsNoFault, saturating_increment}
 
 -- A tree's history is the list of its states so far, the newest first. It is observable if it is not
 -- empty. A tree whose states nobody can know, such as one over the host's files, has an empty one.
@@ -41,4 +41,4 @@ pub record IsCounted {T E : Type 0} (can : TreeState → Type 0) (history : List
   pub allowed : OnOk result (IfObservable history can)
   -- exactly the misuses are counted as such
   pub proper : IfObservable history (λ v. can v → now.misuses ≡ before.misuses)
-  pub misuse : IfObservable history (λ v. (can v → ⊥) → now.misuses ≡ next_count before.misuses)
+  pub misuse : IfObservable history (λ v. (can v → ⊥) → now.misuses ≡ saturating_increment before.misuses)

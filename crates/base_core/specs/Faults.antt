@@ -14,12 +14,12 @@ pub record Counts : Type 0 where
   pub fallible : Bool
 
 -- a count after one more event: one more, but never above 2 ^ 64 - 1
-abbrev pub next_count : ℕ → ℕ
-next_count n = min (n + 1) (2 ^ 64 - 1)
+abbrev pub saturating_increment : ℕ → ℕ
+saturating_increment n = min (n + 1) (2 ^ 64 - 1)
 
 -- a count rose, or has its largest value
-abbrev pub Rose : ℕ → ℕ → Type 0
-Rose before now = next_count before ≤ now
+abbrev pub RoseOrIsSaturated : ℕ → ℕ → Type 0
+RoseOrIsSaturated before now = saturating_increment before ≤ now
 
 -- from one moment to a later one no count fell, and a tree or sink that could not fail for another
 -- reason still cannot
@@ -33,10 +33,10 @@ pub record CountsOnlyRise (before now : Counts) : Type 0 where
 -- a failure was counted, and has its reason: an outside fault, a misuse, or the object was out of
 -- memory
 pub record HasCause (before now : Counts) : Type 0 where
-  pub fault : Rose before.faults now.faults
+  pub fault : RoseOrIsSaturated before.faults now.faults
   -- an outside fault, which `fallible` allows, a misuse, or the object was out of memory
-  pub reason : IsTrue before.fallible ⊎ (Rose before.misuses now.misuses
-      ⊎ Rose before.memory_faults now.memory_faults)
+  pub reason : IsTrue before.fallible ⊎ (RoseOrIsSaturated before.misuses now.misuses
+      ⊎ RoseOrIsSaturated before.memory_faults now.memory_faults)
 
 -- between two moments neither a fault nor a lack of memory was counted
 pub record IsNoFault (before now : Counts) : Type 0 where

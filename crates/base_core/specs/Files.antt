@@ -46,7 +46,7 @@ abbrev pub HasNoFileAsFolder : {X : Type 0} → (List ℕ → Option X) → Type
 HasNoFileAsFolder map = (p q : List ℕ) → IsFolderOf p q → IsSome (map p) → IsSome (map q) → ⊥
 
 -- the content of a file: bytes (numbers below 256), fewer than 2 ^ 64
-pub record IsFile (bytes : List ℕ) : Type 0 where
+pub record AreFileBytes (bytes : List ℕ) : Type 0 where
   -- each is a byte
   pub each : All (λ b. b < 256) bytes
   pub few : length bytes < 2 ^ 64
@@ -54,4 +54,4 @@ pub record IsFile (bytes : List ℕ) : Type 0 where
 -- each file is under a name, and has bytes that a file may have
 pub record AreNamedFiles (files : Files) : Type 0 where
   pub named : AreNames files
-  pub each : (q bytes : List ℕ) → files q ≡ Some bytes → IsFile bytes
+  pub each : (q bytes : List ℕ) → files q ≡ Some bytes → AreFileBytes bytes

@@ -3,7 +3,7 @@
 -- counts".
 use Rattle.std.specs.Prelude.{◌≡◌, ◌⊎◌, ◌≢◌, ◌≤◌, ◌<◌, ℕ, ◌+◌, Bool, true, false, if◌then◌else◌, ◌==◌, List, [], ◌∷◌, ◌++◌, Option, Some, None, IsSome, length}
 use Rattle.base_core.specs.Lists.{IsIn}
-use Rattle.base_core.specs.Files.{Files, NameMap, put_name, drop_name, move_name, AreNames, IsFile, HasNoFileAsFolder, HasNamesAmong}
+use Rattle.base_core.specs.Files.{Files, NameMap, put_name, drop_name, move_name, AreNames, AreFileBytes, HasNoFileAsFolder, HasNamesAmong}
 
 -- a file: its bytes as read, and whether a crash keeps exactly these
 pub record File : Type 0 where
@@ -98,9 +98,9 @@ after_remove name v = with_name_removed name v (v.names name)
 abbrev pub after_sync_names : TreeState → TreeState
 after_sync_names v = record v { older = [] }
 
--- the state after a call that failed and changed nothing: the state before it
-abbrev pub after_failed_call : TreeState → TreeState
-after_failed_call v = v
+-- the state after a call that failed and changed nothing: it is the state before the call
+abbrev pub unchanged_after_failed_call : TreeState → TreeState
+unchanged_after_failed_call v = v
 
 -- ---- when a call is no misuse
 
@@ -150,4 +150,4 @@ pub record IsWellFormed (v : TreeState) : Type 0 where
   -- each leads to a file that was made
   pub made : (map : NameMap) → IsCurrentOrOlderMap v map → (q : List ℕ) (n : ℕ) → map q ≡ Some n → n < v.made
   -- each file has fewer than 2 ^ 64 bytes
-  pub bytes : (n : ℕ) → IsFile (v.files n).bytes
+  pub bytes : (n : ℕ) → AreFileBytes (v.files n).bytes

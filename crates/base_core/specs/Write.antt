@@ -2,10 +2,10 @@
 -- bytes, as `write_all` does (its row in the README of this crate).
 use Rattle.std.specs.Prelude.{ℕ, List, Result, OnOk, OnErr}
 use Rattle.base_core.specs.Faults.{FailsWithCause}
-use Rattle.base_core.specs.Sink.{SinkChange, Gets, GetsPrefix}
+use Rattle.base_core.specs.Sink.{SinkBeforeAndAfter, Gets, GetsPrefix}
 
 -- a call has written all these bytes to a sink, or a prefix of them if the sink failed
-pub record Writes {T E : Type 0} (bytes : List ℕ) (sink : SinkChange)
+pub record Writes {T E : Type 0} (bytes : List ℕ) (sink : SinkBeforeAndAfter)
     (result : Result T E) : Type 0 where
   -- all bytes were written
   pub ok : OnOk result (Gets sink bytes)

@@ -3,7 +3,7 @@
 //! misuse, and what is counted ("Misuses, faults and counts").
 ghost use Rattle.std.specs.Prelude.{◌≡◌, ℕ, List, Option, Some, length, take, drop, IfOk, OnOk, IfSome, IsErrOf, All};
 ghost use Rattle.std.specs.Option.{option_map, option_copied};
-ghost use Rattle.base_core.specs.Tree.{TreeState, files_of, after_create, after_append, after_failed_append, after_sync, after_rename, after_remove, after_sync_names, after_failed_call, IsAlwaysAllowed, HasName, CanRead, CanCreate, CanRename, IsWellFormed};
+ghost use Rattle.base_core.specs.Tree.{TreeState, files_of, after_create, after_append, after_failed_append, after_sync, after_rename, after_remove, after_sync_names, unchanged_after_failed_call, IsAlwaysAllowed, HasName, CanRead, CanCreate, CanRename, IsWellFormed};
 ghost use Rattle.base_core.specs.Faults.{Counts, CountsOnlyRise, HasCause, IsNoFault};
 ghost use Rattle.base_core.specs.Calls.{IsCounted, ChangesHistory, IfObservable};
 ghost use Rattle.base_core.specs.Listed.{AreNamesBelow, IsListOf};
@@ -94,8 +94,9 @@ pub trait Tree {
         ensures counts { IsCounted (CanCreate name.now) (history self.old)
             (counts self.old) (counts self.new) result };
 
-    /// Adds a piece at the file's end. The file is unsynced then, and may be unsynced if the call
-    /// fails. An absent name is a misuse, and a fault.
+    /// Adds a piece at the file's end. After the call the file is unsynced; after a failed call it
+    /// may be unsynced. `Disk` reports an I/O error of the tree. An absent name is a misuse, and a
+    /// fault.
     fn append(&mut self, name: &Name, piece: &[u8]) -> Result<(), Disk>
         ensures moves { ChangesHistory (HasName name.now) (after_append name.now piece.now)
             (after_failed_append name.now)
@@ -106,7 +107,7 @@ pub trait Tree {
     /// File fsync: no later crash undoes what was written to the file before this call. An absent
     /// name is a misuse, and a fault.
     fn sync(&mut self, name: &Name) -> Result<(), Disk>
-        ensures moves { ChangesHistory (HasName name.now) (after_sync name.now) after_failed_call
+        ensures moves { ChangesHistory (HasName name.now) (after_sync name.now) unchanged_after_failed_call
             (history self.old) (history self.new) result }
         ensures counts { IsCounted (HasName name.now) (history self.old)
             (counts self.old) (counts self.new) result };
@@ -130,7 +131,7 @@ pub trait Tree {
 
     /// Directory fsync: no later crash undoes a change of names made before this call.
     fn sync_names(&mut self) -> Result<(), Disk>
-        ensures moves { ChangesHistory IsAlwaysAllowed after_sync_names after_failed_call (history
+        ensures moves { ChangesHistory IsAlwaysAllowed after_sync_names unchanged_after_failed_call (history
             self.old)
             (history self.new) result }
         ensures counts { IsCounted IsAlwaysAllowed (history self.old) (counts self.old)

@@ -17,3 +17,4 @@ pub mod CandidateList
 pub mod VersionTexts
 pub mod Matches
 pub mod PackageMatches
+pub mod VersionContracts

@@ -45,6 +45,12 @@ with_place_unless_last ids id = if is_last_place id ids then ids else ids ++ id 
 abbrev pub with_place_if_added : Bool → List ℕ → ℕ → List ℕ
 with_place_if_added added ids id = if added then with_place_unless_last ids id else ids
 
+-- the new table is the old one with a place added to each name that passes the test, unless it is already
+-- the last of the name
+abbrev pub HasPlaceAdded : (List ℕ → Bool) → ℕ → Offered → Offered → Type 0
+HasPlaceAdded is_added id old new = (name : List ℕ)
+    → places_of_name new name ≡ with_place_if_added (is_added name) (places_of_name old name) id
+
 -- the table has for each name its offers: the places of the candidates that offer it
 abbrev pub HasPlacesOfEachName : Offered → List Candidate → Type 0
 HasPlacesOfEachName table candidates =

@@ -2,10 +2,12 @@
 //! share the text of a version, so a long one is compared once for a need. What a dependency
 //! accepts is defined in `docs/selection.md`, "What there is to choose from". Remembering the
 //! results only saves time, as the README of this crate says.
-ghost use Rattle.std.specs.Prelude.{◌≡◌, ℕ, List, IfOk, IfSome, is_some, true};
+ghost use Rattle.std.specs.Prelude.{◌≡◌, ℕ, List, IfSome, is_some, true};
 ghost use Rattle.dep_core.specs.Dependency.{Dependency};
 ghost use Rattle.dep_core.specs.Meets.{dependency, meets};
+ghost use Rattle.candidate_core.specs.Candidates.{entry};
 ghost use Rattle.candidate_core.specs.Matches.{AreRememberedMatchesOf, IsRememberedMatch, dependency_accepts};
+ghost use Rattle.candidate_core.specs.VersionContracts.{AnswersAndRemembers};
 ghost use Rattle.candidate_core.specs.VersionTexts.{HasVersionTextFrom};
 
 use crate::versions::RankedVersion;
@@ -47,10 +49,9 @@ impl KnownMatches {
         dep: &Dep<'_>,
         found: &RankedVersion<'_>,
     ) -> Result<bool, AllocError>
-        ensures { IfOk result (λ answer. (text : ℕ → ℕ → List ℕ) → HasVersionTextFrom text found.now
-            → AreRememberedMatchesOf text (dependency dep.now) self.old
-            → (answer ≡ dependency_accepts (dependency dep.now) found.now.version)
-            × AreRememberedMatchesOf text (dependency dep.now) self.new) }
+        ensures { AnswersAndRemembers (λ text. HasVersionTextFrom text found.now)
+            (entry (dependency dep.now)) (dependency_accepts (dependency dep.now) found.now.version)
+            self.old self.new result }
     {
         if !is_long(&found.version) {
             return Ok(is_version_wanted(dep, found));
@@ -87,10 +88,9 @@ impl KnownMatches {
     // Whether a version is wanted, of which that is not known; it is then.
     fn answer(&mut self, dep: &Dep<'_>, found: &RankedVersion<'_>) -> Result<bool, AllocError>
         requires { is_some found.now.version ≡ true }
-        ensures { IfOk result (λ answer. (text : ℕ → ℕ → List ℕ) → HasVersionTextFrom text found.now
-            → AreRememberedMatchesOf text (dependency dep.now) self.old
-            → (answer ≡ dependency_accepts (dependency dep.now) found.now.version)
-            × AreRememberedMatchesOf text (dependency dep.now) self.new) }
+        ensures { AnswersAndRemembers (λ text. HasVersionTextFrom text found.now)
+            (entry (dependency dep.now)) (dependency_accepts (dependency dep.now) found.now.version)
+            self.old self.new result }
     {
         let answer = is_version_wanted(dep, found);
         self.answers.insert((found.source, found.word), answer)?;

@@ -10,7 +10,7 @@ ghost use Rattle.indexmap.specs.IndexMap.{insert_entry};
 ghost use Rattle.dep_core.specs.Dependency.{Dependency};
 ghost use Rattle.dep_core.specs.Meets.{dependency};
 ghost use Rattle.candidate_core.specs.Candidates.{offers_name};
-ghost use Rattle.candidate_core.specs.Table.{first_entry_under_name, places_of_name, is_last_place, with_place_unless_last, with_place_if_added};
+ghost use Rattle.candidate_core.specs.Table.{HasPlaceAdded, first_entry_under_name, places_of_name, is_last_place, with_place_unless_last};
 
 use crate::candidate::{CandId, Details};
 use crate::dependencies::Deps;
@@ -74,8 +74,8 @@ impl<'a> Table<'a> {
 
     /// Adds a candidate to each name that it offers.
     pub(crate) fn add_all(&mut self, details: &Details<'a>, id: CandId) -> Result<(), AllocError>
-        ensures { OnOk result ((name : List ℕ) → places_of_name self.new name
-            ≡ with_place_if_added (offers_name name details.now) (places_of_name self.old name) id) }
+        ensures { OnOk result (HasPlaceAdded (λ name. offers_name name details.now) id
+            self.old self.new) }
     {
         self.add(details.name(), id)?;
         self.add_provided(&details.provides(), id)?;
@@ -84,10 +84,9 @@ impl<'a> Table<'a> {
 
     // Adds a candidate to the name of each entry of its provides.
     fn add_provided(&mut self, provides: &Deps<'a>, id: CandId) -> Result<(), AllocError>
-        ensures { OnOk result ((name : List ℕ) → places_of_name self.new name
-            ≡ with_place_if_added (list_any
-            (λ (p : Dependency). not p.conflict && bytes_eq name p.name)
-            provides.now) (places_of_name self.old name) id) }
+        ensures { OnOk result (HasPlaceAdded (λ name. list_any
+            (λ (p : Dependency). not p.conflict && bytes_eq name p.name) provides.now) id
+            self.old self.new) }
     {
         for i in 0..provides.len() {
             self.add_entry(&provides.get(i), id)?;
@@ -97,9 +96,8 @@ impl<'a> Table<'a> {
 
     // Adds a candidate to the name of an entry of its provides, unless the entry is a conflict.
     fn add_entry(&mut self, entry: &Dep<'a>, id: CandId) -> Result<(), AllocError>
-        ensures { OnOk result ((name : List ℕ) → places_of_name self.new name
-            ≡ with_place_if_added (not (dependency entry.now).conflict
-            && bytes_eq name (dependency entry.now).name) (places_of_name self.old name) id) }
+        ensures { OnOk result (HasPlaceAdded (λ name. not (dependency entry.now).conflict
+            && bytes_eq name (dependency entry.now).name) id self.old self.new) }
     {
         if entry.conflict {
             return Ok(());
@@ -111,8 +109,8 @@ impl<'a> Table<'a> {
     // Adds a candidate to those of a name, unless it is already the last of them: a candidate may
     // provide a name twice, or its own.
     fn add(&mut self, name: &'a [u8], id: CandId) -> Result<(), AllocError>
-        ensures { OnOk result ((other : List ℕ) → places_of_name self.new other
-            ≡ with_place_if_added (bytes_eq other name.entry.now) (places_of_name self.old other) id) }
+        ensures { OnOk result (HasPlaceAdded (λ other. bytes_eq other name.entry.now) id
+            self.old self.new) }
     {
         match self.lists.get_mut(name) {
             Some(ids) => push_once(ids, id),
@@ -123,8 +121,8 @@ impl<'a> Table<'a> {
     // Adds a candidate to those of a name that has no list: it has one candidate at most.
     fn add_to_single(&mut self, name: &'a [u8], id: CandId) -> Result<(), AllocError>
         requires { first_entry_under_name self.old.lists name.now ≡ None }
-        ensures { OnOk result ((other : List ℕ) → places_of_name self.new other
-            ≡ with_place_if_added (bytes_eq other name.entry.now) (places_of_name self.old other) id) }
+        ensures { OnOk result (HasPlaceAdded (λ other. bytes_eq other name.entry.now) id
+            self.old self.new) }
     {
         match self.singles.get(name).copied() {
             Some(first) => self.add_second(name, first, id),
@@ -136,8 +134,8 @@ impl<'a> Table<'a> {
     fn add_second(&mut self, name: &'a [u8], first: CandId, id: CandId) -> Result<(), AllocError>
         requires list { first_entry_under_name self.old.lists name.now ≡ None }
         requires single { first_entry_under_name self.old.singles name.now ≡ Some (first ∷ []) }
-        ensures { OnOk result ((other : List ℕ) → places_of_name self.new other
-            ≡ with_place_if_added (bytes_eq other name.entry.now) (places_of_name self.old other) id) }
+        ensures { OnOk result (HasPlaceAdded (λ other. bytes_eq other name.entry.now) id
+            self.old self.new) }
     {
         if first == id {
             return Ok(());

@@ -1,21 +1,19 @@
 //! The versions by which options are ranked: the version of each, and the place of its text, by
 //! which a text that many packages share is recognized. The rule is in `docs/selection.md`, "Which
 //! selection is taken", the last paragraph (the version of key 5) and key 8.
-ghost use Rattle.std.specs.Prelude.{◌≡◌, ◌<◌, ℕ, List, true, IfOk, IfSome, length, option_copied, option_to_list, slice_get, Some};
+ghost use Rattle.std.specs.Prelude.{◌≡◌, ℕ, List, IfSome, option_to_list, slice_get, Some};
 ghost use Rattle.std.specs.Option.{option_and_then, option_map};
 ghost use Rattle.std.specs.List.{find, list_any};
 ghost use Rattle.std.specs.Str.{bytes_eq};
-ghost use Rattle.adb_schema.specs.SoundValues.{IsSoundDependency};
-ghost use Rattle.adb_view.specs.Values.{entry_in, is_sound, text_in, value_at};
-ghost use Rattle.adb_view.specs.declared.tables.Kind.TheVariants as Kinds;
-ghost use Rattle.adb_view.specs.declared.tables.Which.TheVariants as Tables;
-ghost use Rattle.adb_view.specs.Adb.{payload_of};
+ghost use Rattle.adb_view.specs.Values.{entry_in, text_in};
 ghost use Rattle.dep_core.specs.Dependency.{Dependency};
 ghost use Rattle.dep_core.specs.Meets.{dependency};
-ghost use Rattle.candidate_core.specs.Candidates.{candidate_of, dependencies_in, dependency_in, entry, is_met_by_entry, meets_by_own_name, meets_dependency, meets_need, version_of_text, version_meeting_need};
-ghost use Rattle.candidate_core.specs.Matches.{AreMatchesFor, AreMatchesIn, AreRememberedMatchesOf, GivesTextsOfSource};
+ghost use Rattle.candidate_core.specs.Candidates.{dependencies_in, dependency_in, entry, is_met_by_entry, meets_by_own_name, meets_dependency, meets_need, version_of_text, version_meeting_need};
+ghost use Rattle.candidate_core.specs.Matches.{AreMatchesIn, GivesTextsOfSource};
 ghost use Rattle.candidate_core.specs.PackageWords.{IsPackageWordOf, info_in_source};
+ghost use Rattle.candidate_core.specs.Packages.{candidate_in_source};
 ghost use Rattle.candidate_core.specs.Values.{need_of_ref};
+ghost use Rattle.candidate_core.specs.VersionContracts.{AnswersAndRemembers, IsDependencyWordOf, IsEntryWordOf, IsVersionReadFrom, entry_in_source};
 
 use crate::candidate::Details;
 use crate::dependencies::{read_if_sound, read_sound};
@@ -64,11 +62,8 @@ pub enum VersionKind {
 /// among the fields of a package's information (`PACKAGE_VERSION`).
 pub(crate) fn own_version<'a>(source: &Source<'a>, kept: PackageWord) -> RankedVersion<'a>
     requires { IsPackageWordOf source.now kept.word }
-    ensures version { result.version ≡ version_of_text
-        (text_in (entry_in (info_in_source source.now kept.word) 1)) }
-    ensures source { result.source ≡ kept.source }
-    ensures text { IfSome result.version (λ version. version
-        ≡ text_in (value_at (payload_of source.now.adb) Kinds.Text result.word)) }
+    ensures { IsVersionReadFrom source.now kept.source (version_of_text
+        (text_in (entry_in (info_in_source source.now kept.word) 1))) result }
 {
     let word = Val::of(kept.word);
     RankedVersion {
@@ -89,12 +84,8 @@ pub(crate) fn version_meeting_need<'a>(
 ) -> RankedVersion<'a>
     requires package { IsPackageWordOf source.now kept.word }
     requires known { AreMatchesIn source.now kept.source (need_of_ref need.now) known.now }
-    ensures version { result.version ≡ version_meeting_need (need_of_ref need.now)
-        (candidate_of (info_in_source source.now kept.word) source.now.repo
-        (option_copied source.now.tag) kept.installed) }
-    ensures source { result.source ≡ kept.source }
-    ensures text { IfSome result.version (λ version. version
-        ≡ text_in (value_at (payload_of source.now.adb) Kinds.Text result.word)) }
+    ensures { IsVersionReadFrom source.now kept.source (version_meeting_need (need_of_ref need.now)
+        (candidate_in_source (Some source.now) kept.word kept.installed)) result }
 {
     match need {
         NeedRef::Named(_) => own_version(source, kept),
@@ -111,12 +102,9 @@ fn version_meeting<'a>(
 ) -> RankedVersion<'a>
     requires package { IsPackageWordOf source.now kept.word }
     requires known { AreMatchesIn source.now kept.source (entry (dependency dep.now)) known.now }
-    ensures version { result.version ≡ version_meeting_need (entry (dependency dep.now))
-        (candidate_of (info_in_source source.now kept.word) source.now.repo
-        (option_copied source.now.tag) kept.installed) }
-    ensures source { result.source ≡ kept.source }
-    ensures text { IfSome result.version (λ version. version
-        ≡ text_in (value_at (payload_of source.now.adb) Kinds.Text result.word)) }
+    ensures { IsVersionReadFrom source.now kept.source
+        (version_meeting_need (entry (dependency dep.now))
+        (candidate_in_source (Some source.now) kept.word kept.installed)) result }
 {
     if meets_by_own_name_as_known(source, kept, dep, known) {
         return own_version(source, kept);
@@ -134,8 +122,7 @@ fn meets_by_own_name_as_known(
     requires package { IsPackageWordOf source.now kept.word }
     requires known { AreMatchesIn source.now kept.source (entry (dependency dep.now)) known.now }
     ensures { result ≡ meets_by_own_name (dependency dep.now)
-        (candidate_of (info_in_source source.now kept.word) source.now.repo
-        (option_copied source.now.tag) kept.installed) }
+        (candidate_in_source (Some source.now) kept.word kept.installed) }
 {
     let details = Details::of(source, Val::of(kept.word), kept.installed);
     if !is_named_as(dep, details.name()) {
@@ -154,12 +141,9 @@ fn provided_version<'a>(
 ) -> RankedVersion<'a>
     requires package { IsPackageWordOf source.now kept.word }
     requires known { AreMatchesIn source.now kept.source (entry (dependency dep.now)) known.now }
-    ensures version { result.version ≡ option_and_then (λ (p : Dependency). p.version)
+    ensures { IsVersionReadFrom source.now kept.source (option_and_then (λ (p : Dependency). p.version)
         (find (is_met_by_entry (dependency dep.now))
-        (dependencies_in (entry_in (info_in_source source.now kept.word) 15))) }
-    ensures source { result.source ≡ kept.source }
-    ensures text { IfSome result.version (λ version. version
-        ≡ text_in (value_at (payload_of source.now.adb) Kinds.Text result.word)) }
+        (dependencies_in (entry_in (info_in_source source.now kept.word) 15)))) result }
 {
     let word = Val::of(kept.word);
     let entries = objects_field(source.adb, Which::PkgInfo, word, PROVIDES, Which::Dep);
@@ -190,9 +174,7 @@ fn is_met_as_known<'a>(
     dep: &Dep<'_>,
     known: &KnownMatches,
 ) -> bool
-    requires sound { is_sound (payload_of source.now.adb) (Kinds.Obj Tables.Dep) word ≡ true }
-    requires found { Some (dependency found.now)
-        ≡ dependency_in (value_at (payload_of source.now.adb) (Kinds.Obj Tables.Dep) word) }
+    requires entry { IsDependencyWordOf source.now word (dependency found.now) }
     requires known { AreMatchesIn source.now place (entry (dependency dep.now)) known.now }
     ensures { result ≡ is_met_by_entry (dependency dep.now) (dependency found.now) }
 {
@@ -213,13 +195,8 @@ fn version_of_entry<'a>(
     entry: Val,
     found: &Dep<'a>,
 ) -> RankedVersion<'a>
-    requires sound { is_sound (payload_of source.now.adb) (Kinds.Obj Tables.Dep) entry ≡ true }
-    requires found { Some (dependency found.now)
-        ≡ dependency_in (value_at (payload_of source.now.adb) (Kinds.Obj Tables.Dep) entry) }
-    ensures version { result.version ≡ (dependency found.now).version }
-    ensures source { result.source ≡ place }
-    ensures text { IfSome result.version (λ version. version
-        ≡ text_in (value_at (payload_of source.now.adb) Kinds.Text result.word)) }
+    requires { IsDependencyWordOf source.now entry (dependency found.now) }
+    ensures { IsVersionReadFrom source.now place (dependency found.now).version result }
 {
     let word = if found.version.is_some() {
         field_word(source.adb, Which::Dep, entry, VERSION).word()
@@ -278,11 +255,8 @@ pub fn same_version<'a>(version: &Option<Version<'a>>) -> Option<Version<'a>>
 // The dependency of an entry of a list, if it is one; if the source's texts obey their rules, each
 // entry is.
 fn read_entry<'a>(source: &Source<'a>, entry: Val) -> Option<Dep<'a>>
-    requires sound { is_sound (payload_of source.now.adb) (Kinds.Obj Tables.Dep) entry ≡ true }
-    requires texts { source.now.has_sound_texts ≡ true → IsSoundDependency
-        (value_at (payload_of source.now.adb) (Kinds.Obj Tables.Dep) entry) }
-    ensures { option_map dependency result
-        ≡ dependency_in (value_at (payload_of source.now.adb) (Kinds.Obj Tables.Dep) entry) }
+    requires { IsEntryWordOf source.now entry }
+    ensures { option_map dependency result ≡ dependency_in (entry_in_source source.now entry) }
 {
     let view = DepView::of(source.adb, entry);
     if source.has_sound_texts {
@@ -299,12 +273,9 @@ pub(crate) fn meets_need(
     known: &mut KnownMatches,
 ) -> Result<bool, AllocError>
     requires { IsPackageWordOf source.now kept.word }
-    ensures { IfOk result (λ meets. (text : ℕ → ℕ → List ℕ) → GivesTextsOfSource source.now kept.source text
-        → AreMatchesFor text (need_of_ref need.now) known.old
-        → (meets ≡ meets_need (need_of_ref need.now)
-        (candidate_of (info_in_source source.now kept.word) source.now.repo
-        (option_copied source.now.tag) kept.installed))
-        × AreMatchesFor text (need_of_ref need.now) known.new) }
+    ensures { AnswersAndRemembers (GivesTextsOfSource source.now kept.source) (need_of_ref need.now)
+        (meets_need (need_of_ref need.now)
+        (candidate_in_source (Some source.now) kept.word kept.installed)) known.old known.new result }
 {
     match need {
         NeedRef::Named(name) => {
@@ -323,12 +294,10 @@ fn meets(
     known: &mut KnownMatches,
 ) -> Result<bool, AllocError>
     requires { IsPackageWordOf source.now kept.word }
-    ensures { IfOk result (λ meets. (text : ℕ → ℕ → List ℕ) → GivesTextsOfSource source.now kept.source text
-        → AreRememberedMatchesOf text (dependency dep.now) known.old
-        → (meets ≡ meets_dependency (dependency dep.now)
-        (candidate_of (info_in_source source.now kept.word) source.now.repo
-        (option_copied source.now.tag) kept.installed))
-        × AreRememberedMatchesOf text (dependency dep.now) known.new) }
+    ensures { AnswersAndRemembers (GivesTextsOfSource source.now kept.source)
+        (entry (dependency dep.now)) (meets_dependency (dependency dep.now)
+        (candidate_in_source (Some source.now) kept.word kept.installed))
+        known.old known.new result }
 {
     let by_own = own_version_meets(source, kept, dep, known)?;
     if by_own {
@@ -345,12 +314,10 @@ fn own_version_meets(
     known: &mut KnownMatches,
 ) -> Result<bool, AllocError>
     requires { IsPackageWordOf source.now kept.word }
-    ensures { IfOk result (λ meets. (text : ℕ → ℕ → List ℕ) → GivesTextsOfSource source.now kept.source text
-        → AreRememberedMatchesOf text (dependency dep.now) known.old
-        → (meets ≡ meets_by_own_name (dependency dep.now)
-        (candidate_of (info_in_source source.now kept.word) source.now.repo
-        (option_copied source.now.tag) kept.installed))
-        × AreRememberedMatchesOf text (dependency dep.now) known.new) }
+    ensures { AnswersAndRemembers (GivesTextsOfSource source.now kept.source)
+        (entry (dependency dep.now)) (meets_by_own_name (dependency dep.now)
+        (candidate_in_source (Some source.now) kept.word kept.installed))
+        known.old known.new result }
 {
     let details = Details::of(source, Val::of(kept.word), kept.installed);
     if !is_named_as(dep, details.name()) {
@@ -367,11 +334,10 @@ fn any_entry_meets(
     known: &mut KnownMatches,
 ) -> Result<bool, AllocError>
     requires { IsPackageWordOf source.now kept.word }
-    ensures { IfOk result (λ meets. (text : ℕ → ℕ → List ℕ) → GivesTextsOfSource source.now kept.source text
-        → AreRememberedMatchesOf text (dependency dep.now) known.old
-        → (meets ≡ list_any (is_met_by_entry (dependency dep.now))
+    ensures { AnswersAndRemembers (GivesTextsOfSource source.now kept.source)
+        (entry (dependency dep.now)) (list_any (is_met_by_entry (dependency dep.now))
         (dependencies_in (entry_in (info_in_source source.now kept.word) 15)))
-        × AreRememberedMatchesOf text (dependency dep.now) known.new) }
+        known.old known.new result }
 {
     let word = Val::of(kept.word);
     let entries = objects_field(source.adb, Which::PkgInfo, word, PROVIDES, Which::Dep);
@@ -389,21 +355,18 @@ fn any_entry_meets(
 fn entry_meets<'a>(
     source: &Source<'a>,
     place: u32,
-    entry: Val,
+    word: Val,
     dep: &Dep<'_>,
     known: &mut KnownMatches,
 ) -> Result<bool, AllocError>
-    requires sound { is_sound (payload_of source.now.adb) (Kinds.Obj Tables.Dep) entry ≡ true }
-    requires texts { source.now.has_sound_texts ≡ true → IsSoundDependency
-        (value_at (payload_of source.now.adb) (Kinds.Obj Tables.Dep) entry) }
-    ensures { IfOk result (λ meets. (text : ℕ → ℕ → List ℕ) → GivesTextsOfSource source.now place text
-        → AreRememberedMatchesOf text (dependency dep.now) known.old
-        → (meets ≡ list_any (is_met_by_entry (dependency dep.now)) (option_to_list (dependency_in
-        (value_at (payload_of source.now.adb) (Kinds.Obj Tables.Dep) entry))))
-        × AreRememberedMatchesOf text (dependency dep.now) known.new) }
+    requires { IsEntryWordOf source.now word }
+    ensures { AnswersAndRemembers (GivesTextsOfSource source.now place)
+        (entry (dependency dep.now)) (list_any (is_met_by_entry (dependency dep.now))
+        (option_to_list (dependency_in (entry_in_source source.now word))))
+        known.old known.new result }
 {
-    match read_entry(source, entry) {
-        Some(found) => found_entry_meets(source, place, entry, found, dep, known),
+    match read_entry(source, word) {
+        Some(found) => found_entry_meets(source, place, word, found, dep, known),
         None => Ok(false),
     }
 }
@@ -412,18 +375,15 @@ fn entry_meets<'a>(
 fn found_entry_meets<'a>(
     source: &Source<'a>,
     place: u32,
-    entry: Val,
+    word: Val,
     found: Dep<'a>,
     dep: &Dep<'_>,
     known: &mut KnownMatches,
 ) -> Result<bool, AllocError>
-    requires sound { is_sound (payload_of source.now.adb) (Kinds.Obj Tables.Dep) entry ≡ true }
-    requires found { Some (dependency found)
-        ≡ dependency_in (value_at (payload_of source.now.adb) (Kinds.Obj Tables.Dep) entry) }
-    ensures { IfOk result (λ meets. (text : ℕ → ℕ → List ℕ) → GivesTextsOfSource source.now place text
-        → AreRememberedMatchesOf text (dependency dep.now) known.old
-        → (meets ≡ is_met_by_entry (dependency dep.now) (dependency found.entry))
-        × AreRememberedMatchesOf text (dependency dep.now) known.new) }
+    requires { IsDependencyWordOf source.now word (dependency found) }
+    ensures { AnswersAndRemembers (GivesTextsOfSource source.now place)
+        (entry (dependency dep.now)) (is_met_by_entry (dependency dep.now) (dependency found.entry))
+        known.old known.new result }
 {
     if found.conflict {
         return Ok(false);
@@ -431,7 +391,7 @@ fn found_entry_meets<'a>(
     if !is_named_as(dep, found.name) {
         return Ok(false);
     }
-    known.constraint_accepts(dep, &version_of_entry(source, place, entry, &found))
+    known.constraint_accepts(dep, &version_of_entry(source, place, word, &found))
 }
 
 // Whether a dependency is one on this name.

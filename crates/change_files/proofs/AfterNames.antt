@@ -10,7 +10,7 @@ use Rattle.base_core.proofs.AtName.{is_name}
 use Rattle.file_owners.specs.db_core.Members.{Listing}
 use Rattle.path_clashes.specs.Clash.{is_name_after}
 use Rattle.change_files.specs.FileChange.{FileChange, is_claimed, old_entry, was_listed}
-use Rattle.change_files.specs.FilesAfter.{RootFilesAfter, bytes_after, changed_files, database_name, is_modified_file_kept, is_removed, is_written, apk_new_listing_at, is_modified_config_to_keep, path_of_apk_new_name, text_database_name, world_bytes_after, world_name, listing_written_under_name}
+use Rattle.change_files.specs.FilesAfter.{DatabaseAndWorldAfter, bytes_after, changed_files, database_name, is_modified_file_kept, is_removed, is_written, apk_new_listing_at, is_modified_config_to_keep, path_of_apk_new_name, text_database_name, world_bytes_after, world_name, listing_written_under_name}
 use Rattle.change_files.specs.NamesAfter.{added_paths, is_released, counts_as_written, name_change}
 use Rattle.change_files.specs.Touched.{is_record_name}
 use Rattle.change_files.proofs.Lists.{any_name}
@@ -84,7 +84,7 @@ by_written change bytes_of files name there = by_listing (listing_written_under_
 -- ---- all of them
 
 -- a text database that was taken over is absent
-text_gone : (change : FileChange) (bytes_of : Listing → List ℕ) (records : RootFilesAfter) (files : Files) (name : List ℕ) → bytes_eq name database_name ≡ false → bytes_eq name world_name ≡ false
+text_gone : (change : FileChange) (bytes_of : Listing → List ℕ) (records : DatabaseAndWorldAfter) (files : Files) (name : List ℕ) → bytes_eq name database_name ≡ false → bytes_eq name world_name ≡ false
     → (records.takes_text_over && bytes_eq name text_database_name) ≡ true → changed_files change bytes_of records files name ≡ None
 unfolding changed_files
 text_gone change bytes_of records files name database world text =
@@ -93,7 +93,7 @@ text_gone change bytes_of records files name database world text =
     ∙ (ap (λ (b : Bool). if b then world_bytes_after records.world (files name) else (if records.takes_text_over && bytes_eq name text_database_name then None else after)) world
     ∙ ap (λ (b : Bool). if b then None else after) text)
 
-pub names_after : (change : FileChange) (bytes_of : Listing → List ℕ) (records : RootFilesAfter) (files : Files) (name : List ℕ) → is_some (changed_files change bytes_of records files name) ≡ true
+pub names_after : (change : FileChange) (bytes_of : Listing → List ℕ) (records : DatabaseAndWorldAfter) (files : Files) (name : List ℕ) → is_some (changed_files change bytes_of records files name) ≡ true
     → is_name_after (name_change change files) files name ≡ true
 names_after change bytes_of records files name there = by_database (bytes_eq name database_name) refl
   where
@@ -128,7 +128,7 @@ unfolding is_released is_modified_file_kept is_removed
 removed_let_go change files name removed =
     let_go_by (was_listed change name) (is_claimed change name) (is_written change files name) (is_modified_config_to_keep change name (files name) (old_entry change name)) removed
 
-pub name_stands : (change : FileChange) (bytes_of : Listing → List ℕ) (records : RootFilesAfter) (files : Files) (name : List ℕ) → is_some (files name) ≡ true → is_released change files name ≡ false → is_record_name records name ≡ false
+pub name_stands : (change : FileChange) (bytes_of : Listing → List ℕ) (records : DatabaseAndWorldAfter) (files : Files) (name : List ℕ) → is_some (files name) ≡ true → is_released change files name ≡ false → is_record_name records name ≡ false
     → is_some (changed_files change bytes_of records files name) ≡ true
 name_stands change bytes_of records files name there stays other = ap is_some (changed_so change bytes_of records files name other) ∙ by_listing (listing_written_under_name change files name)
   where
@@ -139,7 +139,7 @@ name_stands change bytes_of records files name there stays other = ap is_some (c
     by_listing (Some l) = refl
     by_listing None = ap (λ (b : Bool). is_some (bytes_after bytes_of None b (files name))) unremoved ∙ there
 
-pub name_goes : (change : FileChange) (bytes_of : Listing → List ℕ) (records : RootFilesAfter) (files : Files) (name : List ℕ) → is_released change files name ≡ true → is_written change files name ≡ false → is_record_name records name ≡ false
+pub name_goes : (change : FileChange) (bytes_of : Listing → List ℕ) (records : DatabaseAndWorldAfter) (files : Files) (name : List ℕ) → is_released change files name ≡ true → is_written change files name ≡ false → is_record_name records name ≡ false
     → changed_files change bytes_of records files name ≡ None
 name_goes change bytes_of records files name goes unwritten other =
     is_gone change bytes_of records files name (let_go_removed change files name goes unwritten) other

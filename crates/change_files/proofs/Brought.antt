@@ -11,7 +11,7 @@ use Rattle.path_clashes.specs.adb_fields.Repeated.{files_in, folders_in, name_of
 use Rattle.file_guard.specs.adb_schema.Rules.{is_digest_length}
 use Rattle.file_guard.specs.adb_schema.Texts.{is_with_contents}
 use Rattle.file_guard.specs.pkg_core.Contents.{Contents, Expected, bytes_or_none, expected_contents, expected_files, expected_folders, is_contents_of_file}
-use Rattle.file_guard.specs.pkg_core.GoodContents.{AreContentsOf, HaveDigests, IsContentsOf}
+use Rattle.file_guard.specs.pkg_core.GoodContents.{AreContentsOf, HaveValidDigestLengths, IsContentsOf}
 use Rattle.file_owners.specs.db_core.Members.{Listing, Member, listings_of_member, listings_of_members_from, listings_in_folder, listings_in_folders, member_listings}
 use Rattle.file_guard.specs.AsListed.{file_hash, file_size, file_target, has_target, is_as_listed, link_bytes, link_bytes_to}
 use Rattle.file_guard.proofs.Told.{told_hash, told_link}
@@ -194,7 +194,7 @@ no_contents folder file (x ∷ es) (c ∷ cs) are none = by_test (is_at folder f
     by_test true t none f = absurd (cc)
     by_test false t none f = ap (λ (b : Bool). cond b (Some c) (find (is_contents_of_file folder file) cs)) t ∙ f none
 
-digest_found : (p : Expected → Bool) (es : List Expected) (e : Expected) → find p es ≡ Some e → HaveDigests es → is_digest_length (length e.hash) ≡ true
+digest_found : (p : Expected → Bool) (es : List Expected) (e : Expected) → find p es ≡ Some e → HaveValidDigestLengths es → is_digest_length (length e.hash) ≡ true
 digest_found p [] e found have = absurd (cc)
 digest_found p (x ∷ es) e found have = by_test (p x) found (λ more. digest_found p es e more have.1)
   where
@@ -222,7 +222,7 @@ bytes_found contents l found target is =
     ap (λ (b : Bool). if b then link_bytes l.entry else bytes_or_none (find (is_contents_of_file l.folder l.file) (contents l.place))) target ∙ ap bytes_or_none is
 
 as_contents : (contents : ℕ → List Contents) (l : Listing) → find (is_at l.folder l.file) (expected_contents l.member.pkg) ≡ Some (expected_of l.folder l.file l.entry)
-    → HaveDigests (expected_contents l.member.pkg) → AreContentsOf (expected_contents l.member.pkg) (contents l.place) → has_target l.entry ≡ false → is_as_listed l.entry (listing_bytes contents l) ≡ true
+    → HaveValidDigestLengths (expected_contents l.member.pkg) → AreContentsOf (expected_contents l.member.pkg) (contents l.place) → has_target l.entry ≡ false → is_as_listed l.entry (listing_bytes contents l) ≡ true
 as_contents contents l expected have are target =
     let (c, at, is) = found_contents l.folder l.file (expected_contents l.member.pkg) (contents l.place) are (expected_of l.folder l.file l.entry) expected in
     let digest = digest_found (is_at l.folder l.file) (expected_contents l.member.pkg) (expected_of l.folder l.file l.entry) expected have in
@@ -230,7 +230,7 @@ as_contents contents l expected have are target =
     ∙ (told_hash (file_size l.entry) (file_hash l.entry) (file_target l.entry) c.bytes (not-false (length (file_target l.entry) == 0) target) (has_digest (length (file_hash l.entry)) digest)
     ∙ ap is_none is.hash)
 
-pub brought_as_listed : (contents : ℕ → List Contents) (members : List Member) (l : Listing) → Contains (member_listings members) l → HaveDigests (expected_contents l.member.pkg)
+pub brought_as_listed : (contents : ℕ → List Contents) (members : List Member) (l : Listing) → Contains (member_listings members) l → HaveValidDigestLengths (expected_contents l.member.pkg)
     → AreContentsOf (expected_contents l.member.pkg) (contents l.place) → (is_with_contents l.entry ≡ false → has_target l.entry ≡ false → is_as_listed l.entry [] ≡ true)
     → is_as_listed l.entry (listing_bytes contents l) ≡ true
 brought_as_listed contents members l here have are empty = by_target (has_target l.entry) refl

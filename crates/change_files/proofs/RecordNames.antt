@@ -5,9 +5,9 @@ use Rattle.std.specs.Str.{bytes_eq}
 use Rattle.base_core.specs.Files.{Files}
 use Rattle.file_owners.specs.db_core.Members.{Listing}
 use Rattle.change_files.specs.FileChange.{FileChange}
-use Rattle.change_files.specs.FilesAfter.{RootFilesAfter, bytes_after, changed_files, database_name, is_removed, text_database_name, world_bytes_after, world_name, listing_written_under_name}
+use Rattle.change_files.specs.FilesAfter.{DatabaseAndWorldAfter, bytes_after, changed_files, database_name, is_removed, text_database_name, world_bytes_after, world_name, listing_written_under_name}
 
-pub database_after : (change : FileChange) (bytes_of : Listing → List ℕ) (records : RootFilesAfter) (files : Files) → changed_files change bytes_of records files database_name ≡ Some records.database
+pub database_after : (change : FileChange) (bytes_of : Listing → List ℕ) (records : DatabaseAndWorldAfter) (files : Files) → changed_files change bytes_of records files database_name ≡ Some records.database
 unfolding changed_files
 database_after change bytes_of records files = refl
 
@@ -17,18 +17,18 @@ world_written [] None (inr there) = absurd (true≢false (sym there))
 world_written [] (Some old) h = refl
 world_written (b ∷ world) old h = refl
 
-pub world_after : (change : FileChange) (bytes_of : Listing → List ℕ) (records : RootFilesAfter) (files : Files) → (records.world ≢ []) ⊎ IsSome (files world_name)
+pub world_after : (change : FileChange) (bytes_of : Listing → List ℕ) (records : DatabaseAndWorldAfter) (files : Files) → (records.world ≢ []) ⊎ IsSome (files world_name)
     → changed_files change bytes_of records files world_name ≡ Some records.world
 unfolding changed_files
 world_after change bytes_of records files h = world_written records.world (files world_name) h
 
-pub no_world_after : (change : FileChange) (bytes_of : Listing → List ℕ) (records : RootFilesAfter) (files : Files) → records.world ≡ [] → files world_name ≡ None
+pub no_world_after : (change : FileChange) (bytes_of : Listing → List ℕ) (records : DatabaseAndWorldAfter) (files : Files) → records.world ≡ [] → files world_name ≡ None
     → changed_files change bytes_of records files world_name ≡ None
 unfolding changed_files
 no_world_after change bytes_of records files empty none =
     ap (λ (world : List ℕ). world_bytes_after world (files world_name)) empty ∙ ap (world_bytes_after []) none
 
-pub no_text_after : (change : FileChange) (bytes_of : Listing → List ℕ) (records : RootFilesAfter) (files : Files) → records.takes_text_over ≡ true
+pub no_text_after : (change : FileChange) (bytes_of : Listing → List ℕ) (records : DatabaseAndWorldAfter) (files : Files) → records.takes_text_over ≡ true
     → changed_files change bytes_of records files text_database_name ≡ None
 unfolding changed_files
 no_text_after change bytes_of records files taken =

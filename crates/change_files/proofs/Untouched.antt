@@ -9,7 +9,7 @@ use Rattle.file_owners.specs.db_core.Members.{Listing, is_added}
 use Rattle.file_guard.specs.AsListed.{is_as_listed}
 use Rattle.change_files.specs.Fate.{agrees_with_old_entry, apk_new_name, fate_of_protected_file, fate_with_file_found, fate_of, gives_way, goes_aside, goes_in, is_as_old_entry_lists, is_protected_path}
 use Rattle.change_files.specs.FileChange.{FileChange, added_owner_listing, is_claimed, old_entry, owner_listing, was_listed}
-use Rattle.change_files.specs.FilesAfter.{RootFilesAfter, bytes_after, changed_files, database_name, if_written_in_place, is_modified_from_entry, is_modified_file_kept, is_no_longer_listed, is_removed, is_written, apk_new_listing_at, is_modified_config_to_keep, path_of_apk_new_name, text_database_name, world_bytes_after, world_name, listing_written_under_name, listing_written_in_place}
+use Rattle.change_files.specs.FilesAfter.{DatabaseAndWorldAfter, bytes_after, changed_files, database_name, if_written_in_place, is_modified_from_entry, is_modified_file_kept, is_no_longer_listed, is_removed, is_written, apk_new_listing_at, is_modified_config_to_keep, path_of_apk_new_name, text_database_name, world_bytes_after, world_name, listing_written_under_name, listing_written_in_place}
 use Rattle.change_files.specs.NamesAfter.{added_paths}
 use Rattle.change_files.specs.Touched.{IsModifiedConfigFile, is_apk_new_name, is_added_path, is_record_name}
 use Rattle.change_files.proofs.Lists.{any_name}
@@ -17,7 +17,7 @@ use Rattle.change_files.proofs.OwnedFiles.{beside_is, claimed_by_owner, coming_i
 
 -- ---- the bytes under a name
 
-pub changed_so : (change : FileChange) (bytes_of : Listing → List ℕ) (records : RootFilesAfter) (files : Files) (name : List ℕ) → is_record_name records name ≡ false
+pub changed_so : (change : FileChange) (bytes_of : Listing → List ℕ) (records : DatabaseAndWorldAfter) (files : Files) (name : List ℕ) → is_record_name records name ≡ false
     → changed_files change bytes_of records files name ≡ bytes_after bytes_of (listing_written_under_name change files name) (is_removed change files name) (files name)
 unfolding changed_files
 changed_so change bytes_of records files name other =
@@ -28,7 +28,7 @@ changed_so change bytes_of records files name other =
     ∙ (ap (λ (b : Bool). if b then world_bytes_after records.world (files name) else (if records.takes_text_over && bytes_eq name text_database_name then None else after)) world
     ∙ ap (λ (b : Bool). if b then None else after) text)
 
-untouched : (change : FileChange) (bytes_of : Listing → List ℕ) (records : RootFilesAfter) (files : Files) (name : List ℕ) → listing_written_under_name change files name ≡ None → is_removed change files name ≡ false → is_record_name records name ≡ false
+untouched : (change : FileChange) (bytes_of : Listing → List ℕ) (records : DatabaseAndWorldAfter) (files : Files) (name : List ℕ) → listing_written_under_name change files name ≡ None → is_removed change files name ≡ false → is_record_name records name ≡ false
     → changed_files change bytes_of records files name ≡ files name
 untouched change bytes_of records files name none stays other =
     changed_so change bytes_of records files name other
@@ -80,13 +80,13 @@ not_some (Some l) e = absurd (true≢false e)
 
 -- ---- the file of a package that comes, and one that goes
 
-pub takes_its_path : (change : FileChange) (bytes_of : Listing → List ℕ) (records : RootFilesAfter) (files : Files) (name : List ℕ) (l : Listing) → listing_written_under_name change files name ≡ Some l → is_record_name records name ≡ false
+pub takes_its_path : (change : FileChange) (bytes_of : Listing → List ℕ) (records : DatabaseAndWorldAfter) (files : Files) (name : List ℕ) (l : Listing) → listing_written_under_name change files name ≡ Some l → is_record_name records name ≡ false
     → changed_files change bytes_of records files name ≡ Some (bytes_of l)
 takes_its_path change bytes_of records files name l written other =
     changed_so change bytes_of records files name other
     ∙ ap (λ (o : Option Listing). bytes_after bytes_of o (is_removed change files name) (files name)) written
 
-pub is_gone : (change : FileChange) (bytes_of : Listing → List ℕ) (records : RootFilesAfter) (files : Files) (name : List ℕ) → is_removed change files name ≡ true → is_record_name records name ≡ false
+pub is_gone : (change : FileChange) (bytes_of : Listing → List ℕ) (records : DatabaseAndWorldAfter) (files : Files) (name : List ℕ) → is_removed change files name ≡ true → is_record_name records name ≡ false
     → changed_files change bytes_of records files name ≡ None
 is_gone change bytes_of records files name gone other =
     let (left, never) = removed_is change files name gone in
@@ -100,7 +100,7 @@ may_stay_unremoved change files name stays =
     and_right (is_no_longer_listed change files name) (not (is_modified_config_to_keep change name (files name) (old_entry change name)))
     (not_from_true (is_modified_config_to_keep change name (files name) (old_entry change name)) stays)
 
-pub is_spared : (change : FileChange) (bytes_of : Listing → List ℕ) (records : RootFilesAfter) (files : Files) (name : List ℕ) → is_modified_file_kept change files name ≡ true → is_record_name records name ≡ false
+pub is_spared : (change : FileChange) (bytes_of : Listing → List ℕ) (records : DatabaseAndWorldAfter) (files : Files) (name : List ℕ) → is_modified_file_kept change files name ≡ true → is_record_name records name ≡ false
     → changed_files change bytes_of records files name ≡ files name
 is_spared change bytes_of records files name kept other =
     let (left, stays) = kept_is change files name kept in
@@ -134,7 +134,7 @@ pub left_where_it_stays : (change : FileChange) (files : Files) (path : List ℕ
 left_where_it_stays change files path l owner =
     removed_left change files path (claimed_not_left change files path (claimed_by_owner change path l (owner_is change path l owner)))
 
-pub stays_as_it_is : (change : FileChange) (bytes_of : Listing → List ℕ) (records : RootFilesAfter) (files : Files) (path : List ℕ) (l : Listing) → owner_listing change path ≡ Some l → is_added l.member ≡ false → is_record_name records path ≡ false
+pub stays_as_it_is : (change : FileChange) (bytes_of : Listing → List ℕ) (records : DatabaseAndWorldAfter) (files : Files) (path : List ℕ) (l : Listing) → owner_listing change path ≡ Some l → is_added l.member ≡ false → is_record_name records path ≡ false
     → changed_files change bytes_of records files path ≡ files path
 stays_as_it_is change bytes_of records files path l owner stays other =
     untouched change bytes_of records files path (unwritten_where_it_stays change files path l owner stays) (left_where_it_stays change files path l owner) other
@@ -187,7 +187,7 @@ users_file_stays change files path bytes (inl no_purge) own = by_entry (old_entr
         (ap (λ (found : Option (List ℕ)). is_modified_config_to_keep change path found (old_entry change path)) own.present
         ∙ (ap (is_modified_config_to_keep change path (Some bytes)) e ∙ stays))
 
-pub users_file_is_spared : (change : FileChange) (bytes_of : Listing → List ℕ) (records : RootFilesAfter) (files : Files) (path bytes : List ℕ) → (change.purge ≡ false) ⊎ (is_claimed change path ≡ true) → IsModifiedConfigFile change files path bytes → is_apk_new_name change files path ≡ false → is_record_name records path ≡ false
+pub users_file_is_spared : (change : FileChange) (bytes_of : Listing → List ℕ) (records : DatabaseAndWorldAfter) (files : Files) (path bytes : List ℕ) → (change.purge ≡ false) ⊎ (is_claimed change path ≡ true) → IsModifiedConfigFile change files path bytes → is_apk_new_name change files path ≡ false → is_record_name records path ≡ false
     → changed_files change bytes_of records files path ≡ Some bytes
 users_file_is_spared change bytes_of records files path bytes unpurged own beside other =
     untouched change bytes_of records files path (not_written change files path (users_file_not_taken change files path bytes own) beside) (users_file_stays change files path bytes unpurged own) other
@@ -202,7 +202,7 @@ no_owner change path never = by_owner (added_owner_listing change path) refl
     by_owner None e = refl
     by_owner (Some l) e = absurd (true≢false (sym (any_name path (added_paths change.members) (in_coming_paths change path l e)) ∙ never))
 
-pub others_stay : (change : FileChange) (bytes_of : Listing → List ℕ) (records : RootFilesAfter) (files : Files) (name : List ℕ) → was_listed change name ≡ false → is_added_path change name ≡ false → is_apk_new_name change files name ≡ false → is_record_name records name ≡ false
+pub others_stay : (change : FileChange) (bytes_of : Listing → List ℕ) (records : DatabaseAndWorldAfter) (files : Files) (name : List ℕ) → was_listed change name ≡ false → is_added_path change name ≡ false → is_apk_new_name change files name ≡ false → is_record_name records name ≡ false
     → changed_files change bytes_of records files name ≡ files name
 others_stay change bytes_of records files name never_before never_now beside other =
     untouched change bytes_of records files name

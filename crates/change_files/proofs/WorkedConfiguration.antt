@@ -8,7 +8,7 @@ use Rattle.file_owners.specs.Owners.{claims_in, owner_of_path}
 use Rattle.file_guard.specs.AsListed.{do_entries_agree, is_as_listed_by}
 use Rattle.change_files.specs.Fate.{fate_of, is_protected_path}
 use Rattle.change_files.specs.FileChange.{FileChange, is_claimed, old_entry, old_listings, owner_listing}
-use Rattle.change_files.specs.FilesAfter.{RootFilesAfter, changed_files, is_modified_file_kept, is_removed, listing_written_under_name}
+use Rattle.change_files.specs.FilesAfter.{DatabaseAndWorldAfter, changed_files, is_modified_file_kept, is_removed, listing_written_under_name}
 use Rattle.change_files.specs.PlanLists.{paths_with_apk_new_file, file_writes_of, kept_paths_of, sorted_distinct_names, removals_of}
 use Rattle.file_guard.proofs.Sample.{link}
 use Rattle.change_files.proofs.Sample.{folder, info, new_bytes, package_with, with_file}
@@ -25,7 +25,7 @@ changed = with_file conf (codes "x")
 abbrev unchanged : Files
 unchanged = with_file conf (codes "!<symlink>1")
 
-abbrev records : RootFilesAfter
+abbrev records : DatabaseAndWorldAfter
 records = record { database = []; world = []; takes_text_over = false }
 
 -- ---- another version comes

@@ -40,8 +40,8 @@ pub data AddedFileFate : Type 0 where
   goes_aside : AddedFileFate
 
 -- how many bytes a name may have at most
-abbrev pub longest_name : ℕ
-longest_name = 1024
+abbrev pub most_name_bytes : ℕ
+most_name_bytes = 1024
 
 -- What is done with a file if the user changed the file under its path. It is laid beside that one if
 -- it differs from what was listed before, no package lists the name beside, and that is not too long
@@ -49,7 +49,7 @@ longest_name = 1024
 abbrev pub fate_of_protected_file : FileChange → List ℕ → Plain → AddedFileFate
 fate_of_protected_file change path entry =
     if not (agrees_with_old_entry (old_entry change path) entry)
-    && (nat_le (length (apk_new_name path)) longest_name && not (is_claimed change (apk_new_name path)))
+    && (nat_le (length (apk_new_name path)) most_name_bytes && not (is_claimed change (apk_new_name path)))
     then goes_aside else gives_way
 
 -- What is done with an added file, given the file under its path. The user changed a protected file if

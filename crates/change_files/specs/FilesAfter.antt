@@ -107,14 +107,14 @@ bytes_after bytes_of None false old = old
 
 -- the results of a change other than the files of packages: the bytes of the new database and of the
 -- new world, and whether a text database was converted
-pub record RootFilesAfter : Type 0 where
+pub record DatabaseAndWorldAfter : Type 0 where
   pub database : List ℕ
   pub world : List ℕ
   pub takes_text_over : Bool
 
 -- The files after a change: the new database and world; no converted text database; the added files; no
 -- removed file; and all others as before.
-unfoldable pub changed_files : FileChange → (Listing → List ℕ) → RootFilesAfter → Files → Files
+unfoldable pub changed_files : FileChange → (Listing → List ℕ) → DatabaseAndWorldAfter → Files → Files
 changed_files change bytes_of records files name =
     if bytes_eq name database_name then Some records.database
     else if bytes_eq name world_name then world_bytes_after records.world (files name)

@@ -9,12 +9,12 @@ use Rattle.adb_view.specs.Plain.{Plain}
 use Rattle.file_guard.specs.AsListed.{do_entries_agree, is_as_listed}
 use Rattle.change_files.specs.Fate.{is_protected_path}
 use Rattle.change_files.specs.FileChange.{FileChange, added_owner_listing, old_entry}
-use Rattle.change_files.specs.FilesAfter.{RootFilesAfter, database_name, apk_new_listing_at, path_of_apk_new_name, text_database_name, world_name, listing_written_under_name}
+use Rattle.change_files.specs.FilesAfter.{DatabaseAndWorldAfter, database_name, apk_new_listing_at, path_of_apk_new_name, text_database_name, world_name, listing_written_under_name}
 use Rattle.change_files.specs.NamesAfter.{added_paths}
 use Rattle.change_files.specs.PlanLists.{FileWrite, write_to}
 
 -- whether a name is that of the database, of the world, or of a converted text database
-abbrev pub is_record_name : RootFilesAfter → List ℕ → Bool
+abbrev pub is_record_name : DatabaseAndWorldAfter → List ℕ → Bool
 is_record_name records name =
     bytes_eq name database_name
     || (bytes_eq name world_name || (records.takes_text_over && bytes_eq name text_database_name))

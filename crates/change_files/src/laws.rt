@@ -12,10 +12,10 @@ ghost use Rattle.file_guard.specs.AsListed.{has_target, is_as_listed};
 ghost use Rattle.file_owners.specs.Owners.{owner_of_path};
 ghost use Rattle.path_clashes.specs.Clash.{is_name_after};
 ghost use Rattle.file_guard.specs.pkg_core.Contents.{Contents, expected_contents};
-ghost use Rattle.file_guard.specs.pkg_core.GoodContents.{AreContentsOf, HaveDigests};
+ghost use Rattle.file_guard.specs.pkg_core.GoodContents.{AreContentsOf, HaveValidDigestLengths};
 ghost use Rattle.change_files.specs.Fate.{apk_new_name};
 ghost use Rattle.change_files.specs.FileChange.{FileChange, added_owner_listing, is_claimed, old_listings, owner_listing, was_listed};
-ghost use Rattle.change_files.specs.FilesAfter.{RootFilesAfter, changed_files, database_name, is_modified_file_kept, is_no_longer_listed, is_removed, is_written, apk_new_listing_at, listing_bytes, text_database_name, world_name, listing_written_under_name};
+ghost use Rattle.change_files.specs.FilesAfter.{DatabaseAndWorldAfter, changed_files, database_name, is_modified_file_kept, is_no_longer_listed, is_removed, is_written, apk_new_listing_at, listing_bytes, text_database_name, world_name, listing_written_under_name};
 ghost use Rattle.change_files.specs.NamesAfter.{is_released, name_change};
 ghost use Rattle.change_files.specs.PlanLists.{FileWrite, paths_with_apk_new_file, file_writes_of, first_reserved_path, kept_paths_of, removals_of};
 ghost use Rattle.change_files.specs.Touched.{DiffersFromOldEntry, IsModifiedConfigFile, IsPlannedWrite, is_apk_new_name, is_added_path, is_record_name};
@@ -73,7 +73,7 @@ pub fn what_differs_is_written_beside_the_users_file()
 pub fn the_files_of_an_added_package_are_as_listed()
     ensures { (contents : ℕ → List Contents) (members : List Member) (l : Listing)
         → Contains (member_listings members) l
-        → HaveDigests (expected_contents l.member.pkg)
+        → HaveValidDigestLengths (expected_contents l.member.pkg)
         → AreContentsOf (expected_contents l.member.pkg) (contents l.place)
         → (is_with_contents l.entry ≡ false → has_target l.entry ≡ false
         → is_as_listed l.entry [] ≡ true)
@@ -82,7 +82,7 @@ pub fn the_files_of_an_added_package_are_as_listed()
 
 /// A file that is written has those bytes after the change.
 pub fn what_is_written_takes_its_name()
-    ensures { (change : FileChange) (bytes_of : Listing → List ℕ) (records : RootFilesAfter)
+    ensures { (change : FileChange) (bytes_of : Listing → List ℕ) (records : DatabaseAndWorldAfter)
         (files : Files) (name : List ℕ) (l : Listing) → listing_written_under_name change files name ≡ Some l
         → is_record_name records name ≡ false
         → changed_files change bytes_of records files name ≡ Some (bytes_of l) }
@@ -94,7 +94,7 @@ pub fn what_is_written_is_not_reserved()
     ensures written { (change : FileChange) (files : Files) (name : List ℕ) (l : Listing)
         → first_reserved_path change.members ≡ None → listing_written_under_name change files name ≡ Some l
         → is_reserved name ≡ false }
-    ensures records { (records : RootFilesAfter) (name : List ℕ) →
+    ensures records { (records : DatabaseAndWorldAfter) (name : List ℕ) →
         is_record_name records name ≡ true
         → is_reserved name ≡ true }
 {}
@@ -106,7 +106,7 @@ pub fn what_is_removed_was_listed_before()
     ensures listed { (change : FileChange) (files : Files) (path : List ℕ)
         → is_removed change files path ≡ true
         → (was_listed change path ≡ true) × (is_claimed change path ≡ false) }
-    ensures gone { (change : FileChange) (bytes_of : Listing → List ℕ) (records : RootFilesAfter)
+    ensures gone { (change : FileChange) (bytes_of : Listing → List ℕ) (records : DatabaseAndWorldAfter)
         (files : Files) (path : List ℕ) → is_removed change files path ≡ true
         → is_record_name records path ≡ false
         → changed_files change bytes_of records files path ≡ None }
@@ -141,7 +141,7 @@ pub fn the_file_of_a_kept_package_is_not_touched()
         → owner_listing change path ≡ Some l → is_added l.member ≡ false
         → (listing_written_under_name change files path ≡ None) × (is_removed change files path ≡ false) }
     // So it is as before.
-    ensures file { (change : FileChange) (bytes_of : Listing → List ℕ) (records : RootFilesAfter)
+    ensures file { (change : FileChange) (bytes_of : Listing → List ℕ) (records : DatabaseAndWorldAfter)
         (files : Files) (path : List ℕ) (l : Listing)
         → owner_listing change path ≡ Some l → is_added l.member ≡ false
         → is_record_name records path ≡ false
@@ -151,7 +151,7 @@ pub fn the_file_of_a_kept_package_is_not_touched()
 /// Configuration that the user changed keeps its bytes, unless it is to be purged and no package
 /// lists it. A file that was laid beside another is replaced by the one that is laid there now.
 pub fn configuration_that_the_user_changed_is_kept()
-    ensures { (change : FileChange) (bytes_of : Listing → List ℕ) (records : RootFilesAfter)
+    ensures { (change : FileChange) (bytes_of : Listing → List ℕ) (records : DatabaseAndWorldAfter)
         (files : Files) (path bytes : List ℕ)
         → (change.purge ≡ false) ⊎ (is_claimed change path ≡ true)
         → IsModifiedConfigFile change files path bytes
@@ -161,7 +161,7 @@ pub fn configuration_that_the_user_changed_is_kept()
 
 /// A kept file is unchanged.
 pub fn what_is_kept_is_unchanged()
-    ensures { (change : FileChange) (bytes_of : Listing → List ℕ) (records : RootFilesAfter)
+    ensures { (change : FileChange) (bytes_of : Listing → List ℕ) (records : DatabaseAndWorldAfter)
         (files : Files) (path : List ℕ) → is_modified_file_kept change files path ≡ true
         → is_record_name records path ≡ false
         → changed_files change bytes_of records files path ≡ files path }
@@ -170,7 +170,7 @@ pub fn what_is_kept_is_unchanged()
 /// A name that no package listed before and that no added package lists is unchanged, unless a file
 /// is laid beside another one under it.
 pub fn a_name_that_nobody_lists_is_not_touched()
-    ensures { (change : FileChange) (bytes_of : Listing → List ℕ) (records : RootFilesAfter)
+    ensures { (change : FileChange) (bytes_of : Listing → List ℕ) (records : DatabaseAndWorldAfter)
         (files : Files) (name : List ℕ) → was_listed change name ≡ false
         → is_added_path change name ≡ false
         → is_apk_new_name change files name ≡ false → is_record_name records name ≡ false
@@ -181,7 +181,7 @@ pub fn a_name_that_nobody_lists_is_not_touched()
 
 /// Each file after a change has one of the names after.
 pub fn the_files_after_a_change_are_under_its_names()
-    ensures { (change : FileChange) (bytes_of : Listing → List ℕ) (records : RootFilesAfter)
+    ensures { (change : FileChange) (bytes_of : Listing → List ℕ) (records : DatabaseAndWorldAfter)
         (files : Files) (name : List ℕ)
         → is_some (changed_files change bytes_of records files name) ≡ true
         → is_name_after (name_change change files) files name ≡ true }
@@ -190,12 +190,12 @@ pub fn the_files_after_a_change_are_under_its_names()
 /// A file of before is present after a change that does not let go of its name. If the change lets
 /// go of the name and writes nothing there, the file is absent.
 pub fn the_names_after_a_change_are_those_of_its_files()
-    ensures located { (change : FileChange) (bytes_of : Listing → List ℕ) (records : RootFilesAfter)
+    ensures located { (change : FileChange) (bytes_of : Listing → List ℕ) (records : DatabaseAndWorldAfter)
         (files : Files) (name : List ℕ)
         → is_some (files name) ≡ true → is_released change files name ≡ false
         → is_record_name records name ≡ false
         → is_some (changed_files change bytes_of records files name) ≡ true }
-    ensures gone { (change : FileChange) (bytes_of : Listing → List ℕ) (records : RootFilesAfter)
+    ensures gone { (change : FileChange) (bytes_of : Listing → List ℕ) (records : DatabaseAndWorldAfter)
         (files : Files) (name : List ℕ)
         → is_released change files name ≡ true → is_written change files name ≡ false
         → is_record_name records name ≡ false
@@ -208,19 +208,19 @@ pub fn the_names_after_a_change_are_those_of_its_files()
 /// stays absent, and a converted text database is absent.
 pub fn the_records_of_a_change_are_under_their_names()
     ensures database { (change : FileChange) (bytes_of : Listing → List ℕ)
-        (records : RootFilesAfter)
+        (records : DatabaseAndWorldAfter)
         (files : Files)
         → changed_files change bytes_of records files database_name ≡ Some records.database }
-    ensures world { (change : FileChange) (bytes_of : Listing → List ℕ) (records : RootFilesAfter)
+    ensures world { (change : FileChange) (bytes_of : Listing → List ℕ) (records : DatabaseAndWorldAfter)
         (files : Files) → (records.world ≢ []) ⊎ IsSome (files world_name)
         → changed_files change bytes_of records files world_name ≡ Some records.world }
     // An absent world that would be empty stays absent.
     ensures no_world { (change : FileChange) (bytes_of : Listing → List ℕ)
-        (records : RootFilesAfter)
+        (records : DatabaseAndWorldAfter)
         (files : Files) → records.world ≡ [] → files world_name ≡ None
         → changed_files change bytes_of records files world_name ≡ None }
     // A converted text database is absent.
-    ensures text { (change : FileChange) (bytes_of : Listing → List ℕ) (records : RootFilesAfter)
+    ensures text { (change : FileChange) (bytes_of : Listing → List ℕ) (records : DatabaseAndWorldAfter)
         (files : Files) → records.takes_text_over ≡ true
         → changed_files change bytes_of records files text_database_name ≡ None }
 {}

@@ -18,7 +18,7 @@ use Rattle.change_inputs.specs.Chains.{and_then}
 use Rattle.change_inputs.specs.Database.{Database, root_database}
 use Rattle.change_inputs.specs.Indexes.{index_files_from, indexes_in_files, root_indexes}
 use Rattle.change_inputs.specs.Inputs.{Inputs, Root, database_for, index_reads_from, indexes_of, inputs_from_parts, inputs_of, root_for, root_found}
-use Rattle.change_inputs.specs.RootFiles.{AreInTreeAsRoot}
+use Rattle.change_inputs.specs.RootFiles.{AreRootFilesInTree}
 use Rattle.change_inputs.specs.declared.root.Refused.{Refused}
 use Rattle.change_inputs.specs.declared.root.RootFiles.{RootFiles}
 
@@ -148,7 +148,7 @@ database_given history command file text database located text_stand is =
     let e = explained_database history command file text located text_stand in
     record { read = e.read; observed = e.observed; is = e.is ∙ is }
 
-pub explained_files : (history : List TreeState) (command : CommandLine) (files : RootFiles) (rs : List Repository) (fs : List (Option (List ℕ))) → AreInTreeAsRoot history files → AreFilesFoundInTree history rs fs
+pub explained_files : (history : List TreeState) (command : CommandLine) (files : RootFiles) (rs : List Repository) (fs : List (Option (List ℕ))) → AreRootFilesInTree history files → AreFilesFoundInTree history rs fs
     → IsExplainedBySomeReads history (λ read. (root_for command read ≡ root_found command (bytes_in files.database) (bytes_in files.text_database) (bytes_in files.world) (bytes_in files.repositories)) × (index_reads_from read 4 rs ≡ fs))
 explained_files history command files rs fs stand indexes =
     let file = bytes_in files.database in
@@ -173,7 +173,7 @@ abbrev then_indexes : Reads → Root → Result Inputs Refusals.Refusal
 then_indexes read root = and_then (indexes_of read root.repositories) (λ indexes. Ok (inputs_from_parts root indexes))
 
 -- a root that is refused
-pub explained_refusal : {A B : Type 0} (view : A → Inputs) (seen : B → Root) (history : List TreeState) (command : CommandLine) (files : RootFiles) (r : Result A Refused) (fault : Refused) → AreInTreeAsRoot history files → IsErrAnd r (λ e. e ≡ fault)
+pub explained_refusal : {A B : Type 0} (view : A → Inputs) (seen : B → Root) (history : List TreeState) (command : CommandLine) (files : RootFiles) (r : Result A Refused) (fault : Refused) → AreRootFilesInTree history files → IsErrAnd r (λ e. e ≡ fault)
     → Agrees seen (Err fault) (root_found command (bytes_in files.database) (bytes_in files.text_database) (bytes_in files.world) (bytes_in files.repositories))
     → IsExplainedBySomeReads history (λ read. AgreesUnlessDisk view r (inputs_of command read))
 unfolding inputs_of
@@ -188,7 +188,7 @@ explained_refusal view seen history command files r fault stand is h =
     }
 
 -- a root that is good, and what comes of its indexes
-pub explained_indexes : {A : Type 0} (view : A → Inputs) (history : List TreeState) (command : CommandLine) (files : RootFiles) (root : Root) (fs : List (Option (List ℕ))) (r : Result A Refused) → AreInTreeAsRoot history files
+pub explained_indexes : {A : Type 0} (view : A → Inputs) (history : List TreeState) (command : CommandLine) (files : RootFiles) (root : Root) (fs : List (Option (List ℕ))) (r : Result A Refused) → AreRootFilesInTree history files
     → root_found command (bytes_in files.database) (bytes_in files.text_database) (bytes_in files.world) (bytes_in files.repositories) ≡ Ok root
     → AreFilesFoundInTree history root.repositories fs → AgreesUnlessDisk view r (and_then (root_indexes fs) (λ indexes. Ok (inputs_from_parts root indexes)))
     → IsExplainedBySomeReads history (λ read. AgreesUnlessDisk view r (inputs_of command read))
@@ -227,7 +227,7 @@ indexes_good root fs files indexes there good =
     ap (λ (x : Result (List (List ℕ)) Refusals.Refusal). and_then (and_then x (indexes_in_files 1)) (λ indexes. Ok (inputs_from_parts root indexes))) there
     ∙ ap (λ (x : Result (List Plain) Refusals.Refusal). and_then x (λ indexes. Ok (inputs_from_parts root indexes))) good
 
-pub explained_good : (history : List TreeState) (command : CommandLine) (files : RootFiles) (root : Root) (fs : List (Option (List ℕ))) (found : List (List ℕ)) (indexes : List Plain) → AreInTreeAsRoot history files
+pub explained_good : (history : List TreeState) (command : CommandLine) (files : RootFiles) (root : Root) (fs : List (Option (List ℕ))) (found : List (List ℕ)) (indexes : List Plain) → AreRootFilesInTree history files
     → root_found command (bytes_in files.database) (bytes_in files.text_database) (bytes_in files.world) (bytes_in files.repositories) ≡ Ok root
     → AreFilesFoundInTree history root.repositories fs → index_files_from 1 fs ≡ Ok found → indexes_in_files 1 found ≡ Ok indexes
     → IsExplainedBySomeReads history (λ read. inputs_of command read ≡ Ok (inputs_from_parts root indexes))
@@ -239,5 +239,5 @@ explained_good history command files root fs found indexes stand good those ther
 pub as_before : (old now : List TreeState) (P : Reads → Type 0) → now ≡ old → IsExplainedBySomeReads now P → IsExplainedBySomeReads old P
 as_before old now P same h = subst (λ (t : List TreeState). IsExplainedBySomeReads t P) same h
 
-pub root_as_now : (old now : List TreeState) (files : RootFiles) → now ≡ old → AreInTreeAsRoot old files → AreInTreeAsRoot now files
-root_as_now old now files same h = subst (λ (t : List TreeState). AreInTreeAsRoot t files) (sym same) h
+pub root_as_now : (old now : List TreeState) (files : RootFiles) → now ≡ old → AreRootFilesInTree old files → AreRootFilesInTree now files
+root_as_now old now files same h = subst (λ (t : List TreeState). AreRootFilesInTree t files) (sym same) h

@@ -7,7 +7,7 @@ use Rattle.change_inputs.specs.Answers.{IsFileFoundInTree}
 use Rattle.change_inputs.specs.declared.root.RootFiles.{RootFiles}
 
 -- the files of a root are those under their names; the text database is read only if there is no other
-pub record AreInTreeAsRoot (history : List TreeState) (files : RootFiles) : Type 0 where
+pub record AreRootFilesInTree (history : List TreeState) (files : RootFiles) : Type 0 where
   pub database : IsFileFoundInTree history database_name (bytes_in files.database)
   pub text_database : bytes_in files.database ≡ None
       → IsFileFoundInTree history text_database_name (bytes_in files.text_database)

@@ -18,8 +18,8 @@ ghost use Rattle.std.specs.Option.{option_copied};
 ghost use Rattle.std.specs.Prelude.{◌≡◌, ◌≤◌, true, None, Ok, is_none, IfErr, IfOk, OnOk, length};
 ghost use Rattle.v2_core.specs.Payload.{IsV2Fault, payload_of_text};
 
-use crate::root::{Refused, payload_in, test_file};
-use db_core::{Db, IdbView, List, PackageView, ReadFault, Which, open_idb};
+use crate::root::{Refused, test_file};
+use db_core::{Db, IdbView, List, PackageView, ReadFault, Which, open_idb, payload_in};
 use pool_core::{Pool, PoolFault};
 use report_core::Refusal;
 use std::alloc::{AllocError, Global};

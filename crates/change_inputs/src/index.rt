@@ -17,11 +17,11 @@ ghost use Rattle.std.specs.Prelude.{◌≡◌, ◌<◌, ◌++◌, ◌∷◌, [],
 ghost use Rattle.change_inputs.specs.Repositories.{if_untrusted_allowed, root_repositories};
 ghost use Rattle.change_inputs.specs.World.{found_text_or_empty};
 
-use crate::root::{Refused, payload_in, read_file, test_file};
+use crate::root::{Refused, read_file, test_file};
 use crate::world::found_text_or_empty;
 use adb_view::{Adb, values_of_few_visits_have_no_fault};
 use base_core::{Name, Tree};
-use db_core::{IndexView, ReadFault, Which};
+use db_core::{IndexView, ReadFault, Which, payload_in};
 use dep_core::{Repos, ReposFault};
 use report_core::Refusal;
 use std::alloc::{AllocError, Global};

@@ -5,7 +5,7 @@ ghost use Rattle.base_core.specs.Read.{OnlyReads};
 ghost use Rattle.change_inputs.specs.Answers.{Agrees, AgreesUnlessDisk};
 ghost use Rattle.change_inputs.specs.Candidates.{candidates_of_repositories_from, candidates_of, root_pool};
 ghost use Rattle.change_inputs.specs.Inputs.{inputs_of};
-ghost use Rattle.change_inputs.specs.RootFiles.{AreInTreeAsRoot};
+ghost use Rattle.change_inputs.specs.RootFiles.{AreRootFilesInTree};
 ghost use Rattle.db_core.specs.Seen.{packages_of};
 ghost use Rattle.package_files.specs.Runs.{IsExplainedBySomeReads};
 ghost use Rattle.pool_core.specs.candidate_core.declared.candidate_list.TheConstants.{MOST_CANDIDATES};
@@ -69,7 +69,7 @@ impl Loaded {
         files: RootFiles,
         tree: &mut T,
     ) -> Result<Loaded, Refused>
-        requires { AreInTreeAsRoot (T.history tree.old) files }
+        requires { AreRootFilesInTree (T.history tree.old) files }
         ensures found { IsExplainedBySomeReads (T.history tree.old) (λ read.
             AgreesUnlessDisk inputs_seen result (inputs_of command.now read)) }
         ensures tree { OnlyReads Refused.Disk (T.history tree.old) (T.history tree.new)

@@ -5,20 +5,18 @@
 ghost use Rattle.base_core.specs.Read.{OnlyReads, bytes_in};
 ghost use Rattle.change_inputs.specs.Answers.{Agrees, IsDiskOrMemoryFailure, IsFileFoundInTree};
 ghost use Rattle.change_inputs.specs.Inputs.{root_found, Inputs, first_index_read, inputs_of};
-ghost use Rattle.change_inputs.specs.RootFiles.{AreInTreeAsRoot};
+ghost use Rattle.change_inputs.specs.RootFiles.{AreRootFilesInTree};
 ghost use Rattle.change_inputs.specs.Seen.{root_seen};
 ghost use Rattle.root_names.specs.RootNames.{database_name, text_database_name};
 ghost use Rattle.std.specs.Prelude.{◌≡◌, IfErr, IfOk, None, OnOk, ◌<◌, ◌+◌, ℕ, List, Ok, length};
 ghost use Rattle.db_core.specs.adb_schema.ReadFaults.{IsReadFault};
 ghost use Rattle.db_core.specs.adb_schema.Soundness.{first_fault, payload_fault, payload_in};
-ghost use Rattle.adb_view.specs.declared.tables.Which.{Which};
 ghost use Rattle.command_core.specs.Command.{CommandLine};
 ghost use Rattle.package_files.specs.make_info.Reads.{Reads};
 
 use crate::database::DatabaseFile;
 use crate::index::repositories_of;
 use crate::world::{Worlds, worlds_of};
-use adb_block::Blocks;
 use base_core::{Name, Tree, TreeFault, consecutive_reads_compose, read_all};
 use command_core::Command;
 use db_core::{ReadFault, Which, read_adb};
@@ -55,7 +53,7 @@ pub(crate) struct TestedRoot {
 /// Reads the files of a root: first the databases, then world and the repositories.
 pub(crate) fn read_root<T: Tree>(alloc: Global, tree: &mut T) -> Result<RootFiles, Refused>
     // If the tree's files are observable, each is the one under its name.
-    ensures found { IfOk result (λ files. AreInTreeAsRoot (T.history tree.old) files) }
+    ensures found { IfOk result (λ files. AreRootFilesInTree (T.history tree.old) files) }
     // Nothing is refused here.
     ensures failed { IfErr result IsDiskOrMemoryFailure }
     // The tree is only read; a fault of it has its cause.
@@ -163,21 +161,6 @@ pub(crate) fn test_file(alloc: Global, file: &[u8], which: Which) -> Result<(), 
 {
     read_adb(alloc, file, which)?;
     Ok(())
-}
-
-/// The payload of a file that passed its tests.
-#[tactic(auto, unfolding(adb_schema::specs::Soundness::first_fault, adb_schema::specs::Soundness::payload_in))]
-pub(crate) fn payload_in(file: &[u8]) -> &[u8]
-    requires { (which : Which) × (first_fault which file.now ≡ None) }
-    ensures { result.now ≡ payload_in file.now }
-{
-    let Ok(mut blocks) = Blocks::new(file) else {
-        unreachable!()
-    };
-    match blocks.next() {
-        Ok(Some(block)) => block.payload,
-        _ => unreachable!(),
-    }
 }
 
 /// Why a command is not completed.

@@ -9,7 +9,7 @@ use Rattle.base_core.specs.Files.{Files}
 use Rattle.base_core.proofs.Rising.{IsIn, contains_from_in, in_from_contains}
 use Rattle.base_core.proofs.Listed.{in_both}
 use Rattle.package_changes.specs.change_files.FileChange.{FileChange}
-use Rattle.package_changes.specs.change_files.FilesAfter.{RootFilesAfter, database_name, is_removed, is_written, text_database_name, world_name, listing_written_under_name}
+use Rattle.package_changes.specs.change_files.FilesAfter.{DatabaseAndWorldAfter, database_name, is_removed, is_written, text_database_name, world_name, listing_written_under_name}
 use Rattle.package_changes.specs.change_files.PlanLists.{removals_of, file_writes_of}
 use Rattle.package_changes.proofs.change_files.InOrder.{from_order, in_left, in_order, in_right, order_rises}
 use Rattle.package_changes.proofs.change_files.LeftOver.{removed_unreserved}
@@ -18,7 +18,7 @@ use Rattle.package_changes.proofs.change_files.PlanNames.{removals_hold, written
 use Rattle.package_changes.proofs.change_files.Reserved.{written_unreserved}
 use Rattle.change_inputs.specs.Inputs.{Inputs}
 use Rattle.change_outcome.specs.ChangeOutcome.{actions_of, is_absent_or_different, name_if_needed, written_record_names}
-use Rattle.journal_core.specs.journal_intent.FreeNames.{HasFreeNames, IsNoneOf, IsOneOf}
+use Rattle.journal_core.specs.journal_intent.FreeNames.{HasFreeDistinctNames, IsNoneOf, IsOneOf}
 use Rattle.journal_core.specs.journal_intent.Intent.{Intent}
 use Rattle.journal_core.specs.journal_intent.IntentValue.{intent_of_lists}
 use Rattle.change_outcome.specs.Premises.{HasNoReservedPath}
@@ -36,7 +36,7 @@ if_needed false name q is t = absurd (true≢false (sym t))
 not_in : (q : List ℕ) (names : List (List ℕ)) → IsNoneOf q names → IsIn q names → ⊥
 not_in q names none here = true≢false (sym (any_name q names here) ∙ none)
 
-module _ (inputs : Inputs) (change : FileChange) (files : Files) (records : RootFilesAfter) where
+module _ (inputs : Inputs) (change : FileChange) (files : Files) (records : DatabaseAndWorldAfter) where
   abbrev actions : Intent
   actions = actions_of inputs change files records
 
@@ -137,7 +137,7 @@ module _ (inputs : Inputs) (change : FileChange) (files : Files) (records : Root
           | inr own ↦ not_removed q (database_and_world_names q own) gone
         ]
 
-    pub free_names : HasFreeNames (intent_of_lists actions.removals actions.writes)
+    pub free_names : HasFreeDistinctNames (intent_of_lists actions.removals actions.writes)
     free_names = record {
       removals = frees actions.removals (λ q at. free_outside q (removal_outside q (any_name q actions.removals at)));
       writes = frees actions.writes (λ q at. free_outside q (write_outside q (any_name q actions.writes at)));

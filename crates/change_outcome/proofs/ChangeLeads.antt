@@ -11,7 +11,7 @@ use Rattle.base_core.proofs.Rising.{IsIn}
 use Rattle.base_core.proofs.Listed.{in_both}
 use Rattle.base_core.proofs.AtName.{name_cases}
 use Rattle.package_changes.specs.change_files.FileChange.{FileChange}
-use Rattle.package_changes.specs.change_files.FilesAfter.{RootFilesAfter, bytes_after, changed_files, database_name, is_removed, is_written, text_database_name, world_bytes_after, world_name, listing_written_under_name}
+use Rattle.package_changes.specs.change_files.FilesAfter.{DatabaseAndWorldAfter, bytes_after, changed_files, database_name, is_removed, is_written, text_database_name, world_bytes_after, world_name, listing_written_under_name}
 use Rattle.package_changes.specs.change_files.Touched.{is_record_name}
 use Rattle.package_changes.proofs.change_files.InOrder.{in_left, in_right}
 use Rattle.package_changes.proofs.change_files.RecordNames.{database_after, no_text_after, world_after}
@@ -50,7 +50,7 @@ other_world None (b ∷ world) text is other = inl (λ e. cc (e))
 other_world (Some old) world text is other = inr refl
 
 module _ (inputs : Inputs) (change : FileChange) (bytes_of : Listing → List ℕ) (database : List ℕ) (files : Files) (root : IsRootOfFiles files inputs.root) where
-  abbrev records : RootFilesAfter
+  abbrev records : DatabaseAndWorldAfter
   records = new_records inputs database
 
   abbrev actions : Intent

@@ -10,7 +10,7 @@ use Rattle.base_core.proofs.Rising.{IsIn, Rises, in_at, order, not_itself}
 use Rattle.base_core.proofs.AtName.{other_name}
 use Rattle.base_core.proofs.Listed.{in_both}
 use Rattle.package_changes.specs.change_files.FileChange.{FileChange}
-use Rattle.package_changes.specs.change_files.FilesAfter.{RootFilesAfter}
+use Rattle.package_changes.specs.change_files.FilesAfter.{DatabaseAndWorldAfter}
 use Rattle.package_changes.proofs.change_files.InOrder.{order_rises}
 use Rattle.package_changes.proofs.change_files.Lists.{any_name}
 use Rattle.change_inputs.specs.Inputs.{Inputs}
@@ -66,7 +66,7 @@ both_true true true x y = absurd (true≢false y)
 both_true true false x y = refl
 both_true false b x y = absurd (true≢false (sym x))
 
-module _ (inputs : Inputs) (change : FileChange) (files : Files) (records : RootFilesAfter) (free : HasNoReservedPath change) where
+module _ (inputs : Inputs) (change : FileChange) (files : Files) (records : DatabaseAndWorldAfter) (free : HasNoReservedPath change) where
   abbrev actions : Intent
   actions = actions_of inputs change files records
 

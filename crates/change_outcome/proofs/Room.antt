@@ -10,7 +10,7 @@ use Rattle.db_write.specs.adb_schema.Reserved.{is_at_or_below, is_reserved}
 use Rattle.base_core.specs.Files.{Files, IsFolderOf}
 use Rattle.base_core.proofs.Rising.{IsIn}
 use Rattle.package_changes.specs.change_files.FileChange.{FileChange}
-use Rattle.package_changes.specs.change_files.FilesAfter.{RootFilesAfter, bytes_after, changed_files, database_name, is_removed, apk_new_listing_at, path_of_apk_new_name, text_database_name, world_name, listing_written_under_name, listing_written_in_place}
+use Rattle.package_changes.specs.change_files.FilesAfter.{DatabaseAndWorldAfter, bytes_after, changed_files, database_name, is_removed, apk_new_listing_at, path_of_apk_new_name, text_database_name, world_name, listing_written_under_name, listing_written_in_place}
 use Rattle.std.specs.Option.{option_or}
 use Rattle.package_changes.specs.change_files.NamesAfter.{added_paths, counts_as_written, name_change}
 use Rattle.package_changes.specs.change_files.PlanLists.{first_reserved_path}
@@ -139,7 +139,7 @@ staged_reserved q staged = third (is_at_or_below (codes "etc/apk/world") q) (is_
     third false false false false e t = absurd (true≢false (sym t))
 
 -- a name of which a test is true that is false of the three is none of them
-unlike_records : (test : List ℕ → Bool) (records : RootFilesAfter) (q : List ℕ) → test database_name ≡ false → test world_name ≡ false → test text_database_name ≡ false → test q ≡ true → is_record_name records q ≡ false
+unlike_records : (test : List ℕ → Bool) (records : DatabaseAndWorldAfter) (q : List ℕ) → test database_name ≡ false → test world_name ≡ false → test text_database_name ≡ false → test q ≡ true → is_record_name records q ≡ false
 unlike_records test records q database world text passes = false_from_ne_true (is_record_name records q) (λ is. by_name (or_cases (bytes_eq q database_name) (bytes_eq q world_name || (records.takes_text_over && bytes_eq q text_database_name)) is))
   where
     never : (name : List ℕ) → test name ≡ false → bytes_eq q name ≡ true → ⊥
@@ -153,14 +153,14 @@ unlike_records test records q database world text passes = false_from_ne_true (i
           | inr both ↦ never text_database_name text (and_parts records.takes_text_over (bytes_eq q text_database_name) both).1
         ]
 
-no_record : (records : RootFilesAfter) (q : List ℕ) → is_staged q ≡ true → is_record_name records q ≡ false
+no_record : (records : DatabaseAndWorldAfter) (q : List ℕ) → is_staged q ≡ true → is_record_name records q ≡ false
 no_record records q staged = unlike_records is_staged records q refl refl refl staged
 
-intent_no_record : (records : RootFilesAfter) → is_record_name records intent_name ≡ false
+intent_no_record : (records : DatabaseAndWorldAfter) → is_record_name records intent_name ≡ false
 intent_no_record records = unlike_records (λ q. bytes_eq q intent_name) records intent_name refl refl refl refl
 
 -- a reserved name that is absent stays so
-module _ (change : FileChange) (bytes_of : Listing → List ℕ) (records : RootFilesAfter) (files : Files) (none : first_reserved_path change.members ≡ None) where
+module _ (change : FileChange) (bytes_of : Listing → List ℕ) (records : DatabaseAndWorldAfter) (files : Files) (none : first_reserved_path change.members ≡ None) where
   unwritten : (q : List ℕ) → is_reserved q ≡ true → (o : Option Listing) → listing_written_under_name change files q ≡ o → o ≡ None
   unwritten q reserved None is = refl
   unwritten q reserved (Some l) is = absurd (true≢false (sym reserved ∙ written_unreserved change files q l none is))
@@ -178,7 +178,7 @@ module _ (change : FileChange) (bytes_of : Listing → List ℕ) (records : Root
   pub no_intent : files intent_name ≡ None → changed_files change bytes_of records files intent_name ≡ None
   no_intent absent = reserved_absent intent_name refl (intent_no_record records) absent
 
-module _ (change : FileChange) (bytes_of : Listing → List ℕ) (records : RootFilesAfter) (files : Files) (none : first_reserved_path change.members ≡ None) (stage : AreStagingPathsFree files) (apart : HasNoClash (name_change change files) files) where
+module _ (change : FileChange) (bytes_of : Listing → List ℕ) (records : DatabaseAndWorldAfter) (files : Files) (none : first_reserved_path change.members ≡ None) (stage : AreStagingPathsFree files) (apart : HasNoClash (name_change change files) files) where
   abbrev after : Files
   after = changed_files change bytes_of records files
 

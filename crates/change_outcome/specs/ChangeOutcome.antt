@@ -7,7 +7,7 @@ use Rattle.adb_view.specs.Values.{entry_in, int_in}
 use Rattle.db_write.specs.adb_write.Canonical.{PayloadCounts, overflow_of}
 use Rattle.base_core.specs.Files.{Files}
 use Rattle.package_changes.specs.change_files.FileChange.{FileChange}
-use Rattle.package_changes.specs.change_files.FilesAfter.{RootFilesAfter, changed_files, listing_bytes}
+use Rattle.package_changes.specs.change_files.FilesAfter.{DatabaseAndWorldAfter, changed_files, listing_bytes}
 use Rattle.package_changes.specs.change_files.NamesAfter.{name_change}
 use Rattle.package_changes.specs.change_files.PlanLists.{paths_with_apk_new_file, file_writes_of, first_reserved_path, kept_paths_of, sorted_distinct_names, removals_of}
 use Rattle.change_inputs.specs.Chains.{and_then}
@@ -89,7 +89,7 @@ is_absent_or_different None bytes = true
 is_absent_or_different (Some old) bytes = not (bytes_eq old bytes)
 
 -- what the change does to the database and to world
-abbrev pub new_records : Inputs → List ℕ → RootFilesAfter
+abbrev pub new_records : Inputs → List ℕ → DatabaseAndWorldAfter
 new_records inputs database = record {
   database = database;
   world = world_text inputs.root.new_world;
@@ -103,7 +103,7 @@ name_if_needed false name = []
 
 -- the names of the database and of world, each if it is written: world if its text differs; an absent
 -- file counts as empty
-abbrev pub written_record_names : Inputs → RootFilesAfter → List (List ℕ)
+abbrev pub written_record_names : Inputs → DatabaseAndWorldAfter → List (List ℕ)
 written_record_names inputs records =
     name_if_needed (is_absent_or_different inputs.root.database.file records.database) database_name
     ++ name_if_needed (not (bytes_eq inputs.root.world_text records.world)) world_name
@@ -113,7 +113,7 @@ written_record_names inputs records =
 -- The intent (journal entry) of a change: the names that it removes, and those that it writes, each in
 -- byte order. A converted text database is removed with the files; the database and world are written
 -- with them, if they differ.
-abbrev pub actions_of : Inputs → FileChange → Files → RootFilesAfter → Intent
+abbrev pub actions_of : Inputs → FileChange → Files → DatabaseAndWorldAfter → Intent
 actions_of inputs change files records = record {
   removals = sorted_distinct_names (removals_of change files
       ++ name_if_needed records.takes_text_over text_database_name);
@@ -161,7 +161,7 @@ pub record ChangeDone : Type 0 where
 
 -- the result of a change that is made: the report, and the files that it leaves
 abbrev pub change_done :
-    Inputs → Replacement → ChangeWishes → List MemberFound → Files → RootFilesAfter → ChangeDone
+    Inputs → Replacement → ChangeWishes → List MemberFound → Files → DatabaseAndWorldAfter → ChangeDone
 change_done inputs r wishes found files records =
     let change = file_change inputs wishes found in
     record {

@@ -19,7 +19,7 @@ use Rattle.report_core.specs.Numbers.{NAME_FIELD, VERSION_FIELD, HASHES_FIELD, P
 use Rattle.report_core.specs.Reports.{Change, Downgrade, Install, Purge, Reinstall, Replace, Upgrade}
 use Rattle.report_core.specs.declared.refusal.Refusal.{Refusal}
 use Rattle.report_core.specs.declared.refusal.Refusal.TheVariants.{PackageBad, PackageDiffers, PackageMissing, ScriptNeeded}
-use Rattle.root_names.specs.PackagePath.{if_name, package_path}
+use Rattle.root_names.specs.PackagePath.{path_if_name, package_path}
 
 -- ---- its path
 
@@ -28,7 +28,7 @@ use Rattle.root_names.specs.PackagePath.{if_name, package_path}
 abbrev pub path_beside_index : List ℕ → List ℕ → Option Repository → Option (List ℕ)
 path_beside_index name version None = None
 path_beside_index name version (Some repository) =
-    if_name (package_path repository.path name version)
+    path_if_name (package_path repository.path name version)
 
 -- The name of a candidate's file. Repositories count from 1. A package of none has no file.
 abbrev pub package_file_of : List Repository → Candidate → Option (List ℕ)

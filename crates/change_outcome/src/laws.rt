@@ -5,7 +5,7 @@ ghost use Rattle.std.specs.Prelude.{◌≡◌, ◌<◌, ◌++◌, ℕ, false, Li
 ghost use Rattle.base_core.specs.Files.{Files, HasNamesAmong};
 ghost use Rattle.base_core.specs.Name.{IsName};
 ghost use Rattle.package_changes.specs.change_files.FileChange.{FileChange};
-ghost use Rattle.package_changes.specs.change_files.FilesAfter.{RootFilesAfter, changed_files};
+ghost use Rattle.package_changes.specs.change_files.FilesAfter.{DatabaseAndWorldAfter, changed_files};
 ghost use Rattle.change_inputs.specs.Inputs.{Inputs, inputs_of};
 ghost use Rattle.change_outcome.specs.ChangeOutcome.{ChangeDone, ChangeWishes, IsClashOfChange, actions_of, bytes_or_empty_under, change_or_refusal, has_actions, new_records};
 ghost use Rattle.command_core.specs.Command.{CommandLine};
@@ -59,7 +59,7 @@ pub fn the_actions_of_a_change_lead_to_its_files()
 /// The names that a change removes and writes are names that a change may have, and none is
 /// repeated.
 pub fn the_names_of_a_change_may_be_changed()
-    ensures { (inputs : Inputs) (change : FileChange) (files : Files) (records : RootFilesAfter)
+    ensures { (inputs : Inputs) (change : FileChange) (files : Files) (records : DatabaseAndWorldAfter)
         → HasNoReservedPath change
         → let actions = actions_of inputs change files records in
         All IsName actions.removals → All IsName actions.writes

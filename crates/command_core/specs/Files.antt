@@ -15,12 +15,12 @@ is_file text = is_name (without_dot_slash text)
 
 -- the longest path of a file that is made, in bytes: its scratch name, the path with `.apk-tmp` after
 -- it, has eight bytes more, and a name at most 1,024
-abbrev pub longest_output : ℕ
-longest_output = 1016
+abbrev pub most_output_path_bytes : ℕ
+most_output_path_bytes = 1016
 
 -- whether a text names a file that may be written
 abbrev pub is_output_argument : List ℕ → Bool
-is_output_argument text = is_file text && nat_le (length (without_dot_slash text)) longest_output
+is_output_argument text = is_file text && nat_le (length (without_dot_slash text)) most_output_path_bytes
 
 -- whether a text is a path, as `info --who-owns` takes one: one leading `/` is dropped, and the rest is
 -- a name

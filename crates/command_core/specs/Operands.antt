@@ -30,13 +30,13 @@ is_decimal text =
     nat_lt 0 (length text) && not (has_zero_in_front text) && list_all is_ascii_digit text
 
 -- the largest number of packages of `demo`
-abbrev pub largest_demo : ℕ
-largest_demo = 20000
+abbrev pub most_demo_packages : ℕ
+most_demo_packages = 20000
 
 -- whether a text is a number of packages for `demo`
 abbrev pub is_demo_number : List ℕ → Bool
 is_demo_number text =
-    is_decimal text && nat_lt 0 (digits_value 10 text) && nat_le (digits_value 10 text) largest_demo
+    is_decimal text && nat_lt 0 (digits_value 10 text) && nat_le (digits_value 10 text) most_demo_packages
 
 -- whether a text is a pattern: one byte or more, each a visible ASCII character (0x21 to 0x7e)
 abbrev pub is_pattern : List ℕ → Bool

@@ -17,6 +17,6 @@ abbrev pub owned_paths : List Member → List Bool → List (List ℕ)
 owned_paths members flags = map (λ l. l.path) (owned_listings (member_listings members) flags)
 
 -- no two members have a file of one path among these
-abbrev pub HaveOneOwner : List Listing → Type 0
-HaveOneOwner listings =
+abbrev pub HaveAtMostOneOwner : List Listing → Type 0
+HaveAtMostOneOwner listings =
     (l k : Listing) → IsIn l listings → IsIn k listings → l.path ≡ k.path → l.place ≡ k.place

@@ -12,7 +12,7 @@ use Rattle.pkg_core.specs.adb_fields.FirstPair.{IsIn}
 use Rattle.pkg_core.specs.adb_fields.Repeated.{entries_at}
 use Rattle.pkg_core.specs.adb_schema.SoundContainers.{IsSoundValue}
 use Rattle.db_core.specs.Members.{Listing, Member}
-use Rattle.db_core.specs.OwnedListings.{HaveOneOwner}
+use Rattle.db_core.specs.OwnedListings.{HaveAtMostOneOwner}
 
 -- a package is one of the value of a sound database
 pub record IsOfSoundDatabase (pkg : Plain) : Type 0 where
@@ -50,5 +50,5 @@ NoneReserved (path ∷ paths) = (is_reserved path ≡ false) × NoneReserved pat
 
 -- listings that a database may have: each path has one owner, and none is reserved
 pub record MayBeInDatabase (listings : List Listing) : Type 0 where
-  pub one_owner : HaveOneOwner listings
+  pub one_owner : HaveAtMostOneOwner listings
   pub free : NoneReserved (map (λ l. l.path) listings)

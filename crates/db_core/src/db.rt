@@ -10,6 +10,7 @@ ghost use Rattle.pkg_core.specs.adb_schema.Views.{idb_value, package_value};
 ghost use Rattle.adb_view.specs.FieldIndexes.{IDB_PACKAGES};
 ghost use Rattle.adb_view.specs.Values.{count_of, entries_in, entry_in, is_sound};
 ghost use Rattle.adb_view.specs.declared.tables.Kind.TheVariants as Kinds;
+ghost use Rattle.adb_view.specs.declared.tables.Which.{Which};
 ghost use Rattle.adb_view.specs.declared.tables.Which.TheVariants as Tables;
 ghost use Rattle.adb_view.specs.Adb.{payload_of};
 ghost use Rattle.adb_view.specs.Head.{head_fault, root_of};
@@ -79,7 +80,7 @@ impl<'a> Db<'a> {
             ≡ entries_at IDB_PACKAGES (root_value Tables.Idb (payload_in bytes.entry.now))) }
     {
         read_adb(alloc, bytes, Which::Idb)?;
-        let db = Db::open(alloc, first_payload(bytes))?;
+        let db = Db::open(alloc, payload_in(bytes))?;
         Ok(db)
     }
 
@@ -183,14 +184,14 @@ pub(crate) fn package_of_database<'a>(idb: &Option<IdbView<'a>>, i: usize) -> Pa
     }
 }
 
-/// The payload of the first block of a database file that passes all tests.
+/// The payload of a file that passed its tests.
 #[tactic(auto, unfolding(adb_schema::specs::Soundness::first_fault, adb_schema::specs::Soundness::payload_in))]
-fn first_payload(bytes: &[u8]) -> &[u8]
-    requires { first_fault Tables.Idb bytes.now ≡ None }
-    ensures { result.now ≡ payload_in bytes.entry.now }
+pub fn payload_in(file: &[u8]) -> &[u8]
+    requires { (which : Which) × (first_fault which file.now ≡ None) }
+    ensures { result.now ≡ payload_in file.entry.now }
 {
     // The file passes all tests, so it has a first block.
-    let Ok(mut blocks) = Blocks::new(bytes) else {
+    let Ok(mut blocks) = Blocks::new(file) else {
         unreachable!()
     };
     match blocks.next() {

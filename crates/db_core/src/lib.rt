@@ -14,7 +14,7 @@ mod members;
 mod name_places;
 mod owned;
 
-pub use db::{Db, open_idb};
+pub use db::{Db, open_idb, payload_in};
 pub use members::{MOST_MEMBERS, Members, listings_are_at_their_places};
 pub use owned::Owned;
 pub use pkg_core::{

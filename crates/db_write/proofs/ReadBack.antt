@@ -11,7 +11,7 @@ use Rattle.adb_view.specs.Values.{entries_in}
 use Rattle.adb_view.specs.declared.tables.Which.{Which}
 use Rattle.adb_view.specs.declared.tables.Which.TheVariants.{Idb, Package}
 use Rattle.adb_copy.specs.adb_fields.Repeated.{entries_at, list_of}
-use Rattle.adb_sound.specs.adb_schema.SoundContainers.{IsSound}
+use Rattle.adb_sound.specs.adb_schema.SoundContainers.{IsSoundContainer}
 use Rattle.adb_sound.specs.adb_schema.Soundness.{first_fault, payload_in, root_value, schema_word}
 use Rattle.adb_sound.specs.adb_schema.declared.read.TheConstants.{IDB_WORD}
 use Rattle.adb_sound.specs.adb_write.Size.{size_of}
@@ -74,7 +74,7 @@ whole_is_first : (file : List ℕ) → header_of file ≡ Ok IDB_WORD → contai
 unfolding container_fault container_fault_of_table first_fault
 whole_is_first file header sound = sym (ap (container_fault_after_header file) header) ∙ sound
 
-pub is_sound_database : Spelled → ReadAs → Sound → (members : List Member) (flags : List Bool) (bytes : List ℕ) → IsRootOf Idb (database_value members flags) → database_of members flags ≡ Ok bytes → IsSound Idb bytes
+pub is_sound_database : Spelled → ReadAs → Sound → (members : List Member) (flags : List Bool) (bytes : List ℕ) → IsRootOf Idb (database_value members flags) → database_of members flags ≡ Ok bytes → IsSoundContainer Idb bytes
 is_sound_database spelled read law members flags bytes root h =
     subst (λ (file : List ℕ). first_fault Idb file ≡ None) (is_file members flags bytes h)
     (whole_is_first (file_of IDB_WORD (canonical (database_value members flags))) (database_header spelled read (database_value members flags) root.fits)

@@ -19,7 +19,7 @@ use Rattle.adb_copy.proofs.Zeros.{at_other, nth_zeros}
 use Rattle.db_core.specs.Members.{AreInOrder, Member, member_listings, member_name}
 use Rattle.db_write.specs.NewDatabase.{database_value, file_count, folder_in_new_database, folders_in_new_database, info_in_new_database, member_file_count, owned_entries, package_in_new_database, packages_in_new_database}
 use Rattle.db_core.specs.OwnedListings.{owned_listings}
-use Rattle.db_core.specs.OwnedListings.{HaveOneOwner}
+use Rattle.db_core.specs.OwnedListings.{HaveAtMostOneOwner}
 use Rattle.db_write.proofs.OneOwner.{owned_apart}
 use Rattle.db_write.proofs.OwnedPaths.{name_zeros}
 use Rattle.db_write.proofs.ReadBack.{packages_in}
@@ -124,7 +124,7 @@ rising_distinct (x ∷ xs) pairs = (
 
 -- ---- the database
 
-pub names_once : (members : List Member) (flags : List Bool) → EachIn (λ (m : Member). MayEnter m.pkg) members → AreInOrder members → HaveOneOwner (owned_listings (member_listings members) flags)
+pub names_once : (members : List Member) (flags : List Bool) → EachIn (λ (m : Member). MayEnter m.pkg) members → AreInOrder members → HaveAtMostOneOwner (owned_listings (member_listings members) flags)
     → HasNoRepeatedName Idb (database_value members flags)
 names_once members flags enter order owned =
     let packages : List Plain = list_of (packages_in_new_database members flags) in

@@ -2,7 +2,7 @@
 use Rattle.std.proofs.Common.{ℕ, Bool, true, false, List, [], ◌∷◌, drop, Option}
 use Rattle.std.specs.Prelude.{unwrap_or}
 use Rattle.adb_view.specs.Plain.{Plain, Plains, int, blob, none, more, arr_value, blob_or_null, IsNormal, AreNormal}
-use Rattle.adb_view.specs.Shaped.{Each, HasShape, IsArrayOf, HaveShapes}
+use Rattle.adb_view.specs.Shaped.{Each, HasShape, IsArrayOrNullOf, HaveShapes}
 use Rattle.adb_view.specs.Schema.{shape_of, shapes_of, table}
 use Rattle.adb_view.specs.Values.{entries_in, entry_in, int_in, text_in}
 use Rattle.adb_view.specs.declared.tables.Kind.TheVariants.{Obj, TextArr}
@@ -119,7 +119,7 @@ unfolding shape_of HasShape HaveShapes
 folder_shape d flags h =
     let fields = entries_shape 5 (shapes_of (table Tables.Dir)) d h in
     let acl : HasShape (shape_of (Obj Tables.Acl)) (entry_in d 1) = nth_shape (shapes_of (table Tables.Dir)) (entries_in d) 1 fields in
-    let files : IsArrayOf (HasShape (shape_of (Obj Tables.File))) (entry_in d 2) = nth_shape (shapes_of (table Tables.Dir)) (entries_in d) 2 fields in
+    let files : IsArrayOrNullOf (HasShape (shape_of (Obj Tables.File))) (entry_in d 2) = nth_shape (shapes_of (table Tables.Dir)) (entries_in d) 2 fields in
     let owned = each_owned (HasShape (shape_of (Obj Tables.File))) (HasShape (shape_of (Obj Tables.File))) (zeros_shape (shape_of (Obj Tables.File))) (entries_in (entry_in d 2)) flags
     (array_entries (HasShape (shape_of (Obj Tables.File))) (entry_in d 2) files) in
     obj_value_shape 5 (shapes_of (table Tables.Dir)) (fields_of_folder d flags) (blob_value_text (name_of d), (zeros_shape (shape_of (Obj Tables.Acl)) (entry_in d 1) acl, (arr_value_shape (shape_of (Obj Tables.File)) _ owned, tt)))
@@ -130,7 +130,7 @@ package_shape m flags h =
     let v : Plain = m.pkg in
     let fields = entries_shape 7 (shapes_of (table Tables.Package)) v h in
     let info : HasShape (shape_of (Obj Tables.PkgInfo)) (entry_in v 0) = nth_shape (shapes_of (table Tables.Package)) (entries_in v) 0 fields in
-    let listed : IsArrayOf (HasShape (shape_of (Obj Tables.Dir))) (entry_in v 1) = nth_shape (shapes_of (table Tables.Package)) (entries_in v) 1 fields in
+    let listed : IsArrayOrNullOf (HasShape (shape_of (Obj Tables.Dir))) (entry_in v 1) = nth_shape (shapes_of (table Tables.Package)) (entries_in v) 1 fields in
     let scripts : HasShape (shape_of (Obj Tables.Scripts)) (entry_in v 2) = nth_shape (shapes_of (table Tables.Package)) (entries_in v) 2 fields in
     let triggers : HasShape (shape_of TextArr) (entry_in v 3) = nth_shape (shapes_of (table Tables.Package)) (entries_in v) 3 fields in
     let folders = each_made file_count folder_in_new_database (HasShape (shape_of (Obj Tables.Dir))) (HasShape (shape_of (Obj Tables.Dir))) folder_shape (folders_in v) flags

@@ -6,7 +6,7 @@ use Rattle.version_core.specs.Order.{is_version}
 use Rattle.dep_core.specs.Dependency.{is_dep_name, is_package_name}
 use Rattle.dep_core.specs.Value.{is_match_number, is_version_or_empty}
 use Rattle.adb_view.specs.Plain.{Plain, int, blob, Plains, none, more, arr_value}
-use Rattle.adb_view.specs.Shaped.{Each, HasShape, IsArrayOf}
+use Rattle.adb_view.specs.Shaped.{Each, HasShape, IsArrayOrNullOf}
 use Rattle.adb_view.specs.Schema.{shape_of, shapes_of, table}
 use Rattle.adb_view.specs.Values.{entries_in, entry_in, int_in, text_in}
 use Rattle.adb_view.specs.declared.tables.Kind.TheVariants.{Obj}
@@ -44,7 +44,7 @@ unfolding without_zeros
 each_zeros P f none h = tt
 each_zeros P f (more v vs) h = (f v h.0, each_zeros P f vs h.1)
 
-array_zeros : (P : Plain → Type 0) (v : Plain) → IsArrayOf P v → entries_in (without_zeros v) ≡ all_without_zeros (entries_in v)
+array_zeros : (P : Plain → Type 0) (v : Plain) → IsArrayOrNullOf P v → entries_in (without_zeros v) ≡ all_without_zeros (entries_in v)
 array_zeros P v h = ap entries_in (zeros_array P v h) ∙ entries_arr (all_without_zeros (entries_in v))
 
 hash_after : (id : Option (List ℕ)) (info : Plain) → text_in (entry_in (info_in_new_database id info) 2) ≡ unwrap_or id (text_in (entry_in info 2))
@@ -65,14 +65,14 @@ module _ (id : Option (List ℕ)) (info : Plain) (shape : HasShape (shape_of (Ob
   text_kept : (i : ℕ) → (2 ≡ i → ⊥) → (12 ≡ i → ⊥) → text_in (entry_in (info_in_new_database id info) i) ≡ text_in (entry_in info i)
   text_kept i a b = ap text_in (info_entry id info i a b) ∙ text_zeros (entry_in info i)
 
-  list_kept : (i : ℕ) → (2 ≡ i → ⊥) → (12 ≡ i → ⊥) → IsArrayOf (HasShape (shape_of (Obj Tables.Dep))) (entry_in info i) → Each IsSoundDependency (entries_in (entry_in info i))
+  list_kept : (i : ℕ) → (2 ≡ i → ⊥) → (12 ≡ i → ⊥) → IsArrayOrNullOf (HasShape (shape_of (Obj Tables.Dep))) (entry_in info i) → Each IsSoundDependency (entries_in (entry_in info i))
       → Each IsSoundDependency (entries_in (entry_in (info_in_new_database id info) i))
   list_kept i a b array h =
       subst (Each IsSoundDependency) (sym (ap entries_in (info_entry id info i a b) ∙ array_zeros (HasShape (shape_of (Obj Tables.Dep))) (entry_in info i) array))
       (each_zeros IsSoundDependency zeros_dependency (entries_in (entry_in info i)) h)
 
   dependencies : (i : ℕ) → Type 0
-  dependencies i = IsArrayOf (HasShape (shape_of (Obj Tables.Dep))) (entry_in info i)
+  dependencies i = IsArrayOrNullOf (HasShape (shape_of (Obj Tables.Dep))) (entry_in info i)
 
   pub info_kept : (pkg : Plain) → IsOfSoundContainer pkg id → IsSoundInformation Tables.Idb info → IsSoundInformation Tables.Idb (info_in_new_database id info)
   unfolding shape_of HasShape

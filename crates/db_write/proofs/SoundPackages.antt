@@ -4,7 +4,7 @@ use Rattle.std.specs.Prelude.{◌<◌, All}
 use Rattle.std.specs.List.{flat_map}
 use Rattle.std.proofs.lemmas.Bool.{or_right}
 use Rattle.adb_view.specs.Plain.{Plain, Plains, none, more, IsNormal}
-use Rattle.adb_view.specs.Shaped.{Each, HasShape, IsArrayOf}
+use Rattle.adb_view.specs.Shaped.{Each, HasShape, IsArrayOrNullOf}
 use Rattle.adb_view.specs.Schema.{shape_of, shapes_of, table}
 use Rattle.adb_view.specs.Values.{entries_in, entry_in, text_in}
 use Rattle.adb_view.specs.declared.tables.Kind.TheVariants.{Obj}
@@ -17,7 +17,7 @@ use Rattle.adb_copy.proofs.adb_fields.Distinct.{distinct_front}
 use Rattle.adb_sound.specs.adb_schema.Rules.{is_digest_length, is_digest_length_or_none, is_file_name, is_folder_name, is_link_target_or_none}
 use Rattle.adb_sound.specs.adb_schema.SoundValues.{IsSoundFileOf, IsSoundFolder, IsSoundInformation, IsSoundPackage}
 use Rattle.adb_sound.specs.adb_schema.Texts.{is_with_contents, needs_hash}
-use Rattle.adb_sound.specs.adb_schema.SoundContainers.{IsSound, IsSoundValue}
+use Rattle.adb_sound.specs.adb_schema.SoundContainers.{IsSoundContainer, IsSoundValue}
 use Rattle.adb_sound.specs.adb_schema.Soundness.{payload_in, root_value}
 use Rattle.adb_copy.proofs.Shapes.{entries_shape, nth_shape}
 use Rattle.db_core.specs.SoundMembers.{IsOfSoundContainer, IsOfSoundDatabase, IsOfSoundPackage}
@@ -118,7 +118,7 @@ database_enters : (pkg : Plain) → IsOfSoundDatabase pkg → MayEnter pkg
 unfolding shape_of HasShape
 database_enters pkg h =
     let vs : Plains = entries_in (entry_in h.database 0) in
-    let packages : IsArrayOf (HasShape (shape_of (Obj Tables.Package))) (entry_in h.database 0) =
+    let packages : IsArrayOrNullOf (HasShape (shape_of (Obj Tables.Package))) (entry_in h.database 0) =
     nth_shape (shapes_of (table Tables.Idb)) (entries_in h.database) 0 (entries_shape 9 (shapes_of (table Tables.Idb)) h.database h.sound.shape) in
     let rules : IsSoundPackage Tables.Idb pkg = each_in (IsSoundPackage Tables.Idb) pkg vs h.sound.rules h.listed in
     let once : HaveNoRepeatInside (entries_at 0 h.database) = h.sound.once.0 in
@@ -138,14 +138,14 @@ member_enters pkg (Some id) h = package_enters pkg id h
 -- ---- what sound containers hold
 
 abbrev pub Holds : Type 0
-Holds = (which : Which) (file : List ℕ) → IsSound which file → IsSoundValue which (root_value which (payload_in file))
+Holds = (which : Which) (file : List ℕ) → IsSoundContainer which file → IsSoundValue which (root_value which (payload_in file))
 
 abbrev pub HoldsNormal : Type 0
-HoldsNormal = (which : Which) (file : List ℕ) → IsSound which file → All (λ b. b < 256) (payload_in file) → IsNormal (root_value which (payload_in file))
+HoldsNormal = (which : Which) (file : List ℕ) → IsSoundContainer which file → All (λ b. b < 256) (payload_in file) → IsNormal (root_value which (payload_in file))
 
-pub may_be_kept : Holds → HoldsNormal → (file : List ℕ) (pkg : Plain) → IsSound Tables.Idb file → All (λ b. b < 256) (payload_in file) → IsIn pkg (entries_at 0 (root_value Tables.Idb (payload_in file))) → IsOfSoundContainer pkg None
+pub may_be_kept : Holds → HoldsNormal → (file : List ℕ) (pkg : Plain) → IsSoundContainer Tables.Idb file → All (λ b. b < 256) (payload_in file) → IsIn pkg (entries_at 0 (root_value Tables.Idb (payload_in file))) → IsOfSoundContainer pkg None
 may_be_kept holds normal file pkg sound bytes listed = record { database = root_value Tables.Idb (payload_in file); sound = holds Tables.Idb file sound; normal = normal Tables.Idb file sound bytes; listed = listed }
 
-pub may_come : Holds → HoldsNormal → (file id : List ℕ) → IsSound Tables.Package file → All (λ b. b < 256) (payload_in file) → is_digest_length (length id) ≡ true
+pub may_come : Holds → HoldsNormal → (file id : List ℕ) → IsSoundContainer Tables.Package file → All (λ b. b < 256) (payload_in file) → is_digest_length (length id) ≡ true
     → IsOfSoundContainer (root_value Tables.Package (payload_in file)) (Some id)
 may_come holds normal file id sound bytes digest = record { sound = holds Tables.Package file sound; normal = normal Tables.Package file sound bytes; digest = digest }

@@ -1,7 +1,7 @@
 -- Where nothing changes, the value is written as it was, without zeros.
 use Rattle.std.proofs.Common.{◌≡◌, ℕ, suc, zero, ◌-◌, ◌≤◌, Bool, true, List, [], ◌∷◌, map, drop, replicate, None, Ok, refl, ap, sym, ◌∙◌, subst, arith}
 use Rattle.adb_view.specs.Plain.{Plain, null, int, blob, arr, obj, Plains, none, more, blob_or_null, arr_value, obj_value}
-use Rattle.adb_view.specs.Shaped.{Each, HasShape, IsArrayOf}
+use Rattle.adb_view.specs.Shaped.{Each, HasShape, IsArrayOrNullOf}
 use Rattle.adb_view.specs.Schema.{shape_of, shapes_of, table}
 use Rattle.adb_view.specs.Values.{count_of, entries_in, entry_in, int_in, text_in}
 use Rattle.adb_view.specs.declared.tables.Kind.TheVariants as Kinds
@@ -52,7 +52,7 @@ map_same (v ∷ vs) = ap (λ r. v ∷ r) (map_same vs)
 
 -- ---- folders
 
-pub array_entries : (P : Plain → Type 0) (v : Plain) → IsArrayOf P v → Each P (entries_in v)
+pub array_entries : (P : Plain → Type 0) (v : Plain) → IsArrayOrNullOf P v → Each P (entries_in v)
 array_entries P null h = tt
 array_entries P (int n) h = absurd h
 array_entries P (blob b) h = absurd h
@@ -62,7 +62,7 @@ array_entries P (obj vs) h = absurd h
 folder_same : (v : Plain) (m : ℕ) → HasShape (shape_of (Kinds.Obj Tables.Dir)) v → file_count v ≤ m → folder_in_new_database v (replicate m true) ≡ without_zeros v
 unfolding shape_of HasShape
 folder_same v m h enough =
-    let files : IsArrayOf (HasShape (shape_of (Kinds.Obj Tables.File))) (entry_in v 2) = nth_shape (shapes_of (table Tables.Dir)) (entries_in v) 2 (entries_shape 5 (shapes_of (table Tables.Dir)) v h) in
+    let files : IsArrayOrNullOf (HasShape (shape_of (Kinds.Obj Tables.File))) (entry_in v 2) = nth_shape (shapes_of (table Tables.Dir)) (entries_in v) 2 (entries_shape 5 (shapes_of (table Tables.Dir)) v h) in
     let owned : owned_entries (files_in v) (replicate m true) ≡ all_without_zeros (entries_in (entry_in v 2)) =
     owned_all (entries_in (entry_in v 2)) m (omega (arith, enough, count-listed (entries_in (entry_in v 2)))) in
     ap (λ fs. obj_value (more (blob_or_null (name_of v)) (more (without_zeros (entry_in v 1)) (more fs none))))
@@ -83,7 +83,7 @@ unfolding shape_of HasShape
 package_same v m h enough =
     let fields = entries_shape 7 (shapes_of (table Tables.Package)) v h in
     let info : HasShape (shape_of (Kinds.Obj Tables.PkgInfo)) (entry_in v 0) = nth_shape (shapes_of (table Tables.Package)) (entries_in v) 0 fields in
-    let folders : IsArrayOf (HasShape (shape_of (Kinds.Obj Tables.Dir))) (entry_in v 1) = nth_shape (shapes_of (table Tables.Package)) (entries_in v) 1 fields in
+    let folders : IsArrayOrNullOf (HasShape (shape_of (Kinds.Obj Tables.Dir))) (entry_in v 1) = nth_shape (shapes_of (table Tables.Package)) (entries_in v) 1 fields in
     let listed : List Plain = folders_in v in
     let all : folders_in_new_database listed (replicate m true) ≡ all_without_zeros (entries_in (entry_in v 1)) =
     ap (λ ds. folders_in_new_database ds (replicate m true)) (sym (map_same listed))
@@ -99,7 +99,7 @@ package_same v m h enough =
 pub database_same : (v : Plain) → HasShape (shape_of (Kinds.Obj Tables.Idb)) v → database_value (members_of_kept (entries_at 0 v)) (all_owned (members_of_kept (entries_at 0 v))) ≡ without_zeros v
 unfolding shape_of HasShape database_value
 database_same v h =
-    let packages : IsArrayOf (HasShape (shape_of (Kinds.Obj Tables.Package))) (entry_in v 0) = nth_shape (shapes_of (table Tables.Idb)) (entries_in v) 0 (entries_shape 9 (shapes_of (table Tables.Idb)) v h) in
+    let packages : IsArrayOrNullOf (HasShape (shape_of (Kinds.Obj Tables.Package))) (entry_in v 0) = nth_shape (shapes_of (table Tables.Idb)) (entries_in v) 0 (entries_shape 9 (shapes_of (table Tables.Idb)) v h) in
     let members : List Member = members_of_kept (entries_at 0 v) in
     let all : packages_in_new_database members (all_owned members) ≡ all_without_zeros (entries_in (entry_in v 0)) =
     each_all member_file_count package_in_new_database member_of_kept (HasShape (shape_of (Kinds.Obj Tables.Package))) package_same (entries_in (entry_in v 0)) (total_of member_file_count members)

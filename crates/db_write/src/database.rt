@@ -5,7 +5,7 @@
 ghost use Rattle.adb_copy.specs.adb_values.Drafts.{draft_with};
 ghost use Rattle.adb_copy.specs.adb_values.Written.{IsWrittenAs};
 ghost use Rattle.adb_sound.specs.adb_write.Canonical.{payload_or_overflow, MOST_BYTES};
-ghost use Rattle.adb_sound.specs.adb_schema.SoundContainers.{IsSound};
+ghost use Rattle.adb_sound.specs.adb_schema.SoundContainers.{IsSoundContainer};
 ghost use Rattle.adb_view.specs.declared.tables.Which.TheVariants as Tables;
 ghost use Rattle.db_core.specs.Members.{member_listings};
 ghost use Rattle.db_core.specs.OwnedListings.{owned_listings};
@@ -36,7 +36,7 @@ pub fn write_db(alloc: Global, members: &Members<'_>, owned: &Owned) -> Result<V
     // The file passes all tests of a database if the owned listings may be listed.
     ensures sound { IfOk result (λ file.
         MayBeInDatabase (owned_listings (member_listings (members_of members.now)) owned.now)
-        → IsSound Tables.Idb file.items) }
+        → IsSoundContainer Tables.Idb file.items) }
 {
     members.members_are_in_order();
     members.packages_are_sound();

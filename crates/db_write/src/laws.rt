@@ -6,7 +6,7 @@ ghost use Rattle.adb_copy.specs.Zeros.{without_zeros};
 ghost use Rattle.adb_copy.specs.adb_fields.FirstPair.{IsIn};
 ghost use Rattle.adb_copy.specs.adb_fields.Repeated.{entries_at, folders_in, list_of, name_of, paths_in};
 ghost use Rattle.adb_sound.specs.adb_schema.Rules.{is_digest_length};
-ghost use Rattle.adb_sound.specs.adb_schema.SoundContainers.{IsSound};
+ghost use Rattle.adb_sound.specs.adb_schema.SoundContainers.{IsSoundContainer};
 ghost use Rattle.adb_sound.specs.adb_schema.Soundness.{payload_in, root_value};
 ghost use Rattle.adb_sound.specs.adb_schema.declared.read.TheConstants.{IDB_WORD};
 ghost use Rattle.adb_sound.specs.Root.{IsRootOf};
@@ -41,7 +41,7 @@ use adb_write::{a_file_is_spelled, a_value_overflows_exactly_past_a_limit};
 pub fn a_written_database_is_read_back()
     ensures database { (members : List Member) (flags : List Bool) (bytes : List ℕ)
         → IsRootOf Tables.Idb (database_value members flags) → database_of members flags ≡ Ok bytes
-        → IsSound Tables.Idb bytes }
+        → IsSoundContainer Tables.Idb bytes }
     ensures sound { (members : List Member) (flags : List Bool) (bytes : List ℕ)
         → IsRootOf Tables.Idb (database_value members flags) → database_of members flags ≡ Ok bytes
         → container_fault bytes ≡ None }
@@ -75,11 +75,11 @@ pub fn a_database_of_sound_packages_may_be_the_root()
 /// the value of a package as an added one, with a digest as its id.
 pub fn packages_of_sound_containers_may_be_members()
     ensures stays { (file : List ℕ) (pkg : Plain)
-        → IsSound Tables.Idb file → All (λ b. b < 256) (payload_in file)
+        → IsSoundContainer Tables.Idb file → All (λ b. b < 256) (payload_in file)
         → IsIn pkg (entries_at IDB_PACKAGES (root_value Tables.Idb (payload_in file)))
         → IsOfSoundContainer pkg None }
     ensures comes { (file id : List ℕ)
-        → IsSound Tables.Package file → All (λ b. b < 256) (payload_in file)
+        → IsSoundContainer Tables.Package file → All (λ b. b < 256) (payload_in file)
         → is_digest_length (length id) ≡ true
         → IsOfSoundContainer (root_value Tables.Package (payload_in file)) (Some id) }
 {

@@ -15,7 +15,7 @@ use Rattle.base_core.specs.Faults.{Counts}
 use Rattle.base_core.specs.Files.{Files}
 use Rattle.base_core.specs.Tree.{TreeState, files_of}
 use Rattle.change_report.specs.change_files.FileChange.{FileChange}
-use Rattle.change_report.specs.change_files.FilesAfter.{RootFilesAfter, listing_bytes}
+use Rattle.change_report.specs.change_files.FilesAfter.{DatabaseAndWorldAfter, listing_bytes}
 use Rattle.change_report.specs.change_files.PlanLists.{FileWrite, file_writes_of, first_reserved_path, sorted_distinct_names}
 use Rattle.change_report.specs.change_inputs.Answers.{Agrees}
 use Rattle.change_report.specs.change_inputs.Chains.{and_then}
@@ -156,10 +156,10 @@ two_reserved true b q (inl is) = ap is_reserved is
 two_reserved true b q (inr here) = world_reserved b q here
 two_reserved false b q here = world_reserved b q here
 
-records_once : (inputs : Inputs) (records : RootFilesAfter) → HaveNoRepeats (written_record_names inputs records)
+records_once : (inputs : Inputs) (records : DatabaseAndWorldAfter) → HaveNoRepeats (written_record_names inputs records)
 records_once inputs records = two_once (is_absent_or_different inputs.root.database.file records.database) (not (bytes_eq inputs.root.world_text records.world))
 
-records_are_reserved : (inputs : Inputs) (records : RootFilesAfter) (q : List ℕ) → IsIn q (written_record_names inputs records) → is_reserved q ≡ true
+records_are_reserved : (inputs : Inputs) (records : DatabaseAndWorldAfter) (q : List ℕ) → IsIn q (written_record_names inputs records) → is_reserved q ≡ true
 records_are_reserved inputs records q here = two_reserved (is_absent_or_different inputs.root.database.file records.database) (not (bytes_eq inputs.root.world_text records.world)) q here
 
 -- of the plan alone
@@ -235,7 +235,7 @@ module _ (history : List TreeState) (p : Plan) (found : List MemberFound) (files
   abbrev change : FileChange
   change = file_change inputs (wishes_of_plan p) found
 
-  abbrev records : RootFilesAfter
+  abbrev records : DatabaseAndWorldAfter
   records = new_records inputs own.database.items
 
   abbrev actions : Intent

@@ -23,7 +23,7 @@ use Rattle.change_report.specs.path_clashes.Clash.{NamePair}
 use Rattle.change_report.specs.package_changes.Changes.{Replacement}
 use Rattle.report_core.specs.declared.refusal.Refusal.{Refusal}
 use Rattle.engine_core.specs.ChangeRun.{CarriesOut, DoesCommit, IsUnchangedOrCommit, report_as_is, report_of_result}
-use Rattle.engine_core.specs.Changed.{IsClashOfSelected, IsClashUnlessSimulated, Selected, change_of_selected, found_packages}
+use Rattle.engine_core.specs.Changed.{IsClashOfSelected, IsClashUnlessSimulated, InputsAndReplacement, change_of_selected, found_packages}
 use Rattle.engine_core.specs.Runs.{IsSelectedRun}
 use Rattle.engine_core.specs.Wishes.{wishes_of}
 
@@ -34,19 +34,19 @@ pub record HaveClash : Type 0 where
       → (clash : Option NamePair) × IsClashOfChange inputs r wishes read files clash
 
 module _ (have : HaveClash) (names : List (List ℕ)) (files : Files) (within : HasNamesAmong names files) where
-  clash_unless : (b : Bool) (s : Selected) (wishes : ChangeWishes) (read : Reads)
+  clash_unless : (b : Bool) (s : InputsAndReplacement) (wishes : ChangeWishes) (read : Reads)
       → (clash : Option NamePair) × IsClashUnlessSimulated b wishes read files s clash
   clash_unless true s wishes read = (None, refl)
   clash_unless false s wishes read = have.exists s.inputs s.replacement wishes read names files within
 
-  pub clash_selected : (command : CommandLine) (read : Reads) (selected : Result Selected Refusal)
+  pub clash_selected : (command : CommandLine) (read : Reads) (selected : Result InputsAndReplacement Refusal)
       → (clash : Option NamePair) × IsClashOfSelected command read files selected clash
   clash_selected command read (Ok s) = clash_unless command.flags.simulate s (wishes_of command) read
   clash_selected command read (Err refusal) = (None, refl)
 
 -- ---- reads and files of a history
 
-pub record Seen (command : CommandLine) (selected : Result Selected Refusal) (old : List TreeState) : Type 0 where
+pub record Seen (command : CommandLine) (selected : Result InputsAndReplacement Refusal) (old : List TreeState) : Type 0 where
   pub read : Reads
   pub observed : AreReadsOfTree old read
   pub files : Files
@@ -65,13 +65,13 @@ within_files v names within q is = within q (by_number (v.names q) is)
     by_number (Some n) is = refl
 
 -- the files, and their first clash by given reads
-pub record FilesSeen (command : CommandLine) (selected : Result Selected Refusal) (old : List TreeState) (read : Reads) : Type 0 where
+pub record FilesSeen (command : CommandLine) (selected : Result InputsAndReplacement Refusal) (old : List TreeState) (read : Reads) : Type 0 where
   pub files : Files
   pub there : IfObservable old (λ v. files ≡ files_of v)
   pub clash : Option NamePair
   pub is_clash : IsClashOfSelected command read files selected clash
 
-pub files_seen : HaveClash → (command : CommandLine) (selected : Result Selected Refusal) (old : List TreeState) (read : Reads) → All IsWellFormed old → FilesSeen command selected old read
+pub files_seen : HaveClash → (command : CommandLine) (selected : Result InputsAndReplacement Refusal) (old : List TreeState) (read : Reads) → All IsWellFormed old → FilesSeen command selected old read
 files_seen have command selected [] read whole =
     let found = clash_selected have [] no_names nothing_within command read selected in
     record { files = no_names; there = tt; clash = found.0; is_clash = found.1 }
@@ -84,7 +84,7 @@ pub some_reads : (old : List TreeState) → (read : Reads) × AreReadsOfTree old
 some_reads [] = ((λ n name. None), tt)
 some_reads (v ∷ earlier) = ((λ n name. files_of v name), λ n name. refl)
 
-pub seen_any : HaveClash → (command : CommandLine) (selected : Result Selected Refusal) (old : List TreeState) → All IsWellFormed old → Seen command selected old
+pub seen_any : HaveClash → (command : CommandLine) (selected : Result InputsAndReplacement Refusal) (old : List TreeState) → All IsWellFormed old → Seen command selected old
 seen_any have command selected old whole =
     let (read, observed) = some_reads old in
     let seen = files_seen have command selected old read whole in
@@ -152,7 +152,7 @@ module _ (packages : Result (List MemberFound) Refusal) (wanted : Result ChangeD
 
 -- ---- runs by what is selected
 
-module _ (command : CommandLine) (selected : Result Selected Refusal) (old now : List TreeState) (before after : Counts) where
+module _ (command : CommandLine) (selected : Result InputsAndReplacement Refusal) (old now : List TreeState) (before after : Counts) where
   pub of_seen : (seen : Seen command selected old) (result : Result (List ℕ) Refused)
       → CarriesOut (found_packages command seen.read selected) (and_then selected (change_of_selected command seen.read seen.files seen.clash)) old now before after result
       → IsSelectedRun command selected old now before after result
@@ -177,4 +177,4 @@ module _ (command : CommandLine) (selected : Result Selected Refusal) (old now :
   selected_refusal have whole quiet refusal is =
       let seen = seen_any have command selected old whole in
       of_seen seen (Err (IsRefused refusal))
-      (comes_to_refusal _ _ old now before after quiet refusal (ap (λ (s : Result Selected Refusal). and_then s (change_of_selected command seen.read seen.files seen.clash)) is))
+      (comes_to_refusal _ _ old now before after quiet refusal (ap (λ (s : Result InputsAndReplacement Refusal). and_then s (change_of_selected command seen.read seen.files seen.clash)) is))

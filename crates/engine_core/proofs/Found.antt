@@ -27,7 +27,7 @@ use Rattle.change_report.specs.db_core.Seen.{members_of, packages_of}
 use Rattle.change_report.specs.db_core.declared.members.Members.{Members}
 use Rattle.change_report.specs.file_owners.Owners.{first_contested_path_of_members}
 use Rattle.change_report.specs.make_info.Reads.{Reads}
-use Rattle.change_report.specs.own_core.Planned.{ArePlanLists, HasDisjointUnreservedNames, HasSources, IsClashBySome, IsPlanFor, IsPlanOf, IsRefusalFor, IsRefusalOf, MayBeRefusalOf, file_change_between, member_name_at}
+use Rattle.change_report.specs.own_core.Planned.{ArePlanLists, HasDisjointUnreservedNames, HasSources, IsClashBySome, IsPlanForMembersAlone, IsPlanOverSomeFiles, IsRefusalForMembersAlone, IsRefusalOverFiles, MayBeRefusalOf, file_change_between, member_name_at}
 use Rattle.change_report.specs.own_core.declared.fault.PlanFault.{PlanFault}
 use Rattle.change_report.specs.own_core.declared.planning.FilePlan.{FilePlan}
 use Rattle.change_report.specs.own_core.declared.fault.PlanFault.TheVariants as Plans
@@ -136,7 +136,7 @@ module _ (have : HaveClash) (inputs : Inputs) (r : Replacement) (wishes : Change
         by None e = absurd (cc (e))
         by (Some m) e = same_Some (member_name m) name e
 
-    owned_path : (path first second : List ℕ) → IsRefusalFor (found_members found) (Plans.Owned path first second) → ClashTold (file_change inputs wishes found) old None
+    owned_path : (path first second : List ℕ) → IsRefusalForMembersAlone (found_members found) (Plans.Owned path first second) → ClashTold (file_change inputs wishes found) old None
         → IsFoundRun inputs r wishes found old now before after (Err (Commands.Refusal (Owned path first second)))
     owned_path path first second (none, contest) told =
         let contested : Option ContestedPath = first_contested_path_of_members (found_members found) in
@@ -147,8 +147,8 @@ module _ (have : HaveClash) (inputs : Inputs) (r : Replacement) (wishes : Change
         ∙ ap (λ (o : Option ContestedPath). unless_contested (found_members found) o rest) contest.is
         ∙ ((λ i. Err (Owned (sym contest.at i) (named contest.contest.rivals.first first contest.lister i) (named contest.contest.rivals.second second contest.other i))))))
 
-    pub unplanned : (fault : PlanFault) (refused : Refused) → IsRefusalOfPlanFault fault refused → IsRefusalFor (found_members found) fault
-        → IfObservable old (λ v. IsRefusalOf (file_change inputs wishes found) (files_of v) fault) → MayBeRefusalOf (file_change inputs wishes found) old fault → IsFoundRun inputs r wishes found old now before after (Err refused)
+    pub unplanned : (fault : PlanFault) (refused : Refused) → IsRefusalOfPlanFault fault refused → IsRefusalForMembersAlone (found_members found) fault
+        → IfObservable old (λ v. IsRefusalOverFiles (file_change inputs wishes found) (files_of v) fault) → MayBeRefusalOf (file_change inputs wishes found) old fault → IsFoundRun inputs r wishes found old now before after (Err refused)
     unplanned (Plans.Reserved path) refused is cause first may = subst (λ (e : Refused). IsFoundRun inputs r wishes found old now before after (Err e)) (sym is) (reserved_path path cause)
     unplanned (Plans.PathClash path other) refused is cause first may = subst (λ (e : Refused). IsFoundRun inputs r wishes found old now before after (Err e)) (sym is) (path_clash path other cause (clash_told (file_change inputs wishes found) old (Some (record { path = path; other = other })) may first))
     unplanned (Plans.Owned path one two) refused is cause first may = subst (λ (e : Refused). IsFoundRun inputs r wishes found old now before after (Err e)) (sym is) (owned_path path one two cause (clash_told (file_change inputs wishes found) old None may first))
@@ -164,14 +164,14 @@ change_is history a ms wishes found arrived = λ i. record { old = arrived.read.
 -- why there is none, of the packages that are found
 pub unplanned_run : HaveClash → (old now : List TreeState) (before after : Counts) (a : ReadPackages) (ms : Members) (wishes : ChangeWishes) (read : Reads) (found : List MemberFound) (fault : PlanFault) (refused : Refused)
     → All IsWellFormed old → IsOnlyRead old now before after → IsArrived old a ms found → change_members (inputs_of_packages a) (replacement_of_packages a) wishes read ≡ Ok found
-    → IsRefusalOfPlanFault fault refused → IsRefusalFor (members_of ms) fault
-    → IfObservable old (λ v. IsRefusalOf (file_change_between a.selection.now.db ms wishes.purge) (files_of v) fault)
+    → IsRefusalOfPlanFault fault refused → IsRefusalForMembersAlone (members_of ms) fault
+    → IfObservable old (λ v. IsRefusalOverFiles (file_change_between a.selection.now.db ms wishes.purge) (files_of v) fault)
     → MayBeRefusalOf (file_change_between a.selection.now.db ms wishes.purge) old fault
     → IsFoundRun (inputs_of_packages a) (replacement_of_packages a) wishes found old now before after (Err refused)
 unplanned_run have old now before after a ms wishes read found fault refused whole quiet arrived is_found is cause first may =
     unplanned have (inputs_of_packages a) (replacement_of_packages a) wishes read found is_found old now before after whole quiet fault refused is
-    (subst (λ (ms : List Member). IsRefusalFor ms fault) arrived.members cause)
-    (subst (λ (c : FileChange). IfObservable old (λ v. IsRefusalOf c (files_of v) fault)) (change_is old a ms wishes found arrived) first)
+    (subst (λ (ms : List Member). IsRefusalForMembersAlone ms fault) arrived.members cause)
+    (subst (λ (c : FileChange). IfObservable old (λ v. IsRefusalOverFiles c (files_of v) fault)) (change_is old a ms wishes found arrived) first)
     (subst (λ (c : FileChange). MayBeRefusalOf c old fault) (change_is old a ms wishes found arrived) may)
 
 -- the same, of the step that plans
@@ -182,8 +182,8 @@ unplanned_step have old now before after a ms wishes read found refused why whol
     unplanned_run have old now before after a ms wishes read found why.fault refused whole quiet arrived is_found why.reported why.cause why.first why.may
 
 pub planned_now : (old mid : List TreeState) → mid ≡ old → (p : Plan) (found : List MemberFound) → IsArrived old p.packages.now p.members found
-    → (plan : IsPlanOf (file_change_between p.packages.now.selection.now.db p.members (wishes_of_plan p).purge) old p.files)
-    → HasDisjointUnreservedNames p.files → HasSources (members_of p.members) p.files → IsPlanFor (members_of p.members) p.files
+    → (plan : IsPlanOverSomeFiles (file_change_between p.packages.now.selection.now.db p.members (wishes_of_plan p).purge) old p.files)
+    → HasDisjointUnreservedNames p.files → HasSources (members_of p.members) p.files → IsPlanForMembersAlone (members_of p.members) p.files
     → All (λ l. is_reserved l.path ≡ false) (member_listings (map member_of_kept (packages_of p.packages.now.selection.now.db)))
     → IsPlanned mid p found plan.files
 unfolding old_listings
@@ -201,7 +201,7 @@ planned_now old mid same p found arrived plan names sources owners unreserved =
     })
 
 pub planned_run : (old mid now : List TreeState) (before between after : Counts) (a : ReadPackages) (ms : Members) (p : FilePlan) (wishes : ChangeWishes) (found : List MemberFound) (result : Result (List ℕ) Refused)
-    → IsOnlyRead old mid before between → IsArrived old a ms found → (plan : IsPlanOf (file_change_between a.selection.now.db ms wishes.purge) old p) → IsPlanFor (members_of ms) p
+    → IsOnlyRead old mid before between → IsArrived old a ms found → (plan : IsPlanOverSomeFiles (file_change_between a.selection.now.db ms wishes.purge) old p) → IsPlanForMembersAlone (members_of ms) p
     → CarriesOut (Ok found)
     (and_then (unless_trigger_due wishes.no_scripts (touched_paths (file_change (inputs_of_packages a) wishes found) plan.files) (found_members found))
     (λ allowed. unless_too_large (inputs_of_packages a) (replacement_of_packages a) wishes found plan.files)) mid now between after result

@@ -16,7 +16,7 @@ use Rattle.change_report.specs.package_changes.Report.{simulated_report}
 use Rattle.change_report.specs.candidate_core.Rank.{SealedPool, UpgradedNames}
 use Rattle.report_core.specs.declared.refusal.Refusal.{Refusal}
 use Rattle.report_core.specs.declared.refusal.Refusal.TheVariants.{NotInstalled}
-use Rattle.engine_core.specs.Changed.{Selected, selected_by, selected_of_inputs, simulated_change}
+use Rattle.engine_core.specs.Changed.{InputsAndReplacement, selected_by, selected_of_inputs, simulated_change}
 use Rattle.engine_core.specs.Choice.{IsPreferredChoice, IsChoiceFrom}
 use Rattle.engine_core.specs.Chosen.{IsResultOfChoice}
 use Rattle.engine_core.specs.Runs.{IsSelectedRun}
@@ -59,7 +59,7 @@ module _ (command : CommandLine) (inputs : Inputs) (old now : List TreeState) (b
 
   -- a selection is made
   pub selected_run : (s : Selection) (result : Result (List ℕ) Refused) → IsSelectedFrom command inputs (Ok s) → IsSelectedRun command (Ok (selection_seen s)) old now before after result → IsRunBy command inputs old now before after result
-  selected_run s result (chosen, choice, is) run = (chosen, choice, subst (λ (r : Result Selected Refusal). IsSelectedRun command r old now before after result) (sym is) run)
+  selected_run s result (chosen, choice, is) run = (chosen, choice, subst (λ (r : Result InputsAndReplacement Refusal). IsSelectedRun command r old now before after result) (sym is) run)
 
 -- ---- what is selected
 
@@ -120,7 +120,7 @@ module _ (command : CommandLine) (inputs : Inputs) where
 
 -- ---- a change that is only simulated
 
-pub simulated_run : HaveClash → (command : CommandLine) (s : Selected) (old now : List TreeState) (before after : Counts) (report : List ℕ) → All IsWellFormed old → IsOnlyRead old now before after → command.flags.simulate ≡ true
+pub simulated_run : HaveClash → (command : CommandLine) (s : InputsAndReplacement) (old now : List TreeState) (before after : Counts) (report : List ℕ) → All IsWellFormed old → IsOnlyRead old now before after → command.flags.simulate ≡ true
     → report ≡ simulated_report s.replacement (names_to_remove command.applet command.operands) → IsSelectedRun command (Ok s) old now before after (Ok report)
 simulated_run have command s old now before after report whole quiet simulate told =
     let seen = seen_any have command (Ok s) old whole in

@@ -9,7 +9,7 @@ use Rattle.journal_staging.specs.adb_schema.Reserved.{is_reserved}
 use Rattle.adb_view.specs.Plain.{Plain}
 use Rattle.added_packages.specs.Arrivals.{IsFileOfMember}
 use Rattle.change_report.specs.change_files.FileChange.{FileChange}
-use Rattle.change_report.specs.change_files.FilesAfter.{RootFilesAfter, changed_files, database_name, is_written, listing_bytes, world_bytes_after, world_name, listing_written_under_name}
+use Rattle.change_report.specs.change_files.FilesAfter.{DatabaseAndWorldAfter, changed_files, database_name, is_written, listing_bytes, world_bytes_after, world_name, listing_written_under_name}
 use Rattle.change_report.specs.change_files.PlanLists.{FileWrite, file_writes_of, write_to}
 use Rattle.change_report.specs.change_files.Touched.{is_record_name}
 use Rattle.change_report.proofs.change_files.Lists.{IsOneOf}
@@ -59,7 +59,7 @@ listing_bytes_are contents members name l entry =
     ap (λ (e : Plain). if has_target e then link_bytes e else bytes_of_file l.folder l.file (contents l.place)) entry
 
 module _ (inputs : Inputs) (change : FileChange) (contents : ℕ → List Contents) (database : List ℕ) (files : Files) (root : IsRootOfFiles files inputs.root) (free : HasNoReservedPath change) where
-  abbrev records : RootFilesAfter
+  abbrev records : DatabaseAndWorldAfter
   records = new_records inputs database
 
   abbrev after : Files

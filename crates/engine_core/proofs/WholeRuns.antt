@@ -26,7 +26,7 @@ use Rattle.report_core.specs.declared.refusal.Refusal.{Refusal}
 use Rattle.change_report.specs.change_outcome.Premises.{IsRootOfFiles}
 use Rattle.engine_core.specs.Preparing.{IsRootRead}
 use Rattle.engine_core.specs.ChangeRun.{CarriesOut, IsChangeRun}
-use Rattle.engine_core.specs.Changed.{IsClashOfSelected, IsClashOfSelectedAmong, IsClashUnlessSimulatedAmong, Selected, change_of_selected, change_of_command, found_packages, selected_by, selected_for, selected_of_inputs, simulated_change}
+use Rattle.engine_core.specs.Changed.{IsClashOfSelected, IsClashOfSelectedAmong, IsClashUnlessSimulatedAmong, InputsAndReplacement, change_of_selected, change_of_command, found_packages, selected_by, selected_for, selected_of_inputs, simulated_change}
 use Rattle.engine_core.specs.Choice.{IsChoiceFrom}
 use Rattle.engine_core.specs.Runs.{IsSelectedRun}
 use Rattle.engine_core.specs.Selecting.{pool_of_inputs, pool_of_command}
@@ -86,7 +86,7 @@ comes_after_reads packages wanted old mid now before between after result quiet 
     both A B C [] q r = tt
     both A B C (v ∷ earlier) q r = λ a b c. r a b c ∙ q
 
-pub run_after_reads : (command : CommandLine) (selected : Result Selected Refusal) (old mid now : List TreeState) (before between after : Counts) (result : Result (List ℕ) Refused)
+pub run_after_reads : (command : CommandLine) (selected : Result InputsAndReplacement Refusal) (old mid now : List TreeState) (before between after : Counts) (result : Result (List ℕ) Refused)
     → IsOnlyRead old mid before between → IsSelectedRun command selected mid now between after result → IsSelectedRun command selected old now before after result
 run_after_reads command selected old mid now before between after result quiet run = record {
   read = run.read;
@@ -110,7 +110,7 @@ module _ (have : HaveOwnReads) (command : CommandLine) (inputs : Inputs) (read o
   unfolding change_or_refusal
   change_same r wishes clash files = ap (λ (found : Result (List MemberFound) Refusal). and_then found (change_with_members inputs r wishes clash files)) (members_same r wishes)
 
-  selected_same : (s : Selected) (files : Files) (clash : Option NamePair) → s.inputs ≡ inputs → change_of_selected command read files clash s ≡ change_of_selected command other files clash s
+  selected_same : (s : InputsAndReplacement) (files : Files) (clash : Option NamePair) → s.inputs ≡ inputs → change_of_selected command read files clash s ≡ change_of_selected command other files clash s
   selected_same s files clash is = by command.flags.simulate
     where
       same_of_inputs : (i : Inputs) → i ≡ inputs → change_or_refusal i s.replacement (wishes_of command) read clash files ≡ change_or_refusal i s.replacement (wishes_of command) other clash files
@@ -121,7 +121,7 @@ module _ (have : HaveOwnReads) (command : CommandLine) (inputs : Inputs) (read o
       by true = refl
       by false = same_of_inputs s.inputs is
 
-  clash_same : (s : Selected) (files present_files : Files) (clash : Option NamePair) → s.inputs ≡ inputs → IsClashUnlessSimulatedAmong command.flags.simulate (wishes_of command) other files present_files s clash → IsClashUnlessSimulatedAmong command.flags.simulate (wishes_of command) read files present_files s clash
+  clash_same : (s : InputsAndReplacement) (files present_files : Files) (clash : Option NamePair) → s.inputs ≡ inputs → IsClashUnlessSimulatedAmong command.flags.simulate (wishes_of command) other files present_files s clash → IsClashUnlessSimulatedAmong command.flags.simulate (wishes_of command) read files present_files s clash
   clash_same s files present_files clash is = by command.flags.simulate
     where
       of_inputs : (i : Inputs) → i ≡ inputs → change_members i s.replacement (wishes_of command) other ≡ change_members i s.replacement (wishes_of command) read
@@ -131,11 +131,11 @@ module _ (have : HaveOwnReads) (command : CommandLine) (inputs : Inputs) (read o
       by true clash_is = clash_is
       by false clash_is = subst (λ (found : Result (List MemberFound) Refusal). IsClashFoundAmong s.inputs (wishes_of command) files present_files found clash) (of_inputs s.inputs is) clash_is
 
-  packages_same : (s : Selected) → s.inputs ≡ inputs → found_packages command read (Ok s) ≡ found_packages command other (Ok s)
+  packages_same : (s : InputsAndReplacement) → s.inputs ≡ inputs → found_packages command read (Ok s) ≡ found_packages command other (Ok s)
   packages_same s is = subst (λ (i : Inputs). change_members i s.replacement (wishes_of command) read ≡ change_members i s.replacement (wishes_of command) other) (sym is) (members_same s.replacement (wishes_of command))
 
 -- what is selected has these inputs
-abbrev HasInputs : Inputs → Result Selected Refusal → Type 0
+abbrev HasInputs : Inputs → Result InputsAndReplacement Refusal → Type 0
 HasInputs inputs (Ok s) = s.inputs ≡ inputs
 HasInputs inputs (Err refusal) = Unit {0}
 
@@ -161,7 +161,7 @@ module _ (have : HaveOwnReads) (command : CommandLine) (inputs : Inputs) (old no
   count : ℕ
   count = first_index_read + length inputs.root.repositories
 
-  selected : Result Selected Refusal
+  selected : Result InputsAndReplacement Refusal
   selected = selected_of_inputs command chosen inputs
 
   read : Reads
@@ -179,15 +179,15 @@ module _ (have : HaveOwnReads) (command : CommandLine) (inputs : Inputs) (old no
   unfolding selected
   selected_is = ap (λ (r : Result Inputs Refusal). and_then r (selected_of_inputs command chosen)) inputs_is
 
-  by_selected : (s : Result Selected Refusal) → HasInputs inputs s → and_then s (change_of_selected command read run.files run.clash) ≡ and_then s (change_of_selected command run.read run.files run.clash)
+  by_selected : (s : Result InputsAndReplacement Refusal) → HasInputs inputs s → and_then s (change_of_selected command read run.files run.clash) ≡ and_then s (change_of_selected command run.read run.files run.clash)
   by_selected (Ok s) has = selected_same have command inputs read run.read same s run.files run.clash has
   by_selected (Err refusal) has = refl
 
   changed_is : and_then selected (change_of_selected command run.read run.files run.clash) ≡ change_of_command command read run.files chosen run.clash
   unfolding change_of_command selected
-  changed_is = sym (ap (λ (s : Result Selected Refusal). and_then s (change_of_selected command read run.files run.clash)) selected_is ∙ by_selected selected (selected_has command chosen inputs))
+  changed_is = sym (ap (λ (s : Result InputsAndReplacement Refusal). and_then s (change_of_selected command read run.files run.clash)) selected_is ∙ by_selected selected (selected_has command chosen inputs))
 
-  packages_by : (s : Result Selected Refusal) → HasInputs inputs s → found_packages command run.read s ≡ found_packages command read s
+  packages_by : (s : Result InputsAndReplacement Refusal) → HasInputs inputs s → found_packages command run.read s ≡ found_packages command read s
   packages_by (Ok s) has = sym (packages_same have command inputs read run.read same s has)
   packages_by (Err refusal) has = refl
 
@@ -195,7 +195,7 @@ module _ (have : HaveOwnReads) (command : CommandLine) (inputs : Inputs) (old no
   unfolding selected
   packages_are = packages_by selected (selected_has command chosen inputs) ∙ ap (found_packages command read) (sym selected_is)
 
-  clash_by : (s : Result Selected Refusal) → HasInputs inputs s → IsClashOfSelectedAmong command run.read run.files run.present_files s run.clash → IsClashOfSelectedAmong command read run.files run.present_files s run.clash
+  clash_by : (s : Result InputsAndReplacement Refusal) → HasInputs inputs s → IsClashOfSelectedAmong command run.read run.files run.present_files s run.clash → IsClashOfSelectedAmong command read run.files run.present_files s run.clash
   clash_by (Ok s) has clash = clash_same have command inputs read run.read same s run.files run.present_files run.clash has clash
   clash_by (Err refusal) has clash = clash
 
@@ -211,7 +211,7 @@ module _ (have : HaveOwnReads) (command : CommandLine) (inputs : Inputs) (old no
     present_files = run.present_files;
     stand = run.stand;
     clash = run.clash;
-    is_clash = subst (λ (s : Result Selected Refusal). IsClashOfSelectedAmong command read run.files run.present_files s run.clash) (sym selected_is)
+    is_clash = subst (λ (s : Result InputsAndReplacement Refusal). IsClashOfSelectedAmong command read run.files run.present_files s run.clash) (sym selected_is)
         (clash_by selected (selected_has command chosen inputs) run.is_clash);
     comes = subst (λ (p : Result (List MemberFound) Refusal). CarriesOut p (change_of_command command read run.files chosen run.clash) old now before after result) packages_are
         (subst (λ (w : Result ChangeDone Refusal). CarriesOut (found_packages command run.read selected) w old now before after result) changed_is run.comes);
@@ -259,8 +259,8 @@ module _ (choose : HaveChoice) (have : HaveClash) (command : CommandLine) (old n
         present_files = seen.files;
         stand = seen.there;
         clash = seen.clash;
-        is_clash = subst (λ (s : Result Selected Refusal). IsClashOfSelected command read seen.files s seen.clash) (sym selected) seen.is_clash;
-        comes = comes_to_refusal _ _ old now before after quiet refusal (ap (λ (s : Result Selected Refusal). and_then s (change_of_selected command read seen.files seen.clash)) selected);
+        is_clash = subst (λ (s : Result InputsAndReplacement Refusal). IsClashOfSelected command read seen.files s seen.clash) (sym selected) seen.is_clash;
+        comes = comes_to_refusal _ _ old now before after quiet refusal (ap (λ (s : Result InputsAndReplacement Refusal). and_then s (change_of_selected command read seen.files seen.clash)) selected);
       }
 
   pub unread : (fault : Refused) → IsExplainedBySomeReads old (λ read. AgreesUnlessDisk inputs_seen (Err fault) (inputs_of command read)) → IsChangeRun command old now before after (Err fault)

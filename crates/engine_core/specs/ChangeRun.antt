@@ -44,8 +44,9 @@ abbrev pub DoesCommit : Result ChangeDone Refusal → Type 0
 DoesCommit (Ok done) = done.commits ≡ true
 DoesCommit (Err refusal) = ⊥
 
--- One of the packages that reads found is spoiled: `tested` is what its read found, and the refusal
--- reports this package as bad, with the cause of some file that is spoiled beside it.
+-- One of the packages that were read for a change is spoiled. `tested` is its file when it was tested,
+-- and `file` is a file with other contents, which fails a test with `cause`. The refusal reports this
+-- package as bad, with this cause.
 pub record HasSpoiledPackage (packages : Result (List MemberFound) Refusal) (refusal : Refusal) :
     Type 0 where
   pub found : List MemberFound

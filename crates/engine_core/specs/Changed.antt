@@ -21,14 +21,14 @@ use Rattle.engine_core.specs.Wishes.{names_to_reinstall, unknown_operand_place, 
 -- ---- the selection
 
 -- what is read, and the packages before with the candidates that are to replace them
-pub record Selected : Type 0 where
+pub record InputsAndReplacement : Type 0 where
   pub inputs : Inputs
   pub replacement : Replacement
 
 -- what is selected by a choice of candidates; without a choice no selection satisfies the new world,
 -- and that is refused
 abbrev pub selected_by :
-    CommandLine → Inputs → SealedPool → Option (List ℕ) → Result Selected Refusal
+    CommandLine → Inputs → SealedPool → Option (List ℕ) → Result InputsAndReplacement Refusal
 selected_by command inputs pool None = Err Unsatisfied
 selected_by command inputs pool (Some trace) =
     Ok (record {
@@ -40,20 +40,20 @@ selected_by command inputs pool (Some trace) =
 -- What is selected by the inputs and a choice. Too many candidates are refused first, then an operand
 -- that names no package, and then a world that no selection satisfies.
 abbrev pub selected_of_inputs :
-    CommandLine → Option (List ℕ) → Inputs → Result Selected Refusal
+    CommandLine → Option (List ℕ) → Inputs → Result InputsAndReplacement Refusal
 selected_of_inputs command chosen inputs =
     and_then (pool_of_inputs command inputs) (λ pool.
     unless_unknown_operand (unknown_operand_place command.applet inputs command.operands)
     (selected_by command inputs pool chosen))
 
 -- what a command selects by what reads find and by the chosen candidates, or its first refusal
-abbrev pub selected_for : CommandLine → Reads → Option (List ℕ) → Result Selected Refusal
+abbrev pub selected_for : CommandLine → Reads → Option (List ℕ) → Result InputsAndReplacement Refusal
 selected_for command read chosen =
     and_then (inputs_of command read) (selected_of_inputs command chosen)
 
 -- the packages after what is selected, as reads find them, or the first refusal
 abbrev pub found_packages :
-    CommandLine → Reads → Result Selected Refusal → Result (List MemberFound) Refusal
+    CommandLine → Reads → Result InputsAndReplacement Refusal → Result (List MemberFound) Refusal
 found_packages command read selected =
     and_then selected (λ s. change_members s.inputs s.replacement (wishes_of command) read)
 
@@ -66,7 +66,7 @@ simulated_change r wishes files =
 
 -- the result of a change whose candidates are selected, by the first clash of names, if there is one
 abbrev pub change_of_selected :
-    CommandLine → Reads → Files → Option NamePair → Selected → Result ChangeDone Refusal
+    CommandLine → Reads → Files → Option NamePair → InputsAndReplacement → Result ChangeDone Refusal
 change_of_selected command read files clash s =
     if command.flags.simulate then Ok (simulated_change s.replacement (wishes_of command) files) else
     change_or_refusal s.inputs s.replacement (wishes_of command) read clash files
@@ -81,14 +81,14 @@ change_of_command command read files chosen clash =
 
 -- what a change is given as its first clash of names; a simulated one does not test for it
 abbrev pub IsClashUnlessSimulatedAmong :
-    Bool → ChangeWishes → Reads → Files → Files → Selected → Option NamePair → Type 0
+    Bool → ChangeWishes → Reads → Files → Files → InputsAndReplacement → Option NamePair → Type 0
 IsClashUnlessSimulatedAmong true wishes read files present_files s clash = clash ≡ None
 IsClashUnlessSimulatedAmong false wishes read files present_files s clash =
     IsClashOfChangeAmong s.inputs s.replacement wishes read files present_files clash
 
 -- what a command is given as its first clash of names; one that is refused earlier does not test for it
 abbrev pub IsClashOfSelectedAmong :
-    CommandLine → Reads → Files → Files → Result Selected Refusal → Option NamePair → Type 0
+    CommandLine → Reads → Files → Files → Result InputsAndReplacement Refusal → Option NamePair → Type 0
 IsClashOfSelectedAmong command read files present_files (Ok s) clash =
     IsClashUnlessSimulatedAmong command.flags.simulate (wishes_of command) read files present_files s
     clash
@@ -104,13 +104,13 @@ IsClashForAmong command read files present_files chosen clash =
 
 -- *IsClashUnlessSimulatedAmong* if both are the same files, as on an observable tree
 abbrev pub IsClashUnlessSimulated :
-    Bool → ChangeWishes → Reads → Files → Selected → Option NamePair → Type 0
+    Bool → ChangeWishes → Reads → Files → InputsAndReplacement → Option NamePair → Type 0
 IsClashUnlessSimulated simulate wishes read files s clash =
     IsClashUnlessSimulatedAmong simulate wishes read files files s clash
 
 -- *IsClashOfSelectedAmong* if both are the same files
 abbrev pub IsClashOfSelected :
-    CommandLine → Reads → Files → Result Selected Refusal → Option NamePair → Type 0
+    CommandLine → Reads → Files → Result InputsAndReplacement Refusal → Option NamePair → Type 0
 IsClashOfSelected command read files selected clash =
     IsClashOfSelectedAmong command read files files selected clash
 

@@ -11,7 +11,7 @@ use Rattle.change_report.specs.db_core.Members.{member_of_kept, member_listings}
 use Rattle.change_report.specs.db_core.Seen.{members_of, packages_of}
 use Rattle.change_report.specs.db_core.declared.db.Db.{Db}
 use Rattle.change_report.specs.db_core.declared.members.Members.{Members}
-use Rattle.change_report.specs.own_core.Planned.{HasDisjointUnreservedNames, HasSources, IsPlanFor, IsPlanOf, IsRefusalFor, IsRefusalOf, MayBeRefusalOf, file_change_between}
+use Rattle.change_report.specs.own_core.Planned.{HasDisjointUnreservedNames, HasSources, IsPlanForMembersAlone, IsPlanOverSomeFiles, IsRefusalForMembersAlone, IsRefusalOverFiles, MayBeRefusalOf, file_change_between}
 use Rattle.change_report.specs.own_core.declared.fault.PlanFault.{PlanFault}
 use Rattle.change_report.specs.own_core.declared.fault.PlanFault.TheVariants as Plans
 use Rattle.change_report.specs.own_core.declared.planning.FilePlan.{FilePlan}
@@ -31,10 +31,10 @@ IsRefusalOfPlanFault Plans.Memory refused = refused ≡ Commands.Memory
 -- removed
 pub record IsPlanFrom (history : List TreeState) (purge : Bool) (db : Db) (members : Members)
     (plan : FilePlan) : Type 0 where
-  pub lists : IsPlanOf (file_change_between db members purge) history plan
+  pub lists : IsPlanOverSomeFiles (file_change_between db members purge) history plan
   pub names : HasDisjointUnreservedNames plan
   pub sources : HasSources (members_of members) plan
-  pub owners : IsPlanFor (members_of members) plan
+  pub owners : IsPlanForMembersAlone (members_of members) plan
   -- no path that the old database lists is reserved
   pub unreserved : All (λ l. is_reserved l.path ≡ false)
       (member_listings (map member_of_kept (packages_of db)))
@@ -45,7 +45,7 @@ pub record HasNoPlan (history : List TreeState) (purge : Bool) (db : Db) (member
   pub fault : PlanFault
   pub reported : IsRefusalOfPlanFault fault refused
   -- what the packages alone show of it
-  pub cause : IsRefusalFor (members_of members) fault
+  pub cause : IsRefusalForMembersAlone (members_of members) fault
   -- what the tree's files show of it, if they are observable; and else what some files show
-  pub first : IfObservable history (λ v. IsRefusalOf (file_change_between db members purge) (files_of v) fault)
+  pub first : IfObservable history (λ v. IsRefusalOverFiles (file_change_between db members purge) (files_of v) fault)
   pub may : MayBeRefusalOf (file_change_between db members purge) history fault

@@ -21,7 +21,7 @@ use Rattle.change_report.specs.db_core.Seen.{members_of, packages_of}
 use Rattle.change_report.specs.db_core.declared.members.Members.{Members}
 use Rattle.change_report.specs.make_info.Reads.{Reads}
 use Rattle.dep_core.specs.World.{world_text}
-use Rattle.change_report.specs.own_core.Planned.{ArePlanLists, HasDisjointUnreservedNames, HasSources, IsPlanFor}
+use Rattle.change_report.specs.own_core.Planned.{ArePlanLists, HasDisjointUnreservedNames, HasSources, IsPlanForMembersAlone}
 use Rattle.change_report.specs.package_changes.Changes.{Replacement}
 use Rattle.change_report.specs.package_changes.Placed.{placed_names_of}
 use Rattle.change_report.specs.package_changes.Seen.{placed_names_seen, placed_replacement_from_parts}
@@ -115,15 +115,15 @@ pub record IsPlanned (history : List TreeState) (p : Plan) (found : List MemberF
   pub lists : ArePlanLists (file_change (inputs_of_plan p) (wishes_of_plan p) found) files p.files
   pub names : HasDisjointUnreservedNames p.files
   pub sources : HasSources (members_of p.members) p.files
-  pub owners : IsPlanFor (members_of p.members) p.files
+  pub owners : IsPlanForMembersAlone (members_of p.members) p.files
   pub no_clash : IfObservable history (λ v.
       HasNoClash (name_change (file_change (inputs_of_plan p) (wishes_of_plan p) found) files) files)
   pub unreserved : All (λ l. is_reserved l.path ≡ false)
       (old_listings (file_change (inputs_of_plan p) (wishes_of_plan p) found))
 
 -- the files of a change are planned, by some packages that are found and over some files
-abbrev pub HasPlan : List TreeState → Plan → Type 0
-HasPlan history p = (found : List MemberFound) × (files : Files) × IsPlanned history p found files
+abbrev pub IsPlannedFromSomeFiles : List TreeState → Plan → Type 0
+IsPlannedFromSomeFiles history p = (found : List MemberFound) × (files : Files) × IsPlanned history p found files
 
 -- ---- the database and world
 

@@ -19,10 +19,10 @@ use Rattle.change_report.specs.package_changes.Changes.{Replacement}
 use Rattle.change_report.specs.path_clashes.Clash.{NamePair}
 use Rattle.report_core.specs.declared.refusal.Refusal.{Refusal}
 use Rattle.engine_core.specs.ChangeRun.{CarriesOut}
-use Rattle.engine_core.specs.Changed.{IsClashOfSelectedAmong, Selected, change_of_selected, found_packages}
+use Rattle.engine_core.specs.Changed.{IsClashOfSelectedAmong, InputsAndReplacement, change_of_selected, found_packages}
 
 -- a run by what is selected, or by the refusal instead
-pub record IsSelectedRun (command : CommandLine) (selected : Result Selected Refusal)
+pub record IsSelectedRun (command : CommandLine) (selected : Result InputsAndReplacement Refusal)
     (old now : List TreeState) (before after : Counts)
     (result : Result (List ℕ) Refused) : Type 0 where
   pub read : Reads

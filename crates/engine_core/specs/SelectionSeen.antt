@@ -10,7 +10,7 @@ use Rattle.change_report.specs.change_outcome.ChangeOutcome.{ChangeWishes}
 use Rattle.command_core.specs.Command.{CommandLine}
 use Rattle.change_report.specs.db_core.Seen.{packages_of}
 use Rattle.change_report.specs.package_changes.Changes.{Replacement}
-use Rattle.engine_core.specs.Changed.{Selected, selected_of_inputs}
+use Rattle.engine_core.specs.Changed.{InputsAndReplacement, selected_of_inputs}
 use Rattle.engine_core.specs.Choice.{IsChoiceFrom}
 use Rattle.engine_core.specs.Selecting.{pool_of_inputs, replacement_of_choice}
 use Rattle.engine_core.specs.Wishes.{wishes_of}
@@ -26,7 +26,7 @@ replacement_seen s =
     replacement_of_choice s.again (inputs_of_selection s) s.pool s.trace
 
 -- what contracts see in a selection: what was read of the root, and the replacement
-abbrev pub selection_seen : Selection → Selected
+abbrev pub selection_seen : Selection → InputsAndReplacement
 selection_seen s =
     record { inputs = inputs_of_selection s; replacement = replacement_seen s }
 

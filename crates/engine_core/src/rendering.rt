@@ -12,7 +12,7 @@ ghost use Rattle.change_report.specs.change_outcome.MembersAfter.{MemberFound};
 ghost use Rattle.change_report.specs.db_core.Seen.{members_of};
 ghost use Rattle.change_report.specs.db_write.NewDatabase.{database_of};
 ghost use Rattle.change_report.specs.journal_intent.IntentValue.{intent_of_lists, value_of_intent};
-ghost use Rattle.engine_core.specs.Preparing.{AreRecordWrites, AreNewRecordsOf, HasPlan, IsPlanned, bytes_if, inputs_of_plan, replacement_of_plan, wishes_of_plan};
+ghost use Rattle.engine_core.specs.Preparing.{AreRecordWrites, AreNewRecordsOf, IsPlannedFromSomeFiles, IsPlanned, bytes_if, inputs_of_plan, replacement_of_plan, wishes_of_plan};
 ghost use Rattle.engine_core.specs.Rendering.{AreWritesOf, IsOverflowOf, IsRendered, IsStageOf, removals_of_plan};
 ghost use Rattle.engine_core.specs.Writing.{name_of_write};
 ghost use Rattle.std.specs.Option.{option_copied};
@@ -54,7 +54,7 @@ pub(crate) fn render<'c>(
     plan: &'c Plan<'_, '_, '_>,
     records: &'c NewRecords,
 ) -> Result<Rendered<'c>, Refused>
-    requires plan { (history : List TreeState) × HasPlan history plan.now }
+    requires plan { (history : List TreeState) × IsPlannedFromSomeFiles history plan.now }
     requires records { AreNewRecordsOf (inputs_of_plan plan.now) records.now }
     ensures rendered { IfOk result (IsRendered plan.entry.now records.entry.now) }
     // Or the journal entry of the change is too large.
@@ -84,7 +84,7 @@ fn journal_entry(
     plan: &Plan<'_, '_, '_>,
     writes: &[StagedWrite<'_>],
 ) -> Result<Option<Stage>, Refused>
-    requires plan { (history : List TreeState) × HasPlan history plan.now }
+    requires plan { (history : List TreeState) × IsPlannedFromSomeFiles history plan.now }
     requires writes { (records : NewRecords) × AreNewRecordsOf (inputs_of_plan plan.now) records
         × AreWritesOf plan.now records writes.now }
     ensures stage { IfOk result

@@ -26,6 +26,7 @@ use Rattle.file_owners.specs.NamedPlaces.{ArePlacesNamed, ArePlacesOfEach}
 use Rattle.file_owners.specs.Owners.{member_beats, takes_over_if_any}
 use Rattle.file_owners.specs.Replaces.{replaces_entry_names, is_preferred_replacer, is_replaced_by, replaces_names_package, takes_over, version_text}
 use Rattle.db_core.specs.adb_schema.Dependencies.{dependency_in}
+use Rattle.file_owners.proofs.AnyOfFront.{some_at}
 
 abbrev is_one : {X : Type 0} → Option X → Bool
 is_one None = false
@@ -153,11 +154,6 @@ all_gathered members named i e inv = record { long = inv.0 ∙ e; each = inv.1 }
 
 -- ---- which of two members beats the other
 
-some_member : (members : List Member) (i : ℕ) → i < length members → (m : Member) × (slice_get members i ≡ Some m)
-some_member [] i l = absurd (omega arith)
-some_member (m ∷ members) zero l = (m, refl)
-some_member (m ∷ members) (suc i) l = some_member members i (omega arith)
-
 -- places at a place, as they are kept
 pub kept_at : {V : Type 0} (f : V → List ℕ) (named : List V) (i : ℕ) (v : V) → i < length named → v ≡ get_or named i v → slice_get (map f named) i ≡ Some (f v)
 kept_at f [] i v l e = absurd (omega arith)
@@ -166,7 +162,7 @@ kept_at f (x ∷ xs) (suc i) v l e = kept_at f xs i v (omega arith) e
 
 module _ (members : List Member) (named : List (List ℕ)) (all : ArePlacesOfEach members named) (x y : ℕ) (l : x < length members) (k : y < length members) where
   pub rising_at : (i : ℕ) (places : List ℕ) → i < length members → slice_get named i ≡ Some places → IsSorted nat_cmp places
-  rising_at i places h g = let m = some_member members i h in (all.each i m.0 places m.1 g).rising
+  rising_at i places h g = let m = some_at members i h in (all.each i m.0 places m.1 g).rising
 
   names_at : (i j : ℕ) (m n : Member) (places : List ℕ) → slice_get members i ≡ Some m → slice_get members j ≡ Some n → slice_get named i ≡ Some places → list_any (λ p. p == j) places ≡ replaces_names_package m.pkg n.pkg
   names_at i j m n places g h s = (all.each i m places g s).named j n h
@@ -178,8 +174,8 @@ module _ (members : List Member) (named : List (List ℕ)) (all : ArePlacesOfEac
   pub not_named : (places : List ℕ) (t : Bool) → slice_get named x ≡ Some places → t ≡ list_any (λ p. p == y) places → t ≡ false → false ≡ member_beats members x y
   unfolding takes_over
   not_named places t g is absent =
-      let m = some_member members x l in
-      let n = some_member members y k in
+      let m = some_at members x l in
+      let n = some_at members y k in
       let e : replaces_names_package m.0.pkg n.0.pkg ≡ false = sym (names_at x y m.0 n.0 places m.1 n.1 g) ∙ (sym is ∙ absent) in
       sym (sym (beats_is m.0 n.0 m.1 n.1) ∙ ap (λ b. b && (not (replaces_names_package n.0.pkg m.0.pkg) || is_preferred_replacer m.0.pkg n.0.pkg)) e)
 
@@ -187,8 +183,8 @@ module _ (members : List Member) (named : List (List ℕ)) (all : ArePlacesOfEac
       → u ≡ list_any (λ p. p == x) others → u ≡ false → true ≡ member_beats members x y
   unfolding takes_over
   not_back places others t u g h is yes_named back no_back =
-      let m = some_member members x l in
-      let n = some_member members y k in
+      let m = some_at members x l in
+      let n = some_at members y k in
       let e : replaces_names_package m.0.pkg n.0.pkg ≡ true = sym (names_at x y m.0 n.0 places m.1 n.1 g) ∙ (sym is ∙ yes_named) in
       let f : replaces_names_package n.0.pkg m.0.pkg ≡ false = sym (names_at y x n.0 m.0 others n.1 m.1 h) ∙ (sym back ∙ no_back) in
       sym (sym (beats_is m.0 n.0 m.1 n.1) ∙ (λ j. e j && (not (f j) || is_preferred_replacer m.0.pkg n.0.pkg)))
@@ -198,8 +194,8 @@ module _ (members : List Member) (named : List (List ℕ)) (all : ArePlacesOfEac
       → p ≡ is_preferred_replacer v w → p ≡ member_beats members x y
   unfolding takes_over
   by_preference places others t u p v w g h is yes_named back yes_back first second preferred =
-      let m = some_member members x l in
-      let n = some_member members y k in
+      let m = some_at members x l in
+      let n = some_at members y k in
       let e : replaces_names_package m.0.pkg n.0.pkg ≡ true = sym (names_at x y m.0 n.0 places m.1 n.1 g) ∙ (sym is ∙ yes_named) in
       let f : replaces_names_package n.0.pkg m.0.pkg ≡ true = sym (names_at y x n.0 m.0 others n.1 m.1 h) ∙ (sym back ∙ yes_back) in
       preferred ∙ ((λ j. is_preferred_replacer (first m.0 m.1 j) (second n.0 n.1 j))

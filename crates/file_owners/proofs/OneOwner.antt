@@ -3,7 +3,7 @@ use Rattle.std.proofs.Common.{◌≡◌, inl, inr, ℕ, Bool, true, false, List,
 use Rattle.std.proofs.lemmas.Bool.{eqb-true}
 use Rattle.path_claims.specs.adb_fields.FirstPair.{IsIn}
 use Rattle.db_core.specs.Members.{Listing, Member, member_listings}
-use Rattle.db_core.specs.OwnedListings.{HaveOneOwner, owned_listings}
+use Rattle.db_core.specs.OwnedListings.{HaveAtMostOneOwner, owned_listings}
 use Rattle.path_claims.specs.Claims.{is_owning_member}
 use Rattle.file_owners.specs.Owners.{owned_flags_of, owner_of_path}
 
@@ -25,7 +25,7 @@ abbrev value_or : ℕ → Option ℕ → ℕ
 value_or d None = d
 value_or d (Some v) = v
 
-pub owned_once : (members : List Member) → HaveOneOwner (owned_listings (member_listings members) (owned_flags_of members))
+pub owned_once : (members : List Member) → HaveAtMostOneOwner (owned_listings (member_listings members) (owned_flags_of members))
 unfolding owned_flags_of
 owned_once members l k lin kin same =
     let owns : Listing → Bool = λ x. is_owning_member x.place (owner_of_path members x.path) in

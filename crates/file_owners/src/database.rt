@@ -11,7 +11,7 @@ ghost use Rattle.path_claims.specs.Seen.{claim_seen};
 ghost use Rattle.file_owners.specs.Gathered.{claims_with_listings};
 ghost use Rattle.file_owners.specs.Owners.{claims_in};
 
-use crate::gather::add_folders;
+use crate::gather::{add_folders, count_files};
 use db_core::{Db, PackageView};
 use path_claims::{Claim, sort_claims};
 use std::alloc::{AllocError, Global};
@@ -33,12 +33,31 @@ pub fn claims_in_database<'a>(alloc: Global, db: &Db<'a>) -> Result<Vec<Claim<'a
     Ok(sorted)
 }
 
+/// How many files the packages of a database list.
+fn count_listed(db: &Db<'_>) -> usize {
+    let mut count: usize = 0;
+    for i in 0..db.len() {
+        count = count.saturating_add(count_in_package(db, i, PhantomData));
+    }
+    count
+}
+
+/// How many files the package at a place of the database, counted from 0, lists. The mark serves
+/// only the borrow checker, as in `add_package`.
+fn count_in_package<'a>(db: &Db<'a>, i: usize, _mark: PhantomData<PackageView<'a>>) -> usize
+    requires { i < length (packages_of db.now) }
+{
+    let package = db.package(i);
+    count_files(&package.paths())
+}
+
 /// The files of a database as claims, in the order of packages, folders and files.
 fn listed_files<'a>(alloc: Global, db: &Db<'a>) -> Result<Vec<Claim<'a>>, AllocError>
     ensures { IfOk result (λ claims. map claim_seen claims.items
         ≡ claims_with_listings [] (member_listings (map member_of_kept (packages_of db.now)))) }
 {
-    let mut claims = Vec::new(alloc);
+    // A list that grows would leave smaller copies of itself in memory.
+    let mut claims = Vec::with_capacity(alloc, count_listed(db))?;
     for i in 0..db.len() {
         add_package(&mut claims, db, i, PhantomData)?;
     }

@@ -115,6 +115,25 @@ pub(crate) fn add_folders<'a>(
     Ok(())
 }
 
+/// How many files the folders of a member list. The number only says for how many claims memory is
+/// allocated.
+pub(crate) fn count_files<'a>(folders: &List<'a, DirInfo<'a>>) -> usize {
+    let mut count: usize = 0;
+    for i in 0..folders.len() {
+        count = count.saturating_add(folders.get(i + 1).files().len());
+    }
+    count
+}
+
+/// How many files all members list.
+fn count_listed(members: &Members<'_>) -> usize {
+    let mut count: usize = 0;
+    for i in 0..members.len() {
+        count = count.saturating_add(count_files(&members.view(i).paths()));
+    }
+    count
+}
+
 /// Adds the files of the member at a place, counted from 0, to the claims.
 fn add_member<'a>(
     claims: &mut Vec<Claim<'a>>,
@@ -150,7 +169,8 @@ pub(crate) fn claims_in<'a>(
     ensures { IfOk result (λ claims. map claim_seen claims.items
         ≡ claims_with_listings [] (member_listings (members_of members.now))) }
 {
-    let mut claims = Vec::new(alloc);
+    // A list that grows would leave smaller copies of itself in memory.
+    let mut claims = Vec::with_capacity(alloc, count_listed(members))?;
     for i in 0..members.len() {
         add_member(&mut claims, members, i)?;
     }

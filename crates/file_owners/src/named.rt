@@ -47,7 +47,8 @@ pub(crate) fn places_of_each(
     Ok(named)
 }
 
-/// The places of the members that a package names, in rising order; each may be repeated.
+/// The places of the members that the entries of a package's `replaces` name, in rising order. A
+/// place may be repeated. A member is a package that is installed after the change.
 fn places_named(
     alloc: Global,
     members: &Members<'_>,

@@ -18,7 +18,7 @@ ghost use Rattle.db_core.specs.adb_schema.Dependencies.{dependency_in};
 ghost use Rattle.db_core.specs.adb_schema.SoundValues.{IsSoundDependency};
 ghost use Rattle.version_core.specs.Order.{is_version};
 ghost use Rattle.adb_view.specs.Plain.{Plain};
-ghost use Rattle.db_core.specs.OwnedListings.{HaveOneOwner, owned_listings};
+ghost use Rattle.db_core.specs.OwnedListings.{HaveAtMostOneOwner, owned_listings};
 
 use crate::gather::claims_in;
 use crate::named::{is_among, places_of_each};
@@ -143,5 +143,5 @@ pub fn no_two_packages_take_over_from_each_other()
 /// database.
 pub fn no_path_is_owned_by_two_members()
     ensures { (members : List Member)
-        → HaveOneOwner (owned_listings (member_listings members) (owned_flags_of members)) }
+        → HaveAtMostOneOwner (owned_listings (member_listings members) (owned_flags_of members)) }
 {}

@@ -3,8 +3,8 @@ use Rattle.std.proofs.Common.{◌≡◌, ℕ, List, [], ◌∷◌, Result, Ok, E
 use Rattle.base_core.specs.Calls.{IfObservable, HoldsNow, ChangesHistory, IsCounted}
 use Rattle.base_core.specs.Crash.{Since}
 use Rattle.base_core.specs.Faults.{Counts}
-use Rattle.base_core.specs.Tree.{TreeState, CanRename, HasName, after_append, after_failed_append, after_failed_call, after_sync}
-use Rattle.journal_core.specs.Filling.{CanAddBothNames, HasChangedOnly, HasNewFileAt, IsDurablyMoved, IsReadyToMove, synced_file}
+use Rattle.base_core.specs.Tree.{TreeState, CanRename, HasName, after_append, after_failed_append, unchanged_after_failed_call, after_sync}
+use Rattle.journal_core.specs.Filling.{CanAddBothNames, MayHaveChangedOnly, HasChangedOnlyByNewFile, IsDurablyMoved, IsReadyToMove, synced_file}
 use Rattle.journal_core.specs.Replacing.{scratch_of}
 use Rattle.journal_core.proofs.History.{History, observable_map, on_observable}
 use Rattle.journal_core.proofs.Images.{crash_laws}
@@ -29,18 +29,18 @@ pub append_at : {T E : Type 0} (scratch place piece : List ℕ) (old new : Histo
     → ChangesHistory (HasName place) (after_append place piece) (after_failed_append place) old new r
 append_at scratch place piece old new r same moves = subst (λ (s : List ℕ). ChangesHistory (HasName s) (after_append s piece) (after_failed_append s) old new r) same moves
 
-pub sync_at : {T E : Type 0} (scratch place : List ℕ) (old new : History) (r : Result T E) → scratch ≡ place → ChangesHistory (HasName scratch) (after_sync scratch) after_failed_call old new r
-    → ChangesHistory (HasName place) (after_sync place) after_failed_call old new r
-sync_at scratch place old new r same moves = subst (λ (s : List ℕ). ChangesHistory (HasName s) (after_sync s) after_failed_call old new r) same moves
+pub sync_at : {T E : Type 0} (scratch place : List ℕ) (old new : History) (r : Result T E) → scratch ≡ place → ChangesHistory (HasName scratch) (after_sync scratch) unchanged_after_failed_call old new r
+    → ChangesHistory (HasName place) (after_sync place) unchanged_after_failed_call old new r
+sync_at scratch place old new r same moves = subst (λ (s : List ℕ). ChangesHistory (HasName s) (after_sync s) unchanged_after_failed_call old new r) same moves
 
 pub counted_at : {T E : Type 0} (scratch place : List ℕ) (old : History) (a b : Counts) (r : Result T E) → scratch ≡ place → IsCounted (HasName scratch) old a b r → IsCounted (HasName place) old a b r
 counted_at scratch place old a b r same counted = subst (λ (s : List ℕ). IsCounted (HasName s) old a b r) same counted
 
 abbrev pub Settles : List ℕ → List ℕ → History → History → Type 0
-Settles from to mid new = IfObservable mid (λ w. (b : List ℕ) (start : TreeState) → HasNewFileAt from (synced_file b) start w → Since (IsReadyToMove from to b start) mid new)
+Settles from to mid new = IfObservable mid (λ w. (b : List ℕ) (start : TreeState) → HasChangedOnlyByNewFile from (synced_file b) start w → Since (IsReadyToMove from to b start) mid new)
 
 abbrev pub Lasts : {S F : Type 0} → List ℕ → List ℕ → History → History → Result S F → Type 0
-Lasts from to mid new r = IfObservable mid (λ w. (b : List ℕ) (start : TreeState) → HasNewFileAt from (synced_file b) start w → OnOk r (IfObservable new (IsDurablyMoved from to b start)))
+Lasts from to mid new r = IfObservable mid (λ w. (b : List ℕ) (start : TreeState) → HasChangedOnlyByNewFile from (synced_file b) start w → OnOk r (IfObservable new (IsDurablyMoved from to b start)))
 
 module _ (from to name : List ℕ) (scratch_is : from ≡ scratch_of name) (name_is : to ≡ name) (mid new : History) where
   pub settles_at : Settles from to mid new → Settles (scratch_of name) name mid new
@@ -64,7 +64,7 @@ moved_by (Err e) name old new h = tt
 
 module _ (name bytes : List ℕ) (first old : History) (was : IsNewFile (scratch_of name) bytes first old) where
   abbrev Moves : {T E : Type 0} → History → Result T E → Type 0
-  Moves mid r = ChangesHistory (HasName (scratch_of name)) (after_sync (scratch_of name)) after_failed_call old mid r
+  Moves mid r = ChangesHistory (HasName (scratch_of name)) (after_sync (scratch_of name)) unchanged_after_failed_call old mid r
 
   pub cut_moments : {T E : Type 0} (mid : History) (r : Result T E) → Moves mid r → IfObservable first (λ v. Since (IsReadyToMove (scratch_of name) name bytes v) first mid)
   cut_moments mid r moves = on_observable first _ (λ v rest is.
@@ -79,11 +79,11 @@ module _ (name bytes : List ℕ) (first old : History) (was : IsNewFile (scratch
   cut_proper r before now counted = observable_map first _ _ (named_proper crash_laws (scratch_of name) bytes first old old was r before now counted) (λ v same room. same)
 
   module _ {T E : Type 0} (mid new : History) (x : T) (moves : Moves {E = E} mid (Ok x)) where
-    fills : IfObservable first (λ w. Since (HasChangedOnly (scratch_of name) w) first mid)
+    fills : IfObservable first (λ w. Since (MayHaveChangedOnly (scratch_of name) w) first mid)
     fills = synced_moments crash_laws (scratch_of name) bytes first old mid was (Ok x) moves
 
-    filled : IfObservable first (λ w. IfObservable mid (HasNewFileAt (scratch_of name) (synced_file bytes) w))
-    filled = observable_map first _ _ (synced_now crash_laws (scratch_of name) bytes first old mid was x moves) (λ v. now_observed mid (HasNewFileAt (scratch_of name) (synced_file bytes) v))
+    filled : IfObservable first (λ w. IfObservable mid (HasChangedOnlyByNewFile (scratch_of name) (synced_file bytes) w))
+    filled = observable_map first _ _ (synced_now crash_laws (scratch_of name) bytes first old mid was x moves) (λ v. now_observed mid (HasChangedOnlyByNewFile (scratch_of name) (synced_file bytes) v))
 
     pub finish_moments : Settles (scratch_of name) name mid new → IfObservable first (λ v. Since (IsReadyToMove (scratch_of name) name bytes v) first new)
     finish_moments settles = on_observable first _ (λ v rest is. moving_moments (scratch_of name) name bytes v first mid rest is new fills filled settles)

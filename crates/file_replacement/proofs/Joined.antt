@@ -11,7 +11,7 @@ use Rattle.journal_core.specs.Kept.{IsSyncedAt}
 use Rattle.journal_core.specs.Recovery.{StateDependsOn, EachCrashLeaves}
 use Rattle.journal_core.specs.Replacing.{scratch_of, replaced_files_through_scratch, replaced_files, IgnoresScratch, IsMomentOfReplacing}
 use Rattle.journal_core.specs.Reading.{ReadsOldOrReplaced}
-use Rattle.journal_core.specs.Filling.{HasChangedOnly, HasNewFileAt, synced_file, IsReadyToMove, IsDurablyMoved}
+use Rattle.journal_core.specs.Filling.{MayHaveChangedOnly, HasChangedOnlyByNewFile, synced_file, IsReadyToMove, IsDurablyMoved}
 
 -- ---- the new file is made, then it is moved
 
@@ -20,9 +20,9 @@ module _ (scratch name bytes : List ℕ) (v : TreeState) (old mid rest : History
   Moment = IsReadyToMove scratch name bytes v
 
   abbrev Full : TreeState → Type 0
-  Full = HasNewFileAt scratch (synced_file bytes) v
+  Full = HasChangedOnlyByNewFile scratch (synced_file bytes) v
 
-  untouched_moment : (w : TreeState) → HasChangedOnly scratch v w → Moment w
+  untouched_moment : (w : TreeState) → MayHaveChangedOnly scratch v w → Moment w
   untouched_moment w was = record {
     safe = λ ignored is_durable private.
         let is_unchanged = was.is_unchanged ignored is_durable private in
@@ -36,39 +36,39 @@ module _ (scratch name bytes : List ℕ) (v : TreeState) (old mid rest : History
   }
 
   abbrev Fills : Type 0
-  Fills = IfObservable old (λ w. Since (HasChangedOnly scratch w) old mid)
+  Fills = IfObservable old (λ w. Since (MayHaveChangedOnly scratch w) old mid)
 
-  filling : Fills → Since (HasChangedOnly scratch v) old mid
-  filling fills = observable_at old v rest is (λ w. Since (HasChangedOnly scratch w) old mid) fills
+  filling : Fills → Since (MayHaveChangedOnly scratch v) old mid
+  filling fills = observable_at old v rest is (λ w. Since (MayHaveChangedOnly scratch w) old mid) fills
 
   pub fill_moments : Fills → Since (IsReadyToMove scratch name bytes v) old mid
-  fill_moments fills = since_weaker (HasChangedOnly scratch v) Moment old mid untouched_moment (filling fills)
+  fill_moments fills = since_weaker (MayHaveChangedOnly scratch v) Moment old mid untouched_moment (filling fills)
 
   abbrev Filled : Type 0
-  Filled = IfObservable old (λ w. IfObservable mid (HasNewFileAt scratch (synced_file bytes) w))
+  Filled = IfObservable old (λ w. IfObservable mid (HasChangedOnlyByNewFile scratch (synced_file bytes) w))
 
   full_now : Filled → IfObservable mid Full
-  full_now filled = observable_at old v rest is (λ w. IfObservable mid (HasNewFileAt scratch (synced_file bytes) w)) filled
+  full_now filled = observable_at old v rest is (λ w. IfObservable mid (HasChangedOnlyByNewFile scratch (synced_file bytes) w)) filled
 
   module _ (new : History) where
-    pub moving_moments : Fills → Filled → IfObservable mid (λ w. (b : List ℕ) (start : TreeState) → HasNewFileAt scratch (synced_file b) start w → Since (IsReadyToMove scratch name b start) mid new)
+    pub moving_moments : Fills → Filled → IfObservable mid (λ w. (b : List ℕ) (start : TreeState) → HasChangedOnlyByNewFile scratch (synced_file b) start w → Since (IsReadyToMove scratch name b start) mid new)
         → Since (IsReadyToMove scratch name bytes v) old new
     moving_moments fills filled moves =
-        let behind = observable_apply (HasChangedOnly scratch v) Full (Since Moment mid new) old mid v rest is (filling fills) (full_now filled) (observable_map mid _ (λ w. Full w
+        let behind = observable_apply (MayHaveChangedOnly scratch v) Full (Since Moment mid new) old mid v rest is (filling fills) (full_now filled) (observable_map mid _ (λ w. Full w
         → Since Moment mid new) moves (λ w f. f bytes v)) in
         since_on Moment old mid new (fill_moments fills) behind
 
-    pub moved_now : Fills → Filled → IfObservable mid (λ w. (b : List ℕ) (start : TreeState) → HasNewFileAt scratch (synced_file b) start w → Since (IsReadyToMove scratch name b start) mid new)
-        → IfObservable mid (λ w. (b : List ℕ) (start : TreeState) → HasNewFileAt scratch (synced_file b) start w → IfObservable new (IsDurablyMoved scratch name b start))
+    pub moved_now : Fills → Filled → IfObservable mid (λ w. (b : List ℕ) (start : TreeState) → HasChangedOnlyByNewFile scratch (synced_file b) start w → Since (IsReadyToMove scratch name b start) mid new)
+        → IfObservable mid (λ w. (b : List ℕ) (start : TreeState) → HasChangedOnlyByNewFile scratch (synced_file b) start w → IfObservable new (IsDurablyMoved scratch name b start))
         → HoldsNow new (IsDurablyMoved scratch name bytes v)
     moved_now fills filled moves lasts =
-        let last = observable_apply (HasChangedOnly scratch v) Full (IfObservable new (IsDurablyMoved scratch name bytes v)) old mid v rest is (filling fills) (full_now filled)
+        let last = observable_apply (MayHaveChangedOnly scratch v) Full (IfObservable new (IsDurablyMoved scratch name bytes v)) old mid v rest is (filling fills) (full_now filled)
         (observable_map mid _ (λ w. Full w → IfObservable new (IsDurablyMoved scratch name bytes v)) lasts (λ w f. f bytes v)) in
         has_now Moment (IsDurablyMoved scratch name bytes v) old new v rest is (moving_moments fills filled moves) last
 
-    pub moved_called : {T E : Type 0} (r : Result T E) → Fills → Filled → IfObservable mid (λ w. (b : List ℕ) (start : TreeState) → HasNewFileAt scratch (synced_file b) start w
+    pub moved_called : {T E : Type 0} (r : Result T E) → Fills → Filled → IfObservable mid (λ w. (b : List ℕ) (start : TreeState) → HasChangedOnlyByNewFile scratch (synced_file b) start w
         → Since (IsReadyToMove scratch name b start) mid new)
-        → IfObservable mid (λ w. (b : List ℕ) (start : TreeState) → HasNewFileAt scratch (synced_file b) start w → OnOk r (IfObservable new (IsDurablyMoved scratch name b start)))
+        → IfObservable mid (λ w. (b : List ℕ) (start : TreeState) → HasChangedOnlyByNewFile scratch (synced_file b) start w → OnOk r (IfObservable new (IsDurablyMoved scratch name b start)))
         → OnOk r (HoldsNow new (IsDurablyMoved scratch name bytes v))
     moved_called (Ok x) fills filled moves lasts = moved_now fills filled moves lasts
     moved_called (Err e) fills filled moves lasts = tt

@@ -5,8 +5,8 @@ use Rattle.base_core.specs.Calls.{IfObservable, HoldsNow, ChangesHistory, IsCoun
 use Rattle.base_core.specs.Crash.{Since}
 use Rattle.base_core.specs.Faults.{Counts}
 use Rattle.base_core.specs.Tree.{TreeState, File, after_create, after_append, after_failed_append, after_sync}
-use Rattle.base_core.specs.Tree.{after_remove, after_failed_call, with_file_changed, IsAlwaysAllowed, CanCreate, HasName, IsWellFormed}
-use Rattle.journal_core.specs.Filling.{HasChangedOnly, HasNewFileAt, HasOneMoreName, CanAddName}
+use Rattle.base_core.specs.Tree.{after_remove, unchanged_after_failed_call, with_file_changed, IsAlwaysAllowed, CanCreate, HasName, IsWellFormed}
+use Rattle.journal_core.specs.Filling.{MayHaveChangedOnly, HasChangedOnlyByNewFile, HasOneMoreName, CanAddName}
 use Rattle.journal_core.proofs.Chain.{Runs, run_begun, run_called, step_now, proper_now}
 use Rattle.journal_core.proofs.History.{History, no_more, none_since, observable_all, observable_at, on_observable}
 use Rattle.journal_core.proofs.Images.{CrashLaws}
@@ -64,10 +64,10 @@ proper_as name place old a b same proper = subst (λ (n : List ℕ). IfObservabl
 
 module _ (laws : CrashLaws) (name : List ℕ) where
   abbrev Only : TreeState → TreeState → Type 0
-  Only = HasChangedOnly name
+  Only = MayHaveChangedOnly name
 
   abbrev Fills : List ℕ → Bool → TreeState → TreeState → Type 0
-  Fills bytes synced start = HasNewFileAt name (record { bytes = bytes; synced = synced }) start
+  Fills bytes synced start = HasChangedOnlyByNewFile name (record { bytes = bytes; synced = synced }) start
 
   -- ---- no call was made
 
@@ -182,15 +182,15 @@ module _ (laws : CrashLaws) (name : List ℕ) where
     syncs v w = filling_on laws name (λ f. record { bytes = f.bytes; synced = true }) _ v w
 
     module _ {T E : Type 0} where
-      pub synced_moments : (r : Result T E) → ChangesHistory (HasName name) (after_sync name) after_failed_call old new r → IfObservable first (λ v. Since (Only v) first new)
+      pub synced_moments : (r : Result T E) → ChangesHistory (HasName name) (after_sync name) unchanged_after_failed_call old new r → IfObservable first (λ v. Since (Only v) first new)
       synced_moments r moves = on_observable first _ (λ v rest is.
           run_called (Only v) (Fills bytes false v) first old new r (runs v rest is) moves (λ w q. (syncs v w q).untouched) (λ w can q. q.untouched))
 
-      pub synced_now : (x : T) → ChangesHistory {E = E} (HasName name) (after_sync name) after_failed_call old new (Ok x) → IfObservable first (λ v. HoldsNow new (Fills bytes true v))
+      pub synced_now : (x : T) → ChangesHistory {E = E} (HasName name) (after_sync name) unchanged_after_failed_call old new (Ok x) → IfObservable first (λ v. HoldsNow new (Fills bytes true v))
       synced_now x moves = on_observable first _ (λ v rest is.
           step_now (Fills bytes false v) (Fills bytes true v) new x old (runs v rest is).now moves (syncs v))
 
-      pub synced_names : (x : T) → ChangesHistory {E = E} (HasName name) (after_sync name) after_failed_call old new (Ok x) → IfObservable first (λ v. HoldsNow new (HasOneMoreName name v))
+      pub synced_names : (x : T) → ChangesHistory {E = E} (HasName name) (after_sync name) unchanged_after_failed_call old new (Ok x) → IfObservable first (λ v. HoldsNow new (HasOneMoreName name v))
       synced_names x moves = on_observable first _ (λ v rest is.
           step_now (HasOneMoreName name v) (HasOneMoreName name v) new x old (more v rest is) moves
           (λ w. named-changed name (λ f. record { bytes = f.bytes; synced = true }) v w))

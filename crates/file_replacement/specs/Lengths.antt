@@ -4,5 +4,5 @@ use Rattle.std.specs.Prelude.{ℕ}
 
 -- the longest name of a file that can be replaced, in bytes: its scratch name, which adds `.apk-tmp`,
 -- has eight bytes more, and a name has at most 1,024
-abbrev pub longest_replaceable_name : ℕ
-longest_replaceable_name = 1016
+abbrev pub most_replaceable_name_bytes : ℕ
+most_replaceable_name_bytes = 1016

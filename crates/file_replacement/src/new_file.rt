@@ -1,14 +1,15 @@
 //! A new file that is made piece by piece, and then replaces another.
 //! The rules are in `docs/crash-safety.md`, "A whole file replaced", the five steps of
 //! `replace`.
-ghost use Rattle.std.specs.Prelude.{◌≡◌, ◌⊎◌, ◌≢◌, ◌≤◌, ◌++◌, [], ◌∷◌, ℕ, List, Some, length, IfOk, OnOk, OnErr, IsErrOf};
+ghost use Rattle.std.specs.Prelude.{◌≡◌, ◌⊎◌, ◌≢◌, ◌≤◌, ◌++◌, [], ◌∷◌, ℕ, List, Some, length, IfOk, OnOk, IsErrOf};
 ghost use Rattle.base_core.specs.Calls.{HoldsNow, IfObservable};
 ghost use Rattle.base_core.specs.Crash.{Since};
 ghost use Rattle.base_core.specs.Faults.{CountsOnlyRise, HasCause, IsNoFault};
 ghost use Rattle.base_core.specs.Tree.{TreeState, CanRename};
-ghost use Rattle.file_replacement.specs.Lengths.{longest_replaceable_name};
+ghost use Rattle.file_replacement.specs.Lengths.{most_replaceable_name_bytes};
 ghost use Rattle.file_replacement.specs.Pieces.{OnlyScratchHasChanged, IsNewFile};
-ghost use Rattle.journal_core.specs.Filling.{HasNewFileAt, IsReadyToMove, IsDurablyMoved, CanAddName, CanAddBothNames, synced_file};
+ghost use Rattle.journal_core.specs.CallCounts.{IsResultExplainedByCounts};
+ghost use Rattle.journal_core.specs.Filling.{HasChangedOnlyByNewFile, IsReadyToMove, IsDurablyMoved, CanAddName, CanAddBothNames, synced_file};
 ghost use Rattle.journal_core.specs.Kept.{KeepsCrashMapsExcept};
 ghost use Rattle.journal_core.specs.Recovery.{intent_name};
 ghost use Rattle.journal_core.specs.Replacing.{scratch_of};
@@ -55,7 +56,7 @@ impl<'a> NewFile<'a> {
         name: &'a Name,
     ) -> Result<NewFile<'a>, TreeFault>
         // The scratch name, which is longer, has to be a name too.
-        requires { length name.now ≤ longest_replaceable_name }
+        requires { length name.now ≤ most_replaceable_name_bytes }
         ensures name { IfOk result (λ file. file ≡ name.now) }
         // The file is made, and has no bytes.
         ensures begun { OnOk result (IsNewFile (scratch_of name.now) [] (T.history tree.old)
@@ -99,12 +100,7 @@ impl<'a> NewFile<'a> {
         ensures only { (bytes : List ℕ) (first : List TreeState)
             → IsNewFile (scratch_of self.now) bytes first (T.history tree.old)
             → OnlyScratchHasChanged (scratch_of self.now) first (T.history tree.new) }
-
-        // No count of faults falls; a fault of the tree is returned only if that count rose, and Ok
-        // only if it did not.
-        ensures goes_on { CountsOnlyRise (T.counts tree.old) (T.counts tree.new) }
-        ensures cause { OnErr result (HasCause (T.counts tree.old) (T.counts tree.new)) }
-        ensures kept { OnOk result (IsNoFault (T.counts tree.old) (T.counts tree.new)) }
+        ensures counts { IsResultExplainedByCounts (T.counts tree.old) (T.counts tree.new) result }
 
         // The call is no misuse.
         ensures proper { (bytes : List ℕ) (first : List TreeState)
@@ -132,12 +128,7 @@ impl<'a> NewFile<'a> {
             → IfObservable first (λ v. Since
             (KeepsCrashMapsExcept (self.now ∷ scratch_of self.now ∷ []) v) first
             (T.history tree.new)) }
-
-        // No count of faults falls; a fault of the tree is returned only if that count rose, and Ok
-        // only if it did not.
-        ensures goes_on { CountsOnlyRise (T.counts tree.old) (T.counts tree.new) }
-        ensures cause { OnErr result (HasCause (T.counts tree.old) (T.counts tree.new)) }
-        ensures kept { OnOk result (IsNoFault (T.counts tree.old) (T.counts tree.new)) }
+        ensures counts { IsResultExplainedByCounts (T.counts tree.old) (T.counts tree.new) result }
 
         // If each of the names may have a file, no call is a misuse.
         ensures proper { (bytes : List ℕ) (first : List TreeState)
@@ -155,7 +146,7 @@ impl<'a> NewFile<'a> {
 /// The scratch name of an output, under which the new file is made: the output's own name and
 /// `.apk-tmp`.
 fn scratch_name(alloc: Global, name: &Name) -> Result<Name, AllocError>
-    requires { length name.now ≤ longest_replaceable_name }
+    requires { length name.now ≤ most_replaceable_name_bytes }
     ensures { IfOk result (λ scratch. scratch ≡ scratch_of name.now) }
 {
     let mut bytes = Vec::from_slice(alloc, name.as_bytes())?;
@@ -172,9 +163,7 @@ fn begin_scratch<T: Tree>(tree: &mut T, scratch: &Name, name: &Name) -> Result<(
     ensures asked { (T.history tree.new ≡ T.history tree.old)
         ⊎ T.accepts (Some scratch.now) name.now }
     ensures accepted { OnOk result (T.accepts (Some scratch.now) name.now) }
-    ensures goes_on { CountsOnlyRise (T.counts tree.old) (T.counts tree.new) }
-    ensures cause { OnErr result (HasCause (T.counts tree.old) (T.counts tree.new)) }
-    ensures kept { OnOk result (IsNoFault (T.counts tree.old) (T.counts tree.new)) }
+    ensures counts { IsResultExplainedByCounts (T.counts tree.old) (T.counts tree.new) result }
     ensures proper { IfObservable (T.history tree.old) (λ v. CanAddName scratch.now v
         → (T.counts tree.new).misuses ≡ (T.counts tree.old).misuses) }
 {
@@ -189,9 +178,7 @@ fn create_anew<T: Tree>(tree: &mut T, name: &Name) -> Result<(), Disk>
     ensures begun { OnOk result (IsNewFile name.now [] (T.history tree.old)
         (T.history tree.new)) }
     ensures only { OnlyScratchHasChanged name.now (T.history tree.old) (T.history tree.new) }
-    ensures goes_on { CountsOnlyRise (T.counts tree.old) (T.counts tree.new) }
-    ensures cause { OnErr result (HasCause (T.counts tree.old) (T.counts tree.new)) }
-    ensures kept { OnOk result (IsNoFault (T.counts tree.old) (T.counts tree.new)) }
+    ensures counts { IsResultExplainedByCounts (T.counts tree.old) (T.counts tree.new) result }
     ensures proper { IfObservable (T.history tree.old) (λ v. CanAddName name.now v
         → (T.counts tree.new).misuses ≡ (T.counts tree.old).misuses) }
 {
@@ -207,22 +194,17 @@ fn create_anew<T: Tree>(tree: &mut T, name: &Name) -> Result<(), Disk>
 fn settle<T: Tree>(tree: &mut T, from: &Name, to: &Name) -> Result<(), Disk>
     requires { to.now ≢ intent_name }
     ensures moments { IfObservable (T.history tree.old) (λ v. (bytes : List ℕ) (start : TreeState)
-        → HasNewFileAt from.now (synced_file bytes) start v
+        → HasChangedOnlyByNewFile from.now (synced_file bytes) start v
         → Since (IsReadyToMove from.now to.now bytes start) (T.history tree.old) (T.history
         tree.new)) }
     ensures settled { IfObservable (T.history tree.old) (λ v. (bytes : List ℕ) (start : TreeState)
-        → HasNewFileAt from.now (synced_file bytes) start v
+        → HasChangedOnlyByNewFile from.now (synced_file bytes) start v
         → OnOk result (IfObservable (T.history tree.new) (IsDurablyMoved from.now to.now bytes
         start))) }
     ensures others { IfObservable (T.history tree.old) (λ v.
         Since (KeepsCrashMapsExcept (to.now ∷ from.now ∷ []) v) (T.history tree.old)
         (T.history tree.new)) }
-
-    // No count of faults falls; a fault of the tree is returned only if that count rose, and Ok
-    // only if it did not.
-    ensures goes_on { CountsOnlyRise (T.counts tree.old) (T.counts tree.new) }
-    ensures cause { OnErr result (HasCause (T.counts tree.old) (T.counts tree.new)) }
-    ensures kept { OnOk result (IsNoFault (T.counts tree.old) (T.counts tree.new)) }
+    ensures counts { IsResultExplainedByCounts (T.counts tree.old) (T.counts tree.new) result }
 
     // If the file may be moved, no call is a misuse.
     ensures proper { IfObservable (T.history tree.old) (λ v. CanRename from.now to.now v

@@ -7,7 +7,7 @@ ghost use Rattle.base_core.specs.Crash.{Since};
 ghost use Rattle.base_core.specs.Undone.{IsDurable};
 ghost use Rattle.base_core.specs.Faults.{CountsOnlyRise, HasCause, IsNoFault};
 ghost use Rattle.base_core.specs.Tree.{files_of};
-ghost use Rattle.file_replacement.specs.Lengths.{longest_replaceable_name};
+ghost use Rattle.file_replacement.specs.Lengths.{most_replaceable_name_bytes};
 ghost use Rattle.journal_core.specs.Filling.{CanAddBothNames, IsDurablyMoved, IsReadyToMove};
 ghost use Rattle.journal_core.specs.Kept.{IsSyncedAt, KeepsCrashMapsExcept};
 ghost use Rattle.journal_core.specs.Reading.{ReadsOldOrReplaced};
@@ -35,7 +35,7 @@ pub fn replace<T: Tree>(
     bytes: &[u8],
 ) -> Result<(), TreeFault>
     // The scratch name, which is longer, has to be a name too.
-    requires length { length name.now ≤ longest_replaceable_name }
+    requires length { length name.now ≤ most_replaceable_name_bytes }
     requires apart { name.now ≢ intent_name }
 
     // At each moment the tree is durable, and a crash leaves a state from before or that of the new
@@ -105,7 +105,7 @@ fn write_new<T: Tree>(
     name: &Name,
     bytes: &[u8],
 ) -> Result<(), TreeFault>
-    requires length { length name.now ≤ longest_replaceable_name }
+    requires length { length name.now ≤ most_replaceable_name_bytes }
     requires apart { name.now ≢ intent_name }
     ensures moments { IfObservable (T.history tree.old) (λ v.
         Since (IsReadyToMove (scratch_of name.now) name.now bytes.now v) (T.history tree.old)

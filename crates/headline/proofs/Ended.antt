@@ -19,7 +19,7 @@ use Rattle.refusal_laws.specs.RunMade.{HasFirstSelection}
 use Rattle.report_core.specs.declared.refusal.Refusal.{Refusal}
 use Rattle.report_core.specs.declared.refusal.Refusal.TheVariants.{IntentBad, Unsatisfied}
 use Rattle.refusal_laws.specs.words_core.Grammar.{command_of}
-use Rattle.headline.specs.Sentence.{EndsAsStated}
+use Rattle.headline.specs.Sentence.{EndsInTrueRefusalOrFirstSelection}
 
 not_both : (a : Option Refusal) (refusal : Refusal) → a ≡ None → a ≡ Some refusal → ⊥
 not_both a refusal none some = cc (none, some)
@@ -54,7 +54,7 @@ module _ (recovers : (applet : Applet) → does_recover (effect_of applet) ≡ m
       by None is = selected command (unstaged_files files) o changes (works words command files o named (must command.applet changes) is one) none made
       by (Some cause) is = absurd (refuses_none files (IntentBad cause) o none (bad words command files o cause named (must command.applet changes) is one))
 
-  pub ended : (words : List (List ℕ)) (command : CommandLine) (files : Files) (o : Outcome) → command_of words ≡ Ok command → effect_of command.applet ≡ Changes → IsOutcome (command_of words) files o → EndsAsStated command files o
+  pub ended : (words : List (List ℕ)) (command : CommandLine) (files : Files) (o : Outcome) → command_of words ≡ Ok command → effect_of command.applet ≡ Changes → IsOutcome (command_of words) files o → EndsInTrueRefusalOrFirstSelection command files o
   ended words command files o named changes one =
       let end = ends words command files o named changes one in
       record {

@@ -12,9 +12,9 @@ use Rattle.refusal_laws.specs.outcome.Effect.{Changes, does_recover, effect_of_a
 use Rattle.refusal_laws.specs.outcome.Outcome.{Outcome}
 use Rattle.refusal_laws.specs.outcome.Words.{IsOutcome}
 use Rattle.refusal_laws.specs.words_core.Grammar.{command_of}
-use Rattle.run_lists.specs.Events.{Event, HasNoPendingRun, Reaches, ReachesWithoutCommit, ReachesOneState, IsRunWithoutCommit, IsOutcomeFrom, IsRunFrom, IsPossibleStop, Run, ignored_after, ignored_during_run, ignored_with_all_touched, ignored_with_scratch}
+use Rattle.run_lists.specs.Events.{RootEvent, HasNoPendingRun, Reaches, ReachesWithoutCommit, ReachesOneState, IsRunWithoutCommit, IsOutcomeFrom, IsRunFrom, IsPossibleStop, Run, ignored_after, ignored_during_run, ignored_with_all_touched, ignored_with_scratch}
 use Rattle.run_lists.specs.Recovered.{ReachesWithoutBadIntent, HasStateBefore, HasStateBeforeOrOutcome, HasSameState, IsRecoveredBy, LeavesNoBadIntent}
-use Rattle.run_lists.specs.Safety.{HasOldOrOutcome, IsAtomicAfterAnyEvents, IsSafe, IsSafeAfterAnyEvents, LeavesOutcome}
+use Rattle.run_lists.specs.Safety.{HasOldOrOutcome, IsAtomicAfterAnyEvents, IsSafeRun, IsSafeAfterAnyEvents, LeavesOutcome}
 use Rattle.run_lists.proofs.AtMoments.{History}
 use Rattle.run_lists.proofs.Facts.{AreMore, Ignored}
 use Rattle.run_lists.proofs.Moments.{last_moment}
@@ -22,12 +22,12 @@ use Rattle.run_lists.proofs.Names.{all_touched_more, scratch_more}
 use Rattle.run_lists.proofs.OneRun.{idle_moment}
 use Rattle.run_lists.proofs.Recoverable.{before_more, before_or_outcome_more, left_state, recovered_as, seen_plainly, state_on}
 use Rattle.run_lists.proofs.Torn.{torn_image, torn_self}
-use Rattle.headline.specs.Sentence.{EndsAsStated, HasGoodPast, IsAsPromised, IsAsPromisedAfterAnyEvents, RootRecoversTo}
+use Rattle.headline.specs.Sentence.{EndsInTrueRefusalOrFirstSelection, HasGoodPast, IsAsPromised, IsAsPromisedAfterAnyEvents, RootRecoversTo}
 
 -- ---- from one moment on
 
 abbrev IsLeftAt : Ignored → TreeState → Type 0
-IsLeftAt names m = (w : TreeState) (later : List Event) (next : Run) → ReachesWithoutCommit m later w → IsRunFrom w next → does_recover (effect_of_arguments (command_of next.words)) ≡ true
+IsLeftAt names m = (w : TreeState) (later : List RootEvent) (next : Run) → ReachesWithoutCommit m later w → IsRunFrom w next → does_recover (effect_of_arguments (command_of next.words)) ≡ true
     → (image : Files) × IsCrashImage m image × IsRecoveredBy (HasSameState (ignored_with_all_touched later names) image) w next
 
 -- a property of files that rests on their state alone, apart from some names
@@ -71,26 +71,26 @@ now_last (w ∷ rest) A B f a = f w refl a
 
 -- ---- after a list
 
-module _ (begins : (ignored : Ignored) (first v : TreeState) (events : List Event) (words : List (List ℕ)) → ignored intent_name ≡ false → IsDurable (StateDependsOn ignored) first → Reaches first events v
+module _ (begins : (ignored : Ignored) (first v : TreeState) (events : List RootEvent) (words : List (List ℕ)) → ignored intent_name ≡ false → IsDurable (StateDependsOn ignored) first → Reaches first events v
     → IsDurable (StateDependsOn (ignored_with_scratch (output words) (ignored_after ignored events))) v × IgnoresScratchOf (output words) (ignored_with_scratch (output words) (ignored_after ignored events)))
     (safe : (v : TreeState) (run : Run) → IsRunFrom v run → IsSafeAfterAnyEvents v run)
-    (one_state : (ignored : Ignored) (first v : TreeState) (events : List Event) → ignored intent_name ≡ false → IsDurableState ignored (files_of first) first → ReachesOneState first events v → IsDurableState (ignored_after ignored events) (files_of v) v)
-    (unbroken : (first v : TreeState) (events : List Event) → Reaches first events v → HasNoPendingRun events → ReachesOneState first events v)
-    (left : (ignored : Ignored) (first v m w : TreeState) (events later : List Event) (run next : Run) → ignored intent_name ≡ false → IsDurable (StateDependsOn ignored) first → LeavesNoBadIntent first
+    (one_state : (ignored : Ignored) (first v : TreeState) (events : List RootEvent) → ignored intent_name ≡ false → IsDurableState ignored (files_of first) first → ReachesOneState first events v → IsDurableState (ignored_after ignored events) (files_of v) v)
+    (unbroken : (first v : TreeState) (events : List RootEvent) → Reaches first events v → HasNoPendingRun events → ReachesOneState first events v)
+    (left : (ignored : Ignored) (first v m w : TreeState) (events later : List RootEvent) (run next : Run) → ignored intent_name ≡ false → IsDurable (StateDependsOn ignored) first → LeavesNoBadIntent first
     → ReachesWithoutBadIntent first events v → IsRunFrom v run → IsPossibleStop run m → ReachesWithoutCommit m later w → IsRunFrom w next → does_recover (effect_of_arguments (command_of next.words)) ≡ true
     → (image : Files) × IsCrashImage m image × IsRecoveredBy (HasSameState (ignored_with_all_touched later (ignored_during_run run (ignored_after ignored events))) image) w next)
     (two : (ignored : Ignored) (v : TreeState) (run : Run) (files : Files) → EachCrashLeaves ignored (files_of v) v → HasStateBeforeOrOutcome ignored v run files → HasOldOrOutcome ignored v run files)
     (more_settled : (few many : Ignored) (files : Files) (v : TreeState) → AreMore few many → EachCrashLeaves few files v → EachCrashLeaves many files v)
     (unique : (words : List (List ℕ)) (files : Files) (a b : Outcome) → IsOutcome (command_of words) files a → IsOutcome (command_of words) files b → a ≡ b)
-    (ended : (words : List (List ℕ)) (command : CommandLine) (files : Files) (o : Outcome) → command_of words ≡ Ok command → effect_of command.applet ≡ Changes → IsOutcome (command_of words) files o → EndsAsStated command files o)
-    (v : TreeState) (run : Run) (is_run : IsRunFrom v run) (ignored : Ignored) (first : TreeState) (events : List Event) (past : HasGoodPast ignored first events v) where
+    (ended : (words : List (List ℕ)) (command : CommandLine) (files : Files) (o : Outcome) → command_of words ≡ Ok command → effect_of command.applet ≡ Changes → IsOutcome (command_of words) files o → EndsInTrueRefusalOrFirstSelection command files o)
+    (v : TreeState) (run : Run) (is_run : IsRunFrom v run) (ignored : Ignored) (first : TreeState) (events : List RootEvent) (past : HasGoodPast ignored first events v) where
   abbrev Names : Ignored
   Names = ignored_during_run run (ignored_after ignored events)
 
   seen : Reaches first events v
   seen = seen_plainly first v events past.seen
 
-  here : IsSafe (ignored_after ignored events) v run
+  here : IsSafeRun (ignored_after ignored events) v run
   here = safe v run is_run ignored first events past.counts past.durable seen
 
   durable : IsDurable (StateDependsOn Names) v

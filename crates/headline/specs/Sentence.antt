@@ -18,14 +18,14 @@ use Rattle.refusal_laws.specs.outcome.Outcome.{Outcome}
 use Rattle.refusal_laws.specs.RunFaults.{IsFaultOfRun}
 use Rattle.refusal_laws.specs.RunMade.{HasFirstSelection}
 use Rattle.report_core.specs.declared.refusal.Refusal.{Refusal}
-use Rattle.run_lists.specs.Events.{Event, HasNoPendingRun, ReachesWithoutCommit, ReachesOneState, IsRunWithoutCommit, IsOutcomeFrom, IsRunFrom, IsPossibleStop, Run, ignored_after, ignored_during_run, ignored_with_all_touched}
+use Rattle.run_lists.specs.Events.{RootEvent, HasNoPendingRun, ReachesWithoutCommit, ReachesOneState, IsRunWithoutCommit, IsOutcomeFrom, IsRunFrom, IsPossibleStop, Run, ignored_after, ignored_during_run, ignored_with_all_touched}
 use Rattle.run_lists.specs.Recovered.{ReachesWithoutBadIntent, HasStateBefore, HasStateBeforeOrOutcome, HasSameState, IsRecoveredBy, LeavesNoBadIntent}
 use Rattle.run_lists.specs.Safety.{HasOldOrOutcome}
 use Rattle.refusal_laws.specs.words_core.Grammar.{command_of}
 
 -- A root has seen any list of runs, stops, crashes and changes by others. Its files were durable at
 -- first, apart from the ignored names, and neither then nor later did others leave a bad intent.
-pub record HasGoodPast (ignored : List ℕ → Bool) (first : TreeState) (events : List Event)
+pub record HasGoodPast (ignored : List ℕ → Bool) (first : TreeState) (events : List RootEvent)
     (v : TreeState) : Type 0 where
   pub counts : ignored intent_name ≡ false
   pub durable : IsDurable (StateDependsOn ignored) first
@@ -38,14 +38,14 @@ pub record HasGoodPast (ignored : List ℕ → Bool) (first : TreeState) (events
 pub record RootRecoversTo (HasState : (List ℕ → Bool) → Files → Type 0) (ignored : List ℕ → Bool)
     (m : TreeState) : Type 0 where
   pub crash : (image : Files) → IsCrashImage m image → HasState ignored image
-  pub next : (later : List Event) (w : TreeState) (next : Run) → ReachesWithoutCommit m later w
+  pub next : (later : List RootEvent) (w : TreeState) (next : Run) → ReachesWithoutCommit m later w
       → IsRunFrom w next → does_recover (effect_of_arguments (command_of next.words)) ≡ true
       → IsRecoveredBy (HasState (ignored_with_all_touched later ignored)) w next
 
 -- A change is refused only for what is so, or because no selection satisfies the new world. Else the
 -- first preferred selection is carried out and reported. The packages are then just the selected ones,
 -- unless the change is only simulated.
-pub record EndsAsStated (command : CommandLine) (files : Files) (o : Outcome) : Type 0 where
+pub record EndsInTrueRefusalOrFirstSelection (command : CommandLine) (files : Files) (o : Outcome) : Type 0 where
   pub end : IsRunEnd command files o
   pub fault : (refusal : Refusal) → o.refusal ≡ Some refusal → IsFaultOfRun command files refusal
   pub first : o.refusal ≡ None → TakesFirstSelection command (unstaged_files files) o
@@ -76,17 +76,17 @@ pub record IsAsPromised (ignored : List ℕ → Bool) (v : TreeState) (run : Run
   -- the tree or of an output stream, with its cause, or that it is out of memory.
   pub answer : IsAnswerOf (IsOutcomeFrom v run) (LeavesFiles run.now)
       (HasCause run.before run.after) run.answer run.out run.err
-  -- A run that changes the installed packages ends in one of the stated ways (*EndsAsStated*).
+  -- A run that changes the installed packages ends in one of the stated ways (*EndsInTrueRefusalOrFirstSelection*).
   pub change : (command : CommandLine) (o : Outcome) → command_of run.words ≡ Ok command
       → effect_of command.applet ≡ Changes → IsOutcomeFrom v run o
-      → EndsAsStated command (files_of v) o
+      → EndsInTrueRefusalOrFirstSelection command (files_of v) o
 
 -- The sentence: whatever list a root has seen, the run is as promised. If a root had one state at
 -- first, it has one when the run begins, unless a run that might commit was stopped or the tree failed.
 -- Even then it has one again after a crash, or after an event that *ReachesOneState* names.
 abbrev pub IsAsPromisedAfterAnyEvents : TreeState → Run → Type 0
 IsAsPromisedAfterAnyEvents v run =
-    (ignored : List ℕ → Bool) (first : TreeState) (events : List Event)
+    (ignored : List ℕ → Bool) (first : TreeState) (events : List RootEvent)
     → HasGoodPast ignored first events v
     → IsAsPromised (ignored_during_run run (ignored_after ignored events)) v run
     × (IsDurableState ignored (files_of first) first

@@ -6,7 +6,7 @@ ghost use Rattle.run_lists.specs.apk_front.Moments.{TargetsAreAcceptedThroughout
 ghost use Rattle.base_core.specs.Calls.{IfObservable};
 ghost use Rattle.base_core.specs.Faults.{CountsOnlyRise, HasCause};
 ghost use Rattle.base_core.specs.Files.{no_names};
-ghost use Rattle.base_core.specs.Sink.{sink_change, IsProperUse};
+ghost use Rattle.base_core.specs.Sink.{sink_before_and_after, IsProperUse};
 ghost use Rattle.base_core.specs.Tree.{files_of};
 ghost use Rattle.headline.specs.Sentence.{IsAsPromisedAfterAnyEvents};
 ghost use Rattle.refusal_laws.specs.outcome.Effect.{Changes, effect_of_arguments, reads_only, depends_only_on_arguments};
@@ -35,8 +35,8 @@ pub fn apk_as_promised<T: Tree, O: Sink, E: Sink>(
       now = T.history tree.new;
       before = T.counts tree.old;
       after = T.counts tree.new;
-      out = sink_change O.bytes O.counts out.old out.new;
-      err = sink_change E.bytes E.counts err.old err.new;
+      out = sink_before_and_after O.bytes O.counts out.old out.new;
+      err = sink_before_and_after E.bytes E.counts err.old err.new;
       answer = result;
     } in IsRunFrom v run × IsAsPromisedAfterAnyEvents v run) }
 
@@ -44,25 +44,25 @@ pub fn apk_as_promised<T: Tree, O: Sink, E: Sink>(
 
     ensures complete { IfObservable (T.history tree.old) (λ v.
         IsFaultless (T.counts tree.old) (T.counts tree.new)
-        (sink_change O.bytes O.counts out.old out.new)
-        (sink_change E.bytes E.counts err.old err.new)
+        (sink_before_and_after O.bytes O.counts out.old out.new)
+        (sink_before_and_after E.bytes E.counts err.old err.new)
         → AnswersOutcomeUnlessMemory words.now (files_of v) result) }
     ensures every_tree { IsTrue (depends_only_on_arguments (command_of words.now))
         → IsAnswerOf (IsOutcome (command_of words.now) no_names) LeavesAnyFiles ⊥ result
-        (sink_change O.bytes O.counts out.old out.new)
-        (sink_change E.bytes E.counts err.old err.new) }
+        (sink_before_and_after O.bytes O.counts out.old out.new)
+        (sink_before_and_after E.bytes E.counts err.old err.new) }
     ensures found { IsAnswerOf (IsPossibleOutcome (command_of words.now)) LeavesAnyFiles
         (HasCause (T.counts tree.old) (T.counts tree.new)) result
-        (sink_change O.bytes O.counts out.old out.new)
-        (sink_change E.bytes E.counts err.old err.new) }
+        (sink_before_and_after O.bytes O.counts out.old out.new)
+        (sink_before_and_after E.bytes E.counts err.old err.new) }
     ensures asked { effect_of_arguments (command_of words.now) ≡ Changes
         → TargetsAreAcceptedThroughout T.accepts (T.history tree.old) (T.history tree.new) }
     ensures causes { HasCauses result (T.counts tree.old) (T.counts tree.new)
-        (sink_change O.bytes O.counts out.old out.new)
-        (sink_change E.bytes E.counts err.old err.new) }
+        (sink_before_and_after O.bytes O.counts out.old out.new)
+        (sink_before_and_after E.bytes E.counts err.old err.new) }
     ensures tree_counts { CountsOnlyRise (T.counts tree.old) (T.counts tree.new) }
-    ensures out_counts { IsProperUse (sink_change O.bytes O.counts out.old out.new) }
-    ensures err_counts { IsProperUse (sink_change E.bytes E.counts err.old err.new) }
+    ensures out_counts { IsProperUse (sink_before_and_after O.bytes O.counts out.old out.new) }
+    ensures err_counts { IsProperUse (sink_before_and_after E.bytes E.counts err.old err.new) }
     ensures memory { result ≡ Answer.Memory → IsTrue (name_a_command words.now) }
     ensures proper { IfObservable (T.history tree.old) (λ v. AreRunPathsFree words.now (files_of v)
         → (T.counts tree.new).misuses ≡ (T.counts tree.old).misuses) }
@@ -71,8 +71,8 @@ pub fn apk_as_promised<T: Tree, O: Sink, E: Sink>(
         → HasNoPlannedFailure (O.counts out.old) → HasNoPlannedFailure (E.counts err.old)
         → IsOutcomeUnlessMemory words.now (files_of v) (LeavesFiles (T.history tree.new)) result
         (T.counts tree.old) (T.counts tree.new)
-        (sink_change O.bytes O.counts out.old out.new)
-        (sink_change E.bytes E.counts err.old err.new)) }
+        (sink_before_and_after O.bytes O.counts out.old out.new)
+        (sink_before_and_after E.bytes E.counts err.old err.new)) }
     ensures untouched { IsTrue (depends_only_on_arguments (command_of words.now)) → tree.new
         ≡ tree.old }
     ensures same { IsTrue (reads_only (command_of words.now))

@@ -4,7 +4,7 @@ use Rattle.std.specs.Prelude.{IfErr}
 use Rattle.std.proofs.lemmas.List.{take_more}
 use Rattle.base_core.specs.Faults.{Counts}
 use Rattle.base_core.specs.Read.{OnlyReads}
-use Rattle.base_core.specs.Sink.{Adds, SinkChange}
+use Rattle.base_core.specs.Sink.{Adds, SinkBeforeAndAfter}
 use Rattle.base_core.specs.Tree.{TreeState, files_of}
 use Rattle.base_core.specs.declared.tree.TreeFault.{TreeFault}
 use Rattle.base_core.specs.declared.tree.TreeFault.TheVariants as Trees
@@ -59,7 +59,7 @@ told_all words refusal found own = ap (λ b. if b then hint_lines (hints_of word
 pub tells_none : {T E : Type 0} (lines : List ℕ) (told : Option (List ℕ)) (before after : Counts) (x : T) → lines ≡ [] → Tells {E = E} lines (Between told before told after) (Ok x)
 tells_none lines told before after x none = record { ok = subst (Adds told told) (sym none) (Adds-none told); err = tt }
 
-pub tells_same : {T E : Type 0} (a b : List ℕ) (sink : SinkChange) (result : Result T E) → a ≡ b → Tells a sink result → Tells b sink result
+pub tells_same : {T E : Type 0} (a b : List ℕ) (sink : SinkBeforeAndAfter) (result : Result T E) → a ≡ b → Tells a sink result → Tells b sink result
 tells_same a b sink result same tells = subst (λ lines. Tells lines sink result) same tells
 
 memory_is_no_disk : {B : Type 0} → ◌≡◌ {A = Result B HintFault} (Err Memory) (Err Disk) → ⊥

@@ -41,9 +41,9 @@ mixed_up_positions refusal = option_and_then mixed_up_positions_of_cause (cause_
 
 -- ---- files of a package
 
--- the entry of an array at a position, which counts from 1
-abbrev pub item_at : Plain → ℕ → Option Plain
-item_at array position =
+-- the entry of an array at a position, counted from 1; None if the array has no such position
+abbrev pub item_at_position : Plain → ℕ → Option Plain
+item_at_position array position =
     if nat_le 1 position && nat_le position (count_of (entries_in array))
     then Some (entry_in array (position - 1)) else None
 
@@ -51,13 +51,13 @@ item_at array position =
 abbrev pub path_in_folder : Plain → ℕ → Option (List ℕ)
 path_in_folder folder file =
     option_map (λ (f : Plain). path_of (name_of folder) (name_of f))
-    (item_at (entry_in folder DIR_FILES) file)
+    (item_at_position (entry_in folder DIR_FILES) file)
 
 -- the path of the file of a package, by the positions of its folder and of itself in the folder
 abbrev pub path_at : Plain → ℕ × ℕ → Option (List ℕ)
 path_at pkg position =
     option_and_then (λ folder. path_in_folder folder position.1)
-    (item_at (entry_in pkg PACKAGE_PATHS) position.0)
+    (item_at_position (entry_in pkg PACKAGE_PATHS) position.0)
 
 -- ---- lines
 

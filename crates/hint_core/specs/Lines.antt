@@ -76,7 +76,8 @@ abbrev pub repository_hint_line : ℕ → ℕ → List ℕ → List ℕ
 repository_hint_line number line path = texts_joined
     (codes "apk: repository " ∷ (decimal number ∷ (codes " is " ∷ (printed_text path
     ∷ (codes ", line " ∷ (decimal line
-    ∷ (codes " of etc/apk/repositories; apk mkndx makes an index\n" ∷ [])))))))
+    ∷ (codes " of etc/apk/repositories; correct the line, or make the index with "
+    ∷ (codes "apk mkndx -o INDEX PACKAGES\n" ∷ []))))))))
 
 -- the line of a line of a file
 abbrev pub line_hint_line : HintFile → ℕ → List ℕ → List ℕ
@@ -103,18 +104,18 @@ field_line place table name = texts_joined
 -- the line of a schema
 abbrev pub schema_hint_line : Which → List ℕ
 schema_hint_line table = texts_joined
-    (codes "apk: the schema says what the file is: " ∷ (table_text table ∷ (codes "\n" ∷ [])))
+    (codes "apk: by its schema, the file is " ∷ (table_text table ∷ (codes "\n" ∷ [])))
 
 -- the line of a schema that no table has
 abbrev pub unknown_schema_line : List ℕ
 unknown_schema_line = texts_joined
-    (codes "apk: the schema says what the file is: nothing that apk reads\n" ∷ [])
+    (codes "apk: by its schema, the file is nothing that apk reads\n" ∷ [])
 
 -- the line that says how one of two packages gets a path that both list
 abbrev pub shared_path_line : List ℕ
 shared_path_line = texts_joined
-    (codes "apk: to have both, make one again with mkpkg -I replaces:OTHER; it then owns the path\n"
-    ∷ [])
+    (codes "apk: to have both, make one of them again with mkpkg -I replaces:NAME-OF-THE-OTHER, "
+    ∷ (codes "and then the index\n" ∷ []))
 
 -- the line of a hint, if it has one
 abbrev pub hint_line : Hint → List ℕ

@@ -1,7 +1,7 @@
 -- What a call that explains a refusal writes. The rules are in `docs/commands.md`, "Hints".
 use Rattle.std.specs.Prelude.{◌≡◌, ℕ, List, [], if◌then◌else◌, Option, Some, None, Result, OnOk, OnErr}
 use Rattle.base_core.specs.Calls.{IfObservable}
-use Rattle.base_core.specs.Sink.{SinkChange, Gets, GetsPrefix}
+use Rattle.base_core.specs.Sink.{SinkBeforeAndAfter, Gets, GetsPrefix}
 use Rattle.base_core.specs.Tree.{TreeState, files_of}
 use Rattle.base_core.specs.declared.tree.TreeFault.{TreeFault}
 use Rattle.base_core.specs.declared.tree.TreeFault.TheVariants as Trees
@@ -39,7 +39,7 @@ hint_lines_after_refusal words refusal found =
     if is_explained (command_of words) then hint_lines (hints_of words refusal found) else []
 
 -- a call has written these lines to a sink, or a prefix of them if it failed
-pub record Tells {T E : Type 0} (lines : List ℕ) (sink : SinkChange)
+pub record Tells {T E : Type 0} (lines : List ℕ) (sink : SinkBeforeAndAfter)
     (result : Result T E) : Type 0 where
   -- all lines were written
   pub ok : OnOk result (Gets sink lines)

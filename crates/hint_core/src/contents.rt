@@ -2,7 +2,7 @@
 //! are in `docs/commands.md`, "Hints".
 ghost use Rattle.std.specs.Prelude.{◌≡◌, ◌⊎◌, ◌++◌, [], ℕ, List, Err, IfErr, IfOk, None, OnOk, Some};
 ghost use Rattle.base_core.specs.Read.{OnlyReads, bytes_in};
-ghost use Rattle.base_core.specs.Sink.{sink_change};
+ghost use Rattle.base_core.specs.Sink.{sink_before_and_after};
 ghost use Rattle.base_core.specs.declared.tree.TreeFault.TheVariants.{Disk as DiskFault};
 ghost use Rattle.hint_core.specs.Contents.{AreLinesOfRead, ExplainsContents, ExplainsFile, ExplainsMixedUp, place_of_bad_file, file_line, mixed_up_positions, mixed_up_positions_of_cause, package_lines, payload_lines, position_line, refused_file, file_name_of_word};
 ghost use Rattle.hint_core.specs.Told.{Tells};
@@ -10,12 +10,11 @@ ghost use Rattle.pkg_core.specs.Front.{front_payload};
 ghost use Rattle.pkg_core.specs.declared.front.FrontFault.TheVariants.{Disk as FrontFailed};
 ghost use Rattle.pkg_core.specs.adb_schema.Views.{package_value};
 
-use crate::find::word_at;
 use crate::hint::cause_of;
 use crate::package_paths::path_at;
 use crate::printed::{printed, push_texts};
 use crate::telling::{HintFault, is_explained};
-use crate::warning::say;
+use crate::warning::write_lines;
 use base_core::{Cause, Name, Sink, Tree, TreeFault, Words};
 use command_core::without_dot_slash;
 use itoa::Buffer;
@@ -26,6 +25,7 @@ use pkg_core::{
 };
 use report_core::Refusal;
 use std::alloc::{AllocError, Global};
+use words_core::word_at;
 
 /// The positions of two files of a package, each of a folder and of a file in it. They count from
 /// 1, and (0, 0) is no file.
@@ -55,13 +55,13 @@ pub fn explain_contents<T: Tree, S: Sink>(
     ensures told { (lines : List ℕ)
         × ((lines ≡ []) ⊎ ExplainsContents words.now refusal.now (T.history tree.old) lines)
         × OnOk result (ExplainsContents words.now refusal.now (T.history tree.old) lines)
-        × Tells lines (sink_change S.bytes S.counts sink.old sink.new) result }
+        × Tells lines (sink_before_and_after S.bytes S.counts sink.old sink.new) result }
     // The tree is only read.
     ensures tree { OnlyReads HintFault.Disk (T.history tree.old) (T.history tree.new)
         (T.counts tree.old) (T.counts tree.new) result }
 {
     let lines = contents_lines(alloc, words, refusal, tree)?;
-    say(&lines, sink)
+    write_lines(&lines, sink)
 }
 
 // The lines of the positions that a refusal names, of the file that it refuses.

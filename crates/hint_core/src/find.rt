@@ -1,5 +1,5 @@
 //! Finds what the numbers of a refusal stand for. The rules are in `docs/commands.md`, "Hints".
-ghost use Rattle.std.specs.Prelude.{◌≡◌, ◌-◌, IfOk, Ok, Some, map, slice_get};
+ghost use Rattle.std.specs.Prelude.{◌≡◌, IfOk, Ok, Some, map, slice_get};
 ghost use Rattle.std.specs.Option.{option_copied, option_map};
 ghost use Rattle.dep_core.specs.Repositories.{repositories_of};
 ghost use Rattle.dep_core.specs.World.{lines_of};
@@ -12,6 +12,7 @@ use base_core::{Cause, Text, Words};
 use dep_core::{Repos, ReposFault};
 use report_core::Refusal;
 use std::alloc::{AllocError, Global};
+use words_core::word_at;
 
 /// The hints of a refusal: on what it is about, given the file that it is about, and on its cause.
 pub fn hints(
@@ -87,17 +88,6 @@ fn absent_database_hint(is_found: bool) -> Hint
     } else {
         Hint::AbsentDatabase
     }
-}
-
-/// The word at a place, if there is one.
-pub(crate) fn word_at(words: &Words, place: u32) -> Option<&[u8]>
-    ensures { option_map (λ word. word.now) result ≡ slice_get words.now (place - 1) }
-{
-    let before = (place as usize).saturating_sub(1);
-    if before < words.len() {
-        return Some(words.word(before));
-    }
-    None
 }
 
 // The word at a place, if there is one.

@@ -27,4 +27,4 @@ pub use laws::{hints_are_so, tags_without_a_repository_are_warned_of};
 pub use package_file::explain_package;
 pub use printed::push_printed;
 pub use telling::{HintFault, explain};
-pub use warning::warn;
+pub use warning::{warn, write_lines};

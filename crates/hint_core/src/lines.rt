@@ -46,21 +46,22 @@ fn push_hint(alloc: Global, lines: &mut Vec<u8>, hint: &Hint) -> Result<(), Allo
         Hint::SharedPath => push_texts(
             lines,
             &[
-                b"apk: to have both, make one again with mkpkg -I replaces:OTHER; it then owns the path\n",
+                b"apk: to have both, make one of them again with mkpkg -I replaces:NAME-OF-THE-OTHER, ",
+                b"and then the index\n",
             ],
         ),
         Hint::Field { place, table, name } => push_field(lines, *place, *table, *name),
         Hint::Schema { table } => push_texts(
             lines,
             &[
-                b"apk: the schema says what the file is: ",
+                b"apk: by its schema, the file is ",
                 table_text(*table),
                 b"\n",
             ],
         ),
         Hint::UnknownSchema => push_texts(
             lines,
-            &[b"apk: the schema says what the file is: nothing that apk reads\n"],
+            &[b"apk: by its schema, the file is nothing that apk reads\n"],
         ),
         Hint::Nothing => Ok(()),
     }
@@ -122,7 +123,8 @@ fn push_repository(
             &shown,
             b", line ",
             line_digits.format(line).as_bytes(),
-            b" of etc/apk/repositories; apk mkndx makes an index\n",
+            b" of etc/apk/repositories; correct the line, or make the index with ",
+            b"apk mkndx -o INDEX PACKAGES\n",
         ],
     )
 }

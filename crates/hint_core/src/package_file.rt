@@ -3,7 +3,7 @@
 //! `docs/commands.md`, "Hints".
 ghost use Rattle.std.specs.Prelude.{◌≡◌, ◌⊎◌, ◌++◌, [], ℕ, List, IfOk, OnOk};
 ghost use Rattle.base_core.specs.Read.{OnlyReads};
-ghost use Rattle.base_core.specs.Sink.{sink_change};
+ghost use Rattle.base_core.specs.Sink.{sink_before_and_after};
 ghost use Rattle.dep_core.specs.Repositories.{repositories_of};
 ghost use Rattle.report_core.specs.Reports.{name_dash_version};
 ghost use Rattle.root_names.specs.PackagePath.{package_path};
@@ -14,7 +14,7 @@ ghost use Rattle.hint_core.specs.Told.{Tells};
 use crate::contents::lines_of_contents;
 use crate::printed::{printed, push_printed, push_texts};
 use crate::telling::{HintFault, is_explained};
-use crate::warning::{say, text_of_found};
+use crate::warning::{text_of_found, write_lines};
 use base_core::{Name, Sink, Tree, TreeFault, Words, consecutive_reads_compose, read_all};
 use dep_core::{Repos, ReposFault};
 use report_core::Refusal;
@@ -41,13 +41,13 @@ pub fn explain_package<T: Tree, S: Sink>(
     ensures told { (lines : List ℕ)
         × ((lines ≡ []) ⊎ ExplainsPackageFile words.now refusal.now (T.history tree.old) lines)
         × OnOk result (ExplainsPackageFile words.now refusal.now (T.history tree.old) lines)
-        × Tells lines (sink_change S.bytes S.counts sink.old sink.new) result }
+        × Tells lines (sink_before_and_after S.bytes S.counts sink.old sink.new) result }
     // The tree is only read.
     ensures tree { OnlyReads HintFault.Disk (T.history tree.old) (T.history tree.new)
         (T.counts tree.old) (T.counts tree.new) result }
 {
     let lines = lines_of_words(alloc, words, refusal, tree)?;
-    say(&lines, sink)
+    write_lines(&lines, sink)
 }
 
 // The lines on the file of the package that a refusal of a command line names.

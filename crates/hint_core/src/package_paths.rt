@@ -3,7 +3,7 @@
 ghost use Rattle.std.specs.Prelude.{◌≡◌, IfOk};
 ghost use Rattle.std.specs.Option.{option_map};
 ghost use Rattle.base_core.specs.Read.{bytes_in};
-ghost use Rattle.hint_core.specs.Contents.{item_at, path_at, path_in_folder};
+ghost use Rattle.hint_core.specs.Contents.{item_at_position, path_at, path_in_folder};
 ghost use Rattle.pkg_core.specs.adb_schema.Views.{dir_value, file_value, package_value};
 ghost use Rattle.pkg_core.specs.adb_schema.adb_fields.ListValue.{list_value};
 ghost use Rattle.pkg_core.specs.adb_schema.adb_fields.Paths.{path_of};
@@ -28,7 +28,7 @@ pub(crate) fn path_at(
 
 // The folder at a position, if there is one.
 fn folder_at<'a>(folders: List<'a, DirInfo<'a>>, position: u32) -> Option<DirInfo<'a>>
-    ensures { option_map dir_value result ≡ item_at (list_value folders.entry) position }
+    ensures { option_map dir_value result ≡ item_at_position (list_value folders.entry) position }
 {
     let position = position as usize;
     if position < 1 || position > folders.len() {
@@ -54,7 +54,7 @@ fn path_in_folder(
 
 // The file at a position, if there is one.
 fn file_at<'a>(files: List<'a, FileInfo<'a>>, position: u32) -> Option<FileInfo<'a>>
-    ensures { option_map file_value result ≡ item_at (list_value files.entry) position }
+    ensures { option_map file_value result ≡ item_at_position (list_value files.entry) position }
 {
     let position = position as usize;
     if position < 1 || position > files.len() {

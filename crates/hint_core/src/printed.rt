@@ -1,14 +1,12 @@
 //! Bytes as a line shows them, and texts one after another. The rules are in `docs/commands.md`,
 //! "Hints".
-ghost use Rattle.std.specs.Prelude.{◌≡◌, ◌++◌, ◌∷◌, [], IfOk, OnOk, map, take};
+ghost use Rattle.std.specs.Prelude.{◌≡◌, ◌++◌, ◌∷◌, [], IfOk, OnOk, map};
 ghost use Rattle.hex.specs.Hex.{encode_lower};
-ghost use Rattle.words_core.specs.Usage.{most_shown_bytes, texts_joined};
+ghost use Rattle.words_core.specs.Usage.{texts_joined};
 ghost use Rattle.hint_core.specs.Lines.{dots_if_cut, is_printed, printed_byte, printed_bytes, printed_text};
 
 use std::alloc::{AllocError, Global};
-
-// How many bytes of a text are shown.
-const LONGEST_SHOWN: usize = 64;
+use words_core::{LONGEST_SHOWN, shown_part};
 
 /// The text that shows bytes: no more than 64 of them, and two dots if there are more.
 pub(crate) fn printed(alloc: Global, bytes: &[u8]) -> Result<Vec<u8>, AllocError>
@@ -18,17 +16,6 @@ pub(crate) fn printed(alloc: Global, bytes: &[u8]) -> Result<Vec<u8>, AllocError
     push_printed(&mut text, shown_part(bytes))?;
     text.extend_from_slice(dots_if_cut(bytes))?;
     Ok(text)
-}
-
-// The bytes that are shown.
-fn shown_part(bytes: &[u8]) -> &[u8]
-    ensures { result.now ≡ take most_shown_bytes bytes.now }
-{
-    if bytes.len() > LONGEST_SHOWN {
-        &bytes[..LONGEST_SHOWN]
-    } else {
-        bytes
-    }
 }
 
 // What follows the bytes that are shown, if there are more.

@@ -3,7 +3,7 @@
 ghost use Rattle.std.specs.Prelude.{◌≡◌, ℕ, List, Option, IfOk, IfErr};
 ghost use Rattle.std.specs.Option.{option_copied};
 ghost use Rattle.base_core.specs.Read.{OnlyReads, bytes_in};
-ghost use Rattle.base_core.specs.Sink.{sink_change};
+ghost use Rattle.base_core.specs.Sink.{sink_before_and_after};
 ghost use Rattle.words_core.specs.Grammar.{command_of};
 ghost use Rattle.hint_core.specs.Hints.{hint_file_name, hints_of, is_explained, subject_file, subject_of};
 ghost use Rattle.hint_core.specs.Lines.{hint_lines};
@@ -87,7 +87,7 @@ pub fn explain<T: Tree, S: Sink>(
     ensures told { (found : Option (List ℕ))
         × IsFoundForSubject (T.history tree.old) (subject_of refusal.now) found
         × Tells (hint_lines_after_refusal words.now refusal.now found)
-        (sink_change S.bytes S.counts sink.old sink.new) result }
+        (sink_before_and_after S.bytes S.counts sink.old sink.new) result }
     // The tree is only read.
     ensures tree { OnlyReads HintFault.Disk (T.history tree.old) (T.history tree.new)
         (T.counts tree.old) (T.counts tree.new) result }
@@ -172,7 +172,7 @@ fn tell<S: Sink>(
     sink: &mut S,
 ) -> Result<(), HintFault>
     ensures told { Tells (hint_lines (hints_of words.now refusal.now (option_copied found.entry)))
-        (sink_change S.bytes S.counts sink.old sink.new) result }
+        (sink_before_and_after S.bytes S.counts sink.old sink.new) result }
     // No tree failed.
     ensures failed { IfErr result IsNotDiskFault }
 {

@@ -4,7 +4,7 @@ ghost use Rattle.std.specs.Prelude.{◌≡◌, ◌⊎◌, ◌++◌, [], ℕ, Lis
 ghost use Rattle.std.specs.Option.{option_copied, option_map};
 ghost use Rattle.base_core.specs.Calls.{IfObservable};
 ghost use Rattle.base_core.specs.Read.{OnlyReads, bytes_in};
-ghost use Rattle.base_core.specs.Sink.{sink_change};
+ghost use Rattle.base_core.specs.Sink.{sink_before_and_after};
 ghost use Rattle.dep_core.specs.Repositories.{Repository, repositories_of};
 ghost use Rattle.words_core.specs.Grammar.{command_of};
 ghost use Rattle.hint_core.specs.Told.{IsNotDiskFault, Tells};
@@ -37,18 +37,22 @@ pub fn warn<T: Tree, S: Sink>(
     ensures told { (lines : List ℕ)
         × ((lines ≡ []) ⊎ Warns (command_of words.now) (T.history tree.old) lines)
         × OnOk result (Warns (command_of words.now) (T.history tree.old) lines)
-        × Tells lines (sink_change S.bytes S.counts sink.old sink.new) result }
+        × Tells lines (sink_before_and_after S.bytes S.counts sink.old sink.new) result }
     // The tree is only read.
     ensures tree { OnlyReads HintFault.Disk (T.history tree.old) (T.history tree.new)
         (T.counts tree.old) (T.counts tree.new) result }
 {
     let lines = warnings(alloc, words, tree)?;
-    say(&lines, sink)
+    write_lines(&lines, sink)
 }
 
 /// Writes lines.
-pub(crate) fn say<S: Sink>(lines: &[u8], sink: &mut S) -> Result<(), HintFault>
-    ensures told { Tells lines.now (sink_change S.bytes S.counts sink.old sink.new) result }
+///
+/// # Errors
+///
+/// `Sink`, and a prefix of the lines was written.
+pub fn write_lines<S: Sink>(lines: &[u8], sink: &mut S) -> Result<(), HintFault>
+    ensures told { Tells lines.now (sink_before_and_after S.bytes S.counts sink.old sink.new) result }
     // No tree failed.
     ensures failed { IfErr result IsNotDiskFault }
 {

@@ -59,9 +59,9 @@ impl Rights {
         self.user == other.user && self.group == other.group
     }
 
-    /// Gives the file at a path, which has these rights, those of another file, as far as the
-    /// caller may, and syncs them, even if they are equal. If the caller may not change the owner,
-    /// the bits are left out that let a program run with the owner's rights.
+    /// Changes the rights of the file at a path from `self` to `wanted`, as far as the caller may.
+    /// Then the rights are synced, even if they were equal. If the caller may not change the owner,
+    /// the file does not get the bits that let a program run with the owner's rights.
     ///
     /// # Errors
     ///

@@ -5,7 +5,7 @@
 #![tactic(auto)]
 
 ghost use Rattle.std.specs.Prelude.{◌≡◌, ◌≤◌, [], OnOk, OnErr, true};
-ghost use Rattle.base_core.specs.Faults.{next_count};
+ghost use Rattle.base_core.specs.Faults.{saturating_increment};
 ghost use Rattle.host_tree.specs.Host.{host_counts};
 
 mod earlier;
@@ -108,7 +108,7 @@ impl<'a, R: Host> HostTree<'a, R> {
         target: &[u8],
         fault: HostFault,
     ) -> Disk
-        ensures faults { self.new.faults ≡ next_count self.old.faults }
+        ensures faults { self.new.faults ≡ saturating_increment self.old.faults }
         ensures later { self.old.faults ≤ self.new.faults }
     {
         if self.failure.is_none() {
@@ -126,7 +126,7 @@ impl<'a, R: Host> HostTree<'a, R> {
         answer: Result<T, HostFault>,
     ) -> Result<T, Disk>
         ensures ok { OnOk result (self.new.faults ≡ self.old.faults) }
-        ensures err { OnErr result (self.new.faults ≡ next_count self.old.faults) }
+        ensures err { OnErr result (self.new.faults ≡ saturating_increment self.old.faults) }
         // No count falls.
         ensures later { self.old.faults ≤ self.new.faults }
     {

@@ -15,7 +15,7 @@ use Rattle.journal_core.proofs.Chain.{by_now, now_both}
 use Rattle.journal_core.proofs.History.{History, now_map, now_since, observable_at, observable_map, on_observable, since_on, since_weaker}
 use Rattle.journal_core.proofs.Lasting.{some_none}
 use Rattle.journal_core.proofs.OnTheWay.{way_after}
-use Rattle.journal_core.specs.journal_intent.FreeNames.{HasFreeNames}
+use Rattle.journal_core.specs.journal_intent.FreeNames.{HasFreeDistinctNames}
 use Rattle.journal_commit.specs.StageRun.{IsStateDuringChange, IsStageRun, IsStageRunComplete, IsStaging, NamesAreDurableWithoutIntent}
 use Rattle.journal_commit.proofs.Empty.{change_empties}
 use Rattle.journal_commit.proofs.Joins.{now_of, since_and}
@@ -30,7 +30,7 @@ names_some : (files : ℕ → File) (o : Option ℕ) (intent : Intent) → inten
 names_some files None intent is = absurd (cc (is))
 names_some files (Some n) intent is = refl
 
-module _ (stage : Staging) (contents : List (List ℕ)) (v : TreeState) (first mid : History) (s : IsStaging stage contents None v first mid) (all : stage.staged ≡ length stage.intent.writes) (free : HasFreeNames stage.intent) where
+module _ (stage : Staging) (contents : List (List ℕ)) (v : TreeState) (first mid : History) (s : IsStaging stage contents None v first mid) (all : stage.staged ≡ length stage.intent.writes) (free : HasFreeDistinctNames stage.intent) where
   abbrev pub H : Files
   H = G stage contents v first mid s
 

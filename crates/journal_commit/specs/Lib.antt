@@ -3,3 +3,5 @@ pub use Rattle.journal_core.specs as journal_core
 -- what the contract of `apk` says
 pub mod StageRun
 pub mod Asked
+-- what only inner contracts and proofs use
+pub mod StagingCalls

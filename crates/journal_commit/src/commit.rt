@@ -1,5 +1,5 @@
 //! The second part of a change, from the commit (publishing) of its intent on. The rules are in
-//! `docs/crash-safety.md`, "A change of several files", in the table of steps from 2 on.
+//! `docs/crash-safety.md`, "A change of several files": the example from the line of `publish` on.
 ghost use Rattle.std.specs.Prelude.{◌≡◌, ◌≤◌, ℕ, Bool, true, false, List, None, length, IsSome, OnOk, OnErr};
 ghost use Rattle.base_core.specs.Calls.{HoldsNow, IfObservable};
 ghost use Rattle.base_core.specs.Crash.{Since};
@@ -7,8 +7,9 @@ ghost use Rattle.base_core.specs.Undone.{IsDurable};
 ghost use Rattle.base_core.specs.Faults.{CountsOnlyRise, HasCause, IsNoFault};
 ghost use Rattle.base_core.specs.Files.{Files};
 ghost use Rattle.base_core.specs.Tree.{TreeState, files_of};
-ghost use Rattle.journal_core.specs.Kept.{IsRestoredByNoCrash, KeepsOldOrNewBytes, RecoversTo, ShownNamesAreDurable};
-ghost use Rattle.journal_core.specs.Quiet.{StateIsUnchanged};
+ghost use Rattle.journal_core.specs.Acting.{CarriesOutActions};
+ghost use Rattle.journal_core.specs.CallCounts.{IsResultExplainedByCounts};
+ghost use Rattle.journal_core.specs.Kept.{IsRestoredByNoCrash};
 ghost use Rattle.journal_core.specs.Recovery.{EachCrashLeaves, StateDependsOn, files_after_actions, intent_name};
 ghost use Rattle.journal_core.specs.Staged.{AreJournalPathsFree, IsCarryingOutActions, action_count, files_with_staged};
 ghost use Rattle.journal_commit.specs.StageRun.{IsStageRun, IsStageRunComplete, IsStaging, NamesAreDurableWithoutIntent};
@@ -57,18 +58,8 @@ pub fn carry_through<T: Tree>(stage: &mut Stage, tree: &mut T) -> Result<(), Dis
 fn enact<T: Tree>(stage: &mut Stage, tree: &mut T) -> Result<(), Disk>
     requires published { stage.old.published ≡ true }
     requires within { stage.old.acted ≤ action_count stage.old.intent }
-    // At each moment a crash leaves the state of the actions done.
-    ensures moments { IfObservable (T.history tree.old) (λ v. (ignored : List ℕ → Bool)
-        (files : Files) → IsDurable (StateDependsOn ignored) v → IsCarryingOutActions stage.old files v
-        → Since (StateIsUnchanged ignored v) (T.history tree.old) (T.history tree.new)) }
-    // At each moment recovery yields the files of the actions done.
-    ensures reads { IfObservable (T.history tree.old) (λ v. (files : Files)
-        → IsCarryingOutActions stage.old files v
-        → Since (RecoversTo files) (T.history tree.old) (T.history tree.new)) }
-    // Each name outside the staging area has its old bytes or its new ones.
-    ensures bytes { IfObservable (T.history tree.old) (λ v. (files : Files)
-        → IsCarryingOutActions stage.old files v
-        → KeepsOldOrNewBytes files v (T.history tree.old) (T.history tree.new)) }
+    // At each moment a crash leaves the state of the actions done, and recovery yields their files.
+    ensures actions { CarriesOutActions stage.old (T.history tree.old) (T.history tree.new) }
     // If no intent is read any more, a crash undoes no other change of a name.
     ensures last { IfObservable (T.history tree.old) (λ v. IsSome (v.names intent_name)
         → Since NamesAreDurableWithoutIntent (T.history tree.old) (T.history tree.new)) }
@@ -82,9 +73,7 @@ fn enact<T: Tree>(stage: &mut Stage, tree: &mut T) -> Result<(), Disk>
         (λ w. (files_of w ≡ files) × (w.names intent_name ≡ None)))) }
     // No crash restores the intent.
     ensures gone { OnOk result (IfObservable (T.history tree.new) (IsRestoredByNoCrash intent_name)) }
-    ensures goes_on { CountsOnlyRise (T.counts tree.old) (T.counts tree.new) }
-    ensures cause { OnErr result (HasCause (T.counts tree.old) (T.counts tree.new)) }
-    ensures kept { OnOk result (IsNoFault (T.counts tree.old) (T.counts tree.new)) }
+    ensures counts { IsResultExplainedByCounts (T.counts tree.old) (T.counts tree.new) result }
     ensures proper { IfObservable (T.history tree.old) (λ v. (files : Files)
         → IsCarryingOutActions stage.old files v → AreJournalPathsFree files
         → (T.counts tree.new).misuses ≡ (T.counts tree.old).misuses) }

@@ -1,17 +1,17 @@
 //! Files are staged, one after another. Laws say where the run of a change begins, and what it
-//! leaves. The rules are in `docs/crash-safety.md`, "A change of several files": step 1 of its
-//! table.
+//! leaves. The rules are in `docs/crash-safety.md`, "A change of several files": the lines of
+//! `file_begin`, `file_append` and `file_end` in the example.
 
 ghost use Rattle.std.specs.Prelude.{◌≡◌, ◌<◌, ◌+◌, ◌++◌, ◌∷◌, [], ℕ, true, false, List, Some, None, length, OnOk, OnErr};
-ghost use Rattle.base_core.specs.Faults.{CountsOnlyRise, HasCause, IsNoFault};
 ghost use Rattle.base_core.specs.Tree.{TreeState, files_of};
-ghost use Rattle.journal_core.specs.Staged.{AreJournalPathsFree, IsEmptyStage, new_stage, files_with_staged};
+ghost use Rattle.journal_core.specs.Staged.{IsEmptyStage, new_stage, files_with_staged};
 ghost use Rattle.journal_commit.specs.Asked.{TargetsAreAccepted};
+ghost use Rattle.journal_commit.specs.StagingCalls.{ChangesOnlyBegunFile, ChangesOnlyStagedFiles, StagesFile};
 ghost use Rattle.journal_commit.specs.StageRun.{IsStaging, IsStagingRun, IsStageRun};
 ghost use Rattle.base_core.specs.Calls.{IfObservable};
 ghost use Rattle.base_core.specs.Files.{Files};
 ghost use Rattle.journal_core.specs.Recovery.{Intent, files_after_actions, intent_name};
-ghost use Rattle.journal_core.specs.journal_intent.FreeNames.{HasFreeNames};
+ghost use Rattle.journal_core.specs.journal_intent.FreeNames.{HasFreeDistinctNames};
 
 use base_core::{Disk, Tree};
 use journal_core::Stage;
@@ -21,10 +21,10 @@ pub fn begin_file<T: Tree>(stage: &mut Stage, tree: &mut T) -> Result<(), Disk>
     requires closed { stage.old.is_open ≡ false }
     requires more { stage.old.staged < length stage.old.intent.writes }
 
-    // Whatever it returns, only staged files have changed at each moment.
-    ensures run { (contents : List (List ℕ)) (v : TreeState) (first : List TreeState)
-        → IsStaging stage.old contents None v first (T.history tree.old)
-        → IsStagingRun v first (T.history tree.new) }
+    // Whatever it returns, only staged files have changed at each moment; and no call is a misuse
+    // if the paths of the stage are free.
+    ensures only { ChangesOnlyStagedFiles stage.old (T.history tree.old) (T.history tree.new)
+        (T.counts tree.old) (T.counts tree.new) result }
     // Once it has returned Ok, an empty file is staged, which is begun.
     ensures staging { (contents : List (List ℕ)) (v : TreeState) (first : List TreeState)
         → IsStaging stage.old contents None v first (T.history tree.old)
@@ -32,16 +32,6 @@ pub fn begin_file<T: Tree>(stage: &mut Stage, tree: &mut T) -> Result<(), Disk>
     // The stage then has an open file; after an error it is as before.
     ensures view { OnOk result (stage.new ≡ record stage.old { is_open = true }) }
     ensures err { OnErr result (stage.new ≡ stage.old) }
-    // How the tree's counts explain the result: no count falls, and a fault is returned exactly if
-    // a count of faults rose.
-    ensures goes_on { CountsOnlyRise (T.counts tree.old) (T.counts tree.new) }
-    ensures cause { OnErr result (HasCause (T.counts tree.old) (T.counts tree.new)) }
-    ensures kept { OnOk result (IsNoFault (T.counts tree.old) (T.counts tree.new)) }
-    // No call is a misuse if the paths of the stage are free.
-    ensures proper { (contents : List (List ℕ)) (v : TreeState) (first : List TreeState)
-        → IsStaging stage.old contents None v first (T.history tree.old)
-        → AreJournalPathsFree (files_of v)
-        → (T.counts tree.new).misuses ≡ (T.counts tree.old).misuses }
 {
     stage.file_begin(tree)
 }
@@ -50,23 +40,14 @@ pub fn begin_file<T: Tree>(stage: &mut Stage, tree: &mut T) -> Result<(), Disk>
 /// path.
 pub fn append_piece<T: Tree>(stage: &mut Stage, tree: &mut T, piece: &[u8]) -> Result<(), Disk>
     requires { stage.old.is_open ≡ true }
-    ensures run { (contents : List (List ℕ)) (so_far : List ℕ) (v : TreeState)
-        (first : List TreeState)
-        → IsStaging stage.old contents (Some so_far) v first (T.history tree.old)
-        → IsStagingRun v first (T.history tree.new) }
+    ensures only { ChangesOnlyBegunFile stage.old (T.history tree.old) (T.history tree.new)
+        (T.counts tree.old) (T.counts tree.new) result }
     ensures staging { (contents : List (List ℕ)) (so_far : List ℕ) (v : TreeState)
         (first : List TreeState)
         → IsStaging stage.old contents (Some so_far) v first (T.history tree.old)
         → OnOk result (IsStaging stage.new contents (Some (so_far ++ piece.now)) v first
         (T.history tree.new)) }
     ensures view { stage.new ≡ stage.old }
-    ensures goes_on { CountsOnlyRise (T.counts tree.old) (T.counts tree.new) }
-    ensures cause { OnErr result (HasCause (T.counts tree.old) (T.counts tree.new)) }
-    ensures kept { OnOk result (IsNoFault (T.counts tree.old) (T.counts tree.new)) }
-    ensures proper { (contents : List (List ℕ)) (so_far : List ℕ) (v : TreeState)
-        (first : List TreeState)
-        → IsStaging stage.old contents (Some so_far) v first (T.history tree.old)
-        → (T.counts tree.new).misuses ≡ (T.counts tree.old).misuses }
 {
     stage.file_append(tree, piece)
 }
@@ -75,10 +56,8 @@ pub fn append_piece<T: Tree>(stage: &mut Stage, tree: &mut T, piece: &[u8]) -> R
 /// it needs no free path.
 pub fn end_file<T: Tree>(stage: &mut Stage, tree: &mut T) -> Result<(), Disk>
     requires { stage.old.is_open ≡ true }
-    ensures run { (contents : List (List ℕ)) (so_far : List ℕ) (v : TreeState)
-        (first : List TreeState)
-        → IsStaging stage.old contents (Some so_far) v first (T.history tree.old)
-        → IsStagingRun v first (T.history tree.new) }
+    ensures only { ChangesOnlyBegunFile stage.old (T.history tree.old) (T.history tree.new)
+        (T.counts tree.old) (T.counts tree.new) result }
     ensures staging { (contents : List (List ℕ)) (so_far : List ℕ) (v : TreeState)
         (first : List TreeState)
         → IsStaging stage.old contents (Some so_far) v first (T.history tree.old)
@@ -87,13 +66,6 @@ pub fn end_file<T: Tree>(stage: &mut Stage, tree: &mut T) -> Result<(), Disk>
     ensures view { OnOk result
         (stage.new ≡ record stage.old { staged = stage.old.staged + 1; is_open = false }) }
     ensures err { OnErr result (stage.new ≡ stage.old) }
-    ensures goes_on { CountsOnlyRise (T.counts tree.old) (T.counts tree.new) }
-    ensures cause { OnErr result (HasCause (T.counts tree.old) (T.counts tree.new)) }
-    ensures kept { OnOk result (IsNoFault (T.counts tree.old) (T.counts tree.new)) }
-    ensures proper { (contents : List (List ℕ)) (so_far : List ℕ) (v : TreeState)
-        (first : List TreeState)
-        → IsStaging stage.old contents (Some so_far) v first (T.history tree.old)
-        → (T.counts tree.new).misuses ≡ (T.counts tree.old).misuses }
 {
     stage.file_end(tree)
 }
@@ -103,21 +75,8 @@ pub fn end_file<T: Tree>(stage: &mut Stage, tree: &mut T) -> Result<(), Disk>
 pub fn stage_bytes<T: Tree>(stage: &mut Stage, tree: &mut T, bytes: &[u8]) -> Result<(), Disk>
     requires closed { stage.old.is_open ≡ false }
     requires more { stage.old.staged < length stage.old.intent.writes }
-    ensures run { (contents : List (List ℕ)) (v : TreeState) (first : List TreeState)
-        → IsStaging stage.old contents None v first (T.history tree.old)
-        → IsStagingRun v first (T.history tree.new) }
-    ensures staging { (contents : List (List ℕ)) (v : TreeState) (first : List TreeState)
-        → IsStaging stage.old contents None v first (T.history tree.old)
-        → OnOk result (IsStaging stage.new (contents ++ bytes.now ∷ []) None v first
-        (T.history tree.new)) }
-    ensures view { OnOk result (stage.new ≡ record stage.old { staged = stage.old.staged + 1 }) }
-    ensures goes_on { CountsOnlyRise (T.counts tree.old) (T.counts tree.new) }
-    ensures cause { OnErr result (HasCause (T.counts tree.old) (T.counts tree.new)) }
-    ensures kept { OnOk result (IsNoFault (T.counts tree.old) (T.counts tree.new)) }
-    ensures proper { (contents : List (List ℕ)) (v : TreeState) (first : List TreeState)
-        → IsStaging stage.old contents None v first (T.history tree.old)
-        → AreJournalPathsFree (files_of v)
-        → (T.counts tree.new).misuses ≡ (T.counts tree.old).misuses }
+    ensures { StagesFile stage.old stage.new bytes.now (T.history tree.old) (T.history tree.new)
+        (T.counts tree.old) (T.counts tree.new) result }
 {
     begin_file(stage, tree)?;
     append_piece(stage, tree, bytes)?;
@@ -134,21 +93,8 @@ pub fn stage_pieces<T: Tree>(
 ) -> Result<(), Disk>
     requires closed { stage.old.is_open ≡ false }
     requires more { stage.old.staged < length stage.old.intent.writes }
-    ensures run { (contents : List (List ℕ)) (v : TreeState) (first : List TreeState)
-        → IsStaging stage.old contents None v first (T.history tree.old)
-        → IsStagingRun v first (T.history tree.new) }
-    ensures staging { (contents : List (List ℕ)) (v : TreeState) (first : List TreeState)
-        → IsStaging stage.old contents None v first (T.history tree.old)
-        → OnOk result (IsStaging stage.new (contents ++ (first_piece.now ++ last_piece.now) ∷ [])
-        None v first (T.history tree.new)) }
-    ensures view { OnOk result (stage.new ≡ record stage.old { staged = stage.old.staged + 1 }) }
-    ensures goes_on { CountsOnlyRise (T.counts tree.old) (T.counts tree.new) }
-    ensures cause { OnErr result (HasCause (T.counts tree.old) (T.counts tree.new)) }
-    ensures kept { OnOk result (IsNoFault (T.counts tree.old) (T.counts tree.new)) }
-    ensures proper { (contents : List (List ℕ)) (v : TreeState) (first : List TreeState)
-        → IsStaging stage.old contents None v first (T.history tree.old)
-        → AreJournalPathsFree (files_of v)
-        → (T.counts tree.new).misuses ≡ (T.counts tree.old).misuses }
+    ensures { StagesFile stage.old stage.new (first_piece.now ++ last_piece.now)
+        (T.history tree.old) (T.history tree.new) (T.counts tree.old) (T.counts tree.new) result }
 {
     begin_file(stage, tree)?;
     append_piece(stage, tree, first_piece)?;
@@ -181,6 +127,6 @@ pub fn a_staging_run_is_a_stage_run()
 /// Once all actions are done nothing is staged, if only the files of the writes were.
 pub fn a_change_leaves_nothing_staged()
     ensures { (intent : Intent) (contents : List (List ℕ)) (files : Files)
-        → HasFreeNames intent → length contents ≡ length intent.writes → IsEmptyStage files
+        → HasFreeDistinctNames intent → length contents ≡ length intent.writes → IsEmptyStage files
         → IsEmptyStage (files_after_actions intent (files_with_staged 1 contents files)) }
 {}

@@ -3,7 +3,7 @@ use Rattle.std.proofs.Common.{◌≡◌, ◌≢◌, ◌⊎◌, ◌||◌, inl, in
 use Rattle.std.specs.List.{list_any}
 use Rattle.std.specs.Str.{bytes_eq}
 use Rattle.base_core.specs.Files.{Files, NameMap, put_name, drop_name, move_name}
-use Rattle.base_core.specs.Tree.{TreeState, File, bytes_of_file_number, files_under_map, files_of, with_names, after_rename, with_file_moved, after_sync_names, after_failed_call, IsAlwaysAllowed, CanRename}
+use Rattle.base_core.specs.Tree.{TreeState, File, bytes_of_file_number, files_under_map, files_of, with_names, after_rename, with_file_moved, after_sync_names, unchanged_after_failed_call, IsAlwaysAllowed, CanRename}
 use Rattle.base_core.specs.Calls.{HoldsNow, ChangesHistory}
 use Rattle.base_core.specs.Crash.{Since}
 use Rattle.base_core.specs.Undone.{IsDurable, IsCrashImage, IsCrashMap}
@@ -249,10 +249,10 @@ module _ (laws : CrashLaws) (ignored : List ℕ → Bool) (intent : Intent) (bas
     begun = run_begun P Before old start rest is (record { ready = ready; is_unchanged = still_self ignored start is_durable })
 
     module _ {T E : Type 0} (h new : History) where
-      pub first_failed : (e : E) → ChangesHistory {T = T} IsAlwaysAllowed after_sync_names after_failed_call old new (Err e) → Since P old new
+      pub first_failed : (e : E) → ChangesHistory {T = T} IsAlwaysAllowed after_sync_names unchanged_after_failed_call old new (Err e) → Since P old new
       first_failed e moves = run_failed P Before old old new e begun moves (λ v may b. before_moment v b)
 
-      pub first_done : (x : T) → ChangesHistory {E = E} IsAlwaysAllowed after_sync_names after_failed_call old new (Ok x) → Runs P Once old new
+      pub first_done : (x : T) → ChangesHistory {E = E} IsAlwaysAllowed after_sync_names unchanged_after_failed_call old new (Ok x) → Runs P Once old new
       first_done x moves = run_done P Before Once old old new x begun moves (λ v b. before_moment v b.before) before_synced
 
     module _ {T E : Type 0} (place name : List ℕ) (place_is : place ≡ stage_name 0) (name_is : name ≡ intent_name) (h new : History) where
@@ -263,10 +263,10 @@ module _ (laws : CrashLaws) (ignored : List ℕ → Bool) (intent : Intent) (bas
       rename_done x runs moves = run_done P Once Behind old h new x runs moves (λ v b. b.moment) (after_renamed place name place_is name_is)
 
     module _ {T E : Type 0} (h new : History) where
-      pub last_called : (r : Result T E) → Runs P Behind old h → ChangesHistory IsAlwaysAllowed after_sync_names after_failed_call h new r → Since P old new
+      pub last_called : (r : Result T E) → Runs P Behind old h → ChangesHistory IsAlwaysAllowed after_sync_names unchanged_after_failed_call h new r → Since P old new
       last_called r runs moves = run_called P Behind old h new r runs moves (λ v b. (after_synced v b).moment) (λ v may b. b.moment)
 
-      pub last_entered : (r : Result T E) → Runs P Behind old h → ChangesHistory IsAlwaysAllowed after_sync_names after_failed_call h new r → OnOk r (HoldsNow new (HasCommittedIntent ignored G made))
+      pub last_entered : (r : Result T E) → Runs P Behind old h → ChangesHistory IsAlwaysAllowed after_sync_names unchanged_after_failed_call h new r → OnOk r (HoldsNow new (HasCommittedIntent ignored G made))
       last_entered r runs moves = step_called Behind (HasCommittedIntent ignored G made) new r h runs.now moves entered
 
 -- what is read behind them
@@ -296,7 +296,7 @@ module _ (intent : Intent) (base : Files) (made : ℕ) (start : TreeState) (read
       (subst (λ o. After (with_file_moved (stage_name 0) intent_name v o)) (sym b.there) (acting_at intent base made v b)))
 
   pub last_acting : {T E : Type 0} (place name : List ℕ) → place ≡ stage_name 0 → name ≡ intent_name → (old rest h k new : History) → old ≡ start ∷ rest → (x y : T) (r : Result T E)
-      → ChangesHistory {E = E} IsAlwaysAllowed after_sync_names after_failed_call old h (Ok x) → ChangesHistory {E = E} (CanRename place name) (after_rename place name) (after_rename place name) h k (Ok y) → ChangesHistory IsAlwaysAllowed after_sync_names after_failed_call k new r
+      → ChangesHistory {E = E} IsAlwaysAllowed after_sync_names unchanged_after_failed_call old h (Ok x) → ChangesHistory {E = E} (CanRename place name) (after_rename place name) (after_rename place name) h k (Ok y) → ChangesHistory IsAlwaysAllowed after_sync_names unchanged_after_failed_call k new r
       → OnOk r (HoldsNow new (IsCarryingOutActions (stage_with_actions_done intent 0) (files_after_actions intent base)))
   last_acting place name place_is name_is old rest h k new is x y r first second last =
       let a = step_now (IsReadyToPublish intent base made) (IsReadyToPublish intent base made) h x old (now_is old start rest (IsReadyToPublish intent base made) is ready) first ready_synced in
@@ -316,13 +316,13 @@ module _ (intent : Intent) (base : Files) (made : ℕ) (start : TreeState) (read
     read_begun = run_begun R (IsReadyToPublish intent base made) old start rest is ready
 
     module _ {T E : Type 0} (h new : History) where
-      pub read_sync_failed : (e : E) → ChangesHistory {T = T} IsAlwaysAllowed after_sync_names after_failed_call old new (Err e) → Since R old new
+      pub read_sync_failed : (e : E) → ChangesHistory {T = T} IsAlwaysAllowed after_sync_names unchanged_after_failed_call old new (Err e) → Since R old new
       read_sync_failed e moves = run_failed R (IsReadyToPublish intent base made) old old new e read_begun moves (λ v may b. unread_moment v b)
 
-      pub read_synced : (x : T) → ChangesHistory {E = E} IsAlwaysAllowed after_sync_names after_failed_call old new (Ok x) → Runs R (IsReadyToPublish intent base made) old new
+      pub read_synced : (x : T) → ChangesHistory {E = E} IsAlwaysAllowed after_sync_names unchanged_after_failed_call old new (Ok x) → Runs R (IsReadyToPublish intent base made) old new
       read_synced x moves = run_done R (IsReadyToPublish intent base made) (IsReadyToPublish intent base made) old old new x read_begun moves unread_moment ready_synced
 
-      pub read_last : (r : Result T E) → Runs R After old h → ChangesHistory IsAlwaysAllowed after_sync_names after_failed_call h new r → Since R old new
+      pub read_last : (r : Result T E) → Runs R After old h → ChangesHistory IsAlwaysAllowed after_sync_names unchanged_after_failed_call h new r → Since R old new
       read_last r runs moves = run_called R After old h new r runs moves (λ v a some. a.reads) (λ v may a some. a.reads)
 
     module _ {T E : Type 0} (place name : List ℕ) (place_is : place ≡ stage_name 0) (name_is : name ≡ intent_name) (h new : History) where

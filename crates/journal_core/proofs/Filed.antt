@@ -2,7 +2,7 @@
 use Rattle.std.proofs.Common.{◌≡◌, ℕ, zero, suc, ◌+◌, ◌<◌, ◌^◌, Bool, true, false, List, [], ◌∷◌, ◌++◌, length, None, Some, Result, Ok, Err, OnOk, refl, ap, subst, ◌∙◌, arith}
 use Rattle.std.specs.List.{All}
 use Rattle.base_core.specs.Files.{Files}
-use Rattle.base_core.specs.Tree.{TreeState, after_create, after_append, after_failed_append, after_sync, after_sync_names, files_of, after_failed_call, IsAlwaysAllowed, CanCreate, HasName, IsWellFormed}
+use Rattle.base_core.specs.Tree.{TreeState, after_create, after_append, after_failed_append, after_sync, after_sync_names, files_of, unchanged_after_failed_call, IsAlwaysAllowed, CanCreate, HasName, IsWellFormed}
 use Rattle.base_core.specs.Calls.{IfObservable, HoldsNow, ChangesHistory, IsCounted}
 use Rattle.base_core.specs.Faults.{Counts}
 use Rattle.base_core.specs.Crash.{Since}
@@ -66,7 +66,7 @@ module _ (laws : CrashLaws) {T E : Type 0} (old new : History) (name : List ℕ)
   append_proper before now counted = on_observable old _ (λ v rest is contents so_far base staged.
       one_proper old v rest is before now r counted (has_name laws stage contents so_far base v (few_is name stage next contents staged.count) staged name (name_is name stage next contents staged.count)))
 
-  module _ (moves : ChangesHistory (HasName name) (after_sync name) after_failed_call old new r) where
+  module _ (moves : ChangesHistory (HasName name) (after_sync name) unchanged_after_failed_call old new r) where
     pub end_moments : IfObservable old (λ v. (ignored : List ℕ → Bool) (contents : List (List ℕ)) (so_far : List ℕ) (base : Files) → IsDurable (StateDependsOn ignored) v → IsStaged stage contents (Some so_far) base v → Since (StateIsUnchanged ignored v) old new)
     end_moments = on_observable old _ (λ v rest is ignored contents so_far base is_durable staged.
         one_called old new v rest is (StateIsUnchanged ignored v) r moves
@@ -87,7 +87,7 @@ module _ (laws : CrashLaws) {T E : Type 0} (old new : History) (name : List ℕ)
       now_done old new v rest is (IsStaged now contents (Some (so_far ++ piece)) base) x moves
       (staged_grown laws stage contents so_far base v (few_is name stage next contents staged.count) staged name (name_is name stage next contents staged.count) now piece same))
 
-  pub end_staged : ChangesHistory {E = E} (HasName name) (after_sync name) after_failed_call old new (Ok x) → now.staged ≡ stage.staged + 1
+  pub end_staged : ChangesHistory {E = E} (HasName name) (after_sync name) unchanged_after_failed_call old new (Ok x) → now.staged ≡ stage.staged + 1
       → IfObservable old (λ v. (contents : List (List ℕ)) (so_far : List ℕ) (base : Files) → IsStaged stage contents (Some so_far) base v → HoldsNow new (IsStaged now (contents ++ so_far ∷ []) None base))
   end_staged moves more = on_observable old _ (λ v rest is contents so_far base staged.
       now_done old new v rest is (IsStaged now (contents ++ so_far ∷ []) None base) x moves
@@ -105,13 +105,13 @@ abbrev pub IsBegunLater : Staging → History → History → Type 0
 IsBegunLater stage old h = IfObservable old (λ v. (contents : List (List ℕ)) (base : Files) → IsStaged stage contents None base v → HoldsNow h (IsToBegin stage contents base))
 
 module _ {T E : Type 0} (stage : Staging) (old new : History) where
-  pub first_moments : (r : Result T E) → ChangesHistory IsAlwaysAllowed after_sync_names after_failed_call old new r → IfObservable old (λ v. (ignored : List ℕ → Bool) → IsDurable (StateDependsOn ignored) v → Since (StateIsUnchanged ignored v) old new)
+  pub first_moments : (r : Result T E) → ChangesHistory IsAlwaysAllowed after_sync_names unchanged_after_failed_call old new r → IfObservable old (λ v. (ignored : List ℕ → Bool) → IsDurable (StateDependsOn ignored) v → Since (StateIsUnchanged ignored v) old new)
   first_moments r moves = on_observable old _ (λ v rest is ignored is_durable. one_called old new v rest is (StateIsUnchanged ignored v) r moves (sync_still ignored v is_durable) (λ may. still_self ignored v is_durable))
 
-  pub first_reads : (r : Result T E) → ChangesHistory IsAlwaysAllowed after_sync_names after_failed_call old new r → IfObservable old (λ v. Since (λ w. files_of w ≡ files_of v) old new)
+  pub first_reads : (r : Result T E) → ChangesHistory IsAlwaysAllowed after_sync_names unchanged_after_failed_call old new r → IfObservable old (λ v. Since (λ w. files_of w ≡ files_of v) old new)
   first_reads r moves = on_observable old _ (λ v rest is. one_called old new v rest is (λ w. files_of w ≡ files_of v) r moves refl (λ may. refl))
 
-  pub first_staged : (r : Result T E) → ChangesHistory IsAlwaysAllowed after_sync_names after_failed_call old new r
+  pub first_staged : (r : Result T E) → ChangesHistory IsAlwaysAllowed after_sync_names unchanged_after_failed_call old new r
       → IfObservable old (λ v. (contents : List (List ℕ)) (base : Files) → IsStaged stage contents None base v → OnOk r (HoldsNow new (IsToBegin stage contents base)))
   first_staged (Ok x) moves = on_observable old _ (λ v rest is contents base staged.
       now_done old new v rest is (IsToBegin stage contents base) x moves (staged_synced stage contents base v staged, gone_once_synced stage contents base v staged))

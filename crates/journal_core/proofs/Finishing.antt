@@ -1,7 +1,7 @@
 -- The end of a stage, call by call.
 use Rattle.std.proofs.Common.{◌≡◌, ℕ, Bool, List, [], ◌∷◌, refl, None, Result, Ok, Err, OnOk, sym, ap, subst, ◌∙◌}
 use Rattle.base_core.specs.Files.{Files}
-use Rattle.base_core.specs.Tree.{TreeState, bytes_of_file_number, files_of, after_remove, after_sync_names, after_failed_call, IsAlwaysAllowed}
+use Rattle.base_core.specs.Tree.{TreeState, bytes_of_file_number, files_of, after_remove, after_sync_names, unchanged_after_failed_call, IsAlwaysAllowed}
 use Rattle.base_core.specs.Calls.{HoldsNow, ChangesHistory}
 use Rattle.base_core.specs.Crash.{Since}
 use Rattle.base_core.specs.Undone.{IsDurable}
@@ -46,10 +46,10 @@ module _ (laws : CrashLaws) (stage : Staging) (all : stage.acted ≡ action_coun
   begun = run_begun P Acting old start rest is (record { is_unchanged = still_self ignored start is_durable; acts = acting })
 
   module _ {T E : Type 0} (h new : History) where
-    pub sync_failed : (e : E) → ChangesHistory {T = T} IsAlwaysAllowed after_sync_names after_failed_call old new (Err e) → Since P old new
+    pub sync_failed : (e : E) → ChangesHistory {T = T} IsAlwaysAllowed after_sync_names unchanged_after_failed_call old new (Err e) → Since P old new
     sync_failed e moves = run_failed P Acting old old new e begun moves (λ v may q. q.is_unchanged)
 
-    pub sync_done : (x : T) → ChangesHistory {E = E} IsAlwaysAllowed after_sync_names after_failed_call old new (Ok x) → Runs P Once old new
+    pub sync_done : (x : T) → ChangesHistory {E = E} IsAlwaysAllowed after_sync_names unchanged_after_failed_call old new (Ok x) → Runs P Once old new
     sync_done x moves = run_done P Acting Once old old new x begun moves (λ v q. q.goes.is_unchanged) synced
 
     pub drop_failed : (e : E) → Runs P Once old h → ChangesHistory {T = T} IsAlwaysAllowed (after_remove name) (after_remove name) h new (Err e) → Since P old new
@@ -58,16 +58,16 @@ module _ (laws : CrashLaws) (stage : Staging) (all : stage.acted ≡ action_coun
     pub drop_done : (x : T) → Runs P Once old h → ChangesHistory {E = E} IsAlwaysAllowed (after_remove name) (after_remove name) h new (Ok x) → Runs P Gone old new
     drop_done x runs moves = run_done P Once Gone old h new x runs moves (λ v q. q.is_unchanged) dropped
 
-    pub last_called : (r : Result T E) → Runs P Gone old h → ChangesHistory IsAlwaysAllowed after_sync_names after_failed_call h new r → Since P old new
+    pub last_called : (r : Result T E) → Runs P Gone old h → ChangesHistory IsAlwaysAllowed after_sync_names unchanged_after_failed_call h new r → Since P old new
     last_called r runs moves = run_called P Gone old h new r runs moves (λ v q. still_on ignored start v (after_sync_names v) q.is_unchanged (sync_still ignored v q.is_unchanged.is_durable)) (λ v may q. q.is_unchanged)
 
-    pub last_settled : (r : Result T E) → Runs P Gone old h → ChangesHistory IsAlwaysAllowed after_sync_names after_failed_call h new r → OnOk r (HoldsNow new (EachCrashLeaves ignored files))
+    pub last_settled : (r : Result T E) → Runs P Gone old h → ChangesHistory IsAlwaysAllowed after_sync_names unchanged_after_failed_call h new r → OnOk r (HoldsNow new (EachCrashLeaves ignored files))
     last_settled r runs moves = step_called Gone (EachCrashLeaves ignored files) new r h runs.now moves (λ v q. subst (λ (F : Files). EachCrashLeaves ignored F (after_sync_names v)) q.gone.reads (sync_settled laws ignored v q.is_unchanged.is_durable))
 
 -- what is read, whatever the order
 module _ (laws : CrashLaws) (stage : Staging) (all : stage.acted ≡ action_count stage.intent) (name : List ℕ) (name_is : name ≡ intent_name) (files : Files) (start : TreeState) (old rest : History) (is : old ≡ start ∷ rest) (acting : IsCarryingOutActions stage files start) where
   module _ {T E : Type 0} (h k new : History) where
-    pub last_files : (x y : T) (r : Result T E) → ChangesHistory {E = E} IsAlwaysAllowed after_sync_names after_failed_call old h (Ok x) → ChangesHistory {E = E} IsAlwaysAllowed (after_remove name) (after_remove name) h k (Ok y) → ChangesHistory IsAlwaysAllowed after_sync_names after_failed_call k new r
+    pub last_files : (x y : T) (r : Result T E) → ChangesHistory {E = E} IsAlwaysAllowed after_sync_names unchanged_after_failed_call old h (Ok x) → ChangesHistory {E = E} IsAlwaysAllowed (after_remove name) (after_remove name) h k (Ok y) → ChangesHistory IsAlwaysAllowed after_sync_names unchanged_after_failed_call k new r
         → OnOk r (HoldsNow new (λ w. (files_of w ≡ files) × (w.names intent_name ≡ None)))
     last_files x y r first second last =
         let a = step_now (IsCarryingOutActions stage files) (IsCarryingOutActions stage files) h x old (now_is old start rest (IsCarryingOutActions stage files) is acting) first (sync_acting stage files) in
@@ -90,7 +90,7 @@ module _ (laws : CrashLaws) (stage : Staging) (all : stage.acted ≡ action_coun
   begun_acting = run_begun S A old start rest is acting
 
   module _ {T E : Type 0} (h new : History) where
-    pub stands_synced : (x : T) → ChangesHistory {E = E} IsAlwaysAllowed after_sync_names after_failed_call old new (Ok x) → Runs S A old new
+    pub stands_synced : (x : T) → ChangesHistory {E = E} IsAlwaysAllowed after_sync_names unchanged_after_failed_call old new (Ok x) → Runs S A old new
     stands_synced x moves = run_done S A A old old new x begun_acting moves (λ v q. q.reads) (sync_acting stage files)
 
     pub stands_drop_failed : (e : E) → Runs S A old h → ChangesHistory {T = T} IsAlwaysAllowed (after_remove name) (after_remove name) h new (Err e) → Since S old new
@@ -99,5 +99,5 @@ module _ (laws : CrashLaws) (stage : Staging) (all : stage.acted ≡ action_coun
     pub stands_dropped : (x : T) → Runs S A old h → ChangesHistory {E = E} IsAlwaysAllowed (after_remove name) (after_remove name) h new (Ok x) → Runs S (IsGone files) old new
     stands_dropped x runs moves = run_done S A (IsGone files) old h new x runs moves gone_stands gone_at
 
-    pub stands_last : (r : Result T E) → Runs S (IsGone files) old h → ChangesHistory IsAlwaysAllowed after_sync_names after_failed_call h new r → Since S old new
+    pub stands_last : (r : Result T E) → Runs S (IsGone files) old h → ChangesHistory IsAlwaysAllowed after_sync_names unchanged_after_failed_call h new r → Since S old new
     stands_last r runs moves = run_called S (IsGone files) old h new r runs moves (λ v q. gone_stands v q) (λ v may q. gone_stands v q)

@@ -5,7 +5,7 @@ use Rattle.std.proofs.lemmas.Bool.{eqb-true}
 use Rattle.base_core.specs.Calls.{IfObservable, HoldsNow, ChangesHistory}
 use Rattle.base_core.specs.Crash.{Since}
 use Rattle.base_core.specs.Files.{drop_name}
-use Rattle.base_core.specs.Tree.{TreeState, File, IsWellFormed, after_append, after_create, after_failed_append, after_remove, after_rename, after_sync, after_sync_names, bytes_of_file_number, with_file_changed, files_of, with_file_moved, after_failed_call, set_file, IsAlwaysAllowed, CanCreate, HasName}
+use Rattle.base_core.specs.Tree.{TreeState, File, IsWellFormed, after_append, after_create, after_failed_append, after_remove, after_rename, after_sync, after_sync_names, bytes_of_file_number, with_file_changed, files_of, with_file_moved, unchanged_after_failed_call, set_file, IsAlwaysAllowed, CanCreate, HasName}
 use Rattle.base_core.proofs.Undone.{read_may_be_left}
 use Rattle.journal_core.specs.Acting.{MovesIfPresent}
 use Rattle.journal_core.specs.Kept.{IsNameOfNextAction, KeepsFilesExcept}
@@ -69,7 +69,7 @@ module _ {T E : Type 0} (old new : History) (name place : List ℕ) (name_is : n
       (λ q off. change_others (λ f. record { bytes = f.bytes ++ piece; synced = false }) name v alone.number there own q (λ e. off (e ∙ name_is)))
       (λ may q off. change_others (λ f. record { bytes = f.bytes; synced = false }) name v alone.number there own q (λ e. off (e ∙ name_is))))
 
-pub sync_keeps : {T E : Type 0} (old new : History) (name : List ℕ) (r : Result T E) → ChangesHistory (HasName name) (after_sync name) after_failed_call old new r → IfObservable old (λ v. Since (λ w. files_of w ≡ files_of v) old new)
+pub sync_keeps : {T E : Type 0} (old new : History) (name : List ℕ) (r : Result T E) → ChangesHistory (HasName name) (after_sync name) unchanged_after_failed_call old new r → IfObservable old (λ v. Since (λ w. files_of w ≡ files_of v) old new)
 sync_keeps old new name r moves = on_observable old _ (λ v rest is. one_called old new v rest is (λ w. files_of w ≡ files_of v) r moves (λ i q. sync_reads_at v (v.names name) q i) (λ may. refl))
 
 -- ---- a waiting file is made, filled and synced
@@ -110,7 +110,7 @@ module _ {T E : Type 0} (name : List ℕ) (v : TreeState) (whole : IsWellFormed 
     pub append_keeps_waiting : {T E : Type 0} (e : E) → ChangesHistory {T = T} (HasName name) (after_append name piece) (after_failed_append name) h k (Err e) → Since P old k
     append_keeps_waiting e second = run_failed P (Begun name v) old h k e begun_run second (λ u may b. (begun_changed (λ f. record { bytes = f.bytes; synced = false }) name v u b).kept)
 
-    pub sync_keeps_waiting : {T E A B : Type 0} (new : History) (y : T) (r : Result A B) → ChangesHistory {E = E} (HasName name) (after_append name piece) (after_failed_append name) h k (Ok y) → ChangesHistory (HasName name) (after_sync name) after_failed_call k new r
+    pub sync_keeps_waiting : {T E A B : Type 0} (new : History) (y : T) (r : Result A B) → ChangesHistory {E = E} (HasName name) (after_append name piece) (after_failed_append name) h k (Ok y) → ChangesHistory (HasName name) (after_sync name) unchanged_after_failed_call k new r
         → Since P old new
     sync_keeps_waiting new y r second last =
         run_called P (Begun name v) old k new r
@@ -123,7 +123,7 @@ pub keeps_now : (these : List ℕ → Type 0) (old : History) (v : TreeState) (r
 keeps_now these old v rest is = now_is old v rest (KeepsFilesExcept these v) is (λ q off. refl)
 
 module _ {T E : Type 0} (these : List ℕ → Type 0) (start : TreeState) (h new : History) (r : Result T E) (now : HoldsNow h (KeepsFilesExcept these start)) where
-  pub keeps_synced : ChangesHistory IsAlwaysAllowed after_sync_names after_failed_call h new r → HoldsNow new (KeepsFilesExcept these start)
+  pub keeps_synced : ChangesHistory IsAlwaysAllowed after_sync_names unchanged_after_failed_call h new r → HoldsNow new (KeepsFilesExcept these start)
   keeps_synced moves = keep_called (KeepsFilesExcept these start) (KeepsFilesExcept these start) new h r now moves (λ u k. k) (λ u k. k) (λ u k. k)
 
   pub keeps_removed : (name : List ℕ) → these name → ChangesHistory IsAlwaysAllowed (after_remove name) (after_remove name) h new r → HoldsNow new (KeepsFilesExcept these start)

@@ -5,7 +5,7 @@ use Rattle.std.specs.Str.{bytes_eq}
 use Rattle.base_core.specs.Calls.{IfObservable, HoldsNow, ChangesHistory}
 use Rattle.base_core.specs.Crash.{Since}
 use Rattle.base_core.specs.Files.{NameMap, drop_name, move_name}
-use Rattle.base_core.specs.Tree.{TreeState, File, bytes_of_file_number, after_append, after_create, after_failed_append, after_remove, after_rename, after_sync, after_sync_names, with_file_changed, files_of, with_file_moved, with_name_removed, after_failed_call, IsAlwaysAllowed, CanCreate, CanRename, HasName}
+use Rattle.base_core.specs.Tree.{TreeState, File, bytes_of_file_number, after_append, after_create, after_failed_append, after_remove, after_rename, after_sync, after_sync_names, with_file_changed, files_of, with_file_moved, with_name_removed, unchanged_after_failed_call, IsAlwaysAllowed, CanCreate, CanRename, HasName}
 use Rattle.journal_core.specs.Kept.{IsRestoredByNoCrash, NamesAreDurableExcept}
 use Rattle.journal_core.specs.Recovering.{IsReplayed}
 use Rattle.journal_core.specs.Recovery.{intent_name, stage_name}
@@ -96,10 +96,10 @@ module _ (name : List ℕ) (name_is : name ≡ intent_name) (start : TreeState) 
   begun = run_begun P Read old start rest is some
 
   module _ {T E : Type 0} (h new : History) where
-    pub finish_sync_failed : (e : E) → ChangesHistory {T = T} IsAlwaysAllowed after_sync_names after_failed_call old new (Err e) → Since P old new
+    pub finish_sync_failed : (e : E) → ChangesHistory {T = T} IsAlwaysAllowed after_sync_names unchanged_after_failed_call old new (Err e) → Since P old new
     finish_sync_failed e moves = run_failed P Read old old new e begun moves (λ v may q. read_moment v q)
 
-    pub finish_synced : (x : T) → ChangesHistory {E = E} IsAlwaysAllowed after_sync_names after_failed_call old new (Ok x) → Runs P ReadOnce old new
+    pub finish_synced : (x : T) → ChangesHistory {E = E} IsAlwaysAllowed after_sync_names unchanged_after_failed_call old new (Ok x) → Runs P ReadOnce old new
     finish_synced x moves = run_done P Read ReadOnce old old new x begun moves (λ v q. read_moment v q.0) (λ v q. (q, refl))
 
     pub finish_remove_failed : (e : E) → Runs P ReadOnce old h → ChangesHistory {T = T} IsAlwaysAllowed (after_remove name) (after_remove name) h new (Err e) → Since P old new
@@ -108,14 +108,14 @@ module _ (name : List ℕ) (name_is : name ≡ intent_name) (start : TreeState) 
     pub finish_removed : (x : T) → Runs P ReadOnce old h → ChangesHistory {E = E} IsAlwaysAllowed (after_remove name) (after_remove name) h new (Ok x) → Runs P (NamesAreDurableExcept (intent_name ∷ [])) old new
     finish_removed x runs moves = run_done P ReadOnce (NamesAreDurableExcept (intent_name ∷ [])) old h new x runs moves (λ v q none. q) (λ v q. removed v q.1)
 
-    pub finish_last : (r : Result T E) → Runs P (NamesAreDurableExcept (intent_name ∷ [])) old h → ChangesHistory IsAlwaysAllowed after_sync_names after_failed_call h new r → Since P old new
+    pub finish_last : (r : Result T E) → Runs P (NamesAreDurableExcept (intent_name ∷ [])) old h → ChangesHistory IsAlwaysAllowed after_sync_names unchanged_after_failed_call h new r → Since P old new
     finish_last r runs moves = run_called P (NamesAreDurableExcept (intent_name ∷ [])) old h new r runs moves (λ v q none. last_synced (intent_name ∷ []) v) (λ v may q none. q)
 
 module _ {A B : Type 0} (name : List ℕ) (name_is : name ≡ intent_name) (h k new : History) (x : A) (first : ChangesHistory {E = B} IsAlwaysAllowed (after_remove name) (after_remove name) h k (Ok x)) where
-  pub finish_gone : {T E : Type 0} (r : Result T E) → ChangesHistory IsAlwaysAllowed after_sync_names after_failed_call k new r → OnOk r (IfObservable new (IsRestoredByNoCrash intent_name))
+  pub finish_gone : {T E : Type 0} (r : Result T E) → ChangesHistory IsAlwaysAllowed after_sync_names unchanged_after_failed_call k new r → OnOk r (IfObservable new (IsRestoredByNoCrash intent_name))
   finish_gone (Err e) last = tt
   finish_gone (Ok y) last =
-      done_now (λ w. w.names intent_name ≡ None) (IsRestoredByNoCrash intent_name) after_sync_names after_failed_call k new y
+      done_now (λ w. w.names intent_name ≡ None) (IsRestoredByNoCrash intent_name) after_sync_names unchanged_after_failed_call k new y
       (done_now IsAny (λ w. w.names intent_name ≡ None) (after_remove name) (after_remove name) h k x (any_told h) first
       (λ v q. ap (after_remove name v).names (sym name_is) ∙ removed_absent name v (v.names name) refl))
       last (gone_synced intent_name)
@@ -144,10 +144,10 @@ module _ (place name : List ℕ) (place_is : place ≡ stage_name 0) (name_is : 
     enter_begun = run_begun Q Unread old start rest is none
 
     module _ {T E : Type 0} (h new : History) where
-      pub enter_sync_failed : (e : E) → ChangesHistory {T = T} IsAlwaysAllowed after_sync_names after_failed_call old new (Err e) → Since Q old new
+      pub enter_sync_failed : (e : E) → ChangesHistory {T = T} IsAlwaysAllowed after_sync_names unchanged_after_failed_call old new (Err e) → Since Q old new
       enter_sync_failed e moves = run_failed Q Unread old old new e enter_begun moves (λ v may q. unread_moment v q)
 
-      pub enter_synced : (x : T) → ChangesHistory {E = E} IsAlwaysAllowed after_sync_names after_failed_call old new (Ok x) → Runs Q UnreadOnce old new
+      pub enter_synced : (x : T) → ChangesHistory {E = E} IsAlwaysAllowed after_sync_names unchanged_after_failed_call old new (Ok x) → Runs Q UnreadOnce old new
       enter_synced x moves = run_done Q Unread UnreadOnce old old new x enter_begun moves (λ v q. unread_moment v q.0) (λ v q. (q, refl))
 
       pub enter_rename_failed : (e : E) → Runs Q UnreadOnce old h → ChangesHistory {T = T} (CanRename place name) (after_rename place name) (after_rename place name) h new (Err e) → Since Q old new
@@ -156,17 +156,17 @@ module _ (place name : List ℕ) (place_is : place ≡ stage_name 0) (name_is : 
       pub enter_renamed : (x : T) → Runs Q UnreadOnce old h → ChangesHistory {E = E} (CanRename place name) (after_rename place name) (after_rename place name) h new (Ok x) → Runs Q (NamesAreDurableExcept Committing) old new
       enter_renamed x runs moves = run_done Q UnreadOnce (NamesAreDurableExcept Committing) old h new x runs moves (λ v q has. q) (λ v q. moved v q.1)
 
-      pub enter_last : (r : Result T E) → Runs Q (NamesAreDurableExcept Committing) old h → ChangesHistory IsAlwaysAllowed after_sync_names after_failed_call h new r → Since Q old new
+      pub enter_last : (r : Result T E) → Runs Q (NamesAreDurableExcept Committing) old h → ChangesHistory IsAlwaysAllowed after_sync_names unchanged_after_failed_call h new r → Since Q old new
       enter_last r runs moves = run_called Q (NamesAreDurableExcept Committing) old h new r runs moves (λ v q has. last_synced Committing v) (λ v may q has. q)
 
   module _ {A B : Type 0} (h k new : History) (x : A) (first : ChangesHistory {E = B} (CanRename place name) (after_rename place name) (after_rename place name) h k (Ok x)) where
     waits_no_more : (v : TreeState) → (after_rename place name v).names (stage_name 0) ≡ None
     waits_no_more v = ap (after_rename place name v).names (sym place_is) ∙ moved_absent place name v (v.names place) refl (λ e. stage_name_no_intent 0 (sym place_is ∙ e ∙ name_is))
 
-    pub enter_moved : {T E : Type 0} (r : Result T E) → ChangesHistory IsAlwaysAllowed after_sync_names after_failed_call k new r → OnOk r (IfObservable new (λ w. w.names (stage_name 0) ≡ None))
+    pub enter_moved : {T E : Type 0} (r : Result T E) → ChangesHistory IsAlwaysAllowed after_sync_names unchanged_after_failed_call k new r → OnOk r (IfObservable new (λ w. w.names (stage_name 0) ≡ None))
     enter_moved (Err e) last = tt
     enter_moved (Ok y) last =
-        done_now (λ w. w.names (stage_name 0) ≡ None) (λ w. w.names (stage_name 0) ≡ None) after_sync_names after_failed_call k new y
+        done_now (λ w. w.names (stage_name 0) ≡ None) (λ w. w.names (stage_name 0) ≡ None) after_sync_names unchanged_after_failed_call k new y
         (done_now IsAny (λ w. w.names (stage_name 0) ≡ None) (after_rename place name) (after_rename place name) h k x (any_told h) first (λ v q. waits_no_more v))
         last (λ v q. q)
 
@@ -196,7 +196,7 @@ module _ (place : List ℕ) (place_is : place ≡ stage_name 0) (start : TreeSta
       pub fill_done : (x : T) → Runs N N old h → ChangesHistory {E = E} (HasName place) (after_append place piece) (after_failed_append place) h new (Ok x) → Runs N N old new
       fill_done x runs moves = run_done N N N old h new x runs moves (λ v q. q) (changed (λ f. record { bytes = f.bytes ++ piece; synced = false }))
 
-    pub sync_done : (r : Result T E) → Runs N N old h → ChangesHistory (HasName place) (after_sync place) after_failed_call h new r → Since N old new
+    pub sync_done : (r : Result T E) → Runs N N old h → ChangesHistory (HasName place) (after_sync place) unchanged_after_failed_call h new r → Since N old new
     sync_done r runs moves = run_called N N old h new r runs moves (changed (λ f. record { bytes = f.bytes; synced = true })) (λ v may q. q)
 
 -- both

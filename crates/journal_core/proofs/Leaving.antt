@@ -6,7 +6,7 @@ use Rattle.base_core.specs.Calls.{IfObservable, HoldsNow, ChangesHistory}
 use Rattle.base_core.specs.Crash.{Since}
 use Rattle.base_core.specs.Files.{drop_name}
 use Rattle.base_core.specs.Listed.{AreNamesBelow}
-use Rattle.base_core.specs.Tree.{TreeState, after_remove, after_rename, after_sync_names, bytes_of_file_number, files_of, with_file_moved, with_name_removed, after_failed_call, IsAlwaysAllowed}
+use Rattle.base_core.specs.Tree.{TreeState, after_remove, after_rename, after_sync_names, bytes_of_file_number, files_of, with_file_moved, with_name_removed, unchanged_after_failed_call, IsAlwaysAllowed}
 use Rattle.base_core.proofs.AtName.{other_name, name_cases, off_name}
 use Rattle.journal_core.specs.Acting.{MovesIfPresent}
 use Rattle.journal_core.specs.Kept.{JournalOnlyShrinks, IsJournalName, KeepsIntent, NamesAreDurableExcept, ShownNamesAreDurable}
@@ -25,7 +25,7 @@ use Rattle.journal_core.proofs.Replayed.{IsProper, proper_of}
 use Rattle.journal_core.proofs.Steps.{remove_others}
 use Rattle.journal_intent.proofs.AtName.{put_name-off, drop_name-off}
 use Rattle.journal_intent.proofs.StageNames.{stage_name_no_intent}
-use Rattle.journal_intent.specs.FreeNames.{HasFreeNames, IsFreeName}
+use Rattle.journal_intent.specs.FreeNames.{HasFreeDistinctNames, IsFreeName}
 
 -- ---- a relation of the start and each moment since
 
@@ -101,7 +101,7 @@ keeps_moved_free k from to from_is free v = record {
 
 -- ---- an action
 
-module _ (intent : Intent) (free : HasFreeNames intent) (few : length intent.removals + length intent.writes < 2 ^ 63) (old new : History) where
+module _ (intent : Intent) (free : HasFreeDistinctNames intent) (few : length intent.removals + length intent.writes < 2 ^ 63) (old new : History) where
   proper : IsProper intent
   proper = proper_of intent free (omega (arith, few))
 
@@ -122,7 +122,7 @@ module _ (intent : Intent) (free : HasFreeNames intent) (few : length intent.rem
 
 -- ---- the end of a stage
 
-pub sync_waiting : {T E : Type 0} (old new : History) (r : Result T E) → ChangesHistory IsAlwaysAllowed after_sync_names after_failed_call old new r → IfObservable old (λ v. Since (JournalOnlyShrinks v) old new)
+pub sync_waiting : {T E : Type 0} (old new : History) (r : Result T E) → ChangesHistory IsAlwaysAllowed after_sync_names unchanged_after_failed_call old new r → IfObservable old (λ v. Since (JournalOnlyShrinks v) old new)
 sync_waiting old new r moves = told_called JournalOnlyShrinks old new r moves (λ v q waits. inr refl) less_same
 
 pub remove_waiting : {T E : Type 0} (name : List ℕ) (old new : History) (r : Result T E) → ChangesHistory IsAlwaysAllowed (after_remove name) (after_remove name) old new r → IfObservable old (λ v. Since (JournalOnlyShrinks v) old new)

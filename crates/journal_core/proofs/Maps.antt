@@ -3,7 +3,7 @@ use Rattle.std.proofs.Common.{◌≡◌, inl, inr, ℕ, true, false, List, ◌�
 use Rattle.base_core.specs.Calls.{IfObservable, HoldsNow, ChangesHistory}
 use Rattle.base_core.specs.Crash.{Since}
 use Rattle.base_core.specs.Files.{drop_name, move_name, put_name}
-use Rattle.base_core.specs.Tree.{TreeState, File, after_append, after_create, after_failed_append, after_remove, after_rename, after_sync, after_sync_names, with_file_changed, with_file_moved, with_name_removed, after_failed_call, IsAlwaysAllowed, CanCreate, CanRename, HasName}
+use Rattle.base_core.specs.Tree.{TreeState, File, after_append, after_create, after_failed_append, after_remove, after_rename, after_sync, after_sync_names, with_file_changed, with_file_moved, with_name_removed, unchanged_after_failed_call, IsAlwaysAllowed, CanCreate, CanRename, HasName}
 use Rattle.journal_core.specs.Filling.{IsDurablyMoved}
 use Rattle.journal_core.specs.Kept.{IsSyncedAt, KeepsCrashMapsExcept}
 use Rattle.journal_core.specs.Replacing.{scratch_of}
@@ -79,7 +79,7 @@ module _ {T E : Type 0} (old new : History) (r : Result T E) where
       told_called (KeepsCrashMapsExcept these) old new r moves
       (λ v. changed_maps these (λ f. record { bytes = f.bytes ++ piece; synced = false }) v (v.names name)) (λ v. changed_maps these (λ f. record { bytes = f.bytes; synced = false }) v (v.names name))
 
-  pub sync_maps : (these : List (List ℕ)) (name : List ℕ) → ChangesHistory (HasName name) (after_sync name) after_failed_call old new r → Keeps these old new
+  pub sync_maps : (these : List (List ℕ)) (name : List ℕ) → ChangesHistory (HasName name) (after_sync name) unchanged_after_failed_call old new r → Keeps these old new
   sync_maps these name moves = told_called (KeepsCrashMapsExcept these) old new r moves (λ v. changed_maps these (λ f. record { bytes = f.bytes; synced = true }) v (v.names name)) (maps_same these)
 
   pub remove_maps : (name : List ℕ) → ChangesHistory IsAlwaysAllowed (after_remove name) (after_remove name) old new r → Keeps (name ∷ []) old new
@@ -88,7 +88,7 @@ module _ {T E : Type 0} (old new : History) (r : Result T E) where
   pub rename_maps : (from to : List ℕ) → ChangesHistory (CanRename from to) (after_rename from to) (after_rename from to) old new r → Keeps (to ∷ from ∷ []) old new
   rename_maps from to moves = told_called (KeepsCrashMapsExcept (to ∷ from ∷ [])) old new r moves (λ v. moved_maps from to v (v.names from)) (λ v. moved_maps from to v (v.names from))
 
-  pub names_maps : (these : List (List ℕ)) → ChangesHistory IsAlwaysAllowed after_sync_names after_failed_call old new r → Keeps these old new
+  pub names_maps : (these : List (List ℕ)) → ChangesHistory IsAlwaysAllowed after_sync_names unchanged_after_failed_call old new r → Keeps these old new
   names_maps these moves = told_called (KeepsCrashMapsExcept these) old new r moves (synced_maps these) (maps_same these)
 
 -- ---- a replacement

@@ -3,7 +3,7 @@ use Rattle.std.proofs.Common.{◌≡◌, ◌≢◌, ◌⊎◌, inl, inr, ⊎_eli
 use Rattle.base_core.specs.Calls.{IfObservable, HoldsNow, ChangesHistory}
 use Rattle.base_core.specs.Crash.{Since}
 use Rattle.base_core.specs.Files.{Files, drop_name}
-use Rattle.base_core.specs.Tree.{TreeState, after_remove, after_rename, after_sync_names, files_of, after_failed_call, IsAlwaysAllowed}
+use Rattle.base_core.specs.Tree.{TreeState, after_remove, after_rename, after_sync_names, files_of, unchanged_after_failed_call, IsAlwaysAllowed}
 use Rattle.base_core.proofs.AtName.{name_cases, off_name}
 use Rattle.journal_core.specs.Acting.{MovesIfPresent, stage_with_actions_done}
 use Rattle.journal_core.specs.Kept.{HasOldOrNewBytes, IsJournalName, KeepsFilesExcept, KeepsOldOrNewBytes}
@@ -21,7 +21,7 @@ use Rattle.journal_core.proofs.Replayed.{move_if_present-off, place_not_among}
 use Rattle.journal_core.proofs.Rowing.{ActsOn}
 use Rattle.journal_intent.proofs.AtName.{drop_name-at, drop_name-off, put_name-at}
 use Rattle.journal_intent.proofs.StageNames.{stage_name_staged}
-use Rattle.journal_intent.specs.FreeNames.{HasFreeNames, IsOneOf}
+use Rattle.journal_intent.specs.FreeNames.{HasFreeDistinctNames, IsOneOf}
 
 -- a name has the bytes that it had
 as_before : (base files : Files) (v w : TreeState) (q : List ℕ) → files_of w q ≡ files_of v q → (files_of v q ≡ base q) ⊎ (files_of v q ≡ files q) → (files_of w q ≡ base q) ⊎ (files_of w q ≡ files q)
@@ -29,7 +29,7 @@ as_before base files v w q same = ⊎_elim (λ old. inl (same ∙ old)) (λ new.
 
 -- ---- one action
 
-module _ (intent : Intent) (free : HasFreeNames intent) (few : length intent.removals + length intent.writes < 2 ^ 63) (base files : Files) where
+module _ (intent : Intent) (free : HasFreeDistinctNames intent) (few : length intent.removals + length intent.writes < 2 ^ 63) (base files : Files) where
   abbrev P : TreeState → Type 0
   P = HasOldOrNewBytes base files
 
@@ -68,7 +68,7 @@ module _ (intent : Intent) (free : HasFreeNames intent) (few : length intent.rem
         let same = ap (λ (G : Files). G q) (moved_reads v place name) in
         ⊎_elim (λ old. inl (same ∙ old)) (λ new. inr (same ∙ new)) (moved_either q shown (files_of v place) refl (so_far q shown))
 
-module _ (intent : Intent) (free : HasFreeNames intent) (few : length intent.removals + length intent.writes < 2 ^ 63) (old new : History) where
+module _ (intent : Intent) (free : HasFreeDistinctNames intent) (few : length intent.removals + length intent.writes < 2 ^ 63) (old new : History) where
   pub removal_bytes : {T E : Type 0} (i : ℕ) (name : List ℕ) → slice_get intent.removals i ≡ Some name → (r : Result T E) → ChangesHistory IsAlwaysAllowed (after_remove name) (after_remove name) old new r
       → IfObservable old (λ v. (files : Files) → IsCarryingOutActions (stage_with_actions_done intent i) files v → KeepsOldOrNewBytes files v old new)
   removal_bytes i name at r moves = on_observable old _ (λ v rest is files acting base so_far.
@@ -116,7 +116,7 @@ intent_on a b c first then q off = then q off ∙ first q off
 intent_removed : (name : List ℕ) → name ≡ intent_name → (v : TreeState) → KeepsButIntent v (after_remove name v)
 intent_removed name is v q off = ap (λ (F : Files). F q) (removed_reads v name) ∙ drop_name-off (files_of v) name q (λ e. off (e ∙ is))
 
-pub sync_shown : {T E : Type 0} (old new : History) (r : Result T E) → ChangesHistory IsAlwaysAllowed after_sync_names after_failed_call old new r → IfObservable old (λ v. Since (KeepsButIntent v) old new)
+pub sync_shown : {T E : Type 0} (old new : History) (r : Result T E) → ChangesHistory IsAlwaysAllowed after_sync_names unchanged_after_failed_call old new r → IfObservable old (λ v. Since (KeepsButIntent v) old new)
 sync_shown old new r moves = told_called KeepsButIntent old new r moves (λ v q off. refl) intent_same
 
 pub remove_shown : {T E : Type 0} (name : List ℕ) → name ≡ intent_name → (old new : History) (r : Result T E) → ChangesHistory IsAlwaysAllowed (after_remove name) (after_remove name) old new r → IfObservable old (λ v. Since (KeepsButIntent v) old new)

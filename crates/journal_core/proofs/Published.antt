@@ -16,7 +16,7 @@ use Rattle.journal_core.specs.Acting.{stage_with_actions_done}
 use Rattle.journal_core.specs.Recovery.{Intent, EachCrashLeaves, StateDependsOn, files_after_actions, intent_name, read_intent, stage_name}
 use Rattle.journal_core.specs.Kept.{RecoversTo}
 use Rattle.journal_core.specs.Quiet.{StateIsUnchanged}
-use Rattle.journal_intent.specs.FreeNames.{HasFreeNames}
+use Rattle.journal_intent.specs.FreeNames.{HasFreeDistinctNames}
 use Rattle.journal_core.specs.Staged.{Staging, WasCommittedFor, AreStagingPathsFree, IsCarryingOutActions, IsPresentOrOfJournal, IsOldUntilCommit, IsStaged, CommittedBy, IsCommittedFor}
 use Rattle.journal_core.proofs.Again.{acting_as}
 use Rattle.journal_intent.proofs.AtName.{put_name-off, drop_name-off}
@@ -64,7 +64,7 @@ same_read a b (Some m) (Some n) e same =
     let equal : m ≡ n = cc in
     ap (λ (f : File). Some f.bytes) (same m refl) ∙ ap (λ (k : ℕ). Some (b k).bytes) equal
 
-module _ (stage : Staging) (contents : List (List ℕ)) (base : Files) (v : TreeState) (staged : IsStaged stage contents None base v) (all : stage.staged ≡ length stage.intent.writes) (few : length stage.intent.writes < 2 ^ 63) (free : HasFreeNames stage.intent)
+module _ (stage : Staging) (contents : List (List ℕ)) (base : Files) (v : TreeState) (staged : IsStaged stage contents None base v) (all : stage.staged ≡ length stage.intent.writes) (few : length stage.intent.writes < 2 ^ 63) (free : HasFreeDistinctNames stage.intent)
     (file : List ℕ) (spells : read_intent file ≡ Some stage.intent) (place : List ℕ) (place_is : place ≡ stage_name 0) where
   none_read : files_of v intent_name ≡ None
   none_read = no_intent_read stage contents base v staged

@@ -6,7 +6,7 @@ use Rattle.base_core.specs.Tree.{File, TreeState, bytes_of_file_number, files_un
 use Rattle.base_core.specs.Undone.{IsCrashMap}
 use Rattle.journal_core.specs.Quiet.{StateIsUnchanged}
 use Rattle.journal_core.specs.Recovery.{state_of}
-use Rattle.journal_core.specs.Filling.{IsOutsideState, HasChangedOnly, HasNewFileAt}
+use Rattle.journal_core.specs.Filling.{IsOutsideState, MayHaveChangedOnly, HasChangedOnlyByNewFile}
 use Rattle.base_core.proofs.Undone.{left_leads, read_may_be_left}
 use Rattle.base_core.proofs.AtName.{name_cases}
 use Rattle.journal_core.proofs.Agree.{state_agree}
@@ -15,7 +15,7 @@ use Rattle.journal_intent.proofs.AtName.{put_name-at, put_name-off, drop_name-of
 use Rattle.journal_core.proofs.Images.{CrashLaws, quiet_on, quiet_same}
 use Rattle.journal_core.proofs.Simulate.{file_at, bytes_of_same, rests_off, Simulates, simulated_durable, simulated_quiet}
 
-pub untouched_start : (name : List ℕ) (v : TreeState) → HasChangedOnly name v v
+pub untouched_start : (name : List ℕ) (v : TreeState) → MayHaveChangedOnly name v v
 untouched_start name v = record { is_unchanged = λ ignored is_durable private. record { is_durable = is_durable; quiet = quiet_same ignored v; reads = refl; made = omega arith }; others = λ q ne. refl }
 
 still_on : CrashLaws → (ignored : List ℕ → Bool) (start v w : TreeState) → StateIsUnchanged ignored start v → Simulates ignored v w → v.made ≤ w.made → state_of ignored (files_of w) ≡ state_of ignored (files_of v) → StateIsUnchanged ignored start w
@@ -24,7 +24,7 @@ still_on laws ignored start v w was simulates more reads =
     record { is_durable = is_durable; quiet = quiet_on ignored start v w was.quiet (simulated_quiet laws ignored v w is_durable simulates); reads = reads ∙ was.reads; made = omega (arith, was.made, more) }
 
 -- a step that simulates and leaves the other files as read
-untouched_on : CrashLaws → (name : List ℕ) (start v w : TreeState) → HasChangedOnly name start v → ((ignored : List ℕ → Bool) → IsOutsideState ignored name → Simulates ignored v w) → v.made ≤ w.made → ((q : List ℕ) → q ≢ name → files_of w q ≡ files_of v q) → HasChangedOnly name start w
+untouched_on : CrashLaws → (name : List ℕ) (start v w : TreeState) → MayHaveChangedOnly name start v → ((ignored : List ℕ → Bool) → IsOutsideState ignored name → Simulates ignored v w) → v.made ≤ w.made → ((q : List ℕ) → q ≢ name → files_of w q ≡ files_of v q) → MayHaveChangedOnly name start w
 untouched_on laws name start v w was simulates more others = record {
   is_unchanged = λ ignored is_durable private. still_on laws ignored start v w (was.is_unchanged ignored is_durable private) (simulates ignored private) more
       (sym (state_agree ignored (files_of v) (files_of w) (λ q rests. sym (others q (rests_off ignored name private (files_of v) q rests)))));
@@ -47,7 +47,7 @@ pub remove_others : (name : List ℕ) (v : TreeState) (n : Option ℕ) (q : List
 remove_others name v None q ne = refl
 remove_others name v (Some n) q ne = ap (bytes_of_file_number v.files) (drop_name-off v.names name q ne)
 
-pub untouched-removed : CrashLaws → (name : List ℕ) (start v : TreeState) → HasChangedOnly name start v → HasChangedOnly name start (after_remove name v)
+pub untouched-removed : CrashLaws → (name : List ℕ) (start v : TreeState) → MayHaveChangedOnly name start v → MayHaveChangedOnly name start (after_remove name v)
 untouched-removed laws name start v was = untouched_on laws name start v _ was (λ ignored private. remove_simulates ignored name private v (v.names name)) (remove_made name v (v.names name)) (remove_others name v (v.names name))
 
 -- ---- create
@@ -84,7 +84,7 @@ create_simulates ignored name private v whole m (inr old) = (m, old, λ q rests.
 pub create_others : (name : List ℕ) (v : TreeState) → IsWellFormed v → (q : List ℕ) → q ≢ name → files_of (after_create name v) q ≡ files_of v q
 create_others name v whole q ne = ap (bytes_of_file_number (after_create name v).files) (put_name-off v.names name v.made q ne) ∙ bytes_of_file_number-set_file v.files v.made _ (v.names q) (made_later v whole v.names (read_may_be_left v) q)
 
-pub untouched-created : CrashLaws → (name : List ℕ) (start v : TreeState) → IsWellFormed v → HasChangedOnly name start v → HasChangedOnly name start (after_create name v)
+pub untouched-created : CrashLaws → (name : List ℕ) (start v : TreeState) → IsWellFormed v → MayHaveChangedOnly name start v → MayHaveChangedOnly name start (after_create name v)
 untouched-created laws name start v whole was = untouched_on laws name start v _ was (λ ignored private. create_simulates ignored name private v whole) (omega arith) (create_others name v whole)
 
 pub create_alone : (name : List ℕ) (v : TreeState) → IsWellFormed v → (m : NameMap) → IsCrashMap (after_create name v) m → (q : List ℕ) → m q ≡ Some v.made → q ≡ name
@@ -93,7 +93,7 @@ create_alone name v whole m (inl (kept, left, new)) q is = ⊎_elim (λ same. sa
     (name_cases q name)
 create_alone name v whole m (inr old) q is = absurd (made_later v whole m old q is)
 
-pub filling-created : CrashLaws → (name : List ℕ) (start v : TreeState) → IsWellFormed v → HasChangedOnly name start v → HasNewFileAt name (record { bytes = []; synced = false }) start (after_create name v)
+pub filling-created : CrashLaws → (name : List ℕ) (start v : TreeState) → IsWellFormed v → MayHaveChangedOnly name start v → HasChangedOnlyByNewFile name (record { bytes = []; synced = false }) start (after_create name v)
 filling-created laws name start v whole was = record {
   untouched = untouched-created laws name start v whole was;
   number = v.made;
@@ -108,7 +108,7 @@ change_simulates : (ignored : List ℕ → Bool) (name : List ℕ) → IsOutside
 change_simulates ignored name private change v n alone m among =
     (m, among, λ q rests. sym (file_at-set_file v.files n _ (m q) (λ is. rests_off ignored name private (files_under_map v m) q rests (alone m among q is))))
 
-filling_at : CrashLaws → (name : List ℕ) (change : File → File) (file : File) (start v : TreeState) → (was : HasNewFileAt name file start v) → HasNewFileAt name (change file) start (with_file_changed change v (Some was.number))
+filling_at : CrashLaws → (name : List ℕ) (change : File → File) (file : File) (start v : TreeState) → (was : HasChangedOnlyByNewFile name file start v) → HasChangedOnlyByNewFile name (change file) start (with_file_changed change v (Some was.number))
 filling_at laws name change file start v was = record {
   untouched = untouched_on laws name start v _ was.untouched (λ ignored private. change_simulates ignored name private change v was.number was.alone) (omega arith)
       (λ q ne. bytes_of_file_number-set_file v.files was.number _ (v.names q) (λ is. ne (was.alone v.names (read_may_be_left v) q is)));
@@ -118,6 +118,6 @@ filling_at laws name change file start v was = record {
   alone = was.alone;
 }
 
-pub filling_on : CrashLaws → (name : List ℕ) (change : File → File) (file : File) (start v : TreeState) → HasNewFileAt name file start v → HasNewFileAt name (change file) start (with_file_changed change v (v.names name))
+pub filling_on : CrashLaws → (name : List ℕ) (change : File → File) (file : File) (start v : TreeState) → HasChangedOnlyByNewFile name file start v → HasChangedOnlyByNewFile name (change file) start (with_file_changed change v (v.names name))
 filling_on laws name change file start v was =
-    subst (λ n. HasNewFileAt name (change file) start (with_file_changed change v n)) (sym was.there) (filling_at laws name change file start v was)
+    subst (λ n. HasChangedOnlyByNewFile name (change file) start (with_file_changed change v n)) (sym was.there) (filling_at laws name change file start v was)

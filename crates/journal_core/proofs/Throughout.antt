@@ -2,7 +2,7 @@
 use Rattle.std.proofs.Common.{◌≡◌, ◌⊎◌, inl, inr, ⊎_elim, ℕ, List, ◌∷◌, [], None, Result, Ok, Err, OnOk, refl, sym, ap, subst, ◌∙◌}
 use Rattle.base_core.specs.Calls.{IfObservable, HoldsNow, ChangesHistory}
 use Rattle.base_core.specs.Crash.{Since}
-use Rattle.base_core.specs.Tree.{TreeState, after_rename, after_sync_names, bytes_of_file_number, files_of, after_failed_call, IsAlwaysAllowed, CanRename}
+use Rattle.base_core.specs.Tree.{TreeState, after_rename, after_sync_names, bytes_of_file_number, files_of, unchanged_after_failed_call, IsAlwaysAllowed, CanRename}
 use Rattle.base_core.proofs.AtName.{name_cases, off_name}
 use Rattle.journal_core.specs.Kept.{KeepsFilesExcept}
 use Rattle.journal_core.specs.Recovery.{intent_name, stage_name}
@@ -29,7 +29,7 @@ free_on = told_on KeepsFree free_same free_through
 -- ---- the calls
 
 module _ {T E : Type 0} (old new : History) (r : Result T E) where
-  pub free_synced : ChangesHistory IsAlwaysAllowed after_sync_names after_failed_call old new r → Frees old new
+  pub free_synced : ChangesHistory IsAlwaysAllowed after_sync_names unchanged_after_failed_call old new r → Frees old new
   free_synced moves = told_called KeepsFree old new r moves free_same free_same
 
   pub free_renamed : (from to : List ℕ) → from ≡ stage_name 0 → to ≡ intent_name → ChangesHistory (CanRename from to) (after_rename from to) (after_rename from to) old new r → Frees old new

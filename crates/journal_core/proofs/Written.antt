@@ -1,6 +1,6 @@
 -- A waiting file is made, filled and synced.
 use Rattle.std.proofs.Common.{◌≡◌, ◌≢◌, inl, ℕ, Bool, true, false, List, [], ◌∷◌, ◌++◌, Option, None, Some, IsSome, Result, Ok, Err, OnOk, refl, sym, ap, subst, ◌∙◌, arith}
-use Rattle.base_core.specs.Tree.{TreeState, File, IsWellFormed, files_under_map, with_file_changed, after_create, after_append, after_failed_append, after_sync, after_failed_call, CanCreate, HasName}
+use Rattle.base_core.specs.Tree.{TreeState, File, IsWellFormed, files_under_map, with_file_changed, after_create, after_append, after_failed_append, after_sync, unchanged_after_failed_call, CanCreate, HasName}
 use Rattle.base_core.specs.Calls.{HoldsNow, ChangesHistory}
 use Rattle.base_core.specs.Crash.{Since}
 use Rattle.base_core.specs.Undone.{IsDurable}
@@ -70,7 +70,7 @@ module _ (laws : CrashLaws) (place : List ℕ) (place_is : place ≡ stage_name 
     pub extend_done : (piece : List ℕ) (x : T) → Runs P Made old h → ChangesHistory {E = E} (HasName place) (after_append place piece) (after_failed_append place) h new (Ok x) → Runs P Made old new
     extend_done piece x runs moves = run_done P Made Made old h new x runs moves (λ v q. q.is_unchanged) (changed (λ f. record { bytes = f.bytes ++ piece; synced = false }))
 
-    pub sync_called : (r : Result T E) → Runs P Made old h → ChangesHistory (HasName place) (after_sync place) after_failed_call h new r → Since P old new
+    pub sync_called : (r : Result T E) → Runs P Made old h → ChangesHistory (HasName place) (after_sync place) unchanged_after_failed_call h new r → Since P old new
     sync_called r runs moves = run_called P Made old h new r runs moves (λ v q. (changed (λ f. record { bytes = f.bytes; synced = true }) v q).is_unchanged) (λ v may q. q.is_unchanged)
 
 -- ---- what it holds
@@ -111,7 +111,7 @@ module _ (place : List ℕ) (start : TreeState) (whole : IsWellFormed start) whe
   written_on change file v was = subst (λ o. HasOnlyAddedFile place (change file) start (with_file_changed change v o)) (sym was.there) (written_at change file v was)
 
   pub last_written : {T E : Type 0} (bytes : List ℕ) (old rest h k new : History) → old ≡ start ∷ rest → start.names place ≡ None → (x y : T) (r : Result T E)
-      → ChangesHistory {E = E} (CanCreate place) (after_create place) (after_create place) old h (Ok x) → ChangesHistory {E = E} (HasName place) (after_append place bytes) (after_failed_append place) h k (Ok y) → ChangesHistory (HasName place) (after_sync place) after_failed_call k new r
+      → ChangesHistory {E = E} (CanCreate place) (after_create place) (after_create place) old h (Ok x) → ChangesHistory {E = E} (HasName place) (after_append place bytes) (after_failed_append place) h k (Ok y) → ChangesHistory (HasName place) (after_sync place) unchanged_after_failed_call k new r
       → OnOk r (HoldsNow new (HasOnlyAddedFile place (synced_file bytes) start))
   last_written bytes old rest h k new is absent x y r first second last =
       let a = step_now (λ w. w ≡ start) (HasOnlyAddedFile place (record { bytes = []; synced = false }) start) h x old (now_is old start rest (λ w. w ≡ start) is refl) first

@@ -3,10 +3,13 @@
 -- `acting`, and those of `publishing`.
 use Rattle.std.specs.Prelude.{◌≡◌, ◌⊎◌, ◌<◌, ◌+◌, ◌^◌, ℕ, Bool, true, false, List, ◌∷◌, length, None, Result, OnOk, OnErr}
 use Rattle.base_core.specs.Calls.{IfObservable}
+use Rattle.base_core.specs.Crash.{Since}
 use Rattle.base_core.specs.Files.{Files}
 use Rattle.base_core.specs.Tree.{TreeState, after_rename}
+use Rattle.base_core.specs.Undone.{IsDurable}
+use Rattle.journal_core.specs.Kept.{KeepsOldOrNewBytes, RecoversTo}
 use Rattle.journal_core.specs.Quiet.{StateIsUnchanged}
-use Rattle.journal_core.specs.Recovery.{Intent, stage_name}
+use Rattle.journal_core.specs.Recovery.{Intent, StateDependsOn, stage_name}
 use Rattle.journal_core.specs.Staged.{Staging, IsCarryingOutActions}
 
 -- a stage with this intent, this many of whose actions are done
@@ -49,3 +52,17 @@ pub record IsDuringActions (ignored : List ℕ → Bool) (files : Files) (stage 
     (start v : TreeState) : Type 0 where
   pub is_unchanged : StateIsUnchanged ignored start v
   pub acting : IsCarryingOutActions stage files v
+
+-- what a call that does actions of a stage keeps, if the stage's count of actions done is true of the tree
+-- at the start
+pub record CarriesOutActions (stage : Staging) (old now : List TreeState) : Type 0 where
+  -- from a durable tree on, each moment is durable, and the state is unchanged
+  pub moments : IfObservable old (λ v. (ignored : List ℕ → Bool) (files : Files)
+      → IsDurable (StateDependsOn ignored) v → IsCarryingOutActions stage files v
+      → Since (StateIsUnchanged ignored v) old now)
+  -- whether the tree is durable or not, recovery of the files as read yields the same at each moment
+  pub reads : IfObservable old (λ v. (files : Files) → IsCarryingOutActions stage files v
+      → Since (RecoversTo files) old now)
+  -- at each moment a name outside the staging area has its old bytes or its new ones
+  pub bytes : IfObservable old (λ v. (files : Files) → IsCarryingOutActions stage files v
+      → KeepsOldOrNewBytes files v old now)

@@ -1,15 +1,19 @@
 -- How an intent is moved to its name, which commits it.
--- The rules are in `docs/crash-safety.md`, "A change of several files", step 2 of the table. It serves
--- the contracts of `publishing`.
-use Rattle.std.specs.Prelude.{◌≡◌, ◌≢◌, ◌≤◌, ◌<◌, ℕ, ◌+◌, ◌^◌, Bool, true, List, Some, None, length}
+-- The rules are in `docs/crash-safety.md`, "A change of several files": the lines of `publish` in the
+-- example. Serves the contracts of `publishing`, and that of `Stage::publish`.
+use Rattle.std.specs.Prelude.{◌≡◌, ◌≢◌, ◌⊎◌, ◌≤◌, ◌<◌, ℕ, ◌+◌, ◌^◌, Bool, true, List, ◌∷◌, [], Some, None, IsSome, Result, OnOk, length}
+use Rattle.base_core.specs.Calls.{HoldsNow, IfObservable}
+use Rattle.base_core.specs.Crash.{Since}
 use Rattle.base_core.specs.Files.{Files}
+use Rattle.base_core.specs.Restart.{SinceGivenEarlier}
 use Rattle.base_core.specs.Tree.{TreeState, File, files_of}
 use Rattle.base_core.specs.Undone.{IsDurable}
 use Rattle.journal_core.specs.Filling.{synced_file}
-use Rattle.journal_core.specs.Recovery.{Intent, EachCrashLeavesOldOrNew, EachCrashLeaves, StateDependsOn, intent_name, read_intent, stage_name}
-use Rattle.journal_intent.specs.FreeNames.{HasFreeNames}
+use Rattle.journal_core.specs.Kept.{KeepsCrashMapsExcept, KeepsFilesExcept, NamesAreDurableExcept, RecoversTo}
+use Rattle.journal_core.specs.Recovery.{Intent, EachCrashLeavesOldOrNew, EachCrashLeaves, StateDependsOn, files_after_actions, intent_name, read_intent, stage_name}
+use Rattle.journal_intent.specs.FreeNames.{HasFreeDistinctNames}
 use Rattle.journal_core.specs.Quiet.{EachCrashLeavesOld}
-use Rattle.journal_core.specs.Staged.{IsCommittedFor}
+use Rattle.journal_core.specs.Staged.{Staging, CommittedBy, IsCommittedFor, IsOldUntilCommit, IsStaged}
 
 -- a moment at which a new file is under a name that was absent at the start, and nothing else has
 -- changed
@@ -46,7 +50,7 @@ pub record IsReadyToPublish (intent : Intent) (base : Files) (made : ℕ) (v : T
   -- its writes can be numbered in 64 bits, and its actions do not change the intent and the staging
   -- area
   pub few : length intent.writes < 2 ^ 63
-  pub free : HasFreeNames intent
+  pub free : HasFreeDistinctNames intent
 
 -- a moment of the publishing, at which the intent may be moved to its name: a crash leaves a state from
 -- before, or that of these files if an intent made since is read
@@ -62,3 +66,44 @@ pub record HasCommittedIntent (ignored : List ℕ → Bool) (files : Files) (mad
     (v : TreeState) : Type 0 where
   pub settled : EachCrashLeaves ignored files v
   pub publishes : IsCommittedFor ignored files made v
+
+-- only the intent's name, and that under which the intent is written, have changed
+pub record ChangesOnlyIntentNames (old now : List TreeState) : Type 0 where
+  -- as soon as the intent is read, every other change of names is durable
+  pub last : IfObservable old (λ v. v.names intent_name ≡ None
+      → Since (λ w. IsSome (w.names intent_name) → NamesAreDurableExcept (intent_name ∷ stage_name 0 ∷ []) w)
+      old now)
+  -- at each moment the files as read are unchanged under every other name
+  pub others : IfObservable old (λ v.
+      Since (KeepsFilesExcept (λ q. (q ≡ intent_name) ⊎ (q ≡ stage_name 0)) v) old now)
+  -- and so is what a crash leaves of the names
+  pub maps : IfObservable old (λ v.
+      Since (KeepsCrashMapsExcept (intent_name ∷ stage_name 0 ∷ []) v) old now)
+
+-- how a call publishes (commits) the intent of a stage, all of whose files are staged
+pub record PublishesIntent {T E : Type 0} (stage : Staging) (old now : List TreeState)
+    (result : Result T E) : Type 0 where
+  -- at each moment a crash leaves an old state or the one with all actions done; before an intent of
+  -- this call that yields it is under its name, a crash leaves an old one
+  pub moments : IfObservable old (λ v. (ignored : List ℕ → Bool) (contents : List (List ℕ)) (base : Files)
+      → IsDurable (StateDependsOn ignored) v → IsStaged stage contents None base v
+      → SinceGivenEarlier (IsOldUntilCommit ignored (files_after_actions stage.intent (files_of v)) v)
+      old now)
+  pub published : IfObservable old (λ v. (ignored : List ℕ → Bool) (contents : List (List ℕ)) (base : Files)
+      → IsDurable (StateDependsOn ignored) v → IsStaged stage contents None base v
+      → OnOk result (CommittedBy ignored (files_after_actions stage.intent (files_of v)) v old now))
+  -- once it has returned Ok, each crash leaves the state of the actions done
+  pub settled : IfObservable old (λ v. (ignored : List ℕ → Bool) (contents : List (List ℕ)) (base : Files)
+      → IsDurable (StateDependsOn ignored) v → IsStaged stage contents None base v
+      → OnOk result (HoldsNow now
+      (EachCrashLeaves ignored (files_after_actions stage.intent (files_of v)))))
+  -- at each moment at which the intent is read, recovery of the files as read yields those of the
+  -- actions done
+  pub reads : IfObservable old (λ v. (contents : List (List ℕ)) (base : Files)
+      → IsStaged stage contents None base v → Since (λ w. IsSome (w.names intent_name)
+      → RecoversTo (files_after_actions stage.intent (files_of v)) w) old now)
+  -- whatever it returns, every other name is unchanged
+  pub names : ChangesOnlyIntentNames old now
+  -- once it has returned Ok, the files as read are unchanged under each name except the intent's
+  pub only_intent : IfObservable old (λ v.
+      OnOk result (HoldsNow now (KeepsFilesExcept (λ q. q ≡ intent_name) v)))

@@ -9,7 +9,7 @@ use Rattle.base_core.specs.Undone.{IsCrashMap}
 use Rattle.journal_core.specs.Recovery.{Intent, intent_name, is_staged, recovered_files, stage_name}
 use Rattle.journal_intent.specs.FreeNames.{IsNoneOf}
 
--- ---- the files as read
+-- ---- the files as read: the files that calls on the tree return now, without a crash
 
 -- the files as read are unchanged under each name except these
 abbrev pub KeepsFilesExcept : (List ℕ → Type 0) → TreeState → TreeState → Type 0

@@ -12,6 +12,7 @@ pub mod Kept
 pub mod Targets
 pub mod Reading
 pub mod Filling
+pub mod CallCounts
 pub mod Committing
 pub mod Acting
 pub mod Recovering

@@ -13,7 +13,9 @@ abbrev pub AreWritable : (Option (List ℕ) → List ℕ → Type 0) → List (L
 AreWritable accepts names = (i : ℕ) (name : List ℕ) → slice_get names i ≡ Some name
     → accepts (Some (stage_name (i + 1))) name
 
--- the tree accepts each target of a change
+-- The tree accepts each target of a change. `accepts (Some staged) name` says that the tree accepts
+-- that the file under `staged` is moved to `name`. `accepts None name` says that it accepts the removal
+-- of `name`.
 pub record AreAccepted (accepts : Option (List ℕ) → List ℕ → Type 0) (intent : Intent) :
     Type 0 where
   pub removals : AreRemovable accepts intent.removals

@@ -1,17 +1,14 @@
 //! The actions of an intent, one after another: first its removals, then its moves.
-//! The rules are in `docs/crash-safety.md`, "A change of several files", step 3 of the table and
-//! the text on actions below it.
-ghost use Rattle.std.specs.Prelude.{◌≡◌, ◌≤◌, ◌<◌, ◌+◌, ℕ, Bool, List, length, IfOk, OnOk, OnErr, IsSome};
+//! The rules are in `docs/crash-safety.md`, "A change of several files": the lines of `apply_one`
+//! in the example, and the text on actions.
+ghost use Rattle.std.specs.Prelude.{◌≡◌, ◌≤◌, ◌<◌, ◌+◌, length, IfOk, OnOk, IsSome};
 ghost use Rattle.base_core.specs.Calls.{HoldsNow, IfObservable};
 ghost use Rattle.base_core.specs.Crash.{Since};
-ghost use Rattle.base_core.specs.Undone.{IsDurable};
-ghost use Rattle.base_core.specs.Faults.{CountsOnlyRise, HasCause, IsNoFault};
 ghost use Rattle.base_core.specs.Files.{Files};
 ghost use Rattle.base_core.specs.Tree.{CanRename};
-ghost use Rattle.journal_core.specs.Acting.{MovesIfPresent, stage_with_actions_done};
-ghost use Rattle.journal_core.specs.Kept.{IsNameOfNextAction, KeepsFilesExcept, KeepsIntent, KeepsOldOrNewBytes, RecoversTo};
-ghost use Rattle.journal_core.specs.Quiet.{StateIsUnchanged};
-ghost use Rattle.journal_core.specs.Recovery.{StateDependsOn};
+ghost use Rattle.journal_core.specs.Acting.{CarriesOutActions, MovesIfPresent, stage_with_actions_done};
+ghost use Rattle.journal_core.specs.CallCounts.{IsResultExplainedByCounts};
+ghost use Rattle.journal_core.specs.Kept.{IsNameOfNextAction, KeepsFilesExcept, KeepsIntent};
 ghost use Rattle.journal_core.specs.Staged.{AreJournalPathsFree, IsCarryingOutActions, action_count};
 
 use crate::calls::{remove, rename};
@@ -25,20 +22,12 @@ pub(crate) fn act<T: Tree>(
     acted: usize,
     tree: &mut T,
 ) -> Result<usize, Disk>
-    ensures moments { IfObservable (T.history tree.old) (λ v. (ignored : List ℕ → Bool)
-        (files : Files) → IsDurable (StateDependsOn ignored) v
-        → IsCarryingOutActions (stage_with_actions_done intent.now acted) files v
-        → Since (StateIsUnchanged ignored v) (T.history tree.old) (T.history tree.new)) }
+    ensures actions { CarriesOutActions (stage_with_actions_done intent.now acted)
+        (T.history tree.old) (T.history tree.new) }
     ensures acting { IfObservable (T.history tree.old) (λ v. (files : Files)
         → IsCarryingOutActions (stage_with_actions_done intent.now acted) files v
         → IfOk result (λ next. HoldsNow (T.history tree.new)
         (IsCarryingOutActions (stage_with_actions_done intent.now next) files))) }
-    ensures reads { IfObservable (T.history tree.old) (λ v. (files : Files)
-        → IsCarryingOutActions (stage_with_actions_done intent.now acted) files v
-        → Since (RecoversTo files) (T.history tree.old) (T.history tree.new)) }
-    ensures bytes { IfObservable (T.history tree.old) (λ v. (files : Files)
-        → IsCarryingOutActions (stage_with_actions_done intent.now acted) files v
-        → KeepsOldOrNewBytes files v (T.history tree.old) (T.history tree.new)) }
     ensures waiting { IfObservable (T.history tree.old) (λ v.
         Since (KeepsIntent v) (T.history tree.old) (T.history tree.new)) }
     ensures others { IfObservable (T.history tree.old) (λ v.
@@ -46,12 +35,7 @@ pub(crate) fn act<T: Tree>(
     ensures more { acted < action_count intent.now → IfOk result (λ next. next ≡ acted + 1) }
     ensures none_left { action_count intent.now ≤ acted
         → IfOk result (λ next. next ≡ acted) × (tree.new ≡ tree.old) }
-
-    // No count of faults falls; a fault of the tree is returned only if that count rose, and Ok
-    // only if it did not.
-    ensures goes_on { CountsOnlyRise (T.counts tree.old) (T.counts tree.new) }
-    ensures cause { OnErr result (HasCause (T.counts tree.old) (T.counts tree.new)) }
-    ensures kept { OnOk result (IsNoFault (T.counts tree.old) (T.counts tree.new)) }
+    ensures counts { IsResultExplainedByCounts (T.counts tree.old) (T.counts tree.new) result }
 
     // If the intent and the staged files have free paths beside the files of the actions done, no
     // call is a misuse.
@@ -77,30 +61,17 @@ pub(crate) fn act<T: Tree>(
 /// `act`, for a removal.
 fn remove_one<T: Tree>(intent: &PreparedIntent, i: usize, tree: &mut T) -> Result<(), Disk>
     requires { i < length intent.now.removals }
-    ensures moments { IfObservable (T.history tree.old) (λ v. (ignored : List ℕ → Bool)
-        (files : Files) → IsDurable (StateDependsOn ignored) v
-        → IsCarryingOutActions (stage_with_actions_done intent.now i) files v
-        → Since (StateIsUnchanged ignored v) (T.history tree.old) (T.history tree.new)) }
+    ensures actions { CarriesOutActions (stage_with_actions_done intent.now i)
+        (T.history tree.old) (T.history tree.new) }
     ensures acting { IfObservable (T.history tree.old) (λ v. (files : Files)
         → IsCarryingOutActions (stage_with_actions_done intent.now i) files v
         → OnOk result (HoldsNow (T.history tree.new)
         (IsCarryingOutActions (stage_with_actions_done intent.now (i + 1)) files))) }
-    ensures reads { IfObservable (T.history tree.old) (λ v. (files : Files)
-        → IsCarryingOutActions (stage_with_actions_done intent.now i) files v
-        → Since (RecoversTo files) (T.history tree.old) (T.history tree.new)) }
-    ensures bytes { IfObservable (T.history tree.old) (λ v. (files : Files)
-        → IsCarryingOutActions (stage_with_actions_done intent.now i) files v
-        → KeepsOldOrNewBytes files v (T.history tree.old) (T.history tree.new)) }
     ensures waiting { IfObservable (T.history tree.old) (λ v.
         Since (KeepsIntent v) (T.history tree.old) (T.history tree.new)) }
     ensures others { IfObservable (T.history tree.old) (λ v.
         HoldsNow (T.history tree.new) (KeepsFilesExcept (IsNameOfNextAction intent.now i) v)) }
-
-    // No count of faults falls; a fault of the tree is returned only if that count rose, and Ok
-    // only if it did not.
-    ensures goes_on { CountsOnlyRise (T.counts tree.old) (T.counts tree.new) }
-    ensures cause { OnErr result (HasCause (T.counts tree.old) (T.counts tree.new)) }
-    ensures kept { OnOk result (IsNoFault (T.counts tree.old) (T.counts tree.new)) }
+    ensures counts { IsResultExplainedByCounts (T.counts tree.old) (T.counts tree.new) result }
 
     // No call is a misuse.
     ensures proper { IfObservable (T.history tree.old)
@@ -120,30 +91,17 @@ fn move_one<T: Tree>(
 ) -> Result<(), Disk>
     requires within { j < length intent.now.writes }
     requires behind { acted ≡ length intent.now.removals + j }
-    ensures moments { IfObservable (T.history tree.old) (λ v. (ignored : List ℕ → Bool)
-        (files : Files) → IsDurable (StateDependsOn ignored) v
-        → IsCarryingOutActions (stage_with_actions_done intent.now acted) files v
-        → Since (StateIsUnchanged ignored v) (T.history tree.old) (T.history tree.new)) }
+    ensures actions { CarriesOutActions (stage_with_actions_done intent.now acted)
+        (T.history tree.old) (T.history tree.new) }
     ensures acting { IfObservable (T.history tree.old) (λ v. (files : Files)
         → IsCarryingOutActions (stage_with_actions_done intent.now acted) files v
         → OnOk result (HoldsNow (T.history tree.new)
         (IsCarryingOutActions (stage_with_actions_done intent.now (acted + 1)) files))) }
-    ensures reads { IfObservable (T.history tree.old) (λ v. (files : Files)
-        → IsCarryingOutActions (stage_with_actions_done intent.now acted) files v
-        → Since (RecoversTo files) (T.history tree.old) (T.history tree.new)) }
-    ensures bytes { IfObservable (T.history tree.old) (λ v. (files : Files)
-        → IsCarryingOutActions (stage_with_actions_done intent.now acted) files v
-        → KeepsOldOrNewBytes files v (T.history tree.old) (T.history tree.new)) }
     ensures waiting { IfObservable (T.history tree.old) (λ v.
         Since (KeepsIntent v) (T.history tree.old) (T.history tree.new)) }
     ensures others { IfObservable (T.history tree.old) (λ v.
         HoldsNow (T.history tree.new) (KeepsFilesExcept (IsNameOfNextAction intent.now acted) v)) }
-
-    // No count of faults falls; a fault of the tree is returned only if that count rose, and Ok
-    // only if it did not.
-    ensures goes_on { CountsOnlyRise (T.counts tree.old) (T.counts tree.new) }
-    ensures cause { OnErr result (HasCause (T.counts tree.old) (T.counts tree.new)) }
-    ensures kept { OnOk result (IsNoFault (T.counts tree.old) (T.counts tree.new)) }
+    ensures counts { IsResultExplainedByCounts (T.counts tree.old) (T.counts tree.new) result }
 
     // If the intent and the staged files have free paths beside the files of the actions done, no
     // call is a misuse.
@@ -159,12 +117,7 @@ fn move_one<T: Tree>(
 fn move_waiting<T: Tree>(tree: &mut T, place: &Name, name: &Name) -> Result<(), Disk>
     ensures moves { MovesIfPresent place.now name.now (T.history tree.old) (T.history tree.new)
         result }
-
-    // No count of faults falls; a fault of the tree is returned only if that count rose, and Ok
-    // only if it did not.
-    ensures goes_on { CountsOnlyRise (T.counts tree.old) (T.counts tree.new) }
-    ensures cause { OnErr result (HasCause (T.counts tree.old) (T.counts tree.new)) }
-    ensures kept { OnOk result (IsNoFault (T.counts tree.old) (T.counts tree.new)) }
+    ensures counts { IsResultExplainedByCounts (T.counts tree.old) (T.counts tree.new) result }
 
     // If the file may be moved, no call is a misuse.
     ensures proper { IfObservable (T.history tree.old) (λ v.

@@ -3,7 +3,7 @@
 //! What each call does is in `docs/crash-safety.md`, "What each call does"; the contract is that of
 //! the same call of the trait `Tree` of `base_core`.
 ghost use Rattle.base_core.specs.Calls.{IsCounted, ChangesHistory};
-ghost use Rattle.base_core.specs.Tree.{after_append, after_create, after_failed_append, after_remove, after_rename, after_sync, after_sync_names, after_failed_call, IsAlwaysAllowed, CanCreate, CanRename, HasName};
+ghost use Rattle.base_core.specs.Tree.{after_append, after_create, after_failed_append, after_remove, after_rename, after_sync, after_sync_names, unchanged_after_failed_call, IsAlwaysAllowed, CanCreate, CanRename, HasName};
 
 use base_core::{Disk, Name, Tree};
 
@@ -41,7 +41,7 @@ pub fn append<T: Tree>(tree: &mut T, name: &Name, bytes: &[u8]) -> Result<(), Di
 
 /// Makes the bytes of the file durable: a crash keeps them.
 pub fn sync_file<T: Tree>(tree: &mut T, name: &Name) -> Result<(), Disk>
-    ensures moves { ChangesHistory (HasName name.now) (after_sync name.now) after_failed_call
+    ensures moves { ChangesHistory (HasName name.now) (after_sync name.now) unchanged_after_failed_call
         (T.history tree.old) (T.history tree.new) result }
     ensures counts { IsCounted (HasName name.now) (T.history tree.old)
         (T.counts tree.old) (T.counts tree.new) result }
@@ -61,7 +61,7 @@ pub fn rename<T: Tree>(tree: &mut T, from: &Name, to: &Name) -> Result<(), Disk>
 
 /// Makes all names durable: no crash undoes a change of them.
 pub fn sync_all_names<T: Tree>(tree: &mut T) -> Result<(), Disk>
-    ensures moves { ChangesHistory IsAlwaysAllowed after_sync_names after_failed_call
+    ensures moves { ChangesHistory IsAlwaysAllowed after_sync_names unchanged_after_failed_call
         (T.history tree.old) (T.history tree.new) result }
     ensures counts { IsCounted IsAlwaysAllowed (T.history tree.old) (T.counts tree.old)
         (T.counts tree.new) result }

@@ -1,21 +1,20 @@
 //! The commit of a stage's intent: it is moved to its name.
-//! The rules are in `docs/crash-safety.md`, "A change of several files", step 2 of the table, and
-//! the syncs before and after the rename of the intent.
-ghost use Rattle.std.specs.Prelude.{◌≡◌, ◌⊎◌, ◌∷◌, [], ℕ, Bool, List, None, IsSome, OnOk, OnErr};
+//! The rules are in `docs/crash-safety.md`, "A change of several files": the lines of `publish` in
+//! the example, and in the table of syncs those before and after the rename of the intent.
+ghost use Rattle.std.specs.Prelude.{◌≡◌, ◌∷◌, [], ℕ, Bool, List, None, IsSome, OnOk};
 ghost use Rattle.base_core.specs.Calls.{HoldsNow, IfObservable};
 ghost use Rattle.base_core.specs.Crash.{Since};
 ghost use Rattle.base_core.specs.Undone.{IsDurable};
-ghost use Rattle.base_core.specs.Faults.{CountsOnlyRise, HasCause, IsNoFault};
 ghost use Rattle.base_core.specs.Files.{Files};
-ghost use Rattle.base_core.specs.Restart.{SinceGivenEarlier};
 ghost use Rattle.base_core.specs.Tree.{CanCreate, CanRename, files_of};
 ghost use Rattle.journal_core.specs.Acting.{stage_with_actions_done, fully_staged_stage};
-ghost use Rattle.journal_core.specs.Committing.{HasCommittedIntent, IsCommitting, IsReadyToPublish, HasOnlyAddedFile};
+ghost use Rattle.journal_core.specs.CallCounts.{IsResultExplainedByCounts};
+ghost use Rattle.journal_core.specs.Committing.{ChangesOnlyIntentNames, PublishesIntent, HasCommittedIntent, IsCommitting, IsReadyToPublish, HasOnlyAddedFile};
 ghost use Rattle.journal_core.specs.Filling.{synced_file};
-ghost use Rattle.journal_core.specs.Kept.{KeepsFilesExcept, KeepsCrashMapsExcept, NamesAreDurableExcept, RecoversTo};
+ghost use Rattle.journal_core.specs.Kept.{KeepsFilesExcept, KeepsCrashMapsExcept, RecoversTo};
 ghost use Rattle.journal_core.specs.Quiet.{StateIsUnchanged};
-ghost use Rattle.journal_core.specs.Recovery.{Intent, EachCrashLeaves, StateDependsOn, files_after_actions, intent_name, stage_name};
-ghost use Rattle.journal_core.specs.Staged.{AreStagingPathsFree, IsCarryingOutActions, IsOldUntilCommit, IsStaged, CommittedBy};
+ghost use Rattle.journal_core.specs.Recovery.{Intent, StateDependsOn, files_after_actions, intent_name, stage_name};
+ghost use Rattle.journal_core.specs.Staged.{AreStagingPathsFree, IsCarryingOutActions, IsStaged};
 
 use crate::calls::{append, create, rename, sync_all_names, sync_file};
 use base_core::{Disk, Name, Tree};
@@ -25,48 +24,13 @@ use journal_intent::PreparedIntent;
 /// change: from the moment at which the intent is read, a recovery does its actions. The clauses
 /// are those of `Stage::publish`, for a stage all of whose files are staged.
 pub(crate) fn publish_intent<T: Tree>(tree: &mut T, intent: &PreparedIntent) -> Result<(), Disk>
-    ensures moments { IfObservable (T.history tree.old) (λ v. (ignored : List ℕ → Bool)
-        (contents : List (List ℕ)) (base : Files) → IsDurable (StateDependsOn ignored) v
-        → IsStaged (fully_staged_stage intent.now) contents None base v
-        → SinceGivenEarlier (IsOldUntilCommit ignored (files_after_actions intent.now (files_of v)) v)
-        (T.history tree.old) (T.history tree.new)) }
-    ensures published { IfObservable (T.history tree.old) (λ v. (ignored : List ℕ → Bool)
-        (contents : List (List ℕ)) (base : Files) → IsDurable (StateDependsOn ignored) v
-        → IsStaged (fully_staged_stage intent.now) contents None base v → OnOk result
-        (CommittedBy ignored (files_after_actions intent.now (files_of v)) v (T.history tree.old)
-        (T.history tree.new))) }
-    ensures settled { IfObservable (T.history tree.old) (λ v. (ignored : List ℕ → Bool)
-        (contents : List (List ℕ)) (base : Files) → IsDurable (StateDependsOn ignored) v
-        → IsStaged (fully_staged_stage intent.now) contents None base v
-        → OnOk result (HoldsNow (T.history tree.new)
-        (EachCrashLeaves ignored (files_after_actions intent.now (files_of v))))) }
+    ensures publishing { PublishesIntent (fully_staged_stage intent.now)
+        (T.history tree.old) (T.history tree.new) result }
     ensures acting { IfObservable (T.history tree.old) (λ v. (contents : List (List ℕ))
         (base : Files) → IsStaged (fully_staged_stage intent.now) contents None base v
         → OnOk result (HoldsNow (T.history tree.new)
         (IsCarryingOutActions (stage_with_actions_done intent.now 0) (files_after_actions intent.now (files_of v))))) }
-    ensures last { IfObservable (T.history tree.old) (λ v. v.names intent_name ≡ None
-        → Since (λ w. IsSome (w.names intent_name)
-        → NamesAreDurableExcept (intent_name ∷ stage_name 0 ∷ []) w)
-        (T.history tree.old) (T.history tree.new)) }
-    ensures reads { IfObservable (T.history tree.old) (λ v. (contents : List (List ℕ))
-        (base : Files) → IsStaged (fully_staged_stage intent.now) contents None base v
-        → Since (λ w. IsSome (w.names intent_name)
-        → RecoversTo (files_after_actions intent.now (files_of v)) w)
-        (T.history tree.old) (T.history tree.new)) }
-    ensures others { IfObservable (T.history tree.old) (λ v.
-        Since (KeepsFilesExcept (λ q. (q ≡ intent_name) ⊎ (q ≡ stage_name 0)) v)
-        (T.history tree.old) (T.history tree.new)) }
-    ensures maps { IfObservable (T.history tree.old) (λ v.
-        Since (KeepsCrashMapsExcept (intent_name ∷ stage_name 0 ∷ []) v)
-        (T.history tree.old) (T.history tree.new)) }
-    ensures only_intent { IfObservable (T.history tree.old) (λ v. OnOk result
-        (HoldsNow (T.history tree.new) (KeepsFilesExcept (λ q. q ≡ intent_name) v))) }
-
-    // No count of faults falls; a fault of the tree is returned only if that count rose, and Ok
-    // only if it did not.
-    ensures goes_on { CountsOnlyRise (T.counts tree.old) (T.counts tree.new) }
-    ensures cause { OnErr result (HasCause (T.counts tree.old) (T.counts tree.new)) }
-    ensures kept { OnOk result (IsNoFault (T.counts tree.old) (T.counts tree.new)) }
+    ensures counts { IsResultExplainedByCounts (T.counts tree.old) (T.counts tree.new) result }
 
     // If the paths of the stage are free, no call is a misuse.
     ensures proper { IfObservable (T.history tree.old) (λ v. (contents : List (List ℕ))
@@ -97,12 +61,7 @@ fn write_waiting<T: Tree>(tree: &mut T, place: &Name, bytes: &[u8]) -> Result<()
         Since (KeepsCrashMapsExcept (stage_name 0 ∷ []) v) (T.history tree.old) (T.history tree.new)) }
     ensures absent { OnOk result
         (IfObservable (T.history tree.old) (λ v. v.names place.now ≡ None)) }
-
-    // No count of faults falls; a fault of the tree is returned only if that count rose, and Ok
-    // only if it did not.
-    ensures goes_on { CountsOnlyRise (T.counts tree.old) (T.counts tree.new) }
-    ensures cause { OnErr result (HasCause (T.counts tree.old) (T.counts tree.new)) }
-    ensures kept { OnOk result (IsNoFault (T.counts tree.old) (T.counts tree.new)) }
+    ensures counts { IsResultExplainedByCounts (T.counts tree.old) (T.counts tree.new) result }
 
     // If the file may be made, no call is a misuse.
     ensures proper { IfObservable (T.history tree.old) (λ v. CanCreate place.now v
@@ -131,27 +90,13 @@ fn enter<T: Tree>(tree: &mut T, place: &Name, name: &Name) -> Result<(), Disk>
     ensures acting { IfObservable (T.history tree.old) (λ v. (intent : Intent) (base : Files)
         (made : ℕ) → IsReadyToPublish intent base made v → OnOk result (HoldsNow (T.history tree.new)
         (IsCarryingOutActions (stage_with_actions_done intent 0) (files_after_actions intent base)))) }
-    ensures last { IfObservable (T.history tree.old) (λ v. v.names intent_name ≡ None
-        → Since (λ w. IsSome (w.names intent_name)
-        → NamesAreDurableExcept (intent_name ∷ stage_name 0 ∷ []) w)
-        (T.history tree.old) (T.history tree.new)) }
+    ensures names { ChangesOnlyIntentNames (T.history tree.old) (T.history tree.new) }
     ensures reads { IfObservable (T.history tree.old) (λ v. (intent : Intent) (base : Files)
         (made : ℕ) → IsReadyToPublish intent base made v → Since (λ w. IsSome (w.names intent_name)
         → RecoversTo (files_after_actions intent base) w) (T.history tree.old) (T.history tree.new)) }
-    ensures others { IfObservable (T.history tree.old) (λ v.
-        Since (KeepsFilesExcept (λ q. (q ≡ intent_name) ⊎ (q ≡ stage_name 0)) v)
-        (T.history tree.old) (T.history tree.new)) }
-    ensures maps { IfObservable (T.history tree.old) (λ v.
-        Since (KeepsCrashMapsExcept (intent_name ∷ stage_name 0 ∷ []) v)
-        (T.history tree.old) (T.history tree.new)) }
     ensures moved { OnOk result
         (IfObservable (T.history tree.new) (λ w. w.names (stage_name 0) ≡ None)) }
-
-    // No count of faults falls; a fault of the tree is returned only if that count rose, and Ok
-    // only if it did not.
-    ensures goes_on { CountsOnlyRise (T.counts tree.old) (T.counts tree.new) }
-    ensures cause { OnErr result (HasCause (T.counts tree.old) (T.counts tree.new)) }
-    ensures kept { OnOk result (IsNoFault (T.counts tree.old) (T.counts tree.new)) }
+    ensures counts { IsResultExplainedByCounts (T.counts tree.old) (T.counts tree.new) result }
 
     // If the file may be moved, no call is a misuse.
     ensures proper { IfObservable (T.history tree.old) (λ v. CanRename place.now name.now v

@@ -1,23 +1,23 @@
 //! A stage: new files wait in the staging area until one step commits all of them.
 //! The rules are in `docs/crash-safety.md`, "A change of several files".
-ghost use Rattle.std.specs.Prelude.{◌≡◌, ◌⊎◌, ◌≤◌, ◌<◌, ◌+◌, ◌++◌, ◌∷◌, [], ◌^◌, ℕ, Bool, true, false, List, Some, None, length, IfOk, OnOk, OnErr, IsErrOf, IsSome, nat_lt};
+ghost use Rattle.std.specs.Prelude.{◌≡◌, ◌≤◌, ◌<◌, ◌+◌, ◌++◌, ◌∷◌, [], ◌^◌, ℕ, Bool, true, false, List, Some, None, length, IfOk, OnOk, OnErr, IsErrOf, IsSome, nat_lt};
 ghost use Rattle.journal_intent.specs.adb_schema.Soundness.{first_fault};
 ghost use Rattle.adb_view.specs.declared.tables.Which.TheVariants.{Intent as IntentTable};
 ghost use Rattle.journal_intent.specs.adb_write.Canonical.{overflow_of};
 ghost use Rattle.base_core.specs.Calls.{HoldsNow, IfObservable};
 ghost use Rattle.base_core.specs.Crash.{Since};
 ghost use Rattle.base_core.specs.Undone.{IsDurable};
-ghost use Rattle.base_core.specs.Faults.{CountsOnlyRise, HasCause, IsNoFault};
 ghost use Rattle.base_core.specs.Files.{Files};
-ghost use Rattle.base_core.specs.Restart.{SinceGivenEarlier};
 ghost use Rattle.base_core.specs.Tree.{files_of};
 ghost use Rattle.base_core.specs.declared.cause.Cause.{Cause};
-ghost use Rattle.journal_core.specs.Acting.{IsNextStagedName};
-ghost use Rattle.journal_core.specs.Kept.{IsRestoredByNoCrash, JournalOnlyShrinks, IsNameOfNextAction, KeepsFilesExcept, KeepsIntent, KeepsCrashMapsExcept, KeepsOldOrNewBytes, NamesAreDurableExcept, RecoversTo};
+ghost use Rattle.journal_core.specs.Acting.{CarriesOutActions, IsNextStagedName};
+ghost use Rattle.journal_core.specs.CallCounts.{IsResultExplainedByCounts};
+ghost use Rattle.journal_core.specs.Committing.{PublishesIntent};
+ghost use Rattle.journal_core.specs.Kept.{IsRestoredByNoCrash, JournalOnlyShrinks, IsNameOfNextAction, KeepsFilesExcept, KeepsIntent, KeepsCrashMapsExcept, NamesAreDurableExcept, RecoversTo};
 ghost use Rattle.journal_core.specs.Quiet.{StateIsUnchanged};
 ghost use Rattle.journal_core.specs.Recovery.{EachCrashLeaves, StateDependsOn, files_after_actions, intent_name, read_intent, stage_name};
-ghost use Rattle.journal_core.specs.Staged.{Staging, AreJournalPathsFree, AreStagingPathsFree, IsCarryingOutActions, IsOnlyNameOfFile, IsOldUntilCommit, IsStaged, CommittedBy, action_count, new_stage};
-ghost use Rattle.journal_intent.specs.FreeNames.{HasFreeNames};
+ghost use Rattle.journal_core.specs.Staged.{Staging, AreJournalPathsFree, AreStagingPathsFree, IsCarryingOutActions, IsOnlyNameOfFile, IsStaged, action_count, new_stage};
+ghost use Rattle.journal_intent.specs.FreeNames.{HasFreeDistinctNames};
 ghost use Rattle.journal_intent.specs.Intent.{AreChangeNames};
 ghost use Rattle.journal_intent.specs.IntentValue.{intent_of_lists, value_of_intent};
 
@@ -148,7 +148,7 @@ impl Stage {
     /// The names of the stage's actions are free, and no write is repeated. There are fewer than
     /// 2^63 actions, so that their number and the next one have 64 bits.
     pub fn names_are_free(&self)
-        ensures free { HasFreeNames self.now.intent }
+        ensures free { HasFreeDistinctNames self.now.intent }
         ensures few { action_count self.now.intent < 2 ^ 63 }
     {
         // A law that the proof needs; it computes nothing.
@@ -189,12 +189,7 @@ impl Stage {
             Since (λ w. files_of w ≡ files_of v) (T.history tree.old) (T.history tree.new)) }
         ensures maps { IfObservable (T.history tree.old) (λ v.
             Since (KeepsCrashMapsExcept [] v) (T.history tree.old) (T.history tree.new)) }
-
-        // No count of faults falls; a fault of the tree is returned only if that count rose, and
-        // Ok only if it did not.
-        ensures goes_on { CountsOnlyRise (T.counts tree.old) (T.counts tree.new) }
-        ensures cause { OnErr result (HasCause (T.counts tree.old) (T.counts tree.new)) }
-        ensures kept { OnOk result (IsNoFault (T.counts tree.old) (T.counts tree.new)) }
+        ensures counts { IsResultExplainedByCounts (T.counts tree.old) (T.counts tree.new) result }
 
         // No call is a misuse.
         ensures proper { IfObservable (T.history tree.old)
@@ -232,12 +227,7 @@ impl Stage {
             (T.history tree.old) (T.history tree.new)) }
         ensures view { OnOk result (self.new ≡ record self.old { is_open = true }) }
         ensures err { OnErr result (self.new ≡ self.old) }
-
-        // No count of faults falls; a fault of the tree is returned only if that count rose, and
-        // Ok only if it did not.
-        ensures goes_on { CountsOnlyRise (T.counts tree.old) (T.counts tree.new) }
-        ensures cause { OnErr result (HasCause (T.counts tree.old) (T.counts tree.new)) }
-        ensures kept { OnOk result (IsNoFault (T.counts tree.old) (T.counts tree.new)) }
+        ensures counts { IsResultExplainedByCounts (T.counts tree.old) (T.counts tree.new) result }
 
         // If the paths of the stage are free, no call is a misuse.
         ensures proper { IfObservable (T.history tree.old) (λ v. (contents : List (List ℕ))
@@ -275,12 +265,7 @@ impl Stage {
             Since (KeepsCrashMapsExcept [] v) (T.history tree.old) (T.history tree.new)) }
         ensures view { OnOk result (self.new ≡ self.old) }
         ensures err { OnErr result (self.new ≡ self.old) }
-
-        // No count of faults falls; a fault of the tree is returned only if that count rose, and
-        // Ok only if it did not.
-        ensures goes_on { CountsOnlyRise (T.counts tree.old) (T.counts tree.new) }
-        ensures cause { OnErr result (HasCause (T.counts tree.old) (T.counts tree.new)) }
-        ensures kept { OnOk result (IsNoFault (T.counts tree.old) (T.counts tree.new)) }
+        ensures counts { IsResultExplainedByCounts (T.counts tree.old) (T.counts tree.new) result }
 
         // No call is a misuse.
         ensures proper { IfObservable (T.history tree.old) (λ v. (contents : List (List ℕ))
@@ -314,12 +299,7 @@ impl Stage {
         ensures view { OnOk result
             (self.new ≡ record self.old { staged = self.old.staged + 1; is_open = false }) }
         ensures err { OnErr result (self.new ≡ self.old) }
-
-        // No count of faults falls; a fault of the tree is returned only if that count rose, and
-        // Ok only if it did not.
-        ensures goes_on { CountsOnlyRise (T.counts tree.old) (T.counts tree.new) }
-        ensures cause { OnErr result (HasCause (T.counts tree.old) (T.counts tree.new)) }
-        ensures kept { OnOk result (IsNoFault (T.counts tree.old) (T.counts tree.new)) }
+        ensures counts { IsResultExplainedByCounts (T.counts tree.old) (T.counts tree.new) result }
 
         // No call is a misuse.
         ensures proper { IfObservable (T.history tree.old) (λ v. (contents : List (List ℕ))
@@ -338,63 +318,16 @@ impl Stage {
         requires closed { self.old.is_open ≡ false }
         requires all { self.old.staged ≡ length self.old.intent.writes }
 
-        // At each moment a crash leaves an old state or the one with all actions done. Before an
-        // intent of this call that yields it is under its name, a crash leaves an old one.
-        ensures moments { IfObservable (T.history tree.old) (λ v. (ignored : List ℕ → Bool)
-            (contents : List (List ℕ)) (base : Files) → IsDurable (StateDependsOn ignored) v
-            → IsStaged self.old contents None base v
-            → SinceGivenEarlier
-            (IsOldUntilCommit ignored (files_after_actions self.old.intent (files_of v)) v)
-            (T.history tree.old) (T.history tree.new)) }
-        ensures published { IfObservable (T.history tree.old) (λ v. (ignored : List ℕ → Bool)
-            (contents : List (List ℕ)) (base : Files) → IsDurable (StateDependsOn ignored) v
-            → IsStaged self.old contents None base v → OnOk result (CommittedBy ignored
-            (files_after_actions self.old.intent (files_of v)) v
-            (T.history tree.old) (T.history tree.new))) }
-
-        // Once it has returned Ok, each crash leaves the state of the actions done.
-        ensures settled { IfObservable (T.history tree.old) (λ v. (ignored : List ℕ → Bool)
-            (contents : List (List ℕ)) (base : Files) → IsDurable (StateDependsOn ignored) v
-            → IsStaged self.old contents None base v → OnOk result (HoldsNow (T.history tree.new)
-            (EachCrashLeaves ignored (files_after_actions self.old.intent (files_of v))))) }
+        // At each moment a crash leaves an old state or the one with all actions done; once it has
+        // returned Ok, it leaves the latter.
+        ensures publishing { PublishesIntent self.old (T.history tree.old) (T.history tree.new) result }
         ensures acting { IfObservable (T.history tree.old) (λ v. (contents : List (List ℕ))
             (base : Files) → IsStaged self.old contents None base v
             → OnOk result (HoldsNow (T.history tree.new)
             (IsCarryingOutActions self.new (files_after_actions self.old.intent (files_of v))))) }
-
-        // As soon as the intent is read, every other change of names is durable.
-        ensures last { IfObservable (T.history tree.old) (λ v. v.names intent_name ≡ None
-            → Since (λ w. IsSome (w.names intent_name)
-            → NamesAreDurableExcept (intent_name ∷ stage_name 0 ∷ []) w)
-            (T.history tree.old) (T.history tree.new)) }
-
-        // At each moment at which it is read, recovery of the files as read yields those of the
-        // actions done.
-        ensures reads { IfObservable (T.history tree.old) (λ v. (contents : List (List ℕ))
-            (base : Files) → IsStaged self.old contents None base v
-            → Since (λ w. IsSome (w.names intent_name)
-            → RecoversTo (files_after_actions self.old.intent (files_of v)) w)
-            (T.history tree.old) (T.history tree.new)) }
-
-        // At each moment, whatever it returns, the files as read are unchanged under every name
-        // except the intent's and that under which it is written, and so is what a crash leaves of
-        // the names. Once it has returned Ok, the files are unchanged under this name, too.
-        ensures others { IfObservable (T.history tree.old) (λ v.
-            Since (KeepsFilesExcept (λ q. (q ≡ intent_name) ⊎ (q ≡ stage_name 0)) v)
-            (T.history tree.old) (T.history tree.new)) }
-        ensures maps { IfObservable (T.history tree.old) (λ v.
-            Since (KeepsCrashMapsExcept (intent_name ∷ stage_name 0 ∷ []) v)
-            (T.history tree.old) (T.history tree.new)) }
-        ensures only_intent { IfObservable (T.history tree.old) (λ v. OnOk result
-            (HoldsNow (T.history tree.new) (KeepsFilesExcept (λ q. q ≡ intent_name) v))) }
         ensures view { OnOk result (self.new ≡ record self.old { published = true; acted = 0 }) }
         ensures err { OnErr result (self.new ≡ self.old) }
-
-        // No count of faults falls; a fault of the tree is returned only if that count rose, and
-        // Ok only if it did not.
-        ensures goes_on { CountsOnlyRise (T.counts tree.old) (T.counts tree.new) }
-        ensures cause { OnErr result (HasCause (T.counts tree.old) (T.counts tree.new)) }
-        ensures kept { OnOk result (IsNoFault (T.counts tree.old) (T.counts tree.new)) }
+        ensures counts { IsResultExplainedByCounts (T.counts tree.old) (T.counts tree.new) result }
 
         // If the paths of the stage are free, no call is a misuse.
         ensures proper { IfObservable (T.history tree.old) (λ v. (contents : List (List ℕ))
@@ -411,25 +344,12 @@ impl Stage {
     pub fn apply_one<T: Tree>(&mut self, tree: &mut T) -> Result<bool, Disk>
         requires { self.old.published ≡ true }
 
-        // From a durable tree on, each moment is durable, and the state is unchanged. Once it has
-        // returned Ok, the stage's count of actions done is true of the tree.
-        ensures moments { IfObservable (T.history tree.old) (λ v. (ignored : List ℕ → Bool)
-            (files : Files) → IsDurable (StateDependsOn ignored) v → IsCarryingOutActions self.old files v
-            → Since (StateIsUnchanged ignored v) (T.history tree.old) (T.history tree.new)) }
+        // The state is unchanged at each moment. Once it has returned Ok, the stage's count of
+        // actions done is true of the tree.
+        ensures actions { CarriesOutActions self.old (T.history tree.old) (T.history tree.new) }
         ensures acting { IfObservable (T.history tree.old) (λ v. (files : Files)
             → IsCarryingOutActions self.old files v
             → OnOk result (HoldsNow (T.history tree.new) (IsCarryingOutActions self.new files))) }
-
-        // Whether the tree is durable or not, recovery of the files as read yields the same at each
-        // moment.
-        ensures reads { IfObservable (T.history tree.old) (λ v. (files : Files)
-            → IsCarryingOutActions self.old files v
-            → Since (RecoversTo files) (T.history tree.old) (T.history tree.new)) }
-
-        // At each moment a name outside the staging area has its old bytes or its new ones.
-        ensures bytes { IfObservable (T.history tree.old) (λ v. (files : Files)
-            → IsCarryingOutActions self.old files v
-            → KeepsOldOrNewBytes files v (T.history tree.old) (T.history tree.new)) }
 
         // At each moment the intent is unchanged, and each staged file is unchanged or gone.
         ensures waiting { IfObservable (T.history tree.old) (λ v.
@@ -448,12 +368,7 @@ impl Stage {
         ensures none_left { action_count self.old.intent ≤ self.old.acted
             → OnOk result (self.new ≡ self.old) × (tree.new ≡ tree.old) }
         ensures err { OnErr result (self.new ≡ self.old) }
-
-        // No count of faults falls; a fault of the tree is returned only if that count rose, and
-        // Ok only if it did not.
-        ensures goes_on { CountsOnlyRise (T.counts tree.old) (T.counts tree.new) }
-        ensures cause { OnErr result (HasCause (T.counts tree.old) (T.counts tree.new)) }
-        ensures kept { OnOk result (IsNoFault (T.counts tree.old) (T.counts tree.new)) }
+        ensures counts { IsResultExplainedByCounts (T.counts tree.old) (T.counts tree.new) result }
 
         // If the intent and the staged files have free paths beside the files of the actions done,
         // no call is a misuse.
@@ -508,12 +423,7 @@ impl Stage {
             Since (KeepsFilesExcept (λ q. q ≡ intent_name) v)
             (T.history tree.old) (T.history tree.new)) }
         ensures view { self.new ≡ self.old }
-
-        // No count of faults falls; a fault of the tree is returned only if that count rose, and
-        // Ok only if it did not.
-        ensures goes_on { CountsOnlyRise (T.counts tree.old) (T.counts tree.new) }
-        ensures cause { OnErr result (HasCause (T.counts tree.old) (T.counts tree.new)) }
-        ensures kept { OnOk result (IsNoFault (T.counts tree.old) (T.counts tree.new)) }
+        ensures counts { IsResultExplainedByCounts (T.counts tree.old) (T.counts tree.new) result }
 
         // No call is a misuse.
         ensures proper { IfObservable (T.history tree.old)
@@ -530,28 +440,15 @@ impl Stage {
 pub fn apply_all<T: Tree>(stage: &mut Stage, tree: &mut T) -> Result<(), Disk>
     requires published { stage.old.published ≡ true }
     requires within { stage.old.acted ≤ action_count stage.old.intent }
-    ensures moments { IfObservable (T.history tree.old) (λ v. (ignored : List ℕ
-        → Bool) (files : Files) → IsDurable (StateDependsOn ignored) v → IsCarryingOutActions stage.old files v
-        → Since (StateIsUnchanged ignored v) (T.history tree.old) (T.history tree.new)) }
+    ensures actions { CarriesOutActions stage.old (T.history tree.old) (T.history tree.new) }
     ensures acting { IfObservable (T.history tree.old) (λ v. (files : Files)
         → IsCarryingOutActions stage.old files v
         → OnOk result (HoldsNow (T.history tree.new) (IsCarryingOutActions stage.new files))) }
-    ensures reads { IfObservable (T.history tree.old) (λ v. (files : Files)
-        → IsCarryingOutActions stage.old files v
-        → Since (RecoversTo files) (T.history tree.old) (T.history tree.new)) }
-    ensures bytes { IfObservable (T.history tree.old) (λ v. (files : Files)
-        → IsCarryingOutActions stage.old files v
-        → KeepsOldOrNewBytes files v (T.history tree.old) (T.history tree.new)) }
     ensures waiting { IfObservable (T.history tree.old) (λ v.
         Since (KeepsIntent v) (T.history tree.old) (T.history tree.new)) }
     ensures all { OnOk result (stage.new.acted ≡ action_count stage.new.intent) }
     ensures published { OnOk result (stage.new.published ≡ true) }
-
-    // No count of faults falls; a fault of the tree is returned only if that count rose, and Ok
-    // only if it did not.
-    ensures goes_on { CountsOnlyRise (T.counts tree.old) (T.counts tree.new) }
-    ensures cause { OnErr result (HasCause (T.counts tree.old) (T.counts tree.new)) }
-    ensures kept { OnOk result (IsNoFault (T.counts tree.old) (T.counts tree.new)) }
+    ensures counts { IsResultExplainedByCounts (T.counts tree.old) (T.counts tree.new) result }
 
     // If the intent and the staged files have free paths beside the files of the actions done, no
     // call is a misuse.

@@ -13,14 +13,14 @@ use Rattle.adb_sound.specs.adb_fields.Repeated.{entries_at, list_of}
 use Rattle.adb_sound.specs.adb_schema.Rules.{is_changeable_name}
 use Rattle.adb_sound.specs.adb_schema.Reserved.{is_at_or_below, is_intent_or_stage_name}
 use Rattle.adb_sound.specs.adb_schema.SoundValues.{IsChangeableName}
-use Rattle.adb_sound.specs.adb_schema.SoundContainers.{IsSound, IsSoundValue}
+use Rattle.adb_sound.specs.adb_schema.SoundContainers.{IsSoundContainer, IsSoundValue}
 use Rattle.adb_sound.specs.adb_schema.Soundness.{first_fault, payload_in, root_value}
 use Rattle.adb_view.specs.Values.{entries_in, entry_in, text_in}
 use Rattle.adb_view.specs.declared.tables.Which.{Which}
 use Rattle.adb_view.specs.declared.tables.Which.TheVariants as Tables
 use Rattle.adb_view.specs.Plain.{Plain, Plains, none, more}
 use Rattle.adb_view.specs.Shaped.{Each}
-use Rattle.journal_intent.specs.FreeNames.{AllAreNames, AreFreeNames, HaveNoRepeats, HasFreeNames, IsFreeName, IsNoneOf, IsOneOf}
+use Rattle.journal_intent.specs.FreeNames.{AllAreNames, AreFreeNames, HaveNoRepeats, HasFreeDistinctNames, IsFreeName, IsNoneOf, IsOneOf}
 use Rattle.journal_intent.specs.Intent.{AreChangeNames, Intent, intent_of_value, intent_name, intent_unless_fault, is_staged, read_intent, stage_folder, stage_name}
 use Rattle.journal_intent.specs.IntentValue.{intent_of_lists}
 use Rattle.journal_intent.proofs.ReadIntent.{spelled}
@@ -98,7 +98,7 @@ frees_right : (xs ys : List (List ℕ)) → AreFreeNames (xs ++ ys) → AreFreeN
 frees_right [] ys free = free
 frees_right (x ∷ xs) ys free = frees_right xs ys free.1
 
-pub change_names_free : (removals writes : List (List ℕ)) → AreChangeNames (removals ++ writes) → HasFreeNames (intent_of_lists removals writes)
+pub change_names_free : (removals writes : List (List ℕ)) → AreChangeNames (removals ++ writes) → HasFreeDistinctNames (intent_of_lists removals writes)
 change_names_free removals writes names =
     let free = frees_all (removals ++ writes) names.each in
     let once = distinct (removals ++ writes) names.once in
@@ -111,7 +111,7 @@ change_names_free removals writes names =
 
 -- ---- those of a sound container
 
-free_value : (v : Plain) → IsSoundValue Tables.Intent v → HasFreeNames (intent_of_value v)
+free_value : (v : Plain) → IsSoundValue Tables.Intent v → HasFreeDistinctNames (intent_of_value v)
 free_value v sound =
     let removals : List (List ℕ) = map text_in (entries_at 0 v) in
     let writes : List (List ℕ) = map text_in (entries_at 1 v) in
@@ -123,13 +123,13 @@ free_value v sound =
     }
 
 abbrev pub SoundValues : Type 0
-SoundValues = (which : Which) (file : List ℕ) → IsSound which file → IsSoundValue which (root_value which (payload_in file))
+SoundValues = (which : Which) (file : List ℕ) → IsSoundContainer which file → IsSoundValue which (root_value which (payload_in file))
 
-free_by : (fault : Option Cause) (v : Plain) (intent : Intent) → (fault ≡ None → IsSoundValue Tables.Intent v) → intent_unless_fault fault v ≡ Some intent → HasFreeNames intent
-free_by None v intent sound is = let same : intent_of_value v ≡ intent = cc in subst HasFreeNames same (free_value v (sound refl))
+free_by : (fault : Option Cause) (v : Plain) (intent : Intent) → (fault ≡ None → IsSoundValue Tables.Intent v) → intent_unless_fault fault v ≡ Some intent → HasFreeDistinctNames intent
+free_by None v intent sound is = let same : intent_of_value v ≡ intent = cc in subst HasFreeDistinctNames same (free_value v (sound refl))
 free_by (Some c) v intent sound is = absurd (cc)
 
-pub free_intent : SoundValues → (file : List ℕ) (intent : Intent) → read_intent file ≡ Some intent → HasFreeNames intent
+pub free_intent : SoundValues → (file : List ℕ) (intent : Intent) → read_intent file ≡ Some intent → HasFreeDistinctNames intent
 unfolding read_intent
 free_intent values file intent is = free_by (first_fault Tables.Intent file) (root_value Tables.Intent (payload_in file)) intent (values Tables.Intent file) is
 

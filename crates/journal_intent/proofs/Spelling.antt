@@ -6,7 +6,7 @@ use Rattle.std.specs.Str.{bytes_eq}
 use Rattle.std.proofs.lemmas.List.Elements.{All-head, All-tail}
 use Rattle.base_core.proofs.AtName.{same_name}
 use Rattle.adb_view.specs.Plain.{Plain, Plains, none, more, text, blob_or_null, IsNormal, AreNormal, count_of, text_plains}
-use Rattle.adb_view.specs.Shaped.{Each, IsBlob, HasShape}
+use Rattle.adb_view.specs.Shaped.{Each, IsBlobOrNull, HasShape}
 use Rattle.adb_sound.specs.adb_fields.FirstPair.{IsIn}
 use Rattle.adb_sound.specs.adb_fields.Once.{AreDistinctNames, HasNoRepeatedName}
 use Rattle.adb_sound.specs.adb_fields.Repeated.{list_of}
@@ -57,7 +57,7 @@ value_normal (r ∷ rs) (w ∷ ws) = (some_more _ _, refl, ((some_more _ _, norm
 
 -- ---- it has the shape
 
-blob_shape : (bytes : List ℕ) → IsBlob (blob_or_null bytes)
+blob_shape : (bytes : List ℕ) → IsBlobOrNull (blob_or_null bytes)
 blob_shape [] = tt
 blob_shape (b ∷ bytes) = tt
 

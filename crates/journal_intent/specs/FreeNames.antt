@@ -39,7 +39,7 @@ HaveNoRepeats [] = Unit {0}
 HaveNoRepeats (name ∷ names) = IsNoneOf name names × HaveNoRepeats names
 
 -- the names of an intent are free, no write is repeated, and no name is both written and removed
-pub record HasFreeNames (intent : Intent) : Type 0 where
+pub record HasFreeDistinctNames (intent : Intent) : Type 0 where
   pub removals : AreFreeNames intent.removals
   pub writes : AreFreeNames intent.writes
   pub once : HaveNoRepeats intent.writes

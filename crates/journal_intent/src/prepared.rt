@@ -5,7 +5,7 @@ ghost use Rattle.adb_sound.specs.adb_schema.ReadFaults.{IsReadFault};
 ghost use Rattle.adb_sound.specs.adb_schema.Soundness.{first_fault};
 ghost use Rattle.adb_view.specs.declared.tables.Which.TheVariants.{Intent as IntentTable};
 ghost use Rattle.adb_sound.specs.adb_write.Canonical.{overflow_of};
-ghost use Rattle.journal_intent.specs.FreeNames.{HasFreeNames, stage_names_from};
+ghost use Rattle.journal_intent.specs.FreeNames.{HasFreeDistinctNames, stage_names_from};
 ghost use Rattle.journal_intent.specs.Intent.{AreChangeNames, intent_name, read_intent, stage_name};
 ghost use Rattle.journal_intent.specs.IntentValue.{intent_of_lists, value_of_intent};
 
@@ -168,7 +168,7 @@ impl PreparedIntent {
 
     /// The names of the intent are free, no write is repeated, and there are fewer than 2^63 names.
     pub fn names_are_free(&self)
-        ensures free { HasFreeNames self.now }
+        ensures free { HasFreeDistinctNames self.now }
         ensures few { length self.now.removals + length self.now.writes < 2 ^ 63 }
     {
         // A law that the proof needs; it computes nothing.

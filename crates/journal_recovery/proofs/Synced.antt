@@ -5,7 +5,7 @@ use Rattle.base_core.specs.Crash.{Since}
 use Rattle.base_core.specs.Faults.{Counts}
 use Rattle.base_core.specs.Files.{NameMap}
 use Rattle.base_core.proofs.Undone.{read_may_be_left}
-use Rattle.base_core.specs.Tree.{TreeState, IsAlwaysAllowed, after_sync_names, files_of, after_failed_call}
+use Rattle.base_core.specs.Tree.{TreeState, IsAlwaysAllowed, after_sync_names, files_of, unchanged_after_failed_call}
 use Rattle.base_core.specs.Undone.{IsDurable}
 use Rattle.journal_core.specs.Kept.{HasOldOrNewBytes, IsRestoredByNoCrash, KeepsFilesExcept, RecoversTo, ShownNamesAreDurable}
 use Rattle.journal_core.specs.Quiet.{StateIsUnchanged}
@@ -20,7 +20,7 @@ use Rattle.journal_core.proofs.OneCall.{one_called, one_proper}
 use Rattle.journal_core.proofs.Waiting.{still_self}
 
 -- the call alone, whatever it answers
-module _ {T E : Type 0} (old new : History) (r : Result T E) (moves : ChangesHistory IsAlwaysAllowed after_sync_names after_failed_call old new r) where
+module _ {T E : Type 0} (old new : History) (r : Result T E) (moves : ChangesHistory IsAlwaysAllowed after_sync_names unchanged_after_failed_call old new r) where
   sync_keeps : (R : TreeState → TreeState → Type 0) → ((v : TreeState) → R v (after_sync_names v)) → ((v : TreeState) → R v v) → IfObservable old (λ v. Since (R v) old new)
   sync_keeps R done same = on_observable old _ (λ v rest is. one_called old new v rest is (R v) r moves (done v) (λ may. same v))
 
@@ -48,7 +48,7 @@ pub sync_proper : {T E : Type 0} (old : History) (before now : Counts) (r : Resu
 sync_proper old before now r counted = on_observable old _ (λ v rest is. one_proper old v rest is before now r counted tt)
 
 -- the call, and what follows it
-module _ {T E : Type 0} (old mid new : History) (x : T) (moves : ChangesHistory {E = E} IsAlwaysAllowed after_sync_names after_failed_call old mid (Ok x)) where
+module _ {T E : Type 0} (old mid new : History) (x : T) (moves : ChangesHistory {E = E} IsAlwaysAllowed after_sync_names unchanged_after_failed_call old mid (Ok x)) where
   mid_is : (v : TreeState) (rest : History) → old ≡ v ∷ rest → mid ≡ after_sync_names v ∷ old
   mid_is v rest is = observable_at old v rest is (λ u. mid ≡ after_sync_names u ∷ old) moves.ok
 
@@ -69,7 +69,7 @@ module _ (file : List ℕ) where
   abbrev pub IsFound : TreeState → Type 0
   IsFound v = files_of v intent_name ≡ Some file
 
-  module _ {T E : Type 0} (old mid new : History) (x : T) (moves : ChangesHistory {E = E} IsAlwaysAllowed after_sync_names after_failed_call old mid (Ok x)) where
+  module _ {T E : Type 0} (old mid new : History) (x : T) (moves : ChangesHistory {E = E} IsAlwaysAllowed after_sync_names unchanged_after_failed_call old mid (Ok x)) where
     pub found_moments : IfObservable mid (λ u. (ignored : List ℕ → Bool) → IsDurable (StateDependsOn ignored) u → IsFound u → u.older ≡ [] → Since (StateIsUnchanged ignored u) mid new)
         → IfObservable old (λ v. (ignored : List ℕ → Bool) → IsDurable (StateDependsOn ignored) v → IsFound v → Since (StateIsUnchanged ignored v) old new)
     found_moments told = on_observable old _ (λ v rest is ignored is_durable there.
@@ -112,7 +112,7 @@ module _ (file : List ℕ) where
 
 -- ---- names are removed
 
-module _ {T E : Type 0} (names : List (List ℕ)) (old mid new : History) (x : T) (moves : ChangesHistory {E = E} IsAlwaysAllowed after_sync_names after_failed_call old mid (Ok x)) where
+module _ {T E : Type 0} (names : List (List ℕ)) (old mid new : History) (x : T) (moves : ChangesHistory {E = E} IsAlwaysAllowed after_sync_names unchanged_after_failed_call old mid (Ok x)) where
   pub clear_moments : IfObservable mid (λ u. (ignored : List ℕ → Bool) → IsDurable (StateDependsOn ignored) u → IsRestoredByNoCrash intent_name u → AreStagedNames names → Since (StateIsUnchanged ignored u) mid new)
       → IfObservable old (λ v. (ignored : List ℕ → Bool) → IsDurable (StateDependsOn ignored) v → v.names intent_name ≡ None → AreStagedNames names → Since (StateIsUnchanged ignored v) old new)
   clear_moments told = on_observable old _ (λ v rest is ignored is_durable none staged.

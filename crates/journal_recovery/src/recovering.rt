@@ -1,7 +1,7 @@
 //! Finishes an interrupted change, and removes staged files.
 //! The rules are in `docs/crash-safety.md`, "Recovery"; which actions an intent has, in "A change
 //! of several files".
-ghost use Rattle.std.specs.Prelude.{◌≡◌, [], ℕ, Bool, true, List, Some, None, IsSome, OnOk, OnErr, IsErrOf};
+ghost use Rattle.std.specs.Prelude.{◌≡◌, ℕ, Bool, true, List, Some, None, IsSome, OnOk, IsErrOf};
 ghost use Rattle.journal_core.specs.adb_schema.Soundness.{first_fault};
 ghost use Rattle.adb_view.specs.declared.tables.Which.TheVariants.{Intent as IntentTable};
 ghost use Rattle.base_core.specs.Calls.{HoldsNow, IfObservable};
@@ -10,11 +10,13 @@ ghost use Rattle.base_core.specs.Undone.{IsDurable};
 ghost use Rattle.base_core.specs.Faults.{CountsOnlyRise, HasCause, IsNoFault};
 ghost use Rattle.base_core.specs.Tree.{files_of};
 ghost use Rattle.base_core.specs.declared.cause.Cause.{Cause};
+ghost use Rattle.journal_core.specs.CallCounts.{IsResultExplainedByCounts};
 ghost use Rattle.journal_core.specs.Kept.{HasOldOrNewBytes, IsRestoredByNoCrash, JournalOnlyShrinks, KeepsFilesExcept, RecoversTo, ShownNamesAreDurable};
 ghost use Rattle.journal_core.specs.Quiet.{StateIsUnchanged};
-ghost use Rattle.journal_core.specs.Recovering.{AreStagedNames, HasEmptiedStage, IsReplayed, HasRemovedNames};
+ghost use Rattle.journal_core.specs.Recovering.{AreStagedNames, HasEmptiedStage, IsReplayed};
 ghost use Rattle.journal_core.specs.Recovery.{EachCrashLeaves, StateDependsOn, intent_name, intent_of, is_staged, recovered_files};
-ghost use Rattle.journal_core.specs.Staged.{AreReplayPathsFree, IsEmptyStage, IsIntentFault, unstaged_files};
+ghost use Rattle.journal_core.specs.Staged.{AreReplayPathsFree, IsEmptyStage, unstaged_files};
+ghost use Rattle.journal_recovery.specs.RecoveryContracts.{IsRecoveryExplainedByCounts, RefusesOnlyBadIntent, RemovesIntentLast, RemovesStagedNames};
 
 use base_core::{Disk, Names, Tree, TreeFault, read_all};
 use journal_core::calls::{remove, sync_all_names};
@@ -56,15 +58,8 @@ pub fn recover<T: Tree>(alloc: Global, tree: &mut T) -> Result<(), RecoverFault>
         → IsDurable (StateDependsOn ignored) v → IsSome (intent_of (files_of v))
         → OnOk result (HoldsNow (T.history tree.new) (EachCrashLeaves ignored (files_of v)))) }
 
-    // Whatever it returns, staged files are only removed.
-    ensures waiting { IfObservable (T.history tree.old) (λ v.
-        Since (JournalOnlyShrinks v) (T.history tree.old) (T.history tree.new)) }
-
-    // If it found an intent: as soon as none is read, a crash undoes no change of a name outside
-    // the staging area.
-    ensures last { IfObservable (T.history tree.old) (λ v. IsSome (v.names intent_name)
-        → Since (λ w. w.names intent_name ≡ None → ShownNamesAreDurable w)
-        (T.history tree.old) (T.history tree.new)) }
+    // Whatever it returns, staged files are only removed, and the intent is removed last.
+    ensures journal { RemovesIntentLast (T.history tree.old) (T.history tree.new) }
 
     // Once it has returned Ok, no crash restores an intent that it found.
     ensures gone { IfObservable (T.history tree.old) (λ v. IsSome (v.names intent_name)
@@ -76,26 +71,11 @@ pub fn recover<T: Tree>(alloc: Global, tree: &mut T) -> Result<(), RecoverFault>
 
     // The intent is refused exactly if it is no intent container. Then nothing changes, whatever is
     // returned.
-    ensures bad { (cause : Cause) → IsErrOf result (RecoverFault.IntentBad cause)
-        → (T.history tree.new ≡ T.history tree.old)
-        × IfObservable (T.history tree.old) (λ v. IsIntentFault (files_of v) cause) }
-    ensures good { IfObservable (T.history tree.old) (λ v. OnOk result ((cause : Cause)
-        → IsIntentFault (files_of v) cause → ⊥)) }
-    ensures bad_idle { IfObservable (T.history tree.old) (λ v. (cause : Cause)
-        → IsIntentFault (files_of v) cause → T.history tree.new ≡ T.history tree.old) }
-    ensures found { (cause : Cause) → IsErrOf result (RecoverFault.IntentBad cause)
-        → (file : List ℕ) × (first_fault IntentTable file ≡ Some cause) }
+    ensures refusal { RefusesOnlyBadIntent (T.history tree.old) (T.history tree.new) result }
 
     // No count of faults falls; a fault of the tree is returned only if that count rose, and Ok
     // only if it did not.
-    ensures goes_on { CountsOnlyRise (T.counts tree.old) (T.counts tree.new) }
-    ensures disk { IsErrOf result RecoverFault.Disk
-        → HasCause (T.counts tree.old) (T.counts tree.new) }
-    ensures kept { OnOk result (IsNoFault (T.counts tree.old) (T.counts tree.new)) }
-    ensures memory { IsErrOf result RecoverFault.Memory
-        → IsNoFault (T.counts tree.old) (T.counts tree.new) }
-    ensures refused { (cause : Cause) → IsErrOf result (RecoverFault.IntentBad cause)
-        → IsNoFault (T.counts tree.old) (T.counts tree.new) }
+    ensures counts { IsRecoveryExplainedByCounts (T.counts tree.old) (T.counts tree.new) result }
 
     // If an intent that is found has free paths for its actions, no call is a misuse.
     ensures proper { IfObservable (T.history tree.old) (λ v. AreReplayPathsFree (files_of v)
@@ -124,35 +104,13 @@ fn replay<T: Tree>(alloc: Global, tree: &mut T) -> Result<(), RecoverFault>
         → IsDurable (StateDependsOn ignored) v → IsSome (intent_of (files_of v))
         → OnOk result (HoldsNow (T.history tree.new)
         (EachCrashLeaves ignored (recovered_files (files_of v))))) }
-    ensures waiting { IfObservable (T.history tree.old) (λ v.
-        Since (JournalOnlyShrinks v) (T.history tree.old) (T.history tree.new)) }
-    ensures last { IfObservable (T.history tree.old) (λ v. IsSome (v.names intent_name)
-        → Since (λ w. w.names intent_name ≡ None → ShownNamesAreDurable w)
-        (T.history tree.old) (T.history tree.new)) }
+    ensures journal { RemovesIntentLast (T.history tree.old) (T.history tree.new) }
     ensures gone { IfObservable (T.history tree.old) (λ v. IsSome (v.names intent_name)
         → OnOk result (IfObservable (T.history tree.new) (IsRestoredByNoCrash intent_name))) }
     ensures idle { IfObservable (T.history tree.old) (λ v. v.names intent_name ≡ None
         → T.history tree.new ≡ T.history tree.old) }
-    ensures bad { (cause : Cause) → IsErrOf result (RecoverFault.IntentBad cause)
-        → (T.history tree.new ≡ T.history tree.old)
-        × IfObservable (T.history tree.old) (λ v. IsIntentFault (files_of v) cause) }
-    ensures good { IfObservable (T.history tree.old) (λ v. OnOk result ((cause : Cause)
-        → IsIntentFault (files_of v) cause → ⊥)) }
-    ensures bad_idle { IfObservable (T.history tree.old) (λ v. (cause : Cause)
-        → IsIntentFault (files_of v) cause → T.history tree.new ≡ T.history tree.old) }
-    ensures found { (cause : Cause) → IsErrOf result (RecoverFault.IntentBad cause)
-        → (file : List ℕ) × (first_fault IntentTable file ≡ Some cause) }
-
-    // No count of faults falls; a fault of the tree is returned only if that count rose, and Ok
-    // only if it did not.
-    ensures goes_on { CountsOnlyRise (T.counts tree.old) (T.counts tree.new) }
-    ensures disk { IsErrOf result RecoverFault.Disk
-        → HasCause (T.counts tree.old) (T.counts tree.new) }
-    ensures kept { OnOk result (IsNoFault (T.counts tree.old) (T.counts tree.new)) }
-    ensures memory { IsErrOf result RecoverFault.Memory
-        → IsNoFault (T.counts tree.old) (T.counts tree.new) }
-    ensures refused { (cause : Cause) → IsErrOf result (RecoverFault.IntentBad cause)
-        → IsNoFault (T.counts tree.old) (T.counts tree.new) }
+    ensures refusal { RefusesOnlyBadIntent (T.history tree.old) (T.history tree.new) result }
+    ensures counts { IsRecoveryExplainedByCounts (T.counts tree.old) (T.counts tree.new) result }
 
     // If an intent that is found has free paths for its actions, no call is a misuse.
     ensures proper { IfObservable (T.history tree.old) (λ v. AreReplayPathsFree (files_of v)
@@ -186,11 +144,7 @@ fn replay_file<T: Tree>(alloc: Global, tree: &mut T, file: Vec<u8>) -> Result<()
         → IsDurable (StateDependsOn ignored) v → files_of v intent_name ≡ Some file.items
         → OnOk result (HoldsNow (T.history tree.new)
         (EachCrashLeaves ignored (recovered_files (files_of v))))) }
-    ensures waiting { IfObservable (T.history tree.old) (λ v.
-        Since (JournalOnlyShrinks v) (T.history tree.old) (T.history tree.new)) }
-    ensures last { IfObservable (T.history tree.old) (λ v. IsSome (v.names intent_name)
-        → Since (λ w. w.names intent_name ≡ None → ShownNamesAreDurable w)
-        (T.history tree.old) (T.history tree.new)) }
+    ensures journal { RemovesIntentLast (T.history tree.old) (T.history tree.new) }
     ensures gone { OnOk result (IfObservable (T.history tree.new) (IsRestoredByNoCrash intent_name)) }
     ensures bad { (cause : Cause) → IsErrOf result (RecoverFault.IntentBad cause)
         → (T.history tree.new ≡ T.history tree.old)
@@ -198,17 +152,7 @@ fn replay_file<T: Tree>(alloc: Global, tree: &mut T, file: Vec<u8>) -> Result<()
     ensures good { OnOk result (first_fault IntentTable file.items ≡ None) }
     ensures bad_idle { (cause : Cause) → first_fault IntentTable file.items ≡ Some cause
         → T.history tree.new ≡ T.history tree.old }
-
-    // No count of faults falls; a fault of the tree is returned only if that count rose, and Ok
-    // only if it did not.
-    ensures goes_on { CountsOnlyRise (T.counts tree.old) (T.counts tree.new) }
-    ensures disk { IsErrOf result RecoverFault.Disk
-        → HasCause (T.counts tree.old) (T.counts tree.new) }
-    ensures kept { OnOk result (IsNoFault (T.counts tree.old) (T.counts tree.new)) }
-    ensures memory { IsErrOf result RecoverFault.Memory
-        → IsNoFault (T.counts tree.old) (T.counts tree.new) }
-    ensures refused { (cause : Cause) → IsErrOf result (RecoverFault.IntentBad cause)
-        → IsNoFault (T.counts tree.old) (T.counts tree.new) }
+    ensures counts { IsRecoveryExplainedByCounts (T.counts tree.old) (T.counts tree.new) result }
 
     // If an intent that is found has free paths for its actions, no call is a misuse.
     ensures proper { IfObservable (T.history tree.old) (λ v. files_of v intent_name
@@ -269,25 +213,9 @@ fn clear_all<T: Tree>(tree: &mut T, names: &Names) -> Result<(), Disk>
     ensures moments { IfObservable (T.history tree.old) (λ v. (ignored : List ℕ → Bool)
         → IsDurable (StateDependsOn ignored) v → v.names intent_name ≡ None → AreStagedNames names.now
         → Since (StateIsUnchanged ignored v) (T.history tree.old) (T.history tree.new)) }
-    ensures shown { IfObservable (T.history tree.old) (λ v. AreStagedNames names.now
-        → Since (KeepsFilesExcept (λ q. is_staged q ≡ true) v)
-        (T.history tree.old) (T.history tree.new)) }
-    ensures waiting { IfObservable (T.history tree.old) (λ v.
-        Since (JournalOnlyShrinks v) (T.history tree.old) (T.history tree.new)) }
-    ensures last { IfObservable (T.history tree.old) (λ v. AreStagedNames names.now
-        → ShownNamesAreDurable v
-        → Since ShownNamesAreDurable (T.history tree.old) (T.history tree.new)) }
-    ensures cleared { IfObservable (T.history tree.old) (λ v.
-        OnOk result (HoldsNow (T.history tree.new) (HasRemovedNames names.now v))) }
-    ensures gone { IfObservable (T.history tree.old) (λ v. OnOk result (IsRestoredByNoCrash intent_name v
-        → HoldsNow (T.history tree.new) (IsRestoredByNoCrash intent_name))) }
-    ensures none { names.now ≡ [] → T.history tree.new ≡ T.history tree.old }
-
-    // No count of faults falls; a fault of the tree is returned only if that count rose, and Ok
-    // only if it did not.
-    ensures goes_on { CountsOnlyRise (T.counts tree.old) (T.counts tree.new) }
-    ensures cause { OnErr result (HasCause (T.counts tree.old) (T.counts tree.new)) }
-    ensures kept { OnOk result (IsNoFault (T.counts tree.old) (T.counts tree.new)) }
+    ensures removal { RemovesStagedNames names.now
+        (T.history tree.old) (T.history tree.new) result }
+    ensures counts { IsResultExplainedByCounts (T.counts tree.old) (T.counts tree.new) result }
 
     // No call is a misuse.
     ensures proper { IfObservable (T.history tree.old) (λ v. (T.counts tree.new).misuses
@@ -306,25 +234,9 @@ fn remove_all<T: Tree>(tree: &mut T, names: &Names) -> Result<(), Disk>
     ensures moments { IfObservable (T.history tree.old) (λ v. (ignored : List ℕ → Bool)
         → IsDurable (StateDependsOn ignored) v → IsRestoredByNoCrash intent_name v → AreStagedNames names.now
         → Since (StateIsUnchanged ignored v) (T.history tree.old) (T.history tree.new)) }
-    ensures shown { IfObservable (T.history tree.old) (λ v. AreStagedNames names.now
-        → Since (KeepsFilesExcept (λ q. is_staged q ≡ true) v)
-        (T.history tree.old) (T.history tree.new)) }
-    ensures waiting { IfObservable (T.history tree.old) (λ v.
-        Since (JournalOnlyShrinks v) (T.history tree.old) (T.history tree.new)) }
-    ensures last { IfObservable (T.history tree.old) (λ v. AreStagedNames names.now
-        → ShownNamesAreDurable v
-        → Since ShownNamesAreDurable (T.history tree.old) (T.history tree.new)) }
-    ensures cleared { IfObservable (T.history tree.old) (λ v.
-        OnOk result (HoldsNow (T.history tree.new) (HasRemovedNames names.now v))) }
-    ensures gone { IfObservable (T.history tree.old) (λ v. OnOk result (IsRestoredByNoCrash intent_name v
-        → HoldsNow (T.history tree.new) (IsRestoredByNoCrash intent_name))) }
-    ensures none { names.now ≡ [] → T.history tree.new ≡ T.history tree.old }
-
-    // No count of faults falls; a fault of the tree is returned only if that count rose, and Ok
-    // only if it did not.
-    ensures goes_on { CountsOnlyRise (T.counts tree.old) (T.counts tree.new) }
-    ensures cause { OnErr result (HasCause (T.counts tree.old) (T.counts tree.new)) }
-    ensures kept { OnOk result (IsNoFault (T.counts tree.old) (T.counts tree.new)) }
+    ensures removal { RemovesStagedNames names.now
+        (T.history tree.old) (T.history tree.new) result }
+    ensures counts { IsResultExplainedByCounts (T.counts tree.old) (T.counts tree.new) result }
 
     // No call is a misuse.
     ensures proper { IfObservable (T.history tree.old) (λ v. (T.counts tree.new).misuses

@@ -10,4 +10,5 @@ pub mod Spoiled
 -- what only inner contracts and proofs use
 pub mod Reading
 pub mod Sources
+pub mod SourceStaging
 pub mod Carried

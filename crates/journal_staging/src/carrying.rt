@@ -1,6 +1,6 @@
 //! A change is carried through: its files are staged, and one step commits all of them. The rules
 //! are in `docs/crash-safety.md`, "A change of several files".
-ghost use Rattle.std.specs.Prelude.{◌≡◌, ◌<◌, ◌+◌, ◌++◌, ◌∷◌, ◌⊎◌, [], ℕ, false, List, None, length, take, IfErr, IsErrOf, OnErr, OnOk};
+ghost use Rattle.std.specs.Prelude.{◌≡◌, ◌<◌, ◌⊎◌, [], ℕ, false, List, None, length, IfErr, IsErrOf, OnErr, OnOk};
 ghost use Rattle.base_core.specs.Calls.{IfObservable};
 ghost use Rattle.base_core.specs.Faults.{CountsOnlyRise, HasCause, IsNoFault};
 ghost use Rattle.base_core.specs.Tree.{TreeState, files_of};
@@ -9,6 +9,7 @@ ghost use Rattle.journal_commit.specs.journal_core.Recovery.{files_after_actions
 ghost use Rattle.journal_commit.specs.journal_core.Staged.{AreJournalPathsFree, IsEmptyStage, new_stage, files_with_staged};
 ghost use Rattle.journal_commit.specs.journal_core.Targets.{AreAccepted};
 ghost use Rattle.journal_staging.specs.Carried.{IsCarriedTo};
+ghost use Rattle.journal_staging.specs.SourceStaging.{IsFaultExplainedByCounts};
 ghost use Rattle.journal_staging.specs.Sources.{EachMayDenote, EachDenotes};
 ghost use Rattle.journal_staging.specs.Spoiled.{HasSpoiledFile};
 ghost use Rattle.journal_staging.specs.declared.writes.StageFault.TheVariants.{Bad, Disk as DiskFault};
@@ -51,11 +52,8 @@ fn stage_each<T: Tree>(
     ensures bad { (member : ℕ) (cause : Cause) → IsErrOf result (Bad member cause)
         → HasSpoiledFile member cause writes.now }
     ensures view { OnOk result (stage.new ≡ record stage.old { staged = length writes.now }) }
-    ensures goes_on { CountsOnlyRise (T.counts tree.old) (T.counts tree.new) }
-    ensures disk { IsErrOf result DiskFault → HasCause (T.counts tree.old) (T.counts tree.new) }
-    ensures kept { OnOk result (IsNoFault (T.counts tree.old) (T.counts tree.new)) }
-    ensures others { IfErr result (λ fault. (fault ≡ DiskFault → ⊥)
-        → IsNoFault (T.counts tree.old) (T.counts tree.new)) }
+    ensures counts { IsFaultExplainedByCounts DiskFault
+        (T.counts tree.old) (T.counts tree.new) result }
     ensures proper { (contents : List (List ℕ)) (v : TreeState) (first : List TreeState)
         → IsStaging stage.old [] None v first (T.history tree.old)
         → EachDenotes (files_of v) writes.now contents → AreJournalPathsFree (files_of v)

@@ -1,14 +1,13 @@
 //! A file of a package is staged, piece by piece. The rules are in `docs/crash-safety.md`,
 //! "A change of several files", and of the pieces in `docs/formats.md`, "The other blocks".
-ghost use Rattle.std.specs.Prelude.{◌≡◌, ◌<◌, ◌+◌, ◌++◌, ◌∷◌, [], ℕ, false, List, None, length, IfErr, IsErrOf, OnOk};
-ghost use Rattle.base_core.specs.Faults.{CountsOnlyRise, HasCause, IsNoFault};
-ghost use Rattle.base_core.specs.Tree.{TreeState, files_of};
-ghost use Rattle.journal_commit.specs.journal_core.Staged.{AreJournalPathsFree};
+ghost use Rattle.std.specs.Prelude.{◌≡◌, ◌<◌, ◌+◌, ◌++◌, ◌∷◌, [], ℕ, false, List, None, length, IsErrOf, OnOk};
+ghost use Rattle.base_core.specs.Tree.{TreeState};
 ghost use Rattle.base_core.specs.declared.cause.Cause.{Cause};
 ghost use Rattle.package_verifier.specs.package_reader.FileReading.{AreAsExpected, HaveBeenReturned, HaveOtherDigest, expected_file_of, remembered_fault};
 ghost use Rattle.package_verifier.specs.package_reader.declared.piece.PieceFault.TheVariants.{Bad, Disk as DiskFault};
 ghost use Rattle.journal_staging.specs.Reading.{IsReadingIn};
-ghost use Rattle.journal_commit.specs.StageRun.{IsStaging, IsStagingRun};
+ghost use Rattle.journal_staging.specs.SourceStaging.{StagesSource};
+ghost use Rattle.journal_commit.specs.StageRun.{IsStaging};
 
 use base_core::Tree;
 use journal_commit::{Stage, append_piece, begin_file, end_file};
@@ -29,20 +28,11 @@ pub(crate) fn stage_file<T: Tree>(
     requires more { stage.old.staged < length stage.old.intent.writes }
 
     // Whatever the tree returns for the package, and whatever this call returns, only staged files
-    // have changed at each moment.
-    ensures run { (contents : List (List ℕ)) (v : TreeState) (first : List TreeState)
-        → IsStaging stage.old contents None v first (T.history tree.old)
-        → IsStagingRun v first (T.history tree.new) }
-    // If the tree has the package, the file's bytes are staged then, and only the tree may fail.
-    ensures staging { (contents : List (List ℕ)) (v : TreeState) (first : List TreeState)
-        (bytes : List ℕ) → IsStaging stage.old contents None v first (T.history tree.old)
-        → IsReadingIn (files_of v) file.entry bytes
-        → OnOk result (IsStaging stage.new (contents ++ bytes ∷ []) None v first
-        (T.history tree.new)) }
-    ensures good { (contents : List (List ℕ)) (v : TreeState) (first : List TreeState)
-        (bytes : List ℕ) → IsStaging stage.old contents None v first (T.history tree.old)
-        → IsReadingIn (files_of v) file.entry bytes
-        → IfErr result (λ fault. fault ≡ DiskFault) }
+    // have changed at each moment. If the tree has the package, the file's bytes are staged then,
+    // and only the tree may fail.
+    ensures source { StagesSource stage.old stage.new
+        (λ files bytes. IsReadingIn files file.entry bytes) DiskFault
+        (T.history tree.old) (T.history tree.new) (T.counts tree.old) (T.counts tree.new) result }
     // Whatever the tree returns for the package: bytes with the expected size and digest are
     // staged.
     ensures listed { HaveBeenReturned file.entry [] → (contents : List (List ℕ)) (v : TreeState)
@@ -54,19 +44,6 @@ pub(crate) fn stage_file<T: Tree>(
     ensures bad { HaveBeenReturned file.entry [] → remembered_fault file.entry ≡ None → (cause : Cause)
         → IsErrOf result (Bad cause)
         → (bytes : List ℕ) × HaveOtherDigest (expected_file_of file.entry) bytes cause }
-    // The next write of the stage has its file then.
-    ensures view { OnOk result (stage.new ≡ record stage.old { staged = stage.old.staged + 1 }) }
-    // How the tree's counts explain the result: no count falls, a fault has its cause, and any
-    // other result hides none.
-    ensures goes_on { CountsOnlyRise (T.counts tree.old) (T.counts tree.new) }
-    ensures disk { IsErrOf result DiskFault → HasCause (T.counts tree.old) (T.counts tree.new) }
-    ensures kept { OnOk result (IsNoFault (T.counts tree.old) (T.counts tree.new)) }
-    ensures others { IfErr result (λ fault. (fault ≡ DiskFault → ⊥)
-        → IsNoFault (T.counts tree.old) (T.counts tree.new)) }
-    ensures proper { (contents : List (List ℕ)) (v : TreeState) (first : List TreeState)
-        (bytes : List ℕ) → IsStaging stage.old contents None v first (T.history tree.old)
-        → IsReadingIn (files_of v) file.entry bytes → AreJournalPathsFree (files_of v)
-        → (T.counts tree.new).misuses ≡ (T.counts tree.old).misuses }
 {
     begin_file(stage, tree)?;
     'pieces: while file.next_piece(tree, piece)? {

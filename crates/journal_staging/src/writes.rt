@@ -2,16 +2,14 @@
 //! change is not carried through. The rules are in `docs/commands.md`, "What a change does with
 //! files", and in `docs/crash-safety.md`, "A change of several files".
 
-ghost use Rattle.std.specs.Prelude.{◌≡◌, ◌<◌, ◌+◌, ◌++◌, ◌∷◌, [], ℕ, false, List, None, length, IfErr, IsErrOf, OnOk, OnErr};
-ghost use Rattle.base_core.specs.Faults.{CountsOnlyRise, HasCause, IsNoFault};
-ghost use Rattle.base_core.specs.Files.{Files};
-ghost use Rattle.base_core.specs.Tree.{TreeState, files_of};
+ghost use Rattle.std.specs.Prelude.{◌≡◌, ◌<◌, ◌+◌, ◌++◌, ◌∷◌, [], ℕ, false, List, None, length, IsErrOf, OnOk};
+ghost use Rattle.base_core.specs.Tree.{TreeState};
 ghost use Rattle.base_core.specs.declared.cause.Cause.{Cause};
-ghost use Rattle.journal_commit.specs.journal_core.Staged.{AreJournalPathsFree};
+ghost use Rattle.journal_staging.specs.SourceStaging.{StagesSource};
 ghost use Rattle.journal_staging.specs.Sources.{AreListedContentsOf, IsFileSource, MayDenote, DenotesBytes};
 ghost use Rattle.journal_staging.specs.Spoiled.{IsSpoiledAt, IsSpoiledForEachTested};
 ghost use Rattle.journal_staging.specs.declared.writes.StageFault.TheVariants.{Bad, Disk as DiskFault};
-ghost use Rattle.journal_commit.specs.StageRun.{IsStaging, IsStagingRun};
+ghost use Rattle.journal_commit.specs.StageRun.{IsStaging};
 
 use crate::file::stage_file;
 use base_core::{Cause, Disk, Name, Tree};
@@ -33,17 +31,9 @@ fn stage_packaged<T: Tree>(
 ) -> Result<(), StageFault>
     requires closed { stage.old.is_open ≡ false }
     requires more { stage.old.staged < length stage.old.intent.writes }
-    ensures run { (contents : List (List ℕ)) (v : TreeState) (first : List TreeState)
-        → IsStaging stage.old contents None v first (T.history tree.old)
-        → IsStagingRun v first (T.history tree.new) }
-    ensures staging { (contents : List (List ℕ)) (v : TreeState) (first : List TreeState)
-        (bytes : List ℕ) → IsStaging stage.old contents None v first (T.history tree.old)
-        → IsFileSource (files_of v) f.now bytes
-        → OnOk result (IsStaging stage.new (contents ++ bytes ∷ []) None v first
-        (T.history tree.new)) }
-    ensures good { (contents : List (List ℕ)) (v : TreeState) (first : List TreeState)
-        (bytes : List ℕ) → IsStaging stage.old contents None v first (T.history tree.old)
-        → IsFileSource (files_of v) f.now bytes → IfErr result (λ fault. fault ≡ DiskFault) }
+    ensures source { StagesSource stage.old stage.new
+        (λ files bytes. IsFileSource files f.now bytes) DiskFault
+        (T.history tree.old) (T.history tree.new) (T.counts tree.old) (T.counts tree.new) result }
     ensures listed { (contents : List (List ℕ)) (v : TreeState) (first : List TreeState)
         → IsStaging stage.old contents None v first (T.history tree.old)
         → OnOk result ((bytes : List ℕ) × AreListedContentsOf f.now bytes
@@ -51,16 +41,6 @@ fn stage_packaged<T: Tree>(
     // The cause is that of a file with the values of the tested one.
     ensures bad { (member : ℕ) (cause : Cause) → IsErrOf result (Bad member cause)
         → (f.now.member ≡ member) × IsSpoiledForEachTested f.now cause }
-    ensures view { OnOk result (stage.new ≡ record stage.old { staged = stage.old.staged + 1 }) }
-    ensures goes_on { CountsOnlyRise (T.counts tree.old) (T.counts tree.new) }
-    ensures disk { IsErrOf result DiskFault → HasCause (T.counts tree.old) (T.counts tree.new) }
-    ensures kept { OnOk result (IsNoFault (T.counts tree.old) (T.counts tree.new)) }
-    ensures others { IfErr result (λ fault. (fault ≡ DiskFault → ⊥)
-        → IsNoFault (T.counts tree.old) (T.counts tree.new)) }
-    ensures proper { (contents : List (List ℕ)) (v : TreeState) (first : List TreeState)
-        (bytes : List ℕ) → IsStaging stage.old contents None v first (T.history tree.old)
-        → IsFileSource (files_of v) f.now bytes → AreJournalPathsFree (files_of v)
-        → (T.counts tree.new).misuses ≡ (T.counts tree.old).misuses }
 {
     let file = f.package.file(f.folder, f.file);
     match stage_file(stage, tree, file, piece) {
@@ -86,22 +66,11 @@ pub(crate) fn stage_write<T: Tree>(
 ) -> Result<(), StageFault>
     requires closed { stage.old.is_open ≡ false }
     requires more { stage.old.staged < length stage.old.intent.writes }
-    // Whatever is returned, only staged files have changed at each moment. `first` is the tree's
-    // history when the staging began, `v` its newest state then, and `contents` the files staged
-    // before.
-    ensures run { (contents : List (List ℕ)) (v : TreeState) (first : List TreeState)
-        → IsStaging stage.old contents None v first (T.history tree.old)
-        → IsStagingRun v first (T.history tree.new) }
-    // If the source denotes bytes, these are staged then, after those that were staged before.
-    ensures staging { (contents : List (List ℕ)) (v : TreeState) (first : List TreeState)
-        (bytes : List ℕ) → IsStaging stage.old contents None v first (T.history tree.old)
-        → DenotesBytes (files_of v) source.now bytes
-        → OnOk result (IsStaging stage.new (contents ++ bytes ∷ []) None v first
-        (T.history tree.new)) }
-    // And only the tree may fail.
-    ensures good { (contents : List (List ℕ)) (v : TreeState) (first : List TreeState)
-        (bytes : List ℕ) → IsStaging stage.old contents None v first (T.history tree.old)
-        → DenotesBytes (files_of v) source.now bytes → IfErr result (λ fault. fault ≡ DiskFault) }
+    // Whatever is returned, only staged files have changed at each moment. If the source denotes
+    // bytes, these are staged then, after those that were staged before, and only the tree may fail.
+    ensures source { StagesSource stage.old stage.new
+        (λ files bytes. DenotesBytes files source.now bytes) DiskFault
+        (T.history tree.old) (T.history tree.new) (T.counts tree.old) (T.counts tree.new) result }
     // Whatever the tree returns: bytes that the source may denote are staged.
     ensures listed { (contents : List (List ℕ)) (v : TreeState) (first : List TreeState)
         → IsStaging stage.old contents None v first (T.history tree.old)
@@ -110,19 +79,6 @@ pub(crate) fn stage_write<T: Tree>(
     // A package is reported bad only if the source is a file of it that is spoiled with this cause.
     ensures bad { (member : ℕ) (cause : Cause) → IsErrOf result (Bad member cause)
         → IsSpoiledAt member cause source.now }
-    // The next write of the stage has its file then.
-    ensures view { OnOk result (stage.new ≡ record stage.old { staged = stage.old.staged + 1 }) }
-    // How the tree's counts explain the result: no count falls, a fault has its cause, and any
-    // other result hides none.
-    ensures goes_on { CountsOnlyRise (T.counts tree.old) (T.counts tree.new) }
-    ensures disk { IsErrOf result DiskFault → HasCause (T.counts tree.old) (T.counts tree.new) }
-    ensures kept { OnOk result (IsNoFault (T.counts tree.old) (T.counts tree.new)) }
-    ensures others { IfErr result (λ fault. (fault ≡ DiskFault → ⊥)
-        → IsNoFault (T.counts tree.old) (T.counts tree.new)) }
-    ensures proper { (contents : List (List ℕ)) (v : TreeState) (first : List TreeState)
-        (bytes : List ℕ) → IsStaging stage.old contents None v first (T.history tree.old)
-        → DenotesBytes (files_of v) source.now bytes → AreJournalPathsFree (files_of v)
-        → (T.counts tree.new).misuses ≡ (T.counts tree.old).misuses }
 {
     match source {
         Source::Bytes(bytes) => Ok(stage_bytes(stage, tree, bytes)?),

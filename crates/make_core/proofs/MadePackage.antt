@@ -9,11 +9,11 @@ use Rattle.command_core.specs.Command.{CommandLine}
 use Rattle.make_index.specs.make_info.Reads.{Reads}
 use Rattle.make_index.specs.make_info.declared.fault.MakeFault.{MakeFault}
 use Rattle.make_index.specs.make_info.declared.fault.MakeFault.TheVariants.{FileMissing, FileBad, InfoBad, TooLarge, Disk, Memory}
-use Rattle.make_package.specs.Answers.{IsMadeBySome, IsMadeIn, IsMadeOf, IsMakeResult, UnlessDiskOrMemory}
+use Rattle.make_package.specs.Answers.{IsMadeBySome, IsMadeFromTree, IsMadeOf, IsMakeResult, UnlessDiskOrMemory}
 use Rattle.make_package.specs.Making.{made_package}
 use Rattle.make_package.specs.package_files.Sources.{AreNamesBelowFirst, values_of_letter}
 
-made_in : (told : List TreeState) (command : CommandLine) (made : Result (List ℕ) MakeFault) → IsMadeOf told command made → IfObservable told (λ v. IsMadeIn command v made)
+made_in : (told : List TreeState) (command : CommandLine) (made : Result (List ℕ) MakeFault) → IsMadeOf told command made → IfObservable told (λ v. IsMadeFromTree command v made)
 made_in [] command made m = tt
 made_in (v ∷ vs) command made m = record {
   names = m.names;
@@ -33,13 +33,13 @@ refused_as (InfoBad p) P Q f h = f (Err (InfoBad p)) h
 refused_as (TooLarge b v) P Q f h = f (Err (TooLarge b v)) h
 
 module _ (told : List TreeState) (command : CommandLine) where
-  pub run_ok : (r : Result (Vec ℕ Global) MakeFault) → IsMakeResult told command r → IfOk r (λ file. IfObservable told (λ v. IsMadeIn command v (Ok file.items)))
+  pub run_ok : (r : Result (Vec ℕ Global) MakeFault) → IsMakeResult told command r → IfOk r (λ file. IfObservable told (λ v. IsMadeFromTree command v (Ok file.items)))
   run_ok (Ok file) h = made_in told command (Ok file.items) h
   run_ok (Err fault) h = tt
 
-  pub run_err : (r : Result (Vec ℕ Global) MakeFault) → IsMakeResult told command r → IfErr r (λ fault. UnlessDiskOrMemory fault (λ made. IfObservable told (λ v. IsMadeIn command v made)))
+  pub run_err : (r : Result (Vec ℕ Global) MakeFault) → IsMakeResult told command r → IfErr r (λ fault. UnlessDiskOrMemory fault (λ made. IfObservable told (λ v. IsMadeFromTree command v made)))
   run_err (Ok file) h = tt
-  run_err (Err fault) h = refused_as fault (IsMadeOf told command) (λ made. IfObservable told (λ v. IsMadeIn command v made)) (made_in told command) h
+  run_err (Err fault) h = refused_as fault (IsMadeOf told command) (λ made. IfObservable told (λ v. IsMadeFromTree command v made)) (made_in told command) h
 
   pub run_found : (r : Result (Vec ℕ Global) MakeFault) → IsMakeResult told command r → IfOk r (λ file. IsMadeBySome command (Ok file.items))
   run_found (Ok file) h = made_by_some told command (Ok file.items) h

@@ -24,7 +24,7 @@ use Rattle.make_package.specs.package_files.Folders.{FolderListing, all_folders_
 use Rattle.make_package.specs.Making.{made_package}
 use Rattle.make_package.specs.package_files.Package.{Source, SourceFolder, value_of_file, value_of_folder, kind_of_file}
 use Rattle.make_package.specs.package_files.Sources.{AreNamesBelowFirst, source_file_read_at, source_folder_read_at, folders_below, found_bytes_or_missing, source_folders_from, sources_from, texts_of, values_of_letter}
-use Rattle.make_index.specs.pkg_core.Whole.{Packed}
+use Rattle.make_index.specs.pkg_core.Whole.{PackageWithContents}
 use Rattle.make_core.specs.FilesBelow.{HasFilesBelow, IsFileBelow, name_below}
 use Rattle.make_core.proofs.Apart.{Tells}
 use Rattle.make_core.proofs.InformationGood.{Needs}
@@ -176,6 +176,6 @@ made_below law holds sizes exact needs tells command names files bytes folder ot
     let made = made_of IsReadBack holds sizes exact needs tells command names (λ n name. files name) bytes named e short in
     let read : folders_below (λ n name. files name) (length made.scripts) (folder ∷ others) names ≡ Ok made.sources =
     ap (λ (l : List OptionValue). folders_below (λ n name. files name) (length made.scripts) l names) (sym given) ∙ made.sources_read in
-    let value = ap (λ (p : Packed). p.value) made.holds in
+    let value = ap (λ (p : PackageWithContents). p.value) made.holds in
     read_below law files folder.place (length made.scripts) (without_dot_slash folder.text) names made.sources (root_value Package (payload_in bytes)) (are_listed (without_dot_slash folder.text) names below.each) read
     (ap folders_in value ∙ folders_stand _ made.sources made.scripts (texts_of (values_of_letter TRIGGER command.values)) (replaces_priority made.items))

@@ -25,7 +25,7 @@ use Rattle.command_core.specs.Command.{CommandLine}
 use Rattle.make_index.specs.Entries.{entry_of_package}
 use Rattle.make_index.specs.EntryOrder.{entry_cmp}
 use Rattle.base_core.specs.Sorted.{sorted_by, with_element}
-use Rattle.base_core.specs.Files.{IsFile}
+use Rattle.base_core.specs.Files.{AreFileBytes}
 use Rattle.make_index.specs.Files.{FindOnlyFiles}
 use Rattle.make_package.specs.adb_sound.Root.{IsRootOf}
 use Rattle.make_index.specs.make_info.declared.fault.MakeFault.{MakeFault}
@@ -62,7 +62,7 @@ tested_good laws place around file v None bytes small root is e =
     subst (IsEntry around) same (entry_good laws file 802 around bytes small root is)
 tested_good laws place around file v (Some c) bytes small root is e = absurd (cc (e))
 
-found_good : Values → (place n : ℕ) (name : List ℕ) (around : Surroundings) (read : ℕ → List ℕ → Option (List ℕ)) (v : Plain) (o : Option (List ℕ)) → ((file : List ℕ) → read n name ≡ Some file → IsFile file) → around.root ≡ Index
+found_good : Values → (place n : ℕ) (name : List ℕ) (around : Surroundings) (read : ℕ → List ℕ → Option (List ℕ)) (v : Plain) (o : Option (List ℕ)) → ((file : List ℕ) → read n name ≡ Some file → AreFileBytes file) → around.root ≡ Index
     → read n name ≡ o → found_entry place o ≡ Ok v → IsEntry around v
 found_good laws place n name around read v None files root is e = absurd (cc (e))
 found_good laws place n name around read v (Some file) files root is e =

@@ -16,12 +16,12 @@ use Rattle.make_index.specs.make_info.declared.fault.MakeFault.{MakeFault}
 use Rattle.make_package.specs.Making.{or_info_bad}
 use Rattle.make_package.specs.package_files.Package.{Script, SourceFolder, contents_of_folders, installed_size, value_of_package}
 use Rattle.make_package.specs.package_files.Sources.{folders_below, and_then, scripts_from, texts_of, values_of_letter}
-use Rattle.make_index.specs.pkg_core.Whole.{Packed}
+use Rattle.make_index.specs.pkg_core.Whole.{PackageWithContents}
 
 -- the value and the contents of a package, given what was read of each part, in the order in which the
 -- parts are read
 abbrev pub packed_of_parts :
-    CommandLine → List Script → List FieldWithValue → List SourceFolder → Result Packed MakeFault
+    CommandLine → List Script → List FieldWithValue → List SourceFolder → Result PackageWithContents MakeFault
 packed_of_parts command scripts about folders =
     Ok (packed_from_parts
     (value_of_package (information_value about (installed_size folders)) folders scripts
@@ -29,7 +29,7 @@ packed_of_parts command scripts about folders =
     (contents_of_folders 1 folders))
 
 -- the value and the contents of the package that a command describes
-abbrev pub packed_package : CommandLine → List (List ℕ) → Reads → Result Packed MakeFault
+abbrev pub packed_package : CommandLine → List (List ℕ) → Reads → Result PackageWithContents MakeFault
 packed_package command names read =
     and_then (scripts_from read 0 (values_of_letter SCRIPT command.values)) (λ scripts.
     and_then (or_info_bad (information command)) (λ about.

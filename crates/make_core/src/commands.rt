@@ -7,7 +7,7 @@ ghost use Rattle.make_index.specs.Files.{FindOnlyFiles, reads_of};
 ghost use Rattle.make_index.specs.Index.{made_index};
 ghost use Rattle.make_index.specs.Kept.{AgreesUnlessStopped};
 ghost use Rattle.make_index.specs.make_info.Reads.{Reads};
-ghost use Rattle.make_package.specs.Answers.{IsMadeBySome, IsMadeIn, UnlessDiskOrMemory};
+ghost use Rattle.make_package.specs.Answers.{IsMadeBySome, IsMadeFromTree, UnlessDiskOrMemory};
 ghost use Rattle.make_index.specs.pkg_core.Whole.{container_fault};
 ghost use Rattle.std.specs.Prelude.{◌≡◌, Ok, None, IfOk, IfErr};
 
@@ -30,9 +30,9 @@ pub fn mkpkg<T: Tree>(alloc: Global, command: &Command, tree: &mut T) -> Result<
     requires { command.now.applet ≡ Applet.Mkpkg }
     // If the tree's files are observable: the package is theirs, or the refusal.
     ensures ok { IfOk result (λ file. IfObservable (T.history tree.old) (λ v.
-        IsMadeIn command.now v (Ok file.items))) }
+        IsMadeFromTree command.now v (Ok file.items))) }
     ensures err { IfErr result (λ fault. UnlessDiskOrMemory fault (λ made.
-        IfObservable (T.history tree.old) (λ v. IsMadeIn command.now v made))) }
+        IfObservable (T.history tree.old) (λ v. IsMadeFromTree command.now v made))) }
     // Over every tree: by some names below the folder and some reads.
     ensures found { IfOk result (λ file. IsMadeBySome command.now (Ok file.items)) }
     ensures found_err { IfErr result (λ fault. UnlessDiskOrMemory fault (IsMadeBySome command.now)) }

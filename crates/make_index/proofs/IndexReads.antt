@@ -14,7 +14,7 @@ use Rattle.command_core.specs.declared.operands.Operand.{Operand}
 use Rattle.make_index.specs.Index.{and_entries, found_entries, found_entry}
 use Rattle.make_index.specs.Kept.{AgreesUnlessMemory, AgreesUnlessStopped}
 use Rattle.make_index.specs.Files.{reads_of, FindOnlyFiles}
-use Rattle.base_core.specs.Files.{IsFile}
+use Rattle.base_core.specs.Files.{AreFileBytes}
 use Rattle.make_info.specs.declared.fault.MakeFault.{MakeFault}
 use Rattle.make_info.specs.declared.fault.MakeFault.TheVariants.{FileMissing, FileBad, InfoBad, TooLarge, Disk, Memory}
 
@@ -102,7 +102,7 @@ so_far_err view read os i o es fault r at so one made e = subst (λ x. AgreesUnl
 -- by reads so far, and whatever is read later
 pub record IsReadTo (os : List Operand) (i : ℕ) (es : List Plain) : Type 0 where
   pub found : ℕ → List ℕ → Option (List ℕ)
-  pub files : (k : ℕ) (q : List ℕ) → IfSome (found k q) IsFile
+  pub files : (k : ℕ) (q : List ℕ) → IfSome (found k q) AreFileBytes
   pub rest : (later : ℕ → List ℕ → Option (List ℕ)) → ((k : ℕ) → k < i → later k ≡ found k) → IsSoFar later os i es
 
 pub read_none : (os : List Operand) → IsReadTo os 0 []
@@ -119,19 +119,19 @@ with_value_at_index : (found : ℕ → List ℕ → Option (List ℕ)) (i : ℕ)
 unfolding found_with
 with_value_at_index found i f q = ap (λ (b : Bool). if b then f else found i q) (eq-eqb i i refl)
 
-with_files : (found : ℕ → List ℕ → Option (List ℕ)) (i : ℕ) (f : Option (List ℕ)) → IfSome f IsFile → ((k : ℕ) (q : List ℕ) → IfSome (found k q) IsFile) → (k : ℕ) (q : List ℕ) → IfSome (found_with found i f k q) IsFile
+with_files : (found : ℕ → List ℕ → Option (List ℕ)) (i : ℕ) (f : Option (List ℕ)) → IfSome f AreFileBytes → ((k : ℕ) (q : List ℕ) → IfSome (found k q) AreFileBytes) → (k : ℕ) (q : List ℕ) → IfSome (found_with found i f k q) AreFileBytes
 unfolding found_with
 with_files found i f one files k q =
-    elim (k == i) as (λ b. IfSome (if b then f else found k q) IsFile) [
+    elim (k == i) as (λ b. IfSome (if b then f else found k q) AreFileBytes) [
       | true ↦ one
       | false ↦ files k q
     ]
 
-files_all : (read : ℕ → List ℕ → Option (List ℕ)) → ((k : ℕ) (q : List ℕ) → IfSome (read k q) IsFile) → (n : ℕ) (os : List Operand) → FindOnlyFiles read n os
+files_all : (read : ℕ → List ℕ → Option (List ℕ)) → ((k : ℕ) (q : List ℕ) → IfSome (read k q) AreFileBytes) → (n : ℕ) (os : List Operand) → FindOnlyFiles read n os
 files_all read files n [] = tt
-files_all read files n (o ∷ os) = (λ file is. subst (λ (x : Option (List ℕ)). IfSome x IsFile) is (files n (without_dot_slash o.text)), files_all read files (n + 1) os)
+files_all read files n (o ∷ os) = (λ file is. subst (λ (x : Option (List ℕ)). IfSome x AreFileBytes) is (files n (without_dot_slash o.text)), files_all read files (n + 1) os)
 
-pub read_more : (os : List Operand) (i : ℕ) (o : Operand) (es new : List Plain) (e : Plain) → slice_get os i ≡ Some o → IsReadTo os i es → (f : Option (List ℕ)) → IfSome f IsFile → found_entry o.place f ≡ Ok e → new ≡ es ++ e ∷ [] → IsReadTo os (i + 1) new
+pub read_more : (os : List Operand) (i : ℕ) (o : Operand) (es new : List Plain) (e : Plain) → slice_get os i ≡ Some o → IsReadTo os i es → (f : Option (List ℕ)) → IfSome f AreFileBytes → found_entry o.place f ≡ Ok e → new ≡ es ++ e ∷ [] → IsReadTo os (i + 1) new
 read_more os i o es new e at so f file one is = record {
   found = found_with so.found i f;
   files = with_files so.found i f file so.files;
@@ -145,7 +145,7 @@ read_more os i o es new e at so f file one is = record {
 pub read_all_is : (os : List Operand) (i : ℕ) (es : List Plain) → length os ≤ i → IsReadTo os i es → (read : ℕ → List ℕ → Option (List ℕ)) × FindOnlyFiles read 0 os × (found_entries read 0 os ≡ Ok es)
 read_all_is os i es past so = (so.found, files_all so.found so.files 0 os, so_far_all so.found os i es past (so.rest so.found (λ k lt. refl)))
 
-pub read_err : {A B : Type 0} (view : A → List Plain) (one : B → Plain) (os : List Operand) (i : ℕ) (o : Operand) (es : List Plain) (fault : MakeFault) (r : Result A MakeFault) → slice_get os i ≡ Some o → IsReadTo os i es → (found : Option (List ℕ)) × IfSome found IsFile × AgreesUnlessStopped one (Err fault) (found_entry o.place found) → r ≡ Err fault → (read : ℕ → List ℕ → Option (List ℕ)) × FindOnlyFiles read 0 os × AgreesUnlessStopped view r (found_entries read 0 os)
+pub read_err : {A B : Type 0} (view : A → List Plain) (one : B → Plain) (os : List Operand) (i : ℕ) (o : Operand) (es : List Plain) (fault : MakeFault) (r : Result A MakeFault) → slice_get os i ≡ Some o → IsReadTo os i es → (found : Option (List ℕ)) × IfSome found AreFileBytes × AgreesUnlessStopped one (Err fault) (found_entry o.place found) → r ≡ Err fault → (read : ℕ → List ℕ → Option (List ℕ)) × FindOnlyFiles read 0 os × AgreesUnlessStopped view r (found_entries read 0 os)
 read_err view one os i o es fault r at so made e =
     let f : Option (List ℕ) = made.0 in (
       found_with so.found i f,

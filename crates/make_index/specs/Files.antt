@@ -1,7 +1,7 @@
 -- The files that the operands of `mkndx` name, and what reads of a tree find.
 -- No rule of a document: serves the contracts of `src/index.rt`.
 use Rattle.std.specs.Prelude.{◌≡◌, ℕ, ◌+◌, List, [], ◌∷◌, Some}
-use Rattle.base_core.specs.Files.{IsFile}
+use Rattle.base_core.specs.Files.{AreFileBytes}
 use Rattle.base_core.specs.Tree.{TreeState, files_of}
 use Rattle.command_core.specs.Files.{without_dot_slash}
 use Rattle.command_core.specs.declared.operands.Operand.{Operand}
@@ -12,7 +12,7 @@ use Rattle.make_info.specs.Reads.{Reads}
 abbrev pub FindOnlyFiles : Reads → ℕ → List Operand → Type 0
 FindOnlyFiles read n [] = Unit {0}
 FindOnlyFiles read n (o ∷ operands) =
-    ((file : List ℕ) → read n (without_dot_slash o.text) ≡ Some file → IsFile file)
+    ((file : List ℕ) → read n (without_dot_slash o.text) ≡ Some file → AreFileBytes file)
     × FindOnlyFiles read (n + 1) operands
 
 -- the reads of a tree in this state: each finds what is under its name

@@ -47,7 +47,7 @@ pub(crate) struct Entry {
 
 impl Entry {
     ghost use Rattle.make_index.specs.Views.{entry_view};
-    ghost use Rattle.base_core.specs.Files.{IsFile};
+    ghost use Rattle.base_core.specs.Files.{AreFileBytes};
 
     /// The entry of the package in this file, which an operand at this place names. The file is
     /// dropped, unless its entry alone exceeds a limit of the writer.
@@ -57,7 +57,7 @@ impl Entry {
     /// `FileBad` with the cause of the first test that fails, or `Memory`.
     pub(crate) fn of(alloc: Global, place: u32, file: Vec<u8>) -> Result<Entry, MakeFault>
         ensures made { AgreesUnlessMemory entry_view result (found_entry place (Some file.items)) }
-        ensures bytes { IsFile file.items }
+        ensures bytes { AreFileBytes file.items }
     {
         let parts = read_parts(alloc, place, &file)?;
         Ok(Entry {

@@ -17,7 +17,7 @@ ghost use Rattle.base_core.specs.Tree.{files_of};
 ghost use Rattle.make_index.specs.Entries.{entry_of_package};
 ghost use Rattle.make_index.specs.EntryOrder.{entry_cmp, version_of_index_entry, id_of_index_entry, name_of_index_entry};
 ghost use Rattle.base_core.specs.Sorted.{sorted_by};
-ghost use Rattle.base_core.specs.Files.{IsFile};
+ghost use Rattle.base_core.specs.Files.{AreFileBytes};
 ghost use Rattle.make_index.specs.Files.{FindOnlyFiles, reads_of};
 ghost use Rattle.make_index.specs.Index.{description_in, index_of, value_of_index, found_entries, found_entry, made_index};
 ghost use Rattle.make_index.specs.Kept.{AgreesUnlessMemory, AgreesUnlessStopped};
@@ -124,7 +124,7 @@ fn read_entry<T: Tree>(
 ) -> Result<Entry, MakeFault>
     ensures made { IfObservable (T.history tree.old) (λ v.
         AgreesUnlessStopped entry_view result (found_entry place (files_of v file.now))) }
-    ensures found { (found : Option (List ℕ)) × IfSome found IsFile
+    ensures found { (found : Option (List ℕ)) × IfSome found AreFileBytes
         × AgreesUnlessStopped entry_view result (found_entry place found) }
     ensures tree { OnlyReads MakeFault.Disk (T.history tree.old) (T.history tree.new)
         (T.counts tree.old) (T.counts tree.new) result }
@@ -137,7 +137,7 @@ fn read_entry<T: Tree>(
 /// absent is refused.
 fn entry_of(alloc: Global, place: u32, found: Option<Vec<u8>>) -> Result<Entry, MakeFault>
     ensures made { AgreesUnlessMemory entry_view result (found_entry place (bytes_in found)) }
-    ensures bytes { IfSome (bytes_in found) IsFile }
+    ensures bytes { IfSome (bytes_in found) AreFileBytes }
 {
     match found {
         Some(file) => Entry::of(alloc, place, file),

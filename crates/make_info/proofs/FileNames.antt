@@ -13,9 +13,10 @@ use Rattle.dep_core.specs.Dependency.{begins_with_punctuation, is_dep_name, is_n
 use Rattle.version_core.specs.Grammar.{is_version_byte}
 use Rattle.version_core.specs.Order.{is_version}
 use Rattle.version_core.proofs.VersionBytes.{all-imp, all-append}
+use Rattle.root_names.specs.PackagePath.{package_file_name}
 use Rattle.command_core.specs.declared.values.OptionValue.{OptionValue}
 use Rattle.make_info.specs.declared.field.Field.TheVariants as Fields
-use Rattle.make_info.specs.FieldTexts.{first_text_for, if_passes, package_name_in, default_output, package_file_name, package_file_name_of, package_version_in}
+use Rattle.make_info.specs.FieldTexts.{first_text_for, if_passes, package_name_in, default_output, package_file_name_of, package_version_in}
 
 -- what the layer of versions says of them
 abbrev pub HaveVersionBytes : Type 0
@@ -103,10 +104,9 @@ package_file_is_name spelled name version n v short =
     let named = package_name_bytes name n in
     let versioned : list_all is_file_byte version ≡ true = all-imp is_version_byte is_file_byte version_byte version (spelled version v) in
     let bytes : list_all is_file_byte (package_file_name name version) ≡ true =
-    all-append is_file_byte name (45 ∷ version ++ codes ".apk") named.0 (all-append is_file_byte (45 ∷ version) (codes ".apk") versioned refl) in
-    let whole = length-append name (45 ∷ version ++ codes ".apk") in
-    let behind = length-append (45 ∷ version) (codes ".apk") in
-    file_name (package_file_name name version) bytes (omega (arith, whole, behind)) short
+    all-append is_file_byte ((name ++ codes "-") ++ version) (codes ".apk") (all-append is_file_byte (name ++ codes "-") version (all-append is_file_byte name (codes "-") named.0 refl) versioned) refl in
+    let whole = length-append ((name ++ codes "-") ++ version) (codes ".apk") in
+    file_name (package_file_name name version) bytes (omega (arith, whole)) short
 
 -- ---- where both are given
 

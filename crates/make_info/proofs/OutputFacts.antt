@@ -17,7 +17,7 @@ use Rattle.command_core.specs.declared.values.OptionValue.{OptionValue}
 use Rattle.make_info.specs.declared.field.Field.{Field}
 use Rattle.make_info.specs.declared.field.Field.TheVariants as Fields
 use Rattle.make_info.specs.Fields.{kind_of_field, values_by_kind, text_value_if}
-use Rattle.command_core.specs.Files.{longest_output}
+use Rattle.command_core.specs.Files.{most_output_path_bytes}
 use Rattle.make_info.specs.FieldTexts.{FieldText, file_name_in, first_text_for, field_text_in, if_passes, values_of_info, is_option_for_field, is_text_for_field, is_info_option, is_default_output_too_long, package_name_in, named_output, default_output, package_file_name_of, value_if_for_field, package_version_in}
 use Rattle.make_info.specs.Information.{FieldWithValue, items_of_valid_options, first_offence, information, information_of, repeats_single_field, field_with_value, items_of_text, items_of_option, lacks_name_or_version, offends, unless_offence}
 use Rattle.make_info.specs.Output.{output_if_information_valid, is_mkpkg, output_name, package_output}
@@ -26,14 +26,14 @@ use Rattle.make_info.proofs.Reading.{same_field}
 
 -- ---- it is short
 
-package_short : AreOutputs → (command : CommandLine) (file : List ℕ) (r : Result (List FieldWithValue) ℕ) (named : Option (List ℕ)) → r ≡ information command → named ≡ named_output command.values → IsValidCommand command → output_if_information_valid r (option_or named (default_output command.values)) ≡ Some file → length file ≤ longest_output
+package_short : AreOutputs → (command : CommandLine) (file : List ℕ) (r : Result (List FieldWithValue) ℕ) (named : Option (List ℕ)) → r ≡ information command → named ≡ named_output command.values → IsValidCommand command → output_if_information_valid r (option_or named (default_output command.values)) ≡ Some file → length file ≤ most_output_path_bytes
 package_short law command file (Err place) named r n is h = absurd (none-some file h)
 package_short law command file (Ok about) (Some name) r n is h = named_short law command file is (sym n ∙ h)
 package_short law command file (Ok about) None r n is h = own_fits command.values command.behind file (ap is_ok (sym r)) (sym n) h
 
-pub output_short : AreOutputs → (command : CommandLine) (name : List ℕ) → IsValidCommand command → output_name command ≡ Some name → length name ≤ longest_output
+pub output_short : AreOutputs → (command : CommandLine) (name : List ℕ) → IsValidCommand command → output_name command ≡ Some name → length name ≤ most_output_path_bytes
 output_short law command name is h =
-    elim (is_mkpkg command.applet) as (λ b. (if b then package_output command else named_output command.values) ≡ Some name → length name ≤ longest_output) [
+    elim (is_mkpkg command.applet) as (λ b. (if b then package_output command else named_output command.values) ≡ Some name → length name ≤ most_output_path_bytes) [
       | true ↦ λ e. package_short law command name (information command) (named_output command.values) refl refl is e
       | false ↦ λ e. named_short law command name is e
     ] h

@@ -10,7 +10,7 @@ use Rattle.version_core.specs.Order.{is_version}
 use Rattle.command_core.specs.Command.{CommandLine}
 use Rattle.command_core.specs.Sound.{IsValidCommand}
 use Rattle.command_core.specs.Values.{first_value}
-use Rattle.command_core.specs.Files.{is_file, is_output_argument, longest_output, without_dot_slash}
+use Rattle.command_core.specs.Files.{is_file, is_output_argument, most_output_path_bytes, without_dot_slash}
 use Rattle.command_core.specs.declared.values.OptionValue.{OptionValue}
 use Rattle.make_info.specs.declared.field.Field.{Field}
 use Rattle.make_info.specs.declared.field.Field.TheVariants as Fields
@@ -29,15 +29,15 @@ named_by : (o : Option OptionValue) (file : List ℕ) → option_map file_name_i
 named_by None file e = absurd (cc (e))
 named_by (Some v) file e = (v, refl, cc (e))
 
-pub named_short : AreOutputs → (command : CommandLine) (file : List ℕ) → IsValidCommand command → named_output command.values ≡ Some file → length file ≤ longest_output
+pub named_short : AreOutputs → (command : CommandLine) (file : List ℕ) → IsValidCommand command → named_output command.values ≡ Some file → length file ≤ most_output_path_bytes
 named_short law command file is h =
     let named = named_by (first_value OUTPUT command.values) file h in
     let v : OptionValue = named.0 in
-    subst (λ f. length f ≤ longest_output) named.2 (leb-true (length (without_dot_slash v.text)) longest_output (and_parts (is_file v.text) (nat_le (length (without_dot_slash v.text)) longest_output) (law command v is named.1)).1)
+    subst (λ f. length f ≤ most_output_path_bytes) named.2 (leb-true (length (without_dot_slash v.text)) most_output_path_bytes (and_parts (is_file v.text) (nat_le (length (without_dot_slash v.text)) most_output_path_bytes) (law command v is named.1)).1)
 
 file_by : AreOutputs → (command : CommandLine) → IsValidCommand command → (o : Option OptionValue) → first_value OUTPUT command.values ≡ o → IfSome o (λ v. is_file v.text ≡ true)
 file_by law command is None e = tt
-file_by law command is (Some v) e = (and_parts (is_file v.text) (nat_le (length (without_dot_slash v.text)) longest_output) (law command v is e)).0
+file_by law command is (Some v) e = (and_parts (is_file v.text) (nat_le (length (without_dot_slash v.text)) most_output_path_bytes) (law command v is e)).0
 
 -- so it is read as a name
 pub output_is_file : AreOutputs → (command : CommandLine) (values : List OptionValue) → IsValidCommand command → values ≡ command.values → IfSome (first_value OUTPUT values) (λ v. is_file v.text ≡ true)
@@ -114,16 +114,16 @@ no_own_file : (values : List OptionValue) → first_text_for Fields.Version valu
 no_own_file values h =
     ap (λ o. package_file_name_of (package_name_in values) (option_and_then (if_passes is_version) o)) h ∙ no_file (package_name_in values)
 
-fits_by : (values : List OptionValue) (behind : ℕ) (file : List ℕ) (b : Bool) → is_default_output_too_long values ≡ b → is_ok (information_of values behind) ≡ true → named_output values ≡ None → default_output values ≡ Some file → length file ≤ longest_output
+fits_by : (values : List OptionValue) (behind : ℕ) (file : List ℕ) (b : Bool) → is_default_output_too_long values ≡ b → is_ok (information_of values behind) ≡ true → named_output values ≡ None → default_output values ≡ Some file → length file ≤ most_output_path_bytes
 fits_by values behind file true t h n o =
     let first : first_offence true [] (values_of_info values) ≡ None = ap (λ b. first_offence b [] (values_of_info values)) (sym t) ∙ unoffended values behind h in
     absurd (some_none (default_output values) file o (no_own_file values (no_version [] values first)))
 fits_by values behind file false t h n o =
-    let short : nat_lt longest_output (length file) ≡ false =
+    let short : nat_lt most_output_path_bytes (length file) ≡ false =
     sym (ap (λ x. not (is_some x) && is_output_name_too_long (default_output values)) n ∙ ap is_output_name_too_long o) ∙ t in
-    ltb-false longest_output (length file) short
+    ltb-false most_output_path_bytes (length file) short
 
-pub own_fits : (values : List OptionValue) (behind : ℕ) (file : List ℕ) → is_ok (information_of values behind) ≡ true → named_output values ≡ None → default_output values ≡ Some file → length file ≤ longest_output
+pub own_fits : (values : List OptionValue) (behind : ℕ) (file : List ℕ) → is_ok (information_of values behind) ≡ true → named_output values ≡ None → default_output values ≡ Some file → length file ≤ most_output_path_bytes
 own_fits values behind file h n o = fits_by values behind file (is_default_output_too_long values) refl h n o
 
 -- ---- what is answered

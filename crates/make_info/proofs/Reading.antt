@@ -18,7 +18,7 @@ use Rattle.make_info.specs.declared.field.Kind.{Kind}
 use Rattle.make_info.specs.declared.field.Kind.TheVariants as Kinds
 use Rattle.make_info.specs.Fields.{FieldValue, text, number, value_of_digits, field_word, fields, may_repeat, kind_of_field, field_among, decimal_number, values_by_kind, text_value_if}
 use Rattle.make_info.specs.FieldTexts.{FieldText, field_text_in, values_of_info, is_option_for_field, is_text_for_field, is_same_field, is_default_output_too_long}
-use Rattle.make_info.specs.Information.{FieldWithValue, items_of_valid_options, first_offence, information_of, is_item_for, repeats_field, field_with_value, items_of_text, items_of_option, lacks_name_or_version, offends, unless_offence, with_values}
+use Rattle.make_info.specs.Information.{FieldWithValue, items_of_valid_options, first_offence, information_of, is_item_for, gives_single_field_again, field_with_value, items_of_text, items_of_option, lacks_name_or_version, offends, unless_offence, with_values}
 use Rattle.make_info.specs.Reading.{has_no_name_or_version, items_with_option_text, items_with_text}
 
 -- ---- fields are told apart by their words
@@ -98,7 +98,7 @@ IsFresh done said = (f : Field) → may_repeat (kind_of_field f) ≡ false → i
 
 abbrev offends_given : Bool → List OptionValue → Option FieldText → Bool
 offends_given too_long done given =
-    not (is_some (option_and_then items_of_text given)) || (repeats_field done given || (too_long && is_text_for_field Fields.Version given))
+    not (is_some (option_and_then items_of_text given)) || (gives_single_field_again done given || (too_long && is_text_for_field Fields.Version given))
 
 by_parts : (x l d h : Bool) (s : Option (List FieldValue)) (f : Field) (before : List FieldWithValue) → (l ≡ false → h ≡ d) → (not (is_some (with_values [] f s)) || ((not l && d) || x)) ≡ not (is_some (cond x None (cond (not l && h) None (with_values before f s))))
 by_parts true l d h None f before same = refl

@@ -3,16 +3,16 @@
 -- The rules are in `docs/commands.md`, "`mkpkg`", the first paragraphs, and in "Words", the rows of
 -- `-I` and `-o`.
 use Rattle.command_core.specs.declared.values.TheConstants.{INFO, OUTPUT}
-use Rattle.std.specs.Prelude.{ℕ, ◌+◌, ◌==◌, nat_lt, Bool, false, List, [], ◌∷◌, ◌++◌, length, take, drop, position, codes, Option, Some, None, option_map, option_and_then, is_some, not, ◌&&◌, if◌then◌else◌}
+use Rattle.std.specs.Prelude.{ℕ, ◌+◌, ◌==◌, nat_lt, Bool, false, List, [], ◌∷◌, length, take, drop, position, Option, Some, None, option_map, option_and_then, is_some, not, ◌&&◌, if◌then◌else◌}
 use Rattle.std.specs.List.{filter}
 use Rattle.std.specs.Option.{option_or}
 use Rattle.std.specs.Str.{bytes_eq}
 use Rattle.version_core.specs.Order.{is_version}
 use Rattle.dep_core.specs.Dependency.{is_package_name}
+use Rattle.root_names.specs.PackagePath.{package_file_name}
 use Rattle.command_core.specs.Values.{first_value}
 use Rattle.make_info.specs.declared.information.TheConstants.{COLON}
-use Rattle.make_info.specs.declared.output.TheConstants.{HYPHEN}
-use Rattle.command_core.specs.Files.{longest_output, without_dot_slash}
+use Rattle.command_core.specs.Files.{most_output_path_bytes, without_dot_slash}
 use Rattle.command_core.specs.declared.values.OptionValue.{OptionValue}
 use Rattle.make_info.specs.declared.field.Field.{Field}
 use Rattle.make_info.specs.declared.field.Field.TheVariants as Fields
@@ -83,11 +83,7 @@ abbrev pub package_version_in : List OptionValue → Option (List ℕ)
 package_version_in values =
     option_and_then (if_passes is_version) (first_text_for Fields.Version values)
 
--- the name of a package's file, if the output has none of its own: NAME-VERSION.apk
-abbrev pub package_file_name : List ℕ → List ℕ → List ℕ
-package_file_name name version = name ++ (HYPHEN ∷ version ++ codes ".apk")
-
--- the name of a package's file; None if its name or its version is lacking
+-- the name of a package's file, NAME-VERSION.apk; None if its name or its version is lacking
 abbrev pub package_file_name_of : Option (List ℕ) → Option (List ℕ) → Option (List ℕ)
 package_file_name_of name version =
     option_and_then (λ name. option_map (package_file_name name) version) name
@@ -108,7 +104,7 @@ named_output values = option_map file_name_in (first_value OUTPUT values)
 -- output is known, nothing is too long
 abbrev pub is_output_name_too_long : Option (List ℕ) → Bool
 is_output_name_too_long None = false
-is_output_name_too_long (Some file) = nat_lt longest_output (length file)
+is_output_name_too_long (Some file) = nat_lt most_output_path_bytes (length file)
 
 -- whether the output is NAME-VERSION.apk, and that is too long
 abbrev pub is_default_output_too_long : List OptionValue → Bool

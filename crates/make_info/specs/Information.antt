@@ -40,14 +40,14 @@ abbrev pub items_of_option : OptionValue → Option (List FieldWithValue)
 items_of_option v = option_and_then items_of_text (field_text_in v.text)
 
 -- whether a value is for a single field for which one is given before
-abbrev pub repeats_field : List OptionValue → Option FieldText → Bool
-repeats_field before None = false
-repeats_field before (Some given) =
+abbrev pub gives_single_field_again : List OptionValue → Option FieldText → Bool
+gives_single_field_again before None = false
+gives_single_field_again before (Some given) =
     not (may_repeat (kind_of_field given.field)) && list_any (is_option_for_field given.field) before
 
 -- whether a value is for a field that is given once, and another one for it is before it
 abbrev pub repeats_single_field : List OptionValue → OptionValue → Bool
-repeats_single_field before v = repeats_field before (field_text_in v.text)
+repeats_single_field before v = gives_single_field_again before (field_text_in v.text)
 
 -- whether a value offends: it is not allowed, it is a second one, or it is the version that makes the
 -- output's name too long

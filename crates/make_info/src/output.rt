@@ -7,7 +7,7 @@ ghost use Rattle.make_info.specs.Output.{is_mkpkg, output_name, package_output};
 ghost use Rattle.std.specs.Option.{option_map};
 ghost use Rattle.std.specs.Prelude.{is_some, ◌≡◌, ◌||◌, IfOk, is_ok, ◌≤◌, List, ℕ, Some, IsSome, IsTrue, length};
 ghost use Rattle.command_core.specs.Command.{CommandLine};
-ghost use Rattle.command_core.specs.Files.{longest_output};
+ghost use Rattle.command_core.specs.Files.{most_output_path_bytes};
 ghost use Rattle.command_core.specs.Sound.{IsValidCommand};
 ghost use Rattle.command_core.specs.declared.command.Applet.TheVariants.{Mkndx, Mkpkg};
 
@@ -20,11 +20,9 @@ use command_core::{
     a_command_has_what_its_applet_may_have, values_are_of_their_kind,
 };
 use dep_core::is_package_name;
+use root_names::package_path;
 use std::alloc::{AllocError, Global};
 use version_core::{Version, versions_have_version_bytes};
-
-/// The byte between NAME and VERSION.
-const HYPHEN: u8 = b'-';
 
 /// NAME-VERSION.apk, if a valid name and a valid version are given.
 pub(crate) fn default_output(alloc: Global, values: &Values) -> Result<Option<Vec<u8>>, AllocError>
@@ -37,10 +35,7 @@ pub(crate) fn default_output(alloc: Global, values: &Values) -> Result<Option<Ve
     let Some(version) = package_version_in(values) else {
         return Ok(None);
     };
-    let mut file = Vec::from_slice(alloc, name)?;
-    file.push(HYPHEN)?;
-    file.extend_from_slice(version)?;
-    file.extend_from_slice(b".apk")?;
+    let file = package_path(alloc, b"", name, version)?;
     Ok(Some(file))
 }
 
@@ -182,7 +177,7 @@ fn is_allowed(alloc: Global, command: &Command) -> Result<bool, AllocError>
 /// An output's name is short enough for its scratch name, which has eight more bytes.
 pub fn an_output_is_short()
     ensures { (command : CommandLine) (name : List ℕ) → IsValidCommand command
-        → output_name command ≡ Some name → length name ≤ longest_output }
+        → output_name command ≡ Some name → length name ≤ most_output_path_bytes }
 {
     // A law that the proof needs; it computes nothing.
     values_are_of_their_kind();

@@ -16,7 +16,7 @@ use Rattle.make_core.specs.package_files.declared.file.FileKind.{FileKind}
 use Rattle.make_core.specs.package_files.declared.file.FileKind.TheVariants.{Link, Regular}
 use Rattle.make_core.proofs.PackageFiles.{int-size_value}
 use Rattle.make_laws.specs.NamedFields.{field_named}
-use Rattle.make_laws.specs.SourceBytes.{IsLinkTo, IsNoLink}
+use Rattle.make_laws.specs.SourceBytes.{IsLinkTo, AreBytesOfNoLink}
 
 abbrev mark : List ℕ
 mark = codes "!<symlink>"
@@ -50,7 +50,7 @@ is_link bytes e =
 link_kind : (bytes target : List ℕ) → IsLinkTo target bytes → kind_of_file bytes ≡ Link (0 ∷ 160 ∷ target)
 link_kind bytes target l = ap kind_of_file l.marked ∙ kind_by (mark ++ target) true (linked target l.some l.utf8)
 
-regular_by : (bytes : List ℕ) (b : Bool) → is_link_file bytes ≡ b → IsNoLink bytes → kind_of_file bytes ≡ Regular (length bytes) (sha256 bytes)
+regular_by : (bytes : List ℕ) (b : Bool) → is_link_file bytes ≡ b → AreBytesOfNoLink bytes → kind_of_file bytes ≡ Regular (length bytes) (sha256 bytes)
 regular_by bytes true e none = absurd (none (link_text bytes) (is_link bytes e))
 regular_by bytes false e none = kind_by bytes false e
 
@@ -71,7 +71,7 @@ tells name bytes kind e = (
 pub link_tells : (name bytes target : List ℕ) → IsLinkTo target bytes → Tells name bytes (Link (0 ∷ 160 ∷ target))
 link_tells name bytes target l = tells name bytes (Link (0 ∷ 160 ∷ target)) (link_kind bytes target l)
 
-pub regular_tells : (name bytes : List ℕ) → IsNoLink bytes
+pub regular_tells : (name bytes : List ℕ) → AreBytesOfNoLink bytes
     → (field_named File (codes "target") (value_of_file (record { name = name; bytes = bytes })) ≡ null)
     × (int_in (field_named File (codes "size") (value_of_file (record { name = name; bytes = bytes }))) ≡ length bytes)
     × (field_named File (codes "hashes") (value_of_file (record { name = name; bytes = bytes })) ≡ blob_or_null (sha256 bytes))

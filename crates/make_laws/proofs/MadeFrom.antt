@@ -16,7 +16,7 @@ use Rattle.make_core.specs.package_files.Sources.{AreNamesBelowFirst, folders_be
 use Rattle.make_core.specs.ReadBack.{packed_of_parts, packed_package}
 use Rattle.make_core.proofs.ListedNames.{after_ok}
 use Rattle.make_core.proofs.PackageFiles.{folders_stand, list-plains}
-use Rattle.make_core.specs.pkg_core.Whole.{Packed, package_with_contents}
+use Rattle.make_core.specs.pkg_core.Whole.{PackageWithContents, package_with_contents}
 use Rattle.make_laws.specs.MadePackages.{HasTriggersInOrder, IsMadePackage, package_in_container}
 
 -- what a package that is made is read back as
@@ -35,7 +35,7 @@ pub record IsMadeFrom (command : CommandLine) (names : List (List ℕ)) (read : 
 
 pub made_from : ReadsBack → (command : CommandLine) (names : List (List ℕ)) (read : Reads) (bytes : List ℕ) → IsMadePackage command names read bytes → IsMadeFrom command names read (package_in_container bytes)
 made_from back command names read bytes made =
-    let whole : Packed = package_with_contents bytes in
+    let whole : PackageWithContents = package_with_contents bytes in
     let one = after_ok (scripts_from read 0 (values_of_letter SCRIPT command.values)) (λ scripts.
     and_then (or_info_bad (information command)) (λ about.
     and_then (folders_below read (length scripts) (values_of_letter FILES command.values) names) (packed_of_parts command scripts about))) whole (back command names read bytes made.below made.made made.short) in
@@ -52,7 +52,7 @@ made_from back command names read bytes made =
       scripts_read = one.is;
       items_read = two.is;
       sources_read = three.is;
-      value = ap (λ (p : Packed). p.value) (sym same);
+      value = ap (λ (p : PackageWithContents). p.value) (sym same);
     }
 
 texts_back : (ts : List (List ℕ)) → map text_in (map blob_or_null ts) ≡ ts

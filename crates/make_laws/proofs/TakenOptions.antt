@@ -13,7 +13,7 @@ use Rattle.make_core.specs.make_info.declared.field.Field.{Field}
 use Rattle.make_core.specs.make_info.declared.field.Field.TheVariants as Fields
 use Rattle.make_core.specs.make_info.Fields.{FieldValue, field_word, kind_of_field, may_repeat, values_by_kind}
 use Rattle.make_core.specs.make_info.FieldTexts.{FieldText, field_text_in, is_option_for_field, is_same_field, is_text_for_field}
-use Rattle.make_core.specs.make_info.Information.{items_of_text, offends, repeats_field, with_values}
+use Rattle.make_core.specs.make_info.Information.{items_of_text, offends, gives_single_field_again, with_values}
 use Rattle.make_core.proofs.make_info.Reading.{same_field}
 use Rattle.make_laws.specs.OptionGrammar.{IsGivenFor, IsTakenOption, is_list_field, option_text}
 use Rattle.make_laws.proofs.FieldValues.{says_from, says_to}
@@ -72,7 +72,7 @@ none_given f (v ∷ vs) none = by_test (is_option_for_field f v) refl (none_give
 
 abbrev offends_given : Bool → List OptionValue → Option FieldText → Bool
 offends_given too_long before o =
-    not (is_some (option_and_then items_of_text o)) || (repeats_field before o || (too_long && is_text_for_field Fields.Version o))
+    not (is_some (option_and_then items_of_text o)) || (gives_single_field_again before o || (too_long && is_text_for_field Fields.Version o))
 
 some_said : (f : Field) (o : Option (List FieldValue)) → not (is_some (with_values [] f o)) ≡ false → (said : List FieldValue) × (o ≡ Some said)
 some_said f None e = absurd (cc (e))
@@ -111,8 +111,8 @@ module _ (spelled : (t : List ℕ) (d : Dependency) → dependency_of t ≡ Some
   taken_by too_long before v None is e = absurd (cc (e))
   taken_by too_long before v (Some g) is e =
       let f : Field = g.field in
-      let one = or_parts (not (is_some (items_of_text g))) (repeats_field before (Some g) || (too_long && is_same_field f Fields.Version)) e in
-      let two = or_parts (repeats_field before (Some g)) (too_long && is_same_field f Fields.Version) one.1 in
+      let one = or_parts (not (is_some (items_of_text g))) (gives_single_field_again before (Some g) || (too_long && is_same_field f Fields.Version)) e in
+      let two = or_parts (gives_single_field_again before (Some g)) (too_long && is_same_field f Fields.Version) one.1 in
       let said = some_said f (values_by_kind (kind_of_field f) g.value) one.0 in
       record {
         field = f;

@@ -12,5 +12,5 @@ pub record IsLinkTo (target bytes : List ℕ) : Type 0 where
   pub utf8 : is_utf8 target ≡ true
 
 -- the bytes of a file are those of no link
-abbrev pub IsNoLink : List ℕ → Type 0
-IsNoLink bytes = (target : List ℕ) → IsLinkTo target bytes → ⊥
+abbrev pub AreBytesOfNoLink : List ℕ → Type 0
+AreBytesOfNoLink bytes = (target : List ℕ) → IsLinkTo target bytes → ⊥

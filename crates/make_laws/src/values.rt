@@ -21,7 +21,7 @@ ghost use Rattle.make_core.specs.make_info.declared.field.Field.{Field};
 ghost use Rattle.make_laws.specs.MadePackages.{package_in_container};
 ghost use Rattle.make_laws.specs.NamedFields.{field_named};
 ghost use Rattle.make_laws.specs.OptionGrammar.{IsTakenOption, FieldTextGivesValues, option_text};
-ghost use Rattle.make_laws.specs.SourceBytes.{IsLinkTo, IsNoLink};
+ghost use Rattle.make_laws.specs.SourceBytes.{IsLinkTo, AreBytesOfNoLink};
 ghost use Rattle.make_core.specs.package_files.Package.{value_of_file};
 ghost use Rattle.make_core.specs.pkg_core.Whole.{package_id};
 ghost use Rattle.sha2.specs.Sha256.{sha256};
@@ -72,7 +72,7 @@ pub fn an_entry_describes_the_bytes_of_its_file()
         × (field_named File (codes "size") file ≡ null)
         × (field_named File (codes "hashes") file ≡ null)) }
     // A regular file.
-    ensures regular { (name bytes : List ℕ) → IsNoLink bytes
+    ensures regular { (name bytes : List ℕ) → AreBytesOfNoLink bytes
         → (let file = value_of_file (record { name = name; bytes = bytes }) in
         (field_named File (codes "target") file ≡ null)
         × (int_in (field_named File (codes "size") file) ≡ length bytes)

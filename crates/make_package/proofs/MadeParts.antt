@@ -35,7 +35,7 @@ use Rattle.package_files.specs.adb_sound.Container.{contents_piece, container_of
 use Rattle.make_package.specs.Answers.{IsBytes, IsFirstValue, IsNotDisk}
 use Rattle.make_package.specs.Making.{container_unless, package_container}
 use Rattle.package_files.specs.Package.{Script, Source, SourceFolder, contents_of_folders, value_of_file, value_of_folder, folder_with, installed_size, kind_of_file, value_of_kind, value_of_package, package_with, size_of_folder, size_of_kind}
-use Rattle.package_files.specs.Packed.{AreFilesFrom, AreFoldersFrom, ArePackedFolders, packed_file, packed_folder, files_size, packed_size}
+use Rattle.package_files.specs.Packed.{AreFilesFrom, AreFoldersFrom, ArePackedFolders, packed_file, packed_folder, files_size, installed_size_of_folders}
 use Rattle.package_files.specs.Runs.{AgreesOrIsFault}
 use Rattle.package_files.specs.Sources.{values_of_letter, texts_of}
 use Rattle.package_files.specs.make_info.declared.fault.MakeFault.{MakeFault}
@@ -174,7 +174,7 @@ files_sized (f ∷ fs) (s ∷ ss) h =
 abbrev pub folder_size : Folder → ℕ
 folder_size folder = files_size folder.files.items
 
-pub folders_sized : (folders : List Folder) (sources : List SourceFolder) → AreFoldersFrom folders sources → packed_size folders ≡ installed_size sources
+pub folders_sized : (folders : List Folder) (sources : List SourceFolder) → AreFoldersFrom folders sources → installed_size_of_folders folders ≡ installed_size sources
 folders_sized [] [] h = refl
 folders_sized [] (s ∷ ss) h = absurd h
 folders_sized (f ∷ fs) [] h = absurd h
@@ -205,9 +205,9 @@ blocks_laid (c ∷ cs) =
 abbrev pub Held : Type 0
 Held = (contents : List Contents) → contents_size contents ≤ length (flat_map block_bytes (map contents_piece contents))
 
-pub sizes_held : Held → (blocks : List ℕ) (folders : Vec Folder Global) (sources : List SourceFolder) → ArePackedFolders blocks folders sources → packed_size folders.items ≤ length blocks
+pub sizes_held : Held → (blocks : List ℕ) (folders : Vec Folder Global) (sources : List SourceFolder) → ArePackedFolders blocks folders sources → installed_size_of_folders folders.items ≤ length blocks
 sizes_held held blocks folders sources h =
-    let sum : packed_size folders.items ≡ installed_size sources = folders_sized folders.items sources h.are in
+    let sum : installed_size_of_folders folders.items ≡ installed_size sources = folders_sized folders.items sources h.are in
     let same : length blocks ≡ length (flat_map block_bytes (map contents_piece (contents_of_folders 1 sources))) = ap length (h.blocks ∙ blocks_laid (contents_of_folders 1 sources)) in
     omega (arith, sum, same, installed_total 1 sources, held (contents_of_folders 1 sources))
 
@@ -270,7 +270,7 @@ memory_answer {A} (Err e) h = let P : MakeFault → Type 0 = λ f. IsNotDisk {A 
 
 -- the value that is written is that of the package
 pub value_is : (about : List FieldWithValue) (size : ℕ) (written folders : List Folder) (sources : List SourceFolder) (scripts : List Script) (values wanted : List OptionValue)
-    → size ≡ packed_size folders → written ≡ folders → AreFoldersFrom folders sources → values ≡ wanted
+    → size ≡ installed_size_of_folders folders → written ≡ folders → AreFoldersFrom folders sources → values ≡ wanted
     → package_with (information_value about size) (map packed_folder written) scripts (texts_of (values_of_letter TRIGGER values)) (replaces_priority about)
     ≡ value_of_package (information_value about (installed_size sources)) sources scripts (texts_of (values_of_letter TRIGGER wanted)) (replaces_priority about)
 value_is about size written folders sources scripts values wanted s w h v =

@@ -70,7 +70,7 @@ IsMakeResult history command (Ok file) = IsMadeOf history command (Ok file.items
 IsMakeResult history command (Err fault) = UnlessDiskOrMemory fault (IsMadeOf history command)
 
 -- `made` is made from a command and the files of a tree in this state
-pub record IsMadeIn (command : CommandLine) (v : TreeState) (made : Result (List ℕ) MakeFault) :
+pub record IsMadeFromTree (command : CommandLine) (v : TreeState) (made : Result (List ℕ) MakeFault) :
     Type 0 where
   pub names : List (List ℕ)
   pub below : AreNamesBelowFirstOption (values_of_letter FILES command.values) v names

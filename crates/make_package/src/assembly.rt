@@ -13,7 +13,7 @@ ghost use Rattle.make_package.specs.Answers.{IsBytes, IsNotDisk};
 ghost use Rattle.make_package.specs.Making.{package_of_parts};
 ghost use Rattle.package_files.specs.adb_sound.Contents.{contents_size};
 ghost use Rattle.package_files.specs.Package.{SourceFolder, contents_of_folders, installed_size, package_with};
-ghost use Rattle.package_files.specs.Packed.{IsPacking, files_size, packed_folder, packed_size};
+ghost use Rattle.package_files.specs.Packed.{IsPacking, files_size, packed_folder, installed_size_of_folders};
 ghost use Rattle.package_files.specs.Runs.{AgreesOrIsFault};
 ghost use Rattle.make_package.specs.Scripts.{scripts_view};
 ghost use Rattle.package_files.specs.Sources.{values_of_letter, texts_of};
@@ -36,7 +36,7 @@ pub(crate) fn package(
 ) -> Result<Vec<u8>, MakeFault>
     // Each packed regular file has its bytes in the blocks, so the sum of the sizes is at most
     // their length.
-    requires { packed_size packing.folders.items ≤ length packing.blocks.items }
+    requires { installed_size_of_folders packing.folders.items ≤ length packing.blocks.items }
     ensures made { (sources : List SourceFolder) → IsPacking packing.entry sources
         → AgreesOrIsFault IsBytes result (package_of_parts command.now
         (scripts_view scripts.now) about.now sources) }
@@ -59,8 +59,8 @@ pub(crate) fn package(
 
 /// The installed size of a package: the sum of the sizes of the files of all folders.
 fn installed_size(folders: &[Folder<'_>]) -> u64
-    requires { packed_size folders.now < 2 ^ 64 }
-    ensures { result ≡ packed_size folders.now }
+    requires { installed_size_of_folders folders.now < 2 ^ 64 }
+    ensures { result ≡ installed_size_of_folders folders.now }
 {
     let mut size = 0;
     for folder in folders {

@@ -24,7 +24,8 @@ pub record HaveSamePlace (one other : RankedVersion) : Type 0 where
   pub source : one.source ≡ other.source
   pub word : one.word ≡ other.word
 
--- both versions of a ranking, if they exist, are the texts at their places in some sources
+-- A ranking has the candidate's own version (`version`), and the version under which the candidate
+-- meets the need (`under`). Each of the two, if it exists, is the text at its place in these sources.
 abbrev pub HasVersionTextsOfSources : List Source → Ranking → Type 0
 HasVersionTextsOfSources sources r = HasVersionTextFrom (source_text sources) r.under × HasVersionTextFrom (source_text sources) r.version
 

@@ -12,7 +12,7 @@ use Rattle.engine_core.specs.change_outcome.ChangeOutcome.{ChangeDone, ChangeWis
 use Rattle.engine_core.specs.change_outcome.ConfigurationLines.{configuration_lines}
 use Rattle.engine_core.specs.change_outcome.Triggers.{trigger_lines}
 use Rattle.command_core.specs.Command.{CommandLine}
-use Rattle.engine_core.specs.Changed.{IsClashFor, Selected, change_of_selected, change_of_command, selected_by, selected_of_inputs, simulated_change}
+use Rattle.engine_core.specs.Changed.{IsClashFor, InputsAndReplacement, change_of_selected, change_of_command, selected_by, selected_of_inputs, simulated_change}
 use Rattle.engine_core.specs.Choice.{IsChoiceFrom}
 use Rattle.engine_core.specs.Selecting.{pool_of_inputs, pool_of_command, replacement_of_choice}
 use Rattle.engine_core.specs.Wishes.{names_to_reinstall, names_to_upgrade, unknown_operand_place, unless_unknown_operand, wishes_of}
@@ -71,12 +71,12 @@ made_lines inputs r wishes read clash files done made =
 -- ---- by what comes of it
 
 -- with a command whose change is only simulated, or is made
-abbrev MadeBy : CommandLine → Files → Option NamePair → Selected → Bool → Result ChangeDone Refusal
+abbrev MadeBy : CommandLine → Files → Option NamePair → InputsAndReplacement → Bool → Result ChangeDone Refusal
 MadeBy command files clash s simulate =
     if simulate then Ok (simulated_change s.replacement (wishes_of command) files) else
     change_or_refusal s.inputs s.replacement (wishes_of command) (reads_in files) clash files
 
-end_by : IsMadeKnown → (command : CommandLine) (files : Files) (clash : Option NamePair) (s : Selected) (simulate : Bool) → command.flags.simulate ≡ simulate
+end_by : IsMadeKnown → (command : CommandLine) (files : Files) (clash : Option NamePair) (s : InputsAndReplacement) (simulate : Bool) → command.flags.simulate ≡ simulate
     → (result : Result ChangeDone Refusal) → MadeBy command files clash s simulate ≡ result → IsEndBy command files s result (change_outcome files result)
 end_by known command files clash s true simulates (Ok done) is =
     let (rest, lines) = subst (λ (d : ChangeDone). HasChangeLines s.replacement d.report) (ap done_or is) (simulated_lines s.replacement (wishes_of command).to_remove) in
@@ -96,7 +96,7 @@ end_by known command files clash s false simulates (Err refusal) is =
 
 module _ (known : IsMadeKnown) (command : CommandLine) (files : Files) where
   -- the outcome of what comes of a selection, or of a refusal in its place
-  abbrev end_of : Option NamePair → Result Selected Refusal → Outcome
+  abbrev end_of : Option NamePair → Result InputsAndReplacement Refusal → Outcome
   end_of clash selected = change_outcome files (and_then selected (change_of_selected command (reads_in files) files clash))
 
   by_choice : (inputs : Inputs) (pool : SealedPool) (chosen : Option (List ℕ)) (clash : Option NamePair)
@@ -106,7 +106,7 @@ module _ (known : IsMadeKnown) (command : CommandLine) (files : Files) where
   by_choice inputs pool None clash are is known_names choice is_clash =
       inr (inl (record { pool = pool; is_pool = ap (λ (r : Result Inputs Refusal). and_then r (pool_of_inputs command)) are ∙ is; none = choice; outcome = refl }))
   by_choice inputs pool (Some trace) clash are is known_names choice is_clash =
-      let s : Selected = record { inputs = inputs; replacement = replacement_of_choice (names_to_reinstall command.applet command.operands) inputs pool trace } in
+      let s : InputsAndReplacement = record { inputs = inputs; replacement = replacement_of_choice (names_to_reinstall command.applet command.operands) inputs pool trace } in
       inr (inr (record {
         pool = pool;
         is_pool = ap (λ (r : Result Inputs Refusal). and_then r (pool_of_inputs command)) are ∙ is;

@@ -14,7 +14,7 @@ use Rattle.command_core.specs.declared.command.Applet.{Applet}
 use Rattle.command_core.specs.declared.command.Applet.TheVariants.{Adbdump, Adbgen, Mkndx, Mkpkg, Verify, Version}
 use Rattle.command_core.specs.declared.command.Flags.{Flags}
 use Rattle.command_core.specs.declared.operands.Operand.{Operand}
-use Rattle.engine_core.specs.Changed.{Selected, change_of_selected, change_of_command, selected_by, selected_for, selected_of_inputs, simulated_change}
+use Rattle.engine_core.specs.Changed.{InputsAndReplacement, change_of_selected, change_of_command, selected_by, selected_for, selected_of_inputs, simulated_change}
 use Rattle.engine_core.specs.Selecting.{pool_of_inputs}
 use Rattle.engine_core.specs.Wishes.{unknown_operand_place, unless_unknown_operand, wishes_of}
 use Rattle.gen_core.specs.Generated.{generated_file}
@@ -141,21 +141,21 @@ place_ok : {A : Type 0} (place : Option ℕ) (next : Result A Refusal) (a : A) �
 place_ok None next a e = e
 place_ok (Some place) next a e = absurd (cc (e))
 
-chosen_inputs : (command : CommandLine) (inputs : Inputs) (pool : SealedPool) (chosen : Option (List ℕ)) (s : Selected) → selected_by command inputs pool chosen ≡ Ok s → s.inputs ≡ inputs
+chosen_inputs : (command : CommandLine) (inputs : Inputs) (pool : SealedPool) (chosen : Option (List ℕ)) (s : InputsAndReplacement) → selected_by command inputs pool chosen ≡ Ok s → s.inputs ≡ inputs
 chosen_inputs command inputs pool None s e = absurd (cc (e))
-chosen_inputs command inputs pool (Some trace) s e = ap (λ (r : Result Selected Refusal). inputs_or r) (sym e)
+chosen_inputs command inputs pool (Some trace) s e = ap (λ (r : Result InputsAndReplacement Refusal). inputs_or r) (sym e)
   where
-    inputs_or : Result Selected Refusal → Inputs
+    inputs_or : Result InputsAndReplacement Refusal → Inputs
     inputs_or (Ok t) = t.inputs
     inputs_or (Err refusal) = inputs
 
-pub selected_inputs : (command : CommandLine) (read : Reads) (chosen : Option (List ℕ)) (s : Selected) → selected_for command read chosen ≡ Ok s → inputs_of command read ≡ Ok s.inputs
+pub selected_inputs : (command : CommandLine) (read : Reads) (chosen : Option (List ℕ)) (s : InputsAndReplacement) → selected_for command read chosen ≡ Ok s → inputs_of command read ≡ Ok s.inputs
 selected_inputs command read chosen s e =
     let (inputs, are, rest) = chain_ok (inputs_of command read) (selected_of_inputs command chosen) s e in
     let (pool, is, left) = chain_ok (pool_of_inputs command inputs) (λ pool. unless_unknown_operand (unknown_operand_place command.applet inputs command.operands) (selected_by command inputs pool chosen)) s rest in
     are ∙ ap (λ (x : Inputs). Ok x) (sym (chosen_inputs command inputs pool chosen s (place_ok (unknown_operand_place command.applet inputs command.operands) (selected_by command inputs pool chosen) s left)))
 
-selected_idle : HaveIdle → (command : CommandLine) (read : Reads) (files : Files) (clash : Option NamePair) (s : Selected) (done : ChangeDone) → IsRootOfFiles files s.inputs.root
+selected_idle : HaveIdle → (command : CommandLine) (read : Reads) (files : Files) (clash : Option NamePair) (s : InputsAndReplacement) (done : ChangeDone) → IsRootOfFiles files s.inputs.root
     → (simulate : Bool) → (if simulate then Ok (simulated_change s.replacement (wishes_of command) files) else change_or_refusal s.inputs s.replacement (wishes_of command) read clash files) ≡ Ok done
     → done.commits ≡ false → done.files ≡ files
 selected_idle idle command read files clash s done root true is nothing = ap (λ (r : Result ChangeDone Refusal). files_or r) (sym is)

@@ -9,7 +9,7 @@ use Rattle.engine_core.specs.change_outcome.ChangeOutcome.{ChangeDone}
 use Rattle.command_core.specs.Command.{CommandLine}
 use Rattle.command_core.specs.declared.command.Applet.{Applet}
 use Rattle.command_core.specs.declared.command.Applet.TheVariants.{Demo, Mkndx, Mkpkg}
-use Rattle.engine_core.specs.Changed.{Selected, change_of_selected}
+use Rattle.engine_core.specs.Changed.{InputsAndReplacement, change_of_selected}
 use Rattle.tell_core.specs.installed_info.declared.telling.ReportAndRefusal.{ReportAndRefusal}
 use Rattle.make_core.specs.make_info.Output.{output_name}
 use Rattle.make_core.specs.make_info.Reads.{Reads}
@@ -51,7 +51,7 @@ input_other refusal stated cause is = false≢true (sym (ap is_input_refusal is)
 package_other : (refusal : Refusal) → is_refusal_after_choice refusal ≡ true → IsOther refusal
 package_other refusal stated cause is = false≢true (sym (ap is_refusal_after_choice is) ∙ stated)
 
-end_other : (command : CommandLine) (files : Files) (s : Selected) (o : Outcome) (result : Result ChangeDone Refusal) → IsEndBy command files s result o → NamesNoIntent o
+end_other : (command : CommandLine) (files : Files) (s : InputsAndReplacement) (o : Outcome) (result : Result ChangeDone Refusal) → IsEndBy command files s result o → NamesNoIntent o
 end_other command files s o (Ok done) reported = subst NamesNoIntent (sym reported.outcome) (λ cause is. cc (is))
 end_other command files s o (Err refusal) (stated, is) = subst NamesNoIntent (sym is) (refused_other files refusal (package_other refusal stated))
 

@@ -7,7 +7,7 @@ use Rattle.tell_core.specs.change_inputs.Inputs.{Inputs}
 use Rattle.engine_core.specs.change_outcome.ChangeOutcome.{ChangeDone, ChangeWishes, IsClashOfChange, change_or_refusal}
 use Rattle.command_core.specs.Command.{CommandLine}
 use Rattle.command_core.specs.declared.command.Applet.{Applet}
-use Rattle.engine_core.specs.Changed.{IsClashFor, IsClashOfSelected, IsClashUnlessSimulated, Selected, change_of_selected, change_of_command, selected_for, simulated_change}
+use Rattle.engine_core.specs.Changed.{IsClashFor, IsClashOfSelected, IsClashUnlessSimulated, InputsAndReplacement, change_of_selected, change_of_command, selected_for, simulated_change}
 use Rattle.engine_core.specs.Wishes.{wishes_of}
 use Rattle.engine_core.specs.journal_core.Recovery.{Intent, intent_in_file, intent_name, is_staged, recovered_files, files_after_intent}
 use Rattle.engine_core.specs.journal_core.Staged.{AreReplayPathsFree, AreStagingPathsFree, unstaged_files}
@@ -42,7 +42,7 @@ HasRoomNow files = (files intent_name ≡ None) × AreStagingPathsFree files
 -- ---- a change
 
 module _ (room : KeepsRoom) (gone : BringsNoIntent) where
-  selected_room : (command : CommandLine) (read : Reads) (files : Files) (clash : Option NamePair) (s : Selected) (done : ChangeDone)
+  selected_room : (command : CommandLine) (read : Reads) (files : Files) (clash : Option NamePair) (s : InputsAndReplacement) (done : ChangeDone)
       → (simulate : Bool) → (if simulate then Ok (simulated_change s.replacement (wishes_of command) files) else change_or_refusal s.inputs s.replacement (wishes_of command) read clash files) ≡ Ok done
       → IsClashUnlessSimulated simulate (wishes_of command) read files s clash → HasRoomNow files → HasRoomNow done.files
   selected_room command read files clash s done true is is_clash now = subst HasRoomNow (ap (λ (r : Result ChangeDone Refusal). files_or r) is) now
@@ -58,7 +58,7 @@ module _ (room : KeepsRoom) (gone : BringsNoIntent) where
   unfolding change_of_command
   changed_room command read files chosen clash done is_clash is now =
       let (s, selected, rest) = chain_ok (selected_for command read chosen) (change_of_selected command read files clash) done is in
-      selected_room command read files clash s done command.flags.simulate rest (subst (λ (r : Result Selected Refusal). IsClashOfSelected command read files r clash) selected is_clash) now
+      selected_room command read files clash s done command.flags.simulate rest (subst (λ (r : Result InputsAndReplacement Refusal). IsClashOfSelected command read files r clash) selected is_clash) now
 
   change_room : (command : CommandLine) (files : Files) (chosen : Option (List ℕ)) (clash : Option NamePair) (result : Result ChangeDone Refusal)
       → change_of_command command (reads_in files) files chosen clash ≡ result → IsClashFor command (reads_in files) files chosen clash

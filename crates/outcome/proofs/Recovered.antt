@@ -10,14 +10,14 @@ use Rattle.make_core.specs.adb_fields.Repeated.{list_of}
 use Rattle.gen_core.specs.adb_schema.Reserved.{is_intent_or_stage_name}
 use Rattle.gen_core.specs.adb_schema.Rules.{is_changeable_name}
 use Rattle.gen_core.specs.adb_schema.SoundValues.{IsChangeableName}
-use Rattle.gen_core.specs.adb_schema.SoundContainers.{IsSound, IsSoundValue}
+use Rattle.gen_core.specs.adb_schema.SoundContainers.{IsSoundContainer, IsSoundValue}
 use Rattle.gen_core.specs.adb_schema.Soundness.{first_fault, payload_in, root_value}
 use Rattle.adb_view.specs.Values.{entries_in, entry_in, text_in}
 use Rattle.adb_view.specs.declared.tables.Which.{Which}
 use Rattle.adb_view.specs.declared.tables.Which.TheVariants.{Intent as IntentTable}
 use Rattle.adb_view.specs.Plain.{Plain, Plains, none, more}
 use Rattle.adb_view.specs.Shaped.{Each}
-use Rattle.base_core.specs.Files.{AreNamedFiles, Files, IsFile, HasNamesAmong, drop_name, move_name}
+use Rattle.base_core.specs.Files.{AreNamedFiles, Files, AreFileBytes, HasNamesAmong, drop_name, move_name}
 use Rattle.base_core.specs.Name.{IsName, is_name}
 use Rattle.base_core.specs.declared.cause.Cause.{Cause}
 use Rattle.engine_core.specs.journal_core.Recovery.{Intent, files_after_actions, files_after_moves, intent_in_file, intent_of_value, intent_name, intent_of, is_staged, move_if_present, read_intent, recovered_files, files_after_intent, stage_name, without_names}
@@ -118,11 +118,11 @@ abbrev pub ReadNone : Type 0
 ReadNone = (file : List ℕ) (cause : Cause) → first_fault IntentTable file ≡ Some cause → read_intent file ≡ None
 
 abbrev pub HoldsSound : Type 0
-HoldsSound = (which : Which) (file : List ℕ) → IsSound which file → IsSoundValue which (root_value which (payload_in file))
+HoldsSound = (which : Which) (file : List ℕ) → IsSoundContainer which file → IsSoundValue which (root_value which (payload_in file))
 
 -- a name and the content of a file
 abbrev NamedFile : Property
-NamedFile q bytes = IsName q × IsFile bytes
+NamedFile q bytes = IsName q × AreFileBytes bytes
 
 change_named : (name : List ℕ) → is_changeable_name name ≡ true → IsName name
 change_named name h = (and_parts (is_name name) (not (is_intent_or_stage_name name)) h).0

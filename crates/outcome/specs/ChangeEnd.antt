@@ -7,7 +7,7 @@ use Rattle.base_core.specs.Files.{Files}
 use Rattle.base_core.specs.declared.cause.Cause.{Cause}
 use Rattle.engine_core.specs.change_outcome.ChangeOutcome.{ChangeDone}
 use Rattle.command_core.specs.Command.{CommandLine}
-use Rattle.engine_core.specs.Changed.{IsClashFor, Selected, change_of_selected, selected_for}
+use Rattle.engine_core.specs.Changed.{IsClashFor, InputsAndReplacement, change_of_selected, selected_for}
 use Rattle.engine_core.specs.Selecting.{pool_of_command}
 use Rattle.engine_core.specs.package_changes.Changes.{changes_of}
 use Rattle.engine_core.specs.package_changes.Placed.{candidates_at}
@@ -76,7 +76,7 @@ pub record HasNoSelection (command : CommandLine) (files : Files) (o : Outcome) 
 
 -- A change is committed and reported; the report begins with what becomes of each package. A simulated
 -- one leaves the files.
-pub record IsReported (command : CommandLine) (files : Files) (selected : Selected)
+pub record IsReported (command : CommandLine) (files : Files) (selected : InputsAndReplacement)
     (done : ChangeDone) (o : Outcome) : Type 0 where
   pub outcome : o ≡ change_outcome files (Ok done)
   pub rest : List ℕ
@@ -86,7 +86,7 @@ pub record IsReported (command : CommandLine) (files : Files) (selected : Select
 -- how a change ends once its candidates are selected: it is made, or a stated fault of its packages is
 -- refused
 abbrev pub IsEndBy :
-    CommandLine → Files → Selected → Result ChangeDone Refusal → Outcome → Type 0
+    CommandLine → Files → InputsAndReplacement → Result ChangeDone Refusal → Outcome → Type 0
 IsEndBy command files selected (Ok done) o = IsReported command files selected done o
 IsEndBy command files selected (Err refusal) o =
     (is_refusal_after_choice refusal ≡ true) × (o ≡ just_refusal files refusal)
@@ -98,7 +98,7 @@ pub record TakesFirstSelection (command : CommandLine) (files : Files) (o : Outc
   pub is_pool : pool_of_command command (reads_in files) ≡ Ok pool
   pub trace : List ℕ
   pub first : IsFirstSelection pool trace
-  pub selected : Selected
+  pub selected : InputsAndReplacement
   pub selects : selected_for command (reads_in files) (Some trace) ≡ Ok selected
   pub candidates : selected.replacement.selected ≡ candidates_at pool trace
   pub clash : Option NamePair

@@ -69,11 +69,11 @@ MayBeListedFor Mkpkg command names = AreNamesBelowFirst (values_of_letter FILES 
 MayBeListedFor other command names = names ≡ []
 
 -- the first clash of names after a command among some present files; only a change has one
-abbrev pub MayClash :
+abbrev pub IsClashForEffect :
     Effect → CommandLine → Reads → Files → Option (List ℕ) → Option NamePair → Type 0
-MayClash Changes command read files chosen clash =
+IsClashForEffect Changes command read files chosen clash =
     (present_files : Files) × IsClashForAmong command read files present_files chosen clash
-MayClash other command read files chosen clash = clash ≡ None
+IsClashForEffect other command read files chosen clash = clash ≡ None
 
 -- all parts that a command may be given on a tree whose files no contract knows, by some files
 pub record MayBeGiven (command : CommandLine) (read : Reads) (files : Files) (given : Given)
@@ -81,4 +81,4 @@ pub record MayBeGiven (command : CommandLine) (read : Reads) (files : Files) (gi
   pub names : MayBeListedFor command.applet command given.names
   pub chosen : IsChosenFor (effect_of command.applet) command read given.chosen
   pub clash :
-      MayClash (effect_of command.applet) command read files given.chosen given.clash
+      IsClashForEffect (effect_of command.applet) command read files given.chosen given.clash

@@ -23,7 +23,7 @@ use Rattle.change_files.proofs.PlanNames.{removals_hold, removals_rise, writes_a
 use Rattle.change_files.proofs.Reserved.{written_unreserved}
 use Rattle.change_files.proofs.Untouched.{removed_is}
 use Rattle.own_core.specs.Fates.{is_apk_new_name_free}
-use Rattle.own_core.specs.Planned.{ArePlanLists, HasDisjointUnreservedNames, HasSources, IsOfAddedFile, IsUnreservedName, IsPlanFor, IsPlanOf}
+use Rattle.own_core.specs.Planned.{ArePlanLists, HasDisjointUnreservedNames, HasSources, IsOfAddedFile, IsUnreservedName, IsPlanForMembersAlone, IsPlanOverSomeFiles}
 use Rattle.own_core.specs.WritesSeen.{writes_in}
 use Rattle.own_core.specs.declared.fault.PlanFault.{PlanFault}
 use Rattle.own_core.specs.declared.planning.FilePlan.{FilePlan}
@@ -135,12 +135,12 @@ module _ (change : FileChange) (files : Files) (old_named : All (λ l. IsName l.
 
 pub names_if_planned : (change : FileChange) (h : List TreeState) (r : Result FilePlan PlanFault) → All (λ l. IsName l.path) (member_listings (map member_of_kept change.old))
     → All (λ l. is_reserved l.path ≡ false) (member_listings (map member_of_kept change.old)) → All (λ l. IsName l.path) (member_listings change.members)
-    → IfOk r (IsPlanOf change h) → IfOk r (IsPlanFor change.members) → IfOk r HasDisjointUnreservedNames
+    → IfOk r (IsPlanOverSomeFiles change h) → IfOk r (IsPlanForMembersAlone change.members) → IfOk r HasDisjointUnreservedNames
 names_if_planned change h (Ok plan) old_named old_free named is for = own_names change is.files old_named old_free named for.allowed plan is.lists
 names_if_planned change h (Err fault) old_named old_free named is for = tt
 
 pub sources_if_planned : (change : FileChange) (h : List TreeState) (r : Result FilePlan PlanFault) → All (λ l. IsName l.path) (member_listings (map member_of_kept change.old))
     → All (λ l. is_reserved l.path ≡ false) (member_listings (map member_of_kept change.old)) → All (λ l. IsName l.path) (member_listings change.members)
-    → IfOk r (IsPlanOf change h) → IfOk r (IsPlanFor change.members) → IfOk r (HasSources change.members)
+    → IfOk r (IsPlanOverSomeFiles change h) → IfOk r (IsPlanForMembersAlone change.members) → IfOk r (HasSources change.members)
 sources_if_planned change h (Ok plan) old_named old_free named is for = own_sources change is.files old_named old_free named for.allowed plan is.lists
 sources_if_planned change h (Err fault) old_named old_free named is for = tt

@@ -30,7 +30,7 @@ use Rattle.own_core.specs.Going.{is_file_kept, is_apk_new_name_of, is_path_left_
 use Rattle.own_core.specs.ListsSeen.{AreListsOfParts}
 use Rattle.own_core.specs.Parts.{AreFilesByFate, apk_new_claims_of, left_over_claims_of}
 use Rattle.own_core.specs.NamesChanged.{name_change_of_parts}
-use Rattle.own_core.specs.Planned.{IsClashBySome, NamesRivalsIfContested, IsPlanOf, MayBeRefusalOf}
+use Rattle.own_core.specs.Planned.{IsClashBySome, NamesRivalsIfContested, IsPlanOverSomeFiles, MayBeRefusalOf}
 use Rattle.own_core.specs.Sides.{HasClaimsOfPackages, claims_after, claims_before, file_change_of}
 use Rattle.own_core.specs.declared.claim_change.ClaimChange.{ClaimChange}
 use Rattle.own_core.specs.declared.fault.PlanFault.{PlanFault}
@@ -128,7 +128,7 @@ module _ (change : ClaimChange) (claims : HasClaimsOfPackages change) (coming : 
   contest_may_be Memory owned found none may = tt
 
   pub plan_is : (flags : List Bool) (plan : FilePlan) → AreListsOfParts parts flags plan → (h1 : List TreeState) → h1 ≡ h → (found : Option Clash) → found ≡ None
-      → IfObservable h1 (λ v. IsFirstClashOrNone (name_change (file_change_of change) (files_of v)) (files_of v) (option_map clash_seen found)) → IsFirstClashOverSomeFiles (name_change_of_parts change parts) (option_map clash_seen found) → IsPlanOf (file_change_of change) h plan
+      → IfObservable h1 (λ v. IsFirstClashOrNone (name_change (file_change_of change) (files_of v)) (files_of v) (option_map clash_seen found)) → IsFirstClashOverSomeFiles (name_change_of_parts change parts) (option_map clash_seen found) → IsPlanOverSomeFiles (file_change_of change) h plan
   plan_is flags plan lists h1 same found none told may = record {
     files = over_files.files;
     told = over_files.told;

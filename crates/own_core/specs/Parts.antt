@@ -19,7 +19,7 @@ use Rattle.own_core.specs.declared.parts.Parts.{Parts}
 abbrev pub written_claims_of : Parts → List PathClaim
 written_claims_of parts = map claim_seen parts.ins.items
 
--- the claims of the files that are laid beside the user's
+-- the claims of the files that are written under the name with `.apk-new` beside a file of the user
 abbrev pub apk_new_claims_of : Parts → List PathClaim
 apk_new_claims_of parts = map claim_seen parts.asides.items
 
@@ -27,7 +27,7 @@ apk_new_claims_of parts = map claim_seen parts.asides.items
 abbrev pub removed_claims_of : Parts → List PathClaim
 removed_claims_of parts = map claim_seen parts.removed.items
 
--- the claims of the files that are kept, since the user changed them
+-- the claims of the files that are kept because the user changed them
 abbrev pub kept_claims_of : Parts → List PathClaim
 kept_claims_of parts = map claim_seen parts.kept.items
 

@@ -45,7 +45,7 @@ pub record ArePlanLists (change : FileChange) (files : Files) (plan : FilePlan) 
 
 -- the lists of a plan are those of the change over some files, and over some no name is a folder of
 -- another; if the tree's files are observable, both are these
-pub record IsPlanOf (change : FileChange) (history : List TreeState) (plan : FilePlan) : Type 0 where
+pub record IsPlanOverSomeFiles (change : FileChange) (history : List TreeState) (plan : FilePlan) : Type 0 where
   pub files : Files
   pub told : IfObservable history (λ v. files ≡ files_of v)
   pub lists : ArePlanLists change files plan
@@ -54,7 +54,7 @@ pub record IsPlanOf (change : FileChange) (history : List TreeState) (plan : Fil
 
 -- what a plan ensures of the members alone: for each file it says whether its package owns it, no added
 -- package lists a reserved path, and no path is contested
-pub record IsPlanFor (members : List Member) (plan : FilePlan) : Type 0 where
+pub record IsPlanForMembersAlone (members : List Member) (plan : FilePlan) : Type 0 where
   pub owned : plan.owned ≡ owned_flags_of members
   pub allowed : first_reserved_path members ≡ None
   pub owners : first_contested_path_of_members members ≡ None
@@ -112,13 +112,13 @@ NamesRivalsIfContested members Memory = ⊥
 
 -- over these files: a clash of names is the first one; and if a contested path is reported, there is no
 -- clash, which would have priority
-abbrev pub IsRefusalOf : FileChange → Files → PlanFault → Type 0
-IsRefusalOf change files (Reserved path) = Unit {0}
-IsRefusalOf change files (PathClash path other) =
+abbrev pub IsRefusalOverFiles : FileChange → Files → PlanFault → Type 0
+IsRefusalOverFiles change files (Reserved path) = Unit {0}
+IsRefusalOverFiles change files (PathClash path other) =
     IsFirstClash (name_change change files) files (record { path = path; other = other })
-IsRefusalOf change files (Owned path first second) = HasNoClash (name_change change files) files
-IsRefusalOf change files Disk = Unit {0}
-IsRefusalOf change files Memory = Unit {0}
+IsRefusalOverFiles change files (Owned path first second) = HasNoClash (name_change change files) files
+IsRefusalOverFiles change files Disk = Unit {0}
+IsRefusalOverFiles change files Memory = Unit {0}
 
 -- the clash, or that there is none, is found among the names after the change over some files: the
 -- tree's, if they are observable
@@ -140,10 +140,10 @@ MayBeRefusalOf change history Memory = Unit {0}
 
 -- over any tree, by the members alone: a reserved path is the first; another fault, except out of
 -- memory, is reported only if there is none; and a contested path has the names of its rivals
-abbrev pub IsRefusalFor : List Member → PlanFault → Type 0
-IsRefusalFor members (Reserved path) = first_reserved_path members ≡ Some path
-IsRefusalFor members (PathClash path other) = first_reserved_path members ≡ None
-IsRefusalFor members (Owned path first second) =
+abbrev pub IsRefusalForMembersAlone : List Member → PlanFault → Type 0
+IsRefusalForMembersAlone members (Reserved path) = first_reserved_path members ≡ Some path
+IsRefusalForMembersAlone members (PathClash path other) = first_reserved_path members ≡ None
+IsRefusalForMembersAlone members (Owned path first second) =
     (first_reserved_path members ≡ None) × IsFirstContest members path first second
-IsRefusalFor members Disk = first_reserved_path members ≡ None
-IsRefusalFor members Memory = Unit {0}
+IsRefusalForMembersAlone members Disk = first_reserved_path members ≡ None
+IsRefusalForMembersAlone members Memory = Unit {0}

@@ -7,7 +7,7 @@ use Rattle.std.specs.declared.cmp.Ordering.{Ordering}
 use Rattle.base_core.specs.Name.{IsName}
 use Rattle.base_core.specs.ByteOrder.{bytes_cmp}
 use Rattle.path_claim_lists.specs.path_claims.Claims.{PathClaim}
-use Rattle.change_files.specs.Fate.{apk_new_name, longest_name}
+use Rattle.change_files.specs.Fate.{apk_new_name, most_name_bytes}
 use Rattle.change_files.specs.PlanLists.{FileWrite}
 use Rattle.own_core.specs.declared.writes.Write.{Write}
 use Rattle.own_core.specs.declared.writes.Writes.{Writes}
@@ -39,7 +39,7 @@ write_cmp = on (λ w. w.name) bytes_cmp
 -- the path of a claim is a name, and so is the name beside it, which is not too long for one
 pub record CanHaveApkNewName (c : PathClaim) : Type 0 where
   pub name : IsName c.path
-  pub short : length (apk_new_name c.path) ≤ longest_name
+  pub short : length (apk_new_name c.path) ≤ most_name_bytes
 
 -- each of these claims has a name beside its path
 abbrev pub CanHaveApkNewNames : List PathClaim → Type 0

@@ -4,7 +4,7 @@
 
 ghost use Rattle.std.specs.Prelude.{◌≡◌, ◌≤◌, IfOk, length, option_map};
 ghost use Rattle.path_claim_lists.specs.adb_fields.JoinedPath.{joined_path};
-ghost use Rattle.change_files.specs.Fate.{apk_new_name, is_protected_path, longest_name};
+ghost use Rattle.change_files.specs.Fate.{apk_new_name, is_protected_path, most_name_bytes};
 ghost use Rattle.change_files.specs.FilesAfter.{path_of_apk_new_name};
 
 use base_core::Name;
@@ -39,7 +39,7 @@ pub(crate) fn aside_bytes(alloc: Global, name: &[u8]) -> Result<Vec<u8>, AllocEr
 
 /// The name beside a name, `NAME.apk-new`, if that is not too long for a name.
 pub fn name_beside(alloc: Global, name: &Name) -> Result<Name, AllocError>
-    requires { length (apk_new_name name.now) ≤ longest_name }
+    requires { length (apk_new_name name.now) ≤ most_name_bytes }
     ensures { IfOk result (λ beside. beside ≡ apk_new_name name.now) }
 {
     let bytes = aside_bytes(alloc, name.as_bytes())?;

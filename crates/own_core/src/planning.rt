@@ -25,7 +25,7 @@ ghost use Rattle.own_core.specs.ClaimEntries.{AreClaimsOf, IsClaimOf, is_of_adde
 ghost use Rattle.own_core.specs.ListsSeen.{AreListsOfParts};
 ghost use Rattle.own_core.specs.Parts.{AreFilesByFate, apk_new_claims_of, kept_claims_of, removed_claims_of, written_claims_of};
 ghost use Rattle.own_core.specs.NamesChanged.{name_change_of_parts};
-ghost use Rattle.own_core.specs.Planned.{HasDisjointUnreservedNames, HasSources, NamesRivalsIfContested, IsPlanFor, IsPlanOf, IsRefusalFor, IsRefusalOf, MayBeRefusalOf, file_change_between, member_name_at};
+ghost use Rattle.own_core.specs.Planned.{HasDisjointUnreservedNames, HasSources, NamesRivalsIfContested, IsPlanForMembersAlone, IsPlanOverSomeFiles, IsRefusalForMembersAlone, IsRefusalOverFiles, MayBeRefusalOf, file_change_between, member_name_at};
 ghost use Rattle.own_core.specs.Sides.{HasClaimsOfPackages, claims_after, file_change_of};
 ghost use Rattle.own_core.specs.WritesSeen.{CanHaveApkNewNames};
 
@@ -232,13 +232,13 @@ fn plan_of_claims<T: Tree>(
     requires unreserved { first_reserved_path (members_of change.now.members.now) ≡ None }
     requires named { All (λ l. IsName l.path)
         (member_listings (members_of change.now.members.now)) }
-    ensures plan { IfOk result (IsPlanOf (file_change_of change.now) (T.history tree.old)) }
-    ensures lists { IfOk result (IsPlanFor (members_of change.now.members.now)) }
+    ensures plan { IfOk result (IsPlanOverSomeFiles (file_change_of change.now) (T.history tree.old)) }
+    ensures lists { IfOk result (IsPlanForMembersAlone (members_of change.now.members.now)) }
     ensures refusal { IfErr result (λ fault. IfObservable (T.history tree.old) (λ v.
-        IsRefusalOf (file_change_of change.now) (files_of v) fault)) }
+        IsRefusalOverFiles (file_change_of change.now) (files_of v) fault)) }
     ensures may { IfErr result
         (MayBeRefusalOf (file_change_of change.now) (T.history tree.old)) }
-    ensures cause { IfErr result (IsRefusalFor (members_of change.now.members.now)) }
+    ensures cause { IfErr result (IsRefusalForMembersAlone (members_of change.now.members.now)) }
     ensures tree { OnlyReads PlanFault.Disk (T.history tree.old) (T.history tree.new)
         (T.counts tree.old) (T.counts tree.new) result }
 {
@@ -275,23 +275,23 @@ pub fn plan<'c, T: Tree>(
     // The lists are the change's over the tree's files if they are observable, and otherwise over
     // some.
     ensures plan { IfOk result
-        (IsPlanOf (file_change_between old.now after.now purge) (T.history tree.old)) }
+        (IsPlanOverSomeFiles (file_change_between old.now after.now purge) (T.history tree.old)) }
     // The removed and written names are names that a package may list, and none is both.
     ensures names { IfOk result HasDisjointUnreservedNames }
     // The contents of each write are a file of an added package.
     ensures sources { IfOk result (HasSources (members_of after.now)) }
     // Each file has its owner, and no path is reserved or contested.
-    ensures lists { IfOk result (IsPlanFor (members_of after.now)) }
+    ensures lists { IfOk result (IsPlanForMembersAlone (members_of after.now)) }
     // If the tree's files are observable: a clash is the first one, and has priority over a
     // contested path.
     ensures refusal { IfErr result (λ fault. IfObservable (T.history tree.old) (λ v.
-        IsRefusalOf (file_change_between old.now after.now purge) (files_of v) fault)) }
+        IsRefusalOverFiles (file_change_between old.now after.now purge) (files_of v) fault)) }
     // The same over some files, if the tree's are not observable.
     ensures may { IfErr result
         (MayBeRefusalOf (file_change_between old.now after.now purge) (T.history tree.old)) }
     // What the packages alone show: a reserved path has priority, and a contested one has its
     // rivals.
-    ensures cause { IfErr result (IsRefusalFor (members_of after.now)) }
+    ensures cause { IfErr result (IsRefusalForMembersAlone (members_of after.now)) }
     // The tree is only read, and `Disk` has a fault of the tree as its cause.
     ensures tree { OnlyReads PlanFault.Disk (T.history tree.old) (T.history tree.new)
         (T.counts tree.old) (T.counts tree.new) result }

@@ -23,8 +23,8 @@ abbrev pub files_size : List File → ℕ
 files_size files = sum_by (λ (file : File). size_of_kind file.kind) files
 
 -- the sum of the sizes of all files of folders that were packed
-abbrev pub packed_size : List Folder → ℕ
-packed_size folders = sum_by (λ (folder : Folder). files_size folder.files.items) folders
+abbrev pub installed_size_of_folders : List Folder → ℕ
+installed_size_of_folders folders = sum_by (λ (folder : Folder). files_size folder.files.items) folders
 
 -- a packed file is that of a file that was read: it has the name, and is what the bytes say
 pub record IsFileFrom (file : File) (source : Source) : Type 0 where
@@ -82,6 +82,7 @@ pub record ArePackedFolders (written : List ℕ) (folders : Vec Folder Global)
   pub are : AreFoldersFrom folders.items sources
   pub blocks : written ≡ contents_blocks (contents_of_folders 1 sources)
 
--- what was packed of a package is that of the folders that were read: folders and blocks together
+-- A packing is made of the folders that were read. Its folders have their names and files, and its
+-- blocks are the blocks of contents of these files, in their order.
 abbrev pub IsPacking : Packing → List SourceFolder → Type 0
 IsPacking packing sources = ArePackedFolders packing.blocks.items packing.folders sources

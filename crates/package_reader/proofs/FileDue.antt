@@ -13,7 +13,7 @@ use Rattle.adb_view.specs.Values.{entry_in, int_in, text_in}
 use Rattle.pkg_core.specs.Contents.{Expected, expected_at, expected_contents, expected_files, expected_folders, hash_fault}
 use Rattle.pkg_core.specs.Opened.{expected_file_at, expected_of, is_expected_at}
 use Rattle.pkg_core.specs.declared.walk.Wanted.{Wanted}
-use Rattle.pkg_core.specs.Pieces.{PiecesRead, no_piece, pieces_of_one_file, refusal, whole_piece_count}
+use Rattle.pkg_core.specs.Pieces.{PiecesRead, no_piece, pieces_of_one_file, refusal, piece_count_before_last}
 use Rattle.pkg_core.specs.Taking.{HasTaken, IsTakeResult, file_bytes_left, next_piece_len}
 use Rattle.pkg_core.specs.declared.file.FileCheck.{FileCheck}
 
@@ -70,7 +70,7 @@ refused_whole f so_far bytes c has some len taken =
     let b = length-append bytes left in
     let d = length-replicate {A = ℕ} (file_bytes_left f - length bytes) 0 in
     let whole : length (so_far ++ (bytes ++ left)) ≡ f.wanted.size = omega (arith, a, b, d, many, some, len) in
-    let is = refused_none_left (whole_piece_count (length (bytes ++ left))) (expected_of f.wanted) (hash_fault f.wanted.hash.now (so_far ++ (bytes ++ left))) (bytes ++ left) no_piece c (taken so_far left no_piece has whole) in
+    let is = refused_none_left (piece_count_before_last (length (bytes ++ left))) (expected_of f.wanted) (hash_fault f.wanted.hash.now (so_far ++ (bytes ++ left))) (bytes ++ left) no_piece c (taken so_far left no_piece has whole) in
     let zero_pieces = is.0 in
     let all : file_bytes_left f ≡ length bytes = omega (arith, b, d, len, zero_pieces, some) in
     let no_more : left ≡ [] = ap (λ (n : ℕ). replicate {A = ℕ} n 0) (let e : file_bytes_left f - length bytes ≡ 0 = omega (arith, all) in e) in

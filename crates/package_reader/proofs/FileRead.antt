@@ -9,11 +9,11 @@ use Rattle.pkg_core.specs.Contents.{Expected, hash_fault}
 use Rattle.pkg_core.specs.Opened.{expected_of}
 use Rattle.pkg_core.specs.declared.walk.Wanted.{Wanted}
 use Rattle.pkg_core.specs.Seen.{AreBytesRead, HasBytesAtOffset}
-use Rattle.pkg_core.specs.Pieces.{PiecesRead, no_piece, pieces_of_one_file, refusal, whole_piece_count}
+use Rattle.pkg_core.specs.Pieces.{PiecesRead, no_piece, pieces_of_one_file, refusal, piece_count_before_last}
 use Rattle.pkg_core.specs.Taking.{file_bytes_left, pieces_in}
 use Rattle.pkg_core.specs.declared.file.Part.{Part}
 use Rattle.package_reader.specs.FileReading.{ReturnsNextBytes, HasUnreadBytes, package_name_of_file}
-use Rattle.package_reader.specs.Opened.{AreLeftOf, AreUnreadBytes, IsNextPiece, IsOpenFile, IsPieceOf, IsNotDiskResult, unread_bytes, open_file_end}
+use Rattle.package_reader.specs.Opened.{AreLeftOf, AreUnreadBytes, IsResultOfNextPiece, IsOpenFile, IsPieceOf, IsNotDiskResult, unread_bytes, open_file_end}
 use Rattle.package_reader.specs.declared.piece.PieceFault.{PieceFault}
 use Rattle.package_reader.specs.declared.piece.PieceFault.TheVariants.{Bad, Disk}
 use Rattle.package_reader.specs.declared.one_file.FilePieces.{FilePieces}
@@ -73,7 +73,7 @@ split_at (suc n) (suc l) (x ∷ xs) few =
 
 -- what a call says of each package that has the bytes
 abbrev pub IsAnswerOf : OpenFile → List ℕ → Result (Part × Option OpenFile) PieceFault → Type 0
-IsAnswerOf o bytes result = (file so_far : List ℕ) (further before : PiecesRead) → HasBytesAtOffset file o.at bytes → o.at + file_bytes_left o.file ≤ length file → IsOpenFile o so_far file further before → IsNextPiece so_far file bytes further before result
+IsAnswerOf o bytes result = (file so_far : List ℕ) (further before : PiecesRead) → HasBytesAtOffset file o.at bytes → o.at + file_bytes_left o.file ≤ length file → IsOpenFile o so_far file further before → IsResultOfNextPiece so_far file bytes further before result
 
 abbrev GivesBytesOf : List TreeState → FilePieces → (List ℕ → List ℕ → Type 0) → List ℕ → Result Bool PieceFault → Type 0
 GivesBytesOf h old Then bytes r = IfObservable h (λ v. (pkg left : List ℕ) → files_of v (package_name_of_file old) ≡ Some pkg → HasUnreadBytes old pkg left → ReturnsNextBytes (Then pkg) left bytes r)
@@ -96,7 +96,7 @@ good_further o f so_far left bytes rest same whole good =
     ∙ (ap (λ (xs : List ℕ). hash_fault o.file.wanted.hash.now xs) (append_assoc so_far bytes rest ∙ ap (λ (xs : List ℕ). so_far ++ xs) (sym whole))
     ∙ good)
 
-given : (o : OpenFile) (rest : Option OpenFile) (pkg left bytes : List ℕ) (part : Part) → (is : AreLeftOf o pkg left) → HasBytesAtOffset pkg o.at bytes → IsNextPiece is.so_far pkg bytes no_piece (pieces_in o.file is.so_far left no_piece) (Ok (part, rest)) → IfNone rest (length bytes ≡ file_bytes_left o.file) → IsPieceOf o (length bytes) (part, rest)
+given : (o : OpenFile) (rest : Option OpenFile) (pkg left bytes : List ℕ) (part : Part) → (is : AreLeftOf o pkg left) → HasBytesAtOffset pkg o.at bytes → IsResultOfNextPiece is.so_far pkg bytes no_piece (pieces_in o.file is.so_far left no_piece) (Ok (part, rest)) → IfNone rest (length bytes ≡ file_bytes_left o.file) → IsPieceOf o (length bytes) (part, rest)
     → IfSome rest (λ further. further.at + file_bytes_left further.file ≡ o.at + file_bytes_left o.file) → (further : List ℕ) × (left ≡ bytes ++ further) × AreUnreadBytes rest pkg further
 given o None pkg left bytes part is has this all of room = ([], last_given o pkg left bytes is has all, refl)
 given o (Some f) pkg left bytes part is has this all of room =
@@ -133,5 +133,5 @@ gives_fault (v ∷ earlier) old Then o bytes (Bad d) (Err (Bad c)) is some answe
     let left_of : AreLeftOf o pkg left = subst (λ (x : Option OpenFile). AreUnreadBytes x pkg left) is reading.1 in
     let has : HasBytesAtOffset pkg o.at bytes = there_by (files_of v (package_name_of_file old)) pkg bytes o.at there (seen tt (length pkg)) in
     let this = next pkg left_of.so_far no_piece _ has (room_for o pkg left some left_of) (as_open o pkg left left_of) in
-    never_refused (whole_piece_count (length left)) (expected_of o.file.wanted) left no_piece d
-    (ap (λ (x : Option Cause). pieces_of_one_file (whole_piece_count (length left)) (expected_of o.file.wanted) x left no_piece) (sym left_of.good) ∙ this)
+    never_refused (piece_count_before_last (length left)) (expected_of o.file.wanted) left no_piece d
+    (ap (λ (x : Option Cause). pieces_of_one_file (piece_count_before_last (length left)) (expected_of o.file.wanted) x left no_piece) (sym left_of.good) ∙ this)

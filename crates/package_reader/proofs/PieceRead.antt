@@ -8,7 +8,7 @@ use Rattle.pkg_core.specs.Pieces.{PiecesRead}
 use Rattle.pkg_core.specs.Taking.{IsTakeResult, file_bytes_left, pieces_in}
 use Rattle.pkg_core.specs.declared.file.FileCheck.{FileCheck}
 use Rattle.pkg_core.specs.declared.file.Part.{Part}
-use Rattle.package_reader.specs.Opened.{IsNextPiece, IsOpenFile, IsNotDiskResult, unread_bytes}
+use Rattle.package_reader.specs.Opened.{IsResultOfNextPiece, IsOpenFile, IsNotDiskResult, unread_bytes}
 use Rattle.package_reader.specs.declared.piece.PieceFault.{PieceFault}
 use Rattle.package_reader.specs.declared.piece.PieceFault.TheVariants.{Bad, Disk}
 use Rattle.package_reader.specs.declared.open.OpenFile.{OpenFile}
@@ -20,7 +20,7 @@ not_disk (Ok value) fault is disk h = is
 not_disk (Err (Bad c)) fault is disk h = let e : Bad c ≡ Disk = is ∙ disk in (cc)
 not_disk (Err Disk) fault is disk h = h
 
-pub disk_piece : (so_far file bytes : List ℕ) (further before : PiecesRead) (r : Result (Part × Option OpenFile) PieceFault) (fault : PieceFault) → IsErrAnd r (λ other. other ≡ fault) → fault ≡ Disk → IsNextPiece so_far file bytes further before r
+pub disk_piece : (so_far file bytes : List ℕ) (further before : PiecesRead) (r : Result (Part × Option OpenFile) PieceFault) (fault : PieceFault) → IsErrAnd r (λ other. other ≡ fault) → fault ≡ Disk → IsResultOfNextPiece so_far file bytes further before r
 disk_piece so_far file bytes further before (Ok value) fault is disk = absurd is
 disk_piece so_far file bytes further before (Err (Bad c)) fault is disk = absurd (let e : Bad c ≡ Disk = is ∙ disk in (cc))
 disk_piece so_far file bytes further before (Err Disk) fault is disk = tt
@@ -58,7 +58,7 @@ append_assoc xs ys zs =
 
 -- a piece after which more is left
 pub next_further : (o : OpenFile) (g : FileCheck) (at : ℕ) (so_far file bytes : List ℕ) (part : Part) (further before : PiecesRead) → length bytes ≤ file_bytes_left o.file → HasBytesAtOffset file o.at bytes → IsOpenFile o so_far file further before → IsTakeResult o.file so_far bytes (behind_piece o bytes file) further (Ok (part, Some g)) → at ≡ o.at + length bytes → file_bytes_left g ≡ file_bytes_left o.file - length bytes
-    → IsNextPiece so_far file bytes further before (Ok (part, Some (record { file = g; at = at })))
+    → IsResultOfNextPiece so_far file bytes further before (Ok (part, Some (record { file = g; at = at })))
 next_further o g at so_far file bytes part further before few has is taken located left =
     let come : behind_piece o bytes file ≡ take (file_bytes_left g) (drop at file) = ap (λ (n : ℕ). take n (drop (o.at + length bytes) file)) (sym left) ∙ ap (λ (n : ℕ). take (file_bytes_left g) (drop n file)) (sym located) in
     let size : g.wanted.size ≡ o.file.wanted.size = ap (λ w. w.size) taken.2 in (

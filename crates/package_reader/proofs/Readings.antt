@@ -14,7 +14,7 @@ use Rattle.pkg_core.specs.Taking.{file_bytes_left, next_piece_len}
 use Rattle.pkg_core.specs.declared.file.Part.{Part}
 use Rattle.pkg_core.specs.Places.{pieces_at}
 use Rattle.pkg_core.specs.declared.place.BlockPlace.{BlockPlace}
-use Rattle.package_reader.specs.Opened.{IsNextPiece, IsOpenFile, IsPieceOf, IsNotDiskResult}
+use Rattle.package_reader.specs.Opened.{IsResultOfNextPiece, IsOpenFile, IsPieceOf, IsNotDiskResult}
 use Rattle.package_reader.specs.Readers.{AreUnreadPieces, ArePiecesFrom, IsFileOpened, IsPieceRead, IsReading, next_read_offset}
 use Rattle.package_reader.specs.declared.piece.PieceFault.{PieceFault}
 use Rattle.package_reader.specs.declared.piece.PieceFault.TheVariants.{Bad, Disk}
@@ -72,7 +72,7 @@ behind_part place o (Some further) part n at before is more = omega (arith, befo
 
 -- ---- a piece
 
-pub read_err : (old mid new : PieceReader) (o : OpenFile) (pkg bytes : List ℕ) (before : PiecesRead) (fault : PieceFault) (r : Result (Option Part) PieceFault) → IsErrAnd r (λ other. other ≡ fault) → IsFileOpened old pkg before (Ok (Some o)) mid → ((c : Cause) → fault ≡ Bad c → (so_far : List ℕ) (further before : PiecesRead) → IsOpenFile o so_far pkg further before → IsNextPiece so_far pkg bytes further before (Err fault))
+pub read_err : (old mid new : PieceReader) (o : OpenFile) (pkg bytes : List ℕ) (before : PiecesRead) (fault : PieceFault) (r : Result (Option Part) PieceFault) → IsErrAnd r (λ other. other ≡ fault) → IsFileOpened old pkg before (Ok (Some o)) mid → ((c : Cause) → fault ≡ Bad c → (so_far : List ℕ) (further before : PiecesRead) → IsOpenFile o so_far pkg further before → IsResultOfNextPiece so_far pkg bytes further before (Err fault))
     → IsPieceRead new pkg before bytes r
 read_err old mid new o pkg bytes before fault (Ok found) is opened next = absurd is
 read_err old mid new o pkg bytes before (Bad d) (Err (Bad c)) is opened next =
@@ -82,7 +82,7 @@ read_err old mid new o pkg bytes before (Bad d) (Err (Bad c)) is opened next =
 read_err old mid new o pkg bytes before Disk (Err (Bad c)) is opened next = absurd (let e : Bad c ≡ Disk = is in (cc))
 read_err old mid new o pkg bytes before fault (Err Disk) is opened next = tt
 
-pub read_some : (old mid : PieceReader) (o : OpenFile) (rest : Option OpenFile) (pkg bytes : List ℕ) (before : PiecesRead) (part : Part) → IsFileOpened old pkg before (Ok (Some o)) mid → ((so_far : List ℕ) (further before : PiecesRead) → IsOpenFile o so_far pkg further before → IsNextPiece so_far pkg bytes further before (Ok (part, rest)))
+pub read_some : (old mid : PieceReader) (o : OpenFile) (rest : Option OpenFile) (pkg bytes : List ℕ) (before : PiecesRead) (part : Part) → IsFileOpened old pkg before (Ok (Some o)) mid → ((so_far : List ℕ) (further before : PiecesRead) → IsOpenFile o so_far pkg further before → IsResultOfNextPiece so_far pkg bytes further before (Ok (part, rest)))
     → (after : PiecesRead) × (before ≡ piece part bytes after) × ArePiecesFrom mid.place rest pkg after
 read_some old mid o None pkg bytes before part opened next =
     (pieces_at mid.place pkg, next opened.0 (pieces_at mid.place pkg) before opened.1, refl)

@@ -58,14 +58,14 @@ IsNotDiskResult (Err Disk) = ⊥
 
 -- the result of a call for the next piece of an open file: these bytes are the next piece, followed by
 -- the rest of the file or, after its last piece, by the further ones; or the digest differs
-abbrev pub IsNextPiece : List ℕ → List ℕ → List ℕ → PiecesRead → PiecesRead
+abbrev pub IsResultOfNextPiece : List ℕ → List ℕ → List ℕ → PiecesRead → PiecesRead
     → Result (Part × Option OpenFile) PieceFault → Type 0
-IsNextPiece so_far pkg bytes further before (Ok (part, Some o)) = (after : PiecesRead)
+IsResultOfNextPiece so_far pkg bytes further before (Ok (part, Some o)) = (after : PiecesRead)
     × (before ≡ piece part bytes after) × IsOpenFile o (so_far ++ bytes) pkg further after
-IsNextPiece so_far pkg bytes further before (Ok (part, None)) =
+IsResultOfNextPiece so_far pkg bytes further before (Ok (part, None)) =
     before ≡ piece part bytes further
-IsNextPiece so_far pkg bytes further before (Err (Bad c)) = before ≡ refusal c
-IsNextPiece so_far pkg bytes further before (Err Disk) = Unit {0}
+IsResultOfNextPiece so_far pkg bytes further before (Err (Bad c)) = before ≡ refusal c
+IsResultOfNextPiece so_far pkg bytes further before (Err Disk) = Unit {0}
 
 -- the result is a piece of this length of this file, and, unless it is the last, the rest of the file,
 -- which begins that many bytes later

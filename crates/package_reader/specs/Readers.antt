@@ -190,7 +190,7 @@ IsPieceRead new pkg before bytes (Err Disk) = Unit {0}
 
 -- the expected files before a file was opened: this file, and those that the walk has left; none if
 -- none was opened
-abbrev pub OpensFirstExpected : List Expected → Option OpenFile → BlockPlace → Type 0
-OpensFirstExpected before None place = before ≡ []
-OpensFirstExpected before (Some o) place =
+abbrev pub OpensFirstOrNoneExpected : List Expected → Option OpenFile → BlockPlace → Type 0
+OpensFirstOrNoneExpected before None place = before ≡ []
+OpensFirstOrNoneExpected before (Some o) place =
     before ≡ expected_of o.file.wanted ∷ files_left_in_walk place.walk

@@ -8,7 +8,7 @@ ghost use Rattle.pkg_core.specs.Taking.{HasTaken, file_bytes_left, next_piece_le
 ghost use Rattle.pkg_core.specs.Contents.{hash_fault};
 ghost use Rattle.pkg_core.specs.Opened.{expected_of};
 ghost use Rattle.pkg_core.specs.Seen.{AreBytesRead, HasBytesAtOffset, ReadsFile};
-ghost use Rattle.package_reader.specs.Opened.{AreLeftOf, AreTestedSoFar, IsNextPiece, IsOpenFile, IsPieceOf, IsNotDiskResult, place_fault};
+ghost use Rattle.package_reader.specs.Opened.{AreLeftOf, AreTestedSoFar, IsResultOfNextPiece, IsOpenFile, IsPieceOf, IsNotDiskResult, place_fault};
 ghost use Rattle.package_reader.specs.declared.piece.PieceFault.TheVariants.{Disk as DiskFault};
 
 use crate::piece::{Piece, PieceFault};
@@ -50,7 +50,7 @@ impl<'a> OpenFile<'a> {
             → HasBytesAtOffset file self.entry.at piece.new
             → self.entry.at + file_bytes_left self.entry.file ≤ length file
             → IsOpenFile self.entry so_far file further before
-            → IsNextPiece so_far file piece.new further before result }
+            → IsResultOfNextPiece so_far file piece.new further before result }
         ensures len { IsNotDiskResult result → length piece.new ≡ next_piece_len self.entry.file }
         ensures part { IfOk result (IsPieceOf self.entry (length piece.new)) }
         // Only the last piece ends the file, and after it all bytes together have its size and its

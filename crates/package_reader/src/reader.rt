@@ -57,7 +57,7 @@ impl<'a> PieceReader<'a> {
     ghost use Rattle.pkg_core.specs.Front.{position_after_front, front_end, front_file_len};
     ghost use Rattle.pkg_core.specs.Seen.{HasBytesAtOffset, IsSeenIn, ReadsFile};
     ghost use Rattle.pkg_core.specs.Values.{value_of_contents};
-    ghost use Rattle.package_reader.specs.Readers.{ReturnsNextPiece, ArePiecesFrom, IsReturnedInOrder, CanContinueAfter, RemembersFault, IsFileOpened, CanContinue, IsPieceRead, IsReading, IsStartOf, KeepsFileStart, OpensFirstExpected, HasPieceAt, IsBetweenFiles, files_to_read, files_to_read_in, name_in_tree, offset_of, package_len, start_of_file};
+    ghost use Rattle.package_reader.specs.Readers.{ReturnsNextPiece, ArePiecesFrom, IsReturnedInOrder, CanContinueAfter, RemembersFault, IsFileOpened, CanContinue, IsPieceRead, IsReading, IsStartOf, KeepsFileStart, OpensFirstOrNoneExpected, HasPieceAt, IsBetweenFiles, files_to_read, files_to_read_in, name_in_tree, offset_of, package_len, start_of_file};
     ghost use Rattle.package_reader.specs.declared.reader.Due.TheVariants.{Files};
     ghost use Rattle.package_reader.specs.declared.piece.PieceFault.TheVariants.{Disk as DiskFault};
 
@@ -270,7 +270,7 @@ impl<'a> PieceReader<'a> {
             → (before : PiecesRead) → ArePiecesFrom self.old.place self.old.opened pkg before
             → IsFileOpened self.old pkg before result self.new) }
         ensures opens { IfOk result (λ found.
-            OpensFirstExpected (files_to_read_in self.old.place self.old.opened) found self.new.place) }
+            OpensFirstOrNoneExpected (files_to_read_in self.old.place self.old.opened) found self.new.place) }
         ensures room { IfOk result (λ found. IfSome found (λ file.
             file.at + file_bytes_left file.file ≤ self.new.place.at)) }
         ensures start { IfOk result (λ found. IfSome found (λ file.

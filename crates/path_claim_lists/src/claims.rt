@@ -114,7 +114,8 @@ pub fn one_of_each_path<'a>(
     ensures { IfOk result
         (λ firsts. HasFirstClaimOfEachPath (map claim_seen claims.now) (map claim_seen firsts.items)) }
 {
-    let mut firsts = Vec::new(alloc);
+    // Most paths have one claim. A list that grows would leave smaller copies of itself in memory.
+    let mut firsts = Vec::with_capacity(alloc, claims.len())?;
     for i in 0..claims.len() {
         if begins_path(claims, i) {
             firsts.push(claims[i])?;

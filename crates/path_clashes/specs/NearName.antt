@@ -11,8 +11,8 @@ abbrev pub is_name_present : (List ℕ → Bool) → Files → List ℕ → Bool
 is_name_present does_release files name = is_some (files name) && not (does_release name)
 
 -- the name, if a condition holds
-abbrev pub name_if : Bool → List ℕ → Option (List ℕ)
-name_if b name = if b then Some name else None
+abbrev pub name_if_holds : Bool → List ℕ → Option (List ℕ)
+name_if_holds b name = if b then Some name else None
 
 -- files of which exactly this name, if there is one, is present
 abbrev pub files_with_only_name : Option (List ℕ) → Files

@@ -12,7 +12,7 @@ ghost use Rattle.base_core.specs.Read.{OnlyReads};
 ghost use Rattle.base_core.specs.Tree.{files_of};
 ghost use Rattle.base_core.specs.ByteOrder.{bytes_cmp};
 ghost use Rattle.path_clashes.specs.Clash.{is_name_after};
-ghost use Rattle.path_clashes.specs.NearName.{IsFolderFound, IsNameFound, files_with_only_name, is_name_present, name_if};
+ghost use Rattle.path_clashes.specs.NearName.{IsFolderFound, IsNameFound, files_with_only_name, is_name_present, name_if_holds};
 ghost use Rattle.path_clashes.specs.WrittenPaths.{name_change_of_paths, is_one_of_paths};
 
 use crate::clash::IsReleased;
@@ -62,10 +62,10 @@ fn folder_after<T: Tree, G: IsReleased>(
     requires sorted { IsSorted bytes_cmp (map joined_path written.now) }
     requires names { All IsName (map joined_path written.now) }
     ensures found { IfOk result (λ found. IfObservable (T.history tree.old) (λ v.
-        found ≡ name_if (is_name_after (name_change_of_paths written.now (G.does_release let_go.now))
+        found ≡ name_if_holds (is_name_after (name_change_of_paths written.now (G.does_release let_go.now))
         (files_of v) folder.now) folder.now)) }
     ensures may { IfOk result (λ found.
-        found ≡ name_if (is_name_after (name_change_of_paths written.now (G.does_release let_go.now))
+        found ≡ name_if_holds (is_name_after (name_change_of_paths written.now (G.does_release let_go.now))
         (files_with_only_name found) folder.now) folder.now) }
     ensures tree { OnlyReads TreeFault.Disk (T.history tree.old) (T.history tree.new)
         (T.counts tree.old) (T.counts tree.new) result }

@@ -23,7 +23,7 @@ use Rattle.adb_view.specs.declared.tables.Which.{Which}
 use Rattle.adb_view.specs.declared.tables.Kind.TheVariants.{Obj}
 use Rattle.adb_view.specs.declared.tables.Which.TheVariants as Tables
 use Rattle.pkg_core.specs.Contents.{Contents, Expected, digest_fault, expected_at, expected_contents, expected_files, expected_folders, hash_fault}
-use Rattle.pkg_core.specs.GoodContents.{AreContentsOf, MatchEachExpected, HaveDigests, IsDigestOf}
+use Rattle.pkg_core.specs.GoodContents.{AreContentsOf, MatchEachExpected, HaveValidDigestLengths, IsDigestOf}
 
 -- ---- if nothing is told, each text and number keeps its rule
 
@@ -80,42 +80,42 @@ file_has place around f root c h =
 
 -- ---- the digests of all
 
-more_digests : (es fs : List Expected) → HaveDigests es → HaveDigests fs → HaveDigests (es ++ fs)
+more_digests : (es fs : List Expected) → HaveValidDigestLengths es → HaveValidDigestLengths fs → HaveValidDigestLengths (es ++ fs)
 more_digests [] fs a b = b
 more_digests (e ∷ es) fs a b = (a.0, more_digests es fs a.1 b)
 
-file_digests : (d i place : ℕ) (around : Surroundings) (f : Plain) → around.root ≡ Tables.Package → Keep (leaves (shape_of (Obj Tables.File)) place around f) → HaveDigests (expected_at d i f)
+file_digests : (d i place : ℕ) (around : Surroundings) (f : Plain) → around.root ≡ Tables.Package → Keep (leaves (shape_of (Obj Tables.File)) place around f) → HaveValidDigestLengths (expected_at d i f)
 file_digests d i place around f root h = by_contents (is_with_contents f) refl
   where
-    by_contents : (b : Bool) → is_with_contents f ≡ b → HaveDigests (if b then record { folder = d; file = i; size = int_in (entry_in f 2); hash = text_in (entry_in f 4) } ∷ [] else [])
+    by_contents : (b : Bool) → is_with_contents f ≡ b → HaveValidDigestLengths (if b then record { folder = d; file = i; size = int_in (entry_in f 2); hash = text_in (entry_in f 4) } ∷ [] else [])
     by_contents true c = (file_has place around f root c h, tt)
     by_contents false c = tt
 
-files_digests : (d i place : ℕ) (around : Surroundings) (vs : Plains) → around.root ≡ Tables.Package → Keep (each_leaf (leaves (shape_of (Obj Tables.File)) place around) vs) → HaveDigests (expected_files d i (list_of vs))
+files_digests : (d i place : ℕ) (around : Surroundings) (vs : Plains) → around.root ≡ Tables.Package → Keep (each_leaf (leaves (shape_of (Obj Tables.File)) place around) vs) → HaveValidDigestLengths (expected_files d i (list_of vs))
 files_digests d i place around none root h = tt
 files_digests d i place around (more f vs) root h =
     let parts = parts_keep (leaves (shape_of (Obj Tables.File)) place around f) (each_leaf (leaves (shape_of (Obj Tables.File)) place around) vs) h in
     more_digests (expected_at d i f) (expected_files d (i + 1) (list_of vs)) (file_digests d i place around f root parts.0) (files_digests d (i + 1) place around vs root parts.1)
 
-folder_digests : (d place : ℕ) (around : Surroundings) (folder : Plain) → around.root ≡ Tables.Package → Keep (leaves (shape_of (Obj Tables.Dir)) place around folder) → HaveDigests (expected_files d 1 (files_in folder))
+folder_digests : (d place : ℕ) (around : Surroundings) (folder : Plain) → around.root ≡ Tables.Package → Keep (leaves (shape_of (Obj Tables.Dir)) place around folder) → HaveValidDigestLengths (expected_files d 1 (files_in folder))
 unfolding shape_of leaves
 folder_digests d place around folder root h =
     let files = field_keeps (shapes_of (table Tables.Dir)) 2 501 (surroundings_of_fields 5 around folder) (entries_in folder) (array (shape_of (Obj Tables.File))) refl h in
     files_digests d 1 503 (surroundings_of_fields 5 around folder) (entries_in (entry_in folder 2)) root files
 
-folders_digests : (i place : ℕ) (around : Surroundings) (vs : Plains) → around.root ≡ Tables.Package → Keep (each_leaf (leaves (shape_of (Obj Tables.Dir)) place around) vs) → HaveDigests (expected_folders i (list_of vs))
+folders_digests : (i place : ℕ) (around : Surroundings) (vs : Plains) → around.root ≡ Tables.Package → Keep (each_leaf (leaves (shape_of (Obj Tables.Dir)) place around) vs) → HaveValidDigestLengths (expected_folders i (list_of vs))
 folders_digests i place around none root h = tt
 folders_digests i place around (more d vs) root h =
     let parts = parts_keep (leaves (shape_of (Obj Tables.Dir)) place around d) (each_leaf (leaves (shape_of (Obj Tables.Dir)) place around) vs) h in
     more_digests (expected_files i 1 (files_in d)) (expected_folders (i + 1) (list_of vs)) (folder_digests i place around d root parts.0) (folders_digests (i + 1) place around vs root parts.1)
 
-texts_keep : (v : Plain) → Keep (leaves_of Tables.Package v) → HaveDigests (expected_contents v)
+texts_keep : (v : Plain) → Keep (leaves_of Tables.Package v) → HaveValidDigestLengths (expected_contents v)
 unfolding shape_of leaves
 texts_keep v h =
     let folders = field_keeps (shapes_of (table Tables.Package)) 1 701 (surroundings_of_fields 7 (surroundings_of_root Tables.Package) v) (entries_in v) (array (shape_of (Obj Tables.Dir))) refl h in
     folders_digests 1 702 (surroundings_of_fields 7 (surroundings_of_root Tables.Package) v) (entries_in (entry_in v 1)) refl folders
 
-pub texts_give_digests : HasFirstValue → (v : Plain) → text_fault Tables.Package v ≡ None → HaveDigests (expected_contents v)
+pub texts_give_digests : HasFirstValue → (v : Plain) → text_fault Tables.Package v ≡ None → HaveValidDigestLengths (expected_contents v)
 texts_give_digests told v h = texts_keep v (none_told (leaves_of Tables.Package v) (text_fault Tables.Package v) (told Tables.Package v) h)
 
 -- ---- what a good digest says
@@ -144,7 +144,7 @@ digest_is wanted bytes h e =
       ]
     ]
 
-pub true_contents : (es : List Expected) (all : List Contents) → HaveDigests es → AreContentsOf es all → MatchEachExpected es all
+pub true_contents : (es : List Expected) (all : List Contents) → HaveValidDigestLengths es → AreContentsOf es all → MatchEachExpected es all
 true_contents [] [] d h = tt
 true_contents [] (c ∷ cs) d h = h
 true_contents (e ∷ es) [] d h = h

@@ -11,14 +11,14 @@ use Rattle.adb_block.specs.declared.block.BlockKind.{BlockKind}
 use Rattle.adb_block.specs.declared.block.BlockKind.TheVariants as Kinds
 use Rattle.pkg_core.specs.Contents as C
 use Rattle.pkg_core.specs.Contents.{Expected, FilesRead, contents_fault, fault_of_files_read, files_read_from_blocks}
-use Rattle.pkg_core.specs.FirstContents.{PlacedPayload, blocks_of_contents, contents_test, with_block_if_contents, IsFirstContentsFault}
+use Rattle.pkg_core.specs.FirstContents.{PlacedPayload, blocks_of_contents, contents_test_fault, with_block_if_contents, IsFirstContentsFault}
 
 -- the first of the tests of these blocks, with this framing after them
 record IsFirst (blocks : List PlacedPayload) (framing : Option Cause) (es : List Expected) (c : Cause) : Type 0 where
   pub k : ℕ
   pub reached : k ≤ length blocks
-  pub fault : contents_test framing (drop k es) (slice_get blocks k) ≡ Some c
-  pub before : (j : ℕ) → j < k → contents_test framing (drop j es) (slice_get blocks j) ≡ None
+  pub fault : contents_test_fault framing (drop k es) (slice_get blocks k) ≡ Some c
+  pub before : (j : ℕ) → j < k → contents_test_fault framing (drop j es) (slice_get blocks j) ≡ None
 
 end_fault : (es : List Expected) (c : Cause) → fault_of_files_read (C.unless_fault (C.missing_contents_fault es) C.no_more) ≡ Some c → C.missing_contents_fault es ≡ Some c
 end_fault [] c h = absurd cc
@@ -34,7 +34,7 @@ one_later block blocks framing e es c good f =
     let reached = f.reached in
     record { k = suc f.k; reached = omega arith; fault = f.fault; before = earlier }
   where
-    earlier : (j : ℕ) → j < suc f.k → contents_test framing (drop j (e ∷ es)) (slice_get (block ∷ blocks) j) ≡ None
+    earlier : (j : ℕ) → j < suc f.k → contents_test_fault framing (drop j (e ∷ es)) (slice_get (block ∷ blocks) j) ≡ None
     earlier zero lt = good
     earlier (suc j) lt = f.before j (omega arith)
 

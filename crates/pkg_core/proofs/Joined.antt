@@ -8,7 +8,7 @@ use Rattle.adb_block.specs.declared.block.BlockKind.{BlockKind}
 use Rattle.adb_block.specs.declared.block.BlockKind.TheVariants as Kinds
 use Rattle.adb_schema.specs.Soundness.{contents_positions}
 use Rattle.pkg_core.specs.Contents.{Expected, FilesRead, contents_bytes, files_at_block, files_read_from_blocks, given, has_positions_of, hash_fault, unless_fault}
-use Rattle.pkg_core.specs.Pieces.{PiecesRead, files_joined_from_pieces, pieces_at_block, pieces_read_from_blocks, pieces_of_one_file, unless_refusal, whole_piece_count}
+use Rattle.pkg_core.specs.Pieces.{PiecesRead, files_joined_from_pieces, pieces_at_block, pieces_read_from_blocks, pieces_of_one_file, unless_refusal, piece_count_before_last}
 
 -- ---- one file
 
@@ -36,7 +36,7 @@ joined_contents : (few : Bool) (payload : List ℕ) (at : ℕ) (further : List E
 joined_contents true payload at further files same es e = rw e refl
 joined_contents false payload at further files same [] e = rw e refl
 joined_contents false payload at further files same (f ∷ es) e =
-    rw e (joined_file (not (has_positions_of payload f)) (not (length (contents_bytes payload) == f.size)) (DataOrder (f.folder, f.file) (contents_positions payload)) (DataSize f.size (length (contents_bytes payload))) (whole_piece_count (length (contents_bytes payload))) f (hash_fault f.hash (contents_bytes payload)) (contents_bytes payload) (further es) (files es) (same es))
+    rw e (joined_file (not (has_positions_of payload f)) (not (length (contents_bytes payload) == f.size)) (DataOrder (f.folder, f.file) (contents_positions payload)) (DataSize f.size (length (contents_bytes payload))) (piece_count_before_last (length (contents_bytes payload))) f (hash_fault f.hash (contents_bytes payload)) (contents_bytes payload) (further es) (files es) (same es))
 
 joined_block : (kind : BlockKind) (payload : List ℕ) (at : ℕ) (further : List Expected → PiecesRead) (files : List Expected → FilesRead) → ((left : List Expected) → files_joined_from_pieces (further left) [] ≡ files left) → (es : List Expected)
     → files_joined_from_pieces (pieces_at_block kind payload at further es) [] ≡ files_at_block kind payload at files es

@@ -28,18 +28,18 @@ blocks_of_contents (more b at r) = with_block_if_contents b.kind (b.payload, at)
 
 -- a test by its block: the block against the files that are still expected; or, if no block is left,
 -- the framing after the last one and then that no file is left
-abbrev pub contents_test : Option Cause → List Expected → Option PlacedPayload → Option Cause
-contents_test framing es (Some block) = contents_block_fault block.0 block.1 es
-contents_test framing es None = option_or framing (missing_contents_fault es)
+abbrev pub contents_test_fault : Option Cause → List Expected → Option PlacedPayload → Option Cause
+contents_test_fault framing es (Some block) = contents_block_fault block.0 block.1 es
+contents_test_fault framing es None = option_or framing (missing_contents_fault es)
 
 -- the k-th test, counted from 0: block k against the files from k on
-abbrev pub contents_test_at : List Expected → Reading → ℕ → Option Cause
-contents_test_at es r k =
-    contents_test (result_err (blocks_of_stream r)) (drop k es) (slice_get (blocks_of_contents r) k)
+abbrev pub contents_test_fault_at : List Expected → Reading → ℕ → Option Cause
+contents_test_fault_at es r k =
+    contents_test_fault (result_err (blocks_of_stream r)) (drop k es) (slice_get (blocks_of_contents r) k)
 
 -- one of the tests has this fault, and none before it has one
 pub record IsFirstContentsFault (es : List Expected) (r : Reading) (c : Cause) : Type 0 where
   pub k : ℕ
   pub reached : k ≤ length (blocks_of_contents r)
-  pub fault : contents_test_at es r k ≡ Some c
-  pub before : (j : ℕ) → j < k → contents_test_at es r j ≡ None
+  pub fault : contents_test_fault_at es r k ≡ Some c
+  pub before : (j : ℕ) → j < k → contents_test_fault_at es r j ≡ None

@@ -44,6 +44,6 @@ MatchEachExpected (e ∷ es) [] = ⊥
 MatchEachExpected (e ∷ es) (contents ∷ others) = MatchesExpected e contents × MatchEachExpected es others
 
 -- the digest of each expected file has the length of one of the three functions
-abbrev pub HaveDigests : List Expected → Type 0
-HaveDigests [] = Unit {0}
-HaveDigests (e ∷ es) = (is_digest_length (length e.hash) ≡ true) × HaveDigests es
+abbrev pub HaveValidDigestLengths : List Expected → Type 0
+HaveValidDigestLengths [] = Unit {0}
+HaveValidDigestLengths (e ∷ es) = (is_digest_length (length e.hash) ≡ true) × HaveValidDigestLengths es

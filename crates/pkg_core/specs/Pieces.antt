@@ -38,14 +38,15 @@ pieces_of_one_file (suc n) e digest bytes further =
     piece (part_of e false) (take PIECE_LEN bytes)
     (pieces_of_one_file n e digest (drop PIECE_LEN bytes) further)
 
--- how many whole pieces of a file of this length precede its last one, which is not empty
-abbrev pub whole_piece_count : ℕ → ℕ
-whole_piece_count len = (len - 1) / PIECE_LEN
+-- how many pieces of a file of this length precede its last piece, which is not empty, and may be
+-- a whole piece too
+abbrev pub piece_count_before_last : ℕ → ℕ
+piece_count_before_last len = (len - 1) / PIECE_LEN
 
 -- the pieces of all bytes of a file, and then further ones
 abbrev pub pieces_of_bytes : Expected → List ℕ → PiecesRead → PiecesRead
 pieces_of_bytes e bytes further =
-    pieces_of_one_file (whole_piece_count (length bytes)) e (hash_fault e.hash bytes) bytes further
+    pieces_of_one_file (piece_count_before_last (length bytes)) e (hash_fault e.hash bytes) bytes further
 
 -- ---- one block
 

@@ -5,7 +5,7 @@ use Rattle.base_core.specs.declared.cause.Cause.{Cause}
 use Rattle.pkg_core.specs.Contents.{contents_bytes, hash_fault}
 use Rattle.pkg_core.specs.Opened.{expected_of}
 use Rattle.pkg_core.specs.Hashing.{HasHashedMessage}
-use Rattle.pkg_core.specs.Pieces.{PiecesRead, piece, refusal, part_of, pieces_of_one_file, whole_piece_count}
+use Rattle.pkg_core.specs.Pieces.{PiecesRead, piece, refusal, part_of, pieces_of_one_file, piece_count_before_last}
 use Rattle.pkg_core.specs.declared.file.FileCheck.{FileCheck}
 use Rattle.pkg_core.specs.declared.file.Part.{Part}
 use Rattle.pkg_core.specs.declared.file.TheConstants.{PIECE_LEN}
@@ -31,7 +31,7 @@ HasTakenOrPassedDigest hash bytes (Some f) = HasTaken f bytes
 -- the pieces of the rest of a file, after the bytes that were taken so far, and then further ones
 abbrev pub pieces_in : FileCheck → List ℕ → List ℕ → PiecesRead → PiecesRead
 pieces_in f so_far left further =
-    pieces_of_one_file (whole_piece_count (length left)) (expected_of f.wanted)
+    pieces_of_one_file (piece_count_before_last (length left)) (expected_of f.wanted)
     (hash_fault f.wanted.hash.now (so_far ++ left)) left further
 
 -- the result for the bytes of a call: they are the next piece, followed by the pieces of the rest or,

@@ -76,12 +76,12 @@ unfoldable pub files_in_file : List ℕ → FilesRead
 files_in_file file = files_after_header file (header_of file)
 
 -- the value of a package, with the contents of its files
-pub record Packed : Type 0 where
+pub record PackageWithContents : Type 0 where
   pub value : Plain
   pub contents : List Contents
 
 -- the contents of a package's file: its value, and the contents of its files
-abbrev pub package_with_contents : List ℕ → Packed
+abbrev pub package_with_contents : List ℕ → PackageWithContents
 package_with_contents file =
     record {
       value = root_value Package (payload_in file);

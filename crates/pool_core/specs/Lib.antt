@@ -5,3 +5,4 @@ pub use Rattle.option_ranks.specs.candidate_core as candidate_core
 pub mod FieldNames
 pub mod World
 pub mod Marks
+pub mod PoolMatches

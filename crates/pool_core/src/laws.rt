@@ -86,7 +86,7 @@ pub fn an_installed_package_is_known_by_text_and_id()
         is_same_package installed c ≡ false }
     // Which of two ids is the front of the other makes no difference.
     ensures either { (a b : List ℕ) → is_same_id a b ≡ is_same_id b a }
-    // An id is the same as each longer one that begins with it.
+    // An id that is not empty is the same as each longer one that begins with it.
     ensures front { (id rest : List ℕ) → 0 < length id → is_same_id id (id ++ rest) ≡ true }
 {}
 

@@ -3,7 +3,7 @@
 //! candidates, the entries and the offers of their names. The rules are in `docs/selection.md`:
 //! "What there is to choose from" (*allowed* and *barred*), and "Which selection is taken", key 1
 //! of the table (pinned candidates).
-ghost use Rattle.std.specs.Prelude.{◌≡◌, ◌<◌, ◌&&◌, false, length, map, not, IfOk, OnOk, Some, slice_get};
+ghost use Rattle.std.specs.Prelude.{◌≡◌, ◌<◌, ◌&&◌, false, length, map, not, IfOk, OnOk};
 ghost use Rattle.std.specs.Option.{option_map_or};
 ghost use Rattle.std.specs.List.{list_any};
 ghost use Rattle.std.specs.Str.{bytes_eq};
@@ -11,6 +11,7 @@ ghost use Rattle.dep_core.specs.Meets.{dependency};
 ghost use Rattle.option_ranks.specs.candidate_core.Candidates.{is_allowed, is_barred_by, meets_dependency, uses_tag};
 ghost use Rattle.option_ranks.specs.candidate_core.Matches.{AreRememberedMatchesOf};
 ghost use Rattle.pool_core.specs.Marks.{affects, is_affected, with_mark_set_at, with_marks_set};
+ghost use Rattle.pool_core.specs.PoolMatches.{IsCandidateWithMatches};
 ghost use Rattle.option_ranks.specs.candidate_core.Options.{places_offering};
 ghost use Rattle.option_ranks.specs.candidate_core.Packages.{candidates_of_packages};
 ghost use Rattle.option_ranks.specs.candidate_core.Rank.{is_pinned};
@@ -197,10 +198,7 @@ fn affects(
     place: usize,
     known: &mut KnownMatches,
 ) -> Result<bool, AllocError>
-    requires within { place < length (candidates_of_packages packages.now) }
-    requires here { slice_get (candidates_of_packages packages.now) place ≡ Some one.now }
-    requires known { AreRememberedMatchesOf (source_text packages.now.sources.items)
-        (dependency entry.now) known.old }
+    requires { IsCandidateWithMatches packages.now place one.now (dependency entry.now) known.old }
     ensures affects { IfOk result (λ answer. answer
         ≡ affects effect (dependency entry.now) one.now) }
     ensures known { OnOk result (AreRememberedMatchesOf (source_text packages.now.sources.items)
@@ -221,10 +219,7 @@ fn bars(
     place: usize,
     known: &mut KnownMatches,
 ) -> Result<bool, AllocError>
-    requires within { place < length (candidates_of_packages packages.now) }
-    requires here { slice_get (candidates_of_packages packages.now) place ≡ Some one.now }
-    requires known { AreRememberedMatchesOf (source_text packages.now.sources.items)
-        (dependency entry.now) known.old }
+    requires { IsCandidateWithMatches packages.now place one.now (dependency entry.now) known.old }
     ensures bars { IfOk result (λ answer. answer ≡ ((dependency entry.now).conflict
         && meets_dependency (dependency entry.now) one.now)) }
     ensures known { OnOk result (AreRememberedMatchesOf (source_text packages.now.sources.items)

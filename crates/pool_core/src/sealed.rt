@@ -6,13 +6,12 @@ ghost use Rattle.std.specs.Prelude.{◌≡◌, ◌<◌, ◌==◌, ◌++◌, ◌�
 ghost use Rattle.dep_core.specs.Meets.{dependency};
 ghost use Rattle.option_ranks.specs.candidate_core.Candidates.{has_usable_install_if, is_eligible};
 ghost use Rattle.option_ranks.specs.candidate_core.CandidateList.{IsCandidateList};
-ghost use Rattle.option_ranks.specs.candidate_core.Matches.{AreMatchesFor};
 ghost use Rattle.option_ranks.specs.candidate_core.Options.{is_eligible_for_need, places_offering, options_for, places_passing_from};
 ghost use Rattle.option_ranks.specs.candidate_core.Packages.{candidates_of_packages};
 ghost use Rattle.option_ranks.specs.candidate_core.Rank.{candidate_at, candidate_at_passes, is_kept_installed, is_pinned, is_pinned_at, sealed_pool_from_parts};
 ghost use Rattle.option_ranks.specs.Ranking.{IsRankingIn};
 ghost use Rattle.option_ranks.specs.candidate_core.Values.{candidate_value, names_upgraded_by, need_of_ref, need_of};
-ghost use Rattle.option_ranks.specs.candidate_core.VersionTexts.{source_text};
+ghost use Rattle.pool_core.specs.PoolMatches.{AreMatchesInPool, AreMatchesOfPackages, places_fitting};
 ghost use Rattle.option_ranks.specs.VersionRanks.{HaveVersionsFromSameTexts, HasVersionTextsOfSources};
 ghost use Rattle.option_ranks.specs.candidate_core.declared.versions.VersionKind.TheVariants as Kinds;
 
@@ -192,11 +191,8 @@ impl<'a> Sealed<'a> {
         packages: &Packages<'a>,
         known: &KnownMatches,
     ) -> Result<Options, AllocError>
-        requires those { ids.now
-            ≡ places_passing_from 0 (is_eligible_for_need self.now (need_of_ref need.now)) self.now.candidates }
-        requires own { candidates_of_packages packages.now ≡ self.now.candidates }
-        requires known { AreMatchesFor (source_text packages.now.sources.items) (need_of_ref need.now)
-            known.now }
+        requires those { ids.now ≡ places_fitting self.now (need_of_ref need.now) }
+        requires matches { AreMatchesInPool self.now (need_of_ref need.now) packages.now known.now }
         ensures { IfOk result (λ options. options ≡ options_for self.now (need_of_ref need.now)) }
     {
         rank_is_total();
@@ -217,11 +213,8 @@ impl<'a> Sealed<'a> {
         packages: &Packages<'a>,
         known: &KnownMatches,
     ) -> Result<Vec<RankedOption<'a>>, AllocError>
-        requires those { ids.now
-            ≡ places_passing_from 0 (is_eligible_for_need self.now (need_of_ref need.now)) self.now.candidates }
-        requires own { candidates_of_packages packages.now ≡ self.now.candidates }
-        requires known { AreMatchesFor (source_text packages.now.sources.items) (need_of_ref need.now)
-            known.now }
+        requires those { ids.now ≡ places_fitting self.now (need_of_ref need.now) }
+        requires matches { AreMatchesInPool self.now (need_of_ref need.now) packages.now known.now }
         ensures each { IfOk result (λ rankings.
             All (IsRankingIn self.now (need_of_ref need.now)) rankings.items) }
         ensures places { IfOk result (λ rankings. map (λ r. r.place) rankings.items ≡ ids.now) }
@@ -244,9 +237,7 @@ impl<'a> Sealed<'a> {
         known: &KnownMatches,
     ) -> RankedOption<'a>
         requires within { id < length self.now.candidates }
-        requires own { candidates_of_packages packages.now ≡ self.now.candidates }
-        requires known { AreMatchesFor (source_text packages.now.sources.items) (need_of_ref need.now)
-            known.now }
+        requires matches { AreMatchesInPool self.now (need_of_ref need.now) packages.now known.now }
         ensures place { result.place ≡ id }
         ensures ranking { IsRankingIn self.now (need_of_ref need.now) result }
         ensures texts { HasVersionTextsOfSources packages.now.sources.items result }
@@ -276,13 +267,11 @@ impl<'a> Sealed<'a> {
         packages: &Packages<'a>,
         known: &mut KnownMatches,
     ) -> Result<Vec<CandId>, AllocError>
-        requires own { candidates_of_packages packages.now ≡ self.now.candidates }
-        requires known { AreMatchesFor (source_text packages.now.sources.items) (need_of_ref need.now)
-            known.old }
+        requires { AreMatchesInPool self.now (need_of_ref need.now) packages.now known.old }
         ensures places { IfOk result (λ ids. ids.items
-            ≡ places_passing_from 0 (is_eligible_for_need self.now (need_of_ref need.now)) self.now.candidates) }
+            ≡ places_fitting self.now (need_of_ref need.now)) }
         ensures known { IfOk result (λ _.
-            AreMatchesFor (source_text packages.now.sources.items) (need_of_ref need.now) known.new) }
+            AreMatchesOfPackages packages.now (need_of_ref need.now) known.new) }
     {
         let places = self.offers(need.name());
         let ids = self.fitting_among(alloc, need, places, packages, known)?;
@@ -298,13 +287,11 @@ impl<'a> Sealed<'a> {
         packages: &Packages<'a>,
         known: &mut KnownMatches,
     ) -> Result<Vec<CandId>, AllocError>
-        requires own { candidates_of_packages packages.now ≡ self.now.candidates }
-        requires known { AreMatchesFor (source_text packages.now.sources.items) (need_of_ref need.now)
-            known.old }
+        requires { AreMatchesInPool self.now (need_of_ref need.now) packages.now known.old }
         ensures places { IfOk result (λ ids. ids.items
             ≡ filter (λ id. candidate_at_passes self.now (is_eligible_for_need self.now (need_of_ref need.now)) id) places.now) }
         ensures known { IfOk result (λ _.
-            AreMatchesFor (source_text packages.now.sources.items) (need_of_ref need.now) known.new) }
+            AreMatchesOfPackages packages.now (need_of_ref need.now) known.new) }
     {
         let mut ids = Vec::new(alloc);
         for id in places {
@@ -323,13 +310,11 @@ impl<'a> Sealed<'a> {
         packages: &Packages<'a>,
         known: &mut KnownMatches,
     ) -> Result<bool, AllocError>
-        requires own { candidates_of_packages packages.now ≡ self.now.candidates }
-        requires known { AreMatchesFor (source_text packages.now.sources.items) (need_of_ref need.now)
-            known.old }
+        requires { AreMatchesInPool self.now (need_of_ref need.now) packages.now known.old }
         ensures fits { IfOk result (λ fits. fits
             ≡ candidate_at_passes self.now (is_eligible_for_need self.now (need_of_ref need.now)) id) }
         ensures known { IfOk result (λ _.
-            AreMatchesFor (source_text packages.now.sources.items) (need_of_ref need.now) known.new) }
+            AreMatchesOfPackages packages.now (need_of_ref need.now) known.new) }
     {
         let place = id.place as usize;
         if place >= packages.len() {

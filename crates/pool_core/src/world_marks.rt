@@ -122,7 +122,8 @@ fn install_ifs_among(
     Ok(ids)
 }
 
-// Adds the place of a candidate that has a mark and an install-if without conflict.
+// Adds the place of a candidate that is marked as eligible, and has an install-if that is positive:
+// the install-if has entries, and none of them is a conflict.
 fn push_if_marked(
     ids: &mut Vec<CandId>,
     place: usize,

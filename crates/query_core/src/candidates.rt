@@ -75,7 +75,8 @@ pub(crate) fn report(
     Ok(Text::from_vec(report))
 }
 
-// Puts a line for each candidate.
+// Puts a line for the candidate of each ranking, in the order of the rankings. A ranking has the
+// keys by which a candidate is ordered, and the id of the candidate, whose number is its place.
 fn put_lines<O: ReportOut>(
     out: &mut O,
     pool: &Sealed<'_>,

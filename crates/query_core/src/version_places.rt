@@ -56,7 +56,7 @@ pub(crate) fn placed_versions<'a>(
     grouped(alloc, pool, name, &ordered)
 }
 
-// The places of the candidates that have a name of their own.
+// The places of the candidates whose own name is this one.
 fn named_places(alloc: Global, pool: &Sealed<'_>, name: &[u8]) -> Result<Vec<CandId>, AllocError>
     ensures { IfOk result (λ places. places.items
         ≡ places_passing_from 0 (has_own_name name.now) pool.now.candidates) }

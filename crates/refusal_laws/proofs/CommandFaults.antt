@@ -13,7 +13,7 @@ use Rattle.command_core.specs.declared.command.Applet.{Applet}
 use Rattle.command_core.specs.declared.command.Applet.TheVariants.{Del, Fix, Upgrade}
 use Rattle.command_core.specs.declared.operands.Operand.{Operand}
 use Rattle.dep_core.specs.World.{has_name}
-use Rattle.outcome.specs.engine_core.Changed.{IsClashFor, IsClashOfSelected, IsClashUnlessSimulated, Selected, change_of_selected, change_of_command, selected_by, selected_for, selected_of_inputs, simulated_change}
+use Rattle.outcome.specs.engine_core.Changed.{IsClashFor, IsClashOfSelected, IsClashUnlessSimulated, InputsAndReplacement, change_of_selected, change_of_command, selected_by, selected_for, selected_of_inputs, simulated_change}
 use Rattle.outcome.specs.engine_core.Choice.{IsChoiceFrom}
 use Rattle.outcome.specs.engine_core.Selecting.{pool_of_inputs, pool_of_command}
 use Rattle.outcome.specs.engine_core.Wishes.{first_unknown, is_installed_name, is_known_name, names_to_upgrade, unknown_operand_place, unless_unknown_operand, wishes_of}
@@ -101,7 +101,7 @@ module _ (command : CommandLine) (read : Reads) (chosen : Option (List ℕ)) (ch
 
   -- ---- the change
 
-  done_or_refused : (files : Files) (clash : Option NamePair) (s : Selected) (refusal : Refusal) → selected_for command read chosen ≡ Ok s → IsClashOfSelected command read files (Ok s) clash
+  done_or_refused : (files : Files) (clash : Option NamePair) (s : InputsAndReplacement) (refusal : Refusal) → selected_for command read chosen ≡ Ok s → IsClashOfSelected command read files (Ok s) clash
       → change_of_selected command read files clash s ≡ Err refusal → IsChangeRefused command read files chosen refusal
   done_or_refused files clash s refusal is clashes e = by_flag command.flags.simulate refl e
     where
@@ -120,5 +120,5 @@ module _ (command : CommandLine) (read : Reads) (chosen : Option (List ℕ)) (ch
           | inr next ↦ inr (inl (next.0, next.1, selection_fault next.0 refusal next.1 next.2))
         ]
         | inr next ↦ inr (inr (done_or_refused files clash next.0 refusal next.1
-            (subst (λ (x : Result Selected Refusal). IsClashOfSelected command read files x clash) next.1 clashes) next.2))
+            (subst (λ (x : Result InputsAndReplacement Refusal). IsClashOfSelected command read files x clash) next.1 clashes) next.2))
       ]

@@ -29,7 +29,7 @@ use Rattle.outcome.specs.path_claims.Claims.{ContestedPath, claimants, contested
 use Rattle.outcome.specs.path_claims.Contest.{beats_each, first_with_unbeaten_rival, rivals_of, winner}
 use Rattle.outcome.specs.path_claims.declared.contest.Rivals.{Rivals}
 use Rattle.refusal_laws.specs.ChangeFaults.{IsContested, IsFirstReservedAddedPath}
-use Rattle.refusal_laws.specs.TestsPassed.{AreAddedPathsUnreserved, HaveOwners}
+use Rattle.refusal_laws.specs.TestsPassed.{AreAddedPathsUnreserved, EachListedPathHasOwner}
 use Rattle.refusal_laws.proofs.Lists.{all_pass, found_in, in_names, name_in, none_found}
 
 -- ---- the first name that passes
@@ -249,7 +249,7 @@ module _ (members : List Member) where
   owned_where : (path : List ℕ) → is_none (owner_by_claims path) ≡ false → is_some (owner_of_path members path) ≡ true
   owned_where path e = owned_or_not path (λ t. true≢false (sym t ∙ e))
 
-  pub have_owners : first_contested_path_of_members members ≡ None → HaveOwners members
+  pub have_owners : first_contested_path_of_members members ≡ None → EachListedPathHasOwner members
   unfolding first_contested_path_of_members first_contested_path claims_in
   have_owners e l here = by_path (first_path_without_owner (member_beats members) (claims_in members)) refl e
     where

@@ -4,7 +4,7 @@ use Rattle.std.specs.Prelude.{if◌then◌else◌}
 use Rattle.base_core.specs.Files.{Files}
 use Rattle.outcome.specs.change_outcome.ChangeOutcome.{ChangeDone, change_or_refusal}
 use Rattle.command_core.specs.Command.{CommandLine}
-use Rattle.outcome.specs.engine_core.Changed.{IsClashOfSelected, IsClashUnlessSimulated, Selected, change_of_selected, simulated_change}
+use Rattle.outcome.specs.engine_core.Changed.{IsClashOfSelected, IsClashUnlessSimulated, InputsAndReplacement, change_of_selected, simulated_change}
 use Rattle.outcome.specs.engine_core.Wishes.{wishes_of}
 use Rattle.outcome.specs.ChangeEnd.{IsChangeEnd, IsEndBy, TakesFirstSelection}
 use Rattle.outcome.specs.Commands.{reads_in}
@@ -19,14 +19,14 @@ use Rattle.refusal_laws.proofs.TestsPassed.{change_made}
 not_refused : (files : Files) (o : Outcome) (refusal : Refusal) → o ≡ just_refusal files refusal → o.refusal ≡ None → ⊥
 not_refused files o refusal is none = let both : Some refusal ≡ None = sym (ap (λ (x : Outcome). x.refusal) is) ∙ none in cc (both)
 
-ended : (command : CommandLine) (files : Files) (s : Selected) (c : Result ChangeDone Refusal) (o : Outcome) → IsEndBy command files s c o → o.refusal ≡ None → (done : ChangeDone) × (c ≡ Ok done)
+ended : (command : CommandLine) (files : Files) (s : InputsAndReplacement) (c : Result ChangeDone Refusal) (o : Outcome) → IsEndBy command files s c o → o.refusal ≡ None → (done : ChangeDone) × (c ≡ Ok done)
 ended command files s (Ok done) o end none = (done, refl)
 ended command files s (Err refusal) o end none = absurd (not_refused files o refusal end.1 none)
 
 takes_first : (command : CommandLine) (files : Files) (o : Outcome) → o.refusal ≡ None → command.flags.simulate ≡ false → TakesFirstSelection command files o → HasFirstSelection command files
 takes_first command files o none off takes =
-    let s : Selected = takes.selected in
-    let clash = subst (λ (x : Result Selected Refusal). IsClashOfSelected command (reads_in files) files x takes.clash) takes.selects takes.is_clash in
+    let s : InputsAndReplacement = takes.selected in
+    let clash = subst (λ (x : Result InputsAndReplacement Refusal). IsClashOfSelected command (reads_in files) files x takes.clash) takes.selects takes.is_clash in
     let done = ended command files s (change_of_selected command (reads_in files) files takes.clash s) o takes.end none in
     let ok : change_or_refusal s.inputs s.replacement (wishes_of command) (reads_in files) takes.clash files ≡ Ok done.0 =
     ap (λ b. kept_done (if b then Ok (simulated_change s.replacement (wishes_of command) files) else change_or_refusal s.inputs s.replacement (wishes_of command) (reads_in files) takes.clash files)) (sym off) ∙ done.1 in

@@ -1,5 +1,5 @@
--- Why a command is refused that changes the installed packages. The refusals are in `docs/commands.md`,
--- "`add` and `del`" and "`upgrade` and `fix`", in their order.
+-- The reasons for which a command that changes the installed packages is refused. They are in
+-- `docs/commands.md`, "`add` and `del`" and "`upgrade` and `fix`", in the order of the tests.
 use Rattle.std.specs.Prelude.{◌≡◌, ◌⊎◌, ℕ, false, List, Option, Ok}
 use Rattle.outcome.specs.adb_fields.FirstPair.{IsIn}
 use Rattle.base_core.specs.Files.{Files}
@@ -9,7 +9,7 @@ use Rattle.command_core.specs.declared.command.Applet.{Applet}
 use Rattle.command_core.specs.declared.command.Applet.TheVariants.{Del, Fix, Upgrade}
 use Rattle.command_core.specs.declared.operands.Operand.{Operand}
 use Rattle.dep_core.specs.World.{has_name}
-use Rattle.outcome.specs.engine_core.Changed.{Selected, selected_for}
+use Rattle.outcome.specs.engine_core.Changed.{InputsAndReplacement, selected_for}
 use Rattle.outcome.specs.engine_core.Selecting.{pool_of_inputs}
 use Rattle.outcome.specs.engine_core.Wishes.{is_installed_name, wishes_of}
 use Rattle.outcome.specs.make_info.Reads.{Reads}
@@ -63,7 +63,7 @@ IsSelectionRefused command read refusal =
 abbrev pub IsChangeRefused :
     CommandLine → Reads → Files → Option (List ℕ) → Refusal → Type 0
 IsChangeRefused command read files chosen refusal =
-    (s : Selected) × (selected_for command read chosen ≡ Ok s) × (command.flags.simulate ≡ false)
+    (s : InputsAndReplacement) × (selected_for command read chosen ≡ Ok s) × (command.flags.simulate ≡ false)
     × IsFaultOfChange s.inputs s.replacement (wishes_of command) read files refusal
 
 -- a refusal of what the command finds is true: of its input, its selection or its change

@@ -4,13 +4,13 @@ use Rattle.std.specs.Prelude.{◌≡◌, ℕ, List, Ok}
 use Rattle.command_core.specs.Command.{CommandLine}
 use Rattle.outcome.specs.make_core.ReadBack.{packed_package}
 use Rattle.outcome.specs.make_info.Reads.{Reads}
-use Rattle.outcome.specs.pkg_core.Whole.{Packed}
+use Rattle.outcome.specs.pkg_core.Whole.{PackageWithContents}
 use Rattle.refusal_laws.specs.ChangeFaults.{IsTooLarge}
 
 -- what is written of the value of the package that a command asks for exceeds a limit, first at this
 -- number of bytes and values
 pub record IsPackageTooLarge (command : CommandLine) (names : List (List ℕ)) (read : Reads)
     (bytes values : ℕ) : Type 0 where
-  pub packed : Packed
+  pub packed : PackageWithContents
   pub is_packed : packed_package command names read ≡ Ok packed
   pub passes : IsTooLarge packed.value bytes values

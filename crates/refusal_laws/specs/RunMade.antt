@@ -5,7 +5,7 @@ use Rattle.base_core.specs.Files.{Files}
 use Rattle.outcome.specs.change_outcome.ChangeOutcome.{change_members, file_change}
 use Rattle.outcome.specs.change_outcome.MembersAfter.{MemberFound}
 use Rattle.command_core.specs.Command.{CommandLine}
-use Rattle.outcome.specs.engine_core.Changed.{Selected, selected_for}
+use Rattle.outcome.specs.engine_core.Changed.{InputsAndReplacement, selected_for}
 use Rattle.outcome.specs.engine_core.Selecting.{pool_of_command}
 use Rattle.outcome.specs.engine_core.Wishes.{wishes_of}
 use Rattle.outcome.specs.Commands.{reads_in}
@@ -22,7 +22,7 @@ pub record HasFirstSelection (command : CommandLine) (files : Files) : Type 0 wh
   pub is_pool : pool_of_command command (reads_in files) ≡ Ok pool
   pub trace : List ℕ
   pub first : IsFirstSelection pool trace
-  pub selected : Selected
+  pub selected : InputsAndReplacement
   pub selects : selected_for command (reads_in files) (Some trace) ≡ Ok selected
   pub candidates : selected.replacement.selected ≡ candidates_at pool trace
   pub found : List MemberFound

@@ -22,8 +22,8 @@ AreAddedPathsUnreserved members =
     (path : List ℕ) → IsIn path (added_paths members) → is_reserved path ≡ false
 
 -- each path that a package lists has an owner
-abbrev pub HaveOwners : List Member → Type 0
-HaveOwners members =
+abbrev pub EachListedPathHasOwner : List Member → Type 0
+EachListedPathHasOwner members =
     (l : Listing) → IsIn l (member_listings members)
     → is_some (owner_of_path members l.path) ≡ true
 
@@ -40,7 +40,7 @@ PassesNameTests change files =
 
 -- all three tests of files passed: nor is a path contested
 abbrev pub PassesFileTests : FileChange → Files → Type 0
-PassesFileTests change files = PassesNameTests change files × HaveOwners change.members
+PassesFileTests change files = PassesNameTests change files × EachListedPathHasOwner change.members
 
 -- a change has none of the faults for which its files would be refused, except for the limits of what
 -- is written

@@ -4,7 +4,7 @@
 //! "Answers and statuses".
 
 ghost use Rattle.std.specs.Prelude.{◌≡◌, [], ◌∷◌, decimal, ◌++◌, OnOk, OnErr};
-ghost use Rattle.base_core.specs.Sink.{sink_change};
+ghost use Rattle.base_core.specs.Sink.{sink_before_and_after};
 ghost use Rattle.base_core.specs.Write.{Writes};
 ghost use Rattle.hex.specs.Hex.{encode_lower};
 ghost use Rattle.report_core.specs.Pieces.{cause_text_if_any, piece_text, pieces_text, sentence_text};
@@ -20,7 +20,7 @@ use std::marker::Model;
 /// Writes the line of a refusal. If the sink fails, a prefix of it was written.
 pub fn write_error<E: Sink>(refusal: &Refusal, err: &mut E) -> Result<(), SinkFault>
     ensures { Writes (refusal_line refusal.now)
-        (sink_change E.bytes E.counts err.old err.new) result }
+        (sink_before_and_after E.bytes E.counts err.old err.new) result }
 {
     let sentence = sentence_of(refusal);
     write_all(err, b"ERROR: ")?;
@@ -31,7 +31,7 @@ pub fn write_error<E: Sink>(refusal: &Refusal, err: &mut E) -> Result<(), SinkFa
 /// Writes a sentence: its pieces, and then its cause.
 fn write_sentence<E: Sink>(sentence: &Sentence<'_>, err: &mut E) -> Result<(), SinkFault>
     ensures { Writes (sentence_text sentence.now)
-        (sink_change E.bytes E.counts err.old err.new) result }
+        (sink_before_and_after E.bytes E.counts err.old err.new) result }
 {
     write_pieces(&sentence.pieces, err)?;
     write_cause(sentence.cause, err)
@@ -39,7 +39,7 @@ fn write_sentence<E: Sink>(sentence: &Sentence<'_>, err: &mut E) -> Result<(), S
 
 /// Writes a cause, if there is one.
 fn write_cause<E: Sink>(cause: Option<Cause>, err: &mut E) -> Result<(), SinkFault>
-    ensures { Writes (cause_text_if_any cause) (sink_change E.bytes E.counts err.old err.new) result }
+    ensures { Writes (cause_text_if_any cause) (sink_before_and_after E.bytes E.counts err.old err.new) result }
 {
     match cause {
         Some(cause) => write_pieces(&cause_pieces(cause), err),
@@ -72,7 +72,7 @@ pub(crate) type Pieces<'a> = [Piece<'a>; 7];
 /// Writes all the pieces, in order. After a fault a front of their text was written.
 pub(crate) fn write_pieces<S: Sink>(pieces: &[Piece<'_>], sink: &mut S) -> Result<(), SinkFault>
     ensures { Writes (pieces_text pieces.now)
-        (sink_change S.bytes S.counts sink.old sink.new) result }
+        (sink_before_and_after S.bytes S.counts sink.old sink.new) result }
 {
     for piece in pieces {
         write_piece(piece, sink)?;
@@ -83,7 +83,7 @@ pub(crate) fn write_pieces<S: Sink>(pieces: &[Piece<'_>], sink: &mut S) -> Resul
 /// Writes a piece.
 fn write_piece<S: Sink>(piece: &Piece<'_>, sink: &mut S) -> Result<(), SinkFault>
     ensures { Writes (piece_text piece.now)
-        (sink_change S.bytes S.counts sink.old sink.new) result }
+        (sink_before_and_after S.bytes S.counts sink.old sink.new) result }
 {
     match *piece {
         Piece::Bytes(bytes) => write_all(sink, bytes),
@@ -99,7 +99,7 @@ fn write_piece<S: Sink>(piece: &Piece<'_>, sink: &mut S) -> Result<(), SinkFault
 /// Writes the positions of a folder and of a file in it, with a dot between.
 fn write_position<S: Sink>(folder: u64, file: u64, sink: &mut S) -> Result<(), SinkFault>
     ensures { Writes (position_text folder file)
-        (sink_change S.bytes S.counts sink.old sink.new) result }
+        (sink_before_and_after S.bytes S.counts sink.old sink.new) result }
 {
     write_number(folder, sink)?;
     write_all(sink, b".")?;
@@ -108,7 +108,7 @@ fn write_position<S: Sink>(folder: u64, file: u64, sink: &mut S) -> Result<(), S
 
 /// Writes a number in decimal.
 fn write_number<S: Sink>(number: u64, sink: &mut S) -> Result<(), SinkFault>
-    ensures { Writes (decimal number) (sink_change S.bytes S.counts sink.old sink.new) result }
+    ensures { Writes (decimal number) (sink_before_and_after S.bytes S.counts sink.old sink.new) result }
 {
     let mut digits = Buffer::new();
     write_all(sink, digits.format(number).as_bytes())
@@ -117,7 +117,7 @@ fn write_number<S: Sink>(number: u64, sink: &mut S) -> Result<(), SinkFault>
 /// Writes bytes as hexadecimal digits.
 fn write_hex<S: Sink>(bytes: &[u8], sink: &mut S) -> Result<(), SinkFault>
     ensures { Writes (encode_lower bytes.now)
-        (sink_change S.bytes S.counts sink.old sink.new) result }
+        (sink_before_and_after S.bytes S.counts sink.old sink.new) result }
 {
     for byte in bytes {
         let mut digits = [0; 2];

@@ -1,7 +1,7 @@
 -- The database that a change leaves is read.
 use Rattle.std.proofs.Common.{◌≡◌, ◌∙◌, ℕ, Bool, false, List, Some, None, Ok, ap}
 use Rattle.make_index.specs.adb_fields.Repeated.{entries_at, list_of}
-use Rattle.make_index.specs.adb_schema.SoundContainers.{IsSound}
+use Rattle.make_index.specs.adb_schema.SoundContainers.{IsSoundContainer}
 use Rattle.make_index.specs.adb_schema.Soundness.{first_fault, payload_in, root_value}
 use Rattle.engine_core.specs.adb_sound.Root.{IsRootOf}
 use Rattle.adb_view.specs.declared.tables.Which.TheVariants.{Idb}
@@ -9,7 +9,7 @@ use Rattle.adb_view.specs.Plain.{Plain}
 use Rattle.engine_core.specs.change_inputs.Chains.{unless_cause}
 use Rattle.engine_core.specs.change_inputs.Database.{container_database, database_from_parts}
 use Rattle.engine_core.specs.db_core.Members.{AreInOrder, Member, member_listings}
-use Rattle.engine_core.specs.db_core.OwnedListings.{HaveOneOwner, owned_listings}
+use Rattle.engine_core.specs.db_core.OwnedListings.{HaveAtMostOneOwner, owned_listings}
 use Rattle.engine_core.specs.db_core.SoundMembers.{AreOfSoundContainers, MayBeInDatabase}
 use Rattle.engine_core.specs.db_write.NewDatabase.{database_of, database_value, packages_in_new_database}
 use Rattle.engine_core.specs.change_files.PlanLists.{first_reserved_path}
@@ -20,10 +20,10 @@ use Rattle.root_laws.proofs.Unreserved.{may_be_listed}
 
 -- what the laws of the crates below say
 pub record WrittenLaws : Type 0 where
-  pub one_owner : (members : List Member) → HaveOneOwner (owned_listings (member_listings members) (owned_flags_of members))
+  pub one_owner : (members : List Member) → HaveAtMostOneOwner (owned_listings (member_listings members) (owned_flags_of members))
   pub root : (members : List Member) (flags : List Bool) (bytes : List ℕ) → AreOfSoundContainers members → AreInOrder members → MayBeInDatabase (owned_listings (member_listings members) flags)
       → database_of members flags ≡ Ok bytes → IsRootOf Idb (database_value members flags)
-  pub sound : (members : List Member) (flags : List Bool) (bytes : List ℕ) → IsRootOf Idb (database_value members flags) → database_of members flags ≡ Ok bytes → IsSound Idb bytes
+  pub sound : (members : List Member) (flags : List Bool) (bytes : List ℕ) → IsRootOf Idb (database_value members flags) → database_of members flags ≡ Ok bytes → IsSoundContainer Idb bytes
   pub packages : (members : List Member) (flags : List Bool) (bytes : List ℕ) → IsRootOf Idb (database_value members flags) → database_of members flags ≡ Ok bytes
       → entries_at 0 (root_value Idb (payload_in bytes)) ≡ list_of (packages_in_new_database members flags)
 

@@ -8,7 +8,7 @@ use Rattle.sha2.proofs.Facts256.{length-sha256}
 use Rattle.make_index.specs.adb_fields.FirstPair.{IsIn}
 use Rattle.make_index.specs.adb_fields.Repeated.{package_name}
 use Rattle.make_index.specs.adb_schema.Rules.{is_digest_length}
-use Rattle.make_index.specs.adb_schema.SoundContainers.{IsSound}
+use Rattle.make_index.specs.adb_schema.SoundContainers.{IsSoundContainer}
 use Rattle.make_index.specs.adb_schema.Soundness.{first_fault, payload_in, root_value}
 use Rattle.adb_view.specs.declared.tables.Which.TheVariants.{Package}
 use Rattle.adb_view.specs.Plain.{Plain}
@@ -39,7 +39,7 @@ use Rattle.root_laws.proofs.SoundBefore.{AllSound}
 
 -- what the laws of the crates below say
 abbrev pub FilesMayCome : Type 0
-FilesMayCome = (file id : List ℕ) → IsSound Package file → All (λ b. b < 256) (payload_in file) → is_digest_length (length id) ≡ true → IsOfSoundContainer (root_value Package (payload_in file)) (Some id)
+FilesMayCome = (file id : List ℕ) → IsSoundContainer Package file → All (λ b. b < 256) (payload_in file) → is_digest_length (length id) ≡ true → IsOfSoundContainer (root_value Package (payload_in file)) (Some id)
 
 abbrev pub PackagesAreTested : Type 0
 PackagesAreTested = (file : List ℕ) → package_fault file ≡ option_or (first_fault Package file) (fault_of_files_read (files_in_file file))

@@ -3,7 +3,7 @@ use Rattle.std.proofs.Common.{◌≡◌, ◌∙◌, ℕ, Bool, true, false, List
 use Rattle.std.specs.Prelude.{if◌then◌else◌}
 use Rattle.base_core.specs.Files.{Files}
 use Rattle.engine_core.specs.change_files.FileChange.{FileChange}
-use Rattle.engine_core.specs.change_files.FilesAfter.{RootFilesAfter, listing_bytes}
+use Rattle.engine_core.specs.change_files.FilesAfter.{DatabaseAndWorldAfter, listing_bytes}
 use Rattle.engine_core.proofs.change_files.RecordNames.{database_after}
 use Rattle.engine_core.specs.change_inputs.Database.{root_database}
 use Rattle.engine_core.specs.change_inputs.Inputs.{Inputs, inputs_of, text_database_read}
@@ -13,7 +13,7 @@ use Rattle.engine_core.proofs.change_outcome.Made.{and_then_ok, made}
 use Rattle.engine_core.specs.change_outcome.ChangeOutcome.{ChangeDone, change_or_refusal, file_change, new_records}
 use Rattle.engine_core.specs.change_outcome.MembersAfter.{found_package_contents, found_members}
 use Rattle.command_core.specs.Command.{CommandLine}
-use Rattle.engine_core.specs.Changed.{Selected, change_of_selected, change_of_command, selected_by, selected_for, selected_of_inputs, simulated_change}
+use Rattle.engine_core.specs.Changed.{InputsAndReplacement, change_of_selected, change_of_command, selected_by, selected_for, selected_of_inputs, simulated_change}
 use Rattle.engine_core.specs.Selecting.{pool_of_inputs}
 use Rattle.engine_core.specs.Wishes.{unknown_operand_place, unless_unknown_operand, wishes_of}
 use Rattle.make_index.specs.make_info.Reads.{Reads}
@@ -38,26 +38,26 @@ pub record Laws : Type 0 where
 
 -- ---- what is selected
 
-record IsSelectedOf (command : CommandLine) (read : Reads) (s : Selected) : Type 0 where
+record IsSelectedOf (command : CommandLine) (read : Reads) (s : InputsAndReplacement) : Type 0 where
   inputs : inputs_of command read ≡ Ok s.inputs
   before : s.replacement.before ≡ s.inputs.root.database.packages
 
-abbrev kept : Selected → Result Selected Refusal
+abbrev kept : InputsAndReplacement → Result InputsAndReplacement Refusal
 kept s = Ok s
 
-chosen_ok : (command : CommandLine) (inputs : Inputs) (pool : SealedPool) (chosen : Option (List ℕ)) (s : Selected) → selected_by command inputs pool chosen ≡ Ok s
+chosen_ok : (command : CommandLine) (inputs : Inputs) (pool : SealedPool) (chosen : Option (List ℕ)) (s : InputsAndReplacement) → selected_by command inputs pool chosen ≡ Ok s
     → (s.inputs ≡ inputs) × (s.replacement.before ≡ inputs.root.database.packages)
 chosen_ok command inputs pool None s e = absurd (cc (e))
 chosen_ok command inputs pool (Some trace) s e = by_same _ refl refl e
   where
-    by_same : (t : Selected) → t.inputs ≡ inputs → t.replacement.before ≡ inputs.root.database.packages → kept t ≡ kept s → (s.inputs ≡ inputs) × (s.replacement.before ≡ inputs.root.database.packages)
-    by_same t same before e = let is : t ≡ s = cc in (ap (λ (x : Selected). x.inputs) (sym is) ∙ same, ap (λ (x : Selected). x.replacement.before) (sym is) ∙ before)
+    by_same : (t : InputsAndReplacement) → t.inputs ≡ inputs → t.replacement.before ≡ inputs.root.database.packages → kept t ≡ kept s → (s.inputs ≡ inputs) × (s.replacement.before ≡ inputs.root.database.packages)
+    by_same t same before e = let is : t ≡ s = cc in (ap (λ (x : InputsAndReplacement). x.inputs) (sym is) ∙ same, ap (λ (x : InputsAndReplacement). x.replacement.before) (sym is) ∙ before)
 
 place_ok : {A : Type 0} (o : Option ℕ) (next : Result A Refusal) (a : A) → unless_unknown_operand o next ≡ Ok a → next ≡ Ok a
 place_ok None next a e = e
 place_ok (Some place) next a e = absurd (cc (e))
 
-selected_ok : (command : CommandLine) (read : Reads) (chosen : Option (List ℕ)) (s : Selected) → selected_for command read chosen ≡ Ok s → IsSelectedOf command read s
+selected_ok : (command : CommandLine) (read : Reads) (chosen : Option (List ℕ)) (s : InputsAndReplacement) → selected_for command read chosen ≡ Ok s → IsSelectedOf command read s
 selected_ok command read chosen s e =
     let inputs = and_then_ok (inputs_of command read) (selected_of_inputs command chosen) s e in
     let pool = and_then_ok (pool_of_inputs command inputs.0) (λ pool. unless_unknown_operand (unknown_operand_place command.applet inputs.0 command.operands) (selected_by command inputs.0 pool chosen)) s inputs.2 in
@@ -70,14 +70,14 @@ selected_ok command read chosen s e =
 -- ---- what is left
 
 module _ (laws : Laws) (command : CommandLine) (read : Reads) (files : Files) (chosen : Option (List ℕ)) (clash : Option NamePair) (done : ChangeDone) (bytes : FindBytes read) where
-  with_made : (s : Selected) → selected_for command read chosen ≡ Ok s → IsChangeMade s.inputs s.replacement (wishes_of command) read clash files done → IsRootLeft command read chosen done
+  with_made : (s : InputsAndReplacement) → selected_for command read chosen ≡ Ok s → IsChangeMade s.inputs s.replacement (wishes_of command) read clash files done → IsRootLeft command read chosen done
   with_made s is m =
       let of = selected_ok command read chosen s is in
       let root = inputs_parts command read s.inputs of.inputs in
       let sound : AllSound s.replacement.before = subst AllSound (sym of.before) (before_sound laws.stay laws.texts command read s.inputs.root bytes root) in
       let members = members_ok laws.come laws.tested read bytes s.replacement sound s.inputs.root.repositories (wishes_of command).no_scripts m.found m.members in
       let change : FileChange = file_change s.inputs (wishes_of command) m.found in
-      let records : RootFilesAfter = new_records s.inputs m.database in
+      let records : DatabaseAndWorldAfter = new_records s.inputs m.database in
       let database_there : done.files database_name ≡ Some m.database =
       ap (λ (d : ChangeDone). d.files database_name) m.is ∙ database_after change (listing_bytes (found_package_contents m.found)) records files in
       let world_there : found_text_or_empty (done.files world_name) ≡ records.world =
@@ -97,7 +97,7 @@ module _ (laws : Laws) (command : CommandLine) (read : Reads) (files : Files) (c
         text = λ next finds. ap found_text_or_empty finds.world ∙ world_there;
       }
 
-  not_simulated : (s : Selected) (b : Bool) → b ≡ false → (if b then Ok (simulated_change s.replacement (wishes_of command) files) else change_or_refusal s.inputs s.replacement (wishes_of command) read clash files) ≡ Ok done
+  not_simulated : (s : InputsAndReplacement) (b : Bool) → b ≡ false → (if b then Ok (simulated_change s.replacement (wishes_of command) files) else change_or_refusal s.inputs s.replacement (wishes_of command) read clash files) ≡ Ok done
       → change_or_refusal s.inputs s.replacement (wishes_of command) read clash files ≡ Ok done
   not_simulated s true off e = absurd (cc (off))
   not_simulated s false off e = e

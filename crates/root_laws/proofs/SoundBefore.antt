@@ -3,7 +3,7 @@ use Rattle.std.proofs.Common.{◌≡◌, ◌∙◌, ℕ, ◌<◌, Bool, true, fa
 use Rattle.std.specs.Prelude.{All}
 use Rattle.make_index.specs.adb_fields.FirstPair.{IsIn}
 use Rattle.make_index.specs.adb_fields.Repeated.{entries_at}
-use Rattle.make_index.specs.adb_schema.SoundContainers.{IsSound}
+use Rattle.make_index.specs.adb_schema.SoundContainers.{IsSoundContainer}
 use Rattle.make_index.proofs.adb_schema.Sound as Values
 use Rattle.make_index.specs.adb_schema.Soundness.{first_fault, payload_in, root_value}
 use Rattle.adb_view.specs.declared.tables.Which.TheVariants.{Idb}
@@ -38,7 +38,7 @@ AllSound pkgs = (pkg : Plain) → IsIn pkg pkgs → IsOfSoundDatabase pkg
 
 -- what is said of a file and of a text
 abbrev pub FilesMayStay : Type 0
-FilesMayStay = (file : List ℕ) (pkg : Plain) → IsSound Idb file → All (λ b. b < 256) (payload_in file) → IsIn pkg (entries_at 0 (root_value Idb (payload_in file))) → IsOfSoundContainer pkg None
+FilesMayStay = (file : List ℕ) (pkg : Plain) → IsSoundContainer Idb file → All (λ b. b < 256) (payload_in file) → IsIn pkg (entries_at 0 (root_value Idb (payload_in file))) → IsOfSoundContainer pkg None
 
 abbrev pub TextsAreSound : Type 0
 TextsAreSound = (text payload : List ℕ) → payload_of_text text ≡ Ok payload → AllSound (entries_at 0 (root_value Idb payload))

@@ -30,7 +30,7 @@ use Rattle.engine_core.specs.v2_core.Records.{InfoLine, info_line_from_parts}
 use Rattle.engine_core.specs.v2_lines.Accesses.{Access, access_from_parts, access_in, before_colon, after_colon, is_uid_or_gid, is_octal, octal_number}
 use Rattle.engine_core.specs.v2_lines.InfoFields.{field_of_letter, grammar_of}
 use Rattle.engine_core.specs.v2_lines.InfoValues.{commit_values, single_number_value, single_text_value, sha1_of, values_under_grammar}
-use Rattle.engine_core.specs.v2_lines.Lines.{RecordLine, info_line, folder_line, folder_access_line, file_line, file_access_line, file_hash_line, other_line, file_line_of, folder_line_of, info_record_line, record_line_of_letter, record_line_of}
+use Rattle.engine_core.specs.v2_lines.Lines.{RecordLine, info_line, folder_line, folder_access_line, file_line, file_access_line, file_hash_line, other_line, file_line_if_one_part, folder_line_if_path, info_record_line, record_line_of_letter, record_line_of}
 use Rattle.engine_core.specs.v2_lines.declared.field.Grammar.{Grammar}
 use Rattle.engine_core.specs.v2_lines.declared.field.Grammar.TheVariants as Grammars
 use Rattle.engine_core.specs.v2_lines.declared.field.InfoField.{InfoField}
@@ -258,7 +258,7 @@ abbrev line_by_file_access : ℕ → List ℕ → Option RecordLine
 line_by_file_access letter value = if letter == 97 then option_map file_access_line (access_in value) else line_by_hash letter value
 
 abbrev line_by_file : ℕ → List ℕ → Option RecordLine
-line_by_file letter value = if letter == 82 then file_line_of value else line_by_file_access letter value
+line_by_file letter value = if letter == 82 then file_line_if_one_part value else line_by_file_access letter value
 
 abbrev line_by_folder_access : ℕ → List ℕ → Option RecordLine
 line_by_folder_access letter value = if letter == 77 then option_map folder_access_line (access_in value) else line_by_file letter value
@@ -266,9 +266,9 @@ line_by_folder_access letter value = if letter == 77 then option_map folder_acce
 by_letter_good : (letter : ℕ) (value : List ℕ) → IsGoodIfAny (record_line_of_letter letter value)
 unfolding record_line_of_letter
 by_letter_good letter value =
-    if_each IsGoodIfAny (letter == 70) (folder_line_of value) (line_by_folder_access letter value) (if_each IsGoodIfAny (is_folder_name value) (Some (folder_line value)) None tt tt)
+    if_each IsGoodIfAny (letter == 70) (folder_line_if_path value) (line_by_folder_access letter value) (if_each IsGoodIfAny (is_folder_name value) (Some (folder_line value)) None tt tt)
     (if_each IsGoodIfAny (letter == 77) (option_map folder_access_line (access_in value)) (line_by_file letter value) (map_some IsGoodAccess IsGoodRecordLine folder_access_line (access_in value) (λ a h. h) (access_good value))
-    (if_each IsGoodIfAny (letter == 82) (file_line_of value) (line_by_file_access letter value) (if_each IsGoodIfAny (is_one_part value) (Some (file_line value)) None tt tt)
+    (if_each IsGoodIfAny (letter == 82) (file_line_if_one_part value) (line_by_file_access letter value) (if_each IsGoodIfAny (is_one_part value) (Some (file_line value)) None tt tt)
     (if_each IsGoodIfAny (letter == 97) (option_map file_access_line (access_in value)) (line_by_hash letter value) (map_some IsGoodAccess IsGoodRecordLine file_access_line (access_in value) (λ a h. h) (access_good value))
     (if_each IsGoodIfAny (letter == 90) (option_map file_hash_line (sha1_of value)) (line_by_other letter value) (map_some (λ b. Unit {0}) IsGoodRecordLine file_hash_line (sha1_of value) (λ b h. tt) (any (λ b. Unit {0}) (sha1_of value) (λ b. tt)))
     (info_good (field_of_letter letter) value)))))

@@ -14,7 +14,7 @@ use Rattle.make_index.specs.adb_schema.Reserved.{is_reserved}
 use Rattle.make_index.specs.adb_schema.SoundValues.{IsSoundFileOf, IsSoundFolder, IsSoundPackage}
 use Rattle.engine_core.specs.change_files.PlanLists.{first_reserved_path}
 use Rattle.engine_core.specs.db_core.Members.{Listing, Member, is_added, listings_of_member, listings_of_members_from, listings_in_folder, listings_in_folders, member_listings}
-use Rattle.engine_core.specs.db_core.OwnedListings.{HaveOneOwner, owned_listings}
+use Rattle.engine_core.specs.db_core.OwnedListings.{HaveAtMostOneOwner, owned_listings}
 use Rattle.engine_core.specs.db_core.SoundMembers.{AreOfSoundContainers, IsOfSoundContainer, IsOfSoundDatabase, MayBeInDatabase, NoneReserved}
 use Rattle.base_core.specs.ByteOrder.{precedes, smaller_text, smallest_text}
 
@@ -127,7 +127,7 @@ none_reserved [] h = tt
 none_reserved (l ∷ ls) h = (h.0, none_reserved ls h.1)
 
 -- so what they own may be listed
-pub may_be_listed : (members : List Member) (flags : List Bool) → HaveOneOwner (owned_listings (member_listings members) flags) → AreOfSoundContainers members → first_reserved_path members ≡ None
+pub may_be_listed : (members : List Member) (flags : List Bool) → HaveAtMostOneOwner (owned_listings (member_listings members) flags) → AreOfSoundContainers members → first_reserved_path members ≡ None
     → MayBeInDatabase (owned_listings (member_listings members) flags)
 unfolding member_listings first_reserved_path
 may_be_listed members flags one sound free =

@@ -12,7 +12,7 @@ use Rattle.command_core.specs.Command.{CommandLine}
 use Rattle.engine_core.specs.db_core.Members.{Member}
 use Rattle.engine_core.specs.db_write.NewDatabase.{packages_in_new_database}
 use Rattle.dep_core.specs.World.{world_text}
-use Rattle.engine_core.specs.Changed.{Selected, selected_for}
+use Rattle.engine_core.specs.Changed.{InputsAndReplacement, selected_for}
 use Rattle.engine_core.specs.Wishes.{wishes_of}
 use Rattle.engine_core.specs.file_owners.Owners.{owned_flags_of}
 use Rattle.make_index.specs.make_info.Reads.{Reads}
@@ -37,7 +37,7 @@ database_of_members members bytes =
 -- change, and the world that the change was made for.
 pub record IsRootLeft (command : CommandLine) (read : Reads) (chosen : Option (List ℕ))
     (done : ChangeDone) : Type 0 where
-  pub selected : Selected
+  pub selected : InputsAndReplacement
   pub is_selected : selected_for command read chosen ≡ Ok selected
   pub found : List MemberFound
   pub members : change_members selected.inputs selected.replacement (wishes_of command) read

@@ -1,5 +1,5 @@
 //! The rows of the search: a row is the text between two lines that begin a row, and indexes are
-//! made of its packages. They serve the program `search_rows`, whose README has the form of a row.
+//! made of its packages. They serve the program `solver_tests`, whose README has the form of a row.
 #![tactic(auto)]
 
 mod package;

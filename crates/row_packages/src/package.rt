@@ -7,7 +7,7 @@
 //! - `h:` and the id, which is empty after a bare `h:`; all packages without an `h:` have the same
 //!   id.
 //!
-//! The README of `search_rows` has the same form; the fields are those of `docs/formats.md`,
+//! The README of `solver_tests` has the same form; the fields are those of `docs/formats.md`,
 //! "Schemas", table 3, but the numbers here count from 0.
 use crate::row::number_of;
 use adb_view::Val;

@@ -1,5 +1,5 @@
 //! A row: the packages to choose from, world, and the names that a command upgrades. It borrows its
-//! text. The lines are in the README of `search_rows`.
+//! text. The lines are in the README of `solver_tests`.
 use crate::package::index_payload;
 use std::alloc::{AllocError, Global};
 

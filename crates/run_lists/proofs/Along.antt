@@ -10,8 +10,8 @@ use Rattle.base_core.specs.Tree.{TreeState, files_of}
 use Rattle.apk_front.specs.journal_core.Quiet.{EachCrashLeavesOld}
 use Rattle.apk_front.specs.journal_core.Recovery.{EachCrashLeaves, StateDependsOn, intent_name}
 use Rattle.apk_front.specs.outcome.Effect.{output}
-use Rattle.run_lists.specs.Events.{Crashes, Edits, Ends, Event, HasNoPendingRun, Reaches, ReachesOneState, IsAllSynced, IsRunWithoutCommit, IsMomentOf, IsRunFrom, DiffersOnlyInUnsyncedBytes, KeepsOneStateAfterCrash, IsTransition, LeavesOneStateAfterCrash, Run, Stops, Touches, ignored_after, ignored_after_answer, ignored_during_run, nothing_ignored, ignored_with_scratch, ignored_with_touched}
-use Rattle.run_lists.specs.Safety.{IsAtomic, IsSafe, LeavesOutcome}
+use Rattle.run_lists.specs.Events.{Crashes, Edits, Ends, RootEvent, HasNoPendingRun, Reaches, ReachesOneState, IsAllSynced, IsRunWithoutCommit, IsMomentOf, IsRunFrom, DiffersOnlyInUnsyncedBytes, KeepsOneStateAfterCrash, IsTransition, LeavesOneStateAfterCrash, Run, Stops, Touches, ignored_after, ignored_after_answer, ignored_during_run, nothing_ignored, ignored_with_scratch, ignored_with_touched}
+use Rattle.run_lists.specs.Safety.{IsAtomic, IsSafeRun, LeavesOutcome}
 use Rattle.run_lists.proofs.AtMoments.{now_at}
 use Rattle.run_lists.proofs.Ending.{Resting, ends_at_rest, ends_so}
 use Rattle.run_lists.proofs.Facts.{Facts, Ignored}
@@ -36,7 +36,7 @@ order_rests facts = record {
 }
 
 module _ (facts : Facts) (start : Ignored) (off : start intent_name ≡ false) where
-  led_durable : (event : Event) (earlier : List Event) (v w : TreeState) → IsDurable (StateDependsOn (ignored_after start earlier)) v → IsTransition v event w → IsDurable (StateDependsOn (ignored_after start (event ∷ earlier))) w
+  led_durable : (event : RootEvent) (earlier : List RootEvent) (v w : TreeState) → IsDurable (StateDependsOn (ignored_after start earlier)) v → IsTransition v event w → IsDurable (StateDependsOn (ignored_after start (event ∷ earlier))) w
   led_durable (Ends run) earlier v w is_durable (is_run, ends) =
       let names = ignored_after start earlier in
       let hidden = after_hides start off earlier in
@@ -53,18 +53,18 @@ module _ (facts : Facts) (start : Ignored) (off : start intent_name ≡ false) w
   led_durable Edits earlier v w is_durable synced = facts.crash_durable nothing_ignored w w (as_crash facts w synced)
   led_durable (Touches theirs) earlier v w is_durable touch = touch_durable theirs v w touch (ignored_after start earlier) is_durable
 
-  pub seen_durable : (first v : TreeState) (events : List Event) → IsDurable (StateDependsOn start) first → Reaches first events v → IsDurable (StateDependsOn (ignored_after start events)) v
+  pub seen_durable : (first v : TreeState) (events : List RootEvent) → IsDurable (StateDependsOn start) first → Reaches first events v → IsDurable (StateDependsOn (ignored_after start events)) v
   seen_durable first v [] is_durable is = subst (IsDurable (StateDependsOn start)) (sym is) is_durable
   seen_durable first v (event ∷ earlier) is_durable (u, seen, leads) = led_durable event earlier u v (seen_durable first u earlier is_durable seen) leads
 
-  pub seen_begins : (first v : TreeState) (events : List Event) (words : List (List ℕ)) → IsDurable (StateDependsOn start) first → Reaches first events v
+  pub seen_begins : (first v : TreeState) (events : List RootEvent) (words : List (List ℕ)) → IsDurable (StateDependsOn start) first → Reaches first events v
       → IsDurable (StateDependsOn (ignored_with_scratch (output words) (ignored_after start events))) v × IgnoresScratchOf (output words) (ignored_with_scratch (output words) (ignored_after start events))
   seen_begins first v events words is_durable seen = (
     more_durable facts (output words) (ignored_after start events) v (seen_durable first v events is_durable seen),
     hides (output words) (ignored_after start events) (after_hides start off events),
   )
 
-  pub seen_safe : (first v : TreeState) (events : List Event) → IsDurable (StateDependsOn start) first → Reaches first events v → (run : Run) → IsRunFrom v run → IsSafe (ignored_after start events) v run
+  pub seen_safe : (first v : TreeState) (events : List RootEvent) → IsDurable (StateDependsOn start) first → Reaches first events v → (run : Run) → IsRunFrom v run → IsSafeRun (ignored_after start events) v run
   seen_safe first v events is_durable seen run is_run = safe facts (ignored_after start events) v run is_run (after_hides start off events) (seen_durable first v events is_durable seen)
 
 -- ---- one state
@@ -120,12 +120,12 @@ module _ (facts : Facts) (ignored : Ignored) (v : TreeState) (run : Run) (is_run
     stopped_one m moment torn idle = idle_one (torn_quiet m w torn ignored v (idle_moment ignored v run is_run is_durable idle m moment).quiet)
 
 module _ (facts : Facts) (start : Ignored) (off : start intent_name ≡ false) (first : TreeState) (rest : IsDurableState start (files_of first) first) where
-  pub seen_of : (v : TreeState) (events : List Event) → ReachesOneState first events v → Reaches first events v
+  pub seen_of : (v : TreeState) (events : List RootEvent) → ReachesOneState first events v → Reaches first events v
   seen_of v [] is = is
   seen_of v (event ∷ earlier) (u, leads, inl (seen, makes)) = (u, seen, leads)
   seen_of v (event ∷ earlier) (u, leads, inr (seen, keeps)) = (u, seen_of u earlier seen, leads)
 
-  led_made : (event : Event) (earlier : List Event) (v w : TreeState) → IsDurable (StateDependsOn (ignored_after start earlier)) v → LeavesOneStateAfterCrash v event → IsTransition v event w → EachCrashLeaves (ignored_after start (event ∷ earlier)) (files_of w) w
+  led_made : (event : RootEvent) (earlier : List RootEvent) (v w : TreeState) → IsDurable (StateDependsOn (ignored_after start earlier)) v → LeavesOneStateAfterCrash v event → IsTransition v event w → EachCrashLeaves (ignored_after start (event ∷ earlier)) (files_of w) w
   led_made (Ends run) earlier v w is_durable makes (is_run, ends) =
       made_one facts (ignored_after start earlier) v run is_run (after_hides start off earlier) is_durable w ends makes
   led_made (Stops run) earlier v w is_durable makes leads = absurd makes
@@ -133,7 +133,7 @@ module _ (facts : Facts) (start : Ignored) (off : start intent_name ≡ false) (
   led_made Edits earlier v w is_durable makes synced = facts.crash_settled nothing_ignored w w (as_crash facts w synced)
   led_made (Touches theirs) earlier v w is_durable makes touch = absurd makes
 
-  led_kept : (event : Event) (earlier : List Event) (v w : TreeState) → IsDurable (StateDependsOn (ignored_after start earlier)) v → EachCrashLeaves (ignored_after start earlier) (files_of v) v → KeepsOneStateAfterCrash v event → IsTransition v event w
+  led_kept : (event : RootEvent) (earlier : List RootEvent) (v w : TreeState) → IsDurable (StateDependsOn (ignored_after start earlier)) v → EachCrashLeaves (ignored_after start earlier) (files_of v) v → KeepsOneStateAfterCrash v event → IsTransition v event w
       → EachCrashLeaves (ignored_after start (event ∷ earlier)) (files_of w) w
   led_kept (Ends run) earlier v w is_durable one keeps (is_run, ends) =
       kept_one facts (ignored_after start earlier) v run is_run (after_hides start off earlier) is_durable w one ends keeps
@@ -147,25 +147,25 @@ module _ (facts : Facts) (start : Ignored) (off : start intent_name ≡ false) (
       own_settled facts names (files_of v) w
       (settled_on names (files_of v) v w (facts.more_settled before names (files_of v) v (touched_more theirs before) one) (touch_quiet theirs v w touch before))
 
-  order_of : (v : TreeState) (events : List Event) → Reaches first events v → IsDurable (StateDependsOn (ignored_after start events)) v
+  order_of : (v : TreeState) (events : List RootEvent) → Reaches first events v → IsDurable (StateDependsOn (ignored_after start events)) v
   order_of v events seen = seen_durable facts start off first v events rest.is_durable seen
 
-  seen_settled : (v : TreeState) (events : List Event) → ReachesOneState first events v → EachCrashLeaves (ignored_after start events) (files_of v) v
+  seen_settled : (v : TreeState) (events : List RootEvent) → ReachesOneState first events v → EachCrashLeaves (ignored_after start events) (files_of v) v
   seen_settled v [] is = subst (λ (u : TreeState). EachCrashLeaves start (files_of u) u) (sym is) rest.settled
   seen_settled v (event ∷ earlier) (u, leads, inl (seen, makes)) = led_made event earlier u v (order_of u earlier seen) makes leads
   seen_settled v (event ∷ earlier) (u, leads, inr (seen, keeps)) =
       led_kept event earlier u v (order_of u earlier (seen_of u earlier seen)) (seen_settled u earlier seen) keeps leads
 
-  pub seen_one : (v : TreeState) (events : List Event) → ReachesOneState first events v → IsDurableState (ignored_after start events) (files_of v) v
+  pub seen_one : (v : TreeState) (events : List RootEvent) → ReachesOneState first events v → IsDurableState (ignored_after start events) (files_of v) v
   seen_one v events seen = record { is_durable = order_of v events (seen_of v events seen); settled = seen_settled v events seen }
 
-  pub seen_atomic : (v : TreeState) (events : List Event) → ReachesOneState first events v → (run : Run) → IsRunFrom v run → IsAtomic (ignored_after start events) v run
+  pub seen_atomic : (v : TreeState) (events : List RootEvent) → ReachesOneState first events v → (run : Run) → IsRunFrom v run → IsAtomic (ignored_after start events) v run
   seen_atomic v events seen run is_run =
       let here = seen_one v events seen in
       atomic facts (ignored_after start events) v run is_run (after_hides start off events) here.is_durable here.settled
 
 -- a list whose runs end, or are cut off by a crash, keeps one state
-pub unbroken : (first v : TreeState) (events : List Event) → Reaches first events v → HasNoPendingRun events → ReachesOneState first events v
+pub unbroken : (first v : TreeState) (events : List RootEvent) → Reaches first events v → HasNoPendingRun events → ReachesOneState first events v
 unbroken first v [] is none = is
 unbroken first v (Ends run ∷ earlier) (u, seen, leads) (fault, before) = (u, leads, inr (unbroken first u earlier seen before, inl fault))
 unbroken first v (Stops run ∷ earlier) seen none = absurd none

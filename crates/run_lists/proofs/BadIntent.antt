@@ -11,7 +11,7 @@ use Rattle.apk_front.specs.journal_core.Recovery.{intent_name}
 use Rattle.apk_front.specs.outcome.Effect.{Effect, Computes, OnlyReadsFiles, AsksRoot, Makes, Changes, does_only_read, effect_of_arguments, reads_only}
 use Rattle.apk_front.specs.outcome.Work.{fault_of_intent, recovery_fault}
 use Rattle.apk_front.specs.words_core.Grammar.{command_of}
-use Rattle.run_lists.specs.Events.{Crashes, Edits, Ends, Event, IsRunFrom, IsTransition, Run, Stops, Touches}
+use Rattle.run_lists.specs.Events.{Crashes, Edits, Ends, RootEvent, IsRunFrom, IsTransition, Run, Stops, Touches}
 use Rattle.run_lists.specs.Reading.{HasBadIntent, ReachesByRuns, IsUnrestrictedRun, IsRunWith}
 use Rattle.run_lists.proofs.AtMoments.{at_last, at_moment, now_at}
 
@@ -42,7 +42,7 @@ Is v w = w ≡ v
 none_made : (v : TreeState) (run : Run) → run.now ≡ run.old → Since (Is v) run.old run.now
 none_made v run same = record { added = []; is = same; each = All-nil (Is v) }
 
-led_same : (v w : TreeState) (event : Event) → HasBadIntent (files_of v) → IsRunWith IsUnrestrictedRun v event w → IsTransition v event w → w ≡ v
+led_same : (v w : TreeState) (event : RootEvent) → HasBadIntent (files_of v) → IsRunWith IsUnrestrictedRun v event w → IsTransition v event w → w ≡ v
 led_same v w (Ends run) bad any (is_run, ends) =
     now_at run.now (Is v) w (at_last (Is v) run.old run.now v is_run.begins refl (none_made v run (nothing_written v run is_run bad))) ends
 led_same v w (Stops run) bad (any, moment) (is_run, stop) =
@@ -51,7 +51,7 @@ led_same v w Crashes bad any leads = absurd any
 led_same v w Edits bad any leads = absurd any
 led_same v w (Touches theirs) bad any leads = absurd any
 
-pub seen_same : (first w : TreeState) (events : List Event) → HasBadIntent (files_of first) → ReachesByRuns IsUnrestrictedRun first events w → w ≡ first
+pub seen_same : (first w : TreeState) (events : List RootEvent) → HasBadIntent (files_of first) → ReachesByRuns IsUnrestrictedRun first events w → w ≡ first
 seen_same first w [] bad is = is
 seen_same first w (event ∷ earlier) bad (v, seen, any, leads) =
     let before = seen_same first v earlier bad seen in

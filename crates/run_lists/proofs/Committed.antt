@@ -13,7 +13,7 @@ use Rattle.apk_front.specs.change_outcome.ChangeOutcome.{ChangeDone, ChangeWishe
 use Rattle.command_core.specs.Command.{CommandLine}
 use Rattle.command_core.specs.declared.command.Applet.{Applet}
 use Rattle.command_core.specs.declared.command.Applet.TheVariants.{Demo, Mkndx, Mkpkg}
-use Rattle.apk_front.specs.engine_core.Changed.{Selected, change_of_selected, change_of_command, selected_for, simulated_change}
+use Rattle.apk_front.specs.engine_core.Changed.{InputsAndReplacement, change_of_selected, change_of_command, selected_for, simulated_change}
 use Rattle.apk_front.specs.engine_core.Wishes.{wishes_of}
 use Rattle.apk_front.specs.journal_core.Recovery.{intent_name}
 use Rattle.apk_front.specs.journal_core.Replacing.{replaced_files, scratch_of}
@@ -53,7 +53,7 @@ Brings o = o.commits ≡ true → o.files intent_name ≡ None
 -- ---- a change
 
 module _ (gone : BringsNoIntent) where
-  selected_none : (command : CommandLine) (read : Reads) (files : Files) (clash : Option NamePair) (s : Selected) (done : ChangeDone)
+  selected_none : (command : CommandLine) (read : Reads) (files : Files) (clash : Option NamePair) (s : InputsAndReplacement) (done : ChangeDone)
       → (simulate : Bool) → (if simulate then Ok (simulated_change s.replacement (wishes_of command) files) else change_or_refusal s.inputs s.replacement (wishes_of command) read clash files) ≡ Ok done
       → files intent_name ≡ None → done.files intent_name ≡ None
   selected_none command read files clash s done true is absent = subst (λ (f : Files). f intent_name ≡ None) (ap (λ (r : Result ChangeDone Refusal). files_or r) is) absent
@@ -63,7 +63,7 @@ module _ (gone : BringsNoIntent) where
       files_or (Err refusal) = files
   selected_none command read files clash s done false is absent = gone s.inputs s.replacement (wishes_of command) read clash files done is absent
 
-  by_selected : (command : CommandLine) (read : Reads) (files : Files) (clash : Option NamePair) (selected : Result Selected Refusal) (done : ChangeDone)
+  by_selected : (command : CommandLine) (read : Reads) (files : Files) (clash : Option NamePair) (selected : Result InputsAndReplacement Refusal) (done : ChangeDone)
       → and_then selected (change_of_selected command read files clash) ≡ Ok done → files intent_name ≡ None → done.files intent_name ≡ None
   by_selected command read files clash (Ok s) done is absent = selected_none command read files clash s done command.flags.simulate is absent
   by_selected command read files clash (Err refusal) done is absent = cc

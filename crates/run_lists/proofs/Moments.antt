@@ -20,7 +20,7 @@ use Rattle.apk_front.specs.outcome.Effect.{Effect, Computes, OnlyReadsFiles, Ask
 use Rattle.apk_front.specs.outcome.Outcome.{Outcome}
 use Rattle.apk_front.specs.outcome.Work.{work_files}
 use Rattle.apk_front.specs.words_core.Grammar.{command_of}
-use Rattle.run_lists.specs.Events.{Crashes, Edits, Ends, Event, Reaches, IsMomentOf, IsOutcomeFrom, IsRunFrom, IsTransition, Run, Stops, Touches, ignored_after, ignored_during_run, ignored_with_scratch}
+use Rattle.run_lists.specs.Events.{Crashes, Edits, Ends, RootEvent, Reaches, IsMomentOf, IsOutcomeFrom, IsRunFrom, IsTransition, Run, Stops, Touches, ignored_after, ignored_during_run, ignored_with_scratch}
 use Rattle.run_lists.specs.Reading.{HasOldRecoveredOrOutcomeBytes, HasOutcomeBytes, ReachesByRuns, IsDurablyDone, IsOrdinaryName, IsNoJournalOrDraftName, IsRunWith, IsTrueAt, LeavesTrueAt}
 use Rattle.run_lists.proofs.Along.{seen_durable}
 use Rattle.run_lists.proofs.AtMoments.{History, now_map, start_or_made}
@@ -168,14 +168,14 @@ last_moment run v w is_run ends = by is_run.reads
     by (inl since) = last_by run w since.added since.is ends
     by (inr (o, one, commits, since)) = last_by run w since.added since.is ends
 
-led_true : CommitsNoIntent → (test : Option (List ℕ) → Bool) (q : List ℕ) (stays : IsJournalName q → ⊥) (v w : TreeState) (event : Event) → IsTrueAt test q (files_of v) → IsRunWith (LeavesTrueAt test q) v event w → IsTransition v event w → IsTrueAt test q (files_of w)
+led_true : CommitsNoIntent → (test : Option (List ℕ) → Bool) (q : List ℕ) (stays : IsJournalName q → ⊥) (v w : TreeState) (event : RootEvent) → IsTrueAt test q (files_of v) → IsRunWith (LeavesTrueAt test q) v event w → IsTransition v event w → IsTrueAt test q (files_of w)
 led_true no_intent test q stays v w (Ends run) at leaves (is_run, ends) = stands_true no_intent test q stays v run w leaves at (located v run w is_run (last_moment run v w is_run ends))
 led_true no_intent test q stays v w (Stops run) at (leaves, moment) (is_run, stop) = stands_true no_intent test q stays v run w leaves at (located v run w is_run moment)
 led_true no_intent test q stays v w Crashes at leaves leads = absurd leaves
 led_true no_intent test q stays v w Edits at leaves leads = absurd leaves
 led_true no_intent test q stays v w (Touches theirs) at leaves leads = absurd leaves
 
-pub seen_true : CommitsNoIntent → (test : Option (List ℕ) → Bool) (q : List ℕ) → (IsJournalName q → ⊥) → (first w : TreeState) (events : List Event) → IsTrueAt test q (files_of first) → ReachesByRuns (LeavesTrueAt test q) first events w → IsTrueAt test q (files_of w)
+pub seen_true : CommitsNoIntent → (test : Option (List ℕ) → Bool) (q : List ℕ) → (IsJournalName q → ⊥) → (first w : TreeState) (events : List RootEvent) → IsTrueAt test q (files_of first) → ReachesByRuns (LeavesTrueAt test q) first events w → IsTrueAt test q (files_of w)
 seen_true no_intent test q stays first w [] at is = subst (λ (u : TreeState). IsTrueAt test q (files_of u)) (sym is) at
 seen_true no_intent test q stays first w (event ∷ earlier) at (v, seen, leaves, leads) =
     led_true no_intent test q stays v w event (seen_true no_intent test q stays first v earlier at seen) leaves leads
@@ -268,7 +268,7 @@ module _ (v : TreeState) (run : Run) (m : TreeState) (there : IsSome (v.names in
       lasts = left_as_read is_run moment q name;
     }
 
-pub seen_done : Facts → (ignored : Ignored) (first v m : TreeState) (events : List Event) (run : Run) → ignored intent_name ≡ false → IsDurable (StateDependsOn ignored) first → Reaches first events v → IsRunFrom v run
+pub seen_done : Facts → (ignored : Ignored) (first v m : TreeState) (events : List RootEvent) (run : Run) → ignored intent_name ≡ false → IsDurable (StateDependsOn ignored) first → Reaches first events v → IsRunFrom v run
     → IsSome (v.names intent_name) → IsMomentOf run m → m.names intent_name ≡ None → (q : List ℕ) → IsOrdinaryName (ignored_after ignored events) run q → IsDurablyDone v run m q
 seen_done facts ignored first v m events run off is_durable seen is_run there moment unread q name =
     done_for_good v run m there unread facts (ignored_after ignored events) (after_hides ignored off events) (seen_durable facts ignored off first v events is_durable seen) is_run moment q name

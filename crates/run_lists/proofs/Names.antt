@@ -12,7 +12,7 @@ use Rattle.command_core.specs.Command.{CommandLine}
 use Rattle.apk_front.specs.journal_core.Recovery.{intent_name}
 use Rattle.apk_front.specs.journal_core.Replacing.{scratch_of}
 use Rattle.apk_front.specs.outcome.Effect.{Effect, Computes, OnlyReadsFiles, AsksRoot, Makes, Changes, does_only_read, effect_of_arguments, effect_of, output, output_of_arguments, output_for_effect, reads_only}
-use Rattle.run_lists.specs.Events.{Crashes, Edits, Ends, Event, HasNoPendingOutput, Run, Stops, Touches, ignored_after, ignored_after_answer, names_of_others, nothing_ignored, ignored_with_all_touched, ignored_with_scratch, ignored_with_touched}
+use Rattle.run_lists.specs.Events.{Crashes, Edits, Ends, RootEvent, HasNoPendingOutput, Run, Stops, Touches, ignored_after, ignored_after_answer, names_of_others, nothing_ignored, ignored_with_all_touched, ignored_with_scratch, ignored_with_touched}
 use Rattle.run_lists.proofs.Facts.{AreMore, Ignored}
 use Rattle.run_lists.proofs.Touched.{intent_off}
 
@@ -52,7 +52,7 @@ by_hides Memory run ignored off = off
 pub touched_hides : (theirs ignored : Ignored) → ignored intent_name ≡ false → ignored_with_touched theirs ignored intent_name ≡ false
 touched_hides theirs ignored off = neither (names_of_others theirs intent_name) (ignored intent_name) (λ is. false≢true (sym (intent_off theirs) ∙ is)) off
 
-pub all_touched_hides : (events : List Event) (ignored : Ignored) → ignored intent_name ≡ false → ignored_with_all_touched events ignored intent_name ≡ false
+pub all_touched_hides : (events : List RootEvent) (ignored : Ignored) → ignored intent_name ≡ false → ignored_with_all_touched events ignored intent_name ≡ false
 all_touched_hides [] ignored off = off
 all_touched_hides (Ends run ∷ earlier) ignored off = all_touched_hides earlier ignored off
 all_touched_hides (Stops run ∷ earlier) ignored off = all_touched_hides earlier ignored off
@@ -60,7 +60,7 @@ all_touched_hides (Crashes ∷ earlier) ignored off = all_touched_hides earlier 
 all_touched_hides (Edits ∷ earlier) ignored off = all_touched_hides earlier ignored off
 all_touched_hides (Touches theirs ∷ earlier) ignored off = touched_hides theirs (ignored_with_all_touched earlier ignored) (all_touched_hides earlier ignored off)
 
-pub after_hides : (ignored : Ignored) → ignored intent_name ≡ false → (events : List Event) → ignored_after ignored events intent_name ≡ false
+pub after_hides : (ignored : Ignored) → ignored intent_name ≡ false → (events : List RootEvent) → ignored_after ignored events intent_name ≡ false
 after_hides ignored off [] = off
 after_hides ignored off (Ends run ∷ earlier) = by_hides run.answer run (ignored_after ignored earlier) (after_hides ignored off earlier)
 after_hides ignored off (Stops run ∷ earlier) = scratch_hides (output run.words) (ignored_after ignored earlier) (after_hides ignored off earlier)
@@ -73,7 +73,7 @@ after_hides ignored off (Touches theirs ∷ earlier) = touched_hides theirs (ign
 pub touched_more : (theirs ignored : Ignored) → AreMore ignored (ignored_with_touched theirs ignored)
 touched_more theirs ignored q is = or_right (names_of_others theirs q) (ignored q) is
 
-pub all_touched_more : (events : List Event) (ignored : Ignored) → AreMore ignored (ignored_with_all_touched events ignored)
+pub all_touched_more : (events : List RootEvent) (ignored : Ignored) → AreMore ignored (ignored_with_all_touched events ignored)
 all_touched_more [] ignored q is = is
 all_touched_more (Ends run ∷ earlier) ignored q is = all_touched_more earlier ignored q is
 all_touched_more (Stops run ∷ earlier) ignored q is = all_touched_more earlier ignored q is
@@ -118,7 +118,7 @@ by_off TreeFault run ignored q fault off = scratch_off (output run.words) ignore
 by_off OutFault run ignored q fault off = off
 by_off Memory run ignored q fault off = off
 
-pub none_ignored : (events : List Event) (q : List ℕ) → HasNoPendingOutput events → ignored_after nothing_ignored events q ≡ false
+pub none_ignored : (events : List RootEvent) (q : List ℕ) → HasNoPendingOutput events → ignored_after nothing_ignored events q ≡ false
 none_ignored [] q written = refl
 none_ignored (Ends run ∷ earlier) q (fault, before) = by_off run.answer run (ignored_after nothing_ignored earlier) q fault (none_ignored earlier q before)
 none_ignored (Stops run ∷ earlier) q (none, before) = scratch_off (output run.words) (ignored_after nothing_ignored earlier) q none (none_ignored earlier q before)

@@ -9,7 +9,7 @@ use Rattle.base_core.specs.Calls.{HoldsNow}
 use Rattle.base_core.specs.Crash.{Since}
 use Rattle.base_core.specs.Undone.{IsDurable, IsCrashImage}
 use Rattle.base_core.specs.Files.{Files}
-use Rattle.base_core.specs.Sink.{SinkChange}
+use Rattle.base_core.specs.Sink.{SinkBeforeAndAfter}
 use Rattle.base_core.specs.Tree.{TreeState, files_of}
 use Rattle.apk_front.specs.journal_core.Quiet.{EachCrashLeavesOld, StateIsUnchanged}
 use Rattle.apk_front.specs.journal_core.Recovery.{EachCrashLeaves, StateDependsOn, intent_name}
@@ -18,7 +18,7 @@ use Rattle.apk_front.specs.outcome.Effect.{Effect, effect_of_arguments, output}
 use Rattle.apk_front.specs.outcome.Outcome.{Outcome}
 use Rattle.apk_front.specs.words_core.Grammar.{command_of}
 use Rattle.run_lists.specs.Events.{HasCommit, IsRunWithoutCommit, IsMomentOf, IsOutcomeFrom, IsRunFrom, Run, ignored_during_run, ignored_with_scratch}
-use Rattle.run_lists.specs.Safety.{HasOldOrOutcome, IsAtomic, LeavesOldOrOutcome, IsSafe, LeavesOutcome}
+use Rattle.run_lists.specs.Safety.{HasOldOrOutcome, IsAtomic, LeavesOldOrOutcome, IsSafeRun, LeavesOutcome}
 use Rattle.run_lists.proofs.AtMoments.{History, at_last, at_moment, now_at, now_map, now_under, now_with}
 use Rattle.run_lists.proofs.Facts.{Facts, Ignored}
 use Rattle.run_lists.proofs.Names.{but_same, hides, scratch_more}
@@ -66,7 +66,7 @@ abbrev pub Told : Answer → Outcome → Type 0
 Told answer outcome = (answer ≡ answer_of outcome) ⊎ (answer ≡ OutFault)
 
 module _ (IsOne : Outcome → Type 0) (unique : (a b : Outcome) → IsOne a → IsOne b → a ≡ b) where
-  pub told : (Leaves : Outcome → Type 0) (failed : Type 0) (answer : Answer) (out err : SinkChange) → IsAnswerOf IsOne Leaves failed answer out err → AnswersOutcome answer
+  pub told : (Leaves : Outcome → Type 0) (failed : Type 0) (answer : Answer) (out err : SinkBeforeAndAfter) → IsAnswerOf IsOne Leaves failed answer out err → AnswersOutcome answer
       → (o : Outcome) × IsOne o × Told answer o × Leaves o
   told Leaves failed Done out err is answers = (is.0, is.1, inl is.2.same, is.3)
   told Leaves failed (Refused r) out err is answers = (is.0, is.1, inl is.2.same, is.3)
@@ -145,7 +145,7 @@ module _ (facts : Facts) (ignored : Ignored) (v : TreeState) (run : Run) (is_run
           (at_rest_fewer facts (output run.words) ignored o.files)
           (rests (IsOutcomeFrom v run) ones (output run.words) Now run.now (is_run.durable_state Now now_durable now_hides answers) o one commits))))
 
-  pub safe : IsSafe ignored v run
+  pub safe : IsSafeRun ignored v run
   safe = record {
     moments = either (is_run.crash Now now_durable now_hides);
     answered = answered;

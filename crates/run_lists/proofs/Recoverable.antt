@@ -23,7 +23,7 @@ use Rattle.apk_front.specs.outcome.Work.{fault_of_intent, recovery_fault}
 use Rattle.report_core.specs.declared.refusal.Refusal.{Refusal}
 use Rattle.report_core.specs.declared.refusal.Refusal.TheVariants.{IntentBad}
 use Rattle.apk_front.specs.words_core.Grammar.{command_of}
-use Rattle.run_lists.specs.Events.{Crashes, Edits, Ends, Event, Reaches, ReachesWithoutCommit, IsEventWithoutCommit, IsMomentOf, IsOutcomeFrom, IsRunFrom, IsPossibleStop, IsTransition, Run, Stops, Touches, ignored_after, ignored_during_run, nothing_ignored, ignored_with_all_touched, ignored_with_touched}
+use Rattle.run_lists.specs.Events.{Crashes, Edits, Ends, RootEvent, Reaches, ReachesWithoutCommit, IsEventWithoutCommit, IsMomentOf, IsOutcomeFrom, IsRunFrom, IsPossibleStop, IsTransition, Run, Stops, Touches, ignored_after, ignored_during_run, nothing_ignored, ignored_with_all_touched, ignored_with_touched}
 use Rattle.run_lists.specs.Reading.{HasBadIntent}
 use Rattle.run_lists.specs.Recovered.{ReachesWithoutBadIntent, HasStateBefore, HasStateBeforeOrOutcome, HasSameState, IsRecoveredBy, IsNotRefusedForIntent, LeavesNoBadIntent, PutsNoBadIntent}
 use Rattle.run_lists.specs.Safety.{HasOldOrOutcome, LeavesOldOrOutcome}
@@ -72,7 +72,7 @@ no_fault AsksRoot files good = good_fault files good
 no_fault Makes files good = good_fault files good
 no_fault Changes files good = good_fault files good
 
-pub seen_plainly : (first v : TreeState) (events : List Event) → ReachesWithoutBadIntent first events v → Reaches first events v
+pub seen_plainly : (first v : TreeState) (events : List RootEvent) → ReachesWithoutBadIntent first events v → Reaches first events v
 seen_plainly first v [] is = is
 seen_plainly first v (event ∷ earlier) (u, seen, leads, puts) = (u, seen_plainly first u earlier seen, leads)
 
@@ -99,7 +99,7 @@ module _ (same : HasSameBadIntent) where
           let all = safe facts names v run is_run shown is_durable in
           moment_good (ignored_during_run run names) v run m (scratch_hides (output run.words) names shown) good (all.moments m moment)
 
-      led_good : (names : Ignored) (event : Event) (v w : TreeState) → names intent_name ≡ false → IsDurable (StateDependsOn names) v → LeavesNoBadIntent v → IsTransition v event w → PutsNoBadIntent event w → LeavesNoBadIntent w
+      led_good : (names : Ignored) (event : RootEvent) (v w : TreeState) → names intent_name ≡ false → IsDurable (StateDependsOn names) v → LeavesNoBadIntent v → IsTransition v event w → PutsNoBadIntent event w → LeavesNoBadIntent w
       led_good names (Ends run) v w shown is_durable good (is_run, ends) puts = run_good names v run is_run shown is_durable good w (last_moment run v w is_run ends)
       led_good names (Stops run) v w shown is_durable good (is_run, (m, moment, torn)) puts = torn_good m w torn (run_good names v run is_run shown is_durable good m moment)
       led_good names Crashes v w shown is_durable good crash puts = λ image is bad.
@@ -109,7 +109,7 @@ module _ (same : HasSameBadIntent) where
       led_good names (Touches theirs) v w shown is_durable good touch puts = quiet_good (ignored_with_touched theirs names) v w (touched_hides theirs names shown) (touch_quiet theirs v w touch names) good
 
       module _ (start : Ignored) (off : start intent_name ≡ false) (first : TreeState) (is_durable : IsDurable (StateDependsOn start) first) (good : LeavesNoBadIntent first) where
-        pub seen_good : (v : TreeState) (events : List Event) → ReachesWithoutBadIntent first events v → LeavesNoBadIntent v
+        pub seen_good : (v : TreeState) (events : List RootEvent) → ReachesWithoutBadIntent first events v → LeavesNoBadIntent v
         seen_good v [] is = subst LeavesNoBadIntent (sym is) good
         seen_good v (event ∷ earlier) (u, seen, leads, puts) =
             led_good (ignored_after start earlier) event u v (after_hides start off earlier) (seen_durable facts start off first u earlier is_durable (seen_plainly first u earlier seen)) (seen_good u earlier seen) leads puts
@@ -195,7 +195,7 @@ record QuietOn (ignored : Ignored) (m w : TreeState) : Type 0 where
   is_durable : IsDurable (StateDependsOn ignored) w
 
 module _ (facts : Facts) (crash_quiet : (ignored : Ignored) (v w : TreeState) → IsAfterCrash v w → EachCrashLeavesOld ignored v w) (start : Ignored) where
-  led_quiet : (earlier : List Event) (m v : TreeState) (event : Event) (w : TreeState) → QuietOn (ignored_with_all_touched earlier start) m v → IsEventWithoutCommit v event → IsTransition v event w → QuietOn (ignored_with_all_touched (event ∷ earlier) start) m w
+  led_quiet : (earlier : List RootEvent) (m v : TreeState) (event : RootEvent) (w : TreeState) → QuietOn (ignored_with_all_touched earlier start) m v → IsEventWithoutCommit v event → IsTransition v event w → QuietOn (ignored_with_all_touched (event ∷ earlier) start) m w
   led_quiet earlier m v (Ends run) w on idle (is_run, ends) =
       let names = ignored_with_all_touched earlier start in
       let is_unchanged = idle_end names v run is_run on.is_durable idle w ends in
@@ -216,7 +216,7 @@ module _ (facts : Facts) (crash_quiet : (ignored : Ignored) (v w : TreeState) �
         is_durable = touch_durable theirs v w touch few on.is_durable;
       }
 
-  seen_quiet : (m w : TreeState) (later : List Event) → IsDurable (StateDependsOn start) m → ReachesWithoutCommit m later w → QuietOn (ignored_with_all_touched later start) m w
+  seen_quiet : (m w : TreeState) (later : List RootEvent) → IsDurable (StateDependsOn start) m → ReachesWithoutCommit m later w → QuietOn (ignored_with_all_touched later start) m w
   seen_quiet m w [] is_durable is = subst (QuietOn start m) (sym is) (record { quiet = quiet_self start m; is_durable = is_durable })
   seen_quiet m w (event ∷ earlier) is_durable (v, seen, idle, leads) = led_quiet earlier m v event w (seen_quiet m v earlier is_durable seen) idle leads
 
@@ -224,7 +224,7 @@ module _ (facts : Facts) (crash_quiet : (ignored : Ignored) (v w : TreeState) �
       (recovered : (v : TreeState) (run : Run) → IsRunFrom v run → does_recover (effect_of_arguments (command_of run.words)) ≡ true → recovery_fault (effect_of_arguments (command_of run.words)) (files_of v) ≡ None
       → AnswersOutcome run.answer → HasOutcomeWithoutCommit (IsOutcomeFrom v run) → HoldsNow run.now (λ w. files_of w ≡ unstaged_files (files_of v))) where
     -- from a moment of a run on, over what crashes and idle runs leave
-    pub next_recovers : (m w : TreeState) (later : List Event) (next : Run) → IsDurable (StateDependsOn start) m → LeavesNoBadIntent m
+    pub next_recovers : (m w : TreeState) (later : List RootEvent) (next : Run) → IsDurable (StateDependsOn start) m → LeavesNoBadIntent m
         → ReachesWithoutCommit m later w → IsRunFrom w next → does_recover (effect_of_arguments (command_of next.words)) ≡ true → (image : Files) × IsCrashImage m image × IsRecoveredBy (HasSameState (ignored_with_all_touched later start) image) w next
     next_recovers m w later next is_durable good seen is_next recovers =
         let names = ignored_with_all_touched later start in
@@ -259,7 +259,7 @@ module _ (facts : Facts) (same : HasSameBadIntent) (committed : CommitsNoIntent)
     (recovered : (v : TreeState) (run : Run) → IsRunFrom v run → does_recover (effect_of_arguments (command_of run.words)) ≡ true → recovery_fault (effect_of_arguments (command_of run.words)) (files_of v) ≡ None
     → AnswersOutcome run.answer → HasOutcomeWithoutCommit (IsOutcomeFrom v run) → HoldsNow run.now (λ w. files_of w ≡ unstaged_files (files_of v)))
     (start : Ignored) (off : start intent_name ≡ false) (first : TreeState) (is_durable : IsDurable (StateDependsOn start) first) (good : LeavesNoBadIntent first) where
-  pub stopped_left : (v m w : TreeState) (events later : List Event) (run next : Run) → ReachesWithoutBadIntent first events v → IsRunFrom v run → IsPossibleStop run m → ReachesWithoutCommit m later w
+  pub stopped_left : (v m w : TreeState) (events later : List RootEvent) (run next : Run) → ReachesWithoutBadIntent first events v → IsRunFrom v run → IsPossibleStop run m → ReachesWithoutCommit m later w
       → IsRunFrom w next → does_recover (effect_of_arguments (command_of next.words)) ≡ true → (image : Files) × IsCrashImage m image × IsRecoveredBy (HasSameState (ignored_with_all_touched later (ignored_during_run run (ignored_after start events))) image) w next
   stopped_left v m w events later run next seen is_run (at, moment, torn) idly is_next recovers =
       let names = ignored_after start events in
@@ -270,7 +270,7 @@ module _ (facts : Facts) (same : HasSameBadIntent) (committed : CommitsNoIntent)
       next_recovers facts crash_quiet (ignored_during_run run names) same (scratch_hides (output run.words) names shown) only sound recovered m w later next
       (torn_durable at m torn (ignored_during_run run names) order) (torn_good at m torn is_good) idly is_next recovers
 
-  pub stopped_recovers : (v m w : TreeState) (events later : List Event) (run next : Run) → ReachesWithoutBadIntent first events v → IsRunFrom v run → IsPossibleStop run m → ReachesWithoutCommit m later w
+  pub stopped_recovers : (v m w : TreeState) (events later : List RootEvent) (run next : Run) → ReachesWithoutBadIntent first events v → IsRunFrom v run → IsPossibleStop run m → ReachesWithoutCommit m later w
       → IsRunFrom w next → does_recover (effect_of_arguments (command_of next.words)) ≡ true → IsRecoveredBy (HasStateBeforeOrOutcome (ignored_with_all_touched later (ignored_during_run run (ignored_after start events))) v run) w next
   stopped_recovers v m w events later run next seen is_run (at, moment, torn) idly is_next recovers =
       let few = ignored_during_run run (ignored_after start events) in

@@ -10,7 +10,7 @@ use Rattle.apk_front.specs.declared.answer.Answer.TheVariants.{Ok, TreeFault}
 use Rattle.base_core.specs.Calls.{HoldsNow}
 use Rattle.base_core.specs.Crash.{Since}
 use Rattle.base_core.specs.Faults.{Counts, HasCause}
-use Rattle.base_core.specs.Sink.{SinkChange}
+use Rattle.base_core.specs.Sink.{SinkBeforeAndAfter}
 use Rattle.base_core.specs.Files.{NameMap}
 use Rattle.base_core.specs.Tree.{TreeState, files_of}
 use Rattle.base_core.specs.Undone.{IsAfterCrash, IsDurable, IsCrashMap}
@@ -35,8 +35,8 @@ pub record Run : Type 0 where
   pub before : Counts
   pub after : Counts
   -- what the two sinks got
-  pub out : SinkChange
-  pub err : SinkChange
+  pub out : SinkBeforeAndAfter
+  pub err : SinkBeforeAndAfter
   pub answer : Answer
 
 -- the outcome of a run's arguments over the files as read when it begins
@@ -92,12 +92,12 @@ IsMomentOf run m =
 -- An event is a run that ends, a run that is stopped, a crash, or a change of files by others while
 -- nothing runs: of any files, which they then sync, or of files under these names, which they do not
 -- sync. A run that a crash cuts off is a stop, and then a crash.
-pub data Event : Type 0 where
-  Ends : Run → Event
-  Stops : Run → Event
-  Crashes : Event
-  Edits : Event
-  Touches : (List ℕ → Bool) → Event
+pub data RootEvent : Type 0 where
+  Ends : Run → RootEvent
+  Stops : Run → RootEvent
+  Crashes : RootEvent
+  Edits : RootEvent
+  Touches : (List ℕ → Bool) → RootEvent
 
 -- all of a tree is synced: a crash leaves just the files as read
 pub record IsAllSynced (v : TreeState) : Type 0 where
@@ -134,7 +134,7 @@ IsChangeByOthers theirs v w =
     × IsSameExcept theirs v was w map
 
 -- an event finds a tree in the state v, and leaves it in the state w
-abbrev pub IsTransition : TreeState → Event → TreeState → Type 0
+abbrev pub IsTransition : TreeState → RootEvent → TreeState → Type 0
 IsTransition v (Ends run) w = IsRunFrom v run × HoldsNow run.now (λ u. u ≡ w)
 IsTransition v (Stops run) w = IsRunFrom v run × IsPossibleStop run w
 IsTransition v Crashes w = IsAfterCrash v w
@@ -143,7 +143,7 @@ IsTransition v Edits w = IsAllSynced w
 IsTransition v (Touches theirs) w = IsChangeByOthers theirs v w
 
 -- a root that was in the state `first` has seen these events, the newest first, and is in state w
-abbrev pub Reaches : TreeState → List Event → TreeState → Type 0
+abbrev pub Reaches : TreeState → List RootEvent → TreeState → Type 0
 Reaches first [] w = w ≡ first
 Reaches first (event ∷ earlier) w =
     (v : TreeState) × Reaches first earlier v × IsTransition v event w
@@ -158,7 +158,7 @@ IsRunWithoutCommit v run =
     ⊎ ((output run.words ≡ None) × (HasCommit v run → ⊥))
 
 -- an event is a crash, a run that commits nothing, or a touch by others
-abbrev pub IsEventWithoutCommit : TreeState → Event → Type 0
+abbrev pub IsEventWithoutCommit : TreeState → RootEvent → Type 0
 IsEventWithoutCommit v (Ends run) = IsRunWithoutCommit v run
 IsEventWithoutCommit v (Stops run) = IsRunWithoutCommit v run
 IsEventWithoutCommit v Crashes = Unit {0}
@@ -166,7 +166,7 @@ IsEventWithoutCommit v Edits = ⊥
 IsEventWithoutCommit v (Touches theirs) = Unit {0}
 
 -- a root has seen events, and none committed anything
-abbrev pub ReachesWithoutCommit : TreeState → List Event → TreeState → Type 0
+abbrev pub ReachesWithoutCommit : TreeState → List RootEvent → TreeState → Type 0
 ReachesWithoutCommit first [] w = w ≡ first
 ReachesWithoutCommit first (event ∷ earlier) w =
     (v : TreeState) × ReachesWithoutCommit first earlier v × IsEventWithoutCommit v event
@@ -176,7 +176,7 @@ ReachesWithoutCommit first (event ∷ earlier) w =
 
 -- After the event each crash leaves one state: it is no run; or a run that answers its outcome, and
 -- this commits, or the run has no output and found an intent.
-abbrev pub LeavesOneStateAfterCrash : TreeState → Event → Type 0
+abbrev pub LeavesOneStateAfterCrash : TreeState → RootEvent → Type 0
 LeavesOneStateAfterCrash v (Ends run) =
     AnswersOutcome run.answer
     × (HasCommit v run
@@ -188,7 +188,7 @@ LeavesOneStateAfterCrash v (Touches theirs) = ⊥
 
 -- after the event each crash leaves one state if it did before: it is no run; or a run that commits
 -- nothing, or that ends without an I/O error of the tree
-abbrev pub KeepsOneStateAfterCrash : TreeState → Event → Type 0
+abbrev pub KeepsOneStateAfterCrash : TreeState → RootEvent → Type 0
 KeepsOneStateAfterCrash v (Ends run) = (run.answer ≢ TreeFault) ⊎ IsRunWithoutCommit v run
 KeepsOneStateAfterCrash v (Stops run) = IsRunWithoutCommit v run
 KeepsOneStateAfterCrash v Crashes = Unit {0}
@@ -197,7 +197,7 @@ KeepsOneStateAfterCrash v (Touches theirs) = Unit {0}
 
 -- a root has seen events, and each crash leaves one state: an event made it so, or it was so at first,
 -- and the events after that kept it
-abbrev pub ReachesOneState : TreeState → List Event → TreeState → Type 0
+abbrev pub ReachesOneState : TreeState → List RootEvent → TreeState → Type 0
 ReachesOneState first [] w = w ≡ first
 ReachesOneState first (event ∷ earlier) w =
     (v : TreeState)
@@ -206,7 +206,7 @@ ReachesOneState first (event ∷ earlier) w =
     ⊎ (ReachesOneState first earlier v × KeepsOneStateAfterCrash v event))
 
 -- since the last crash, or change by others, no run was stopped, and none ended by a fault of the tree
-abbrev pub HasNoPendingRun : List Event → Type 0
+abbrev pub HasNoPendingRun : List RootEvent → Type 0
 HasNoPendingRun [] = Unit {0}
 HasNoPendingRun (Ends run ∷ earlier) = (run.answer ≢ TreeFault) × HasNoPendingRun earlier
 HasNoPendingRun (Stops run ∷ earlier) = ⊥
@@ -244,7 +244,7 @@ abbrev pub ignored_with_touched : (List ℕ → Bool) → (List ℕ → Bool) �
 ignored_with_touched theirs ignored q = names_of_others theirs q || ignored q
 
 -- ignored names, and all names that others touched along a list
-abbrev pub ignored_with_all_touched : List Event → (List ℕ → Bool) → List ℕ → Bool
+abbrev pub ignored_with_all_touched : List RootEvent → (List ℕ → Bool) → List ℕ → Bool
 ignored_with_all_touched [] ignored = ignored
 ignored_with_all_touched (Ends run ∷ earlier) ignored = ignored_with_all_touched earlier ignored
 ignored_with_all_touched (Stops run ∷ earlier) ignored = ignored_with_all_touched earlier ignored
@@ -256,7 +256,7 @@ ignored_with_all_touched (Touches theirs ∷ earlier) ignored =
 -- The names that are ignored after a list. A run with an output adds its scratch name if it is stopped
 -- or the tree fails. The name is no longer ignored once the output is written, or all was synced. Names
 -- that others touched are ignored until all was synced.
-abbrev pub ignored_after : (List ℕ → Bool) → List Event → List ℕ → Bool
+abbrev pub ignored_after : (List ℕ → Bool) → List RootEvent → List ℕ → Bool
 ignored_after ignored [] = ignored
 ignored_after ignored (Ends run ∷ earlier) =
     ignored_after_answer run.answer run (ignored_after ignored earlier)
@@ -268,7 +268,7 @@ ignored_after ignored (Touches theirs ∷ earlier) =
 
 -- since all was synced no run with an output was stopped, or ended by a fault of the tree, and others
 -- touched nothing
-abbrev pub HasNoPendingOutput : List Event → Type 0
+abbrev pub HasNoPendingOutput : List RootEvent → Type 0
 HasNoPendingOutput [] = Unit {0}
 HasNoPendingOutput (Ends run ∷ earlier) =
     (run.answer ≡ TreeFault → output run.words ≡ None) × HasNoPendingOutput earlier

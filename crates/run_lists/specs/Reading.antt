@@ -12,7 +12,7 @@ use Rattle.apk_front.specs.journal_intent.FreeNames.{IsNoneOf}
 use Rattle.apk_front.specs.outcome.Effect.{does_recover, effect_of_arguments, output}
 use Rattle.apk_front.specs.outcome.Outcome.{Outcome}
 use Rattle.apk_front.specs.words_core.Grammar.{command_of}
-use Rattle.run_lists.specs.Events.{Crashes, Edits, Ends, Event, IsMomentOf, IsOutcomeFrom, IsTransition, Run, Stops, Touches}
+use Rattle.run_lists.specs.Events.{Crashes, Edits, Ends, RootEvent, IsMomentOf, IsOutcomeFrom, IsTransition, Run, Stops, Touches}
 
 -- ---- at each moment of a run
 
@@ -42,7 +42,7 @@ HasOldRecoveredOrOutcomeBytes v run m q =
 -- ---- runs that follow each other without a crash
 
 -- an event is a run with this property that ends, or that is stopped between two calls, in the state w
-abbrev pub IsRunWith : (TreeState → Run → Type 0) → TreeState → Event → TreeState → Type 0
+abbrev pub IsRunWith : (TreeState → Run → Type 0) → TreeState → RootEvent → TreeState → Type 0
 IsRunWith Holds v (Ends run) w = Holds v run
 IsRunWith Holds v (Stops run) w = Holds v run × IsMomentOf run w
 IsRunWith Holds v Crashes w = ⊥
@@ -51,7 +51,7 @@ IsRunWith Holds v (Touches theirs) w = ⊥
 
 -- a root has seen only runs, ended or stopped, each with this property
 abbrev pub ReachesByRuns :
-    (TreeState → Run → Type 0) → TreeState → List Event → TreeState → Type 0
+    (TreeState → Run → Type 0) → TreeState → List RootEvent → TreeState → Type 0
 ReachesByRuns Holds first [] w = w ≡ first
 ReachesByRuns Holds first (event ∷ earlier) w =
     (v : TreeState)

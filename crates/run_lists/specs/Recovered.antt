@@ -15,7 +15,7 @@ use Rattle.apk_front.specs.outcome.Outcome.{Outcome}
 use Rattle.apk_front.specs.outcome.Work.{recovery_fault}
 use Rattle.report_core.specs.declared.refusal.Refusal.TheVariants.{IntentBad}
 use Rattle.apk_front.specs.words_core.Grammar.{command_of}
-use Rattle.run_lists.specs.Events.{Crashes, Edits, Ends, Event, IsOutcomeFrom, IsTransition, Run, Stops, Touches}
+use Rattle.run_lists.specs.Events.{Crashes, Edits, Ends, RootEvent, IsOutcomeFrom, IsTransition, Run, Stops, Touches}
 use Rattle.run_lists.specs.Reading.{HasBadIntent}
 
 -- ---- no bad intent
@@ -25,7 +25,7 @@ abbrev pub LeavesNoBadIntent : TreeState → Type 0
 LeavesNoBadIntent v = (image : Files) → IsCrashImage v image → HasBadIntent image → ⊥
 
 -- when others change files, they put no bad intent there
-abbrev pub PutsNoBadIntent : Event → TreeState → Type 0
+abbrev pub PutsNoBadIntent : RootEvent → TreeState → Type 0
 PutsNoBadIntent (Ends run) w = Unit {0}
 PutsNoBadIntent (Stops run) w = Unit {0}
 PutsNoBadIntent Crashes w = Unit {0}
@@ -33,7 +33,7 @@ PutsNoBadIntent Edits w = HasBadIntent (files_of w) → ⊥
 PutsNoBadIntent (Touches theirs) w = Unit {0}
 
 -- a root has seen events, and others put no bad intent there
-abbrev pub ReachesWithoutBadIntent : TreeState → List Event → TreeState → Type 0
+abbrev pub ReachesWithoutBadIntent : TreeState → List RootEvent → TreeState → Type 0
 ReachesWithoutBadIntent first [] w = w ≡ first
 ReachesWithoutBadIntent first (event ∷ earlier) w =
     (v : TreeState)

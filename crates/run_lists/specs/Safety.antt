@@ -13,7 +13,7 @@ use Rattle.apk_front.specs.journal_core.Recovery.{EachCrashLeavesOldOrNew, EachC
 use Rattle.apk_front.specs.outcome.Effect.{effect_of_arguments, output}
 use Rattle.apk_front.specs.outcome.Outcome.{Outcome}
 use Rattle.apk_front.specs.words_core.Grammar.{command_of}
-use Rattle.run_lists.specs.Events.{Event, Reaches, ReachesOneState, IsRunWithoutCommit, IsMomentOf, IsOutcomeFrom, Run, ignored_after, ignored_during_run}
+use Rattle.run_lists.specs.Events.{RootEvent, Reaches, ReachesOneState, IsRunWithoutCommit, IsMomentOf, IsOutcomeFrom, Run, ignored_after, ignored_during_run}
 
 -- ---- from any states that a crash might have left before the run
 
@@ -49,7 +49,7 @@ pub record LeavesOutcome (ignored : List ℕ → Bool) (v : TreeState) (run : Ru
 
 -- A run is safe: at each moment a crash leaves a state from before or that of the outcome. Once the
 -- outcome is answered its files are read, and are durable. A run that commits nothing keeps the state.
-pub record IsSafe (ignored : List ℕ → Bool) (v : TreeState) (run : Run) : Type 0 where
+pub record IsSafeRun (ignored : List ℕ → Bool) (v : TreeState) (run : Run) : Type 0 where
   pub moments : (m : TreeState) → IsMomentOf run m
       → LeavesOldOrOutcome (ignored_during_run run ignored) v run m
   pub answered : AnswersOutcome run.answer → HoldsNow run.now (LeavesOutcome ignored v run)
@@ -82,15 +82,15 @@ pub record IsAtomic (ignored : List ℕ → Bool) (v : TreeState) (run : Run) : 
 -- whatever list a root has seen, from a durable tree on, a run that begins in the state v is safe
 abbrev pub IsSafeAfterAnyEvents : TreeState → Run → Type 0
 IsSafeAfterAnyEvents v run =
-    (ignored : List ℕ → Bool) (first : TreeState) (events : List Event)
+    (ignored : List ℕ → Bool) (first : TreeState) (events : List RootEvent)
     → ignored intent_name ≡ false → IsDurable (StateDependsOn ignored) first → Reaches first events v
-    → IsSafe (ignored_after ignored events) v run
+    → IsSafeRun (ignored_after ignored events) v run
 
 -- a run that begins in the state v is all or nothing, whatever list a root has seen after which each
 -- crash leaves one state
 abbrev pub IsAtomicAfterAnyEvents : TreeState → Run → Type 0
 IsAtomicAfterAnyEvents v run =
-    (ignored : List ℕ → Bool) (first : TreeState) (events : List Event)
+    (ignored : List ℕ → Bool) (first : TreeState) (events : List RootEvent)
     → ignored intent_name ≡ false → IsDurableState ignored (files_of first) first
     → ReachesOneState first events v
     → IsAtomic (ignored_after ignored events) v run

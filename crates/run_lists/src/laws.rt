@@ -13,7 +13,7 @@ ghost use Rattle.apk_front.specs.outcome.Effect.{does_recover, effect_of_argumen
 ghost use Rattle.apk_front.specs.outcome.Outcome.{Outcome};
 ghost use Rattle.apk_front.specs.outcome.Words.{IsOutcome};
 ghost use Rattle.apk_front.specs.outcome.Work.{recovery_fault};
-ghost use Rattle.run_lists.specs.Events.{AreNamesAmong, Event, HasNoPendingOutput, HasNoPendingRun, Reaches, ReachesWithoutCommit, ReachesOneState, IsRunWithoutCommit, IsMomentOf, IsOutcomeFrom, IsRunFrom, IsPossibleStop, Run, ignored_after, ignored_during_run, nothing_ignored, ignored_with_all_touched, ignored_with_scratch};
+ghost use Rattle.run_lists.specs.Events.{AreNamesAmong, RootEvent, HasNoPendingOutput, HasNoPendingRun, Reaches, ReachesWithoutCommit, ReachesOneState, IsRunWithoutCommit, IsMomentOf, IsOutcomeFrom, IsRunFrom, IsPossibleStop, Run, ignored_after, ignored_during_run, nothing_ignored, ignored_with_all_touched, ignored_with_scratch};
 ghost use Rattle.run_lists.specs.Reading.{HasBadIntent, HasOldRecoveredOrOutcomeBytes, ReachesByRuns, IsUnrestrictedRun, IsDurablyDone, IsOrdinaryName, IsNoJournalOrDraftName, IsTrueAt, LeavesTrueAt};
 ghost use Rattle.run_lists.specs.Recovered.{ReachesWithoutBadIntent, HasStateBeforeOrOutcome, HasSameState, IsRecoveredBy, IsNotRefusedForIntent, LeavesNoBadIntent};
 ghost use Rattle.run_lists.specs.Safety.{HasOldOrOutcome, IsAtomicAfterAnyEvents, IsSafeAfterAnyEvents};
@@ -37,14 +37,14 @@ use apk_front::{
 /// ordinary root there are none.
 pub fn a_run_is_safe_after_any_events()
     // Behind each list the tree is durable, apart from the names that are ignored then.
-    ensures is_durable { (ignored : List ℕ → Bool) (first v : TreeState) (events : List Event)
+    ensures is_durable { (ignored : List ℕ → Bool) (first v : TreeState) (events : List RootEvent)
         → ignored intent_name ≡ false → IsDurable (StateDependsOn ignored) first
         → Reaches first events v
         → IsDurable (StateDependsOn (ignored_after ignored events)) v }
 
     // So each clause of `apk` on crashes holds of the next run, whatever its arguments: with the
     // scratch name of its output these names meet the conditions of the clauses.
-    ensures begins { (ignored : List ℕ → Bool) (first v : TreeState) (events : List Event)
+    ensures begins { (ignored : List ℕ → Bool) (first v : TreeState) (events : List RootEvent)
         (words : List (List ℕ)) → ignored intent_name ≡ false
         → IsDurable (StateDependsOn ignored) first
         → Reaches first events v
@@ -53,7 +53,7 @@ pub fn a_run_is_safe_after_any_events()
 
     // On an ordinary root no name is ignored, and none is until a run with an output is stopped, or
     // ends by an I/O error of the tree.
-    ensures ordinary { (events : List Event) (q : List ℕ) → HasNoPendingOutput events
+    ensures ordinary { (events : List RootEvent) (q : List ℕ) → HasNoPendingOutput events
         → ignored_after nothing_ignored events q ≡ false }
 
     // The next run is safe.
@@ -63,14 +63,14 @@ pub fn a_run_is_safe_after_any_events()
     // until a run that commits is stopped, or ends by an I/O error of the tree. It holds again
     // after a crash, after a synced change by others, after a commit that was answered, and after a
     // change that was found and completed.
-    ensures one_state { (ignored : List ℕ → Bool) (first v : TreeState) (events : List Event)
+    ensures one_state { (ignored : List ℕ → Bool) (first v : TreeState) (events : List RootEvent)
         → ignored intent_name ≡ false → IsDurableState ignored (files_of first) first
         → ReachesOneState first events v
         → IsDurableState (ignored_after ignored events) (files_of v) v }
 
     // A list keeps it so if no run was stopped, or failed by the tree, since the last crash or
     // change by others: a power cut during a run is a crash.
-    ensures without_pending_run { (first v : TreeState) (events : List Event)
+    ensures without_pending_run { (first v : TreeState) (events : List RootEvent)
         → Reaches first events v → HasNoPendingRun events → ReachesOneState first events v }
 
     // Then the next run is all or nothing.
@@ -88,13 +88,13 @@ pub fn a_run_is_safe_after_any_events()
 pub fn a_root_that_commits_nothing_keeps_its_state()
     // Crashes, and runs that commit nothing, ended or stopped, leave the state unchanged, apart
     // from names that others touched.
-    ensures again { (ignored : List ℕ → Bool) (v w : TreeState) (events : List Event)
+    ensures again { (ignored : List ℕ → Bool) (v w : TreeState) (events : List RootEvent)
         → IsDurableState ignored (files_of v) v → ReachesWithoutCommit v events w
         → IsDurableState (ignored_with_all_touched events ignored) (files_of v) w }
 
     // So two recoveries of a root agree, whatever happened between them.
     ensures agree { (ignored names : List ℕ → Bool) (v w u : TreeState)
-        (events others : List Event) → IsDurableState ignored (files_of v) v
+        (events others : List RootEvent) → IsDurableState ignored (files_of v) v
         → ReachesWithoutCommit v events w → ReachesWithoutCommit v others u
         → AreNamesAmong (ignored_with_all_touched events ignored) names
         → AreNamesAmong (ignored_with_all_touched others ignored) names
@@ -138,7 +138,7 @@ pub fn each_name_keeps_old_recovered_or_new_bytes()
     // as recovered, and in each outcome that commits. Then it holds after each run, and wherever
     // one is stopped.
     ensures along { (test : Option (List ℕ) → Bool) (q : List ℕ) (first w : TreeState)
-        (events : List Event) → (IsJournalName q → ⊥) → IsTrueAt test q (files_of first)
+        (events : List RootEvent) → (IsJournalName q → ⊥) → IsTrueAt test q (files_of first)
         → ReachesByRuns (LeavesTrueAt test q) first events w
         → IsTrueAt test q (files_of w) }
 {
@@ -154,7 +154,7 @@ pub fn a_bad_intent_and_all_files_are_kept()
         → run.now ≡ run.old }
 
     // So runs alone, ended or stopped, leave the tree as it was.
-    ensures along { (first w : TreeState) (events : List Event) → HasBadIntent (files_of first)
+    ensures along { (first w : TreeState) (events : List RootEvent) → HasBadIntent (files_of first)
         → ReachesByRuns IsUnrestrictedRun first events w → w ≡ first }
 {}
 
@@ -162,7 +162,7 @@ pub fn a_bad_intent_and_all_files_are_kept()
 /// the run is stopped. Each name has its recovered bytes, or those of an outcome of the run, and
 /// each crash leaves exactly these.
 pub fn the_actions_of_an_intent_are_durably_done()
-    ensures { (ignored : List ℕ → Bool) (first v m : TreeState) (events : List Event) (run : Run)
+    ensures { (ignored : List ℕ → Bool) (first v m : TreeState) (events : List RootEvent) (run : Run)
         → ignored intent_name ≡ false → IsDurable (StateDependsOn ignored) first
         → Reaches first events v → IsRunFrom v run → IsSome (v.names intent_name)
         → IsMomentOf run m → m.names intent_name ≡ None
@@ -181,7 +181,7 @@ pub fn the_actions_of_an_intent_are_durably_done()
 /// recover, and is not refused for an intent.
 pub fn no_events_leave_a_bad_intent()
     // A run that is stopped at a moment is an event too.
-    ensures along { (ignored : List ℕ → Bool) (first v : TreeState) (events : List Event)
+    ensures along { (ignored : List ℕ → Bool) (first v : TreeState) (events : List RootEvent)
         → ignored intent_name ≡ false → IsDurable (StateDependsOn ignored) first
         → LeavesNoBadIntent first → ReachesWithoutBadIntent first events v → LeavesNoBadIntent v }
 
@@ -210,7 +210,7 @@ pub fn no_events_leave_a_bad_intent()
 pub fn a_stopped_run_is_recovered()
     // The next run that recovers works on recovered files.
     ensures recovered { (ignored : List ℕ → Bool) (first v m w : TreeState)
-        (events later : List Event) (run next : Run) → ignored intent_name ≡ false
+        (events later : List RootEvent) (run next : Run) → ignored intent_name ≡ false
         → IsDurable (StateDependsOn ignored) first
         → LeavesNoBadIntent first → ReachesWithoutBadIntent first events v
         → IsRunFrom v run → IsPossibleStop run m → ReachesWithoutCommit m later w
@@ -220,7 +220,7 @@ pub fn a_stopped_run_is_recovered()
 
     // These have the state of files that a crash might have left at that moment.
     ensures left { (ignored : List ℕ → Bool) (first v m w : TreeState)
-        (events later : List Event) (run next : Run) → ignored intent_name ≡ false
+        (events later : List RootEvent) (run next : Run) → ignored intent_name ≡ false
         → IsDurable (StateDependsOn ignored) first
         → LeavesNoBadIntent first → ReachesWithoutBadIntent first events v
         → IsRunFrom v run → IsPossibleStop run m → ReachesWithoutCommit m later w

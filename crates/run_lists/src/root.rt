@@ -1,7 +1,7 @@
 //! A run of `apk` on a root that has seen any list of runs, stops and crashes. The contract is that
 //! of `apk`, as the README of this crate says in "The sentence".
 ghost use Rattle.base_core.specs.Calls.{IfObservable};
-ghost use Rattle.base_core.specs.Sink.{sink_change};
+ghost use Rattle.base_core.specs.Sink.{sink_before_and_after};
 ghost use Rattle.run_lists.specs.Events.{IsRunFrom, Run};
 ghost use Rattle.run_lists.specs.Safety.{IsAtomicAfterAnyEvents, IsSafeAfterAnyEvents};
 
@@ -26,8 +26,8 @@ pub fn run_on_a_root<T: Tree, O: Sink, E: Sink>(
       now = T.history tree.new;
       before = T.counts tree.old;
       after = T.counts tree.new;
-      out = sink_change O.bytes O.counts out.old out.new;
-      err = sink_change E.bytes E.counts err.old err.new;
+      out = sink_before_and_after O.bytes O.counts out.old out.new;
+      err = sink_before_and_after E.bytes E.counts err.old err.new;
       answer = result;
     } in IsRunFrom v run × IsSafeAfterAnyEvents v run × IsAtomicAfterAnyEvents v run) }
 {

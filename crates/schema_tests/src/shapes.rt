@@ -43,7 +43,7 @@ fn of_another_kind(kind: Kind) -> u32 {
     }
 }
 
-/// A word of the field's kind whose range leaves every payload in these tests.
+/// A word of the field's kind whose range is outside of every payload in these tests.
 fn outside(kind: Kind) -> u32 {
     match kind {
         Kind::Int => 0x3fff_fff0,

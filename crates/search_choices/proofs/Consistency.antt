@@ -19,7 +19,7 @@ use Rattle.search_tables.specs.Conflicts.{AreConflictsOf, HasDepends, ListedConf
 use Rattle.search_tables.specs.Excluders.{IsConflictTable}
 use Rattle.search_tables.specs.NameTable.{items_under_name}
 use Rattle.search_tables.specs.Reasons.{HasOptions}
-use Rattle.search_choices.specs.Choices.{AreCheckpointsAfter, IsConsistent, choices_of, install_ifs_of, pool_of}
+use Rattle.search_choices.specs.Choices.{AreCheckpointsOfLaterChoices, IsConsistent, choices_of, install_ifs_of, pool_of}
 use Rattle.search_tables.specs.declared.conflicts.Conflicts.{Conflicts}
 use Rattle.search_tables.specs.declared.install_ifs.InstallIfs.{InstallIfs}
 use Rattle.search_choices.specs.declared.choices.Choices.{Choices}
@@ -33,7 +33,7 @@ module _ (pool : SealedPool) (install_ifs : List ℕ) where
   abbrev pub IsBefore : List ℕ → Checkpoint → Type 0
   IsBefore u b = (b.queue_len ≡ length (queue_of pool u)) × AreFirstDepsMet pool u b.cursor × AreNoneTriggeredBelow pool u install_ifs b.asking_cursor
 
-  pub checkpoints_more : (u cs : List ℕ) (bs : List Checkpoint) (c : ℕ) (b : Checkpoint) → AreCheckpointsAfter pool install_ifs u cs bs → IsBefore (u ++ cs) b → AreCheckpointsAfter pool install_ifs u (cs ++ c ∷ []) (bs ++ b ∷ [])
+  pub checkpoints_more : (u cs : List ℕ) (bs : List Checkpoint) (c : ℕ) (b : Checkpoint) → AreCheckpointsOfLaterChoices pool install_ifs u cs bs → IsBefore (u ++ cs) b → AreCheckpointsOfLaterChoices pool install_ifs u (cs ++ c ∷ []) (bs ++ b ∷ [])
   checkpoints_more u [] [] c b checkpoints last =
       let l : IsBefore u b = subst (λ (z : List ℕ). IsBefore z b) (append-nil u) last in
       (l.0, l.1, l.2, tt)
@@ -42,11 +42,11 @@ module _ (pool : SealedPool) (install_ifs : List ℕ) where
   checkpoints_more u (d ∷ cs) (x ∷ bs) c b checkpoints last =
       (checkpoints.0, checkpoints.1, checkpoints.2, checkpoints_more (u ++ d ∷ []) cs bs c b checkpoints.3 (subst (λ (z : List ℕ). IsBefore z b) (sym (append_assoc u (d ∷ []) cs)) last))
 
-  pub checkpoints_none : (u cs : List ℕ) → AreCheckpointsAfter pool install_ifs u cs [] → cs ≡ []
+  pub checkpoints_none : (u cs : List ℕ) → AreCheckpointsOfLaterChoices pool install_ifs u cs [] → cs ≡ []
   checkpoints_none u [] checkpoints = refl
   checkpoints_none u (c ∷ cs) checkpoints = absurd checkpoints
 
-  pub checkpoints_less : (u cs : List ℕ) (bs : List Checkpoint) (b : Checkpoint) → AreCheckpointsAfter pool install_ifs u cs (bs ++ b ∷ []) → (rest : List ℕ) × (c : ℕ) × (cs ≡ rest ++ c ∷ []) × AreCheckpointsAfter pool install_ifs u rest bs × IsBefore (u ++ rest) b
+  pub checkpoints_less : (u cs : List ℕ) (bs : List Checkpoint) (b : Checkpoint) → AreCheckpointsOfLaterChoices pool install_ifs u cs (bs ++ b ∷ []) → (rest : List ℕ) × (c : ℕ) × (cs ≡ rest ++ c ∷ []) × AreCheckpointsOfLaterChoices pool install_ifs u rest bs × IsBefore (u ++ rest) b
   checkpoints_less u [] [] b checkpoints = absurd checkpoints
   checkpoints_less u [] (x ∷ bs) b checkpoints = absurd checkpoints
   checkpoints_less u (d ∷ cs) [] b checkpoints =
@@ -87,7 +87,7 @@ pub consistent_by : (old new : Choices) (t : List ℕ) → IsStep old new t
     → AreNoneTriggeredBelow (pool_of old) t (install_ifs_of old) new.asking_cursor
     → IsConflictTable (pool_of old) t new.conflicts
     → AreConflictsOf (pool_of old).candidates new.conflicts.by_name
-    → AreCheckpointsAfter (pool_of old) (install_ifs_of old) [] t new.checkpoints.items
+    → AreCheckpointsOfLaterChoices (pool_of old) (install_ifs_of old) [] t new.checkpoints.items
     → IsConsistent new
 consistent_by old new t step are within queue met unasked listed conflicts checkpoints =
     let p = sym step.pool in
@@ -105,8 +105,8 @@ consistent_by old new t step are within queue met unasked listed conflicts check
           (subst (λ (z : List ℕ). AreNoneTriggeredBelow (pool_of old) z (install_ifs_of new) new.asking_cursor) s (subst (λ (z : List ℕ). AreNoneTriggeredBelow (pool_of old) t z new.asking_cursor) i unasked));
       listed = subst (λ (q : SealedPool). IsConflictTable q (choices_of new) new.conflicts) p (subst (λ (z : List ℕ). IsConflictTable (pool_of old) z new.conflicts) s listed);
       conflicts = subst (λ (q : SealedPool). AreConflictsOf q.candidates new.conflicts.by_name) p conflicts;
-      checkpoints = subst (λ (q : SealedPool). AreCheckpointsAfter q (install_ifs_of new) [] (choices_of new) new.checkpoints.items) p
-          (subst (λ (z : List ℕ). AreCheckpointsAfter (pool_of old) (install_ifs_of new) [] z new.checkpoints.items) s (subst (λ (z : List ℕ). AreCheckpointsAfter (pool_of old) z [] t new.checkpoints.items) i checkpoints));
+      checkpoints = subst (λ (q : SealedPool). AreCheckpointsOfLaterChoices q (install_ifs_of new) [] (choices_of new) new.checkpoints.items) p
+          (subst (λ (z : List ℕ). AreCheckpointsOfLaterChoices (pool_of old) (install_ifs_of new) [] z new.checkpoints.items) s (subst (λ (z : List ℕ). AreCheckpointsOfLaterChoices (pool_of old) z [] t new.checkpoints.items) i checkpoints));
     }
 
 pub consistent_more : (old new : Choices) (c : ℕ) (deps : List Dependency) (b : Checkpoint) → IsConsistent old → c < length (pool_of old).candidates → deps ≡ depends_at (pool_of old) c → IsStep old new (choices_of old ++ c ∷ []) → new.queue.items ≡ old.queue.items ++ raised_deps (Some c) deps → new.cursor ≡ old.cursor → new.checkpoints.items ≡ old.checkpoints.items ++ b ∷ [] → b.queue_len ≡ length old.queue.items → b.cursor ≡ old.cursor → b.asking_cursor ≡ old.asking_cursor
@@ -121,8 +121,8 @@ consistent_more old new c deps b consistent small is step queue at checkpoints b
     let all_queue : new.queue.items ≡ queue_of p t' =
     queue ∙ (ap (λ (z : List RaisedDepValue). z ++ raised_deps (Some c) deps) consistent.queue ∙ (ap (λ (z : List Dependency). queue_of p t ++ raised_deps (Some c) z) is ∙ sym (queue_more p t c))) in
     let all_met : AreFirstDepsMet p t' new.cursor = subst (λ (k : ℕ). AreFirstDepsMet p t' k) (sym at) (met_more p t c old.cursor consistent.met) in
-    let all_saved : AreCheckpointsAfter p (install_ifs_of old) [] t' new.checkpoints.items =
-    subst (λ (z : List Checkpoint). AreCheckpointsAfter p (install_ifs_of old) [] t' z) (sym checkpoints) (checkpoints_more p (install_ifs_of old) [] t old.checkpoints.items c b consistent.checkpoints before) in
+    let all_saved : AreCheckpointsOfLaterChoices p (install_ifs_of old) [] t' new.checkpoints.items =
+    subst (λ (z : List Checkpoint). AreCheckpointsOfLaterChoices p (install_ifs_of old) [] t' z) (sym checkpoints) (checkpoints_more p (install_ifs_of old) [] t old.checkpoints.items c b consistent.checkpoints before) in
     let all_within : (k : ℕ) → IsIn k t' → k < length p.candidates = λ k h. elim (in_append k t (c ∷ []) h) [
       | inl a ↦ consistent.within k a
       | inr d ↦ elim d [ inl e ↦ subst (λ (z : ℕ). z < length p.candidates) (sym e) small | inr bad ↦ absurd bad ]
@@ -154,7 +154,7 @@ consistent_start chosen none queue at asking are conflicts checkpoints =
       unasked = subst (λ (k : ℕ). AreNoneTriggeredBelow p (choices_of chosen) (install_ifs_of chosen) k) (sym asking) (λ rank low. absurd (none_below rank low));
       listed = λ name. ap (λ (z : List (List ℕ × List ListedConflictValue)). conflicts_in z name) conflicts ∙ ap (λ (z : List ℕ). conflicts_among p z name) (sym none);
       conflicts = λ name listed h. absurd (subst (λ (z : List (List ℕ × List ListedConflictValue)). IsIn listed (items_under_name z name)) conflicts h);
-      checkpoints = subst (λ (z : List ℕ). AreCheckpointsAfter p (install_ifs_of chosen) [] z chosen.checkpoints.items) (sym none) (subst (λ (z : List Checkpoint). AreCheckpointsAfter p (install_ifs_of chosen) [] [] z) (sym checkpoints) tt);
+      checkpoints = subst (λ (z : List ℕ). AreCheckpointsOfLaterChoices p (install_ifs_of chosen) [] z chosen.checkpoints.items) (sym none) (subst (λ (z : List Checkpoint). AreCheckpointsOfLaterChoices p (install_ifs_of chosen) [] [] z) (sym checkpoints) tt);
     }
 
 -- ---- the cursors
@@ -164,7 +164,7 @@ consistent_on old new consistent step queue conflicts checkpoints met unasked =
     consistent_by old new (choices_of old) step consistent.install_ifs consistent.within (queue ∙ consistent.queue) met unasked
     (subst (λ (z : Conflicts). IsConflictTable (pool_of old) (choices_of old) z) (sym conflicts) consistent.listed)
     (subst (λ (z : Conflicts). AreConflictsOf (pool_of old).candidates z.by_name) (sym conflicts) consistent.conflicts)
-    (subst (λ (z : List Checkpoint). AreCheckpointsAfter (pool_of old) (install_ifs_of old) [] (choices_of old) z) (sym checkpoints) consistent.checkpoints)
+    (subst (λ (z : List Checkpoint). AreCheckpointsOfLaterChoices (pool_of old) (install_ifs_of old) [] (choices_of old) z) (sym checkpoints) consistent.checkpoints)
 
 get_within : {X : Type 0} (xs : List X) (i : ℕ) (x : X) → slice_get xs i ≡ Some x → i < length xs
 get_within [] zero x h = absurd (cc)

@@ -26,14 +26,14 @@ install_ifs_of chosen = chosen.install_ifs.by_name.items
 
 -- after the choices `u`: the checkpoints have the state of the queue and the cursors before each
 -- further choice
-abbrev pub AreCheckpointsAfter : SealedPool → List ℕ → List ℕ → List ℕ → List Checkpoint → Type 0
-AreCheckpointsAfter pool install_ifs u [] [] = Unit {0}
-AreCheckpointsAfter pool install_ifs u [] (b ∷ bs) = ⊥
-AreCheckpointsAfter pool install_ifs u (c ∷ cs) [] = ⊥
-AreCheckpointsAfter pool install_ifs u (c ∷ cs) (b ∷ bs) =
+abbrev pub AreCheckpointsOfLaterChoices : SealedPool → List ℕ → List ℕ → List ℕ → List Checkpoint → Type 0
+AreCheckpointsOfLaterChoices pool install_ifs u [] [] = Unit {0}
+AreCheckpointsOfLaterChoices pool install_ifs u [] (b ∷ bs) = ⊥
+AreCheckpointsOfLaterChoices pool install_ifs u (c ∷ cs) [] = ⊥
+AreCheckpointsOfLaterChoices pool install_ifs u (c ∷ cs) (b ∷ bs) =
     (b.queue_len ≡ length (queue_of pool u)) × AreFirstDepsMet pool u b.cursor
     × AreNoneTriggeredBelow pool u install_ifs b.asking_cursor
-    × AreCheckpointsAfter pool install_ifs (u ++ c ∷ []) cs bs
+    × AreCheckpointsOfLaterChoices pool install_ifs (u ++ c ∷ []) cs bs
 
 -- the queue is that of the choices. Every dependency before its cursor is met, and no candidate before
 -- the cursor of the install-ifs asks. The conflicts of the choices are listed, each at its index, and
@@ -49,7 +49,7 @@ pub record IsConsistent (chosen : Choices) : Type 0 where
   pub listed : IsConflictTable (pool_of chosen) (choices_of chosen) chosen.conflicts
   pub conflicts : AreConflictsOf (pool_of chosen).candidates chosen.conflicts.by_name
   pub checkpoints :
-      AreCheckpointsAfter (pool_of chosen) (install_ifs_of chosen) [] (choices_of chosen)
+      AreCheckpointsOfLaterChoices (pool_of chosen) (install_ifs_of chosen) [] (choices_of chosen)
       chosen.checkpoints.items
 
 -- the choices are compatible, and the turns are theirs: each was taken from the frame of its need

@@ -6,3 +6,5 @@ pub use Rattle.search_tables.specs as search_tables
 pub use Rattle.search_tables.specs.candidate_core as candidate_core
 -- cited by the contracts of this crate's calls
 pub mod Choices
+-- used by contracts of private calls only
+pub mod ExcluderSearch

@@ -61,13 +61,14 @@ impl Model for Frame {
 
     ghost Value = { List (ℕ × List ℕ) × List ℕ × List ℕ };
 
-    // In this order: the ruled-out options, the options that are left, the choices that raised the
-    // need.
+    // The value is a triple. `.0` has the ruled-out options, each with the other members of its
+    // reason. `.1` has the options that are left, and `.2` the choices that raised the need.
     ghost view = { λ f. (f.ruled_out.items, drop f.next f.options.items, f.by.items) };
 }
 
 impl Frame {
-    /// A frame with all options left.
+    /// A frame in which no option is ruled out, so all of them are left. `by` has the choices that
+    /// raised the need.
     pub fn new(alloc: Global, options: Vec<CandId>, by: Vec<CandId>) -> Frame
         ensures value { result ≡ ([], options.items, by.items) }
         ensures few { length result.1 < 2 ^ 64 }

@@ -260,7 +260,8 @@ fn is_choice_occupying(pool: &Sealed<'_>, choices: &CandidateSet, id: CandId, na
     false
 }
 
-// Whether the candidate at a place occupies a name.
+// Whether the candidate at a place occupies a name: it has the name, or provides the name with a
+// version.
 fn occupies(pool: &Sealed<'_>, id: CandId, name: &[u8]) -> bool
     ensures { result ≡ candidate_at_passes pool.now (occupies_name name.now) id }
 {

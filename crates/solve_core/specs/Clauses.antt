@@ -1,6 +1,8 @@
 -- The clauses of a search, which are facts about a pool. The rule is in `docs/selection.md`, "How the
--- search works". Serves the contracts of `src/clauses.rt`, `src/known.rt` and `src/pool_rules.rt`.
-use Rattle.std.specs.Prelude.{◌≡◌, ℕ, List, [], ◌∷◌, ◌⊎◌}
+-- search works". Serves the contracts of `src/clauses.rt`, `src/known.rt`, `src/pool_rules.rt`
+-- and `src/propagation.rt`.
+use Rattle.std.specs.Prelude.{◌≡◌, ℕ, List, [], ◌∷◌, ◌⊎◌, Option, Result, IfOk, IfSome}
+use Rattle.std.specs.declared.alloc.AllocError.{AllocError}
 use Rattle.search_choices.specs.candidate_core.Rank.{SealedPool}
 use Rattle.search_choices.specs.candidate_core.Options.{IsIn}
 use Rattle.search_choices.specs.search_tables.Selection.{AreAllMembersOf}
@@ -14,6 +16,10 @@ ClauseValue = List ℕ × List ℕ
 abbrev pub IsClause : SealedPool → ClauseValue → Type 0
 IsClause pool clause = (selection : List ℕ) → IsSolution pool selection →
     AreAllMembersOf clause.0 selection → (c : ℕ) × IsIn c clause.1 × IsIn c selection
+
+-- what is found, if anything is, is a clause of the pool
+abbrev pub IsClauseIfFound : SealedPool → Result (Option ClauseValue) AllocError → Type 0
+IsClauseIfFound pool result = IfOk result (λ found. IfSome found (λ clause. IsClause pool clause))
 
 -- each of the list is a clause of the pool
 abbrev pub AreClauses : SealedPool → List ClauseValue → Type 0

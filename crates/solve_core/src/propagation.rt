@@ -1,8 +1,8 @@
 //! Propagation, as in a SAT solver: it finds which candidates follow from the choices by one clause
 //! at a time, and whether the choices contradict the clauses. It prunes the search and never
 //! chooses. The rule is in `docs/selection.md`, "How the search works".
-ghost use Rattle.std.specs.Prelude.{◌≡◌, IfOk, IfSome};
-ghost use Rattle.solve_core.specs.Clauses.{IsClause};
+ghost use Rattle.std.specs.Prelude.{◌≡◌, IfOk};
+ghost use Rattle.solve_core.specs.Clauses.{IsClause, IsClauseIfFound};
 ghost use Rattle.search_choices.specs.candidate_core.Rank.{SealedPool};
 
 use crate::clauses::Clause;
@@ -122,8 +122,7 @@ impl Propagation {
         known: &mut Known<'_>,
     ) -> Result<Option<Clause>, AllocError>
         ensures known { known.new ≡ known.old }
-        ensures conflict { IfOk result (λ found. IfSome found (λ clause.
-            IsClause known.old clause)) }
+        ensures conflict { IsClauseIfFound known.old result }
     {
         self.trail.begin_level()?;
         let literal = Literal {
@@ -143,7 +142,7 @@ impl Propagation {
 
     // A copy of the clause that rules a candidate out, if one does.
     fn cause_against(&self, id: CandId, known: &Known<'_>) -> Result<Option<Clause>, AllocError>
-        ensures { IfOk result (λ found. IfSome found (λ clause. IsClause known.now clause)) }
+        ensures { IsClauseIfFound known.now result }
     {
         let Some(step) = self.trail.step_out(id) else {
             return Ok(None);
@@ -158,8 +157,7 @@ impl Propagation {
     /// contradict, if one is found.
     pub(crate) fn propagate(&mut self, known: &mut Known<'_>) -> Result<Option<Clause>, AllocError>
         ensures known { known.new ≡ known.old }
-        ensures conflict { IfOk result (λ found. IfSome found (λ clause.
-            IsClause known.old clause)) }
+        ensures conflict { IsClauseIfFound known.old result }
     {
         let pending = std::mem::replace(&mut self.pending, Vec::new(self.alloc));
         if let Some(conflict) = self.derive_all(pending.as_slice(), known)? {
@@ -175,8 +173,7 @@ impl Propagation {
         known: &mut Known<'_>,
     ) -> Result<Option<Clause>, AllocError>
         ensures known { known.new ≡ known.old }
-        ensures conflict { IfOk result (λ found. IfSome found (λ clause.
-            IsClause known.old clause)) }
+        ensures conflict { IsClauseIfFound known.old result }
     {
         for index in indexes {
             if let Some(conflict) = self.derive(*index, known)? {
@@ -189,8 +186,7 @@ impl Propagation {
     // Propagates the steps that are left.
     fn propagate_steps(&mut self, known: &mut Known<'_>) -> Result<Option<Clause>, AllocError>
         ensures known { known.new ≡ known.old }
-        ensures conflict { IfOk result (λ found. IfSome found (λ clause.
-            IsClause known.old clause)) }
+        ensures conflict { IsClauseIfFound known.old result }
     {
         let mut left = known.pool().len();
         while left > 0 {
@@ -212,8 +208,7 @@ impl Propagation {
         known: &mut Known<'_>,
     ) -> Result<Option<Clause>, AllocError>
         ensures known { known.new ≡ known.old }
-        ensures conflict { IfOk result (λ found. IfSome found (λ clause.
-            IsClause known.old clause)) }
+        ensures conflict { IsClauseIfFound known.old result }
     {
         let mut left = self.watches.count(literal);
         while left > 0 {
@@ -250,8 +245,7 @@ impl Propagation {
     // clause is returned, without the options that are ruled out.
     fn derive(&mut self, index: usize, known: &mut Known<'_>) -> Result<Option<Clause>, AllocError>
         ensures known { known.new ≡ known.old }
-        ensures conflict { IfOk result (λ found. IfSome found (λ clause.
-            IsClause known.old clause)) }
+        ensures conflict { IsClauseIfFound known.old result }
     {
         let status = match known.clause_at(index) {
             Some(clause) => self.trail.status(clause),
@@ -273,7 +267,7 @@ impl Propagation {
     // The clause at an index without the options that are ruled out, by resolution; None if it gets
     // too long.
     fn without_options(&self, index: usize, known: &Known<'_>) -> Result<Option<Clause>, AllocError>
-        ensures { IfOk result (λ found. IfSome found (λ clause. IsClause known.now clause)) }
+        ensures { IsClauseIfFound known.now result }
     {
         let Some(whole) = known.clause_at(index) else {
             return Ok(None);
@@ -328,7 +322,7 @@ impl Propagation {
         id: CandId,
         known: &Known<'_>,
     ) -> Result<Option<Clause>, AllocError>
-        ensures { IfOk result (λ found. IfSome found (λ clause. IsClause known.now clause)) }
+        ensures { IsClauseIfFound known.now result }
     {
         match self.cause_against(id, known)? {
             None => Ok(None),

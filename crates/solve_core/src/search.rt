@@ -5,7 +5,7 @@ ghost use Rattle.search_choices.specs.candidate_core.Options.{IsIn};
 ghost use Rattle.search_choices.specs.candidate_core.PackageMatches.{AreMatchesAmong};
 ghost use Rattle.search_choices.specs.search_tables.Selection.{AreAllMembersOf, exclude_each_other, next_need};
 ghost use Rattle.search_choices.specs.search_tables.Reasons.{AreCompatible, FrameValue, IsReason, HasSameMembers, RulesOut, IsFrameOf, IsExhaustedFrame, IsFrameTaking, dead_end_reason};
-ghost use Rattle.solve_core.specs.Clauses.{IsClause};
+ghost use Rattle.solve_core.specs.Clauses.{IsClauseIfFound};
 ghost use Rattle.solve_core.specs.Measure.{search_measure};
 ghost use Rattle.search_choices.specs.Choices.{IsSearch, choices_of, pool_of};
 
@@ -352,8 +352,7 @@ impl<'p> Search<'p> {
         ensures turns { self.new.turns.items ≡ self.old.turns.items }
         ensures matches { self.new.matches ≡ self.old.matches }
         ensures known { self.new.known ≡ self.old.known }
-        ensures conflict { IfOk result (λ found. IfSome found (λ clause.
-            IsClause self.old.known clause)) }
+        ensures conflict { IsClauseIfFound self.old.known result }
     {
         if let Some(conflict) = self.propagation.propagate(&mut self.known)? {
             return Ok(Some(conflict));

@@ -12,7 +12,8 @@ use Rattle.installed_info.specs.declared.telling.ReportAndRefusal.{ReportAndRefu
 use Rattle.change_inputs.specs.make_info.Reads.{Reads}
 use Rattle.report_core.specs.declared.refusal.Refusal.{Refusal}
 
--- the number of the read of the first listed file: the reads of the two databases precede it
+-- the number of the read of the first listed file, counted from 0; the reads 0 and 1 are those of the
+-- database and of the text database
 abbrev pub first_audit_read : ℕ
 first_audit_read = 2
 

@@ -5,7 +5,7 @@ use Rattle.std.specs.Str.{bytes_eq}
 use Rattle.std.proofs.lemmas.List.Elements.{All-append}
 use Rattle.std.proofs.Math.Seq.{take-length, map-set_same}
 use Rattle.std.proofs.lemmas.List.{map-set, set-get_or, get_or-set_same, length-set}
-use Rattle.base_core.specs.Files.{IsFile, put_name, drop_name, move_name}
+use Rattle.base_core.specs.Files.{AreFileBytes, put_name, drop_name, move_name}
 use Rattle.base_core.specs.Name.{IsName}
 use Rattle.base_core.specs.Tree.{TreeState, File, CanRename, HasName, set_file, with_file_changed, after_append, after_sync, with_file_moved, after_rename, with_name_removed, after_remove, after_sync_names}
 use Rattle.base_core.proofs.AtName.{name_cases, off_name}
@@ -56,7 +56,7 @@ module _ (name : List ℕ) (n : ℕ) (cs ds : List Change) (es : List NameAndFil
   was_sound : IsSoundState was
   was_sound = store_sound cs es files store
 
-  changed_sound : (change : File → File) → IsFile (change (was.files n)).bytes → IsSoundState (with_file_changed change was (was.names name))
+  changed_sound : (change : File → File) → AreFileBytes (change (was.files n)).bytes → IsSoundState (with_file_changed change was (was.names name))
   changed_sound change file = subst (λ (o : Option ℕ). IsSoundState (with_file_changed change was o)) (sym leads) (sound_changed change was n was_sound file)
 
   -- a piece at its end
@@ -85,7 +85,7 @@ module _ (name : List ℕ) (n : ℕ) (cs ds : List Change) (es : List NameAndFil
     grown_read : (was.files n).bytes ++ piece ≡ s.bytes.items
     grown_read = ap (λ (l : List ℕ). l ++ piece) (store.kept.bytes n) ∙ sym grown
 
-    grown_file : All (λ b. b < 256) piece → length s.bytes.items < 2 ^ 64 → IsFile ((was.files n).bytes ++ piece)
+    grown_file : All (λ b. b < 256) piece → length s.bytes.items < 2 ^ 64 → AreFileBytes ((was.files n).bytes ++ piece)
     grown_file each few = record {
       each = All-append (λ b. b < 256) (was.files n).bytes piece (was_sound.bytes n).each each;
       few = subst (λ (l : List ℕ). length l < 2 ^ 64) (sym grown_read) few;

@@ -10,7 +10,7 @@ use Rattle.std.proofs.Math.Seq.{get_or-append_seam, take-length}
 use Rattle.std.proofs.lemmas.List.{get_or-map, get_or_past, length-map, length-set, map-set, get_or-set_same, get_or-set_other}
 use Rattle.std.proofs.lemmas.List.Elements.{All-nil, All-cons, All-head}
 use Rattle.std.proofs.lemmas.Bool.{cases_eq, cases_lt, eq-eqb, ne_eqb}
-use Rattle.base_core.specs.Files.{NameMap, AreNames, IsFile, HasNoFileAsFolder, drop_name, put_name}
+use Rattle.base_core.specs.Files.{NameMap, AreNames, AreFileBytes, HasNoFileAsFolder, drop_name, put_name}
 use Rattle.base_core.specs.Name.{IsName}
 use Rattle.base_core.specs.Listed.{IsNamesOf}
 use Rattle.base_core.specs.Tree.{TreeState, File, IsCurrentOrOlderMap, CanCreate, bytes_of_file_number, files_of, set_file, with_file_changed, with_names, after_create}
@@ -89,7 +89,7 @@ kept_set v es files n change s kept within bytes synced = record {
 
 -- ---- sound states
 
-pub empty_file : IsFile []
+pub empty_file : AreFileBytes []
 empty_file = record { each = All-nil (λ b. b < 256); few = lit< tt }
 
 pub sound_empty : All IsSoundState (empty_state ∷ earlier_states [] empty_state [] [])
@@ -127,7 +127,7 @@ sound_with v new old good names = record { folders = folders; named = named; byt
     named map (inl is) = subst AreNames (sym is) names
     named map (inr other) = old.named map other
 
-pub sound_one : (v : TreeState) → v.older ≡ [] → HasNoFileAsFolder v.names → AreNames v.names → ((n : ℕ) → IsFile (v.files n).bytes) → IsSoundState v
+pub sound_one : (v : TreeState) → v.older ≡ [] → HasNoFileAsFolder v.names → AreNames v.names → ((n : ℕ) → AreFileBytes (v.files n).bytes) → IsSoundState v
 sound_one v none good names bytes = record { folders = λ map is. folders v.older none map is; named = λ map is. named v.older none map is; bytes = bytes }
   where
     folders : (older : List NameMap) → older ≡ [] → (map : NameMap) → IsCurrentOrOlderMap (record v { older = older }) map → HasNoFileAsFolder map
@@ -140,14 +140,14 @@ sound_one v none good names bytes = record { folders = λ map is. folders v.olde
     named [] none map (inr other) = absurd other
     named (x ∷ xs) none map is = absurd (cc (none))
 
-pub set_bytes : (files : ℕ → File) (n : ℕ) (f : File) → ((k : ℕ) → IsFile (files k).bytes) → IsFile f.bytes → (k : ℕ) → IsFile (set_file files n f k).bytes
+pub set_bytes : (files : ℕ → File) (n : ℕ) (f : File) → ((k : ℕ) → AreFileBytes (files k).bytes) → AreFileBytes f.bytes → (k : ℕ) → AreFileBytes (set_file files n f k).bytes
 set_bytes files n f old new k = by (k == n)
   where
-    by : (b : Bool) → IsFile (cond b f (files k)).bytes
+    by : (b : Bool) → AreFileBytes (cond b f (files k)).bytes
     by true = new
     by false = old k
 
-pub sound_changed : (change : File → File) (v : TreeState) (n : ℕ) → IsSoundState v → IsFile (change (v.files n)).bytes → IsSoundState (with_file_changed change v (Some n))
+pub sound_changed : (change : File → File) (v : TreeState) (n : ℕ) → IsSoundState v → AreFileBytes (change (v.files n)).bytes → IsSoundState (with_file_changed change v (Some n))
 sound_changed change v n old new = record { folders = old.folders; named = old.named; bytes = set_bytes v.files n (change (v.files n)) old.bytes new }
 
 -- the newest state of a store is sound
@@ -221,11 +221,11 @@ module _ (name : List ℕ) (cs ds : List Change) (es fs : List NameAndFile) (fil
   pub was_sound : IsSoundState was
   was_sound = store_sound cs es files store
 
-  pub put_sound : IsName name → IsFile s.bytes.items → CanPut name was → IsSoundState (after_put name s.bytes.items was)
+  pub put_sound : IsName name → AreFileBytes s.bytes.items → CanPut name was → IsSoundState (after_put name s.bytes.items was)
   put_sound named file can = sound_one (after_put name s.bytes.items was) refl can.folders (named_put was.names name was.made (was_sound.named was.names (inl refl)) named)
       (set_bytes was.files was.made (record { bytes = s.bytes.items; synced = true }) was_sound.bytes file)
 
-  pub store_put : ds ≡ cs ++ Put name (length files) (length s.bytes.items) ∷ [] → s.synced ≡ true → IsName name → IsFile s.bytes.items → CanPut name was → IsStore ds fs more
+  pub store_put : ds ≡ cs ++ Put name (length files) (length s.bytes.items) ∷ [] → s.synced ≡ true → IsName name → AreFileBytes s.bytes.items → CanPut name was → IsStore ds fs more
   store_put is synced named file can = store_pushed (Put name (length files) (length s.bytes.items)) cs ds fs (contents_of files) more (after_put name s.bytes.items was) (put_pushed is) put_step (put_kept synced) (put_sound named file can) store.sound
 
   pub history_put : ds ≡ cs ++ Put name (length files) (length s.bytes.items) ∷ [] → state_after_changes (contents_of more) empty_state ds ∷ earlier_states (contents_of more) empty_state [] ds ≡ after_put name s.bytes.items was ∷ (was ∷ earlier_states (contents_of files) empty_state [] cs)

@@ -2,7 +2,7 @@
 -- They serve the invariant of `Store`; *CanPut* the contract of `put`. `docs/crash-safety.md`, "A tree
 -- at one moment", says when a state is sound.
 use Rattle.std.specs.Prelude.{◌≡◌, ℕ, true, false, List, [], ◌∷◌, length, slice_index_or, All}
-use Rattle.base_core.specs.Files.{NameMap, put_name, AreNames, IsFile, HasNoFileAsFolder}
+use Rattle.base_core.specs.Files.{NameMap, put_name, AreNames, AreFileBytes, HasNoFileAsFolder}
 use Rattle.base_core.specs.Tree.{TreeState, IsCurrentOrOlderMap}
 use Rattle.tree_memory.specs.Changes.{contents_of, synced_flags, empty_state, state_after_changes, earlier_states, can_record_changes}
 use Rattle.tree_memory.specs.Table.{lookup}
@@ -22,7 +22,7 @@ pub record HoldsState (v : TreeState) (entries : List NameAndFile) (files : List
 pub record IsSoundState (v : TreeState) : Type 0 where
   pub folders : (map : NameMap) → IsCurrentOrOlderMap v map → HasNoFileAsFolder map
   pub named : (map : NameMap) → IsCurrentOrOlderMap v map → AreNames map
-  pub bytes : (n : ℕ) → IsFile (v.files n).bytes
+  pub bytes : (n : ℕ) → AreFileBytes (v.files n).bytes
 
 -- what a store keeps: its changes are a record, its table and its files are those of the newest state,
 -- and each state so far is sound

@@ -2,7 +2,7 @@
 -- contract.
 -- The rules are in `docs/crash-safety.md`, "Misuses, faults and counts".
 use Rattle.std.specs.Prelude.{◌≡◌, ◌⊎◌, ℕ, true, false, if◌then◌else◌, List, Result, OnOk, OnErr, is_ok}
-use Rattle.base_core.specs.Faults.{Counts, next_count}
+use Rattle.base_core.specs.Faults.{Counts, saturating_increment}
 use Rattle.base_core.specs.Tree.{TreeState}
 use Rattle.tree_memory.specs.Plans.{PlanState, is_next_call_to_fail, has_later_failure, plan_after_one_call}
 use Rattle.tree_memory.specs.Stores.{store_state, store_history}
@@ -48,18 +48,18 @@ abbrev pub writes_of : MemoryTree → ℕ
 writes_of tree = tree.calls.tally.writes
 
 -- the greatest length that a `read_at` of the tree asked for
-abbrev pub longest_of : MemoryTree → ℕ
-longest_of tree = tree.longest
+abbrev pub longest_read_of : MemoryTree → ℕ
+longest_read_of tree = tree.longest
 
 -- ---- a call that reads
 
 -- a call that reads: it is counted, the plan is one call nearer, and an error is a fault, but never
 -- means out of memory
 pub record IsReadCall {T E : Type 0} (old new : MemoryTree) (result : Result T E) : Type 0 where
-  pub calls : calls_of new ≡ next_count (calls_of old)
+  pub calls : calls_of new ≡ saturating_increment (calls_of old)
   pub writes : writes_of new ≡ writes_of old
   pub plan : plan_of new ≡ plan_after_one_call (plan_of old)
-  pub faults : (counts_of new).faults ≡ (if is_ok result then (counts_of old).faults else next_count
+  pub faults : (counts_of new).faults ≡ (if is_ok result then (counts_of old).faults else saturating_increment
       (counts_of old).faults)
   pub memory_faults : (counts_of new).memory_faults ≡ (counts_of old).memory_faults
 
@@ -71,26 +71,26 @@ pub record HasNoReasonToFail (can : TreeState → Type 0) (old : MemoryTree) : T
   pub proper : can (tree_state old)
 
 -- a call failed because that was planned, or because it was a misuse
-pub record HadToFail (can : TreeState → Type 0) (old new : MemoryTree) : Type 0 where
+pub record FailedByPlanOrMisuse (can : TreeState → Type 0) (old new : MemoryTree) : Type 0 where
   pub reason : (is_next_call_to_fail (plan_of old) ≡ true) ⊎ (can (tree_state old) → ⊥)
   pub memory_faults : (counts_of new).memory_faults ≡ (counts_of old).memory_faults
 
 -- a call failed only because the tree was out of memory
 pub record FailedForMemory (can : TreeState → Type 0) (old new : MemoryTree) : Type 0 where
   pub free : HasNoReasonToFail can old
-  pub memory_faults : (counts_of new).memory_faults ≡ next_count (counts_of old).memory_faults
+  pub memory_faults : (counts_of new).memory_faults ≡ saturating_increment (counts_of old).memory_faults
 
 -- a call that writes: it is counted, and the plan is one call nearer; an error is a fault, has one of
 -- these reasons, and changes nothing else
 pub record IsWriteCall {T E : Type 0} (can : TreeState → Type 0) (old new : MemoryTree)
     (result : Result T E) : Type 0 where
-  pub calls : calls_of new ≡ next_count (calls_of old)
-  pub writes : writes_of new ≡ next_count (writes_of old)
+  pub calls : calls_of new ≡ saturating_increment (calls_of old)
+  pub writes : writes_of new ≡ saturating_increment (writes_of old)
   pub plan : plan_of new ≡ plan_after_one_call (plan_of old)
-  pub longest : longest_of new ≡ longest_of old
-  pub faults : (counts_of new).faults ≡ (if is_ok result then (counts_of old).faults else next_count
+  pub longest : longest_read_of new ≡ longest_read_of old
+  pub faults : (counts_of new).faults ≡ (if is_ok result then (counts_of old).faults else saturating_increment
       (counts_of old).faults)
   pub free : OnOk result (HasNoReasonToFail can old)
   pub memory_faults : OnOk result ((counts_of new).memory_faults ≡ (counts_of old).memory_faults)
-  pub reason : OnErr result (HadToFail can old new ⊎ FailedForMemory can old new)
+  pub reason : OnErr result (FailedByPlanOrMisuse can old new ⊎ FailedForMemory can old new)
   pub unchanged : OnErr result (history_of new ≡ history_of old)

@@ -3,7 +3,7 @@
 -- those of `fail_after` and `take_at_most` are in the README of this crate.
 use Rattle.std.specs.Prelude.{◌≡◌, ◌⊎◌, ℕ, ◌-◌, ◌<◌, min, max, List, [], ◌++◌, length, take, Option, Some, None, is_some}
 use Rattle.std.specs.Option.{option_map}
-use Rattle.base_core.specs.Faults.{Counts, next_count}
+use Rattle.base_core.specs.Faults.{Counts, saturating_increment}
 
 -- a sink in memory: its bytes, how many more it takes and how many a write takes at most, if these are
 -- planned, and how often it failed, in all and because it was out of memory
@@ -55,14 +55,14 @@ pub record Takes (old : SinkState) (piece : List ℕ) (n : ℕ) (new : SinkState
 pub record WritesToFullSink (old : SinkState) (piece : List ℕ) (new : SinkState) : Type 0 where
   pub some : 0 < length piece
   pub full : old.room ≡ Some 0
-  pub counted : new ≡ record old { faults = next_count old.faults }
+  pub counted : new ≡ record old { faults = saturating_increment old.faults }
 
 -- a write of some bytes if the sink is out of memory
 pub record IsOutOfMemory (old : SinkState) (piece : List ℕ) (new : SinkState) : Type 0 where
   pub some : 0 < accepted_len old piece
   pub counted : new ≡ record old {
-    faults = next_count old.faults;
-    memory_faults = next_count
+    faults = saturating_increment old.faults;
+    memory_faults = saturating_increment
         old.memory_faults;
   }
 

@@ -2,7 +2,7 @@
 -- The rules are in `docs/crash-safety.md`, "Misuses, faults and counts". Serves the contracts of
 -- `calls`.
 use Rattle.std.specs.Prelude.{◌≤◌, Bool, true, false}
-use Rattle.base_core.specs.Faults.{next_count}
+use Rattle.base_core.specs.Faults.{saturating_increment}
 use Rattle.tree_memory.specs.declared.calls.Tally.{Tally}
 
 -- the counts before the first call
@@ -11,21 +11,21 @@ no_calls = record { calls = 0; writes = 0; faults = 0; misuses = 0; memory_fault
 
 -- the counts with one call more
 abbrev pub with_call : Tally → Tally
-with_call t = record t { calls = next_count t.calls }
+with_call t = record t { calls = saturating_increment t.calls }
 
 -- the counts if the call failed: one more fault
 abbrev pub with_fault : Tally → Tally
-with_fault t = record t { faults = next_count t.faults }
+with_fault t = record t { faults = saturating_increment t.faults }
 
 -- the counts if the call was a misuse, which always fails: one more fault, and one more misuse
 abbrev pub with_misuse : Tally → Tally
-with_misuse t = record t { faults = next_count t.faults; misuses = next_count t.misuses }
+with_misuse t = record t { faults = saturating_increment t.faults; misuses = saturating_increment t.misuses }
 
 -- the counts if the tree was out of memory: one more fault, and one more lack of memory
 abbrev pub with_memory_fault : Tally → Tally
 with_memory_fault t = record t {
-  faults = next_count t.faults;
-  memory_faults = next_count
+  faults = saturating_increment t.faults;
+  memory_faults = saturating_increment
       t.memory_faults;
 }
 

@@ -2,7 +2,7 @@
 //! The rules are in `docs/crash-safety.md`, "Misuses, faults and counts".
 
 ghost use Rattle.std.specs.Prelude.{◌≡◌, [], None, Some, OnOk, OnErr, is_ok, if◌then◌else◌, ◌⊎◌, ◌+◌, ℕ, false};
-ghost use Rattle.base_core.specs.Faults.{next_count, HasCause, Rose};
+ghost use Rattle.base_core.specs.Faults.{saturating_increment, HasCause, RoseOrIsSaturated};
 ghost use Rattle.tree_memory.specs.Plans.{PlanState, no_plan, is_next_call_to_fail, is_next_call_listed, plan_after_one_call, listed_calls_after_one_call, has_later_failure, is_call_to_fail, plan_after};
 ghost use Rattle.tree_memory.specs.Tallies.{no_calls, with_call, with_fault, with_misuse, with_memory_fault, with_begun_call, goes_on, HasNotFallen};
 ghost use Rattle.tree_memory.specs.Memory.{plan_of, counts_of};
@@ -128,7 +128,7 @@ impl Tally {
 
     /// Counts the call as one that writes.
     pub fn write(&mut self)
-        ensures { self.new ≡ record self.old { writes = next_count self.old.writes } }
+        ensures { self.new ≡ record self.old { writes = saturating_increment self.old.writes } }
     {
         self.writes = self.writes.saturating_add(1);
     }
@@ -207,7 +207,7 @@ impl Calls {
     pub fn begin_write(&mut self, can: bool) -> Result<(), Disk>
         ensures plan { self.new.plan ≡ plan_after_one_call self.old.plan }
         ensures tally { self.new.tally ≡ with_begun_call can (is_next_call_to_fail self.old.plan)
-            (record self.old.tally { writes = next_count self.old.tally.writes }) }
+            (record self.old.tally { writes = saturating_increment self.old.tally.writes }) }
         ensures grown { HasNotFallen self.old.tally self.new.tally }
         ensures when { is_ok result ≡ goes_on can (is_next_call_to_fail self.old.plan) }
     {
@@ -237,15 +237,15 @@ impl Calls {
 pub fn an_unplanned_fault_has_its_reason()
     ensures { (before now : MemoryTree) → has_later_failure (plan_of before) ≡ false
         → HasCause (counts_of before) (counts_of now)
-        → Rose (counts_of before).misuses (counts_of now).misuses
-        ⊎ Rose (counts_of before).memory_faults (counts_of now).memory_faults }
+        → RoseOrIsSaturated (counts_of before).misuses (counts_of now).misuses
+        ⊎ RoseOrIsSaturated (counts_of before).memory_faults (counts_of now).memory_faults }
 {}
 
 /// If no end of a sink in memory is planned, a fault means that the sink is out of memory.
 pub fn an_endless_sink_runs_out_of_memory()
     ensures { (before now : SinkState) → before.room ≡ None
         → HasCause (sink_counts before) (sink_counts now)
-        → Rose before.memory_faults now.memory_faults }
+        → RoseOrIsSaturated before.memory_faults now.memory_faults }
 {}
 
 /// Apart from misuses and out of memory, call k from now on fails exactly if it is listed or after

@@ -2,7 +2,7 @@
 //! The contract is that of `Sink` of `base_core`; the counts are described in
 //! `docs/crash-safety.md`, "Misuses, faults and counts".
 ghost use Rattle.std.specs.Prelude.{◌≡◌, ◌≤◌, List, Option, Some, take, IfOk, OnErr, [], IsOk};
-ghost use Rattle.base_core.specs.Faults.{FailsWithCause, next_count};
+ghost use Rattle.base_core.specs.Faults.{FailsWithCause, saturating_increment};
 ghost use Rattle.base_core.specs.Sink.{Adds, IsWriteCount};
 ghost use Rattle.tree_memory.specs.Sink.{SinkState, new_sink, sink_counts, len_that_fits, len_within_write_limit, Takes, Refuses};
 
@@ -84,7 +84,7 @@ impl MemorySink {
 
     /// Counts a write that failed.
     fn fault(&mut self) -> SinkFault
-        ensures is { self.new ≡ record self.old { faults = next_count self.old.faults } }
+        ensures is { self.new ≡ record self.old { faults = saturating_increment self.old.faults } }
         ensures later { self.old.faults ≤ self.new.faults }
     {
         self.faults = self.faults.saturating_add(1);
@@ -94,9 +94,9 @@ impl MemorySink {
     /// Counts a write that failed because the sink was out of memory, which is a fault too.
     fn want(&mut self) -> SinkFault
         ensures is { self.new ≡ record self.old {
-          faults = next_count self.old.faults;
+          faults = saturating_increment self.old.faults;
           memory_faults =
-              next_count self.old.memory_faults;
+              saturating_increment self.old.memory_faults;
         } }
         ensures later { self.old.faults ≤ self.new.faults }
         ensures more { self.old.memory_faults ≤ self.new.memory_faults }

@@ -4,10 +4,10 @@
 ghost use Rattle.std.specs.Prelude.{◌≡◌, ◌↔◌, [], ◌∷◌, List, Some, None, IsTrue, IsOk, IfOk, IfSome, IsErrOf, OnOk, OnErr, false, true, length, max, take, drop, if◌then◌else◌};
 ghost use Rattle.std.specs.Option.{option_map, option_copied};
 ghost use Rattle.base_core.specs.Calls.{IsCounted, ChangesHistory, IfObservable};
-ghost use Rattle.base_core.specs.Faults.{CountsOnlyRise, HasCause, IsNoFault, next_count};
+ghost use Rattle.base_core.specs.Faults.{CountsOnlyRise, HasCause, IsNoFault, saturating_increment};
 ghost use Rattle.base_core.specs.Files.{put_name};
 ghost use Rattle.base_core.specs.Listed.{AreNamesBelow, IsNamesOf, IsListOf};
-ghost use Rattle.base_core.specs.Tree.{files_of, after_create, after_append, after_failed_append, after_sync, after_rename, after_remove, after_sync_names, after_failed_call, IsAlwaysAllowed, HasName, CanRead, CanCreate, CanRename};
+ghost use Rattle.base_core.specs.Tree.{files_of, after_create, after_append, after_failed_append, after_sync, after_rename, after_remove, after_sync_names, unchanged_after_failed_call, IsAlwaysAllowed, HasName, CanRead, CanCreate, CanRename};
 ghost use Rattle.base_core.specs.Undone.{IsAfterCrash};
 ghost use Rattle.base_core.specs.declared.tree.TreeFault.TheVariants.{Memory, Disk as DiskFault};
 ghost use Rattle.tree_memory.specs.Changes.{empty_state, after_put};
@@ -33,7 +33,7 @@ pub struct MemoryTree {
 }
 
 impl MemoryTree {
-    ghost use Rattle.tree_memory.specs.Memory.{tree_state, history_of, counts_of, calls_of, writes_of, plan_of, longest_of, no_faults};
+    ghost use Rattle.tree_memory.specs.Memory.{tree_state, history_of, counts_of, calls_of, writes_of, plan_of, longest_read_of, no_faults};
 
     /// An empty tree, with no faults and no planned failures.
     pub fn new(alloc: Global) -> MemoryTree
@@ -42,7 +42,7 @@ impl MemoryTree {
         ensures plan { plan_of result ≡ no_plan }
         ensures calls { calls_of result ≡ 0 }
         ensures writes { writes_of result ≡ 0 }
-        ensures longest { longest_of result ≡ 0 }
+        ensures longest { longest_read_of result ≡ 0 }
     {
         MemoryTree {
             store: Store::new(alloc),
@@ -71,7 +71,7 @@ impl MemoryTree {
         ensures plan { plan_of self.new ≡ plan_of self.old }
         ensures calls { calls_of self.new ≡ calls_of self.old }
         ensures writes { writes_of self.new ≡ writes_of self.old }
-        ensures longest { longest_of self.new ≡ longest_of self.old }
+        ensures longest { longest_read_of self.new ≡ longest_read_of self.old }
     {
         let bytes = Vec::from_slice(self.store.alloc, bytes)?;
         self.store.put(name, bytes)
@@ -101,7 +101,7 @@ impl MemoryTree {
             ≡ record (counts_of self.old) { fallible = has_later_failure (plan_of self.new) } }
         ensures calls { calls_of self.new ≡ calls_of self.old }
         ensures writes { writes_of self.new ≡ writes_of self.old }
-        ensures longest { longest_of self.new ≡ longest_of self.old }
+        ensures longest { longest_read_of self.new ≡ longest_read_of self.old }
     {
         self.calls.plan = Plan::at(self.store.alloc, calls)?;
         Ok(())
@@ -114,7 +114,7 @@ impl MemoryTree {
         ensures counts { counts_of self.new ≡ record (counts_of self.old) { fallible = true } }
         ensures calls { calls_of self.new ≡ calls_of self.old }
         ensures writes { writes_of self.new ≡ writes_of self.old }
-        ensures longest { longest_of self.new ≡ longest_of self.old }
+        ensures longest { longest_read_of self.new ≡ longest_read_of self.old }
     {
         self.calls.plan = Plan::after(self.store.alloc, n);
     }
@@ -135,7 +135,7 @@ impl MemoryTree {
         ensures plan { IfOk result (λ image. plan_of image ≡ no_plan) }
         ensures calls { IfOk result (λ image. calls_of image ≡ 0) }
         ensures writes { IfOk result (λ image. writes_of image ≡ 0) }
-        ensures longest { IfOk result (λ image. longest_of image ≡ 0) }
+        ensures longest { IfOk result (λ image. longest_read_of image ≡ 0) }
     {
         let store = self.store.image(alloc, choice)?;
         Ok(MemoryTree {
@@ -176,7 +176,7 @@ impl MemoryTree {
     /// The greatest length that a `read_at` asked for, in bytes. A test sees by it that no file is
     /// read whole.
     pub fn longest_read(&self) -> u64
-        ensures { result ≡ longest_of self.now }
+        ensures { result ≡ longest_read_of self.now }
     {
         self.longest
     }
@@ -198,7 +198,7 @@ impl MemoryTree {
 }
 
 impl Tree for MemoryTree {
-    ghost use Rattle.tree_memory.specs.Memory.{tree_state, history_of, counts_of, calls_of, writes_of, plan_of, longest_of, IsReadCall, IsWriteCall};
+    ghost use Rattle.tree_memory.specs.Memory.{tree_state, history_of, counts_of, calls_of, writes_of, plan_of, longest_read_of, IsReadCall, IsWriteCall};
     ghost use Rattle.tree_memory.specs.WellFormedLaw.{well_formed_history};
 
     ghost history = { λ tree. history_of tree };
@@ -222,7 +222,7 @@ impl Tree for MemoryTree {
         // It fails exactly if that is planned.
         ensures when { IsOk result ↔ (is_next_call_to_fail (plan_of self.old) ≡ false) }
         ensures call { IsReadCall self.old self.new result }
-        ensures longest { longest_of self.new ≡ longest_of self.old }
+        ensures longest { longest_read_of self.new ≡ longest_read_of self.old }
     {
         self.calls.begin(true)?;
         match self.store.file(name) {
@@ -243,9 +243,9 @@ impl Tree for MemoryTree {
         // It fails exactly if that is planned, or if it is a misuse.
         ensures when { IsOk result ↔ ((is_next_call_to_fail (plan_of self.old) ≡ false)
             × CanRead name.now at (length into.old) (tree_state self.old)) }
-        ensures after_failed_call { OnErr result (into.new ≡ into.old) }
+        ensures unchanged_after_failed_call { OnErr result (into.new ≡ into.old) }
         ensures call { IsReadCall self.old self.new result }
-        ensures longest { longest_of self.new ≡ max (longest_of self.old) (length into.old) }
+        ensures longest { longest_read_of self.new ≡ max (longest_read_of self.old) (length into.old) }
     {
         self.longest = self.longest.max(into.len() as u64);
         let can = self.store.can_read(name, at, into.len());
@@ -288,7 +288,7 @@ impl Tree for MemoryTree {
 
     /// Makes the bytes of a file durable.
     fn sync(&mut self, name: &Name) -> Result<(), Disk>
-        ensures moves { ChangesHistory (HasName name.now) (after_sync name.now) after_failed_call
+        ensures moves { ChangesHistory (HasName name.now) (after_sync name.now) unchanged_after_failed_call
             (history_of self.old) (history_of self.new) result }
         ensures counts { IsCounted (HasName name.now) (history_of self.old) (counts_of self.old)
             (counts_of self.new) result }
@@ -330,7 +330,7 @@ impl Tree for MemoryTree {
 
     /// Makes all names durable.
     fn sync_names(&mut self) -> Result<(), Disk>
-        ensures moves { ChangesHistory IsAlwaysAllowed after_sync_names after_failed_call
+        ensures moves { ChangesHistory IsAlwaysAllowed after_sync_names unchanged_after_failed_call
             (history_of self.old) (history_of self.new) result }
         ensures counts { IsCounted IsAlwaysAllowed (history_of self.old) (counts_of self.old)
             (counts_of self.new) result }
@@ -359,14 +359,14 @@ impl Tree for MemoryTree {
         // The tree fails exactly if that is planned.
         ensures when { IsErrOf result DiskFault ↔ (is_next_call_to_fail (plan_of self.old) ≡ true) }
         ensures plan { plan_of self.new ≡ plan_after_one_call (plan_of self.old) }
-        ensures calls { calls_of self.new ≡ next_count (calls_of self.old) }
+        ensures calls { calls_of self.new ≡ saturating_increment (calls_of self.old) }
         ensures writes { writes_of self.new ≡ writes_of self.old }
         ensures faults { (counts_of self.new).faults
-            ≡ (if is_next_call_to_fail (plan_of self.old) then next_count (counts_of self.old).faults else
+            ≡ (if is_next_call_to_fail (plan_of self.old) then saturating_increment (counts_of self.old).faults else
             (counts_of self.old).faults) }
         ensures memory_faults { (counts_of self.new).memory_faults
             ≡ (counts_of self.old).memory_faults }
-        ensures longest { longest_of self.new ≡ longest_of self.old }
+        ensures longest { longest_read_of self.new ≡ longest_read_of self.old }
     {
         self.calls.begin(true)?;
         let names = self.store.list(alloc, folder)?;
@@ -384,7 +384,7 @@ impl Tree for MemoryTree {
         // It fails exactly if that is planned.
         ensures when { IsOk result ↔ (is_next_call_to_fail (plan_of self.old) ≡ false) }
         ensures call { IsReadCall self.old self.new result }
-        ensures longest { longest_of self.new ≡ longest_of self.old }
+        ensures longest { longest_read_of self.new ≡ longest_read_of self.old }
     {
         self.calls.begin(true)?;
         Ok(())

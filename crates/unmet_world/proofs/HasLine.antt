@@ -9,7 +9,7 @@ use Rattle.search_tables.specs.candidate_core.Candidates.{Candidate, is_eligible
 use Rattle.search_tables.specs.candidate_core.Rank.{SealedPool}
 use Rattle.search_tables.specs.candidate_core.Options.{IsIn}
 use Rattle.search_tables.specs.Selection.{IsSatisfying, install_if_applies, names_by_install_if, positive_needs}
-use Rattle.unmet_world.specs.Lines.{ExplainsWorld, explanation_text, missing_lines, most_lines, need_lines, printed_line, printed_lines, refutation_lines, step_lines, want_lines, with_texts, world_lines}
+use Rattle.unmet_world.specs.Lines.{ExplainsWorld, explanation_text, missing_lines, most_printed_lines, need_lines, printed_line, text_of_at_most_ten_lines, refutation_lines, step_lines, want_lines, with_texts, world_lines}
 use Rattle.unmet_world.specs.Refutation.{IsRefutation, wanted}
 use Rattle.unmet_world.specs.declared.refutation.Refutation.{Refutation}
 
@@ -63,7 +63,7 @@ printed_some : (b : Bool) (line : List ℕ) (lines front : List (List ℕ)) → 
 printed_some true line lines front e = not_empty 97 _ e
 printed_some false line lines front e = not_empty 97 _ e
 
-none_printed : (lines : List (List ℕ)) → printed_lines lines ≡ [] → lines ≡ []
+none_printed : (lines : List (List ℕ)) → text_of_at_most_ten_lines lines ≡ [] → lines ≡ []
 none_printed [] e = refl
 none_printed (line ∷ lines) e = absurd (printed_some _ line lines _ e)
 
@@ -81,7 +81,7 @@ kept (x ∷ xs) ys some e = more_than_none x xs ys e
 
 refutation_has_line : (pool : SealedPool) (listed : List Dependency) (repositories : List Repository) (r : Refutation) → IsRefutation pool r → refutation_lines pool listed repositories r ≡ [] → ⊥
 refutation_has_line pool listed repositories r is none =
-    kept (with_texts [] (want_lines pool listed repositories r.end)) (flat_map (step_lines pool listed repositories) (take most_lines r.steps.items)) (first (wanted pool r.end) is.none_left.0 is.none_left.1) none
+    kept (with_texts [] (want_lines pool listed repositories r.end)) (flat_map (step_lines pool listed repositories) (take most_printed_lines r.steps.items)) (first (wanted pool r.end) is.none_left.0 is.none_left.1) none
   where
     first : (o : Option Dependency) (d : Dependency) → o ≡ Some d → with_texts [] (need_lines pool listed repositories r.end.owner o) ≡ [] → ⊥
     first None d at e = absurd (cc)

@@ -120,8 +120,8 @@ joined_texts (text ∷ []) = text
 joined_texts (text ∷ (next ∷ more)) = text ++ codes ", " ++ joined_texts (next ∷ more)
 
 -- how many candidates of a name are shown
-abbrev pub most_offers : ℕ
-most_offers = 16
+abbrev pub most_shown_offers : ℕ
+most_shown_offers = 16
 
 -- two dots say that there are more
 abbrev pub dots_if : Bool → List ℕ
@@ -133,13 +133,14 @@ abbrev pub no_package_text : Option (List ℕ) → List ℕ
 no_package_text None = codes "no package"
 no_package_text (Some similar) = codes "no package" ++ codes "; a similar name is " ++ similar
 
--- the candidates at some places, which offer a name
+-- the text on the candidates at these places, which offer a name; without places, it says that no
+-- package has the name
 abbrev pub offered_text : SealedPool → List Dependency → List ℕ → List ℕ → List ℕ
 offered_text pool listed name [] = no_package_text (similar_name name pool.candidates)
 offered_text pool listed name (c ∷ cs) =
     codes "only "
-    ++ joined_texts (with_texts [] (map (offer_text_at pool listed name) (take most_offers (c ∷ cs))))
-    ++ dots_if (nat_lt most_offers (length (c ∷ cs)))
+    ++ joined_texts (with_texts [] (map (offer_text_at pool listed name) (take most_shown_offers (c ∷ cs))))
+    ++ dots_if (nat_lt most_shown_offers (length (c ∷ cs)))
 
 -- what there is of a name: `lib: only 1.0-r0, 1.2-r0`
 abbrev pub offers_line : SealedPool → List Dependency → List ℕ → List ℕ
@@ -212,15 +213,15 @@ step_lines pool listed repositories (Sure id want) =
 -- ---- all lines
 
 -- how many lines there are at most
-abbrev pub most_lines : ℕ
-most_lines = 10
+abbrev pub most_printed_lines : ℕ
+most_printed_lines = 10
 
 -- the lines of a refutation, each once: those of its end, and of its first steps
 abbrev pub refutation_lines :
     SealedPool → List Dependency → List Repository → Refutation → List (List ℕ)
 refutation_lines pool listed repositories r =
     with_texts (with_texts [] (want_lines pool listed repositories r.end))
-    (flat_map (step_lines pool listed repositories) (take most_lines r.steps.items))
+    (flat_map (step_lines pool listed repositories) (take most_printed_lines r.steps.items))
 
 -- an entry of world
 abbrev pub world_lines_of : List Dependency → Option Dependency → List (List ℕ)
@@ -238,10 +239,10 @@ abbrev pub printed_line : List ℕ → List ℕ
 printed_line line = codes "apk: " ++ printed_bytes line ++ codes "\n"
 
 -- lines as they are printed, at most ten; if there are more, two dots say so
-abbrev pub printed_lines : List (List ℕ) → List ℕ
-printed_lines lines =
-    if nat_lt most_lines (length lines) then
-    flat_map printed_line (take (most_lines - 1) lines) ++ printed_line (codes "..") else
+abbrev pub text_of_at_most_ten_lines : List (List ℕ) → List ℕ
+text_of_at_most_ten_lines lines =
+    if nat_lt most_printed_lines (length lines) then
+    flat_map printed_line (take (most_printed_lines - 1) lines) ++ printed_line (codes "..") else
     flat_map printed_line lines
 
 -- the explanation of a refutation that was found, or else the entries of world
@@ -254,7 +255,7 @@ explanation_lines pool listed repositories (Some r) = refutation_lines pool list
 abbrev pub explanation_text :
     SealedPool → List Dependency → List Repository → Option Refutation → List ℕ
 explanation_text pool listed repositories found =
-    printed_lines (explanation_lines pool listed repositories found)
+    text_of_at_most_ten_lines (explanation_lines pool listed repositories found)
 
 -- a text explains a world, of which a file lists some entries: the text is that of a refutation, or
 -- without one that of the entries of world

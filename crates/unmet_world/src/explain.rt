@@ -1,22 +1,22 @@
 //! The explanation of a change that was refused because nothing can be selected. It reads the root
 //! once more, and writes nothing. The rules are in `docs/commands.md`, "Why nothing can be
 //! selected".
-ghost use Rattle.std.specs.Prelude.{◌≡◌, ◌⊎◌, ℕ, List, [], Err, IfErr, IfOk, OnOk};
+ghost use Rattle.std.specs.Prelude.{◌≡◌, ◌⊎◌, ℕ, List, [], Err, IfOk, OnOk};
 ghost use Rattle.base_core.specs.Read.{OnlyReads};
-ghost use Rattle.base_core.specs.Sink.{sink_change};
+ghost use Rattle.base_core.specs.Sink.{sink_before_and_after};
 ghost use Rattle.base_core.specs.declared.tree.TreeFault.TheVariants.{Disk as DiskFault};
 ghost use Rattle.change_inputs.specs.Seen.{inputs_seen};
 ghost use Rattle.change_inputs.specs.declared.root.Refused.TheVariants.{Disk as ReadFailed};
-ghost use Rattle.hint_core.specs.Told.{IsNotDiskFault, Tells};
+ghost use Rattle.hint_core.specs.Told.{Tells};
 ghost use Rattle.unmet_world.specs.Explained.{ExplainsForApplet, ExplainsChange, ExplainsInputs, ExplainsPool, ExplainsResult, ExplainsCommandLine, no_index_line};
 ghost use Rattle.words_core.specs.Grammar.{command_of};
 
 use crate::unmet::explanation_of;
-use base_core::{Sink, Tree, TreeFault, Words, write_all};
+use base_core::{Sink, Tree, TreeFault, Words};
 use change_inputs::{Loaded, Refused};
 use command_core::{Applet, Command};
 use dep_core::{Repos, World};
-use hint_core::HintFault;
+use hint_core::{HintFault, write_lines};
 use search_tables::{Sealed, Upgrade};
 use std::alloc::{AllocError, Global};
 use words_core::read_words;
@@ -37,22 +37,13 @@ pub fn explain_selection<T: Tree, S: Sink>(
     ensures told { (text : List ℕ)
         × ((text ≡ []) ⊎ ExplainsCommandLine (command_of words.now) (T.history tree.old) text)
         × OnOk result (ExplainsCommandLine (command_of words.now) (T.history tree.old) text)
-        × Tells text (sink_change S.bytes S.counts sink.old sink.new) result }
+        × Tells text (sink_before_and_after S.bytes S.counts sink.old sink.new) result }
     // The tree is only read.
     ensures tree { OnlyReads HintFault.Disk (T.history tree.old) (T.history tree.new)
         (T.counts tree.old) (T.counts tree.new) result }
 {
     let text = explanation_for(alloc, words, tree)?;
-    say(&text, sink)
-}
-
-// Writes a text.
-fn say<S: Sink>(text: &[u8], sink: &mut S) -> Result<(), HintFault>
-    ensures told { Tells text.now (sink_change S.bytes S.counts sink.old sink.new) result }
-    // No tree failed.
-    ensures failed { IfErr result IsNotDiskFault }
-{
-    Ok(write_all(sink, text)?)
+    write_lines(&text, sink)
 }
 
 // The explanation of a command's words.
@@ -73,7 +64,8 @@ fn explanation_for<T: Tree>(
     }
 }
 
-// The explanation of a command.
+// The explanation why no selection satisfies the new world of a command that changes packages. The
+// text is empty for a command with another applet.
 fn explanation_of_command<T: Tree>(
     alloc: Global,
     command: &Command,

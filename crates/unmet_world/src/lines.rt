@@ -4,7 +4,7 @@ ghost use Rattle.std.specs.List.{flat_map};
 ghost use Rattle.dep_core.specs.Meets.{dependency};
 ghost use Rattle.unmet_world.specs.Exclusion.{conflict_between, shared_name_at_places};
 ghost use Rattle.unmet_world.specs.Refutation.{wanted};
-ghost use Rattle.unmet_world.specs.Lines.{needs_text, with_texts, missing_lines, want_lines, only_lines, conflict_text, sharing_text, exclusion_lines, step_lines, most_lines, refutation_lines, world_lines, printed_line, printed_lines, explanation_lines, explanation_text};
+ghost use Rattle.unmet_world.specs.Lines.{needs_text, with_texts, missing_lines, want_lines, only_lines, conflict_text, sharing_text, exclusion_lines, step_lines, most_printed_lines, refutation_lines, world_lines, printed_line, text_of_at_most_ten_lines, explanation_lines, explanation_text};
 
 use crate::exclusion::{conflict_between, shared_name_at_places};
 use crate::refutation::{Owner, Refutation, Step, Want, candidate, wanted};
@@ -229,7 +229,7 @@ fn add_steps(
 
 // The first of some steps, at most as many as there are lines.
 fn first_of(steps: &[Step]) -> &[Step]
-    ensures { result.now ≡ take most_lines steps.now }
+    ensures { result.now ≡ take most_printed_lines steps.now }
 {
     if steps.len() > MOST_LINES {
         &steps[..MOST_LINES]
@@ -296,7 +296,7 @@ fn add_all_printed(text: &mut Vec<u8>, lines: &[Text]) -> Result<(), AllocError>
 
 // Lines as they are printed, at most ten.
 fn printed(alloc: Global, lines: &[Text]) -> Result<Vec<u8>, AllocError>
-    ensures { IfOk result (λ text. text.items ≡ printed_lines lines.now) }
+    ensures { IfOk result (λ text. text.items ≡ text_of_at_most_ten_lines lines.now) }
 {
     let mut text = Vec::new(alloc);
     if lines.len() > MOST_LINES {

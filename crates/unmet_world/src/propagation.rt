@@ -35,7 +35,7 @@ struct Listed {
 /// What is known of a candidate.
 #[derive(Clone, Copy)]
 struct Known {
-    /// Whether it is among some options.
+    /// Whether it is an option of something that is wanted, and so is in the list `seen`.
     is_seen: bool,
     /// Whether its dependencies are listed as wanted.
     is_expanded: bool,

@@ -7,7 +7,7 @@ ghost use Rattle.dep_core.specs.DependencyText.{dep_text};
 ghost use Rattle.dep_core.specs.Meets.{dependency};
 ghost use Rattle.search_tables.specs.candidate_core.Candidates.{uses_tag, is_allowed};
 ghost use Rattle.unmet_world.specs.Exclusion.{is_conflict_met_by};
-ghost use Rattle.unmet_world.specs.Lines.{origin_text, name_and_version_text, candidate_text, candidate_text_at, is_named, is_same_text, is_entry_of_file, entry_origin, entry_origin_text, dependency_owner_text, world_conflict_text, world_conflict_reason_text, offer_text, offer_text_at, with_text_once, with_texts, joined_texts, most_offers, dots_if, no_package_text, offered_text, offers_line};
+ghost use Rattle.unmet_world.specs.Lines.{origin_text, name_and_version_text, candidate_text, candidate_text_at, is_named, is_same_text, is_entry_of_file, entry_origin, entry_origin_text, dependency_owner_text, world_conflict_text, world_conflict_reason_text, offer_text, offer_text_at, with_text_once, with_texts, joined_texts, most_shown_offers, dots_if, no_package_text, offered_text, offers_line};
 
 use crate::exclusion::is_conflict_met_by;
 use crate::refutation::{Owner, candidate};
@@ -420,7 +420,7 @@ fn add_no_package(line: &mut Vec<u8>, similar: Option<&[u8]>) -> Result<(), Allo
 
 // The first of some candidates, as many as are shown.
 fn first_of(ids: &[CandId]) -> &[CandId]
-    ensures { result.now ≡ take most_offers ids.now }
+    ensures { result.now ≡ take most_shown_offers ids.now }
 {
     if ids.len() > MOST_OFFERS {
         &ids[..MOST_OFFERS]

@@ -22,12 +22,12 @@ pub data RecordLine : Type 0 where
   other_line : RecordLine
 
 -- the line that begins a folder of this name, which has to be a path, or empty
-abbrev pub folder_line_of : List ℕ → Option RecordLine
-folder_line_of name = if is_folder_name name then Some (folder_line name) else None
+abbrev pub folder_line_if_path : List ℕ → Option RecordLine
+folder_line_if_path name = if is_folder_name name then Some (folder_line name) else None
 
 -- the line that begins a file of this name, which has to be one part of a path
-abbrev pub file_line_of : List ℕ → Option RecordLine
-file_line_of name = if is_one_part name then Some (file_line name) else None
+abbrev pub file_line_if_one_part : List ℕ → Option RecordLine
+file_line_if_one_part name = if is_one_part name then Some (file_line name) else None
 
 -- the meaning of a line on the package itself; one with an unlisted letter has none that is kept
 abbrev pub info_record_line : Option InfoField → List ℕ → Option RecordLine
@@ -38,9 +38,9 @@ info_record_line (Some f) value = option_map (info_line f) (values_under_grammar
 -- grammar
 unfoldable pub record_line_of_letter : ℕ → List ℕ → Option RecordLine
 record_line_of_letter letter value =
-    if letter == FOLDER then folder_line_of value else
+    if letter == FOLDER then folder_line_if_path value else
     if letter == FOLDER_ACCESS then option_map folder_access_line (access_in value) else
-    if letter == FILE then file_line_of value else
+    if letter == FILE then file_line_if_one_part value else
     if letter == FILE_ACCESS then option_map file_access_line (access_in value) else
     if letter == FILE_HASH then option_map file_hash_line (sha1_of value) else
     info_record_line (field_of_letter letter) value

@@ -6,7 +6,7 @@ ghost use Rattle.std.specs.Option.{option_map};
 ghost use Rattle.std.specs.Prelude.{◌≡◌, IfOk};
 ghost use Rattle.v2_lines.specs.InfoFields.{field_of_letter};
 ghost use Rattle.v2_lines.specs.InfoValues.{sha1_of};
-ghost use Rattle.v2_lines.specs.Lines.{file_hash_line, folder_line_of, file_line_of, info_record_line, record_line_of_letter, record_line_of};
+ghost use Rattle.v2_lines.specs.Lines.{file_hash_line, folder_line_if_path, file_line_if_one_part, info_record_line, record_line_of_letter, record_line_of};
 ghost use Rattle.v2_lines.specs.Views.{line_view};
 
 use crate::access::{Access, read_access};
@@ -85,7 +85,7 @@ fn read_by_letter<'a>(
 
 // The line that begins a folder of this name, which has to be a path, or empty.
 fn folder_line(name: &[u8]) -> Option<Line<'_>>
-    ensures { option_map line_view result ≡ folder_line_of name.now }
+    ensures { option_map line_view result ≡ folder_line_if_path name.now }
 {
     if !is_folder_name(name) {
         return None;
@@ -95,7 +95,7 @@ fn folder_line(name: &[u8]) -> Option<Line<'_>>
 
 // The line that begins a file of this name, which has to be one part of a path.
 fn file_line(name: &[u8]) -> Option<Line<'_>>
-    ensures { option_map line_view result ≡ file_line_of name.now }
+    ensures { option_map line_view result ≡ file_line_if_one_part name.now }
 {
     if !is_one_part(name) {
         return None;

@@ -364,7 +364,7 @@ abbrev pub help_topic_operands : Result AppletSite ℕ → List Operand
 help_topic_operands (Err place) = []
 help_topic_operands (Ok site) = operand_at site.read (applet_word site.applet) ∷ []
 
--- the operands of what words ask for
+-- the operands of a request for help or for the version: the topic of help, if the words name one
 abbrev pub operands_of_help_or_version : List (List ℕ) → Applet → List Operand
 operands_of_help_or_version words Help = help_topic_operands (applet_site 1 words)
 operands_of_help_or_version words applet = []

@@ -27,4 +27,4 @@ pub use laws::{
     words_offend_whatever_follows,
 };
 pub use read::{WordsFault, read_words};
-pub use usage::explain_usage;
+pub use usage::{LONGEST_SHOWN, explain_usage, shown_part, word_at};

@@ -213,7 +213,8 @@ impl OptionState {
         }
     }
 
-    // Reads an option without a value. Returns false if its flag is a second kind.
+    // Reads an option without a value. Returns false if the option selects a kind of the command,
+    // but an earlier option has selected another kind.
     fn read_flag(&mut self, meaning: Meaning) -> bool
         ensures { IsReadingStep result self.old self.new (with_flags_if_some self.old
             (flags_with_meaning self.old.flags meaning)) }

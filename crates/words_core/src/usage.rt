@@ -2,7 +2,7 @@
 //! The texts are listed in `docs/commands.md`, "Help".
 ghost use Rattle.std.specs.Prelude.{◌≡◌, ◌-◌, ◌+◌, ◌<◌, ◌≤◌, Some, IsTrue, drop, length, map, slice_get, take};
 ghost use Rattle.std.specs.Option.{option_map};
-ghost use Rattle.base_core.specs.Sink.{sink_change};
+ghost use Rattle.base_core.specs.Sink.{sink_before_and_after};
 ghost use Rattle.base_core.specs.Write.{Writes};
 ghost use Rattle.words_core.specs.Grammar.{applet_site, option_state_at_start, is_option, start_of_command_line, next_after, option_reading, reading_after_applet};
 ghost use Rattle.words_core.specs.Options.{options_of};
@@ -21,8 +21,8 @@ use base_core::{Sink, SinkFault, Words, write_all};
 use command_core::{Applet, Flags, OperandKind, OperandRule, ValueKind, ValueRule};
 use itoa::Buffer;
 
-// How many bytes of a word are shown.
-const LONGEST_SHOWN: usize = 64;
+/// How many bytes of a word are shown.
+pub const LONGEST_SHOWN: usize = 64;
 
 /// Why words are a usage error at a place.
 #[derive(Clone, Copy)]
@@ -85,8 +85,8 @@ fn next_before(words: &Words, place: u32) -> NextWord
     }
 }
 
-// The word at a place, if there is one.
-fn word_at(words: &Words, place: u32) -> Option<&[u8]>
+/// The word at a place, if there is one.
+pub fn word_at(words: &Words, place: u32) -> Option<&[u8]>
     ensures { option_map (λ word. word.now) result ≡ slice_get words.now (place - 1) }
 {
     let before = (place as usize).saturating_sub(1);
@@ -309,7 +309,7 @@ fn flags_with_held_meaning(applet: Applet, flags: Flags, word: &[u8]) -> Option<
 /// was written.
 pub fn explain_usage<S: Sink>(words: &Words, place: u32, sink: &mut S) -> Result<(), SinkFault>
     ensures { Writes (usage_hint_text words.now place)
-        (sink_change S.bytes S.counts sink.old sink.new) result }
+        (sink_before_and_after S.bytes S.counts sink.old sink.new) result }
 {
     write_all(sink, b"apk: ")?;
     write_place(words, place, sink)?;
@@ -319,7 +319,7 @@ pub fn explain_usage<S: Sink>(words: &Words, place: u32, sink: &mut S) -> Result
 // Writes the word at a place, if there is one, and its place.
 fn write_place<S: Sink>(words: &Words, place: u32, sink: &mut S) -> Result<(), SinkFault>
     ensures { Writes (shown_word_with_place place (slice_get words.now (place - 1)))
-        (sink_change S.bytes S.counts sink.old sink.new) result }
+        (sink_before_and_after S.bytes S.counts sink.old sink.new) result }
 {
     match word_at(words, place) {
         Some(word) => write_word(place, word, sink),
@@ -330,7 +330,7 @@ fn write_place<S: Sink>(words: &Words, place: u32, sink: &mut S) -> Result<(), S
 // Writes a wrong word, and its place.
 fn write_word<S: Sink>(place: u32, word: &[u8], sink: &mut S) -> Result<(), SinkFault>
     ensures { Writes (shown_word_with_place place (Some word.now))
-        (sink_change S.bytes S.counts sink.old sink.new) result }
+        (sink_before_and_after S.bytes S.counts sink.old sink.new) result }
 {
     write_front(place, sink)?;
     write_shown(shown_part(word), sink)?;
@@ -339,15 +339,15 @@ fn write_word<S: Sink>(place: u32, word: &[u8], sink: &mut S) -> Result<(), Sink
 
 // Writes what precedes a word that is shown.
 fn write_front<S: Sink>(place: u32, sink: &mut S) -> Result<(), SinkFault>
-    ensures { Writes (text_before_shown_word place) (sink_change S.bytes S.counts sink.old sink.new) result }
+    ensures { Writes (text_before_shown_word place) (sink_before_and_after S.bytes S.counts sink.old sink.new) result }
 {
     let mut digits = Buffer::new();
     write_texts(&[b"word ", digits.format(place).as_bytes(), b", \""], sink)
 }
 
-// The bytes of a word that are shown.
+/// The bytes of a word that are shown.
 #[tactic(auto, using(crate::proofs::Hints::take_within))]
-fn shown_part(word: &[u8]) -> &[u8]
+pub fn shown_part(word: &[u8]) -> &[u8]
     ensures { result.now ≡ take most_shown_bytes word.now }
 {
     if word.len() > LONGEST_SHOWN {
@@ -371,7 +371,7 @@ fn text_after_shown_word(word: &[u8]) -> &'static [u8]
 // Writes bytes as they are shown.
 fn write_shown<S: Sink>(bytes: &[u8], sink: &mut S) -> Result<(), SinkFault>
     ensures { Writes (shown_bytes bytes.now)
-        (sink_change S.bytes S.counts sink.old sink.new) result }
+        (sink_before_and_after S.bytes S.counts sink.old sink.new) result }
 {
     for byte in bytes {
         write_byte(*byte, sink)?;
@@ -381,7 +381,7 @@ fn write_shown<S: Sink>(bytes: &[u8], sink: &mut S) -> Result<(), SinkFault>
 
 // Writes a byte as it is shown.
 fn write_byte<S: Sink>(byte: u8, sink: &mut S) -> Result<(), SinkFault>
-    ensures { Writes (shown_byte byte) (sink_change S.bytes S.counts sink.old sink.new) result }
+    ensures { Writes (shown_byte byte) (sink_before_and_after S.bytes S.counts sink.old sink.new) result }
 {
     if is_plain_byte(byte) {
         return write_all(sink, &[byte]);
@@ -417,7 +417,7 @@ fn hex_digit(number: u8) -> u8
 // Writes texts, one after another.
 fn write_texts<S: Sink>(texts: &[&[u8]], sink: &mut S) -> Result<(), SinkFault>
     ensures { Writes (texts_joined (map (λ text. text.now) texts.now))
-        (sink_change S.bytes S.counts sink.old sink.new) result }
+        (sink_before_and_after S.bytes S.counts sink.old sink.new) result }
 {
     for text in texts {
         write_all(sink, *text)?;

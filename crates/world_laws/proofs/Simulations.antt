@@ -11,7 +11,7 @@ use Rattle.engine_core.specs.change_outcome.ChangeOutcome.{ChangeDone, ChangeWis
 use Rattle.engine_core.specs.change_outcome.ConfigurationLines.{configuration_lines}
 use Rattle.engine_core.specs.change_outcome.Triggers.{trigger_lines}
 use Rattle.command_core.specs.Command.{CommandLine}
-use Rattle.engine_core.specs.Changed.{Selected, change_of_selected, change_of_command, selected_for, simulated_change}
+use Rattle.engine_core.specs.Changed.{InputsAndReplacement, change_of_selected, change_of_command, selected_for, simulated_change}
 use Rattle.engine_core.specs.Choice.{IsChoiceFrom}
 use Rattle.engine_core.specs.Selecting.{pool_of_command}
 use Rattle.engine_core.specs.Wishes.{wishes_of}
@@ -61,7 +61,7 @@ pool_alike : (command : CommandLine) (read : Reads) → pool_of_command (with_si
 unfolding inputs_of
 pool_alike command read = refl
 
-by_selected : IsMadeKnown → (command : CommandLine) (read : Reads) (files : Files) (other clash : Option NamePair) (s : Selected) (simulation done : ChangeDone) → command.flags.simulate ≡ false
+by_selected : IsMadeKnown → (command : CommandLine) (read : Reads) (files : Files) (other clash : Option NamePair) (s : InputsAndReplacement) (simulation done : ChangeDone) → command.flags.simulate ≡ false
     → change_of_selected (with_simulation command) read files other s ≡ Ok simulation → change_of_selected command read files clash s ≡ Ok done → IsReportPredicted simulation.report done.report
 by_selected known command read files other clash s simulation done real e d =
     let first : simulated_change s.replacement (wishes_of command) files ≡ simulation = cc in
@@ -88,12 +88,12 @@ module _ (one : IsOneChoice) (command : CommandLine) (read : Reads) (files : Fil
       let both : Ok first.0 ≡ Ok second.0 = sym first.1 ∙ (selects_alike command read expected ∙ (ap (selected_for command read) (chosen_alike a b) ∙ second.1)) in
       let same : first.0 ≡ second.0 = cc in
       by_selected known command read files other clash second.0 simulation done real
-      (subst (λ (s : Selected). change_of_selected (with_simulation command) read files other s ≡ Ok simulation) same first.2) second.2
+      (subst (λ (s : InputsAndReplacement). change_of_selected (with_simulation command) read files other s ≡ Ok simulation) same first.2) second.2
 
-  refused_both : (x y : Result Selected Refusal) → x ≡ y → (refusal : Refusal) → and_then x (change_of_selected (with_simulation command) read files other) ≡ Err refusal → and_then y (change_of_selected command read files clash) ≡ Err refusal
+  refused_both : (x y : Result InputsAndReplacement Refusal) → x ≡ y → (refusal : Refusal) → and_then x (change_of_selected (with_simulation command) read files other) ≡ Err refusal → and_then y (change_of_selected command read files clash) ≡ Err refusal
   refused_both (Ok s) y same refusal e = absurd (cc (e))
   refused_both (Err first) y same refusal e =
-      ap (λ (z : Result Selected Refusal). and_then z (change_of_selected command read files clash)) (sym same) ∙ (let is : first ≡ refusal = cc in ap (λ (r : Refusal). Err r) is)
+      ap (λ (z : Result InputsAndReplacement Refusal). and_then z (change_of_selected command read files clash)) (sym same) ∙ (let is : first ≡ refusal = cc in ap (λ (r : Refusal). Err r) is)
 
   pub refused_alike : (refusal : Refusal) → IsChoiceFrom (pool_of_command (with_simulation command) read) expected → IsChoiceFrom (pool_of_command command read) chosen
       → change_of_command (with_simulation command) read files expected other ≡ Err refusal → change_of_command command read files chosen clash ≡ Err refusal

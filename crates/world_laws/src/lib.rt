@@ -18,7 +18,7 @@ ghost use Rattle.base_core.specs.Files.{Files};
 ghost use Rattle.engine_core.specs.change_files.FileChange.{FileChange};
 ghost use Rattle.engine_core.specs.change_outcome.ChangeOutcome.{ChangeDone, ChangeWishes, change_report};
 ghost use Rattle.command_core.specs.Command.{CommandLine};
-ghost use Rattle.engine_core.specs.Changed.{Selected, change_of_command, selected_for};
+ghost use Rattle.engine_core.specs.Changed.{InputsAndReplacement, change_of_command, selected_for};
 ghost use Rattle.engine_core.specs.Choice.{IsPreferredChoice, IsChoiceFrom};
 ghost use Rattle.engine_core.specs.Selecting.{pool_of_command};
 ghost use Rattle.engine_core.specs.Wishes.{unknown_operand_place};
@@ -122,12 +122,12 @@ pub fn a_command_chooses_from_its_indexes_and_its_database()
 pub fn the_selected_packages_satisfy_the_new_world()
     // They satisfy it.
     ensures satisfied { (command : CommandLine) (read : Reads) (chosen : Option (List ℕ))
-        (s : Selected) → IsChoiceFrom (pool_of_command command read) chosen
+        (s : InputsAndReplacement) → IsChoiceFrom (pool_of_command command read) chosen
         → selected_for command read chosen ≡ Ok s
         → SatisfyWorld (candidates_of s.inputs) s.inputs.root.new_world s.replacement.selected }
     // Each is needed.
     ensures needed { (command : CommandLine) (read : Reads) (chosen : Option (List ℕ))
-        (s : Selected) (c : Candidate) → IsChoiceFrom (pool_of_command command read) chosen
+        (s : InputsAndReplacement) (c : Candidate) → IsChoiceFrom (pool_of_command command read) chosen
         → selected_for command read chosen ≡ Ok s → IsIn c s.replacement.selected
         → IsNeeded (candidates_of s.inputs) s.inputs.root.new_world s.replacement.selected c }
 {}

@@ -9,10 +9,10 @@ ghost use Rattle.dep_core.specs.Meets.{dependency};
 ghost use Rattle.search_tables.specs.candidate_core.Candidates.{entry, occupies_name};
 ghost use Rattle.search_tables.specs.candidate_core.Options.{IsIn};
 ghost use Rattle.search_tables.specs.candidate_core.PackageMatches.{AreMatchesAmong};
-ghost use Rattle.search_tables.specs.candidate_core.Rank.{candidate_at, candidate_at_passes};
+ghost use Rattle.search_tables.specs.candidate_core.Rank.{candidate_at_passes};
 ghost use Rattle.search_choices.specs.Choices.{IsConsistent, choices_of, pool_of};
-ghost use Rattle.search_tables.specs.Conflicts.{AreConflictsOf};
-ghost use Rattle.search_tables.specs.Excluders.{IsConflictTable, IsExcluder, IsNotExcludedAt};
+ghost use Rattle.search_choices.specs.ExcluderSearch.{FindsExcluder, HasConflictsOfChoices, IsUnchosenCandidate};
+ghost use Rattle.search_tables.specs.Excluders.{IsExcludingChoice, IsNotExcludedAt};
 ghost use Rattle.search_tables.specs.Selection.{exclude_each_other, is_met, occupied_names};
 
 use super::Choices;
@@ -39,7 +39,7 @@ impl<'p> Choices<'p> {
         ensures found { IfOk result (λ found. MatchOption found
             ((k : ℕ) → IsIn k (choices_of self.now) →
             exclude_each_other (pool_of self.now) k id ≡ false)
-            (λ k. IsExcluder (pool_of self.now) (choices_of self.now) id k)) }
+            (λ k. IsExcludingChoice (pool_of self.now) (choices_of self.now) id k)) }
         ensures matches { OnOk result (AreMatchesAmong (pool_of self.now).candidates matches.new) }
     {
         let details = self.pool.details(id);
@@ -58,22 +58,17 @@ impl<'p> Choices<'p> {
         id: CandId,
         matches: &mut PackageMatches<'_>,
     ) -> Result<Option<CandId>, AllocError>
-        requires listed { IsConflictTable (pool_of self.now)
-            (choices_of self.now) self.now.conflicts }
-        requires conflicts { AreConflictsOf (pool_of self.now).candidates
-            self.now.conflicts.by_name }
-        requires here { candidate_at (pool_of self.now) id ≡ Some details.now }
-        requires once { IsIn id (choices_of self.now) → ⊥ }
+        requires choices { HasConflictsOfChoices self.now }
+        requires candidate { IsUnchosenCandidate self.now id details.now }
         requires matches { AreMatchesAmong (pool_of self.now).candidates matches.old }
-        ensures found { IfOk result (λ found. MatchOption found
+        ensures { FindsExcluder self.now id
             (((p : Dependency) → IsIn p details.now.provides →
             p.conflict ≡ false → IsNotExcludedAt (pool_of self.now)
             (choices_of self.now) details.now
             p.name (is_some p.version))
             × ((d : Dependency) → IsIn d details.now.depends →
             d.conflict ≡ true → is_met (pool_of self.now) (choices_of self.now) (entry d) ≡ false))
-            (λ k. IsExcluder (pool_of self.now) (choices_of self.now) id k)) }
-        ensures matches { OnOk result (AreMatchesAmong (pool_of self.now).candidates matches.new) }
+            matches.new result }
     {
         let provided = self.excluder_by_provides(details, id, matches)?;
         match provided {
@@ -92,19 +87,14 @@ impl<'p> Choices<'p> {
         id: CandId,
         matches: &mut PackageMatches<'_>,
     ) -> Result<Option<CandId>, AllocError>
-        requires listed { IsConflictTable (pool_of self.now)
-            (choices_of self.now) self.now.conflicts }
-        requires conflicts { AreConflictsOf (pool_of self.now).candidates
-            self.now.conflicts.by_name }
-        requires here { candidate_at (pool_of self.now) id ≡ Some details.now }
-        requires once { IsIn id (choices_of self.now) → ⊥ }
+        requires choices { HasConflictsOfChoices self.now }
+        requires candidate { IsUnchosenCandidate self.now id details.now }
         requires occupied { is_occupied ≡ true → IsIn name.now (occupied_names details.now) }
         requires matches { AreMatchesAmong (pool_of self.now).candidates matches.old }
-        ensures found { IfOk result (λ found. MatchOption found
+        ensures { FindsExcluder self.now id
             (IsNotExcludedAt (pool_of self.now)
             (choices_of self.now) details.now name.now is_occupied)
-            (λ k. IsExcluder (pool_of self.now) (choices_of self.now) id k)) }
-        ensures matches { OnOk result (AreMatchesAmong (pool_of self.now).candidates matches.new) }
+            matches.new result }
     {
         let against = self.conflicts.choice_against(name, id, matches)?;
         match against {
@@ -134,20 +124,15 @@ impl<'p> Choices<'p> {
         id: CandId,
         matches: &mut PackageMatches<'_>,
     ) -> Result<Option<CandId>, AllocError>
-        requires listed { IsConflictTable (pool_of self.now)
-            (choices_of self.now) self.now.conflicts }
-        requires conflicts { AreConflictsOf (pool_of self.now).candidates
-            self.now.conflicts.by_name }
-        requires here { candidate_at (pool_of self.now) id ≡ Some details.now }
-        requires once { IsIn id (choices_of self.now) → ⊥ }
+        requires choices { HasConflictsOfChoices self.now }
+        requires candidate { IsUnchosenCandidate self.now id details.now }
         requires matches { AreMatchesAmong (pool_of self.now).candidates matches.old }
-        ensures found { IfOk result (λ found. MatchOption found
+        ensures { FindsExcluder self.now id
             ((p : Dependency) → IsIn p details.now.provides →
             p.conflict ≡ false → IsNotExcludedAt (pool_of self.now)
             (choices_of self.now) details.now
             p.name (is_some p.version))
-            (λ k. IsExcluder (pool_of self.now) (choices_of self.now) id k)) }
-        ensures matches { OnOk result (AreMatchesAmong (pool_of self.now).candidates matches.new) }
+            matches.new result }
     {
         let provides = details.provides();
         for i in 0..provides.len() {
@@ -169,20 +154,15 @@ impl<'p> Choices<'p> {
         id: CandId,
         matches: &mut PackageMatches<'_>,
     ) -> Result<Option<CandId>, AllocError>
-        requires listed { IsConflictTable (pool_of self.now)
-            (choices_of self.now) self.now.conflicts }
-        requires conflicts { AreConflictsOf (pool_of self.now).candidates
-            self.now.conflicts.by_name }
-        requires here { candidate_at (pool_of self.now) id ≡ Some details.now }
-        requires once { IsIn id (choices_of self.now) → ⊥ }
+        requires choices { HasConflictsOfChoices self.now }
+        requires candidate { IsUnchosenCandidate self.now id details.now }
         requires provided { IsIn (dependency entry.now) details.now.provides }
         requires matches { AreMatchesAmong (pool_of self.now).candidates matches.old }
-        ensures found { IfOk result (λ found. MatchOption found
+        ensures { FindsExcluder self.now id
             ((dependency entry.now).conflict ≡ false →
             IsNotExcludedAt (pool_of self.now) (choices_of self.now) details.now
             (dependency entry.now).name (is_some (dependency entry.now).version))
-            (λ k. IsExcluder (pool_of self.now) (choices_of self.now) id k)) }
-        ensures matches { OnOk result (AreMatchesAmong (pool_of self.now).candidates matches.new) }
+            matches.new result }
     {
         if entry.conflict {
             return Ok(None);
@@ -197,14 +177,12 @@ impl<'p> Choices<'p> {
         id: CandId,
         matches: &mut PackageMatches<'_>,
     ) -> Result<Option<CandId>, AllocError>
-        requires here { candidate_at (pool_of self.now) id ≡ Some details.now }
-        requires once { IsIn id (choices_of self.now) → ⊥ }
+        requires candidate { IsUnchosenCandidate self.now id details.now }
         requires matches { AreMatchesAmong (pool_of self.now).candidates matches.old }
-        ensures found { IfOk result (λ found. MatchOption found
+        ensures { FindsExcluder self.now id
             ((d : Dependency) → IsIn d details.now.depends →
             d.conflict ≡ true → is_met (pool_of self.now) (choices_of self.now) (entry d) ≡ false)
-            (λ k. IsExcluder (pool_of self.now) (choices_of self.now) id k)) }
-        ensures matches { OnOk result (AreMatchesAmong (pool_of self.now).candidates matches.new) }
+            matches.new result }
     {
         let depends = details.depends();
         for i in 0..depends.len() {
@@ -226,15 +204,13 @@ impl<'p> Choices<'p> {
         id: CandId,
         matches: &mut PackageMatches<'_>,
     ) -> Result<Option<CandId>, AllocError>
-        requires here { candidate_at (pool_of self.now) id ≡ Some details.now }
-        requires once { IsIn id (choices_of self.now) → ⊥ }
+        requires candidate { IsUnchosenCandidate self.now id details.now }
         requires depends { slice_get details.now.depends index ≡ Some (dependency dep.now) }
         requires matches { AreMatchesAmong (pool_of self.now).candidates matches.old }
-        ensures found { IfOk result (λ found. MatchOption found
+        ensures { FindsExcluder self.now id
             ((dependency dep.now).conflict ≡ true →
             is_met (pool_of self.now) (choices_of self.now) (entry (dependency dep.now)) ≡ false)
-            (λ k. IsExcluder (pool_of self.now) (choices_of self.now) id k)) }
-        ensures matches { OnOk result (AreMatchesAmong (pool_of self.now).candidates matches.new) }
+            matches.new result }
     {
         if !dep.conflict {
             return Ok(None);

@@ -1,8 +1,10 @@
 use Rattle.apk_front.proofs.Dumping.{dump_found, dump_read}
+use Rattle.apk_front.proofs.ReadingRuns.{reads_on}
 use Rattle.apk_front.proofs.dump.adbdump.Goals as goal
 
-pub returns-clause-found : goal.returns-clause-found
-returns-clause-found g c = dump_found _ c.args.operands.now c.get.result.now c.file.result.now c.in_ok-verdict.verdict _ c.requires.one c.get.ensures c.file.ensures c.in_ok-verdict.ensures c.in_ok-found.ensures.answer
-
-pub returns-clause-by_reads : goal.returns-clause-by_reads
-returns-clause-by_reads g c = dump_read c.args.operands.now c.get.result.now c.in_ok-verdict.verdict _ c.requires.one c.get.ensures c.in_ok-verdict.ensures
+pub returns : goal.returns
+returns g c = record {
+  found = dump_found _ c.args.operands.now c.get.result.now c.file.result.now c.in_ok-verdict.verdict _ c.requires.one c.get.ensures c.file.ensures c.in_ok-verdict.ensures c.in_ok-found.ensures.answer;
+  by_reads = dump_read c.args.operands.now c.get.result.now c.in_ok-verdict.verdict _ c.requires.one c.get.ensures c.in_ok-verdict.ensures;
+  tree = reads_on _ _ _ _ _ _ c.in_ok-found.ensures.tree;
+}

@@ -14,7 +14,7 @@ returns-clause-complete g c =
     (answered _ _ _ _ c.judge-judged.result _ _ _ c.judge-judged.ensures.run.found c.judge-judged.ensures.run.tree c.judge-judged.ensures.run.counts.disk c.show.ensures.shown)
 
 pub returns-clause-every_tree : goal.returns-clause-every_tree
-returns-clause-every_tree g c = answered_by_words _ c.judge-judged.result _ _ _ c.judge-judged.ensures.by_words c.show.ensures.shown
+returns-clause-every_tree g c = answered_by_words _ c.judge-judged.result _ _ _ (λ only. (c.judge-judged.ensures.by_arguments only).by_words) c.show.ensures.shown
 
 pub returns-clause-causes : goal.returns-clause-causes
 returns-clause-causes g c =
@@ -71,3 +71,6 @@ returns-clause-promised g c = c.judge-judged.ensures.run.promised
 
 pub returns-clause-tree_counts : goal.returns-clause-tree_counts
 returns-clause-tree_counts g c = c.judge-judged.ensures.run.counts.goes_on
+
+pub returns-clause-untouched : goal.returns-clause-untouched
+returns-clause-untouched g c = λ only. (c.judge-judged.ensures.by_arguments only).untouched

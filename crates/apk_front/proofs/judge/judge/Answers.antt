@@ -1,5 +1,5 @@
-use Rattle.std.proofs.Common.{Ok}
-use Rattle.apk_front.proofs.Carried.{by_command, failed_run, found_by_command, proper_by_command, run_by_command, usage_reported, usage_run, words_by_command}
+use Rattle.std.proofs.Common.{Ok, refl}
+use Rattle.apk_front.proofs.Carried.{arguments_by_command, by_command, failed_run, found_by_command, proper_by_command, run_by_command, usage_reported, usage_run}
 use Rattle.apk_front.proofs.Judged.{usage_found, usage_verdict}
 use Rattle.apk_front.proofs.Named.{command_named, memory_named_so}
 use Rattle.apk_front.proofs.Promised.{asked_by_command, asked_idle}
@@ -16,8 +16,8 @@ returns-in-Ok-clause-run g c = record {
   proper = proper_by_command c.args.words.now _ _ _ c.in-Ok.ensures.ok c.run_command.ensures.run.proper;
 }
 
-pub returns-in-Ok-clause-by_words : goal.returns-in-Ok-clause-by_words
-returns-in-Ok-clause-by_words g c = words_by_command c.args.words.now _ c.run_command.result c.in-Ok.ensures.ok c.run_command.ensures.by_words
+pub returns-in-Ok-clause-by_arguments : goal.returns-in-Ok-clause-by_arguments
+returns-in-Ok-clause-by_arguments g c = arguments_by_command c.args.words.now _ _ _ c.run_command.result c.in-Ok.ensures.ok c.run_command.ensures.by_arguments
 
 pub returns-in-Ok-clause-named : goal.returns-in-Ok-clause-named
 returns-in-Ok-clause-named g c = λ memory. command_named c.args.words.now _ c.in-Ok.ensures.ok
@@ -33,9 +33,11 @@ returns-in-Err-Usage-clause-run g c = record {
   proper = proper_idle _ _ _;
 }
 
-pub returns-in-Err-Usage-clause-by_words : goal.returns-in-Err-Usage-clause-by_words
-returns-in-Err-Usage-clause-by_words g c = λ rests.
-    usage_verdict c.args.words.now _ _ _ c.refused.result c.in-Err-Usage.place-is c.in-Err-Usage.field-0-is c.in-Err-Usage.ensures.usage c.refused.ensures
+pub returns-in-Err-Usage-clause-by_arguments : goal.returns-in-Err-Usage-clause-by_arguments
+returns-in-Err-Usage-clause-by_arguments g c = λ rests. record {
+  by_words = usage_verdict c.args.words.now _ _ _ c.refused.result c.in-Err-Usage.place-is c.in-Err-Usage.field-0-is c.in-Err-Usage.ensures.usage c.refused.ensures;
+  untouched = refl;
+}
 
 pub returns-in-Err-Memory-clause-run : goal.returns-in-Err-Memory-clause-run
 returns-in-Err-Memory-clause-run g c = record {
@@ -46,6 +48,9 @@ returns-in-Err-Memory-clause-run g c = record {
   counts = counted_memory _;
   proper = proper_idle _ _ _;
 }
+
+pub returns-in-Err-Memory-clause-by_arguments : goal.returns-in-Err-Memory-clause-by_arguments
+returns-in-Err-Memory-clause-by_arguments g c = λ rests. record { by_words = refl; untouched = refl }
 
 pub returns-in-Err-Memory-clause-named : goal.returns-in-Err-Memory-clause-named
 returns-in-Err-Memory-clause-named g c = λ memory. memory_named_so c.args.words.now _ c.in-Err-Memory.field-0-is c.in-Err-Memory.ensures.memory

@@ -15,8 +15,7 @@ returns-in-Write g c =
     let writes = writes_by_access c.args.command.now c.applet.result c.applet_access.result c.applet.ensures.value c.applet_access.ensures c.in-Write.is in
     record {
       run = c.recover_and_run.ensures;
-      by_words = λ rests. absurd (not_on_words (effect_of c.args.command.now.applet) writes rests);
-      untouched = λ rests. absurd (not_on_words (effect_of c.args.command.now.applet) writes rests);
+      by_arguments = λ rests. absurd (not_on_words (effect_of c.args.command.now.applet) writes rests);
       same = λ only. absurd (true≢false (sym only ∙ writes));
     }
 
@@ -28,14 +27,13 @@ returns-in-Read g c =
     let reads = reads_by_access c.args.command.now c.applet.result c.applet_access.result c.applet.ensures.value c.applet_access.ensures c.in-Read.is in
     record {
       run = record {
-        found = look_found c.args.command.now _ c.look.result reads c.look.ensures.found;
-        by_reads = look_read c.args.command.now c.look.result reads c.look.ensures.by_reads;
-        tree = look_run c.args.command.now _ _ c.look.result reads c.look.ensures.tree.same;
+        found = look_found c.args.command.now _ c.look.result reads c.look.ensures.run.found;
+        by_reads = look_read c.args.command.now c.look.result reads c.look.ensures.run.by_reads;
+        tree = look_run c.args.command.now _ _ c.look.result reads c.look.ensures.run.tree.same;
         promised = λ changes. absurd (changes_not_read (effect_of c.args.command.now.applet) reads changes);
-        counts = counted_reads c.look.result _ _ _ _ c.look.ensures.tree;
-        proper = proper_anyway _ _ _ c.look.ensures.tree.proper;
+        counts = counted_reads c.look.result _ _ _ _ c.look.ensures.run.tree;
+        proper = proper_anyway _ _ _ c.look.ensures.run.tree.proper;
       };
-      by_words = c.look.ensures.by_words;
-      untouched = c.look.ensures.untouched;
-      same = λ only. c.look.ensures.tree.same;
+      by_arguments = c.look.ensures.by_arguments;
+      same = λ only. c.look.ensures.run.tree.same;
     }

@@ -1,5 +1,5 @@
 use Rattle.apk_front.proofs.Demos.{demo_by_reads, demo_by_words, demo_found, demo_run, never_disk, other_by_reads, other_by_words, other_found, other_proper, other_run}
-use Rattle.std.proofs.Common.{sym, ◌∙◌}
+use Rattle.std.proofs.Common.{refl, sym, ◌∙◌}
 use Rattle.apk_front.proofs.Promised.{changes_not_demo}
 use Rattle.apk_front.proofs.VerdictCounts.{counted_idle, proper_idle}
 use Rattle.apk_front.proofs.judge.run_command.Goals as goal
@@ -14,9 +14,11 @@ returns-in-Demo-clause-run g c = record {
   proper = proper_idle _ _ _;
 }
 
-pub returns-in-Demo-clause-by_words : goal.returns-in-Demo-clause-by_words
-returns-in-Demo-clause-by_words g c = λ rests.
-    demo_by_words c.args.command.now c.applet.result c.operands.result.now c.demo.result c.applet.ensures.value c.in-Demo.is c.operands.ensures.value c.demo.ensures
+pub returns-in-Demo-clause-by_arguments : goal.returns-in-Demo-clause-by_arguments
+returns-in-Demo-clause-by_arguments g c = λ rests. record {
+  by_words = demo_by_words c.args.command.now c.applet.result c.operands.result.now c.demo.result c.applet.ensures.value c.in-Demo.is c.operands.ensures.value c.demo.ensures;
+  untouched = refl;
+}
 
 pub returns-in_default-clause-run : goal.returns-in_default-clause-run
 returns-in_default-clause-run g c = record {
@@ -28,5 +30,8 @@ returns-in_default-clause-run g c = record {
   proper = other_proper c.args.command.now c.applet.result _ _ c.applet.ensures.value c.in_default.not-Demo c.run.ensures.run.proper;
 }
 
-pub returns-in_default-clause-by_words : goal.returns-in_default-clause-by_words
-returns-in_default-clause-by_words g c = other_by_words c.args.command.now c.applet.result c.run.result c.applet.ensures.value c.in_default.not-Demo c.run.ensures.by_words
+pub returns-in_default-clause-by_arguments : goal.returns-in_default-clause-by_arguments
+returns-in_default-clause-by_arguments g c = λ rests. record {
+  by_words = other_by_words c.args.command.now c.applet.result c.run.result c.applet.ensures.value c.in_default.not-Demo (λ only. (c.run.ensures.by_arguments only).by_words) rests;
+  untouched = (c.run.ensures.by_arguments rests).untouched;
+}

@@ -1,6 +1,7 @@
 use Rattle.std.proofs.Common.{◌∙◌}
 use Rattle.apk_front.proofs.Containers.{package_outcomes, package_output, package_read, proper_by, runs, reports_one}
 use Rattle.apk_front.proofs.NothingFailed.{counted_both}
+use Rattle.apk_front.proofs.Runs.{refused_behind}
 use Rattle.apk_front.proofs.make.mkpkg.Goals as goal
 
 pub finish-requires-clause-output : goal.finish-requires-clause-output
@@ -15,8 +16,11 @@ returns-clause-by_reads g c =
     package_read c.args.command.now _ c.package-container.result c.finish.result (c.from_vec-report.ensures ∙ c.new.ensures.items) c.package-container.ensures.found c.finish.ensures.done c.finish.ensures.reported
 
 pub returns-clause-run : goal.returns-clause-run
-returns-clause-run g c =
-    runs _ _ _ _ (package_outcomes c.files_have_one_list_of_names.ensures.one c.args.command.now _ (c.from_vec-report.ensures ∙ c.new.ensures.items)) c.package-container.result c.finish.result _ _ _ c.package-container.ensures.tree.same c.package-container.ensures.made c.finish.ensures.done c.finish.ensures.cut c.finish.ensures.run
+returns-clause-run g c = record {
+  tree = runs _ _ _ _ (package_outcomes c.files_have_one_list_of_names.ensures.one c.args.command.now _ (c.from_vec-report.ensures ∙ c.new.ensures.items)) c.package-container.result c.finish.result _ _ _ c.package-container.ensures.tree.same c.package-container.ensures.made c.finish.ensures.done c.finish.ensures.cut c.finish.ensures.run.tree;
+  refused = refused_behind c.finish.result _ _ _ c.package-container.ensures.tree.same c.finish.ensures.run.refused;
+  undone = λ none. c.finish.ensures.run.undone none ∙ c.package-container.ensures.tree.same;
+}
 
 pub returns-clause-proper : goal.returns-clause-proper
 returns-clause-proper g c =

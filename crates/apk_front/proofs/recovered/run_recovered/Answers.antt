@@ -12,8 +12,8 @@ returns-in-Mkpkg-clause-run g c =
     record {
       found = package_found_one c.args.command.now _ c.mkpkg.result is c.mkpkg.ensures.found;
       by_reads = package_read_one c.args.command.now c.mkpkg.result is c.mkpkg.ensures.by_reads;
-      tree = package_run c.args.command.now c.mkpkg.result _ _ is c.mkpkg.ensures.run;
-      undone = undone_anyway _ _ c.mkpkg.ensures.undone;
+      tree = package_run c.args.command.now c.mkpkg.result _ _ is c.mkpkg.ensures.run.tree;
+      undone = undone_anyway _ _ c.mkpkg.ensures.run.undone;
       counts = c.mkpkg.ensures.counts;
       proper = package_proper c.args.command.now _ _ is c.mkpkg.ensures.proper;
     }
@@ -24,8 +24,8 @@ returns-in-Mkndx-clause-run g c =
     record {
       found = index_found_one c.args.command.now _ c.mkndx.result is c.mkndx.ensures.found;
       by_reads = index_read_one c.args.command.now c.mkndx.result is c.mkndx.ensures.by_reads;
-      tree = index_run c.args.command.now c.mkndx.result _ _ is c.mkndx.ensures.run;
-      undone = undone_anyway _ _ c.mkndx.ensures.undone;
+      tree = index_run c.args.command.now c.mkndx.result _ _ is c.mkndx.ensures.run.tree;
+      undone = undone_anyway _ _ c.mkndx.ensures.run.undone;
       counts = c.mkndx.ensures.counts;
       proper = index_proper c.args.command.now _ _ is c.mkndx.ensures.proper;
     }

@@ -18,14 +18,8 @@ use Rattle.candidate_core.proofs.WantedVersions.{any_next, any_of_all}
 use Rattle.candidate_core.proofs.ReadWords.{word_sound, word_value, word_within}
 use Rattle.candidate_core.proofs.versions.any_entry_meets.Goals as goal
 
-pub entry_meets-requires-clause-sound : goal.entry_meets-requires-clause-sound
-entry_meets-requires-clause-sound c =
-    let ws : List ℕ = array_entries c.objects_field-entries.result in
-    let within : c.loop-i.i < length ws = omega (arith, c.len-i-end.ensures.value, c.loop-i-test.true) in
-    word_sound (payload_of c.args.source.now.adb) (Kinds.Obj Tables.Dep) ws c.loop-i.i c.entry_word-entry.result c.objects_field-entries.ensures.sound within c.entry_word-entry.ensures
-
-pub entry_meets-requires-clause-texts : goal.entry_meets-requires-clause-texts
-entry_meets-requires-clause-texts c = λ known.
+pub entry_meets-requires : goal.entry_meets-requires
+entry_meets-requires c =
     let p : List ℕ = payload_of c.args.source.now.adb in
     let ws : List ℕ = array_entries c.objects_field-entries.result in
     let i : ℕ = c.loop-i.i in
@@ -40,7 +34,10 @@ entry_meets-requires-clause-texts c = λ known.
     let value : value_at p (Kinds.Obj Tables.Dep) word ≡ entry_in list i =
     word_value p (Kinds.Obj Tables.Dep) ws i word sound within c.entry_word-entry.ensures
     ∙ (ap (λ (l : Plain). nth (entries_in l) ((i + 1) - 1)) same ∙ ap (nth (entries_in list)) z) in
-    subst IsSoundDependency (sym value) ((c.requires.texts known).provides i there)
+    record {
+      sound = word_sound p (Kinds.Obj Tables.Dep) ws i word sound within c.entry_word-entry.ensures;
+      texts = λ known. subst IsSoundDependency (sym value) ((c.requires.texts known).provides i there);
+    }
 
 pub returns-then-by_entry : goal.returns-then-by_entry
 returns-then-by_entry c = λ text of known.

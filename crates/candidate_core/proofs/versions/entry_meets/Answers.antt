@@ -14,9 +14,9 @@ returns-in-Some c =
     let meets : Dependency → Bool = is_met_by_entry (dependency c.args.dep.now) in
     if_ok_map _ _ (λ answer h text of known.
     let one = h text of known in
-    (one_entry meets (dependency c.in-Some.found) (dependency_in (value_at (payload_of c.args.source.now.adb) (Kinds.Obj Tables.Dep) c.args.entry)) answer c.in-Some.ensures one.0, one.1))
+    (one_entry meets (dependency c.in-Some.found) (dependency_in (value_at (payload_of c.args.source.now.adb) (Kinds.Obj Tables.Dep) c.args.word)) answer c.in-Some.ensures one.0, one.1))
     c.found_entry_meets.result c.found_entry_meets.ensures
 
 pub returns-in-None : goal.returns-in-None
 returns-in-None c = λ text of known.
-    (no_entry (is_met_by_entry (dependency c.args.dep.now)) (dependency_in (value_at (payload_of c.args.source.now.adb) (Kinds.Obj Tables.Dep) c.args.entry)) c.in-None.ensures, known)
+    (no_entry (is_met_by_entry (dependency c.args.dep.now)) (dependency_in (value_at (payload_of c.args.source.now.adb) (Kinds.Obj Tables.Dep) c.args.word)) c.in-None.ensures, known)

@@ -1,4 +1,4 @@
-use Rattle.std.proofs.Common.{◌≡◌, ◌∙◌, ◌+◌, ◌-◌, ◌<◌, List, ℕ, Bool, length, ap, sym, subst, arith}
+use Rattle.std.proofs.Common.{◌≡◌, ◌∙◌, ◌+◌, ◌-◌, ◌<◌, List, ℕ, Bool, length, refl, ap, sym, subst, arith}
 use Rattle.std.specs.Prelude.{Option}
 use Rattle.std.specs.List.{find}
 use Rattle.std.specs.Option.{option_and_then}
@@ -24,26 +24,8 @@ use Rattle.candidate_core.proofs.versions.provided_version.Goals.{in-Some+else-i
 abbrev version_of : Option Dependency → Option (List ℕ)
 version_of = option_and_then (λ (p : Dependency). p.version)
 
-pub read_entry-requires-clause-sound : goal.read_entry-requires-clause-sound
-read_entry-requires-clause-sound c =
-    let ws : List ℕ = array_entries c.objects_field-entries.result in
-    let within : c.loop-i.i < length ws = omega (arith, c.len-i-end.ensures.value, c.loop-i-test.true) in
-    word_sound (payload_of c.args.source.now.adb) (Kinds.Obj Tables.Dep) ws c.loop-i.i c.entry_word-entry.result c.objects_field-entries.ensures.sound within c.entry_word-entry.ensures
-
-pub is_met_as_known-requires-clause-sound : goal.is_met_as_known-requires-clause-sound
-is_met_as_known-requires-clause-sound c =
-    let ws : List ℕ = array_entries c.objects_field-entries.result in
-    let within : c.loop-i.i < length ws = omega (arith, c.len-i-end.ensures.value, c.loop-i-test.true) in
-    word_sound (payload_of c.args.source.now.adb) (Kinds.Obj Tables.Dep) ws c.loop-i.i c.entry_word-entry.result c.objects_field-entries.ensures.sound within c.entry_word-entry.ensures
-
-pub version_of_entry-requires-clause-sound : goal.version_of_entry-requires-clause-sound
-version_of_entry-requires-clause-sound c =
-    let ws : List ℕ = array_entries c.objects_field-entries.result in
-    let within : c.loop-i.i < length ws = omega (arith, c.len-i-end.ensures.value, c.loop-i-test.true) in
-    word_sound (payload_of c.args.source.now.adb) (Kinds.Obj Tables.Dep) ws c.loop-i.i c.entry_word-entry.result c.objects_field-entries.ensures.sound within c.entry_word-entry.ensures
-
-pub read_entry-requires-clause-texts : goal.read_entry-requires-clause-texts
-read_entry-requires-clause-texts c = λ known.
+pub read_entry-requires : goal.read_entry-requires
+read_entry-requires c =
     let p : List ℕ = payload_of c.args.source.now.adb in
     let ws : List ℕ = array_entries c.objects_field-entries.result in
     let i : ℕ = c.loop-i.i in
@@ -58,10 +40,31 @@ read_entry-requires-clause-texts c = λ known.
     let value : value_at p (Kinds.Obj Tables.Dep) word ≡ entry_in list i =
     word_value p (Kinds.Obj Tables.Dep) ws i word sound within c.entry_word-entry.ensures
     ∙ (ap (λ (l : Plain). nth (entries_in l) ((i + 1) - 1)) same ∙ ap (nth (entries_in list)) z) in
-    subst IsSoundDependency (sym value) ((c.requires.package.texts known).provides i there)
+    record {
+      sound = word_sound p (Kinds.Obj Tables.Dep) ws i word sound within c.entry_word-entry.ensures;
+      texts = λ known. subst IsSoundDependency (sym value) ((c.requires.package.texts known).provides i there);
+    }
 
-pub returns-then-is_met_as_known-clause-version : goal.returns-then-is_met_as_known-clause-version
-returns-then-is_met_as_known-clause-version c =
+pub is_met_as_known-requires-clause-entry : goal.is_met_as_known-requires-clause-entry
+is_met_as_known-requires-clause-entry c =
+    let ws : List ℕ = array_entries c.objects_field-entries.result in
+    let within : c.loop-i.i < length ws = omega (arith, c.len-i-end.ensures.value, c.loop-i-test.true) in
+    record {
+      sound = word_sound (payload_of c.args.source.now.adb) (Kinds.Obj Tables.Dep) ws c.loop-i.i c.entry_word-entry.result c.objects_field-entries.ensures.sound within c.entry_word-entry.ensures;
+      found = c.in-Some.ensures;
+    }
+
+pub version_of_entry-requires : goal.version_of_entry-requires
+version_of_entry-requires c =
+    let ws : List ℕ = array_entries c.objects_field-entries.result in
+    let within : c.loop-i.i < length ws = omega (arith, c.len-i-end.ensures.value, c.loop-i-test.true) in
+    record {
+      sound = word_sound (payload_of c.args.source.now.adb) (Kinds.Obj Tables.Dep) ws c.loop-i.i c.entry_word-entry.result c.objects_field-entries.ensures.sound within c.entry_word-entry.ensures;
+      found = c.in-Some.ensures;
+    }
+
+pub returns-then-is_met_as_known : goal.returns-then-is_met_as_known
+returns-then-is_met_as_known c =
     let p : List ℕ = payload_of c.args.source.now.adb in
     let ws : List ℕ = array_entries c.objects_field-entries.result in
     let i : ℕ = c.loop-i.i in
@@ -75,9 +78,13 @@ returns-then-is_met_as_known-clause-version c =
     let value : value_at p (Kinds.Obj Tables.Dep) word ≡ nth (entries_in list) ((i + 1) - 1) =
     word_value p (Kinds.Obj Tables.Dep) ws i word sound within c.entry_word-entry.ensures
     ∙ ap (λ (l : Plain). nth (entries_in l) ((i + 1) - 1)) same in
-    c.version_of_entry.ensures.version
-    ∙ sym (ap version_of (first_found (is_met_by_entry (dependency c.args.dep.now)) i (entries_in list) (value_at p (Kinds.Obj Tables.Dep) word) (dependency c.in-Some.found) there value
-    c.in-Some.ensures c.loop-i.invariant (sym c.is_met_as_known.ensures ∙ c.if-is_met_as_known.true)))
+    record {
+      version = c.version_of_entry.ensures.version
+          ∙ sym (ap version_of (first_found (is_met_by_entry (dependency c.args.dep.now)) i (entries_in list) (value_at p (Kinds.Obj Tables.Dep) word) (dependency c.in-Some.found) there value
+          c.in-Some.ensures c.loop-i.invariant (sym c.is_met_as_known.ensures ∙ c.if-is_met_as_known.true)));
+      source = c.version_of_entry.ensures.source;
+      text = c.version_of_entry.ensures.text;
+    }
 
 pub loop-i-preserved : goal.loop-i-preserved
 loop-i-preserved c =
@@ -102,8 +109,8 @@ loop-i-preserved c =
       | in_default w ↦ no_dependency meets i (entries_in list) (value_at p (Kinds.Obj Tables.Dep) word) there value w.in_default.ensures c.loop-i.invariant
     ]
 
-pub returns-clause-version : goal.returns-clause-version
-returns-clause-version c =
+pub returns : goal.returns
+returns c =
     let p : List ℕ = payload_of c.args.source.now.adb in
     let ws : List ℕ = array_entries c.objects_field-entries.result in
     let list : Plain = entry_in (info_in_source c.args.source.now c.args.kept.word) 15 in
@@ -112,4 +119,8 @@ returns-clause-version c =
     let count : length ws ≡ count_of values = entry_count p (Kinds.Obj Tables.Dep) ws c.objects_field-entries.ensures.sound ∙ ap (λ (l : Plain). count_of (entries_in l)) same in
     let last : c.loop-i.i ≡ count_of values = omega (arith, count, c.len-i-end.ensures.value, c.loop-i-test.false) in
     let all = ap (λ (n : ℕ). dependencies_to n values) last ∙ all_dependencies values in
-    sym (ap version_of (ap (find (is_met_by_entry (dependency c.args.dep.now))) (sym all) ∙ c.loop-i.invariant))
+    record {
+      version = sym (ap version_of (ap (find (is_met_by_entry (dependency c.args.dep.now))) (sym all) ∙ c.loop-i.invariant));
+      source = refl;
+      text = tt;
+    }

@@ -11,7 +11,7 @@ returns-in_err-lines-clause-told g c =
 
 pub returns-clause-told : goal.returns-clause-told
 returns-clause-told g c =
-    (c.in_ok-lines.lines.items, inr c.in_ok-lines.ensures.lines, on_ok _ c.in_ok-lines.ensures.lines, tells_same _ _ _ _ c.deref.ensures.value c.say.ensures.told)
+    (c.in_ok-lines.lines.items, inr c.in_ok-lines.ensures.lines, on_ok _ c.in_ok-lines.ensures.lines, tells_same _ _ _ _ c.deref.ensures.value c.write_lines.ensures.told)
 
 pub returns-clause-tree : goal.returns-clause-tree
-returns-clause-tree g c = behind_reading _ _ _ _ _ _ c.say.ensures.failed c.in_ok-lines.ensures.tree
+returns-clause-tree g c = behind_reading _ _ _ _ _ _ c.write_lines.ensures.failed c.in_ok-lines.ensures.tree

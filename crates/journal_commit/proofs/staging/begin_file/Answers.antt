@@ -1,10 +1,13 @@
-use Rattle.std.proofs.Common.{[], None, Some}
+use Rattle.std.proofs.Common.{[], None, Some, rules}
 use Rattle.journal_commit.proofs.Stays.{begun_run, closed_moments, closed_staged, staging_more}
 use Rattle.journal_commit.proofs.staging.begin_file.Goals as goal
 
-pub returns-clause-run : goal.returns-clause-run
-returns-clause-run g c contents v first s =
-    begun_run c.args.stage.now contents None v first _ _ s (closed_moments c.args.stage.now contents v _ _ c.file_begin.ensures.moments) c.file_begin.ensures.others c.file_begin.ensures.maps
+pub returns-clause-only : goal.returns-clause-only
+returns-clause-only g c = record {
+  run = λ contents v first s. begun_run c.args.stage.now contents None v first _ _ s (closed_moments c.args.stage.now contents v _ _ c.file_begin.ensures.moments) c.file_begin.ensures.others c.file_begin.ensures.maps;
+  counts = search rules;
+  proper = search rules;
+}
 
 pub returns-clause-staging : goal.returns-clause-staging
 returns-clause-staging g c contents v first s =

@@ -5,9 +5,12 @@ use Rattle.journal_core.proofs.Keeping.{move_keeps}
 use Rattle.journal_core.proofs.Images.{crash_laws}
 use Rattle.journal_core.proofs.acting.move_one.Goals as goal
 
-pub returns-clause-moments : goal.returns-clause-moments
-returns-clause-moments g c =
-    move_moments crash_laws _ c.names_are_free.ensures.free c.names_are_free.ensures.few _ _ _ _ c.requires.within c.requires.behind _ _ c.stage_name.ensures c.write.ensures c.move_waiting.result c.move_waiting.ensures.moves
+pub returns-clause-actions : goal.returns-clause-actions
+returns-clause-actions g c = record {
+  moments = move_moments crash_laws _ c.names_are_free.ensures.free c.names_are_free.ensures.few _ _ _ _ c.requires.within c.requires.behind _ _ c.stage_name.ensures c.write.ensures c.move_waiting.result c.move_waiting.ensures.moves;
+  reads = move_reads crash_laws _ c.names_are_free.ensures.free c.names_are_free.ensures.few _ _ _ _ c.requires.within c.requires.behind _ _ c.stage_name.ensures c.write.ensures c.move_waiting.result c.move_waiting.ensures.moves;
+  bytes = move_bytes _ c.names_are_free.ensures.free c.names_are_free.ensures.few _ _ c.args.j c.args.acted c.requires.within _ _ c.stage_name.ensures c.write.ensures c.move_waiting.result c.move_waiting.ensures.moves;
+}
 
 pub returns-clause-acting : goal.returns-clause-acting
 returns-clause-acting g c =
@@ -20,12 +23,5 @@ returns-clause-proper g c =
 pub returns-clause-others : goal.returns-clause-others
 returns-clause-others g c = move_keeps c.args.intent.now _ _ c.args.j c.args.acted c.requires.behind _ _ c.stage_name.ensures c.write.ensures c.move_waiting.result c.move_waiting.ensures.moves
 
-pub returns-clause-reads : goal.returns-clause-reads
-returns-clause-reads g c =
-    move_reads crash_laws _ c.names_are_free.ensures.free c.names_are_free.ensures.few _ _ _ _ c.requires.within c.requires.behind _ _ c.stage_name.ensures c.write.ensures c.move_waiting.result c.move_waiting.ensures.moves
-
 pub returns-clause-waiting : goal.returns-clause-waiting
 returns-clause-waiting g c = move_waiting _ c.names_are_free.ensures.free c.names_are_free.ensures.few _ _ c.args.j _ _ c.stage_name.ensures c.write.ensures c.move_waiting.result c.move_waiting.ensures.moves
-
-pub returns-clause-bytes : goal.returns-clause-bytes
-returns-clause-bytes g c = move_bytes _ c.names_are_free.ensures.free c.names_are_free.ensures.few _ _ c.args.j c.args.acted c.requires.within _ _ c.stage_name.ensures c.write.ensures c.move_waiting.result c.move_waiting.ensures.moves

@@ -55,49 +55,42 @@ returns-clause-proper g c =
     ∙ proper_now (CanRename c.args.place.now c.args.name.now) _ _ _ _ can c.in_ok-rename.ensures.counts (λ w q. q)
     ∙ proper_now IsAny _ _ _ _ (any_now _ v rest is) c.in_ok-sync_all_names.ensures.counts (λ w q. tt))
 
-pub returns-in_err-sync_all_names-clause-last : goal.returns-in_err-sync_all_names-clause-last
-returns-in_err-sync_all_names-clause-last g c =
-    on_observable (g.T.Tree.history c.args.tree.now) _ (λ v rest is none.
-    enter_sync_failed _ _ c.requires.place c.requires.name v _ rest is none (g.T.Tree.history c.args.tree.now) _ _ c.in_err-sync_all_names.ensures.moves)
+pub returns-in_err-sync_all_names-clause-names : goal.returns-in_err-sync_all_names-clause-names
+returns-in_err-sync_all_names-clause-names g c = record {
+  last =
+      on_observable (g.T.Tree.history c.args.tree.now) _ (λ v rest is none.
+      enter_sync_failed _ _ c.requires.place c.requires.name v _ rest is none (g.T.Tree.history c.args.tree.now) _ _ c.in_err-sync_all_names.ensures.moves);
+  others = free_synced _ _ _ c.in_err-sync_all_names.ensures.moves;
+  maps = names_maps _ _ _ (intent_name ∷ stage_name 0 ∷ []) c.in_err-sync_all_names.ensures.moves;
+}
 
-pub returns-in_err-rename-clause-last : goal.returns-in_err-rename-clause-last
-returns-in_err-rename-clause-last g c =
-    on_observable (g.T.Tree.history c.args.tree.now) _ (λ v rest is none.
-    enter_rename_failed _ _ c.requires.place c.requires.name v _ rest is none _ _ _
-    (enter_synced _ _ c.requires.place c.requires.name v _ rest is none (g.T.Tree.history c.args.tree.now) _ _ c.in_ok-sync_all_names.ensures.moves) c.in_err-rename.ensures.moves)
+pub returns-in_err-rename-clause-names : goal.returns-in_err-rename-clause-names
+returns-in_err-rename-clause-names g c = record {
+  last =
+      on_observable (g.T.Tree.history c.args.tree.now) _ (λ v rest is none.
+      enter_rename_failed _ _ c.requires.place c.requires.name v _ rest is none _ _ _
+      (enter_synced _ _ c.requires.place c.requires.name v _ rest is none (g.T.Tree.history c.args.tree.now) _ _ c.in_ok-sync_all_names.ensures.moves) c.in_err-rename.ensures.moves);
+  others = free_on _ _ _ (free_synced (g.T.Tree.history c.args.tree.now) _ _ c.in_ok-sync_all_names.ensures.moves) (free_renamed _ _ _ _ _ c.requires.place c.requires.name c.in_err-rename.ensures.moves);
+  maps =
+      maps_on (intent_name ∷ stage_name 0 ∷ []) _ _ _ (names_maps (g.T.Tree.history c.args.tree.now) _ _ (intent_name ∷ stage_name 0 ∷ []) c.in_ok-sync_all_names.ensures.moves)
+      (maps_moved _ _ c.requires.place c.requires.name _ _ (rename_maps _ _ _ c.args.place.now c.args.name.now c.in_err-rename.ensures.moves));
+}
 
-pub returns-clause-last : goal.returns-clause-last
-returns-clause-last g c =
-    on_observable (g.T.Tree.history c.args.tree.now) _ (λ v rest is none.
-    enter_last _ _ c.requires.place c.requires.name v _ rest is none _ _ c.sync_all_names-2.result
-    (enter_renamed _ _ c.requires.place c.requires.name v _ rest is none _ _ _
-    (enter_synced _ _ c.requires.place c.requires.name v _ rest is none (g.T.Tree.history c.args.tree.now) _ _ c.in_ok-sync_all_names.ensures.moves) c.in_ok-rename.ensures.moves) c.sync_all_names-2.ensures.moves)
-
-pub returns-in_err-sync_all_names-clause-others : goal.returns-in_err-sync_all_names-clause-others
-returns-in_err-sync_all_names-clause-others g c = free_synced _ _ _ c.in_err-sync_all_names.ensures.moves
-
-pub returns-in_err-rename-clause-others : goal.returns-in_err-rename-clause-others
-returns-in_err-rename-clause-others g c =
-    free_on _ _ _ (free_synced (g.T.Tree.history c.args.tree.now) _ _ c.in_ok-sync_all_names.ensures.moves) (free_renamed _ _ _ _ _ c.requires.place c.requires.name c.in_err-rename.ensures.moves)
-
-pub returns-clause-others : goal.returns-clause-others
-returns-clause-others g c =
-    free_on _ _ _ (free_on _ _ _ (free_synced (g.T.Tree.history c.args.tree.now) _ _ c.in_ok-sync_all_names.ensures.moves) (free_renamed _ _ _ _ _ c.requires.place c.requires.name c.in_ok-rename.ensures.moves))
-    (free_synced _ _ c.sync_all_names-2.result c.sync_all_names-2.ensures.moves)
-
-pub returns-in_err-sync_all_names-clause-maps : goal.returns-in_err-sync_all_names-clause-maps
-returns-in_err-sync_all_names-clause-maps g c = names_maps _ _ _ (intent_name ∷ stage_name 0 ∷ []) c.in_err-sync_all_names.ensures.moves
-
-pub returns-in_err-rename-clause-maps : goal.returns-in_err-rename-clause-maps
-returns-in_err-rename-clause-maps g c =
-    maps_on (intent_name ∷ stage_name 0 ∷ []) _ _ _ (names_maps (g.T.Tree.history c.args.tree.now) _ _ (intent_name ∷ stage_name 0 ∷ []) c.in_ok-sync_all_names.ensures.moves)
-    (maps_moved _ _ c.requires.place c.requires.name _ _ (rename_maps _ _ _ c.args.place.now c.args.name.now c.in_err-rename.ensures.moves))
-
-pub returns-clause-maps : goal.returns-clause-maps
-returns-clause-maps g c =
-    maps_on (intent_name ∷ stage_name 0 ∷ []) _ _ _ (maps_on (intent_name ∷ stage_name 0 ∷ []) _ _ _ (names_maps (g.T.Tree.history c.args.tree.now) _ _ (intent_name ∷ stage_name 0 ∷ []) c.in_ok-sync_all_names.ensures.moves)
-    (maps_moved _ _ c.requires.place c.requires.name _ _ (rename_maps _ _ _ c.args.place.now c.args.name.now c.in_ok-rename.ensures.moves)))
-    (names_maps _ _ c.sync_all_names-2.result (intent_name ∷ stage_name 0 ∷ []) c.sync_all_names-2.ensures.moves)
+pub returns-clause-names : goal.returns-clause-names
+returns-clause-names g c = record {
+  last =
+      on_observable (g.T.Tree.history c.args.tree.now) _ (λ v rest is none.
+      enter_last _ _ c.requires.place c.requires.name v _ rest is none _ _ c.sync_all_names-2.result
+      (enter_renamed _ _ c.requires.place c.requires.name v _ rest is none _ _ _
+      (enter_synced _ _ c.requires.place c.requires.name v _ rest is none (g.T.Tree.history c.args.tree.now) _ _ c.in_ok-sync_all_names.ensures.moves) c.in_ok-rename.ensures.moves) c.sync_all_names-2.ensures.moves);
+  others =
+      free_on _ _ _ (free_on _ _ _ (free_synced (g.T.Tree.history c.args.tree.now) _ _ c.in_ok-sync_all_names.ensures.moves) (free_renamed _ _ _ _ _ c.requires.place c.requires.name c.in_ok-rename.ensures.moves))
+      (free_synced _ _ c.sync_all_names-2.result c.sync_all_names-2.ensures.moves);
+  maps =
+      maps_on (intent_name ∷ stage_name 0 ∷ []) _ _ _ (maps_on (intent_name ∷ stage_name 0 ∷ []) _ _ _ (names_maps (g.T.Tree.history c.args.tree.now) _ _ (intent_name ∷ stage_name 0 ∷ []) c.in_ok-sync_all_names.ensures.moves)
+      (maps_moved _ _ c.requires.place c.requires.name _ _ (rename_maps _ _ _ c.args.place.now c.args.name.now c.in_ok-rename.ensures.moves)))
+      (names_maps _ _ c.sync_all_names-2.result (intent_name ∷ stage_name 0 ∷ []) c.sync_all_names-2.ensures.moves);
+}
 
 pub returns-in_err-sync_all_names-clause-reads : goal.returns-in_err-sync_all_names-clause-reads
 returns-in_err-sync_all_names-clause-reads g c =

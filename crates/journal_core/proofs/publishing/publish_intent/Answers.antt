@@ -1,4 +1,4 @@
-use Rattle.std.proofs.Common.{◌∙◌, ◌∷◌, [], refl}
+use Rattle.std.proofs.Common.{◌∙◌, ◌∷◌, [], refl, rules}
 use Rattle.journal_core.specs.Acting.{stage_with_actions_done, fully_staged_stage}
 use Rattle.journal_core.specs.Recovery.{intent_name, stage_name}
 use Rattle.journal_core.proofs.History.{on_observable, observable_at}
@@ -9,25 +9,47 @@ use Rattle.journal_core.proofs.Maps.{maps_on}
 use Rattle.journal_core.proofs.Throughout.{free_but_intent, free_on, free_written, maps_written}
 use Rattle.journal_core.proofs.publishing.publish_intent.Goals as goal
 
-pub returns-in_err-write_waiting-clause-moments : goal.returns-in_err-write_waiting-clause-moments
-returns-in_err-write_waiting-clause-moments g c =
-    on_observable (g.T.Tree.history c.args.tree.now) _ (λ v rest is ignored contents base is_durable staged.
-    write_moments (fully_staged_stage c.args.intent.now) contents base v staged refl (few_writes _ _ c.names_are_free.ensures.few) c.names_are_free.ensures.free _ c.file.ensures _ c.stage_name.ensures _ rest _ (g.T.Tree.history c.args.tree.now) is ignored is_durable c.write_waiting.ensures.moments)
+pub returns-in_err-write_waiting-clause-publishing : goal.returns-in_err-write_waiting-clause-publishing
+returns-in_err-write_waiting-clause-publishing g c = record {
+  moments =
+      on_observable (g.T.Tree.history c.args.tree.now) _ (λ v rest is ignored contents base is_durable staged.
+      write_moments (fully_staged_stage c.args.intent.now) contents base v staged refl (few_writes _ _ c.names_are_free.ensures.few) c.names_are_free.ensures.free _ c.file.ensures _ c.stage_name.ensures _ rest _ (g.T.Tree.history c.args.tree.now) is ignored is_durable c.write_waiting.ensures.moments);
+  published = search rules;
+  settled = search rules;
+  reads =
+      on_observable (g.T.Tree.history c.args.tree.now) _ (λ v rest is contents base staged.
+      write_reads (fully_staged_stage c.args.intent.now) contents base v staged refl (few_writes _ _ c.names_are_free.ensures.few) c.names_are_free.ensures.free _ c.file.ensures _ c.stage_name.ensures _ rest _ (g.T.Tree.history c.args.tree.now) is c.write_waiting.ensures.unread);
+  names = record {
+    last = written_last _ _ (g.T.Tree.history c.args.tree.now) c.write_waiting.ensures.unread;
+    others = free_written _ c.stage_name.ensures (g.T.Tree.history c.args.tree.now) _ c.write_waiting.ensures.others;
+    maps = maps_written _ _ c.write_waiting.ensures.maps;
+  };
+  only_intent = search rules;
+}
 
-pub returns-clause-moments : goal.returns-clause-moments
-returns-clause-moments g c =
-    on_observable (g.T.Tree.history c.args.tree.now) _ (λ v rest is ignored contents base is_durable staged.
-    enter_moments (fully_staged_stage c.args.intent.now) contents base v staged refl (few_writes _ _ c.names_are_free.ensures.few) c.names_are_free.ensures.free _ c.file.ensures _ c.stage_name.ensures _ rest _ _ is ignored is_durable c.write_waiting.ensures.moments c.in_ok-write_waiting.ensures.written c.enter.ensures.moments)
-
-pub returns-clause-settled : goal.returns-clause-settled
-returns-clause-settled g c =
-    on_observable (g.T.Tree.history c.args.tree.now) _ (λ v rest is ignored contents base is_durable staged.
-    enter_settled (fully_staged_stage c.args.intent.now) contents base v staged refl (few_writes _ _ c.names_are_free.ensures.few) c.names_are_free.ensures.free _ c.file.ensures _ c.stage_name.ensures _ rest _ _ is ignored is_durable c.write_waiting.ensures.moments c.enter.result c.in_ok-write_waiting.ensures.written c.enter.ensures.entered)
-
-pub returns-clause-published : goal.returns-clause-published
-returns-clause-published g c =
-    on_observable (g.T.Tree.history c.args.tree.now) _ (λ v rest is ignored contents base is_durable staged.
-    enter_published (fully_staged_stage c.args.intent.now) contents base v staged refl (few_writes _ _ c.names_are_free.ensures.few) c.names_are_free.ensures.free _ c.file.ensures _ c.stage_name.ensures _ rest _ _ is ignored is_durable c.write_waiting.ensures.moments c.enter.result c.in_ok-write_waiting.ensures.written c.enter.ensures.moments c.enter.ensures.entered)
+pub returns-clause-publishing : goal.returns-clause-publishing
+returns-clause-publishing g c = record {
+  moments =
+      on_observable (g.T.Tree.history c.args.tree.now) _ (λ v rest is ignored contents base is_durable staged.
+      enter_moments (fully_staged_stage c.args.intent.now) contents base v staged refl (few_writes _ _ c.names_are_free.ensures.few) c.names_are_free.ensures.free _ c.file.ensures _ c.stage_name.ensures _ rest _ _ is ignored is_durable c.write_waiting.ensures.moments c.in_ok-write_waiting.ensures.written c.enter.ensures.moments);
+  published =
+      on_observable (g.T.Tree.history c.args.tree.now) _ (λ v rest is ignored contents base is_durable staged.
+      enter_published (fully_staged_stage c.args.intent.now) contents base v staged refl (few_writes _ _ c.names_are_free.ensures.few) c.names_are_free.ensures.free _ c.file.ensures _ c.stage_name.ensures _ rest _ _ is ignored is_durable c.write_waiting.ensures.moments c.enter.result c.in_ok-write_waiting.ensures.written c.enter.ensures.moments c.enter.ensures.entered);
+  settled =
+      on_observable (g.T.Tree.history c.args.tree.now) _ (λ v rest is ignored contents base is_durable staged.
+      enter_settled (fully_staged_stage c.args.intent.now) contents base v staged refl (few_writes _ _ c.names_are_free.ensures.few) c.names_are_free.ensures.free _ c.file.ensures _ c.stage_name.ensures _ rest _ _ is ignored is_durable c.write_waiting.ensures.moments c.enter.result c.in_ok-write_waiting.ensures.written c.enter.ensures.entered);
+  reads =
+      on_observable (g.T.Tree.history c.args.tree.now) _ (λ v rest is contents base staged.
+      enter_reads (fully_staged_stage c.args.intent.now) contents base v staged refl (few_writes _ _ c.names_are_free.ensures.few) c.names_are_free.ensures.free _ c.file.ensures _ c.stage_name.ensures _ rest _ _ is c.write_waiting.ensures.unread c.in_ok-write_waiting.ensures.written c.enter.ensures.reads);
+  names = record {
+    last = published_last _ _ _ c.write_waiting.ensures.unread c.enter.ensures.names.last;
+    others = free_on _ _ _ (free_written _ c.stage_name.ensures (g.T.Tree.history c.args.tree.now) _ c.write_waiting.ensures.others) c.enter.ensures.names.others;
+    maps = maps_on (intent_name ∷ stage_name 0 ∷ []) _ _ _ (maps_written (g.T.Tree.history c.args.tree.now) _ c.write_waiting.ensures.maps) c.enter.ensures.names.maps;
+  };
+  only_intent =
+      free_but_intent _ c.stage_name.ensures (g.T.Tree.history c.args.tree.now) _ c.enter.result c.in_ok-write_waiting.ensures.absent
+      (free_on _ _ _ (free_written _ c.stage_name.ensures (g.T.Tree.history c.args.tree.now) _ c.write_waiting.ensures.others) c.enter.ensures.names.others) c.enter.ensures.moved;
+}
 
 pub returns-clause-acting : goal.returns-clause-acting
 returns-clause-acting g c =
@@ -44,36 +66,3 @@ returns-clause-proper g c =
     on_observable (g.T.Tree.history c.args.tree.now) _ (λ v rest is contents base staged room.
     enter_proper (fully_staged_stage c.args.intent.now) contents base v staged refl (few_writes _ _ c.names_are_free.ensures.few) c.names_are_free.ensures.free _ c.file.ensures _ c.stage_name.ensures _ rest _ (g.T.Tree.history c.args.tree.now) is room _ _ c.stage_name-2.ensures c.name.ensures _ _ c.in_ok-write_waiting.ensures.written c.enter.ensures.proper
     ∙ observable_at _ v rest is (λ u. CanCreate c.stage_name.result.now u → _) c.write_waiting.ensures.proper (write_may (fully_staged_stage c.args.intent.now) contents base v staged refl (few_writes _ _ c.names_are_free.ensures.few) c.names_are_free.ensures.free _ c.file.ensures _ c.stage_name.ensures _ rest (g.T.Tree.history c.args.tree.now) (g.T.Tree.history c.args.tree.now) is room))
-
-pub returns-in_err-write_waiting-clause-last : goal.returns-in_err-write_waiting-clause-last
-returns-in_err-write_waiting-clause-last g c = written_last _ _ (g.T.Tree.history c.args.tree.now) c.write_waiting.ensures.unread
-
-pub returns-clause-last : goal.returns-clause-last
-returns-clause-last g c = published_last _ _ _ c.write_waiting.ensures.unread c.enter.ensures.last
-
-pub returns-in_err-write_waiting-clause-others : goal.returns-in_err-write_waiting-clause-others
-returns-in_err-write_waiting-clause-others g c = free_written _ c.stage_name.ensures (g.T.Tree.history c.args.tree.now) _ c.write_waiting.ensures.others
-
-pub returns-clause-others : goal.returns-clause-others
-returns-clause-others g c = free_on _ _ _ (free_written _ c.stage_name.ensures (g.T.Tree.history c.args.tree.now) _ c.write_waiting.ensures.others) c.enter.ensures.others
-
-pub returns-in_err-write_waiting-clause-maps : goal.returns-in_err-write_waiting-clause-maps
-returns-in_err-write_waiting-clause-maps g c = maps_written _ _ c.write_waiting.ensures.maps
-
-pub returns-clause-maps : goal.returns-clause-maps
-returns-clause-maps g c = maps_on (intent_name ∷ stage_name 0 ∷ []) _ _ _ (maps_written (g.T.Tree.history c.args.tree.now) _ c.write_waiting.ensures.maps) c.enter.ensures.maps
-
-pub returns-clause-only_intent : goal.returns-clause-only_intent
-returns-clause-only_intent g c =
-    free_but_intent _ c.stage_name.ensures (g.T.Tree.history c.args.tree.now) _ c.enter.result c.in_ok-write_waiting.ensures.absent
-    (free_on _ _ _ (free_written _ c.stage_name.ensures (g.T.Tree.history c.args.tree.now) _ c.write_waiting.ensures.others) c.enter.ensures.others) c.enter.ensures.moved
-
-pub returns-in_err-write_waiting-clause-reads : goal.returns-in_err-write_waiting-clause-reads
-returns-in_err-write_waiting-clause-reads g c =
-    on_observable (g.T.Tree.history c.args.tree.now) _ (λ v rest is contents base staged.
-    write_reads (fully_staged_stage c.args.intent.now) contents base v staged refl (few_writes _ _ c.names_are_free.ensures.few) c.names_are_free.ensures.free _ c.file.ensures _ c.stage_name.ensures _ rest _ (g.T.Tree.history c.args.tree.now) is c.write_waiting.ensures.unread)
-
-pub returns-clause-reads : goal.returns-clause-reads
-returns-clause-reads g c =
-    on_observable (g.T.Tree.history c.args.tree.now) _ (λ v rest is contents base staged.
-    enter_reads (fully_staged_stage c.args.intent.now) contents base v staged refl (few_writes _ _ c.names_are_free.ensures.few) c.names_are_free.ensures.free _ c.file.ensures _ c.stage_name.ensures _ rest _ _ is c.write_waiting.ensures.unread c.in_ok-write_waiting.ensures.written c.enter.ensures.reads)

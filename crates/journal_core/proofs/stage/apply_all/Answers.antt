@@ -13,40 +13,38 @@ loop-stage-preserved g c =
     let less = left_of _ _ _ c.has_more.ensures c.loop-stage-test.true in (
       published_next _ _ published (c.in_ok-apply_one.ensures.more less),
       within_next _ _ less (c.in_ok-apply_one.ensures.more less),
-      rowed_done _ _ _ _ _ _ c.in_ok-apply_one.ensures.acting rowed c.in_ok-apply_one.ensures.moments,
+      rowed_done _ _ _ _ _ _ c.in_ok-apply_one.ensures.acting rowed c.in_ok-apply_one.ensures.actions.moments,
       acts_done _ _ _ _ _ _ c.in_ok-apply_one.ensures.acting acts,
       proper_done _ _ _ _ _ _ _ acts proper c.in_ok-apply_one.ensures.proper,
-      goes_on_twice _ _ _ goes c.in_ok-apply_one.ensures.goes_on,
-      no_fault_twice _ _ _ none c.in_ok-apply_one.ensures.kept,
-      reads_called _ _ _ _ _ acts reads c.in_ok-apply_one.ensures.reads,
+      goes_on_twice _ _ _ goes c.in_ok-apply_one.ensures.counts.goes_on,
+      no_fault_twice _ _ _ none c.in_ok-apply_one.ensures.counts.kept,
+      reads_called _ _ _ _ _ acts reads c.in_ok-apply_one.ensures.actions.reads,
       intent_on _ _ _ waiting c.in_ok-apply_one.ensures.waiting,
-      bytes_called _ _ _ _ _ acts bytes c.in_ok-apply_one.ensures.bytes,
+      bytes_called _ _ _ _ _ acts bytes c.in_ok-apply_one.ensures.actions.bytes,
     )
 
-pub returns-in_err-apply_one-clause-moments : goal.returns-in_err-apply_one-clause-moments
-returns-in_err-apply_one-clause-moments g c =
+pub returns-in_err-apply_one-clause-actions : goal.returns-in_err-apply_one-clause-actions
+returns-in_err-apply_one-clause-actions g c =
     let (published, within, rowed, acts, proper, goes, none, reads, waiting, bytes) = c.loop-stage.invariant in
-    rowed_called _ _ _ _ _ rowed c.in_err-apply_one.ensures.moments
+    record {
+      moments = rowed_called _ _ _ _ _ rowed c.in_err-apply_one.ensures.actions.moments;
+      reads = reads_called _ _ _ _ _ acts reads c.in_err-apply_one.ensures.actions.reads;
+      bytes = bytes_called _ _ _ _ _ acts bytes c.in_err-apply_one.ensures.actions.bytes;
+    }
 
 pub returns-in_err-apply_one-clause-proper : goal.returns-in_err-apply_one-clause-proper
 returns-in_err-apply_one-clause-proper g c =
     let (published, within, rowed, acts, proper, goes, none, reads, waiting, bytes) = c.loop-stage.invariant in
     proper_done _ _ _ _ _ _ _ acts proper c.in_err-apply_one.ensures.proper
 
-pub returns-clause-moments : goal.returns-clause-moments
-returns-clause-moments g c =
+pub returns-clause-actions : goal.returns-clause-actions
+returns-clause-actions g c =
     let (published, within, rowed, acts, proper, goes, none, reads, waiting, bytes) = c.loop-stage.invariant in
-    rowed_ends _ _ _ _ rowed
-
-pub returns-in_err-apply_one-clause-reads : goal.returns-in_err-apply_one-clause-reads
-returns-in_err-apply_one-clause-reads g c =
-    let (published, within, rowed, acts, proper, goes, none, reads, waiting, bytes) = c.loop-stage.invariant in
-    reads_called _ _ _ _ _ acts reads c.in_err-apply_one.ensures.reads
-
-pub returns-clause-reads : goal.returns-clause-reads
-returns-clause-reads g c =
-    let (published, within, rowed, acts, proper, goes, none, reads, waiting, bytes) = c.loop-stage.invariant in
-    reads
+    record {
+      moments = rowed_ends _ _ _ _ rowed;
+      reads = reads;
+      bytes = bytes;
+    }
 
 pub returns-in_err-apply_one-clause-waiting : goal.returns-in_err-apply_one-clause-waiting
 returns-in_err-apply_one-clause-waiting g c =
@@ -57,13 +55,3 @@ pub returns-clause-waiting : goal.returns-clause-waiting
 returns-clause-waiting g c =
     let (published, within, rowed, acts, proper, goes, none, reads, waiting, bytes) = c.loop-stage.invariant in
     waiting
-
-pub returns-in_err-apply_one-clause-bytes : goal.returns-in_err-apply_one-clause-bytes
-returns-in_err-apply_one-clause-bytes g c =
-    let (published, within, rowed, acts, proper, goes, none, reads, waiting, bytes) = c.loop-stage.invariant in
-    bytes_called _ _ _ _ _ acts bytes c.in_err-apply_one.ensures.bytes
-
-pub returns-clause-bytes : goal.returns-clause-bytes
-returns-clause-bytes g c =
-    let (published, within, rowed, acts, proper, goes, none, reads, waiting, bytes) = c.loop-stage.invariant in
-    bytes

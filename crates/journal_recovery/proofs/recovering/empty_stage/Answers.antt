@@ -20,18 +20,18 @@ returns-clause-moments g c =
 
 pub returns-clause-emptied : goal.returns-clause-emptied
 returns-clause-emptied g c =
-    empty_emptied _ _ c.in_ok-folder.ensures _ _ _ c.list.ensures.same c.in_ok-names.ensures.value c.in_ok-clear_all.ensures.cleared
+    empty_emptied _ _ c.in_ok-folder.ensures _ _ _ c.list.ensures.same c.in_ok-names.ensures.value c.in_ok-clear_all.ensures.removal.cleared
 
 pub returns-in_err-clear_all-clause-idle : goal.returns-in_err-clear_all-clause-idle
 returns-in_err-clear_all-clause-idle g c =
-    empty_idle _ _ c.in_ok-folder.ensures _ _ _ c.list.ensures.same c.in_ok-names.ensures.value c.clear_all.ensures.none
+    empty_idle _ _ c.in_ok-folder.ensures _ _ _ c.list.ensures.same c.in_ok-names.ensures.value c.clear_all.ensures.removal.none
 
 pub returns-clause-idle : goal.returns-clause-idle
 returns-clause-idle g c =
-    empty_idle _ _ c.in_ok-folder.ensures _ _ _ c.list.ensures.same c.in_ok-names.ensures.value c.clear_all.ensures.none
+    empty_idle _ _ c.in_ok-folder.ensures _ _ _ c.list.ensures.same c.in_ok-names.ensures.value c.clear_all.ensures.removal.none
 
 pub returns-clause-gone : goal.returns-clause-gone
-returns-clause-gone g c = stays_back _ _ _ c.list.ensures.same c.in_ok-clear_all.ensures.gone
+returns-clause-gone g c = stays_back _ _ _ c.list.ensures.same c.in_ok-clear_all.ensures.removal.gone
 
 pub returns-in_err-folder-clause-shown : goal.returns-in_err-folder-clause-shown
 returns-in_err-folder-clause-shown g c = empty_shown_none _ _ refl
@@ -40,10 +40,10 @@ pub returns-in_err-names-clause-shown : goal.returns-in_err-names-clause-shown
 returns-in_err-names-clause-shown g c = empty_shown_none _ _ c.list.ensures.same
 
 pub returns-in_err-clear_all-clause-shown : goal.returns-in_err-clear_all-clause-shown
-returns-in_err-clear_all-clause-shown g c = empty_shown _ _ c.in_ok-folder.ensures _ _ _ c.list.ensures.same c.in_ok-names.ensures.order c.clear_all.ensures.shown
+returns-in_err-clear_all-clause-shown g c = empty_shown _ _ c.in_ok-folder.ensures _ _ _ c.list.ensures.same c.in_ok-names.ensures.order c.clear_all.ensures.removal.shown
 
 pub returns-clause-shown : goal.returns-clause-shown
-returns-clause-shown g c = empty_shown _ _ c.in_ok-folder.ensures _ _ _ c.list.ensures.same c.in_ok-names.ensures.order c.clear_all.ensures.shown
+returns-clause-shown g c = empty_shown _ _ c.in_ok-folder.ensures _ _ _ c.list.ensures.same c.in_ok-names.ensures.order c.clear_all.ensures.removal.shown
 
 pub returns-in_err-folder-clause-waiting : goal.returns-in_err-folder-clause-waiting
 returns-in_err-folder-clause-waiting g c = waiting_none _ _ refl
@@ -52,10 +52,10 @@ pub returns-in_err-names-clause-waiting : goal.returns-in_err-names-clause-waiti
 returns-in_err-names-clause-waiting g c = waiting_none _ _ c.list.ensures.same
 
 pub returns-in_err-clear_all-clause-waiting : goal.returns-in_err-clear_all-clause-waiting
-returns-in_err-clear_all-clause-waiting g c = waiting_back _ _ _ c.list.ensures.same c.clear_all.ensures.waiting
+returns-in_err-clear_all-clause-waiting g c = waiting_back _ _ _ c.list.ensures.same c.clear_all.ensures.removal.waiting
 
 pub returns-clause-waiting : goal.returns-clause-waiting
-returns-clause-waiting g c = waiting_back _ _ _ c.list.ensures.same c.clear_all.ensures.waiting
+returns-clause-waiting g c = waiting_back _ _ _ c.list.ensures.same c.clear_all.ensures.removal.waiting
 
 pub returns-in_err-folder-clause-last : goal.returns-in_err-folder-clause-last
 returns-in_err-folder-clause-last g c = empty_lasts_none _ _ refl
@@ -64,7 +64,7 @@ pub returns-in_err-names-clause-last : goal.returns-in_err-names-clause-last
 returns-in_err-names-clause-last g c = empty_lasts_none _ _ c.list.ensures.same
 
 pub returns-in_err-clear_all-clause-last : goal.returns-in_err-clear_all-clause-last
-returns-in_err-clear_all-clause-last g c = empty_lasts _ _ c.in_ok-folder.ensures _ _ _ c.list.ensures.same c.in_ok-names.ensures.order c.clear_all.ensures.last
+returns-in_err-clear_all-clause-last g c = empty_lasts _ _ c.in_ok-folder.ensures _ _ _ c.list.ensures.same c.in_ok-names.ensures.order c.clear_all.ensures.removal.last
 
 pub returns-clause-last : goal.returns-clause-last
-returns-clause-last g c = empty_lasts _ _ c.in_ok-folder.ensures _ _ _ c.list.ensures.same c.in_ok-names.ensures.order c.clear_all.ensures.last
+returns-clause-last g c = empty_lasts _ _ c.in_ok-folder.ensures _ _ _ c.list.ensures.same c.in_ok-names.ensures.order c.clear_all.ensures.removal.last

@@ -18,8 +18,13 @@ returns-clause-files g c = all_files _ _ _ c.in_ok-replay.ensures.replayed c.in_
 pub returns-clause-settled : goal.returns-clause-settled
 returns-clause-settled g c = all_settled _ _ _ c.replay.ensures.moments c.in_ok-replay.ensures.replayed c.in_ok-replay.ensures.settled c.empty_stage.ensures.moments
 
-pub returns-in_err-replay-clause-bad : goal.returns-in_err-replay-clause-bad
-returns-in_err-replay-clause-bad g c = λ cause e. c.in_err-replay.ensures.bad cause (search rules)
+pub returns-in_err-replay-clause-refusal : goal.returns-in_err-replay-clause-refusal
+returns-in_err-replay-clause-refusal g c = record {
+  bad = λ cause e. c.in_err-replay.ensures.refusal.bad cause (search rules);
+  good = search rules;
+  bad_idle = search rules;
+  found = search rules;
+}
 
 pub returns-clause-gone : goal.returns-clause-gone
 returns-clause-gone g c = all_gone _ _ _ c.in_ok-replay.ensures.replayed c.in_ok-replay.ensures.gone c.in_ok-empty_stage.ensures.gone
@@ -33,23 +38,33 @@ returns-in_err-empty_stage-clause-reads g c = all_reads _ _ _ c.replay.ensures.r
 pub returns-clause-reads : goal.returns-clause-reads
 returns-clause-reads g c = all_reads _ _ _ c.replay.ensures.reads c.in_ok-replay.ensures.replayed c.empty_stage.ensures.shown
 
-pub returns-in_err-empty_stage-clause-bad_idle : goal.returns-in_err-empty_stage-clause-bad_idle
-returns-in_err-empty_stage-clause-bad_idle g c = good_idle _ (g.T.Tree.history c.replay.new.tree) _ c.in_ok-replay.ensures.good
+pub returns-in_err-empty_stage-clause-refusal : goal.returns-in_err-empty_stage-clause-refusal
+returns-in_err-empty_stage-clause-refusal g c = record {
+  bad = search rules;
+  good = search rules;
+  bad_idle = good_idle _ (g.T.Tree.history c.replay.new.tree) _ c.in_ok-replay.ensures.refusal.good;
+  found = search rules;
+}
 
-pub returns-clause-bad_idle : goal.returns-clause-bad_idle
-returns-clause-bad_idle g c = good_idle _ (g.T.Tree.history c.replay.new.tree) _ c.in_ok-replay.ensures.good
+pub returns-clause-refusal : goal.returns-clause-refusal
+returns-clause-refusal g c = record {
+  bad = search rules;
+  good = search rules;
+  bad_idle = good_idle _ (g.T.Tree.history c.replay.new.tree) _ c.in_ok-replay.ensures.refusal.good;
+  found = search rules;
+}
 
-pub returns-in_err-empty_stage-clause-waiting : goal.returns-in_err-empty_stage-clause-waiting
-returns-in_err-empty_stage-clause-waiting g c = waiting_on _ _ _ c.replay.ensures.waiting c.empty_stage.ensures.waiting
+pub returns-in_err-empty_stage-clause-journal : goal.returns-in_err-empty_stage-clause-journal
+returns-in_err-empty_stage-clause-journal g c = record {
+  waiting = waiting_on _ _ _ c.replay.ensures.journal.waiting c.empty_stage.ensures.waiting;
+  last = all_lasts _ _ _ c.replay.ensures.journal.last c.in_ok-replay.ensures.replayed c.empty_stage.ensures.last;
+}
 
-pub returns-in_err-empty_stage-clause-last : goal.returns-in_err-empty_stage-clause-last
-returns-in_err-empty_stage-clause-last g c = all_lasts _ _ _ c.replay.ensures.last c.in_ok-replay.ensures.replayed c.empty_stage.ensures.last
-
-pub returns-clause-waiting : goal.returns-clause-waiting
-returns-clause-waiting g c = waiting_on _ _ _ c.replay.ensures.waiting c.empty_stage.ensures.waiting
-
-pub returns-clause-last : goal.returns-clause-last
-returns-clause-last g c = all_lasts _ _ _ c.replay.ensures.last c.in_ok-replay.ensures.replayed c.empty_stage.ensures.last
+pub returns-clause-journal : goal.returns-clause-journal
+returns-clause-journal g c = record {
+  waiting = waiting_on _ _ _ c.replay.ensures.journal.waiting c.empty_stage.ensures.waiting;
+  last = all_lasts _ _ _ c.replay.ensures.journal.last c.in_ok-replay.ensures.replayed c.empty_stage.ensures.last;
+}
 
 pub returns-in_err-replay-clause-bytes : goal.returns-in_err-replay-clause-bytes
 returns-in_err-replay-clause-bytes g c = replay_bytes _ _ c.replay.ensures.bytes

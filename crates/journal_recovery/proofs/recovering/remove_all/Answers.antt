@@ -1,5 +1,5 @@
 use Rattle.journal_core.proofs.Leaving.{lasting_done, lasting_ends, lasting_failed, lasting_start, remove_waiting, waiting_on, waiting_start}
-use Rattle.std.proofs.Common.{refl, arith}
+use Rattle.std.proofs.Common.{refl, arith, rules}
 use Rattle.journal_core.proofs.journal_intent.Copies.{take_more}
 use Rattle.base_core.proofs.Counting.{goes_on_twice, no_fault_twice, goes_on_same, no_fault_same}
 use Rattle.journal_core.proofs.Emptied.{any_told, cleared_done, cleared_ends, cleared_failed, cleared_start, gone_done, gone_start, not_empty, shown_done, shown_ends, shown_failed, shown_start, take_all, told_misuses}
@@ -30,8 +30,17 @@ returns-in_err-remove-clause-moments g c =
     let (cleared, gone, goes, none, proper, stays, shown, waiting, lasting, idle) = c.loop-i.invariant in
     cleared_failed crash_laws c.args.names.now _ _ _ c.loop-i.i c.get.result.now c.get.ensures _ cleared c.in_err-remove.ensures.moves
 
-pub returns-in_err-remove-clause-none : goal.returns-in_err-remove-clause-none
-returns-in_err-remove-clause-none g c = λ e. absurd (not_empty c.args.names.now c.loop-i.i c.get.result.now c.get.ensures e)
+pub returns-in_err-remove-clause-removal : goal.returns-in_err-remove-clause-removal
+returns-in_err-remove-clause-removal g c =
+    let (cleared, gone, goes, none, proper, stays, shown, waiting, lasting, idle) = c.loop-i.invariant in
+    record {
+      shown = shown_failed c.args.names.now _ _ _ c.loop-i.i c.get.result.now c.get.ensures _ shown c.in_err-remove.ensures.moves;
+      waiting = waiting_on _ _ _ waiting (remove_waiting _ _ _ _ c.in_err-remove.ensures.moves);
+      last = lasting_failed c.args.names.now _ _ _ c.loop-i.i c.get.result.now c.get.ensures _ lasting c.in_err-remove.ensures.moves;
+      cleared = search rules;
+      gone = search rules;
+      none = λ e. absurd (not_empty c.args.names.now c.loop-i.i c.get.result.now c.get.ensures e);
+    }
 
 pub returns-in_err-remove-clause-proper : goal.returns-in_err-remove-clause-proper
 returns-in_err-remove-clause-proper g c =
@@ -43,42 +52,14 @@ returns-clause-moments g c =
     let (cleared, gone, goes, none, proper, stays, shown, waiting, lasting, idle) = c.loop-i.invariant in
     cleared_ends _ _ _ cleared
 
-pub returns-clause-cleared : goal.returns-clause-cleared
-returns-clause-cleared g c =
+pub returns-clause-removal : goal.returns-clause-removal
+returns-clause-removal g c =
     let (cleared, gone, goes, none, proper, stays, shown, waiting, lasting, idle) = c.loop-i.invariant in
-    take_all _ _ _ _ (omega arith) gone
-
-pub returns-clause-gone : goal.returns-clause-gone
-returns-clause-gone g c =
-    let (cleared, gone, goes, none, proper, stays, shown, waiting, lasting, idle) = c.loop-i.invariant in
-    stays
-
-pub returns-in_err-remove-clause-shown : goal.returns-in_err-remove-clause-shown
-returns-in_err-remove-clause-shown g c =
-    let (cleared, gone, goes, none, proper, stays, shown, waiting, lasting, idle) = c.loop-i.invariant in
-    shown_failed c.args.names.now _ _ _ c.loop-i.i c.get.result.now c.get.ensures _ shown c.in_err-remove.ensures.moves
-
-pub returns-clause-shown : goal.returns-clause-shown
-returns-clause-shown g c =
-    let (cleared, gone, goes, none, proper, stays, shown, waiting, lasting, idle) = c.loop-i.invariant in
-    shown_ends _ _ _ shown
-
-pub returns-in_err-remove-clause-waiting : goal.returns-in_err-remove-clause-waiting
-returns-in_err-remove-clause-waiting g c =
-    let (cleared, gone, goes, none, proper, stays, shown, waiting, lasting, idle) = c.loop-i.invariant in
-    waiting_on _ _ _ waiting (remove_waiting _ _ _ _ c.in_err-remove.ensures.moves)
-
-pub returns-clause-waiting : goal.returns-clause-waiting
-returns-clause-waiting g c =
-    let (cleared, gone, goes, none, proper, stays, shown, waiting, lasting, idle) = c.loop-i.invariant in
-    waiting
-
-pub returns-in_err-remove-clause-last : goal.returns-in_err-remove-clause-last
-returns-in_err-remove-clause-last g c =
-    let (cleared, gone, goes, none, proper, stays, shown, waiting, lasting, idle) = c.loop-i.invariant in
-    lasting_failed c.args.names.now _ _ _ c.loop-i.i c.get.result.now c.get.ensures _ lasting c.in_err-remove.ensures.moves
-
-pub returns-clause-last : goal.returns-clause-last
-returns-clause-last g c =
-    let (cleared, gone, goes, none, proper, stays, shown, waiting, lasting, idle) = c.loop-i.invariant in
-    lasting_ends _ _ _ lasting
+    record {
+      shown = shown_ends _ _ _ shown;
+      waiting = waiting;
+      last = lasting_ends _ _ _ lasting;
+      cleared = take_all _ _ _ _ (omega arith) gone;
+      gone = stays;
+      none = search rules;
+    }

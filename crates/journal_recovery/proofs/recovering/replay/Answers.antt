@@ -1,6 +1,6 @@
 use Rattle.journal_core.proofs.OldOrNew.{recover_bytes_none}
 use Rattle.journal_core.proofs.Leaving.{lasts_back, lasts_none, waiting_back, waiting_none}
-use Rattle.std.proofs.Common.{refl}
+use Rattle.std.proofs.Common.{refl, rules}
 use Rattle.journal_recovery.proofs.Replaying.{absent_good, absent_replayed, absent_settled, found_bad, found_bad_idle, found_bytes, found_good_called, found_idle, found_moments, found_proper, found_reads, found_replayed, found_settled, idle_none, none_found, some_found}
 use Rattle.journal_core.proofs.Lasting.{found_gone, none_gone}
 use Rattle.journal_recovery.proofs.recovering.replay.Goals as goal
@@ -17,11 +17,13 @@ returns-in-Some-clause-settled g c = found_settled _ _ _ c.read_all.ensures.tree
 pub returns-in-Some-clause-idle : goal.returns-in-Some-clause-idle
 returns-in-Some-clause-idle g c = found_idle _ _ (g.T.Tree.history c.replay_file.new.tree) c.read_all.ensures.tree.same _ _ c.in_ok-name.ensures (some_found _ _ _ _ c.in_ok-file.ensures.answer c.in-Some.is) _
 
-pub returns-in-Some-clause-bad : goal.returns-in-Some-clause-bad
-returns-in-Some-clause-bad g c = λ cause e. found_bad _ _ _ c.read_all.ensures.tree.same _ _ c.in_ok-name.ensures (some_found _ _ _ _ c.in_ok-file.ensures.answer c.in-Some.is) cause (c.replay_file.ensures.bad cause e)
-
-pub returns-in-Some-clause-good : goal.returns-in-Some-clause-good
-returns-in-Some-clause-good g c = found_good_called _ _ (g.T.Tree.history c.replay_file.new.tree) c.read_all.ensures.tree.same _ _ c.in_ok-name.ensures (some_found _ _ _ _ c.in_ok-file.ensures.answer c.in-Some.is) c.replay_file.result c.replay_file.ensures.good
+pub returns-in-Some-clause-refusal : goal.returns-in-Some-clause-refusal
+returns-in-Some-clause-refusal g c = record {
+  bad = λ cause e. found_bad _ _ _ c.read_all.ensures.tree.same _ _ c.in_ok-name.ensures (some_found _ _ _ _ c.in_ok-file.ensures.answer c.in-Some.is) cause (c.replay_file.ensures.bad cause e);
+  good = found_good_called _ _ (g.T.Tree.history c.replay_file.new.tree) c.read_all.ensures.tree.same _ _ c.in_ok-name.ensures (some_found _ _ _ _ c.in_ok-file.ensures.answer c.in-Some.is) c.replay_file.result c.replay_file.ensures.good;
+  bad_idle = found_bad_idle _ _ _ c.read_all.ensures.tree.same _ _ c.in_ok-name.ensures (some_found _ _ _ _ c.in_ok-file.ensures.answer c.in-Some.is) c.replay_file.ensures.bad_idle;
+  found = search rules;
+}
 
 pub returns-in-Some-clause-proper : goal.returns-in-Some-clause-proper
 returns-in-Some-clause-proper g c = found_proper _ _ (g.T.Tree.history c.replay_file.new.tree) c.read_all.ensures.tree.same _ _ c.in_ok-name.ensures (some_found _ _ _ _ c.in_ok-file.ensures.answer c.in-Some.is) _ _ _ c.read_all.ensures.tree.proper c.replay_file.ensures.proper
@@ -32,8 +34,13 @@ returns-clause-replayed g c = absent_replayed _ _ c.read_all.ensures.tree.same _
 pub returns-clause-settled : goal.returns-clause-settled
 returns-clause-settled g c = absent_settled _ _ c.read_all.ensures.tree.same _ c.in_ok-name.ensures (none_found _ _ _ c.in_ok-file.ensures.answer c.in-None.is)
 
-pub returns-clause-good : goal.returns-clause-good
-returns-clause-good g c = absent_good _ _ c.read_all.ensures.tree.same _ c.in_ok-name.ensures (none_found _ _ _ c.in_ok-file.ensures.answer c.in-None.is)
+pub returns-clause-refusal : goal.returns-clause-refusal
+returns-clause-refusal g c = record {
+  bad = search rules;
+  good = absent_good _ _ c.read_all.ensures.tree.same _ c.in_ok-name.ensures (none_found _ _ _ c.in_ok-file.ensures.answer c.in-None.is);
+  bad_idle = idle_none _ _ c.read_all.ensures.tree.same;
+  found = search rules;
+}
 
 pub returns-in-Some-clause-gone : goal.returns-in-Some-clause-gone
 returns-in-Some-clause-gone g c = found_gone c.replay_file.result (g.T.Tree.history c.args.tree.now) _ c.replay_file.ensures.gone
@@ -44,41 +51,45 @@ returns-clause-gone g c = none_gone _ _ _ c.in_ok-name.ensures (none_found _ _ _
 pub returns-in-Some-clause-reads : goal.returns-in-Some-clause-reads
 returns-in-Some-clause-reads g c = found_reads _ _ _ c.read_all.ensures.tree.same _ _ c.in_ok-name.ensures (some_found _ _ _ _ c.in_ok-file.ensures.answer c.in-Some.is) c.replay_file.ensures.reads
 
-pub returns-in_err-name-clause-bad_idle : goal.returns-in_err-name-clause-bad_idle
-returns-in_err-name-clause-bad_idle g c = idle_none _ _ refl
+pub returns-in_err-name-clause-refusal : goal.returns-in_err-name-clause-refusal
+returns-in_err-name-clause-refusal g c = record {
+  bad = search rules;
+  good = search rules;
+  bad_idle = idle_none _ _ refl;
+  found = search rules;
+}
 
-pub returns-in_err-file-clause-bad_idle : goal.returns-in_err-file-clause-bad_idle
-returns-in_err-file-clause-bad_idle g c = idle_none _ _ c.read_all.ensures.tree.same
+pub returns-in_err-file-clause-refusal : goal.returns-in_err-file-clause-refusal
+returns-in_err-file-clause-refusal g c = record {
+  bad = search rules;
+  good = search rules;
+  bad_idle = idle_none _ _ c.read_all.ensures.tree.same;
+  found = search rules;
+}
 
-pub returns-in-Some-clause-bad_idle : goal.returns-in-Some-clause-bad_idle
-returns-in-Some-clause-bad_idle g c = found_bad_idle _ _ _ c.read_all.ensures.tree.same _ _ c.in_ok-name.ensures (some_found _ _ _ _ c.in_ok-file.ensures.answer c.in-Some.is) c.replay_file.ensures.bad_idle
+pub returns-in_err-name-clause-journal : goal.returns-in_err-name-clause-journal
+returns-in_err-name-clause-journal g c = record {
+  waiting = waiting_none _ _ refl;
+  last = lasts_none _ _ refl;
+}
 
-pub returns-clause-bad_idle : goal.returns-clause-bad_idle
-returns-clause-bad_idle g c = idle_none _ _ c.read_all.ensures.tree.same
+pub returns-in_err-file-clause-journal : goal.returns-in_err-file-clause-journal
+returns-in_err-file-clause-journal g c = record {
+  waiting = waiting_none _ _ c.read_all.ensures.tree.same;
+  last = lasts_none _ _ c.read_all.ensures.tree.same;
+}
 
-pub returns-in_err-name-clause-waiting : goal.returns-in_err-name-clause-waiting
-returns-in_err-name-clause-waiting g c = waiting_none _ _ refl
+pub returns-in-Some-clause-journal : goal.returns-in-Some-clause-journal
+returns-in-Some-clause-journal g c = record {
+  waiting = waiting_back _ _ _ c.read_all.ensures.tree.same c.replay_file.ensures.journal.waiting;
+  last = lasts_back _ _ _ c.read_all.ensures.tree.same c.replay_file.ensures.journal.last;
+}
 
-pub returns-in_err-file-clause-waiting : goal.returns-in_err-file-clause-waiting
-returns-in_err-file-clause-waiting g c = waiting_none _ _ c.read_all.ensures.tree.same
-
-pub returns-in-Some-clause-waiting : goal.returns-in-Some-clause-waiting
-returns-in-Some-clause-waiting g c = waiting_back _ _ _ c.read_all.ensures.tree.same c.replay_file.ensures.waiting
-
-pub returns-clause-waiting : goal.returns-clause-waiting
-returns-clause-waiting g c = waiting_none _ _ c.read_all.ensures.tree.same
-
-pub returns-in_err-name-clause-last : goal.returns-in_err-name-clause-last
-returns-in_err-name-clause-last g c = lasts_none _ _ refl
-
-pub returns-in_err-file-clause-last : goal.returns-in_err-file-clause-last
-returns-in_err-file-clause-last g c = lasts_none _ _ c.read_all.ensures.tree.same
-
-pub returns-in-Some-clause-last : goal.returns-in-Some-clause-last
-returns-in-Some-clause-last g c = lasts_back _ _ _ c.read_all.ensures.tree.same c.replay_file.ensures.last
-
-pub returns-clause-last : goal.returns-clause-last
-returns-clause-last g c = lasts_none _ _ c.read_all.ensures.tree.same
+pub returns-clause-journal : goal.returns-clause-journal
+returns-clause-journal g c = record {
+  waiting = waiting_none _ _ c.read_all.ensures.tree.same;
+  last = lasts_none _ _ c.read_all.ensures.tree.same;
+}
 
 pub returns-in_err-name-clause-bytes : goal.returns-in_err-name-clause-bytes
 returns-in_err-name-clause-bytes g c = recover_bytes_none _ _ refl

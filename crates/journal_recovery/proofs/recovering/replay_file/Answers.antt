@@ -15,7 +15,7 @@ apply_all-requires-clause-within g c = none_acted c.in_ok-stage.stage c.in_ok-st
 pub returns-in_err-apply_all-clause-moments : goal.returns-in_err-apply_all-clause-moments
 returns-in_err-apply_all-clause-moments g c =
     found_moments _ _ _ _ _ c.in_ok-sync_all_names.ensures.moves
-    (act_failed _ c.apply_all.new.stage _ c.in_ok-stage.ensures.intent c.in_ok-stage.ensures.none _ _ c.apply_all.ensures.moments)
+    (act_failed _ c.apply_all.new.stage _ c.in_ok-stage.ensures.intent c.in_ok-stage.ensures.none _ _ c.apply_all.ensures.actions.moments)
 
 pub returns-in_err-apply_all-clause-proper : goal.returns-in_err-apply_all-clause-proper
 returns-in_err-apply_all-clause-proper g c =
@@ -25,12 +25,12 @@ returns-in_err-apply_all-clause-proper g c =
 pub returns-in_err-finish-clause-moments : goal.returns-in_err-finish-clause-moments
 returns-in_err-finish-clause-moments g c =
     found_moments _ _ _ _ _ c.in_ok-sync_all_names.ensures.moves
-    (end_moments _ _ _ c.in_ok-stage.ensures.intent c.in_ok-stage.ensures.none _ _ _ c.apply_all.ensures.moments c.in_ok-apply_all.ensures.acting c.finish.ensures.moments)
+    (end_moments _ _ _ c.in_ok-stage.ensures.intent c.in_ok-stage.ensures.none _ _ _ c.apply_all.ensures.actions.moments c.in_ok-apply_all.ensures.acting c.finish.ensures.moments)
 
 pub returns-clause-moments : goal.returns-clause-moments
 returns-clause-moments g c =
     found_moments _ _ _ _ _ c.in_ok-sync_all_names.ensures.moves
-    (end_moments _ _ _ c.in_ok-stage.ensures.intent c.in_ok-stage.ensures.none _ _ _ c.apply_all.ensures.moments c.in_ok-apply_all.ensures.acting c.finish.ensures.moments)
+    (end_moments _ _ _ c.in_ok-stage.ensures.intent c.in_ok-stage.ensures.none _ _ _ c.apply_all.ensures.actions.moments c.in_ok-apply_all.ensures.acting c.finish.ensures.moments)
 
 pub returns-in_err-finish-clause-proper : goal.returns-in_err-finish-clause-proper
 returns-in_err-finish-clause-proper g c =
@@ -45,7 +45,7 @@ returns-clause-proper g c =
 pub returns-clause-settled : goal.returns-clause-settled
 returns-clause-settled g c =
     found_settled _ _ _ _ _ c.in_ok-sync_all_names.ensures.moves
-    (end_settled _ _ _ c.in_ok-stage.ensures.intent c.in_ok-stage.ensures.none _ _ _ c.apply_all.ensures.moments c.in_ok-apply_all.ensures.acting c.in_ok-finish.ensures.settled)
+    (end_settled _ _ _ c.in_ok-stage.ensures.intent c.in_ok-stage.ensures.none _ _ _ c.apply_all.ensures.actions.moments c.in_ok-apply_all.ensures.acting c.in_ok-finish.ensures.settled)
 
 pub returns-clause-replayed : goal.returns-clause-replayed
 returns-clause-replayed g c =
@@ -55,17 +55,17 @@ returns-clause-replayed g c =
 pub returns-in_err-apply_all-clause-reads : goal.returns-in_err-apply_all-clause-reads
 returns-in_err-apply_all-clause-reads g c =
     found_since _ _ _ _ _ c.in_ok-sync_all_names.ensures.moves (λ v. RecoversTo (recovered_files (files_of v))) (λ v. refl) (λ v w r. r)
-    (act_reads _ c.apply_all.new.stage _ c.in_ok-stage.ensures.intent c.in_ok-stage.ensures.none _ _ c.apply_all.ensures.reads)
+    (act_reads _ c.apply_all.new.stage _ c.in_ok-stage.ensures.intent c.in_ok-stage.ensures.none _ _ c.apply_all.ensures.actions.reads)
 
 pub returns-in_err-finish-clause-reads : goal.returns-in_err-finish-clause-reads
 returns-in_err-finish-clause-reads g c =
     found_since _ _ _ _ _ c.in_ok-sync_all_names.ensures.moves (λ v. RecoversTo (recovered_files (files_of v))) (λ v. refl) (λ v w r. r)
-    (end_reads _ _ _ c.in_ok-stage.ensures.intent c.in_ok-stage.ensures.none _ _ _ c.apply_all.ensures.reads c.in_ok-apply_all.ensures.acting c.finish.ensures.reads)
+    (end_reads _ _ _ c.in_ok-stage.ensures.intent c.in_ok-stage.ensures.none _ _ _ c.apply_all.ensures.actions.reads c.in_ok-apply_all.ensures.acting c.finish.ensures.reads)
 
 pub returns-clause-reads : goal.returns-clause-reads
 returns-clause-reads g c =
     found_since _ _ _ _ _ c.in_ok-sync_all_names.ensures.moves (λ v. RecoversTo (recovered_files (files_of v))) (λ v. refl) (λ v w r. r)
-    (end_reads _ _ _ c.in_ok-stage.ensures.intent c.in_ok-stage.ensures.none _ _ _ c.apply_all.ensures.reads c.in_ok-apply_all.ensures.acting c.finish.ensures.reads)
+    (end_reads _ _ _ c.in_ok-stage.ensures.intent c.in_ok-stage.ensures.none _ _ _ c.apply_all.ensures.actions.reads c.in_ok-apply_all.ensures.acting c.finish.ensures.reads)
 
 pub returns-in_err-apply_all-clause-bad_idle : goal.returns-in_err-apply_all-clause-bad_idle
 returns-in_err-apply_all-clause-bad_idle g c = λ cause is. absurd (no_fault _ cause c.in_ok-stage.ensures.good is)
@@ -76,50 +76,44 @@ returns-in_err-finish-clause-bad_idle g c = λ cause is. absurd (no_fault _ caus
 pub returns-clause-bad_idle : goal.returns-clause-bad_idle
 returns-clause-bad_idle g c = λ cause is. absurd (no_fault _ cause c.in_ok-stage.ensures.good is)
 
-pub returns-in_err-stage-clause-waiting : goal.returns-in_err-stage-clause-waiting
-returns-in_err-stage-clause-waiting g c = waiting_none _ _ refl
+pub returns-in_err-stage-clause-journal : goal.returns-in_err-stage-clause-journal
+returns-in_err-stage-clause-journal g c = record {
+  waiting = waiting_none _ _ refl;
+  last = lasts_none _ _ refl;
+}
 
-pub returns-in_err-stage-clause-last : goal.returns-in_err-stage-clause-last
-returns-in_err-stage-clause-last g c = lasts_none _ _ refl
+pub returns-in_err-apply_all-clause-journal : goal.returns-in_err-apply_all-clause-journal
+returns-in_err-apply_all-clause-journal g c = record {
+  waiting = waiting_on _ _ _ (sync_waiting _ _ _ c.in_ok-sync_all_names.ensures.moves) (intent_waiting _ _ c.apply_all.ensures.waiting);
+  last = then_lasts _ _ _ _ c.in_ok-sync_all_names.ensures.moves (act_lasts _ _ c.apply_all.ensures.waiting);
+}
 
-pub returns-in_err-apply_all-clause-waiting : goal.returns-in_err-apply_all-clause-waiting
-returns-in_err-apply_all-clause-waiting g c =
-    waiting_on _ _ _ (sync_waiting _ _ _ c.in_ok-sync_all_names.ensures.moves) (intent_waiting _ _ c.apply_all.ensures.waiting)
+pub returns-in_err-finish-clause-journal : goal.returns-in_err-finish-clause-journal
+returns-in_err-finish-clause-journal g c = record {
+  waiting = waiting_on _ _ _ (sync_waiting _ _ _ c.in_ok-sync_all_names.ensures.moves) (waiting_on _ _ _ (intent_waiting _ _ c.apply_all.ensures.waiting) c.finish.ensures.waiting);
+  last = then_lasts _ _ _ _ c.in_ok-sync_all_names.ensures.moves (end_lasts _ _ _ c.apply_all.ensures.waiting c.finish.ensures.last);
+}
 
-pub returns-in_err-apply_all-clause-last : goal.returns-in_err-apply_all-clause-last
-returns-in_err-apply_all-clause-last g c =
-    then_lasts _ _ _ _ c.in_ok-sync_all_names.ensures.moves (act_lasts _ _ c.apply_all.ensures.waiting)
-
-pub returns-in_err-finish-clause-waiting : goal.returns-in_err-finish-clause-waiting
-returns-in_err-finish-clause-waiting g c =
-    waiting_on _ _ _ (sync_waiting _ _ _ c.in_ok-sync_all_names.ensures.moves) (waiting_on _ _ _ (intent_waiting _ _ c.apply_all.ensures.waiting) c.finish.ensures.waiting)
-
-pub returns-in_err-finish-clause-last : goal.returns-in_err-finish-clause-last
-returns-in_err-finish-clause-last g c =
-    then_lasts _ _ _ _ c.in_ok-sync_all_names.ensures.moves (end_lasts _ _ _ c.apply_all.ensures.waiting c.finish.ensures.last)
-
-pub returns-clause-waiting : goal.returns-clause-waiting
-returns-clause-waiting g c =
-    waiting_on _ _ _ (sync_waiting _ _ _ c.in_ok-sync_all_names.ensures.moves) (waiting_on _ _ _ (intent_waiting _ _ c.apply_all.ensures.waiting) c.finish.ensures.waiting)
-
-pub returns-clause-last : goal.returns-clause-last
-returns-clause-last g c =
-    then_lasts _ _ _ _ c.in_ok-sync_all_names.ensures.moves (end_lasts _ _ _ c.apply_all.ensures.waiting c.finish.ensures.last)
+pub returns-clause-journal : goal.returns-clause-journal
+returns-clause-journal g c = record {
+  waiting = waiting_on _ _ _ (sync_waiting _ _ _ c.in_ok-sync_all_names.ensures.moves) (waiting_on _ _ _ (intent_waiting _ _ c.apply_all.ensures.waiting) c.finish.ensures.waiting);
+  last = then_lasts _ _ _ _ c.in_ok-sync_all_names.ensures.moves (end_lasts _ _ _ c.apply_all.ensures.waiting c.finish.ensures.last);
+}
 
 pub returns-in_err-apply_all-clause-bytes : goal.returns-in_err-apply_all-clause-bytes
 returns-in_err-apply_all-clause-bytes g c =
     found_since _ _ _ _ _ c.in_ok-sync_all_names.ensures.moves (λ v. HasOldOrNewBytes (files_of v) (recovered_files (files_of v))) (λ v q shown. inl refl) (λ v w b. b)
-    (found_bytes _ _ c.in_ok-stage.ensures.intent c.in_ok-stage.ensures.none _ _ c.apply_all.ensures.bytes)
+    (found_bytes _ _ c.in_ok-stage.ensures.intent c.in_ok-stage.ensures.none _ _ c.apply_all.ensures.actions.bytes)
 
 pub returns-in_err-finish-clause-bytes : goal.returns-in_err-finish-clause-bytes
 returns-in_err-finish-clause-bytes g c =
     found_since _ _ _ _ _ c.in_ok-sync_all_names.ensures.moves (λ v. HasOldOrNewBytes (files_of v) (recovered_files (files_of v))) (λ v q shown. inl refl) (λ v w b. b)
-    (found_bytes _ _ c.in_ok-stage.ensures.intent c.in_ok-stage.ensures.none _ _ (bytes_end _ _ _ _ c.apply_all.ensures.bytes c.finish.ensures.shown))
+    (found_bytes _ _ c.in_ok-stage.ensures.intent c.in_ok-stage.ensures.none _ _ (bytes_end _ _ _ _ c.apply_all.ensures.actions.bytes c.finish.ensures.shown))
 
 pub returns-clause-bytes : goal.returns-clause-bytes
 returns-clause-bytes g c =
     found_since _ _ _ _ _ c.in_ok-sync_all_names.ensures.moves (λ v. HasOldOrNewBytes (files_of v) (recovered_files (files_of v))) (λ v q shown. inl refl) (λ v w b. b)
-    (found_bytes _ _ c.in_ok-stage.ensures.intent c.in_ok-stage.ensures.none _ _ (bytes_end _ _ _ _ c.apply_all.ensures.bytes c.finish.ensures.shown))
+    (found_bytes _ _ c.in_ok-stage.ensures.intent c.in_ok-stage.ensures.none _ _ (bytes_end _ _ _ _ c.apply_all.ensures.actions.bytes c.finish.ensures.shown))
 
 pub returns-in_err-sync_all_names-clause-moments : goal.returns-in_err-sync_all_names-clause-moments
 returns-in_err-sync_all_names-clause-moments g c =
@@ -137,13 +131,11 @@ pub returns-in_err-sync_all_names-clause-bad_idle : goal.returns-in_err-sync_all
 returns-in_err-sync_all_names-clause-bad_idle g c =
     λ cause is. absurd (no_fault _ cause c.in_ok-stage.ensures.good is)
 
-pub returns-in_err-sync_all_names-clause-waiting : goal.returns-in_err-sync_all_names-clause-waiting
-returns-in_err-sync_all_names-clause-waiting g c =
-    sync_waiting _ _ _ c.in_err-sync_all_names.ensures.moves
-
-pub returns-in_err-sync_all_names-clause-last : goal.returns-in_err-sync_all_names-clause-last
-returns-in_err-sync_all_names-clause-last g c =
-    sync_lasts _ _ _ c.in_err-sync_all_names.ensures.moves
+pub returns-in_err-sync_all_names-clause-journal : goal.returns-in_err-sync_all_names-clause-journal
+returns-in_err-sync_all_names-clause-journal g c = record {
+  waiting = sync_waiting _ _ _ c.in_err-sync_all_names.ensures.moves;
+  last = sync_lasts _ _ _ c.in_err-sync_all_names.ensures.moves;
+}
 
 pub returns-in_err-sync_all_names-clause-reads : goal.returns-in_err-sync_all_names-clause-reads
 returns-in_err-sync_all_names-clause-reads g c =

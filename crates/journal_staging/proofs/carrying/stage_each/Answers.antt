@@ -7,13 +7,13 @@ use Rattle.journal_staging.proofs.carrying.stage_each.Goals as goal
 
 pub returns-in_err-stage_write-clause-run : goal.returns-in_err-stage_write-clause-run
 returns-in_err-stage_write-clause-run g c =
-    listed_run _ _ _ _ _ _ _ c.loop-write.invariant.listed c.in_err-stage_write.ensures.run
+    listed_run _ _ _ _ _ _ _ c.loop-write.invariant.listed c.in_err-stage_write.ensures.source.run
 
 pub returns-in_err-stage_write-clause-good : goal.returns-in_err-stage_write-clause-good
 returns-in_err-stage_write-clause-good g c = λ contents v first staging stand.
     if_disk c.from_residual.result c.in_err-stage_write.field-0.0 c.from_residual.ensures.1
     (each_good c.args.stage.now c.loop-write.stage c.stage_write.new.stage c.args.writes.now c.loop-write.write-index c.write-item.result (item_at c.args.writes.now c.loop-write.write-index c.write-item.result (omega arith) c.write-item.is)
-    (g.T.Tree.history c.args.tree.now) (g.T.Tree.history c.loop-write.tree) (g.T.Tree.history c.stage_write.new.tree) c.loop-write.invariant.staged _ c.in_err-stage_write.ensures.good contents v first staging stand)
+    (g.T.Tree.history c.args.tree.now) (g.T.Tree.history c.loop-write.tree) (g.T.Tree.history c.stage_write.new.tree) c.loop-write.invariant.staged _ c.in_err-stage_write.ensures.source.good contents v first staging stand)
 
 pub returns-in_err-stage_write-clause-bad : goal.returns-in_err-stage_write-clause-bad
 returns-in_err-stage_write-clause-bad g c = λ member cause is. record {
@@ -26,23 +26,23 @@ returns-in_err-stage_write-clause-bad g c = λ member cause is. record {
 pub returns-in_err-stage_write-clause-proper : goal.returns-in_err-stage_write-clause-proper
 returns-in_err-stage_write-clause-proper g c =
     each_proper c.args.stage.now c.loop-write.stage c.stage_write.new.stage c.args.writes.now c.loop-write.write-index c.write-item.result (item_at c.args.writes.now c.loop-write.write-index c.write-item.result (omega arith) c.write-item.is)
-    (g.T.Tree.history c.args.tree.now) (g.T.Tree.history c.loop-write.tree) (g.T.Tree.history c.stage_write.new.tree) c.loop-write.invariant.staged _ _ _ c.loop-write.invariant.proper c.in_err-stage_write.ensures.proper
+    (g.T.Tree.history c.args.tree.now) (g.T.Tree.history c.loop-write.tree) (g.T.Tree.history c.stage_write.new.tree) c.loop-write.invariant.staged _ _ _ c.loop-write.invariant.proper c.in_err-stage_write.ensures.source.proper
 
 pub loop-write-preserved : goal.loop-write-preserved
 loop-write-preserved g c = record {
-  view = c.in_ok-stage_write.ensures.view ∙ ap (λ (s : Staging). record s { staged = s.staged + 1 }) c.loop-write.invariant.view;
+  view = c.in_ok-stage_write.ensures.source.view ∙ ap (λ (s : Staging). record s { staged = s.staged + 1 }) c.loop-write.invariant.view;
   staged =
       each_more c.args.stage.now c.loop-write.stage c.stage_write.new.stage c.args.writes.now c.loop-write.write-index c.write-item.result (item_at c.args.writes.now c.loop-write.write-index c.write-item.result (omega arith) c.write-item.is)
-      (g.T.Tree.history c.args.tree.now) (g.T.Tree.history c.loop-write.tree) (g.T.Tree.history c.stage_write.new.tree) c.loop-write.invariant.staged c.in_ok-stage_write.ensures.staging;
+      (g.T.Tree.history c.args.tree.now) (g.T.Tree.history c.loop-write.tree) (g.T.Tree.history c.stage_write.new.tree) c.loop-write.invariant.staged c.in_ok-stage_write.ensures.source.staging;
   listed =
       listed_next c.args.stage.now c.loop-write.stage c.stage_write.new.stage c.args.writes.now c.loop-write.write-index c.write-item.result
       (g.T.Tree.history c.args.tree.now) (g.T.Tree.history c.loop-write.tree) (g.T.Tree.history c.stage_write.new.tree) (item_at c.args.writes.now c.loop-write.write-index c.write-item.result (omega arith) c.write-item.is)
       c.loop-write.invariant.listed c.in_ok-stage_write.ensures.listed;
-  goes_on = goes_on_twice _ _ _ c.loop-write.invariant.goes_on c.in_ok-stage_write.ensures.goes_on;
-  kept = no_fault_twice _ _ _ c.loop-write.invariant.kept c.in_ok-stage_write.ensures.kept;
+  goes_on = goes_on_twice _ _ _ c.loop-write.invariant.goes_on c.in_ok-stage_write.ensures.source.counts.goes_on;
+  kept = no_fault_twice _ _ _ c.loop-write.invariant.kept c.in_ok-stage_write.ensures.source.counts.kept;
   proper =
       each_proper c.args.stage.now c.loop-write.stage c.stage_write.new.stage c.args.writes.now c.loop-write.write-index c.write-item.result (item_at c.args.writes.now c.loop-write.write-index c.write-item.result (omega arith) c.write-item.is)
-      (g.T.Tree.history c.args.tree.now) (g.T.Tree.history c.loop-write.tree) (g.T.Tree.history c.stage_write.new.tree) c.loop-write.invariant.staged _ _ _ c.loop-write.invariant.proper c.in_ok-stage_write.ensures.proper;
+      (g.T.Tree.history c.args.tree.now) (g.T.Tree.history c.loop-write.tree) (g.T.Tree.history c.stage_write.new.tree) c.loop-write.invariant.staged _ _ _ c.loop-write.invariant.proper c.in_ok-stage_write.ensures.source.proper;
 }
 
 pub returns-clause-run : goal.returns-clause-run

@@ -1,4 +1,4 @@
-use Rattle.std.proofs.Common.{ap, refl, sym, ◌∙◌, Ok, Err}
+use Rattle.std.proofs.Common.{ap, refl, sym, ◌∙◌, Ok, Err, rules}
 use Rattle.base_core.proofs.Counting.{goes_on_twice, no_fault_twice}
 use Rattle.package_verifier.specs.package_reader.declared.piece.PieceFault.TheVariants.{Bad}
 use Rattle.journal_staging.proofs.OneFile.{begun_first, begun_listed, begun_more, begun_read, begun_run, come_bad, come_first, come_more, half_proper, if_disk, listed_more, listed_whole, read_fails, read_more, read_proper, read_whole, same_bytes, same_fault, same_history}
@@ -12,29 +12,29 @@ pieces-init g c = record {
   listed = begun_listed _ _ c.args.file _ _ c.in_ok-begin_file.ensures.staging;
   come = come_first c.args.file;
   due = refl;
-  goes_on = c.in_ok-begin_file.ensures.goes_on;
-  kept = c.in_ok-begin_file.ensures.kept;
-  proper = λ contents v first bytes staging reading room. c.in_ok-begin_file.ensures.proper contents v first staging room;
+  goes_on = c.in_ok-begin_file.ensures.only.counts.goes_on;
+  kept = c.in_ok-begin_file.ensures.only.counts.kept;
+  proper = λ contents v first bytes staging reading room. c.in_ok-begin_file.ensures.only.proper contents v first staging room;
 }
 
-pub returns-in_err-next_piece-clause-run : goal.returns-in_err-next_piece-clause-run
-returns-in_err-next_piece-clause-run g c =
-    begun_run _ _ _ _ _ c.pieces.invariant.begun (λ contents so_far v first staging. (same_history _ _ _ _ _ _ _ c.in_err-next_piece.ensures.tree.same staging).run)
-
-pub returns-in_err-next_piece-clause-good : goal.returns-in_err-next_piece-clause-good
-returns-in_err-next_piece-clause-good g c = λ contents v first bytes staging reading.
-    if_disk c.from_residual-in_err-next_piece.result c.in_err-next_piece.field-0.0 c.from_residual-in_err-next_piece.ensures.1
-    (read_fails c.args.stage.now c.pieces.stage c.args.file c.pieces.file c.next_piece.new.self c.next_piece.new.piece _ (g.T.Tree.history c.pieces.tree) (g.T.Tree.history c.args.tree.now) c.next_piece.result
-    c.pieces.invariant.read c.next_piece.ensures.piece contents v first bytes staging reading c.in_err-next_piece.field-0.0 c.in_err-next_piece.was)
+pub returns-in_err-next_piece-clause-source : goal.returns-in_err-next_piece-clause-source
+returns-in_err-next_piece-clause-source g c = record {
+  run = begun_run _ _ _ _ _ c.pieces.invariant.begun (λ contents so_far v first staging. (same_history _ _ _ _ _ _ _ c.in_err-next_piece.ensures.tree.same staging).run);
+  staging = search rules;
+  good =
+      λ contents v first bytes staging reading.
+      if_disk c.from_residual-in_err-next_piece.result c.in_err-next_piece.field-0.0 c.from_residual-in_err-next_piece.ensures.1
+      (read_fails c.args.stage.now c.pieces.stage c.args.file c.pieces.file c.next_piece.new.self c.next_piece.new.piece _ (g.T.Tree.history c.pieces.tree) (g.T.Tree.history c.args.tree.now) c.next_piece.result
+      c.pieces.invariant.read c.next_piece.ensures.piece contents v first bytes staging reading c.in_err-next_piece.field-0.0 c.in_err-next_piece.was);
+  view = search rules;
+  counts = search rules;
+  proper = read_proper _ _ _ _ _ _ (g.T.Tree.history c.args.tree.now) c.pieces.invariant.read _ _ _ c.pieces.invariant.proper c.in_err-next_piece.ensures.tree.proper;
+}
 
 pub returns-in_err-next_piece-clause-bad : goal.returns-in_err-next_piece-clause-bad
 returns-in_err-next_piece-clause-bad g c = λ come none cause is.
     come_bad c.args.file c.pieces.file c.next_piece.new.self c.next_piece.new.piece c.next_piece.result c.pieces.invariant.come c.next_piece.ensures.tested c.pieces.invariant.due come none cause
     (c.in_err-next_piece.was ∙ ap Err (same_fault c.from_residual-in_err-next_piece.result c.in_err-next_piece.field-0.0 (Bad cause) c.from_residual-in_err-next_piece.ensures.1 is))
-
-pub returns-in_err-next_piece-clause-proper : goal.returns-in_err-next_piece-clause-proper
-returns-in_err-next_piece-clause-proper g c =
-    read_proper _ _ _ _ _ _ (g.T.Tree.history c.args.tree.now) c.pieces.invariant.read _ _ _ c.pieces.invariant.proper c.in_err-next_piece.ensures.tree.proper
 
 pub pieces-preserved : goal.pieces-preserved
 pieces-preserved g c = record {
@@ -51,48 +51,55 @@ pieces-preserved g c = record {
       (c.in_ok-append_piece.ensures.staging contents so_far v first (same_history _ _ _ _ _ _ _ c.in_ok-next_piece.ensures.tree.same staging)));
   come = come_more c.args.file c.pieces.file c.next_piece.new.self c.next_piece.new.piece c.next_piece.result c.pieces.invariant.come c.next_piece.ensures.tested (c.in_ok-next_piece.was ∙ ap Ok c.if-branch.true);
   due = c.next_piece.ensures.due ∙ c.pieces.invariant.due;
-  goes_on = goes_on_twice _ _ _ (goes_on_twice _ _ _ c.pieces.invariant.goes_on c.in_ok-next_piece.ensures.tree.goes_on) c.in_ok-append_piece.ensures.goes_on;
-  kept = no_fault_twice _ _ _ (no_fault_twice _ _ _ c.pieces.invariant.kept c.in_ok-next_piece.ensures.tree.kept) c.in_ok-append_piece.ensures.kept;
+  goes_on = goes_on_twice _ _ _ (goes_on_twice _ _ _ c.pieces.invariant.goes_on c.in_ok-next_piece.ensures.tree.goes_on) c.in_ok-append_piece.ensures.only.counts.goes_on;
+  kept = no_fault_twice _ _ _ (no_fault_twice _ _ _ c.pieces.invariant.kept c.in_ok-next_piece.ensures.tree.kept) c.in_ok-append_piece.ensures.only.counts.kept;
   proper = half_proper _ _ _ _ _ _ (g.T.Tree.history c.args.tree.now) c.pieces.invariant.read _ _ _
       (read_proper _ _ _ _ _ _ (g.T.Tree.history c.args.tree.now) c.pieces.invariant.read _ _ _ c.pieces.invariant.proper c.in_ok-next_piece.ensures.tree.proper)
-      (λ contents so_far v first staging. c.in_ok-append_piece.ensures.proper contents so_far v first (same_history _ _ _ _ _ _ _ c.in_ok-next_piece.ensures.tree.same staging));
+      (λ contents so_far v first staging. c.in_ok-append_piece.ensures.only.proper contents so_far v first (same_history _ _ _ _ _ _ _ c.in_ok-next_piece.ensures.tree.same staging));
 }
 
-pub returns-in_err-append_piece-clause-run : goal.returns-in_err-append_piece-clause-run
-returns-in_err-append_piece-clause-run g c =
-    begun_run _ _ _ _ _ c.pieces.invariant.begun (λ contents so_far v first staging. c.in_err-append_piece.ensures.run contents so_far v first (same_history _ _ _ _ _ _ _ c.in_ok-next_piece.ensures.tree.same staging))
+pub returns-in_err-append_piece-clause-source : goal.returns-in_err-append_piece-clause-source
+returns-in_err-append_piece-clause-source g c = record {
+  run = begun_run _ _ _ _ _ c.pieces.invariant.begun (λ contents so_far v first staging. c.in_err-append_piece.ensures.only.run contents so_far v first (same_history _ _ _ _ _ _ _ c.in_ok-next_piece.ensures.tree.same staging));
+  staging = search rules;
+  good = search rules;
+  view = search rules;
+  counts = search rules;
+  proper =
+      half_proper _ _ _ _ _ _ (g.T.Tree.history c.args.tree.now) c.pieces.invariant.read _ _ _
+      (read_proper _ _ _ _ _ _ (g.T.Tree.history c.args.tree.now) c.pieces.invariant.read _ _ _ c.pieces.invariant.proper c.in_ok-next_piece.ensures.tree.proper)
+      (λ contents so_far v first staging. c.in_err-append_piece.ensures.only.proper contents so_far v first (same_history _ _ _ _ _ _ _ c.in_ok-next_piece.ensures.tree.same staging));
+}
 
-pub returns-in_err-append_piece-clause-proper : goal.returns-in_err-append_piece-clause-proper
-returns-in_err-append_piece-clause-proper g c =
-    half_proper _ _ _ _ _ _ (g.T.Tree.history c.args.tree.now) c.pieces.invariant.read _ _ _
-    (read_proper _ _ _ _ _ _ (g.T.Tree.history c.args.tree.now) c.pieces.invariant.read _ _ _ c.pieces.invariant.proper c.in_ok-next_piece.ensures.tree.proper)
-    (λ contents so_far v first staging. c.in_err-append_piece.ensures.proper contents so_far v first (same_history _ _ _ _ _ _ _ c.in_ok-next_piece.ensures.tree.same staging))
+pub returns-in_err-end_file-clause-source : goal.returns-in_err-end_file-clause-source
+returns-in_err-end_file-clause-source g c = record {
+  run = begun_run _ _ _ _ _ c.pieces.invariant.begun (λ contents so_far v first staging. c.in_err-end_file.ensures.only.run contents so_far v first (same_history _ _ _ _ _ _ _ c.in_ok-next_piece.ensures.tree.same staging));
+  staging = search rules;
+  good = search rules;
+  view = search rules;
+  counts = search rules;
+  proper =
+      half_proper _ _ _ _ _ _ (g.T.Tree.history c.args.tree.now) c.pieces.invariant.read _ _ _
+      (read_proper _ _ _ _ _ _ (g.T.Tree.history c.args.tree.now) c.pieces.invariant.read _ _ _ c.pieces.invariant.proper c.in_ok-next_piece.ensures.tree.proper)
+      (λ contents so_far v first staging. c.in_err-end_file.ensures.only.proper contents so_far v first (same_history _ _ _ _ _ _ _ c.in_ok-next_piece.ensures.tree.same staging));
+}
 
-pub returns-in_err-end_file-clause-run : goal.returns-in_err-end_file-clause-run
-returns-in_err-end_file-clause-run g c =
-    begun_run _ _ _ _ _ c.pieces.invariant.begun (λ contents so_far v first staging. c.in_err-end_file.ensures.run contents so_far v first (same_history _ _ _ _ _ _ _ c.in_ok-next_piece.ensures.tree.same staging))
-
-pub returns-in_err-end_file-clause-proper : goal.returns-in_err-end_file-clause-proper
-returns-in_err-end_file-clause-proper g c =
-    half_proper _ _ _ _ _ _ (g.T.Tree.history c.args.tree.now) c.pieces.invariant.read _ _ _
-    (read_proper _ _ _ _ _ _ (g.T.Tree.history c.args.tree.now) c.pieces.invariant.read _ _ _ c.pieces.invariant.proper c.in_ok-next_piece.ensures.tree.proper)
-    (λ contents so_far v first staging. c.in_err-end_file.ensures.proper contents so_far v first (same_history _ _ _ _ _ _ _ c.in_ok-next_piece.ensures.tree.same staging))
-
-pub returns-clause-run : goal.returns-clause-run
-returns-clause-run g c =
-    begun_run _ _ _ _ _ c.pieces.invariant.begun (λ contents so_far v first staging. c.in_ok-end_file.ensures.run contents so_far v first (same_history _ _ _ _ _ _ _ c.in_ok-next_piece.ensures.tree.same staging))
-
-pub returns-clause-staging : goal.returns-clause-staging
-returns-clause-staging g c = λ contents v first bytes staging reading.
-    c.in_ok-end_file.ensures.staging contents bytes v first (same_history _ _ _ _ _ _ _ c.in_ok-next_piece.ensures.tree.same
-    (read_whole c.args.stage.now c.pieces.stage c.args.file c.pieces.file c.next_piece.new.self c.next_piece.new.piece _ (g.T.Tree.history c.pieces.tree) (g.T.Tree.history c.args.tree.now) c.next_piece.result
-    c.pieces.invariant.read c.next_piece.ensures.piece c.next_piece.ensures.name c.next_piece.ensures.len (c.in_ok-next_piece.was ∙ ap Ok c.if-branch.false) contents v first bytes staging reading))
-
-pub returns-clause-proper : goal.returns-clause-proper
-returns-clause-proper g c =
-    half_proper _ _ _ _ _ _ (g.T.Tree.history c.args.tree.now) c.pieces.invariant.read _ _ _
-    (read_proper _ _ _ _ _ _ (g.T.Tree.history c.args.tree.now) c.pieces.invariant.read _ _ _ c.pieces.invariant.proper c.in_ok-next_piece.ensures.tree.proper)
-    (λ contents so_far v first staging. c.in_ok-end_file.ensures.proper contents so_far v first (same_history _ _ _ _ _ _ _ c.in_ok-next_piece.ensures.tree.same staging))
+pub returns-clause-source : goal.returns-clause-source
+returns-clause-source g c = record {
+  run = begun_run _ _ _ _ _ c.pieces.invariant.begun (λ contents so_far v first staging. c.in_ok-end_file.ensures.only.run contents so_far v first (same_history _ _ _ _ _ _ _ c.in_ok-next_piece.ensures.tree.same staging));
+  staging =
+      λ contents v first bytes staging reading.
+      c.in_ok-end_file.ensures.staging contents bytes v first (same_history _ _ _ _ _ _ _ c.in_ok-next_piece.ensures.tree.same
+      (read_whole c.args.stage.now c.pieces.stage c.args.file c.pieces.file c.next_piece.new.self c.next_piece.new.piece _ (g.T.Tree.history c.pieces.tree) (g.T.Tree.history c.args.tree.now) c.next_piece.result
+      c.pieces.invariant.read c.next_piece.ensures.piece c.next_piece.ensures.name c.next_piece.ensures.len (c.in_ok-next_piece.was ∙ ap Ok c.if-branch.false) contents v first bytes staging reading));
+  good = search rules;
+  view = search rules;
+  counts = search rules;
+  proper =
+      half_proper _ _ _ _ _ _ (g.T.Tree.history c.args.tree.now) c.pieces.invariant.read _ _ _
+      (read_proper _ _ _ _ _ _ (g.T.Tree.history c.args.tree.now) c.pieces.invariant.read _ _ _ c.pieces.invariant.proper c.in_ok-next_piece.ensures.tree.proper)
+      (λ contents so_far v first staging. c.in_ok-end_file.ensures.only.proper contents so_far v first (same_history _ _ _ _ _ _ _ c.in_ok-next_piece.ensures.tree.same staging));
+}
 
 pub returns-clause-listed : goal.returns-clause-listed
 returns-clause-listed g c = λ come contents v first staging.

@@ -1,34 +1,54 @@
-use Rattle.std.proofs.Common.{◌≡◌, Option, Err, ap, subst}
+use Rattle.std.proofs.Common.{◌≡◌, Option, Err, ap, subst, rules}
 use Rattle.journal_staging.specs.Spoiled.{IsSpoiledForEachTested}
 use Rattle.package_verifier.specs.package_reader.FileReading.{AreAsExpected}
 use Rattle.file_guard.specs.pkg_core.Contents.{Expected}
 use Rattle.journal_staging.proofs.Files.{source_reading, spoiled_since}
 use Rattle.journal_staging.proofs.writes.stage_packaged.Goals as goal
 
-pub returns-in-Ok-clause-staging : goal.returns-in-Ok-clause-staging
-returns-in-Ok-clause-staging g c = λ contents v first bytes staging source.
-    c.in-Ok.ensures.staging contents v first bytes staging
-    (source_reading _ _ _ _ c.file-file.ensures.name c.file-file.ensures.len c.file-file.ensures.reading source)
+pub returns-in-Ok-clause-source : goal.returns-in-Ok-clause-source
+returns-in-Ok-clause-source g c = record {
+  run = search rules;
+  staging =
+      λ contents v first bytes staging source.
+      c.in-Ok.ensures.source.staging contents v first bytes staging
+      (source_reading _ _ _ _ c.file-file.ensures.name c.file-file.ensures.len c.file-file.ensures.reading source);
+  good = search rules;
+  view = search rules;
+  counts = search rules;
+  proper =
+      λ contents v first bytes staging source room.
+      c.in-Ok.ensures.source.proper contents v first bytes staging
+      (source_reading _ _ _ _ c.file-file.ensures.name c.file-file.ensures.len c.file-file.ensures.reading source) room;
+}
 
-pub returns-in-Ok-clause-proper : goal.returns-in-Ok-clause-proper
-returns-in-Ok-clause-proper g c = λ contents v first bytes staging source room.
-    c.in-Ok.ensures.proper contents v first bytes staging
-    (source_reading _ _ _ _ c.file-file.ensures.name c.file-file.ensures.len c.file-file.ensures.reading source) room
+pub returns-in-Err-Bad-clause-source : goal.returns-in-Err-Bad-clause-source
+returns-in-Err-Bad-clause-source g c = record {
+  run = search rules;
+  staging = search rules;
+  good =
+      λ contents v first bytes staging source.
+      cc (c.in-Err-Bad.ensures.source.good contents v first bytes staging
+      (source_reading _ _ _ _ c.file-file.ensures.name c.file-file.ensures.len c.file-file.ensures.reading source));
+  view = search rules;
+  counts = search rules;
+  proper =
+      λ contents v first bytes staging source room.
+      c.in-Err-Bad.ensures.source.proper contents v first bytes staging
+      (source_reading _ _ _ _ c.file-file.ensures.name c.file-file.ensures.len c.file-file.ensures.reading source) room;
+}
 
-pub returns-in-Err-Bad-clause-good : goal.returns-in-Err-Bad-clause-good
-returns-in-Err-Bad-clause-good g c = λ contents v first bytes staging source.
-    cc (c.in-Err-Bad.ensures.good contents v first bytes staging
-    (source_reading _ _ _ _ c.file-file.ensures.name c.file-file.ensures.len c.file-file.ensures.reading source))
-
-pub returns-in-Err-Bad-clause-proper : goal.returns-in-Err-Bad-clause-proper
-returns-in-Err-Bad-clause-proper g c = λ contents v first bytes staging source room.
-    c.in-Err-Bad.ensures.proper contents v first bytes staging
-    (source_reading _ _ _ _ c.file-file.ensures.name c.file-file.ensures.len c.file-file.ensures.reading source) room
-
-pub returns-in-Err-Disk-clause-proper : goal.returns-in-Err-Disk-clause-proper
-returns-in-Err-Disk-clause-proper g c = λ contents v first bytes staging source room.
-    c.in-Err-Disk.ensures.proper contents v first bytes staging
-    (source_reading _ _ _ _ c.file-file.ensures.name c.file-file.ensures.len c.file-file.ensures.reading source) room
+pub returns-in-Err-Disk-clause-source : goal.returns-in-Err-Disk-clause-source
+returns-in-Err-Disk-clause-source g c = record {
+  run = search rules;
+  staging = search rules;
+  good = search rules;
+  view = search rules;
+  counts = search rules;
+  proper =
+      λ contents v first bytes staging source room.
+      c.in-Err-Disk.ensures.source.proper contents v first bytes staging
+      (source_reading _ _ _ _ c.file-file.ensures.name c.file-file.ensures.len c.file-file.ensures.reading source) room;
+}
 
 pub returns-in-Ok-clause-listed : goal.returns-in-Ok-clause-listed
 returns-in-Ok-clause-listed g c = λ contents v first staging.

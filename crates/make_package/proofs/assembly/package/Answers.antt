@@ -5,7 +5,7 @@ use Rattle.package_files.specs.adb_write.File.{file_of}
 use Rattle.make_package.specs.Answers.{IsBytes}
 use Rattle.make_package.specs.Making.{package_container}
 use Rattle.package_files.specs.Package.{contents_of_folders}
-use Rattle.package_files.specs.Packed.{packed_size}
+use Rattle.package_files.specs.Packed.{installed_size_of_folders}
 use Rattle.package_files.specs.Runs.{AgreesOrIsFault}
 use Rattle.make_package.specs.Scripts.{scripts_view}
 use Rattle.make_package.proofs.MadeParts.{large_answer, memory_answer, package_err, package_ok, value_is}
@@ -14,13 +14,13 @@ use Rattle.make_package.proofs.assembly.package.Goals as goal
 
 pub installed_size-size-requires : goal.installed_size-size-requires
 installed_size-size-requires c =
-    let same : packed_size c.deref.result.now ≡ packed_size c.args.packing.folders.items = ap packed_size c.deref.ensures.value in
+    let same : installed_size_of_folders c.deref.result.now ≡ installed_size_of_folders c.args.packing.folders.items = ap installed_size_of_folders c.deref.ensures.value in
     omega arith
 
 pub returns-in_err-payload-clause-made : goal.returns-in_err-payload-clause-made
 returns-in_err-payload-clause-made c = λ sources packed.
     let is = value_is c.args.about.now c.installed_size-size.result c.deref-2.result.now c.args.packing.folders.items sources (scripts_view c.args.scripts.now) c.values.result.now c.args.command.now.values
-    (c.installed_size-size.ensures ∙ ap packed_size c.deref.ensures.value) c.deref-2.ensures.value packed.are c.values.ensures.value in
+    (c.installed_size-size.ensures ∙ ap installed_size_of_folders c.deref.ensures.value) c.deref-2.ensures.value packed.are c.values.ensures.value in
     let P : Plain → Type 0 = λ u. AgreesOrIsFault IsBytes (Err c.in_err-payload.field-0.0) (package_container u (contents_of_folders 1 sources)) in
     same_fault _ _ c.from_residual.result _ c.from_residual.ensures.1 (subst P is (package_err _ (contents_of_folders 1 sources) c.in_err-payload.field-0.0 c.in_err-payload.ensures.err))
 
@@ -30,7 +30,7 @@ returns-in_err-file-clause-made c = λ sources packed. memory_fault _ _ _ c.from
 pub returns-clause-made : goal.returns-clause-made
 returns-clause-made c = λ sources packed.
     let is = value_is c.args.about.now c.installed_size-size.result c.deref-2.result.now c.args.packing.folders.items sources (scripts_view c.args.scripts.now) c.values.result.now c.args.command.now.values
-    (c.installed_size-size.ensures ∙ ap packed_size c.deref.ensures.value) c.deref-2.ensures.value packed.are c.values.ensures.value in
+    (c.installed_size-size.ensures ∙ ap installed_size_of_folders c.deref.ensures.value) c.deref-2.ensures.value packed.are c.values.ensures.value in
     let P : Plain → Type 0 = λ u. package_container u (contents_of_folders 1 sources) ≡ Ok c.in_ok-file.file.items in (
       c.in_ok-file.file.items,
       subst P is (package_ok _ (contents_of_folders 1 sources) c.in_ok-payload.payload.items c.in_ok-file.file.items c.args.packing.blocks.items c.in_ok-payload.ensures.made packed.blocks

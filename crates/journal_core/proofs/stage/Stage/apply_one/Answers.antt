@@ -7,13 +7,27 @@ use Rattle.journal_core.proofs.Again.{moments_as, after_as, told_as}
 use Rattle.journal_core.proofs.Keeping.{action_keeps_as}
 use Rattle.journal_core.proofs.stage.Stage.apply_one.Goals as goal
 
-pub returns-in_err-acted-clause-moments : goal.returns-in_err-acted-clause-moments
-returns-in_err-acted-clause-moments g c =
-    moments_as c.args.self.now (stage_with_actions_done c.self.inside.intent c.self.inside.acted) _ _ (ap (λ (s : Staging). s.intent) (sym c.self.view_is)) (ap (λ (s : Staging). s.acted) (sym c.self.view_is)) c.act.ensures.moments
+pub returns-in_err-acted-clause-actions : goal.returns-in_err-acted-clause-actions
+returns-in_err-acted-clause-actions g c = record {
+  moments = moments_as c.args.self.now (stage_with_actions_done c.self.inside.intent c.self.inside.acted) _ _ (ap (λ (s : Staging). s.intent) (sym c.self.view_is)) (ap (λ (s : Staging). s.acted) (sym c.self.view_is)) c.act.ensures.actions.moments;
+  reads =
+      told_as c.args.self.now (stage_with_actions_done c.self.inside.intent c.self.inside.acted) _ (λ files v. Since (RecoversTo files) (g.T.Tree.history c.args.tree.now) (g.T.Tree.history c.act.new.tree))
+      (ap (λ (s : Staging). s.intent) (sym c.self.view_is)) (ap (λ (s : Staging). s.acted) (sym c.self.view_is)) c.act.ensures.actions.reads;
+  bytes =
+      told_as c.args.self.now (stage_with_actions_done c.self.inside.intent c.self.inside.acted) _ (λ files v. KeepsOldOrNewBytes files v (g.T.Tree.history c.args.tree.now) (g.T.Tree.history c.act.new.tree))
+      (ap (λ (s : Staging). s.intent) (sym c.self.view_is)) (ap (λ (s : Staging). s.acted) (sym c.self.view_is)) c.act.ensures.actions.bytes;
+}
 
-pub returns-clause-moments : goal.returns-clause-moments
-returns-clause-moments g c =
-    moments_as c.args.self.now (stage_with_actions_done c.self.inside.intent c.self.inside.acted) _ _ (ap (λ (s : Staging). s.intent) (sym c.self.view_is)) (ap (λ (s : Staging). s.acted) (sym c.self.view_is)) c.act.ensures.moments
+pub returns-clause-actions : goal.returns-clause-actions
+returns-clause-actions g c = record {
+  moments = moments_as c.args.self.now (stage_with_actions_done c.self.inside.intent c.self.inside.acted) _ _ (ap (λ (s : Staging). s.intent) (sym c.self.view_is)) (ap (λ (s : Staging). s.acted) (sym c.self.view_is)) c.act.ensures.actions.moments;
+  reads =
+      told_as c.args.self.now (stage_with_actions_done c.self.inside.intent c.self.inside.acted) _ (λ files v. Since (RecoversTo files) (g.T.Tree.history c.args.tree.now) (g.T.Tree.history c.act.new.tree))
+      (ap (λ (s : Staging). s.intent) (sym c.self.view_is)) (ap (λ (s : Staging). s.acted) (sym c.self.view_is)) c.act.ensures.actions.reads;
+  bytes =
+      told_as c.args.self.now (stage_with_actions_done c.self.inside.intent c.self.inside.acted) _ (λ files v. KeepsOldOrNewBytes files v (g.T.Tree.history c.args.tree.now) (g.T.Tree.history c.act.new.tree))
+      (ap (λ (s : Staging). s.intent) (sym c.self.view_is)) (ap (λ (s : Staging). s.acted) (sym c.self.view_is)) c.act.ensures.actions.bytes;
+}
 
 pub returns-clause-acting : goal.returns-clause-acting
 returns-clause-acting g c =
@@ -25,26 +39,6 @@ returns-in_err-acted-clause-others g c = action_keeps_as _ _ _ _ _ _ (ap (λ (s 
 
 pub returns-clause-others : goal.returns-clause-others
 returns-clause-others g c = action_keeps_as _ _ _ _ _ _ (ap (λ (s : Staging). s.intent) c.self.view_is) (ap (λ (s : Staging). s.acted) c.self.view_is) c.act.ensures.others
-
-pub returns-in_err-acted-clause-reads : goal.returns-in_err-acted-clause-reads
-returns-in_err-acted-clause-reads g c =
-    told_as c.args.self.now (stage_with_actions_done c.self.inside.intent c.self.inside.acted) _ (λ files v. Since (RecoversTo files) (g.T.Tree.history c.args.tree.now) (g.T.Tree.history c.act.new.tree))
-    (ap (λ (s : Staging). s.intent) (sym c.self.view_is)) (ap (λ (s : Staging). s.acted) (sym c.self.view_is)) c.act.ensures.reads
-
-pub returns-clause-reads : goal.returns-clause-reads
-returns-clause-reads g c =
-    told_as c.args.self.now (stage_with_actions_done c.self.inside.intent c.self.inside.acted) _ (λ files v. Since (RecoversTo files) (g.T.Tree.history c.args.tree.now) (g.T.Tree.history c.act.new.tree))
-    (ap (λ (s : Staging). s.intent) (sym c.self.view_is)) (ap (λ (s : Staging). s.acted) (sym c.self.view_is)) c.act.ensures.reads
-
-pub returns-in_err-acted-clause-bytes : goal.returns-in_err-acted-clause-bytes
-returns-in_err-acted-clause-bytes g c =
-    told_as c.args.self.now (stage_with_actions_done c.self.inside.intent c.self.inside.acted) _ (λ files v. KeepsOldOrNewBytes files v (g.T.Tree.history c.args.tree.now) (g.T.Tree.history c.act.new.tree))
-    (ap (λ (s : Staging). s.intent) (sym c.self.view_is)) (ap (λ (s : Staging). s.acted) (sym c.self.view_is)) c.act.ensures.bytes
-
-pub returns-clause-bytes : goal.returns-clause-bytes
-returns-clause-bytes g c =
-    told_as c.args.self.now (stage_with_actions_done c.self.inside.intent c.self.inside.acted) _ (λ files v. KeepsOldOrNewBytes files v (g.T.Tree.history c.args.tree.now) (g.T.Tree.history c.act.new.tree))
-    (ap (λ (s : Staging). s.intent) (sym c.self.view_is)) (ap (λ (s : Staging). s.acted) (sym c.self.view_is)) c.act.ensures.bytes
 
 pub returns-in_err-acted-clause-proper : goal.returns-in_err-acted-clause-proper
 returns-in_err-acted-clause-proper g c =

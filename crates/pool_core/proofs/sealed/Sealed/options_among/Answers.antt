@@ -7,9 +7,11 @@ use Rattle.option_ranks.proofs.candidate_core.WantedVersions.{known_of_nothing}
 use Rattle.option_ranks.proofs.RankedOptions.{few_ranked}
 use Rattle.pool_core.proofs.sealed.Sealed.options_among.Goals as goal
 
-pub fitting-requires-clause-known : goal.fitting-requires-clause-known
-fitting-requires-clause-known c =
-    known_of_nothing (source_text c.args.packages.now.sources.items) (need_of_ref c.args.need.now) c.new-known.result c.new-known.ensures
+pub fitting-requires : goal.fitting-requires
+fitting-requires c = record {
+  own = c.requires;
+  known = known_of_nothing (source_text c.args.packages.now.sources.items) (need_of_ref c.args.need.now) c.new-known.result c.new-known.ensures;
+}
 
 pub returns-then-len-lt2 : goal.returns-then-len-lt2
 unfolding options_for

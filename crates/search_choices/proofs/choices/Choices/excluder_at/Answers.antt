@@ -11,35 +11,33 @@ use Rattle.search_choices.proofs.choices.Choices.excluder_at.Goals as goal
 
 pub choice_against-requires-clause-within : goal.choice_against-requires-clause-within
 choice_against-requires-clause-within c =
-    subst (λ (cs : List Candidate). c.args.id < length cs) (sym c.requires.matches.0) (there_is (pool_of c.args.self.now).candidates c.args.id c.args.details.now c.requires.here).0
+    subst (λ (cs : List Candidate). c.args.id < length cs) (sym c.requires.matches.0) (there_is (pool_of c.args.self.now).candidates c.args.id c.args.details.now c.requires.candidate.here).0
 
 pub choice_against-requires-clause-listed : goal.choice_against-requires-clause-listed
-choice_against-requires-clause-listed c = subst (λ (cs : List Candidate). AreConflictsOf cs c.args.self.now.conflicts.by_name) (sym c.requires.matches.0) c.requires.conflicts
+choice_against-requires-clause-listed c = subst (λ (cs : List Candidate). AreConflictsOf cs c.args.self.now.conflicts.by_name) (sym c.requires.matches.0) c.requires.choices.conflicts
 
 pub choice_against-requires-clause-matches : goal.choice_against-requires-clause-matches
 choice_against-requires-clause-matches c = own_matches (pool_of c.args.self.now).candidates c.args.matches.now c.requires.matches
 
-pub returns-in-Some-clause-found : goal.returns-in-Some-clause-found
-returns-in-Some-clause-found c =
-    let at : slice_get (candidates_of_packages c.args.matches.now.packages.now) c.args.id ≡ Some c.args.details.now = subst (λ (cs : List Candidate). slice_get cs c.args.id ≡ Some c.args.details.now) (sym c.requires.matches.0) c.requires.here in
-    found_against (pool_of c.args.self.now) (choices_of c.args.self.now) c.args.id c.args.details.now c.args.self.now.conflicts c.args.name.now c.in-Some.excluder c.requires.listed c.requires.here c.requires.once
-    (sym c.in-Some.is ∙ c.in_ok-against.ensures.found c.args.details.now at)
+pub returns-in-Some : goal.returns-in-Some
+returns-in-Some c =
+    let at : slice_get (candidates_of_packages c.args.matches.now.packages.now) c.args.id ≡ Some c.args.details.now = subst (λ (cs : List Candidate). slice_get cs c.args.id ≡ Some c.args.details.now) (sym c.requires.matches.0) c.requires.candidate.here in
+    record {
+      found = found_against (pool_of c.args.self.now) (choices_of c.args.self.now) c.args.id c.args.details.now c.args.self.now.conflicts c.args.name.now c.in-Some.excluder c.requires.choices.listed c.requires.candidate.here c.requires.candidate.once
+          (sym c.in-Some.is ∙ c.in_ok-against.ensures.found c.args.details.now at);
+      matches = matches_among (pool_of c.args.self.now).candidates c.args.matches.now c.choice_against.new.matches c.requires.matches c.in_ok-against.ensures.matches;
+    }
 
-pub returns-in-Some-clause-matches : goal.returns-in-Some-clause-matches
-returns-in-Some-clause-matches c =
-    matches_among (pool_of c.args.self.now).candidates c.args.matches.now c.choice_against.new.matches c.requires.matches c.in_ok-against.ensures.matches
-
-pub returns-in-None-clause-found : goal.returns-in-None-clause-found
-returns-in-None-clause-found c =
+pub returns-in-None : goal.returns-in-None
+returns-in-None c =
     let pool = pool_of c.args.self.now in
     let t : List ℕ = choices_of c.args.self.now in
-    let at : slice_get (candidates_of_packages c.args.matches.now.packages.now) c.args.id ≡ Some c.args.details.now = subst (λ (cs : List Candidate). slice_get cs c.args.id ≡ Some c.args.details.now) (sym c.requires.matches.0) c.requires.here in
-    let free = none_against pool t c.args.id c.args.details.now c.args.self.now.conflicts c.args.name.now c.requires.listed
+    let at : slice_get (candidates_of_packages c.args.matches.now.packages.now) c.args.id ≡ Some c.args.details.now = subst (λ (cs : List Candidate). slice_get cs c.args.id ≡ Some c.args.details.now) (sym c.requires.matches.0) c.requires.candidate.here in
+    let free = none_against pool t c.args.id c.args.details.now c.args.self.now.conflicts c.args.name.now c.requires.choices.listed
     (λ k e. let bad : ◌≡◌ {A = Option ℕ} None (Some k) = sym c.in-None.is ∙ (c.in_ok-against.ensures.found c.args.details.now at ∙ e) in absurd (cc)) in
-    match_both c.occupant_at.result _ _ _ _ (λ none. (free, none))
-    (λ k found. found_occupant pool t c.args.id c.args.details.now c.args.name.now k c.requires.here c.requires.once (c.requires.occupied found.0) found.1 found.2)
-    c.occupant_at.ensures
-
-pub returns-in-None-clause-matches : goal.returns-in-None-clause-matches
-returns-in-None-clause-matches c =
-    matches_among (pool_of c.args.self.now).candidates c.args.matches.now c.choice_against.new.matches c.requires.matches c.in_ok-against.ensures.matches
+    record {
+      found = match_both c.occupant_at.result _ _ _ _ (λ none. (free, none))
+          (λ k found. found_occupant pool t c.args.id c.args.details.now c.args.name.now k c.requires.candidate.here c.requires.candidate.once (c.requires.occupied found.0) found.1 found.2)
+          c.occupant_at.ensures;
+      matches = matches_among pool.candidates c.args.matches.now c.choice_against.new.matches c.requires.matches c.in_ok-against.ensures.matches;
+    }

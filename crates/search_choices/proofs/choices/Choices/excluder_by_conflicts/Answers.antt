@@ -28,12 +28,18 @@ loop-i-preserved c =
       matches = c.in_ok-found.ensures.matches;
     }
 
-pub returns-in-Some-clause-found : goal.returns-in-Some-clause-found
-returns-in-Some-clause-found c = rw c.in-Some.is at c.in_ok-found.ensures.found
+pub returns-in-Some : goal.returns-in-Some
+returns-in-Some c = record {
+  found = rw c.in-Some.is at c.in_ok-found.ensures.found;
+  matches = c.in_ok-found.ensures.matches;
+}
 
-pub returns-clause-found : goal.returns-clause-found
-returns-clause-found c =
+pub returns : goal.returns
+returns c =
     let P : Dependency → Type 0 = λ d. d.conflict ≡ true → is_met (pool_of c.args.self.now) (choices_of c.args.self.now) (entry d) ≡ false in
     let deps : List Dependency = c.depends-depends.result in
     let past : length deps ≤ c.loop-i.i = omega arith in
-    λ d h. each_all P deps c.loop-i.i past c.loop-i.invariant.unmet d (subst (λ (z : List Dependency). IsIn d z) (sym c.depends-depends.ensures) h)
+    record {
+      found = λ d h. each_all P deps c.loop-i.i past c.loop-i.invariant.unmet d (subst (λ (z : List Dependency). IsIn d z) (sym c.depends-depends.ensures) h);
+      matches = c.loop-i.invariant.matches;
+    }

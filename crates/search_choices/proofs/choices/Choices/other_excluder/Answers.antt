@@ -8,11 +8,17 @@ use Rattle.search_tables.specs.Excluders.{IsNotExcludedAt}
 use Rattle.search_tables.proofs.Excluders.{match_none}
 use Rattle.search_choices.proofs.choices.Choices.other_excluder.Goals as goal
 
-pub returns-in-Some-clause-found : goal.returns-in-Some-clause-found
-returns-in-Some-clause-found c = rw c.in-Some.is at c.in_ok-provided.ensures.found
+pub returns-in-Some : goal.returns-in-Some
+returns-in-Some c = record {
+  found = rw c.in-Some.is at c.in_ok-provided.ensures.found;
+  matches = c.in_ok-provided.ensures.matches;
+}
 
-pub returns-in-None-clause-found : goal.returns-in-None-clause-found
-returns-in-None-clause-found c =
+pub returns-in-None : goal.returns-in-None
+returns-in-None c =
     let free : (p : Dependency) → IsIn p c.args.details.now.provides → p.conflict ≡ false → IsNotExcludedAt (pool_of c.args.self.now) (choices_of c.args.self.now) c.args.details.now p.name (is_some p.version) =
     rw c.in-None.is at c.in_ok-provided.ensures.found in
-    if_ok_map _ _ (λ found h. match_none found _ _ _ (λ conflicts. (free, conflicts)) h) c.excluder_by_conflicts.result c.excluder_by_conflicts.ensures.found
+    record {
+      found = if_ok_map _ _ (λ found h. match_none found _ _ _ (λ conflicts. (free, conflicts)) h) c.excluder_by_conflicts.result c.excluder_by_conflicts.ensures.found;
+      matches = c.excluder_by_conflicts.ensures.matches;
+    }

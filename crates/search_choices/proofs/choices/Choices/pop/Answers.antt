@@ -1,6 +1,6 @@
 use Rattle.std.proofs.Common.{◌≡◌, ◌∙◌, ℕ, List, [], ◌∷◌, take, subst, sym, ap, arith}
 use Rattle.search_tables.specs.Queue.{queue_of, raised_deps_at}
-use Rattle.search_choices.specs.Choices.{AreCheckpointsAfter, choices_of, install_ifs_of, pool_of}
+use Rattle.search_choices.specs.Choices.{AreCheckpointsOfLaterChoices, choices_of, install_ifs_of, pool_of}
 use Rattle.search_choices.specs.declared.choices.Choices.{Choices}
 use Rattle.search_tables.specs.declared.queue.Checkpoint.{Checkpoint}
 use Rattle.search_tables.proofs.Theory.{in_left}
@@ -16,7 +16,7 @@ returns-in-Some-clause-consistent c =
     let order = install_ifs_of c.args.self.now in
     let old : List ℕ = choices_of c.args.self.now in
     let before = c.in-Some.before in
-    let less = checkpoints_less pool order [] old c.pop.new.self.items before (subst (λ (z : List Checkpoint). AreCheckpointsAfter pool order [] old z) c.in-Some.ensures.items c.requires.checkpoints) in
+    let less = checkpoints_less pool order [] old c.pop.new.self.items before (subst (λ (z : List Checkpoint). AreCheckpointsOfLaterChoices pool order [] old z) c.in-Some.ensures.items c.requires.checkpoints) in
     let rest = less.0 in
     let others = c.take_conflicts_away.ensures.others in
     let is : c.pop-in-Some.new.self ≡ rest = c.pop-in-Some.ensures.last rest less.1 (ap choices_of others ∙ less.2) in
@@ -25,7 +25,7 @@ returns-in-Some-clause-consistent c =
     let front : (k : ℕ) → IsIn k rest → IsIn k old = λ k h. subst (λ (z : List ℕ). IsIn k z) (sym less.2) (in_left k rest (less.1 ∷ []) h) in
     consistent_by c.args.self.now _ rest (record { pool = ap pool_of others; choices = is; install_ifs = ap (λ (z : Choices). z.install_ifs) others }) c.requires.install_ifs
     (λ k h. c.requires.within k (front k h)) queue less.4.1 less.4.2 (c.take_conflicts_away.ensures.listed rest less.1 less.2) (c.take_conflicts_away.ensures.conflicts pool.candidates c.requires.conflicts)
-    (subst (λ (z : List Checkpoint). AreCheckpointsAfter pool order [] rest z) (sym (ap (λ (z : Choices). z.checkpoints.items) others)) less.3)
+    (subst (λ (z : List Checkpoint). AreCheckpointsOfLaterChoices pool order [] rest z) (sym (ap (λ (z : Choices). z.checkpoints.items) others)) less.3)
 
 pub returns-in-Some-clause-pool : goal.returns-in-Some-clause-pool
 returns-in-Some-clause-pool c = ap pool_of c.take_conflicts_away.ensures.others
@@ -39,4 +39,4 @@ returns-in_default-clause-choices c = λ rest last e.
     let order = install_ifs_of c.args.self.now in
     let old : List ℕ = choices_of c.args.self.now in
     let none : c.args.self.now.checkpoints.items ≡ [] = empty_list c.args.self.now.checkpoints.items (omega (arith, c.in_default.ensures.cases.0, c.args.self.now.checkpoints.ok)) in
-    absurd (never_empty rest last (sym (checkpoints_none pool order [] old (subst (λ (z : List Checkpoint). AreCheckpointsAfter pool order [] old z) none c.requires.checkpoints)) ∙ e))
+    absurd (never_empty rest last (sym (checkpoints_none pool order [] old (subst (λ (z : List Checkpoint). AreCheckpointsOfLaterChoices pool order [] old z) none c.requires.checkpoints)) ∙ e))

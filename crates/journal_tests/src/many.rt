@@ -19,7 +19,8 @@ const FIRST: usize = 100_000;
 /// The most bytes of a payload (`docs/formats.md`, "Canonical layout").
 const MOST_BYTES: usize = 268_435_455;
 
-/// The most writes of a row, and the most that wait.
+/// The greatest number of writes that a row may ask for. The number of staged files that still wait
+/// to be moved has the same limit.
 const MOST: u64 = 65_536;
 
 /// Answers `many WRITES WAITING`: whether an intent of WRITES writes is read back, name by name.

@@ -1,0 +1,48 @@
+-- What the calls of `src/versions.rt` and `src/matches.rt` require and ensure. No rule of a document:
+-- serves the contracts of these calls.
+use Rattle.std.specs.Prelude.{◌≡◌, ℕ, Bool, true, List, Option, Some, Result, IfOk, IfSome}
+use Rattle.std.specs.declared.alloc.AllocError.{AllocError}
+use Rattle.dep_core.specs.Dependency.{Dependency}
+use Rattle.adb_schema.specs.SoundValues.{IsSoundDependency}
+use Rattle.adb_view.specs.Adb.{payload_of}
+use Rattle.adb_view.specs.Plain.{Plain}
+use Rattle.adb_view.specs.Values.{is_sound, text_in, value_at}
+use Rattle.adb_view.specs.declared.tables.Kind.TheVariants.{Obj, Text}
+use Rattle.adb_view.specs.declared.tables.Which.TheVariants.{Dep}
+use Rattle.candidate_core.specs.Candidates.{Need, dependency_in}
+use Rattle.candidate_core.specs.Matches.{AreMatchesFor}
+use Rattle.candidate_core.specs.declared.matches.KnownMatches.{KnownMatches}
+use Rattle.candidate_core.specs.declared.packages.Source.{Source}
+use Rattle.candidate_core.specs.declared.versions.RankedVersion.{RankedVersion}
+
+-- the value with a word in a source, an entry of a list of dependencies
+abbrev pub entry_in_source : Source → ℕ → Plain
+entry_in_source source word = value_at (payload_of source.adb) (Obj Dep) word
+
+-- the word is that of an entry of a list of dependencies: it can be read as one, and obeys the rules of a
+-- dependency if the texts of the source obey theirs
+pub record IsEntryWordOf (source : Source) (word : ℕ) : Type 0 where
+  pub sound : is_sound (payload_of source.adb) (Obj Dep) word ≡ true
+  pub texts : source.has_sound_texts ≡ true → IsSoundDependency (entry_in_source source word)
+
+-- the word is that of an entry which is this dependency
+pub record IsDependencyWordOf (source : Source) (word : ℕ) (d : Dependency) : Type 0 where
+  pub sound : is_sound (payload_of source.adb) (Obj Dep) word ≡ true
+  pub found : Some d ≡ dependency_in (entry_in_source source word)
+
+-- The version is the expected one, with the index of its source. If there is one, it is the text that its
+-- word refers to in the source.
+pub record IsVersionReadFrom (origin : Source) (place : ℕ) (expected : Option (List ℕ))
+    (ranked : RankedVersion) : Type 0 where
+  pub version : ranked.version ≡ expected
+  pub source : ranked.source ≡ place
+  pub text : IfSome ranked.version (λ version. version
+      ≡ text_in (value_at (payload_of origin.adb) Text ranked.word))
+
+-- Unless memory runs out, the answer is the expected one, and the remembered results for the need stay
+-- right. This holds for each function of places that gives the texts in question.
+abbrev pub AnswersAndRemembers : ((ℕ → ℕ → List ℕ) → Type 0) → Need → Bool → KnownMatches → KnownMatches
+    → Result Bool AllocError → Type 0
+AnswersAndRemembers GivesTexts need expected old new result = IfOk result (λ answer.
+    (text : ℕ → ℕ → List ℕ) → GivesTexts text → AreMatchesFor text need old
+    → (answer ≡ expected) × AreMatchesFor text need new)

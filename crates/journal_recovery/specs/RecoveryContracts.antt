@@ -1,0 +1,66 @@
+-- What the parts of a recovery ensure: `recover`, `replay` and `replay_file`, which do the actions of an
+-- intent, and `clear_all` and `remove_all`, which remove staged files. Serves the contracts of these
+-- functions. The rules are in `docs/crash-safety.md`, "Recovery" and "Misuses, faults and counts".
+use Rattle.std.specs.Prelude.{◌≡◌, ℕ, true, List, [], Some, None, IsSome, Result, OnOk, IsErrOf}
+use Rattle.adb_view.specs.declared.tables.Which.TheVariants.{Intent as IntentTable}
+use Rattle.base_core.specs.Calls.{HoldsNow, IfObservable}
+use Rattle.base_core.specs.Crash.{Since}
+use Rattle.base_core.specs.Faults.{Counts, CountsOnlyRise, HasCause, IsNoFault}
+use Rattle.base_core.specs.Tree.{TreeState, files_of}
+use Rattle.base_core.specs.declared.cause.Cause.{Cause}
+use Rattle.journal_core.specs.adb_schema.Soundness.{first_fault}
+use Rattle.journal_core.specs.Kept.{IsRestoredByNoCrash, JournalOnlyShrinks, KeepsFilesExcept, ShownNamesAreDurable}
+use Rattle.journal_core.specs.Recovering.{AreStagedNames, HasRemovedNames}
+use Rattle.journal_core.specs.Recovery.{intent_name, is_staged}
+use Rattle.journal_core.specs.Staged.{IsIntentFault}
+use Rattle.journal_core.specs.declared.fault.RecoverFault.{RecoverFault}
+use Rattle.journal_core.specs.declared.fault.RecoverFault.TheVariants.{Disk, IntentBad, Memory}
+
+-- whatever is returned, the journal only shrinks, and the intent is removed last
+pub record RemovesIntentLast (old now : List TreeState) : Type 0 where
+  -- staged files are only removed
+  pub waiting : IfObservable old (λ v. Since (JournalOnlyShrinks v) old now)
+  -- if an intent is found: as soon as none is read, a crash undoes no change of a name outside the
+  -- staging area
+  pub last : IfObservable old (λ v. IsSome (v.names intent_name)
+      → Since (λ w. w.names intent_name ≡ None → ShownNamesAreDurable w) old now)
+
+-- The intent is refused exactly if it is no intent container. Then nothing changes, whatever is returned.
+pub record RefusesOnlyBadIntent {T : Type 0} (old now : List TreeState)
+    (result : Result T RecoverFault) : Type 0 where
+  pub bad : (cause : Cause) → IsErrOf result (IntentBad cause)
+      → (now ≡ old) × IfObservable old (λ v. IsIntentFault (files_of v) cause)
+  pub good : IfObservable old (λ v. OnOk result ((cause : Cause) → IsIntentFault (files_of v) cause → ⊥))
+  pub bad_idle : IfObservable old (λ v. (cause : Cause) → IsIntentFault (files_of v) cause → now ≡ old)
+  pub found : (cause : Cause) → IsErrOf result (IntentBad cause)
+      → (file : List ℕ) × (first_fault IntentTable file ≡ Some cause)
+
+-- how the tree's counts explain the result of a recovery
+pub record IsRecoveryExplainedByCounts {T : Type 0} (before now : Counts)
+    (result : Result T RecoverFault) : Type 0 where
+  -- no count of faults falls
+  pub goes_on : CountsOnlyRise before now
+  -- a fault of the tree is returned only if that count rose
+  pub disk : IsErrOf result Disk → HasCause before now
+  -- every other result, only if it did not
+  pub kept : OnOk result (IsNoFault before now)
+  pub memory : IsErrOf result Memory → IsNoFault before now
+  pub refused : (cause : Cause) → IsErrOf result (IntentBad cause) → IsNoFault before now
+
+-- these names, if they are all in the staging area, are removed, and nothing else changes
+pub record RemovesStagedNames {T E : Type 0} (names : List (List ℕ)) (old now : List TreeState)
+    (result : Result T E) : Type 0 where
+  -- no name outside the staging area changes
+  pub shown : IfObservable old (λ v. AreStagedNames names
+      → Since (KeepsFilesExcept (λ q. is_staged q ≡ true) v) old now)
+  -- staged files are only removed
+  pub waiting : IfObservable old (λ v. Since (JournalOnlyShrinks v) old now)
+  -- no crash undoes a change of a name outside the staging area, if none did at the start
+  pub last : IfObservable old (λ v. AreStagedNames names → ShownNamesAreDurable v
+      → Since ShownNamesAreDurable old now)
+  -- once it has returned Ok, the names are removed, and no crash restores an intent
+  pub cleared : IfObservable old (λ v. OnOk result (HoldsNow now (HasRemovedNames names v)))
+  pub gone : IfObservable old (λ v. OnOk result (IsRestoredByNoCrash intent_name v
+      → HoldsNow now (IsRestoredByNoCrash intent_name)))
+  -- without names no call is made
+  pub none : names ≡ [] → now ≡ old

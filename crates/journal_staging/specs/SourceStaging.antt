@@ -1,0 +1,47 @@
+-- What the calls that stage the file of one write ensure: `stage_file`, `stage_packaged` and
+-- `stage_write`; and how the tree's counts explain their results, and that of `stage_each`. Serves the
+-- contracts of these calls. The rules are in `docs/crash-safety.md`, "A change of several files" and
+-- "Misuses, faults and counts".
+use Rattle.std.specs.Prelude.{◌≡◌, ◌+◌, ◌++◌, ◌∷◌, [], ℕ, List, None, Result, IfErr, IsErrOf, OnOk}
+use Rattle.base_core.specs.Faults.{Counts, CountsOnlyRise, HasCause, IsNoFault}
+use Rattle.base_core.specs.Files.{Files}
+use Rattle.base_core.specs.Tree.{TreeState, files_of}
+use Rattle.journal_commit.specs.StageRun.{IsStaging, IsStagingRun}
+use Rattle.journal_commit.specs.journal_core.Staged.{Staging, AreJournalPathsFree}
+
+-- how the tree's counts explain a result whose fault `failed` is that of the tree
+pub record IsFaultExplainedByCounts {T F : Type 0} (failed : F) (before now : Counts)
+    (result : Result T F) : Type 0 where
+  -- no count falls
+  pub goes_on : CountsOnlyRise before now
+  -- a fault of the tree has its cause
+  pub disk : IsErrOf result failed → HasCause before now
+  -- any other result hides none
+  pub kept : OnOk result (IsNoFault before now)
+  pub others : IfErr result (λ fault. (fault ≡ failed → ⊥) → IsNoFault before now)
+
+-- A call that stages the file of one write, and changes the stage to `next`. `Denotes` says which bytes
+-- its source denotes over some files. `first` is the tree's history when the staging began, `v` its newest
+-- state then, and `contents` the files staged before.
+pub record StagesSource {T F : Type 0} (stage next : Staging) (Denotes : Files → List ℕ → Type 0)
+    (failed : F) (old now : List TreeState) (before after : Counts) (result : Result T F) : Type 0 where
+  -- whatever the tree returns for the source, and whatever is returned, only staged files have changed at
+  -- each moment
+  pub run : (contents : List (List ℕ)) (v : TreeState) (first : List TreeState)
+      → IsStaging stage contents None v first old → IsStagingRun v first now
+  -- if the source denotes bytes, these are staged then, after those that were staged before
+  pub staging : (contents : List (List ℕ)) (v : TreeState) (first : List TreeState) (bytes : List ℕ)
+      → IsStaging stage contents None v first old → Denotes (files_of v) bytes
+      → OnOk result (IsStaging next (contents ++ bytes ∷ []) None v first now)
+  -- and only the tree may fail
+  pub good : (contents : List (List ℕ)) (v : TreeState) (first : List TreeState) (bytes : List ℕ)
+      → IsStaging stage contents None v first old → Denotes (files_of v) bytes
+      → IfErr result (λ fault. fault ≡ failed)
+  -- the next write of the stage has its file then
+  pub view : OnOk result (next ≡ record stage { staged = stage.staged + 1 })
+  -- how the tree's counts explain the result
+  pub counts : IsFaultExplainedByCounts failed before after result
+  -- no call is a misuse if the paths of the stage are free
+  pub proper : (contents : List (List ℕ)) (v : TreeState) (first : List TreeState) (bytes : List ℕ)
+      → IsStaging stage contents None v first old → Denotes (files_of v) bytes
+      → AreJournalPathsFree (files_of v) → after.misuses ≡ before.misuses
