@@ -296,7 +296,7 @@ pub enum Contents {
     FoldersAndFiles,
 }
 
-/// Adds the folders in a folder, which has nothing in it but what it may have.
+/// Adds the folders in a folder. Anything in it that it may not have is a fault.
 pub fn push_folders<R: Host>(
     rt: &R,
     alloc: Global,
@@ -317,8 +317,7 @@ pub fn push_folders<R: Host>(
     Ok(())
 }
 
-/// Adds the folder at a path. Anything else there is a fault, unless the folder that it is in may
-/// have files.
+/// Adds the folder at a path. If there is none, this is a fault, unless a file may be there.
 fn push_folder<R: Files>(
     rt: &R,
     alloc: Global,
