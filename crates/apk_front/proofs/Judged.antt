@@ -244,13 +244,10 @@ usage_found words p q fault verdict same is of is_shown =
     (as_outcome no_names verdict, subst (λ (r : Result CommandLine ℕ). IsPossibleOutcome r (as_outcome no_names verdict)) (sym read) (is_shown no_names ∙ ap (λ (n : ℕ). just_refusal no_names (Usage n)) same), refl)
 
 pub ran_version : (command : CommandLine) (applet : Applet) (flags : Flags) (operands : List Operand) (verdict : Verdict) → applet ≡ command.applet → applet ≡ Version → flags ≡ command.flags → operands ≡ command.operands
-    → ((files : Files) → as_outcome files verdict ≡ version files flags operands) → (read : ℕ → List ℕ → Option (List ℕ)) × (as_outcome no_names verdict ≡ read_only_outcome command read no_names)
-ran_version command applet flags operands verdict same is flags_same operands_same printed =
-    let nothing : ℕ → List ℕ → Option (List ℕ) = λ k name. None in (
-      nothing,
-      printed no_names ∙ ap (λ (f : Flags). version no_names f operands) flags_same ∙ ap (λ (o : List Operand). version no_names command.flags o) operands_same
-          ∙ sym (ap (λ (a : Applet). effect_outcome (effect_of a) a command nothing_given nothing no_names) (sym same ∙ is)),
-    )
+    → ((files : Files) → as_outcome files verdict ≡ version files flags operands) → (read : ℕ → List ℕ → Option (List ℕ)) (files : Files) → as_outcome files verdict ≡ read_only_outcome command read files
+ran_version command applet flags operands verdict same is flags_same operands_same printed read files =
+    printed files ∙ ap (λ (f : Flags). version files f operands) flags_same ∙ ap (λ (o : List Operand). version files command.flags o) operands_same
+    ∙ sym (ap (λ (a : Applet). effect_outcome (effect_of a) a command nothing_given read files) (sym same ∙ is))
 
 pub answered_by_reads : (words : List (List ℕ)) (tree_failed : Type 0) (judged : Judged) (answer : Answer) (out err : SinkBeforeAndAfter)
     → IfOk judged (ReportsOneOfOutcomes (IsPossibleOutcome (command_of words))) → (IsErrOf judged Disk → tree_failed) → IsVerdictPrinted judged answer out err

@@ -14,6 +14,8 @@ use Rattle.make_core.specs.make_info.Reads.{Reads}
 use Rattle.outcome.specs.Commands.{IsOutcomeAfterRecovery, IsPossibleOutcomeAfterRecovery, reads_in}
 use Rattle.outcome.specs.Effect.{Effect, Changes, Makes, effect_of, output_for_effect}
 use Rattle.outcome.specs.Outcome.{Outcome}
+use Rattle.outcome.specs.Verify.{file_refusal}
+use Rattle.report_core.specs.declared.refusal.Refusal.{Refusal}
 use Rattle.apk_front.specs.Moments.{AreOutcomePathsFree, ArePathsToWriteFree, TargetsAreAcceptedThroughout}
 use Rattle.apk_front.specs.Runs.{IfNothingStaged, IsRun, IsWholeRun}
 use Rattle.apk_front.specs.Verdicts.{ReportsOneOfOutcomes, as_outcome}
@@ -50,6 +52,17 @@ pub record IsReadingRun (outcome : Reads → Files → Outcome) (old now : List 
   pub by_reads : IfOk judged (λ verdict. (read : Reads) × (as_outcome no_names verdict ≡ outcome read no_names))
   -- the tree is only read; an I/O error has its cause there
   pub tree : OnlyReads Disk old now counts_before counts_now judged
+
+-- a test of the file under a name, which the argument at a place names: its refusal, if it is no sound
+-- container
+pub record IsFileTest (place : ℕ) (name : List ℕ) (old now : List TreeState)
+    (counts_before counts_now : Counts) (tested : Result (Option Refusal) TreeFault) : Type 0 where
+  -- on a tree that shows its files the file under this name is tested
+  pub found : IfOk tested (λ refusal. IfObservable old (λ v.
+      refusal ≡ file_refusal place (files_of v name)))
+  -- on every tree some bytes are tested, or none are found
+  pub by_reads : IfOk tested (λ refusal. (found : Option (List ℕ)) × (refusal ≡ file_refusal place found))
+  pub tree : OnlyReads Disk old now counts_before counts_now tested
 
 -- a run of a command whose outcome depends on its arguments alone: one of these over any files
 pub record IsRunByArguments {Tree : Type 0} (IsOne : Files → Outcome → Type 0) (old now : Tree)

@@ -1,7 +1,7 @@
 //! `verify` tests containers. The rules are in `docs/commands.md`, "`verify FILE..`", and the tests
 //! in `docs/formats.md`, "Tests of a container".
-ghost use Rattle.std.specs.Prelude.{◌≡◌, List, Option, ℕ, IsTrue, IfOk};
-ghost use Rattle.apk_front.specs.RunContracts.{IsReadingRun};
+ghost use Rattle.std.specs.Prelude.{◌≡◌, IsTrue, IfOk};
+ghost use Rattle.apk_front.specs.RunContracts.{IsFileTest, IsReadingRun};
 ghost use Rattle.apk_front.specs.Verdicts.{as_outcome};
 ghost use Rattle.base_core.specs.Calls.{IfObservable};
 ghost use Rattle.base_core.specs.Files.{Files};
@@ -90,14 +90,8 @@ fn test_file<T: Tree>(
     file: &Name,
     tree: &mut T,
 ) -> Result<Option<Refusal>, TreeFault>
-    // On a tree that shows its files the file under this name is tested.
-    ensures found { IfOk result (λ refusal. IfObservable (T.history tree.old) (λ v.
-        refusal ≡ file_refusal place (files_of v file.now))) }
-    // On every tree some bytes are tested, or none are found.
-    ensures by_reads { IfOk result (λ refusal. (found : Option (List ℕ))
-        × (refusal ≡ file_refusal place found)) }
-    ensures tree { OnlyReads TreeFault.Disk (T.history tree.old) (T.history tree.new)
-        (T.counts tree.old) (T.counts tree.new) result }
+    ensures { IsFileTest place file.now
+        (T.history tree.old) (T.history tree.new) (T.counts tree.old) (T.counts tree.new) result }
 {
     // A law that the proof needs; it has no effect at run time.
     consecutive_reads_compose::<PackageTest, Option<Refusal>, TreeFault>();
@@ -116,12 +110,8 @@ fn test_whole<T: Tree>(
     file: &Name,
     tree: &mut T,
 ) -> Result<Option<Refusal>, TreeFault>
-    ensures found { IfOk result (λ refusal. IfObservable (T.history tree.old) (λ v.
-        refusal ≡ file_refusal place (files_of v file.now))) }
-    ensures by_reads { IfOk result (λ refusal. (found : Option (List ℕ))
-        × (refusal ≡ file_refusal place found)) }
-    ensures tree { OnlyReads TreeFault.Disk (T.history tree.old) (T.history tree.new)
-        (T.counts tree.old) (T.counts tree.new) result }
+    ensures { IsFileTest place file.now
+        (T.history tree.old) (T.history tree.new) (T.counts tree.old) (T.counts tree.new) result }
 {
     let found = read_all(alloc, tree, file)?;
     let refusal = refusal_of(alloc, place, &found)?;

@@ -40,15 +40,7 @@ impl Folders {
 
     /// Whether everything on the way to a path is a folder.
     pub fn ensure_folders<R: Files>(&mut self, rt: &R, path: &[u8]) -> Result<bool, HostFault> {
-        if self.knows_folders(path)? {
-            return Ok(true);
-        }
-        for (i, byte) in path.iter().enumerate() {
-            if *byte == b'/' && !self.has(rt, &path[..i])? {
-                return Ok(false);
-            }
-        }
-        Ok(true)
+        Ok(self.deepest_known_folder(rt, path)? == parent_of(path))
     }
 
     /// The deepest existing folder on the way to a path, as a prefix of the path; the root is the
@@ -110,8 +102,7 @@ impl Folders {
 
     /// Remembers that there is a folder at a path.
     pub fn keep_known(&mut self, folder: &[u8]) -> Result<(), HostFault> {
-        let folder = Vec::from_slice(self.alloc, folder)?;
-        keep(&mut self.known, folder)
+        keep(self.alloc, &mut self.known, folder)
     }
 
     /// Notes a folder whose names will change. It is noted before they do, so that none is
@@ -120,8 +111,7 @@ impl Folders {
         if self.changed.contains(folder) {
             return Ok(());
         }
-        let folder = Vec::from_slice(self.alloc, folder)?;
-        keep(&mut self.changed, folder)
+        keep(self.alloc, &mut self.changed, folder)
     }
 
     /// Notes each existing folder on the way to a path, and the root, once per run: an earlier run
@@ -140,8 +130,7 @@ impl Folders {
                 self.note(&path[..i])?;
             }
         }
-        let around = Vec::from_slice(self.alloc, around)?;
-        keep(&mut self.ways, around)
+        keep(self.alloc, &mut self.ways, around)
     }
 
     /// Makes the path of a file free: creates the folders on the way to it, and removes an empty
@@ -198,21 +187,16 @@ impl Folders {
         if self.last.is(folder) {
             return Ok(true);
         }
-        if !folder.is_empty() && !self.is_known(folder) {
+        if !folder.is_empty() && !self.known.contains(folder) {
             return Ok(false);
         }
         self.last = LastFolder::new(Vec::from_slice(self.alloc, folder)?);
         Ok(true)
     }
 
-    /// Whether this run has found the folder or made it.
-    fn is_known(&self, folder: &[u8]) -> bool {
-        self.known.contains(folder)
-    }
-
     /// Whether there is a folder at a path.
     fn has<R: Files>(&mut self, rt: &R, path: &[u8]) -> Result<bool, HostFault> {
-        if self.is_known(path) {
+        if self.known.contains(path) {
             return Ok(true);
         }
         if !look_at(rt, self.alloc, path)?.is_folder() {
@@ -224,7 +208,7 @@ impl Folders {
 
     /// Makes an absent folder, and notes the folder that gets its name.
     fn make<R: Files>(&mut self, rt: &R, folder: &[u8]) -> Result<(), HostFault> {
-        if self.is_known(folder) {
+        if self.known.contains(folder) {
             return Ok(());
         }
         match look_at(rt, self.alloc, folder)? {
@@ -276,8 +260,12 @@ pub fn look_at<R: Files>(rt: &R, alloc: Global, path: &[u8]) -> Result<Found, Ho
 }
 
 /// Adds a folder to a set. Without memory the set is unchanged.
-fn keep(folders: &mut BTreeSet<Vec<u8>>, folder: Vec<u8>) -> Result<(), HostFault> {
-    match folders.insert(folder) {
+pub fn keep(
+    alloc: Global,
+    folders: &mut BTreeSet<Vec<u8>>,
+    folder: &[u8],
+) -> Result<(), HostFault> {
+    match folders.insert(Vec::from_slice(alloc, folder)?) {
         Ok(_) => Ok(()),
         Err(_) => Err(HostFault::Memory),
     }
@@ -294,40 +282,60 @@ fn empty_tree<R: Host>(rt: &R, alloc: Global, root: &[u8]) -> Result<Vec<Vec<u8>
             break;
         }
         let folder = Vec::from_slice(alloc, &folders[next])?;
-        push_folders(rt, alloc, &folder, &mut folders)?;
+        push_folders(rt, alloc, &folder, Contents::Folders, &mut folders)?;
     }
     Ok(folders)
 }
 
-/// Adds the folders in a folder that has nothing else in it.
-fn push_folders<R: Host>(
+/// What a folder may have in it.
+#[derive(Clone, Copy)]
+pub enum Contents {
+    /// Folders.
+    Folders,
+    /// Folders and regular files.
+    FoldersAndFiles,
+}
+
+/// Adds the folders in a folder. Anything in it that it may not have is a fault.
+pub fn push_folders<R: Host>(
     rt: &R,
     alloc: Global,
     folder: &[u8],
+    contents: Contents,
     folders: &mut Vec<Vec<u8>>,
 ) -> Result<(), HostFault> {
     for entry in fs::read_dir(rt, path_text(folder)?)? {
         let entry = entry?;
-        push_folder(rt, alloc, entry.path().as_str().as_bytes(), folders)?;
+        push_folder(
+            rt,
+            alloc,
+            entry.path().as_str().as_bytes(),
+            contents,
+            folders,
+        )?;
     }
     Ok(())
 }
 
-/// Adds the folder at a path. Anything else there is a fault.
+/// Adds the folder at a path. If there is none, this is a fault, unless a file may be there.
 fn push_folder<R: Files>(
     rt: &R,
     alloc: Global,
     path: &[u8],
+    contents: Contents,
     folders: &mut Vec<Vec<u8>>,
 ) -> Result<(), HostFault> {
-    if !look_at(rt, alloc, path)?.is_folder() {
-        return Err(HostFault::own(Reason::Folder));
+    if look_at(rt, alloc, path)?.is_folder() {
+        return push(alloc, folders, path);
     }
-    push(alloc, folders, path)
+    match contents {
+        Contents::Folders => Err(HostFault::own(Reason::Folder)),
+        Contents::FoldersAndFiles => Ok(()),
+    }
 }
 
 /// Appends a path.
-fn push(alloc: Global, list: &mut Vec<Vec<u8>>, path: &[u8]) -> Result<(), HostFault> {
+pub fn push(alloc: Global, list: &mut Vec<Vec<u8>>, path: &[u8]) -> Result<(), HostFault> {
     match list.push(Vec::from_slice(alloc, path)?) {
         Ok(()) => Ok(()),
         Err(_) => Err(HostFault::Memory),

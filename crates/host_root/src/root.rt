@@ -199,8 +199,9 @@ impl<'a, R: Host> Root<'a, R> {
         Ok(())
     }
 
-    /// The file at a path, open for writing.
+    /// The file at a path, open for writing. The lock for a call that writes is taken first.
     fn open_to_write(&mut self, path: &[u8]) -> Result<&mut Opened, HostFault> {
+        self.take_lock_to_write()?;
         if self.has_lost {
             return Err(HostFault::own(Reason::LostWrite));
         }
@@ -228,7 +229,6 @@ impl<'a, R: Host> Root<'a, R> {
     /// Appends a piece to the file at a path. If that fails, the written beginning of the piece is
     /// cut off again.
     pub fn add(&mut self, path: &[u8], piece: &[u8]) -> Result<(), HostFault> {
-        self.take_lock_to_write()?;
         let writer = self.open_to_write(path)?;
         let added = writer.add(piece);
         if added.is_err() && !writer.cut_back() {
@@ -239,7 +239,6 @@ impl<'a, R: Host> Root<'a, R> {
 
     /// Lets the host write the file at a path through, and closes it.
     pub fn write_file_through(&mut self, path: &[u8]) -> Result<(), HostFault> {
-        self.take_lock_to_write()?;
         let written = self.open_to_write(path)?.write_through();
         self.has_lost = written.is_err();
         self.writer = None;

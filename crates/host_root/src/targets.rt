@@ -1,7 +1,7 @@
 //! What the host would refuse later: whether a file can be renamed to a path, or be removed.
 //! The rules are in `docs/crash-safety.md`, "What the host's tree does", the row of `check_target`.
 
-use super::folders::{Folders, look_at};
+use super::folders::{Contents, Folders, keep, look_at, push, push_folders};
 use host_files::{
     Found, Host, HostFault, LOCK_FOLDER, Reason, look_to_write, parent_of, path_text,
 };
@@ -80,21 +80,24 @@ impl Targets {
             rename_probe(rt, &probe, &moved)?;
         }
         fs::remove_dir(rt, path_text(&moved)?)?;
-        match self.asked.insert(Vec::from_slice(self.alloc, folder)?) {
-            Ok(_) => Ok(()),
-            Err(_) => Err(HostFault::Memory),
-        }
+        keep(self.alloc, &mut self.asked, folder)
     }
 }
 
 /// Whether a path is one of the program's own, or below one: the lock's folder, or the folder with
 /// which the host is tested.
 fn is_reserved(path: &[u8]) -> bool {
-    let first = match path.iter().position(|byte| *byte == b'/') {
-        Some(end) => &path[..end],
-        None => path,
-    };
-    first == LOCK_FOLDER.as_bytes() || path.split(|byte| *byte == b'/').any(|part| part == PROBE)
+    for (i, part) in path.split(is_slash).enumerate() {
+        if part == PROBE || (i == 0 && part == LOCK_FOLDER.as_bytes()) {
+            return true;
+        }
+    }
+    false
+}
+
+/// Whether a byte ends a part of a path.
+fn is_slash(byte: &u8) -> bool {
+    *byte == b'/'
 }
 
 /// Asks whether the host has names as long as the untested parts of a path, in the folder that they
@@ -105,7 +108,7 @@ fn check_parts<R: Files>(
     folder: &[u8],
     parts: &[u8],
 ) -> Result<(), HostFault> {
-    for part in parts.split(|byte| *byte == b'/') {
+    for part in parts.split(is_slash) {
         if part.is_empty() {
             continue;
         }
@@ -169,13 +172,7 @@ fn check_folders_below<R: Host>(rt: &R, alloc: Global, path: &[u8]) -> Result<()
         if device_of(rt, &folder)? != around {
             return Err(HostFault::at(alloc, Reason::OtherFileSystem, &folder));
         }
-        for entry in fs::read_dir(rt, path_text(&folder)?)? {
-            let entry = entry?;
-            let below = entry.path().as_str().as_bytes();
-            if look_at(rt, alloc, below)?.is_folder() {
-                push(alloc, &mut folders, below)?;
-            }
-        }
+        push_folders(rt, alloc, &folder, Contents::FoldersAndFiles, &mut folders)?;
     }
     Ok(())
 }
@@ -194,7 +191,8 @@ fn make_probe<R: Files>(rt: &R, probe: &[u8]) -> Result<(), HostFault> {
             fs::remove_dir(rt, path)?;
             Ok(fs::create_dir(rt, path)?)
         }
-        made => Ok(made?),
+        Ok(()) => Ok(()),
+        Err(e) => Err(e.into()),
     }
 }
 
@@ -218,12 +216,4 @@ fn below(alloc: Global, folder: &[u8], part: &[u8]) -> Result<Vec<u8>, HostFault
     }
     path.extend_from_slice(part)?;
     Ok(path)
-}
-
-/// Appends a path.
-fn push(alloc: Global, list: &mut Vec<Vec<u8>>, path: &[u8]) -> Result<(), HostFault> {
-    match list.push(Vec::from_slice(alloc, path)?) {
-        Ok(()) => Ok(()),
-        Err(_) => Err(HostFault::Memory),
-    }
 }
