@@ -32,9 +32,9 @@ const TOO_MANY_WORDS: u8 = 5;
 const UNFINISHED: &[u8] =
     b"apk: the change is committed: once the cause is gone, the next command finishes it\n";
 
-/// The warning that `mkpkg -F` has omitted a mode or an empty folder.
+/// The warning that `mkpkg -F` has left out a permission to execute, or an empty folder.
 const OMITTED: &[u8] =
-    b"apk: the folder has an executable file or an empty folder; the package keeps neither\n";
+    b"apk: the package drops a permission to execute, or an empty folder, that the folder has\n";
 
 /// Runs the command line over the folder that the program is in, and exits with the answer's
 /// status. The root is locked as the command needs it.
