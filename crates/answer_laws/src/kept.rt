@@ -13,7 +13,8 @@ ghost use Rattle.change_outcome.specs.package_changes.Report.{names_needing_cand
 /// kept one, by its name or by what it provides, each once, in byte order.
 pub fn a_kept_package_is_required_by_those_that_need_it()
     ensures each { (selected : List Candidate) (needed : Candidate) (name : List ℕ)
-        → IsIn name (names_needing_candidate selected needed) ↔ IsNeededBySelectedName selected needed name }
+        → IsIn name (names_needing_candidate selected needed)
+        ↔ IsNeededBySelectedName selected needed name }
     ensures order { (selected : List Candidate) (needed : Candidate)
         → AreSortedDistinctNames (names_needing_candidate selected needed) }
 {}

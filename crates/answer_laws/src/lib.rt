@@ -1,9 +1,10 @@
 //! Laws above the definitions of what a user is answered.
 //!
 //! Each is a function that does nothing; its contract is what it says. The rules are in
-//! `docs/commands.md`, "`add` and `del`", "`upgrade` and `fix`", "Files that several packages list",
-//! "What a change does with files", "`info`", "Queries" and "`manifest`", in `docs/formats.md`,
-//! "Text database of version 2", and in `docs/selection.md`, "What there is to choose from".
+//! `docs/commands.md`, "`add` and `del`", "`upgrade` and `fix`", "Files that several packages
+//! list", "What a change does with files", "`info`", "Queries" and "`manifest`", in
+//! `docs/formats.md`, "Text database of version 2", and in `docs/selection.md`, "What there is to
+//! choose from".
 #![tactic(auto)]
 
 pub mod changes;

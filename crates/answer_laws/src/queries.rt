@@ -18,7 +18,8 @@ use query_core::{
     search_prints_what_is_asked_for,
 };
 
-/// `list` prints a line for each candidate that is asked for, and no other, in the order of queries.
+/// `list` prints a line for each candidate that is asked for, and no other line, in the order of
+/// queries.
 pub fn list_prints_a_line_for_each_candidate_that_is_asked_for()
     ensures { (candidates : List Candidate) (patterns : List Operand) (installed_only : Bool)
         → HasLinesOfAsked (IsInListReport patterns installed_only) candidate_line candidates

@@ -14,18 +14,21 @@ ghost use Rattle.installed_info.specs.file_owners.Replaces.{replaces_names_packa
 pub fn a_package_is_replaced_by_its_own_name_and_version()
     ensures named { (x y : Plain) → (replaces_names_package x y ≡ true) ↔ IsNamedInReplaces x y }
     ensures own { (x y z : Plain) → package_name y ≡ package_name z
-        → version_text y ≡ version_text z → replaces_names_package x y ≡ replaces_names_package x z }
+        → version_text y ≡ version_text z
+        → replaces_names_package x y ≡ replaces_names_package x z }
 {}
 
 /// A package takes over the files of one that it names, unless it is named back; then that with the
 /// greater priority does, and at equal priority that with the later name.
 pub fn of_two_packages_that_name_each_other_one_is_preferred()
     ensures unnamed { (x y : Plain) → replaces_names_package x y ≡ false → takes_over x y ≡ false }
-    ensures alone { (x y : Plain) → replaces_names_package x y ≡ true → replaces_names_package y x ≡ false
-        → takes_over x y ≡ true }
-    ensures priority { (x y : Plain) → replaces_names_package x y ≡ true → replaces_names_package y x ≡ true
+    ensures alone { (x y : Plain) → replaces_names_package x y ≡ true
+        → replaces_names_package y x ≡ false → takes_over x y ≡ true }
+    ensures priority { (x y : Plain) → replaces_names_package x y ≡ true
+        → replaces_names_package y x ≡ true
         → replacing_priority y < replacing_priority x → takes_over x y ≡ true }
-    ensures later { (x y : Plain) → replaces_names_package x y ≡ true → replaces_names_package y x ≡ true
+    ensures later { (x y : Plain) → replaces_names_package x y ≡ true
+        → replaces_names_package y x ≡ true
         → replacing_priority x ≡ replacing_priority y
         → bytes_cmp (package_name y) (package_name x) ≡ Less → takes_over x y ≡ true }
 {}
